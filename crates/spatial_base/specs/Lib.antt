@@ -1,0 +1,3 @@
+pub mod Point
+pub mod Root
+pub mod Key

@@ -1,0 +1,5 @@
+pub mod Gaps
+pub mod KeyForms
+pub mod KeyOrder
+pub mod Names
+pub mod Roots

@@ -1,0 +1,75 @@
+// Whole square roots and distances.
+ghost use Rattle.std.specs.Prelude.{◌≡◌, ◌≤◌, ◌*◌};
+ghost use Rattle.spatial_base.specs.Root.{IsRoot, root};
+ghost use Rattle.spatial_base.specs.Point.{distance, gap};
+
+use crate::Point;
+use std::num::{nearest_u64_to_f64, saturating_f64_to_u32};
+
+// The first number from `guess` downward whose square is not above `n`.
+fn lowered(n: u64, guess: u32) -> u32
+    ensures square { result * result ≤ n }
+{
+    let mut root = guess;
+    while u64::from(root) * u64::from(root) > n {
+        root -= 1;
+    }
+    root
+}
+
+// The root of `n`, from a number whose square is not above `n`.
+fn raised(n: u64, low: u32) -> u32
+    requires { low * low ≤ n }
+    ensures root { IsRoot n result }
+{
+    let mut root = low;
+    while root < u32::MAX && u64::from(root + 1) * u64::from(root + 1) <= n {
+        root += 1;
+    }
+    root
+}
+
+// The root of a `u64`. The floating-point root is a good guess; whatever it is, the two steps after it correct it.
+fn root_of_u64(n: u64) -> u32
+    ensures root { IsRoot n result }
+{
+    let guess = saturating_f64_to_u32(nearest_u64_to_f64(n).sqrt());
+    raised(n, lowered(n, guess))
+}
+
+/// The greatest number whose square is not above `n`.
+pub fn isqrt(n: u128) -> u64
+    ensures root { IsRoot n result }
+    ensures value { result ≡ root n }
+{
+    match u64::try_from(n) {
+        Ok(small) => root_of_u64(small).into(),
+        Err(_) => n.isqrt() as u64,
+    }
+}
+
+// How far apart two points are from west to east.
+fn east_gap(p: &Point, q: &Point) -> u64
+    ensures value { result ≡ gap p.now.x q.now.x }
+    ensures within { result ≤ 3600000000 }
+{
+    p.x().abs_diff(q.x()).into()
+}
+
+// How far apart two points are from south to north.
+fn north_gap(p: &Point, q: &Point) -> u64
+    ensures value { result ≡ gap p.now.y q.now.y }
+    ensures within { result ≤ 1800000000 }
+{
+    p.y().abs_diff(q.y()).into()
+}
+
+/// The distance between two points in degrees times 10^7: the square root of the squared differences, rounded down.
+pub fn dist(p: &Point, q: &Point) -> u64
+    ensures value { result ≡ distance p.now q.now }
+    ensures far { result ≤ 4024922359 }
+{
+    let east = east_gap(p, q);
+    let north = north_gap(p, q);
+    root_of_u64(east * east + north * north).into()
+}
