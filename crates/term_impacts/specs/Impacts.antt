@@ -1,0 +1,2 @@
+-- Impacts of words.
+use Rattle.std.specs.Prelude.{ℕ}

@@ -1,0 +1,4 @@
+pub mod Form
+pub mod Impacts
+pub mod Pairs
+pub mod Text
