@@ -1,2 +1,4 @@
 pub mod FoldingLemmas
 pub mod FormLemmas
+pub mod LeftLemmas
+pub mod PairsLemmas

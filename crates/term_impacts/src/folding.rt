@@ -4,7 +4,7 @@ ghost use Rattle.std.specs.Option.{SomeIff};
 ghost use Rattle.std.specs.Str.{IsUtf8};
 ghost use Rattle.term_impacts.specs.Text.{folded};
 
-use crate::form::{WORD_MAX, Word};
+use crate::word::{WORD_MAX, Word};
 use caseless::Caseless;
 
 /// The word that a piece of a text is once its case is folded, and `None` exactly where that is more than 32 bytes.

@@ -2,6 +2,9 @@
 #![tactic(auto)]
 
 mod folding;
-mod form;
+mod text_words;
+mod word;
+mod words;
 
-pub use form::Word;
+pub use word::{WORD_MAX, Word};
+pub use words::{WORDS_MAX, Words};

@@ -34,6 +34,7 @@ sealed-requires-clause-text c =
 pub returns : goal.returns
 returns c =
     let written = c.characters.invariant.written in
-    let ended = c.in-None.ensures.steps.first in
-    ( written_fits (FoldsCaseTo chars_steps) c.args.piece.now _ _ _ _ written ended,
-      c.sealed.ensures ∙ written_all (FoldsCaseTo chars_steps) c.args.piece.now _ _ _ _ written ended )
+    let ended = c.in-None.ensures.steps.first in (
+      written_fits (FoldsCaseTo chars_steps) c.args.piece.now _ _ _ _ written ended,
+      c.sealed.ensures ∙ written_all (FoldsCaseTo chars_steps) c.args.piece.now _ _ _ _ written ended,
+    )

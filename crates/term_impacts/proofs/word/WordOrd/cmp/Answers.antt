@@ -1,6 +1,6 @@
 use Rattle.std.proofs.Common.{sym, ◌∙◌}
 use Rattle.term_impacts.proofs.FormLemmas.{slice_cmp-word_form}
-use Rattle.term_impacts.proofs.form.WordOrd.cmp.Goals as goal
+use Rattle.term_impacts.proofs.word.WordOrd.cmp.Goals as goal
 
 pub returns-clause-form_order : goal.returns-clause-form_order
 returns-clause-form_order c =

@@ -1,7 +1,7 @@
 use Rattle.std.proofs.Common.{sym, subst}
 use Rattle.term_impacts.specs.Form.{IsWordForm}
 use Rattle.term_impacts.proofs.FormLemmas.{set-word_form, IsWordForm-word_form}
-use Rattle.term_impacts.proofs.form.Word.sealed.Goals as goal
+use Rattle.term_impacts.proofs.word.Word.sealed.Goals as goal
 
 pub invariant_of-result : goal.invariant_of-result
 invariant_of-result c =

@@ -1,7 +1,7 @@
 use Rattle.std.proofs.Common.{subst}
 use Rattle.std.proofs.lemmas.Str.{IsUtf8-had}
 use Rattle.term_impacts.specs.Form.{IsWordText}
-use Rattle.term_impacts.proofs.form.Word.text.Goals as goal
+use Rattle.term_impacts.proofs.word.Word.text.Goals as goal
 
 pub from_utf8_unchecked-requires : goal.from_utf8_unchecked-requires
 from_utf8_unchecked-requires c = IsUtf8-had _ c.self.invariant.text.utf8

@@ -4,7 +4,7 @@ use Rattle.std.proofs.Common.{nat_eq, ◌≡◌}
 use Rattle.std.proofs.lemmas.Str.{IsUtf8-had}
 use Rattle.std.specs.Str.{IsUtf8}
 use Rattle.term_impacts.proofs.FormLemmas.{form_text_is, same_form}
-use Rattle.term_impacts.proofs.form.Word.of_bytes.Goals as goal
+use Rattle.term_impacts.proofs.word.Word.of_bytes.Goals as goal
 
 pub returns-in_default-clause-no_form : goal.returns-in_default-clause-no_form
 returns-in_default-clause-no_form c text is made =

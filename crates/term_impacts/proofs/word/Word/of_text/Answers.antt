@@ -1,6 +1,6 @@
 use Rattle.std.proofs.Common.{length, ap, ◌∙◌}
 use Rattle.term_impacts.proofs.FormLemmas.{zeros_left}
-use Rattle.term_impacts.proofs.form.Word.of_text.Goals as goal
+use Rattle.term_impacts.proofs.word.Word.of_text.Goals as goal
 
 pub sealed-requires-clause-zeros : goal.sealed-requires-clause-zeros
 sealed-requires-clause-zeros c =

@@ -1,0 +1,107 @@
+-- Maps from words to impacts: what a search finds, and what an insertion leaves.
+use Rattle.std.proofs.Common.{◌≡◌, ℕ, zero, suc, ◌+◌, ◌<◌, ◌≤◌, ◌↔◌, Bool, true, false, IsTrue, cond, inl, inr, List, [], ◌∷◌, ◌++◌, length, get_or, take, drop, All, Option, None, Some, unwrap_or, refl, sym, ap, subst, ◌∙◌, true≢false, arith, suc-le-suc, zero-le, le_of_suc-le-suc}
+use Rattle.std.proofs.lemmas.Bool.{cases_lt}
+use Rattle.std.proofs.lemmas.Cmp.{nat_list_cmp_total, nat_list_eq_equiv}
+use Rattle.std.proofs.lemmas.List.{get_or-map, length-map}
+use Rattle.std.proofs.lemmas.List.Elements.{All-cons, All-nil, All-head, All-tail}
+use Rattle.std.proofs.lemmas.List.Sorted.{searchable_from_sorted}
+use Rattle.std.proofs.lemmas.Map.Keys.{sorted_from_all_adjacent, sorted_head, sorted_tail, Less-from_sorted}
+use Rattle.std.proofs.lemmas.Map.Text.{is_eq-slice_cmp}
+use Rattle.std.specs.BTreeMap.{insert_entry}
+use Rattle.std.specs.Cmp.Lexicographic.{slice_cmp}
+use Rattle.std.specs.FinMap.{nat_cmp-IsAntisymmetric, slice_cmp-IsAntisymmetric}
+use Rattle.std.specs.List.{IsAllAdjacentAnswer, AllAdjacentBelow, AllWithin, AllByRecursion, HoldsAt, insert}
+use Rattle.std.specs.List.Sorted.{IsStrictlySortedBy, IsNonDecreasingBy}
+use Rattle.std.specs.Map.{keys_of, lookup}
+use Rattle.std.specs.Ordering.{nat_cmp, is_lt, is_eq, match_ordering, ordering_reverse, ordering_index}
+use Rattle.std.specs.Str.{bytes_eq}
+use Rattle.std.specs.declared.cmp.Ordering.{Ordering}
+use Rattle.std.specs.declared.cmp.Ordering.TheVariants.{Less, Equal, Greater}
+use Rattle.term_impacts.specs.Pairs.{IsWordMap, impact_in}
+
+-- the order of words
+abbrev pub word_cmp : List ℕ → List ℕ → Ordering
+word_cmp = slice_cmp nat_cmp
+
+Less-from_is_lt : (r : Ordering) → true ≡ is_lt r → r ≡ Less
+Less-from_is_lt Less e = refl
+Less-from_is_lt Equal e = absurd (true≢false e)
+Less-from_is_lt Greater e = absurd (true≢false e)
+
+key_at : (pairs : List (List ℕ × ℕ)) (k : ℕ) (d : List ℕ × ℕ) → k < length pairs → get_or (keys_of pairs) k [] ≡ (get_or pairs k d).0
+key_at pairs k d lt = get_or-map (λ p. p.0) pairs k d [] lt
+
+-- words of which each is before the next ascend
+pub ascending_from_adjacent : (pairs : List (List ℕ × ℕ)) → AllAdjacentBelow (λ p q. true ≡ is_lt (word_cmp p.0 q.0)) pairs (length pairs)
+    → IsStrictlySortedBy word_cmp (keys_of pairs)
+ascending_from_adjacent pairs adjacent =
+    sorted_from_all_adjacent nat_list_cmp_total (keys_of pairs) [] (λ k lt.
+    let d : List ℕ × ℕ = ([], 0) in
+    let inside : k + 1 < length pairs = subst (λ n. k + 1 < n) (length-map pairs (λ p. p.0)) lt in
+    (λ i. word_cmp (key_at pairs k d (omega arith) i) (key_at pairs (k + 1) d inside i)) ∙ Less-from_is_lt _ (adjacent k d inside))
+
+-- and where one is not before the next they don't
+pub not_ascending : (pairs : List (List ℕ × ℕ)) (k : ℕ) → k + 1 < length pairs → ((d : List ℕ × ℕ) → false ≡ is_lt (word_cmp (get_or pairs k d).0 (get_or pairs (k + 1) d).0))
+    → IsStrictlySortedBy word_cmp (keys_of pairs) → ⊥
+not_ascending pairs k lt fails sorted =
+    let d : List ℕ × ℕ = ([], 0) in
+    let inside : k + 1 < length (keys_of pairs) = subst (λ n. k + 1 < n) (sym (length-map pairs (λ p. p.0))) lt in
+    let less = Less-from_sorted word_cmp (keys_of pairs) k (k + 1) [] sorted (omega arith) inside in
+    let same : word_cmp (get_or (keys_of pairs) k []) (get_or (keys_of pairs) (k + 1) []) ≡ word_cmp (get_or pairs k d).0 (get_or pairs (k + 1) d).0 =
+    λ i. word_cmp (key_at pairs k d (omega arith) i) (key_at pairs (k + 1) d lt i) in
+    true≢false (sym (fails d ∙ ap is_lt (sym same ∙ less)))
+
+-- ---- what a binary search tells
+
+same_word : (word other : List ℕ) → word_cmp other word ≡ Equal → other ≡ word
+same_word word other e = slice_cmp-IsAntisymmetric nat_cmp-IsAntisymmetric other word e
+
+other_word : (word other : List ℕ) (r : Ordering) → word_cmp other word ≡ r → is_eq r ≡ false → bytes_eq word other ≡ false
+other_word word other r e differs = nat_list_eq_equiv.symm word other ∙ sym (is_eq-slice_cmp other word) ∙ ap is_eq e ∙ differs
+
+-- the word at the place is the one asked for, so its impact is found
+pub impact_in-found : (pairs : List (List ℕ × ℕ)) (word : List ℕ) (at : ℕ) (d : List ℕ × ℕ) → IsStrictlySortedBy word_cmp (keys_of pairs) → at < length pairs
+    → word_cmp (get_or pairs at d).0 word ≡ Equal → impact_in pairs word ≡ (get_or pairs at d).1
+impact_in-found [] word at d sorted lt e = absurd (omega arith)
+impact_in-found (p ∷ pairs) word zero d sorted lt e =
+    ap (λ b. unwrap_or (cond b (Some p.1) (lookup (bytes_eq word) pairs)) 0)
+    (ap (bytes_eq word) (same_word word p.0 e) ∙ nat_list_eq_equiv.refl word)
+impact_in-found (p ∷ pairs) word (suc at) d sorted lt e =
+    let inside : at < length pairs = omega arith in
+    let less = Less-from_sorted word_cmp (keys_of (p ∷ pairs)) 0 (suc at) [] sorted (omega arith)
+    (subst (λ n. suc at < n) (sym (length-map (p ∷ pairs) (λ q. q.0))) lt) in
+    let here : word_cmp p.0 word ≡ Less =
+    ap (word_cmp p.0) (sym (same_word word (get_or pairs at d).0 e)) ∙ ap (word_cmp p.0) (sym (key_at pairs at d inside)) ∙ less in
+    ap (λ b. unwrap_or (cond b (Some p.1) (lookup (bytes_eq word) pairs)) 0) (other_word word p.0 Less here refl)
+    ∙ impact_in-found pairs word at d (sorted_tail word_cmp p.0 (keys_of pairs) sorted) inside e
+
+-- no word of the map is the one asked for
+pub impact_in-absent : (pairs : List (List ℕ × ℕ)) (word : List ℕ) → All (λ p. bytes_eq word p.0 ≡ false) pairs → impact_in pairs word ≡ 0
+impact_in-absent [] word none = refl
+impact_in-absent (p ∷ pairs) word none =
+    ap (λ b. unwrap_or (cond b (Some p.1) (lookup (bytes_eq word) pairs)) 0) (All-head (λ q. bytes_eq word q.0 ≡ false) p pairs none)
+    ∙ impact_in-absent pairs word (All-tail (λ q. bytes_eq word q.0 ≡ false) p pairs none)
+
+-- the words before a place are less and those from it on greater, so none is equal
+pub none_from_partition : (pairs : List (List ℕ × ℕ)) (word : List ℕ) (at : ℕ) → AllWithin (λ p. word_cmp p.0 word ≡ Less) pairs 0 at
+    → AllWithin (λ p. word_cmp p.0 word ≡ Greater) pairs at (length pairs) → All (λ p. bytes_eq word p.0 ≡ false) pairs
+none_from_partition pairs word at less greater k d lt =
+    elim (cases_lt k at) [
+      | inl below ↦ other_word word _ Less (less k d zero-le below) refl
+      | inr above ↦ other_word word _ Greater (greater k d above lt) refl
+    ]
+
+-- a search may be made in ascending words
+pub searchable : (pairs : List (List ℕ × ℕ)) (word : List ℕ) → IsStrictlySortedBy word_cmp (keys_of pairs)
+    → IsNonDecreasingBy (λ p. ordering_index (word_cmp p.0 word)) pairs
+searchable pairs word sorted = searchable_from_sorted nat_list_cmp_total (λ p. p.0) pairs word (λ k d low lt.
+    let less = Less-from_sorted word_cmp (keys_of pairs) k (k + 1) [] sorted (omega arith) (subst (λ n. k + 1 < n) (sym (length-map pairs (λ p. p.0))) lt) in
+    let same : word_cmp (get_or pairs k d).0 (get_or pairs (k + 1) d).0 ≡ Less =
+    (λ i. word_cmp (sym (key_at pairs k d (omega arith)) i) (sym (key_at pairs (k + 1) d lt) i)) ∙ less in
+    ap is_lt (nat_list_cmp_total.antisymm (get_or pairs (k + 1) d).0 (get_or pairs k d).0 ∙ ap ordering_reverse same))
+
+-- the answer of a test of each word and the next
+pub ascending_answer : (pairs : List (List ℕ × ℕ)) (r : Bool) → IsAllAdjacentAnswer (λ p q b. b ≡ is_lt (word_cmp p.0 q.0)) pairs r
+    → IsTrue r ↔ IsStrictlySortedBy word_cmp (keys_of pairs)
+ascending_answer pairs true adjacent = (λ _. ascending_from_adjacent pairs adjacent, λ _. refl)
+ascending_answer pairs false fails = (λ h. absurd (true≢false (sym h)), λ sorted. absurd (not_ascending pairs fails.0 fails.1 fails.2 sorted))
