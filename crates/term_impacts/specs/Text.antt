@@ -1,5 +1,5 @@
 -- The words of a text.
-use Rattle.std.specs.Prelude.{ℕ, List, filter, map, length, nat_le, chars, encode_utf8_all}
+use Rattle.std.specs.Prelude.{ℕ, List, [], ◌∷◌, Option, None, Some, filter, map, length, nat_le, chars, encode_utf8_all}
 use Rattle.caseless.specs.Caseless.{default_case_fold}
 use Rattle.unicode_segmentation.specs.Word.{words}
 
@@ -14,3 +14,9 @@ kept_words pieces = filter (λ word. nat_le (length word) 32) (map folded pieces
 -- the words of a text: the pieces between word boundaries (UAX #29) that have a letter or a number, each folded, without those of more than 32 bytes
 abbrev pub words_of : List ℕ → List (List ℕ)
 words_of text = kept_words (words text)
+
+-- the element of a list of one element
+abbrev pub only : {X : Type 0} → List X → Option X
+only [] = None
+only (x ∷ []) = Some x
+only (x ∷ (y ∷ xs)) = None

@@ -2,9 +2,12 @@
 #![tactic(auto)]
 
 mod folding;
+mod tally;
+mod text;
 mod text_words;
 mod word;
 mod words;
 
+pub use text::{impacts, one_word};
 pub use word::{WORD_MAX, Word};
 pub use words::{WORDS_MAX, Words};

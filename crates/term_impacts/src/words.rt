@@ -73,6 +73,32 @@ impl Words {
             None
         }
     }
+
+    /// The empty map, with room for `room` pairs.
+    pub(crate) fn with_capacity(alloc: Global, room: usize) -> Result<Words, AllocError>
+        ensures { IfOk result (λ words. words ≡ []) }
+    {
+        Ok(Words {
+            pairs: Vec::with_capacity(alloc, room)?,
+        })
+    }
+
+    /// Maps a word to an impact, at its place in the order.
+    pub(crate) fn put(&mut self, word: Word, impact: u8) -> Result<(), AllocError>
+        requires room { length self.old < 64 }
+        requires impact { 1 ≤ impact }
+        ensures { OnOk result (self.new ≡ insert_entry (slice_cmp nat_cmp) self.old word impact) }
+    {
+        let at = match self.pairs.binary_search_by_key(&word, |pair| pair.0) {
+            Ok(at) => {
+                self.pairs[at].1 = impact;
+                return Ok(());
+            }
+            Err(at) => at,
+        };
+        self.pairs.insert(at, (word, impact))?;
+        Ok(())
+    }
 }
 
 fn is_word_map(pairs: &[(Word, u8)]) -> bool
