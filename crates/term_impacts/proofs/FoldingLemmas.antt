@@ -1,12 +1,12 @@
 -- What the folding of a piece of text is.
-use Rattle.std.proofs.Common.{◌≡◌, ℕ, ◌+◌, ◌-◌, ◌<◌, ◌≤◌, List, [], ◌∷◌, ◌++◌, length, map, take, drop, replicate, chars, encode_utf8, encode_utf8_all, IsAscii, Option, None, Some, append_assoc, append-nil, take_at, refl, sym, ap, ◌∙◌, subst, arith, length-append}
+use Rattle.std.proofs.Common.{◌≡◌, ℕ, ◌+◌, ◌-◌, ◌<◌, ◌≤◌, List, [], ◌∷◌, ◌++◌, length, map, take, drop, replicate, chars, encode_utf8, encode_utf8_all, IsAscii, None, Some, append_assoc, append-nil, take_at, refl, sym, ap, ◌∙◌, subst, arith, length-append}
 use Rattle.std.proofs.lemmas.List.{length-map, drop-drop, drop-replicate}
 use Rattle.std.proofs.lemmas.Str.{chars-IsAscii, encodes-IsAscii, encodes-chars, length-le-encodes, encodes-append, IsUtf8-nil, IsUtf8-append, IsUtf8-from_ascii}
 use Rattle.std.proofs.lemmas.Str.Ascii.{All-from_ascii, IsAscii-map, lowercase_ascii}
 use Rattle.std.specs.Char.{to_ascii_lowercase}
 use Rattle.std.specs.Str.{IsUtf8}
 use Rattle.caseless.specs.Caseless.{default_case_fold}
-use Rattle.caseless.proofs.CaselessLemmas.{default_case_fold-ascii, default_case_fold-cons, fold_of_fold}
+use Rattle.caseless.proofs.CaselessLemmas.{default_case_fold-ascii, default_case_fold-cons}
 use Rattle.ucd_case.specs.CaseFolding.{full_fold, full_folding, or_itself}
 use Rattle.unicode_normalization.specs.Iter.{YieldsFirstChar}
 use Rattle.term_impacts.specs.Form.{IsWordText}

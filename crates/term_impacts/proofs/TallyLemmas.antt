@@ -1,5 +1,5 @@
 -- How a tally changes with one more word.
-use Rattle.std.proofs.Common.{◌≡◌, ℕ, zero, suc, ◌+◌, ◌*◌, ◌/◌, ◌<◌, ◌≤◌, Bool, true, false, not, ◌||◌, cond, List, [], ◌∷◌, ◌++◌, length, map, filter, take, count_by, position, is_some, append_assoc, Option, None, Some, refl, sym, ap, ap₂, subst, ◌∙◌, true≢false, arith, get_or, slice_get, length-append, length-take, take_all, append-nil, add-zero, zero-add}
+use Rattle.std.proofs.Common.{◌≡◌, ℕ, zero, suc, ◌+◌, ◌*◌, ◌/◌, ◌<◌, ◌≤◌, Bool, true, false, not, ◌||◌, cond, List, [], ◌∷◌, ◌++◌, length, map, filter, take, position, is_some, append_assoc, Option, None, Some, refl, sym, ap, ap₂, subst, ◌∙◌, true≢false, arith, get_or, slice_get, length-append, length-take, take_all, append-nil, add-zero, zero-add}
 use Rattle.std.proofs.lemmas.Cmp.{nat_list_eq_equiv}
 use Rattle.std.proofs.lemmas.Grind.{fold-append}
 use Rattle.std.specs.BTreeMap.{insert_entry}

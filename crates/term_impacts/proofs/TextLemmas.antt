@@ -1,5 +1,5 @@
 -- A walk over the words of a text.
-use Rattle.std.proofs.Common.{◌≡◌, ℕ, List, [], ◌∷◌, ◌++◌, Bool, true, false, true≢false, is_some, Option, None, Some, refl, sym, ap, ap₂, ◌∙◌, option_to_list, append_assoc, append-nil, length, length-append, ◌≤◌, arith}
+use Rattle.std.proofs.Common.{◌≡◌, ℕ, List, [], ◌∷◌, ◌++◌, true, false, true≢false, is_some, Option, None, Some, refl, sym, ap, ◌∙◌, option_to_list, append_assoc, append-nil, length, length-append, ◌≤◌, arith}
 use Rattle.term_impacts.specs.Tally.{IsTally}
 use Rattle.term_impacts.specs.Text.{only}
 

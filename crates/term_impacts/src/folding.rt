@@ -20,7 +20,7 @@ pub(crate) fn folded_word(piece: &str) -> Option<Word>
     }
 }
 
-// ASCII folds to lower case, byte by byte.
+/// The same of ASCII, which folds to lower case byte by byte.
 #[inline]
 fn ascii_word(piece: &str) -> Option<Word>
     requires some { 1 ≤ length piece.now }
@@ -37,6 +37,7 @@ fn ascii_word(piece: &str) -> Option<Word>
     Some(Word::sealed(form, len))
 }
 
+/// The same of any text, character by character.
 fn unicode_word(piece: &str) -> Option<Word>
     requires { 1 ≤ length piece.now }
     ensures { SomeIff result (length (folded piece.now) ≤ 32) (folded piece.now) }
@@ -49,8 +50,8 @@ fn unicode_word(piece: &str) -> Option<Word>
     Some(Word::sealed(form, len))
 }
 
-// Writes a character behind the `len` bytes of text in the form, and answers the text's new length, or `None` where it would be
-// more than 32.
+/// Writes a character behind the `len` bytes of text in the form, and answers the text's new length, or `None` where it would be
+/// more than 32.
 fn put_char(form: &mut [u8; 33], len: usize, c: char) -> Option<usize>
     requires { len ≤ 32 }
     ensures room { MatchOption result (32 < len + length (encode_utf8 c)) (λ end. (end ≡ len + length (encode_utf8 c)) × (end ≤ 32)

@@ -16,6 +16,7 @@ pub(crate) struct Tally {
 }
 
 impl Tally {
+    /// Nothing is counted yet.
     pub(crate) fn new(alloc: Global) -> Tally
         ensures { IsTally [] result.counts.entries result.total }
     {
@@ -25,7 +26,7 @@ impl Tally {
         }
     }
 
-    // One more word has come.
+    /// Counts one more word. Beyond the first 64 distinct words it counts among all words alone.
     #[inline]
     pub(crate) fn add(&mut self, word: Word) -> Result<(), AllocError>
         requires { (words : List (List ℕ)) × IsTally words self.old.counts.entries self.old.total × (length words < 2 ^ 63) }
@@ -41,6 +42,7 @@ impl Tally {
         Ok(())
     }
 
+    /// The words that are kept with their impacts, in the order of the words.
     pub(crate) fn impacts(&self, alloc: Global) -> Result<Words, AllocError>
         requires { (words : List (List ℕ)) × IsTally words self.now.counts.entries self.now.total × (length words < 2 ^ 63) }
         ensures { (words : List (List ℕ)) → IsTally words self.now.counts.entries self.now.total
@@ -54,7 +56,7 @@ impl Tally {
     }
 }
 
-// The share of a word that came `count` times among `total`.
+/// The impact of a word that came `count` times among `total` words, 1 to 255. The product has 71 bits at most.
 fn impact(count: u64, total: u64) -> u8
     requires some { 1 ≤ total }
     requires share { count ≤ total }

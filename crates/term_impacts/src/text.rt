@@ -1,4 +1,4 @@
-//! The impacts of the words of a text, and the one word of a text.
+//! What a text says: the impacts of its words, and its one word.
 ghost use Rattle.std.specs.Prelude.{◌≡◌, IfOk};
 ghost use Rattle.term_impacts.specs.Impacts.{word_impacts};
 ghost use Rattle.term_impacts.specs.Text.{words_of, only};
@@ -14,14 +14,11 @@ use std::alloc::{AllocError, Global};
 /// after default case folding, without those of more than 32 bytes. Each of the first 64 distinct ones, by first appearance, has the
 /// impact `1 + floor(254 * tf / L)`, where tf is how often it stands in the text and L the number of all its words.
 ///
-/// It fails for want of memory alone. One pass over the text; it keeps 64 words at most, whatever the text's length.
+/// It fails for want of memory alone. It is one pass over the text, and keeps 64 words at most, however long the text is.
 pub fn impacts(alloc: Global, text: &str) -> Result<Words, Memory>
     ensures { IfOk result (λ words. words ≡ word_impacts text.now) }
 {
-    match weighed(alloc, text) {
-        Ok(words) => Ok(words),
-        Err(_) => Err(Memory),
-    }
+    weighed(alloc, text).map_err(|_| Memory)
 }
 
 fn weighed(alloc: Global, text: &str) -> Result<Words, AllocError>

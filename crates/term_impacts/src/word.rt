@@ -1,6 +1,5 @@
 //! A word in its form of 33 bytes.
 ghost use Rattle.std.specs.Prelude.{◌≡◌, ◌≢◌, ℕ, ◌≤◌, List, take, drop, replicate, ◌-◌, IfSome, IfNone, Some};
-ghost use Rattle.std.specs.Cmp.{partial_order_from_own_ties};
 ghost use Rattle.std.specs.Cmp.Lexicographic.{slice_cmp, nat_list_cmp_total, texts_ties, texts_po, nat_list_eq_equiv};
 ghost use Rattle.std.specs.Cmp as Cmp;
 ghost use Rattle.std.specs.Hash as fed;
@@ -21,7 +20,7 @@ pub const WORD_MAX: usize = 32;
 ///
 /// It is kept in its form of 33 bytes: the text, zero bytes up to 32, and the text's length. Comparing two forms by their
 /// bytes gives the order of the words. Contracts see a word as the bytes of its text.
-#[derive(Clone, Copy)]
+#[derive(Clone, Copy, Debug)]
 pub struct Word {
     form: [u8; 33],
 }
@@ -50,6 +49,7 @@ impl Word {
         ensures valid { IsWordText self.now }
     {
         let len = self.form[WORD_MAX] as usize;
+        // Each word's text is UTF-8, by the type's invariant, so it is not tested again.
         unsafe { from_utf8_unchecked(&self.form[..len]) }
     }
 
@@ -64,7 +64,7 @@ impl Word {
     /// The word whose form these bytes are, and `None` exactly where they are no word's form: where the last is not 1 to 32,
     /// where as many bytes in front are no UTF-8, or where another byte behind them is not zero.
     pub fn of_bytes(bytes: &[u8; 33]) -> Option<Word>
-        ensures form { IfSome result (λ word. bytes.now ≡ word_form word) }
+        ensures form { IfSome result (λ word. IsWordText word × (bytes.now ≡ word_form word)) }
         ensures no_form { IfNone result ((text : List ℕ) → IsWordText text → bytes.now ≢ word_form text) }
     {
         let len = bytes[WORD_MAX] as usize;
@@ -75,13 +75,13 @@ impl Word {
             return None;
         };
         let word = Word::of_text(text);
-        if word.form == *bytes {
-            Some(word)
-        } else {
-            None
+        if word.form != *bytes {
+            return None;
         }
+        Some(word)
     }
 
+    /// The word of this text.
     fn of_text(text: &str) -> Word
         requires { IsWordText text.now }
         ensures word { result ≡ text.now }
@@ -92,7 +92,7 @@ impl Word {
         Word::sealed(form, len)
     }
 
-    // The word whose text fills the front of the form, before zero bytes.
+    /// The word whose text fills the front of the form, before zero bytes.
     #[inline]
     pub(crate) fn sealed(mut form: [u8; 33], len: usize) -> Word
         requires text { IsWordText (take len form) }

@@ -1,5 +1,5 @@
 //! The words of a place with their impacts.
-ghost use Rattle.std.specs.Prelude.{◌≡◌, ◌<◌, ◌≤◌, ◌↔◌, [], length, All, IsTrue, IsSome, IfSome, IfOk, OnOk, OnErr};
+ghost use Rattle.std.specs.Prelude.{◌≡◌, ◌<◌, ◌≤◌, ◌↔◌, [], length, All, IsTrue, IsSome, IfSome, IfOk, OnOk};
 ghost use Rattle.std.specs.BTreeMap.{insert_entry};
 ghost use Rattle.std.specs.Cmp.Lexicographic.{slice_cmp};
 ghost use Rattle.std.specs.List.Sorted.{IsStrictlySortedBy};
@@ -41,7 +41,7 @@ impl Words {
         self.pairs.as_slice()
     }
 
-    /// The impact of a word, 1 to 255, and 0 where the word is absent. By binary search.
+    /// The impact of a word, 1 to 255, and 0 where the word is absent. It is found by binary search.
     pub fn impact(&self, word: &Word) -> u8
         ensures { result ≡ impact_in self.now word.now }
     {
@@ -55,17 +55,15 @@ impl Words {
     pub fn copy(&self, alloc: Global) -> Result<Words, Memory>
         ensures { IfOk result (λ copy. copy ≡ self.now) }
     {
-        match Vec::from_slice(alloc, self.pairs.as_slice()) {
-            Ok(pairs) => Ok(Words { pairs }),
-            Err(_) => Err(Memory),
-        }
+        let pairs = Vec::from_slice(alloc, self.pairs.as_slice()).map_err(|_| Memory)?;
+        Ok(Words { pairs })
     }
 
     /// The map with these pairs, in their own memory, and `None` exactly where they are no such map: where there are more than 64,
     /// where a word is not before the next, or where an impact is 0.
     pub fn of_pairs(pairs: Vec<(Word, u8)>) -> Option<Words>
-        ensures map { IfSome result (λ words. words ≡ pairs.items) }
-        ensures no_map { IsSome result ↔ IsWordMap pairs.items }
+        ensures same { IfSome result (λ words. words ≡ pairs.items) }
+        ensures exact { IsSome result ↔ IsWordMap pairs.items }
     {
         if is_word_map(pairs.as_slice()) {
             Some(Words { pairs })
@@ -101,6 +99,7 @@ impl Words {
     }
 }
 
+/// Whether the pairs are a map of words.
 fn is_word_map(pairs: &[(Word, u8)]) -> bool
     ensures { IsTrue result ↔ IsWordMap pairs.now }
 {
@@ -110,12 +109,14 @@ fn is_word_map(pairs: &[(Word, u8)]) -> bool
     has_impacts(pairs)
 }
 
+/// Whether each word is before the next.
 fn is_ascending(pairs: &[(Word, u8)]) -> bool
     ensures { IsTrue result ↔ IsStrictlySortedBy (slice_cmp nat_cmp) (keys_of pairs.now) }
 {
     pairs.is_sorted_by(|pair, next| pair.0.cmp(&next.0).is_lt())
 }
 
+/// Whether no impact is 0.
 fn has_impacts(pairs: &[(Word, u8)]) -> bool
     ensures { IsTrue result ↔ All (λ pair. (1 ≤ pair.1) × (pair.1 ≤ 255)) pairs.now }
 {

@@ -1,4 +1,4 @@
-use Rattle.std.proofs.Common.{◌≡◌, ◌≤◌, ◌++◌, length, drop, replicate, take_at, drop_at, ap, sym, subst, ◌∙◌, arith}
+use Rattle.std.proofs.Common.{◌≤◌, length, take_at, drop_at, ap, sym, subst, ◌∙◌, arith}
 use Rattle.term_impacts.specs.Form.{IsWordText}
 use Rattle.term_impacts.specs.Text.{folded}
 use Rattle.term_impacts.proofs.FormLemmas.{zeros_left}

@@ -1,6 +1,6 @@
 use Rattle.std.proofs.Common.{sym, ap, ◌∙◌, Ok}
 use Rattle.term_impacts.specs.Left.{words_left}
-use Rattle.term_impacts.proofs.TextLemmas.{HasFound, HasFound-first, only-second, only-all}
+use Rattle.term_impacts.proofs.TextLemmas.{HasFound-first, only-second, only-all}
 use Rattle.term_impacts.proofs.text.one_word.Goals as goal
 
 pub loop-word-init : goal.loop-word-init
