@@ -24,6 +24,7 @@ scaled_at digits are z point e = elim (cases_lt point (length digits)) [
       rw z_is (scaled-placed_above digits (point - length digits) ∙ ap (placed digits) back)
 ]
 
+-- a product with a power of ten that isn't negative is whole
 scaled-up : (m k : ℕ) → scaled m (pos k) ≡ m * 10 ^ k
 unfolding scaled
 scaled-up m k = refl
@@ -68,25 +69,25 @@ AreDigits-frac : (frac : List ℕ) → IsFrac frac → AreDigits (drop 1 frac)
 AreDigits-frac [] is = tt
 AreDigits-frac (point ∷ digits) is = AreDigits-IsDigits digits (is.1)
 
+-- digits before digits
 AreDigits-append : (digits more : List ℕ) → AreDigits digits → AreDigits more → AreDigits (digits ++ more)
 AreDigits-append [] more are also = also
 AreDigits-append (digit ∷ digits) more are also = (are.0, AreDigits-append digits more (are.1) also)
 
 -- what `size_of` requires of a number that was read
-pub whole_digits : (number : Number) (parts : Parts) (text : List ℕ) → IsMadeOf text parts → IsNumberOf number parts → AreDigits number.whole.now
+whole_digits : (number : Number) (parts : Parts) (text : List ℕ) → IsMadeOf text parts → IsNumberOf number parts → AreDigits number.whole.now
 whole_digits number parts text made is = rw is.int (AreDigits-IsInt parts.int made.is_int)
 
-pub fraction_digits : (number : Number) (parts : Parts) (text : List ℕ) → IsMadeOf text parts → IsNumberOf number parts → AreDigits number.fraction.now
+-- the digits behind the point
+fraction_digits : (number : Number) (parts : Parts) (text : List ℕ) → IsMadeOf text parts → IsNumberOf number parts → AreDigits number.fraction.now
 fraction_digits number parts text made is = rw is.frac (AreDigits-frac parts.frac made.is_frac)
 
-pub short_parts : (number : Number) (parts : Parts) (text : List ℕ) → IsMadeOf text parts → IsNumberOf number parts → length number.whole.now + length number.fraction.now ≤ length text
+-- no more digits than bytes
+short_parts : (number : Number) (parts : Parts) (text : List ℕ) → IsMadeOf text parts → IsNumberOf number parts → length number.whole.now + length number.fraction.now ≤ length text
 short_parts number parts text made is =
     let joined : length text ≡ length (parts.minus ++ (parts.int ++ (parts.frac ++ parts.exp))) = ap length made.whole in
     let sum : length text ≡ length parts.minus + (length parts.int + (length parts.frac + length parts.exp)) = simp length-append at joined in
     rw (is.int, is.frac) (omega (arith, length-drop 1 parts.frac))
-
-pub small_exponent : (number : Number) (parts : Parts) → IsNumberOf number parts → number.exponent.size ≤ 1000
-small_exponent number parts is = let size_is = is.exp.size in omega arith
 
 -- the size of a number's parts, by what was read of them
 size-parts : (number : Number) (parts : Parts) → IsNumberOf number parts → size parts ≡ scaled (digits_value 10 (number.whole.now ++ number.fraction.now))

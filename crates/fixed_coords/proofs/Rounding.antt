@@ -16,6 +16,7 @@ take-nil : (n : ℕ) → take {A = ℕ} n [] ≡ []
 take-nil zero = refl
 take-nil (suc n) = refl
 
+-- nothing is left of nothing
 drop-nil : (n : ℕ) → drop {A = ℕ} n [] ≡ []
 drop-nil zero = refl
 drop-nil (suc n) = refl
@@ -45,6 +46,7 @@ take-append_both n [] ys = let all : n - 0 ≡ n = omega arith in rw (all, take-
 take-append_both zero (x ∷ xs) ys = let none : 0 - suc (length xs) ≡ 0 = omega arith in rw none refl
 take-append_both (suc n) (x ∷ xs) ys = let less : suc n - suc (length xs) ≡ n - length xs = omega arith in rw less (ap (λ zs. x ∷ zs) (take-append_both n xs ys))
 
+-- what is left of two lists joined is what is left of each
 drop-append_both : (n : ℕ) (xs ys : List ℕ) → drop n (xs ++ ys) ≡ drop n xs ++ drop (n - length xs) ys
 drop-append_both n [] ys = let all : n - 0 ≡ n = omega arith in rw (all, drop-nil n) refl
 drop-append_both zero (x ∷ xs) ys = let none : 0 - suc (length xs) ≡ 0 = omega arith in rw none refl

@@ -50,6 +50,7 @@ digits_value-take-drop place digits =
 pub ten_to_positive : (k : ℕ) → 0 < 10 ^ k
 ten_to_positive k = one-le-pow k 10 (omega arith)
 
+-- one power of ten higher
 pub pow_more : (k : ℕ) → 10 ^ (k + 1) ≡ 10 ^ k * 10
 pow_more k = rw add-one (pow-suc 10 k)
 
@@ -59,6 +60,7 @@ AreDigits-drop zero digits are = are
 AreDigits-drop (suc place) [] are = tt
 AreDigits-drop (suc place) (digit ∷ digits) are = AreDigits-drop place digits (are.1)
 
+-- the first digits are digits
 pub AreDigits-take : (place : ℕ) (digits : List ℕ) → AreDigits digits → AreDigits (take place digits)
 AreDigits-take zero digits are = tt
 AreDigits-take (suc place) [] are = tt
@@ -77,6 +79,7 @@ half_up a b d r pos_d below (inr up) =
 below_half : (v t r : ℕ) → r < t → v ≤ 4 → 2 * (v * t + r) < t * 10
 below_half v t r low small = omega (arith, mul-le-mul_right t small)
 
+-- a number that begins with 5 or more is half of a power of ten, or more
 half_or_more : (v t r : ℕ) → 5 ≤ v → t * 10 ≤ 2 * (v * t + r)
 half_or_more v t r large = omega (arith, mul-le-mul_right t large)
 
@@ -114,12 +117,14 @@ placed_below digits front (digit ∷ back) cut split are e =
     let low : digits_value 10 (digit ∷ back) < 10 ^ suc (length back) = digits_value-lt 10 (digit ∷ back) (AllDigits-digits (digit ∷ back) are) in
     rw (split, ← all) (half_up (digits_value 10 front) (digits_value 10 (digit ∷ back)) (10 ^ suc (length back)) (round_up (digit ∷ back)) (ten_to_positive (suc (length back))) low (halves digit back are))
 
+-- a point among the digits: what the reader does is the product with the power of ten, rounded
 pub scaled-placed_below : (digits : List ℕ) → AreDigits digits → (point cut : ℕ) → point + suc cut ≡ length digits → scaled (digits_value 10 digits) (negsuc cut) ≡ placed digits point
 unfolding scaled
 scaled-placed_below digits are point cut e =
     let none : point - length digits ≡ 0 = omega arith in
     rw none (placed_below digits (take point digits) (drop point digits) cut (digits_value-take-drop point digits) (AreDigits-drop point digits are) (length-drop point digits ∙ omega arith) ∙ omega arith)
 
+-- a point behind the digits: zeros follow
 pub scaled-placed_above : (digits : List ℕ) (count : ℕ) → scaled (digits_value 10 digits) (pos count) ≡ placed digits (length digits + count)
 unfolding scaled
 scaled-placed_above digits count =

@@ -19,6 +19,7 @@ take-prefix_len (byte ∷ rest) = elim (digit_tells byte) [
   | inr other ↦ rw (other.0) refl
 ]
 
+-- what follows the digits that were counted
 drop-prefix_len : (text : List ℕ) → drop (prefix_len is_ascii_digit text) text ≡ after_digits text
 drop-prefix_len [] = refl
 drop-prefix_len (byte ∷ rest) = elim (digit_tells byte) [
@@ -26,9 +27,11 @@ drop-prefix_len (byte ∷ rest) = elim (digit_tells byte) [
   | inr other ↦ rw (other.0) refl
 ]
 
+-- the same of the count that the reader makes
 pub take-digits : (text : List ℕ) → take (length (take_while is_ascii_digit text)) text ≡ first_digits text
 take-digits text = rw (length-prefix_len is_ascii_digit text) (take-prefix_len text)
 
+-- and of what follows
 pub drop-digits : (text : List ℕ) → drop (length (take_while is_ascii_digit text)) text ≡ after_digits text
 drop-digits text = rw (length-prefix_len is_ascii_digit text) (drop-prefix_len text)
 
@@ -59,6 +62,7 @@ pub AreDigits-push : (digits : List ℕ) (digit : ℕ) → AreDigits digits → 
 AreDigits-push [] digit are is = (is, tt)
 AreDigits-push (first ∷ digits) digit are is = (are.0, AreDigits-push digits digit (are.1) is)
 
+-- the first digits, one more of them
 pub AreDigits-more : (digits : List ℕ) (i : ℕ) → i < length digits → AreDigits (take i digits) → IsDigit (get_or digits i 0) → AreDigits (take (i + 1) digits)
 AreDigits-more digits i below are is = rw (take_more digits i 0 below) (AreDigits-push (take i digits) (get_or digits i 0) are is)
 
@@ -73,9 +77,11 @@ capped_more most n i digits below is =
 pub IsInt-cut : (text : List ℕ) → IsNumber text → IsInt (first_digits (after_minus text))
 IsInt-cut text (parts, made) = let P : Parts → Type 0 = λ p. IsInt p.int in subst P (parts_are_cut text parts made) made.is_int
 
+-- the cut fraction is one
 pub IsFrac-cut : (text : List ℕ) → IsNumber text → IsFrac (first_frac (after_digits (after_minus text)))
 IsFrac-cut text (parts, made) = let P : Parts → Type 0 = λ p. IsFrac p.frac in subst P (parts_are_cut text parts made) made.is_frac
 
+-- the cut exponent is one
 pub IsExp-cut : (text : List ℕ) → IsNumber text → IsExp (after_frac (after_digits (after_minus text)))
 IsExp-cut text (parts, made) = let P : Parts → Type 0 = λ p. IsExp p.exp in subst P (parts_are_cut text parts made) made.is_exp
 

@@ -8,13 +8,13 @@ use Rattle.std.proofs.lemmas.Fmt.{decimal_is_IsNumeral, first_decimal, decimal_d
 use Rattle.std.proofs.lemmas.Str.Parse.{digit_from_value}
 use Rattle.std.proofs.lemmas.List.{length-append, append_assoc, append-nil, length_push, drop-drop}
 use Rattle.std.proofs.Math.Nat.{div-div-eq-div-mul, pow-suc, mul_comm}
-use Rattle.number_grammar.specs.Number.{AreDigits, IsDigits, IsMinus, IsInt, Parts, IsMadeOf}
+use Rattle.number_grammar.specs.Number.{AreDigits, IsMinus, IsInt, Parts, IsMadeOf}
 use Rattle.fixed_coords.specs.Fixed.{scaled, mantissa, exponent, power, size, fixed, IsReading}
 use lib.Signed.{lt_z}
 use Rattle.fixed_coords.specs.Spelled.{minus_of}
 use Rattle.fixed_coords.specs.Degrees.{last_digits, size_text, fixed_text}
 use Rattle.fixed_coords.proofs.Scaling.{digits_value_after-append, digit_value-digit}
-use Rattle.fixed_coords.proofs.Scanning.{AreDigits-push}
+use Rattle.fixed_coords.proofs.Scanning.{AreDigits-push, IsDigits-some}
 
 -- std's digits are the grammar's
 AreDigits-all : (digits : List ℕ) → AllDigits 10 digits → AreDigits digits
@@ -39,11 +39,13 @@ unfolding last_digits
 AreDigits-last_digits zero n = tt
 AreDigits-last_digits (suc k) n = AreDigits-push (last_digits k (n / 10)) (48 + n % 10) (AreDigits-last_digits k (n / 10)) (omega arith, omega arith)
 
+-- so many digits
 pub length-last_digits : (k n : ℕ) → length (last_digits k n) ≡ k
 unfolding last_digits
 length-last_digits zero n = refl
 length-last_digits (suc k) n = length_push (last_digits k (n / 10)) (48 + n % 10) ∙ rw (length-last_digits k (n / 10)) (omega arith)
 
+-- the last digits behind the quotient give the number
 digits_value_after-last_digits : (k n : ℕ) → digits_value_after 10 (n / 10 ^ k) (last_digits k n) ≡ n
 unfolding last_digits
 digits_value_after-last_digits zero n = omega arith
@@ -53,24 +55,22 @@ digits_value_after-last_digits (suc k) n =
     let last : digit_value (48 + n % 10) ≡ n % 10 = digit_value-digit (48 + n % 10) (omega arith, omega arith) ∙ omega arith in
     rw (quotient, digits_value_after-append (n / 10 / 10 ^ k) (last_digits k (n / 10)) ((48 + n % 10) ∷ []), digits_value_after-last_digits k (n / 10), last) (omega arith)
 
-IsDigits-digits : (digits : List ℕ) → AreDigits digits → 0 < length digits → IsDigits digits
-IsDigits-digits [] are some = absurd (omega arith)
-IsDigits-digits (digit ∷ digits) are some = are
-
 -- the parts of a size that was written, with its sign
 abbrev written_parts : List ℕ → ℕ → Parts
 written_parts minus n = record { minus = minus; int = decimal (n / 10 ^ 7); frac = 46 ∷ last_digits 7 n; exp = [] }
 
+-- what is written is a number of these parts
 IsMadeOf-written : (minus : List ℕ) (n : ℕ) → IsMinus minus → n < 2 ^ 64 → IsMadeOf (minus ++ size_text n) (written_parts minus n)
 unfolding size_text
 IsMadeOf-written minus n is_minus fits = record {
   whole = rw (append-nil (46 ∷ last_digits 7 n)) refl;
   is_minus = is_minus;
   is_int = IsInt-decimal (n / 10 ^ 7) (omega arith);
-  is_frac = (refl, IsDigits-digits (last_digits 7 n) (AreDigits-last_digits 7 n) (omega (arith, length-last_digits 7 n)));
+  is_frac = (refl, IsDigits-some (last_digits 7 n) (AreDigits-last_digits 7 n) (omega (arith, length-last_digits 7 n)));
   is_exp = tt;
 }
 
+-- each part of what is written says what was written
 mantissa-written : (minus : List ℕ) (n : ℕ) → n < 2 ^ 64 → mantissa (written_parts minus n) ≡ n
 unfolding mantissa
 mantissa-written minus n fits =
@@ -78,10 +78,12 @@ mantissa-written minus n fits =
     ∙ ap (λ m. digits_value_after 10 m (last_digits 7 n)) ((decimal_is_IsNumeral (n / 10 ^ 7) (omega arith)).1)
     ∙ digits_value_after-last_digits 7 n
 
+-- the size of what is written
 size-written : (minus : List ℕ) (n : ℕ) → n < 2 ^ 64 → size (written_parts minus n) ≡ n
 unfolding size exponent power scaled
 size-written minus n fits = rw (length-last_digits 7 n, mantissa-written minus n fits) (omega arith)
 
+-- what is written is short
 length-written : (n : ℕ) → n < 2 ^ 64 → length (size_text n) ≤ 63
 unfolding size_text
 length-written n fits = omega (arith, length-append (decimal (n / 10 ^ 7)) (46 ∷ last_digits 7 n), length-last_digits 7 n, length-decimal-le 20 (n / 10 ^ 7) (omega arith) (omega arith) (omega arith))

@@ -1,6 +1,6 @@
 use super::*;
 
-/// Spellings, and what `decimal` of Python makes of them: times 10^7, rounded half up.
+/// Spellings, and their values as Python's whole numbers give them.
 static NUMBERS: [(&str, Result<i64, NumberFault>); 24] = [
     ("0", Ok(0)),
     ("-0", Ok(0)),

@@ -52,6 +52,7 @@ pub first_digits-none : (bytes : List ℕ) → NoDigitFirst bytes → first_digi
 first_digits-none [] h = refl
 first_digits-none (byte ∷ rest) h = rw h refl
 
+-- and all is left
 pub after_digits-none : (bytes : List ℕ) → NoDigitFirst bytes → after_digits bytes ≡ bytes
 after_digits-none [] h = refl
 after_digits-none (byte ∷ rest) h = rw h refl
@@ -61,6 +62,7 @@ pub first_digits-append : (digits rest : List ℕ) → AreDigits digits → NoDi
 first_digits-append [] rest h n = first_digits-none rest n
 first_digits-append (byte ∷ digits) rest h n = rw (is_digit byte (h.0)) (ap (λ xs. byte ∷ xs) (first_digits-append digits rest (h.1) n))
 
+-- and the rest is what follows them
 pub after_digits-append : (digits rest : List ℕ) → AreDigits digits → NoDigitFirst rest → after_digits (digits ++ rest) ≡ rest
 after_digits-append [] rest h n = after_digits-none rest n
 after_digits-append (byte ∷ digits) rest h n = rw (is_digit byte (h.0)) (after_digits-append digits rest (h.1) n)
@@ -70,6 +72,7 @@ pub AreDigits-IsDigits : (bytes : List ℕ) → IsDigits bytes → AreDigits byt
 AreDigits-IsDigits [] h = search rules
 AreDigits-IsDigits (byte ∷ rest) h = h
 
+-- an integer is digits
 pub AreDigits-IsInt : (bytes : List ℕ) → IsInt bytes → AreDigits bytes
 AreDigits-IsInt [] h = search rules
 AreDigits-IsInt (byte ∷ rest) (inl alone) = rw (alone.1) ((omega arith, omega arith), tt)
@@ -81,6 +84,7 @@ NoDigitFirst-frac [] [] f e = tt
 NoDigitFirst-frac [] (byte ∷ rest) f e = grind (arith, nat_tests)
 NoDigitFirst-frac (byte ∷ rest) exp f e = grind (arith, nat_tests)
 
+-- an exponent doesn't begin with a digit
 pub NoDigitFirst-exp : (exp : List ℕ) → IsExp exp → NoDigitFirst exp
 NoDigitFirst-exp [] e = tt
 NoDigitFirst-exp (byte ∷ rest) e = grind (arith, nat_tests)
@@ -92,6 +96,7 @@ first_frac-append [] (byte ∷ rest) f e = grind (arith, nat_tests)
 first_frac-append (byte ∷ rest) exp f e = let point : (byte == 46) ≡ true = grind (arith, nat_tests) in
     rw point (ap (λ xs. byte ∷ xs) (first_digits-append rest exp (AreDigits-IsDigits rest (f.1)) (NoDigitFirst-exp exp e)))
 
+-- and the exponent is what follows it
 pub after_frac-append : (frac exp : List ℕ) → IsFrac frac → IsExp exp → after_frac (frac ++ exp) ≡ exp
 after_frac-append [] [] f e = refl
 after_frac-append [] (byte ∷ rest) f e = grind (arith, nat_tests)
@@ -104,6 +109,7 @@ first_minus-append [] (byte ∷ rest) tail m i = grind (arith, nat_tests)
 first_minus-append (byte ∷ rest) int tail m i = let sign : (byte == 45) ≡ true = grind (arith, nat_tests) in rw sign (ap (λ xs. byte ∷ xs) (sym (m.1)))
 first_minus-append [] [] tail m i = absurd i
 
+-- and the integer begins what follows it
 pub after_minus-append : (minus int tail : List ℕ) → IsMinus minus → IsInt int → after_minus (minus ++ (int ++ tail)) ≡ int ++ tail
 after_minus-append [] (byte ∷ rest) tail m i = grind (arith, nat_tests)
 after_minus-append (byte ∷ rest) int tail m i = let sign : (byte == 45) ≡ true = grind (arith, nat_tests) in rw (sign, m.1) refl
@@ -127,6 +133,7 @@ cut-joined p m i f e =
 pub parts_are_cut : (bytes : List ℕ) (p : Parts) → IsMadeOf bytes p → p ≡ cut bytes
 parts_are_cut bytes p made = rw made.whole (sym (cut-joined p made.is_minus made.is_int made.is_frac made.is_exp))
 
+-- a number has one set of parts
 pub one_set_of_parts : (bytes : List ℕ) (p q : Parts) → IsMadeOf bytes p → IsMadeOf bytes q → p ≡ q
 one_set_of_parts bytes p q as_p as_q = parts_are_cut bytes p as_p ∙ sym (parts_are_cut bytes q as_q)
 
@@ -138,6 +145,7 @@ IsMinus-first_minus (byte ∷ rest) = elim (is_tells byte 45) [
   | inr other ↦ rw (other.0) tt
 ]
 
+-- the sign and what follows it are all
 pub first-after_minus : (bytes : List ℕ) → first_minus bytes ++ after_minus bytes ≡ bytes
 first-after_minus [] = refl
 first-after_minus (byte ∷ rest) = elim (is_tells byte 45) [
@@ -145,6 +153,7 @@ first-after_minus (byte ∷ rest) = elim (is_tells byte 45) [
   | inr other ↦ rw (other.0) refl
 ]
 
+-- the fraction and what follows it are all
 pub first-after_frac : (bytes : List ℕ) → first_frac bytes ++ after_frac bytes ≡ bytes
 first-after_frac [] = refl
 first-after_frac (byte ∷ rest) = elim (is_tells byte 46) [

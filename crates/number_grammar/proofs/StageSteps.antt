@@ -42,12 +42,14 @@ no_digits_first : (byte : ℕ) (rest digits tail : List ℕ) → byte ∷ rest �
 no_digits_first byte rest [] tail e d apart = d
 no_digits_first byte rest (digit ∷ digits) tail e d apart = let same : byte ≡ digit = cc in grind arith
 
+-- digits of an exponent go on with digits
 Steps-exponent : (byte : ℕ) → Steps Exponent byte (next_stage Exponent byte)
 Steps-exponent byte = elim (digit_tells byte) [
   | inl digit ↦ rw (digit.0) (λ rest. (λ h. h.1, λ h. (digit.1, h)))
   | inr other ↦ rw (other.0) (λ rest h. grind arith)
 ]
 
+-- an exponent's sign goes on with a digit
 Steps-sign : (byte : ℕ) → Steps Sign byte (next_stage Sign byte)
 Steps-sign byte = elim (digit_tells byte) [
   | inl digit ↦ rw (digit.0) (λ rest. (λ h. h.1, λ h. (digit.1, h)))
@@ -58,6 +60,7 @@ Steps-sign byte = elim (digit_tells byte) [
 letter_is_no_digit : (byte : ℕ) → IsLetter byte → IsDigit byte → ⊥
 letter_is_no_digit byte letter digit = grind arith
 
+-- an exponent's letter goes on with a sign or a digit
 Steps-letter : (byte : ℕ) → Steps Letter byte (next_stage Letter byte)
 Steps-letter byte = elim (is_tells byte 43) [
   | inl plus ↦ rw (plus.0) (λ rest. (λ h. elim h [ inl signed ↦ signed.1 | inr digits ↦ grind arith ], λ h. inl (inr (plus.1), h)))
@@ -89,6 +92,7 @@ Steps-by_frac stage byte to from_point from_exp = elim (is_tells byte 46) [
   | inr other ↦ rw (other.0) (Steps-by_exp stage byte (λ rest h. elim (to rest h) [ inl fraction ↦ absurd (other.1 (fraction.0)) | inr exponent ↦ exponent ]) from_exp)
 ]
 
+-- digits behind the point go on with digits or an exponent
 Steps-fraction : (byte : ℕ) → Steps Fraction byte (next_stage Fraction byte)
 Steps-fraction byte = elim (digit_tells byte) [
   | inl digit ↦ rw (digit.0) (λ rest. (
@@ -106,6 +110,7 @@ Steps-fraction byte = elim (digit_tells byte) [
       (λ rest letter signed. ([], byte ∷ rest, refl, tt, (letter, signed))))
 ]
 
+-- a point goes on with a digit
 Steps-point : (byte : ℕ) → Steps Point byte (next_stage Point byte)
 Steps-point byte = elim (digit_tells byte) [
   | inl digit ↦ rw (digit.0) (λ rest. (
@@ -118,12 +123,14 @@ Steps-point byte = elim (digit_tells byte) [
   | inr other ↦ rw (other.0) (λ rest (digits, exp, whole, are_digits, is_exp). no_digits_first byte rest digits exp whole are_digits other.1)
 ]
 
+-- the integer 0 goes on with a fraction or an exponent
 Steps-zero : (byte : ℕ) → Steps Zero byte (next_stage Zero byte)
 Steps-zero byte = Steps-by_frac Zero byte
     (λ rest (frac, exp, whole, is_frac, is_exp). first_of_frac byte rest frac exp whole is_frac is_exp)
     (λ rest point (digits, exp, whole, are_digits, is_exp). (byte ∷ digits, exp, ap (λ xs. byte ∷ xs) whole, (point, are_digits), is_exp))
     (λ rest letter signed. ([], byte ∷ rest, refl, tt, (letter, signed)))
 
+-- digits before the point go on with digits, a fraction or an exponent
 Steps-whole : (byte : ℕ) → Steps Whole byte (next_stage Whole byte)
 Steps-whole byte = elim (digit_tells byte) [
   | inl digit ↦ rw (digit.0) (λ rest. (
@@ -161,9 +168,11 @@ first_of_unsigned byte rest (int, frac, exp, whole, is_int, is_frac, is_exp) = e
   | inr more ↦ inr (more.0, more.1, (more.2.0, frac, exp, more.2.1, more.2.2, is_frac, is_exp))
 ]
 
+-- 0 begins an unsigned number
 unsigned_from_zero : (byte : ℕ) (rest : List ℕ) → byte ≡ 48 → Continues Zero rest → Continues Minus (byte ∷ rest)
 unsigned_from_zero byte rest zero_digit (frac, exp, whole, is_frac, is_exp) = (byte ∷ [], frac, exp, ap (λ xs. byte ∷ xs) whole, inl (zero_digit, refl), is_frac, is_exp)
 
+-- any other digit begins an unsigned number too
 unsigned_from_digit : (byte : ℕ) (rest : List ℕ) → 49 ≤ byte → byte ≤ 57 → Continues Whole rest → Continues Minus (byte ∷ rest)
 unsigned_from_digit byte rest low high (digits, frac, exp, whole, are_digits, is_frac, is_exp) = (byte ∷ digits, frac, exp, ap (λ xs. byte ∷ xs) whole, inr (low, high, are_digits), is_frac, is_exp)
 
@@ -183,6 +192,7 @@ Steps-by_int stage byte to from = elim (is_tells byte 48) [
   ]
 ]
 
+-- a sign goes on with an integer
 Steps-minus : (byte : ℕ) → Steps Minus byte (next_stage Minus byte)
 Steps-minus byte = Steps-by_int Minus byte (λ rest h. h) (λ rest h. h)
 
@@ -190,9 +200,11 @@ Steps-minus byte = Steps-by_int Minus byte (λ rest h. h) (λ rest h. h)
 unsigned_number : (bytes : List ℕ) → Continues Minus bytes → IsNumber bytes
 unsigned_number bytes (int, frac, exp, whole, is_int, is_frac, is_exp) = (record { minus = []; int = int; frac = frac; exp = exp }, record { whole = whole; is_minus = tt; is_int = is_int; is_frac = is_frac; is_exp = is_exp })
 
+-- a sign before an unsigned number makes a number
 signed_number : (byte : ℕ) (bytes : List ℕ) → byte ≡ 45 → Continues Minus bytes → IsNumber (byte ∷ bytes)
 signed_number byte bytes sign (int, frac, exp, whole, is_int, is_frac, is_exp) = (record { minus = byte ∷ []; int = int; frac = frac; exp = exp }, record { whole = ap (λ xs. byte ∷ xs) whole; is_minus = (sign, refl); is_int = is_int; is_frac = is_frac; is_exp = is_exp })
 
+-- the first byte of a number is its sign, or the first of an unsigned number: of its parts
 number_cases_of : (byte : ℕ) (rest minus int frac exp : List ℕ) → byte ∷ rest ≡ minus ++ (int ++ (frac ++ exp)) → IsMinus minus → IsInt int → IsFrac frac → IsExp exp → ((byte ≡ 45) × Continues Minus rest) ⊎ Continues Minus (byte ∷ rest)
 number_cases_of byte rest [] int frac exp whole m i f e = inr (int, frac, exp, whole, i, f, e)
 number_cases_of byte rest (sign ∷ others) int frac exp whole m i f e =
@@ -200,6 +212,7 @@ number_cases_of byte rest (sign ∷ others) int frac exp whole m i f e =
     let after : rest ≡ others ++ (int ++ (frac ++ exp)) = cc in
     inl (same ∙ m.0, (int, frac, exp, rw (m.1) at after, i, f, e))
 
+-- the same of the bytes
 number_cases : (byte : ℕ) (rest : List ℕ) → IsNumber (byte ∷ rest) → ((byte ≡ 45) × Continues Minus rest) ⊎ Continues Minus (byte ∷ rest)
 number_cases byte rest (parts, made) = number_cases_of byte rest parts.minus parts.int parts.frac parts.exp made.whole made.is_minus made.is_int made.is_frac made.is_exp
 
@@ -207,6 +220,7 @@ number_cases byte rest (parts, made) = number_cases_of byte rest parts.minus par
 no_sign_unsigned : (byte : ℕ) (rest : List ℕ) → byte ≡ 45 → Continues Minus (byte ∷ rest) → ⊥
 no_sign_unsigned byte rest sign h = elim (first_of_unsigned byte rest h) [ inl alone ↦ omega arith | inr more ↦ omega arith ]
 
+-- a number begins with a sign or an integer
 Steps-start : (byte : ℕ) → Steps Start byte (next_stage Start byte)
 Steps-start byte = elim (is_tells byte 45) [
   | inl sign ↦ rw (sign.0) (λ rest. (
@@ -218,6 +232,7 @@ Steps-start byte = elim (is_tells byte 45) [
       (λ rest h. unsigned_number (byte ∷ rest) h))
 ]
 
+-- each stage goes on as the table says
 pub Steps-next_stage : (stage : Stage) (byte : ℕ) → Steps stage byte (next_stage stage byte)
 Steps-next_stage Start byte = Steps-start byte
 Steps-next_stage Minus byte = Steps-minus byte
@@ -234,6 +249,7 @@ pub some_steps : (stage : Stage) (byte : ℕ) (answer : Option Stage) → Steps 
 some_steps stage byte (Some next) h = h
 some_steps stage byte None h = tt
 
+-- and where it answers none
 pub none_steps : (stage : Stage) (byte : ℕ) (answer : Option Stage) → Steps stage byte answer → IfNone answer ((rest : List ℕ) → Continues stage (byte ∷ rest) → ⊥)
 none_steps stage byte (Some next) h = tt
 none_steps stage byte None h = h
