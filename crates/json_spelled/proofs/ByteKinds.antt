@@ -40,27 +40,34 @@ chosen b false x y h k = k refl
 same : (a b : ℕ) → nat_eq a b ≡ true → a ≡ b
 same a b h = grind (arith, nat_tests)
 
+-- what a failed test of equality says
 other : (a b : ℕ) → nat_eq a b ≡ false → a ≢ b
 other a b h e = grind (arith, nat_tests)
 
+-- what a test of order says
 below : (a b : ℕ) → nat_lt a b ≡ true → a < b
 below a b h = grind (arith, nat_tests)
 
+-- what a failed test of order says
 from : (a b : ℕ) → nat_lt a b ≡ false → b ≤ a
 from a b h = grind (arith, nat_tests)
 
+-- each byte below 32 is of its kind
 control_is : (b : ℕ) → b < 32 → IsOf b (control_kind b)
 control_is b small =
     chosen b (nat_eq b 9) _ _ (λ h. inl (same b 9 h)) (λ n9.
     chosen b (nat_eq b 10) _ _ (λ h. inr (inl (same b 10 h))) (λ n10.
     chosen b (nat_eq b 13) _ _ (λ h. inr (inr (same b 13 h))) (λ n13. (small, other b 9 n9, other b 10 n10, other b 13 n13))))
 
+-- what the test for a digit other than zero says
 digit_test : (b : ℕ) → (nat_le 49 b && nat_le b 57) ≡ true → (49 ≤ b) × (b ≤ 57)
 digit_test b h = (grind (arith, nat_tests), grind (arith, nat_tests))
 
+-- what that test says where it fails
 no_digit : (b : ℕ) → (nat_le 49 b && nat_le b 57) ≡ false → (b < 49) ⊎ (57 < b)
 no_digit b h = grind (arith, nat_tests)
 
+-- each byte from 32 to 64 is of its kind
 sign_is : (b : ℕ) → 32 ≤ b → b < 65 → IsOf b (sign_kind b)
 sign_is b low high =
     chosen b (nat_eq b 32) _ _ (λ h. same b 32 h) (λ n1.
@@ -75,6 +82,7 @@ sign_is b low high =
     let no_space : b ≢ 32 = other b 32 n1 in
     (omega arith, other b 34 n2, omega arith, other b 48 n8, no_digit b h, omega arith))))))))))
 
+-- each byte from 65 on is of its kind
 letter_is : (b : ℕ) → 65 ≤ b → IsOf b (letter_kind b)
 letter_is b low =
     chosen b (nat_eq b 91) _ _ (λ h. same b 91 h) (λ n1.
@@ -105,6 +113,7 @@ digit_kind b Control h low high = absurd (omega (arith, h.0))
 digit_kind b Other h low high = absurd (omega (arith, h.4))
 digit_kind b _ h low high = absurd (omega (arith, h))
 
+-- a digit other than zero is of the kind Digit
 pub kind_digit : (b : ℕ) → 49 ≤ b → b ≤ 57 → kind b ≡ Digit
 kind_digit b low high = digit_kind b (kind b) (kind_is b) low high
 
@@ -118,62 +127,77 @@ pub kind_quote : kind 34 ≡ Quote
 unfolding kind
 kind_quote = refl
 
+-- `\`
 pub kind_backslash : kind 92 ≡ Backslash
 unfolding kind
 kind_backslash = refl
 
+-- `,`
 pub kind_comma : kind 44 ≡ Comma
 unfolding kind
 kind_comma = refl
 
+-- `:`
 pub kind_colon : kind 58 ≡ Colon
 unfolding kind
 kind_colon = refl
 
+-- `[`
 pub kind_open_list : kind 91 ≡ OpenList
 unfolding kind
 kind_open_list = refl
 
+-- `]`
 pub kind_close_list : kind 93 ≡ CloseList
 unfolding kind
 kind_close_list = refl
 
+-- `{`
 pub kind_open_object : kind 123 ≡ OpenObject
 unfolding kind
 kind_open_object = refl
 
+-- `}`
 pub kind_close_object : kind 125 ≡ CloseObject
 unfolding kind
 kind_close_object = refl
 
+-- `-`
 pub kind_minus : kind 45 ≡ Minus
 unfolding kind
 kind_minus = refl
 
+-- `+`
 pub kind_plus : kind 43 ≡ Plus
 unfolding kind
 kind_plus = refl
 
+-- `.`
 pub kind_point : kind 46 ≡ Point
 unfolding kind
 kind_point = refl
 
+-- `0`
 pub kind_zero : kind 48 ≡ Zero
 unfolding kind
 kind_zero = refl
 
+-- `n`
 pub kind_small_n : kind 110 ≡ SmallN
 unfolding kind
 kind_small_n = refl
 
+-- `t`
 pub kind_small_t : kind 116 ≡ SmallT
 unfolding kind
 kind_small_t = refl
 
+-- `f`
 pub kind_small_f : kind 102 ≡ SmallF
 unfolding kind
 kind_small_f = refl
 
+-- `e` and `E`
 pub kind_exponent : (b : ℕ) → (b ≡ 101) ⊎ (b ≡ 69) → kind b ≡ Exponent
 unfolding kind
 kind_exponent b h = ⊎_elim (λ e. ap kind e) (λ e. ap kind e) h

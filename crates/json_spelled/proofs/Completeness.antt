@@ -4,7 +4,7 @@ use Rattle.std.proofs.Math.Logic.{⊎_elim}
 use Rattle.std.specs.Prelude.{⊤, option_and_then, option_map}
 use Rattle.std.proofs.lemmas.Bool.Decides.{nat_tests}
 use Rattle.json_spelled.specs.Json.{Json, spelled, list, object, Items, no_items, item, Members, no_members, member, Entry, items_onto, members_onto}
-use Rattle.json_spelled.specs.Grammar.{Spaces, none, space, IsPlain, escaped, Piece, Pieces, closed, plain, escape, unit, said_by, alone, said_behind, waits_behind, Quoted, Value, of_null, of_true, of_false, of_number, of_string, of_no_items, of_items, of_no_members, of_members, ItemsAt, first, MoreItems, no_more, more, MembersAt, first_member, MoreMembers, no_more_members, more_members}
+use Rattle.json_spelled.specs.Grammar.{Spaces, none, space, IsPlain, escaped, Piece, Pieces, closed, plain, escape, unit, said_by, alone, said_behind, waiting_after, Quoted, Value, of_null, of_true, of_false, of_number, of_string, of_no_items, of_items, of_no_members, of_members, ItemsAt, first, MoreItems, no_more, more, MembersAt, first_member, MoreMembers, no_more_members, more_members}
 use Rattle.json_spelled.specs.Kind.{kind}
 use Rattle.json_spelled.specs.Machine as machine
 use Rattle.json_spelled.specs.Machine.{Frame, InList, InObject, Place, Start, Mark1, Mark2, FirstItem, BehindItem, FirstName, Name, BehindName, BehindMember, Ended, Use, AsValue, AsName, InBytes, InEscape, Hex1, Hex2, Hex3, Hex4, State, Between, InWord, InNumber, InText, deliver, finish, finish_delivered, may_end, goes_on, number_step, step_delivered, between, text_step, escape_step, unit_step, close, step_by, step, answer}
@@ -29,12 +29,14 @@ IsLater Mark1 = ⊥
 IsLater Mark2 = ⊥
 IsLater _ = ⊤
 
+-- a space is passed over
 stays_blank : (levels : ℕ) (place : Place) (frames : List Frame) (byte : ℕ) → IsLater place → between levels place frames kinds.Blank byte ≡ Some (Between place frames)
 stays_blank levels Start frames byte h = absurd h
 stays_blank levels Mark1 frames byte h = absurd h
 stays_blank levels Mark2 frames byte h = absurd h
 stays_blank levels _ frames byte h = refl
 
+-- a tab, a line feed or a carriage return is passed over
 stays_break : (levels : ℕ) (place : Place) (frames : List Frame) (byte : ℕ) → IsLater place → between levels place frames kinds.Break byte ≡ Some (Between place frames)
 stays_break levels Start frames byte h = absurd h
 stays_break levels Mark1 frames byte h = absurd h
@@ -64,6 +66,7 @@ abbrev pub MayFollow : List ℕ → Type 0
 MayFollow [] = ⊤
 MayFollow (byte ∷ bytes) = IsEnder (kind byte)
 
+-- no number goes on with a byte that may follow a value
 ender_ends : (part : Part) (k : Kind) → IsEnder k → goes_on part k ≡ None
 ender_ends parts.Minus kinds.Blank h = refl
 ender_ends parts.Minus kinds.Break h = refl
@@ -107,11 +110,13 @@ ender_ends parts.Power kinds.CloseList h = refl
 ender_ends parts.Power kinds.CloseObject h = refl
 ender_ends _ _ h = absurd h
 
+-- a step behind a delivered value is a step of the state that it left
 delivered_step : (levels : ℕ) (value : Json) (frames : List Frame) (k : Kind) (byte : ℕ) → step_delivered levels (deliver value frames) k byte ≡ step_by levels (deliver value frames) k byte
 delivered_step levels value [] k byte = refl
 delivered_step levels value (InList items ∷ frames) k byte = refl
 delivered_step levels value (InObject members name ∷ frames) k byte = refl
 
+-- and so is the end of the text
 delivered_finish : (value : Json) (frames : List Frame) → finish_delivered (deliver value frames) ≡ finish (deliver value frames)
 delivered_finish value [] = refl
 delivered_finish value (InList items ∷ frames) = refl
@@ -183,9 +188,9 @@ text_read levels use' token high frames {rest = rest} (unit {a} {b} {c} {d} {fir
     (ap (option_map (λ c. InText use' (Hex4 a b c) token high frames)) ec)
     ∙ led_to levels (InText use' (Hex4 a b c) token high frames) (unit_step use' token high frames (4096 * a + 256 * b + 16 * c + d)) fourth bytes (kind fourth) refl
     (ap (option_map (λ d. unit_step use' token high frames (4096 * a + 256 * b + 16 * c + d))) ed)
-    ∙ text_read levels use' (token ++ said_behind high (4096 * a + 256 * b + 16 * c + d)) (waits_behind high (4096 * a + 256 * b + 16 * c + d)) frames p
+    ∙ text_read levels use' (token ++ said_behind high (4096 * a + 256 * b + 16 * c + d)) (waiting_after (4096 * a + 256 * b + 16 * c + d)) frames p
     ∙ ap (λ t. answer levels (close use' t frames) rest)
-    (append_assoc token (said_behind high (4096 * a + 256 * b + 16 * c + d)) (said_by (waits_behind high (4096 * a + 256 * b + 16 * c + d)) pieces))
+    (append_assoc token (said_behind high (4096 * a + 256 * b + 16 * c + d)) (said_by (waiting_after (4096 * a + 256 * b + 16 * c + d)) pieces))
 
 -- a string from its opening mark on
 quoted_read : (levels : ℕ) (use' : Use) (frames : List Frame) {says bytes rest : List ℕ} → Quoted says bytes rest
@@ -205,18 +210,21 @@ Starts kinds.SmallT = ⊤
 Starts kinds.SmallF = ⊤
 Starts _ = ⊥
 
+-- bytes that begin with one that starts a value
 pub record Starter (bytes : List ℕ) : Type 0 where
   pub byte : ℕ
   pub rest : List ℕ
   pub whole : bytes ≡ byte ∷ rest
   pub starts : Starts (kind byte)
 
+-- what begins a number starts a value
 number_starts : (k : Kind) (part : Part) → begins_with k ≡ Some part → Starts k
 number_starts kinds.Minus part e = tt
 number_starts kinds.Zero part e = tt
 number_starts kinds.Digit part e = tt
 number_starts _ part e = let no : None ≡ Some part = e in absurd (cc no)
 
+-- each spelling of a value begins so
 pub starter : {levels : ℕ} {value : Json} {bytes rest : List ℕ} → Value levels value bytes rest → Starter bytes
 starter (of_null {levels} {rest}) = record { byte = 110; rest = 117 ∷ 108 ∷ 108 ∷ rest; whole = refl; starts = subst Starts (sym kind_small_n) tt }
 starter (of_true {levels} {rest}) = record { byte = 116; rest = 114 ∷ 117 ∷ 101 ∷ rest; whole = refl; starts = subst Starts (sym kind_small_t) tt }
@@ -235,6 +243,7 @@ pub agree : (levels : ℕ) (state other : State) (byte : ℕ) (rest : List ℕ) 
     → answer levels state (byte ∷ rest) ≡ answer levels other (byte ∷ rest)
 agree levels state other byte rest e = ap (λ o. option_and_then (λ next. answer levels next rest) o) e
 
+-- what starts a value begins the first item of an array as any other
 first_starts : (levels : ℕ) (frames : List Frame) (byte : ℕ) (k : Kind) → Starts k
     → step_by levels (Between FirstItem frames) k byte ≡ step_by levels (Between machine.Value (InList [] ∷ frames)) k byte
 first_starts levels frames byte kinds.Blank h = absurd h
@@ -251,6 +260,7 @@ first_value levels frames v =
     ∙ agree levels (Between FirstItem frames) (Between machine.Value (InList [] ∷ frames)) s.byte s.rest (first_starts levels frames s.byte (kind s.byte) s.starts)
     ∙ ap (answer levels (Between machine.Value (InList [] ∷ frames))) (sym s.whole)
 
+-- the first item, behind spaces, begins as any other
 first_items : (levels : ℕ) (frames : List Frame) {inside : ℕ} {items : Items} {bytes rest : List ℕ} → ItemsAt inside items bytes rest
     → answer levels (Between FirstItem frames) bytes ≡ answer levels (Between machine.Value (InList [] ∷ frames)) bytes
 first_items levels frames (first spaces v m) =
@@ -261,10 +271,12 @@ pub spaces_follow : {bytes rest : List ℕ} → Spaces bytes rest → MayFollow 
 spaces_follow none h = h
 spaces_follow (space {byte} s spaces) h = ⊎_elim (λ e. subst IsEnder (sym e) tt) (λ e. subst IsEnder (sym e) tt) (kind_space byte s)
 
+-- what stands behind an item may follow a value
 more_follows : {levels : ℕ} {items : Items} {bytes rest : List ℕ} → MoreItems levels items bytes rest → MayFollow bytes
 more_follows (no_more spaces) = spaces_follow spaces (subst IsEnder (sym kind_close_list) tt)
 more_follows (more spaces i) = spaces_follow spaces (subst IsEnder (sym kind_comma) tt)
 
+-- what stands behind a member may follow a value
 more_members_follow : {levels : ℕ} {members : Members} {bytes rest : List ℕ} → MoreMembers levels members bytes rest → MayFollow bytes
 more_members_follow (no_more_members spaces) = spaces_follow spaces (subst IsEnder (sym kind_close_object) tt)
 more_members_follow (more_members spaces i) = spaces_follow spaces (subst IsEnder (sym kind_comma) tt)
@@ -274,6 +286,7 @@ pub items_onto_more : (items : List Json) (value : Json) (rest : Items) → item
 items_onto_more [] value rest = refl
 items_onto_more (x ∷ items) value rest = ap (item x) (items_onto_more items value rest)
 
+-- the same of members
 pub members_onto_more : (members : List Entry) (entry : Entry) (rest : Members) → members_onto (members ++ entry ∷ []) rest ≡ members_onto members (member entry.0 entry.1 rest)
 members_onto_more [] entry rest = refl
 members_onto_more (x ∷ members) entry rest = ap (member x.0 x.1) (members_onto_more members entry rest)
@@ -286,9 +299,11 @@ room levels inside frames e = grind (arith, nat_tests)
 deeper : (levels inside count : ℕ) → levels ≡ suc inside + count → levels ≡ inside + suc count
 deeper levels inside count e = omega arith
 
+-- where there is room for a level it opens
 open_room : (levels inside : ℕ) (place : Place) (frames : List Frame) → levels ≡ suc inside + length frames → machine.open_at levels place frames ≡ Some (Between place frames)
 open_room levels inside place frames e = ap (λ b. cond b (Some (Between place frames)) None) (room levels inside frames e)
 
+-- what begins a number opens its token
 begin_number : (levels : ℕ) (frames : List Frame) (byte : ℕ) (part : Part) (k : Kind) → begins_with k ≡ Some part → machine.begin levels frames k byte ≡ Some (InNumber part (byte ∷ []) frames)
 begin_number levels frames byte part kinds.Minus e = ap (option_map (λ p. InNumber p (byte ∷ []) frames)) e
 begin_number levels frames byte part kinds.Zero e = ap (option_map (λ p. InNumber p (byte ∷ []) frames)) e

@@ -8,7 +8,7 @@ use Rattle.json_spelled.specs.Json.{Json, null, truth, spelled, text, list, obje
 use Rattle.json_spelled.specs.Kind.{kind}
 use Rattle.json_spelled.specs.Machine as machine
 use Rattle.json_spelled.specs.Machine.{Frame, InList, InObject, Place, Start, Mark1, Mark2, FirstItem, BehindItem, FirstName, Name, BehindName, BehindMember, Ended, Use, AsValue, AsName, Spot, InBytes, InEscape, Hex1, Hex2, Hex3, Hex4, State, Between, InWord, InNumber, InText, deliver, may_end, goes_on, close, unit_step, answer}
-use Rattle.json_spelled.specs.Grammar.{alone, said_behind, waits_behind}
+use Rattle.json_spelled.specs.Grammar.{alone, said_behind, waiting_after}
 use Rattle.json_spelled.specs.declared.kind.Kind.TheVariants as kinds
 use Rattle.json_spelled.specs.declared.lexeme.Part.{Part}
 use Rattle.json_spelled.specs.declared.lexeme.Part.TheVariants as parts
@@ -57,42 +57,52 @@ nul_completion : (frames : List Frame) → Completion (InWord words.Nul frames)
 nul_completion frames = before (InWord words.Nul frames) (deliver (null) frames) 108 (omega arith)
     (λ levels bytes. led_to levels (InWord words.Nul frames) (deliver (null) frames) 108 bytes (kind 108) refl refl) (closes frames (null))
 
+-- behind `nu`
 nu_completion : (frames : List Frame) → Completion (InWord words.Nu frames)
 nu_completion frames = before (InWord words.Nu frames) (InWord words.Nul frames) 108 (omega arith)
     (λ levels bytes. led_to levels (InWord words.Nu frames) (InWord words.Nul frames) 108 bytes (kind 108) refl refl) (nul_completion frames)
 
+-- behind `n`
 n_completion : (frames : List Frame) → Completion (InWord words.N frames)
 n_completion frames = before (InWord words.N frames) (InWord words.Nu frames) 117 (omega arith)
     (λ levels bytes. led_to levels (InWord words.N frames) (InWord words.Nu frames) 117 bytes (kind 117) refl refl) (nu_completion frames)
 
+-- behind `tru`
 tru_completion : (frames : List Frame) → Completion (InWord words.Tru frames)
 tru_completion frames = before (InWord words.Tru frames) (deliver (truth true) frames) 101 (omega arith)
     (λ levels bytes. led_to levels (InWord words.Tru frames) (deliver (truth true) frames) 101 bytes (kind 101) refl refl) (closes frames (truth true))
 
+-- behind `tr`
 tr_completion : (frames : List Frame) → Completion (InWord words.Tr frames)
 tr_completion frames = before (InWord words.Tr frames) (InWord words.Tru frames) 117 (omega arith)
     (λ levels bytes. led_to levels (InWord words.Tr frames) (InWord words.Tru frames) 117 bytes (kind 117) refl refl) (tru_completion frames)
 
+-- behind `t`
 t_completion : (frames : List Frame) → Completion (InWord words.T frames)
 t_completion frames = before (InWord words.T frames) (InWord words.Tr frames) 114 (omega arith)
     (λ levels bytes. led_to levels (InWord words.T frames) (InWord words.Tr frames) 114 bytes (kind 114) refl refl) (tr_completion frames)
 
+-- behind `fals`
 fals_completion : (frames : List Frame) → Completion (InWord words.Fals frames)
 fals_completion frames = before (InWord words.Fals frames) (deliver (truth false) frames) 101 (omega arith)
     (λ levels bytes. led_to levels (InWord words.Fals frames) (deliver (truth false) frames) 101 bytes (kind 101) refl refl) (closes frames (truth false))
 
+-- behind `fal`
 fal_completion : (frames : List Frame) → Completion (InWord words.Fal frames)
 fal_completion frames = before (InWord words.Fal frames) (InWord words.Fals frames) 115 (omega arith)
     (λ levels bytes. led_to levels (InWord words.Fal frames) (InWord words.Fals frames) 115 bytes (kind 115) refl refl) (fals_completion frames)
 
+-- behind `fa`
 fa_completion : (frames : List Frame) → Completion (InWord words.Fa frames)
 fa_completion frames = before (InWord words.Fa frames) (InWord words.Fal frames) 108 (omega arith)
     (λ levels bytes. led_to levels (InWord words.Fa frames) (InWord words.Fal frames) 108 bytes (kind 108) refl refl) (fal_completion frames)
 
+-- behind `f`
 f_completion : (frames : List Frame) → Completion (InWord words.F frames)
 f_completion frames = before (InWord words.F frames) (InWord words.Fa frames) 97 (omega arith)
     (λ levels bytes. led_to levels (InWord words.F frames) (InWord words.Fa frames) 97 bytes (kind 97) refl refl) (fa_completion frames)
 
+-- behind any letter of a word
 word_completion : (word : Word) (frames : List Frame) → Completion (InWord word frames)
 word_completion words.N frames = n_completion frames
 word_completion words.Nu frames = nu_completion frames
@@ -121,36 +131,43 @@ close_completion : (use' : Use) (says : List ℕ) (frames : List Frame) → Comp
 close_completion AsValue says frames = closes frames (text says)
 close_completion (AsName members) says frames = colon_completion members says frames
 
+-- in the bytes of a string
 bytes_completion : (use' : Use) (token : List ℕ) (high : Option ℕ) (frames : List Frame) → Completion (InText use' InBytes token high frames)
 bytes_completion use' token high frames = before (InText use' InBytes token high frames) (close use' (token ++ alone high) frames) 34 (omega arith)
     (λ levels bytes. led_to levels (InText use' InBytes token high frames) (close use' (token ++ alone high) frames) 34 bytes kinds.Quote kind_quote refl)
     (close_completion use' (token ++ alone high) frames)
 
+-- behind three digits of a code unit
 hex4_completion : (use' : Use) (a b c : ℕ) (token : List ℕ) (high : Option ℕ) (frames : List Frame) → Completion (InText use' (Hex4 a b c) token high frames)
 hex4_completion use' a b c token high frames = before (InText use' (Hex4 a b c) token high frames) (unit_step use' token high frames (4096 * a + 256 * b + 16 * c + 0)) 48 (omega arith)
     (λ levels bytes. led_to levels (InText use' (Hex4 a b c) token high frames) (unit_step use' token high frames (4096 * a + 256 * b + 16 * c + 0)) 48 bytes (kind 48) refl refl)
-    (bytes_completion use' (token ++ said_behind high (4096 * a + 256 * b + 16 * c + 0)) (waits_behind high (4096 * a + 256 * b + 16 * c + 0)) frames)
+    (bytes_completion use' (token ++ said_behind high (4096 * a + 256 * b + 16 * c + 0)) (waiting_after (4096 * a + 256 * b + 16 * c + 0)) frames)
 
+-- behind two
 hex3_completion : (use' : Use) (a b : ℕ) (token : List ℕ) (high : Option ℕ) (frames : List Frame) → Completion (InText use' (Hex3 a b) token high frames)
 hex3_completion use' a b token high frames = before (InText use' (Hex3 a b) token high frames) (InText use' (Hex4 a b 0) token high frames) 48 (omega arith)
     (λ levels bytes. led_to levels (InText use' (Hex3 a b) token high frames) (InText use' (Hex4 a b 0) token high frames) 48 bytes (kind 48) refl refl)
     (hex4_completion use' a b 0 token high frames)
 
+-- behind one
 hex2_completion : (use' : Use) (a : ℕ) (token : List ℕ) (high : Option ℕ) (frames : List Frame) → Completion (InText use' (Hex2 a) token high frames)
 hex2_completion use' a token high frames = before (InText use' (Hex2 a) token high frames) (InText use' (Hex3 a 0) token high frames) 48 (omega arith)
     (λ levels bytes. led_to levels (InText use' (Hex2 a) token high frames) (InText use' (Hex3 a 0) token high frames) 48 bytes (kind 48) refl refl)
     (hex3_completion use' a 0 token high frames)
 
+-- behind none
 hex1_completion : (use' : Use) (token : List ℕ) (high : Option ℕ) (frames : List Frame) → Completion (InText use' Hex1 token high frames)
 hex1_completion use' token high frames = before (InText use' Hex1 token high frames) (InText use' (Hex2 0) token high frames) 48 (omega arith)
     (λ levels bytes. led_to levels (InText use' Hex1 token high frames) (InText use' (Hex2 0) token high frames) 48 bytes (kind 48) refl refl)
     (hex2_completion use' 0 token high frames)
 
+-- behind a backslash
 escape_completion : (use' : Use) (token : List ℕ) (high : Option ℕ) (frames : List Frame) → Completion (InText use' InEscape token high frames)
 escape_completion use' token high frames = before (InText use' InEscape token high frames) (InText use' InBytes ((token ++ alone high) ++ 10 ∷ []) None frames) 110 (omega arith)
     (λ levels bytes. led_to levels (InText use' InEscape token high frames) (InText use' InBytes ((token ++ alone high) ++ 10 ∷ []) None frames) 110 bytes (kind 110) refl refl)
     (bytes_completion use' ((token ++ alone high) ++ 10 ∷ []) None frames)
 
+-- anywhere in a string
 spot_completion : (use' : Use) (spot : Spot) (token : List ℕ) (high : Option ℕ) (frames : List Frame) → Completion (InText use' spot token high frames)
 spot_completion use' InBytes token high frames = bytes_completion use' token high frames
 spot_completion use' InEscape token high frames = escape_completion use' token high frames
@@ -172,11 +189,13 @@ ending_completion part token frames last =
     let c = closes frames (spelled token) in
     record { bytes = c.bytes; ascii = c.ascii; value = c.value; answers = λ levels. number_ends levels part token frames c.bytes last (closing_follows frames (spelled token)) ∙ c.answers levels }
 
+-- a number to which one zero is wanting
 zero_completion : (part next : Part) (token : List ℕ) (frames : List Frame) → goes_on part kinds.Zero ≡ Some next → may_end next ≡ true → Completion (InNumber part token frames)
 zero_completion part next token frames goes last = before (InNumber part token frames) (InNumber next (token ++ 48 ∷ []) frames) 48 (omega arith)
     (λ levels bytes. led_to levels (InNumber part token frames) (InNumber next (token ++ 48 ∷ []) frames) 48 bytes kinds.Zero kind_zero (ap (λ o. machine.number_step levels o part token frames kinds.Zero 48) goes))
     (ending_completion next (token ++ 48 ∷ []) frames last)
 
+-- anywhere in a number
 number_completion : (part : Part) (token : List ℕ) (frames : List Frame) → Completion (InNumber part token frames)
 number_completion parts.Minus token frames = zero_completion parts.Minus parts.Zero token frames refl refl
 number_completion parts.Point token frames = zero_completion parts.Point parts.Fraction token frames refl refl
@@ -193,6 +212,7 @@ IsUnmarked (Between Mark1 frames) = ⊥
 IsUnmarked (Between Mark2 frames) = ⊥
 IsUnmarked _ = ⊤
 
+-- where no token is open
 place_completion : (place : Place) (frames : List Frame) → IsUnmarked (Between place frames) → Completion (Between place frames)
 place_completion Start frames h = before (Between Start frames) (InWord words.N frames) 110 (omega arith)
     (λ levels bytes. led_to levels (Between Start frames) (InWord words.N frames) 110 bytes kinds.SmallN kind_small_n refl) (n_completion frames)

@@ -49,10 +49,12 @@ power_tail : (ds : List ℕ) → AreDigits ds → Tail parts.Power ds
 power_tail [] h = ends refl
 power_tail (d ∷ ds) h = digit_goes parts.Power parts.Power d refl refl h.0 (power_tail ds h.1)
 
+-- behind the sign of an exponent
 sign_tail : (ds : List ℕ) → IsDigits ds → Tail parts.Sign ds
 sign_tail [] h = absurd h
 sign_tail (d ∷ ds) h = digit_goes parts.Sign parts.Power d refl refl h.0 (power_tail ds h.1)
 
+-- behind `e`
 signed_tail : (ds : List ℕ) → IsSignedDigits ds → Tail parts.Exponent ds
 signed_tail [] h = absurd h
 signed_tail (d ∷ ds) (inl (sign, digits)) =
@@ -60,27 +62,33 @@ signed_tail (d ∷ ds) (inl (sign, digits)) =
     (λ e. goes (ap (λ b. goes_on parts.Exponent (kind b)) e ∙ ap (goes_on parts.Exponent) kind_plus) (sign_tail ds digits)) sign
 signed_tail (d ∷ ds) (inr (digit, digits)) = digit_goes parts.Exponent parts.Power d refl refl digit (power_tail ds digits)
 
+-- behind a number that an exponent may follow
 exp_tail : (part : Part) (e : List ℕ) → may_end part ≡ true → goes_on part kinds.Exponent ≡ Some parts.Exponent → IsExp e → Tail part e
 exp_tail part [] ended next h = ends ended
 exp_tail part (d ∷ ds) ended next h = goes (ap (goes_on part) (kind_exponent d h.0) ∙ next) (signed_tail ds h.1)
 
+-- behind a digit of the fraction
 fraction_tail : (ds e : List ℕ) → AreDigits ds → IsExp e → Tail parts.Fraction (ds ++ e)
 fraction_tail [] e h k = exp_tail parts.Fraction e refl refl k
 fraction_tail (d ∷ ds) e h k = digit_goes parts.Fraction parts.Fraction d refl refl h.0 (fraction_tail ds e h.1 k)
 
+-- behind the point
 point_tail : (ds e : List ℕ) → IsDigits ds → IsExp e → Tail parts.Point (ds ++ e)
 point_tail [] e h k = absurd h
 point_tail (d ∷ ds) e h k = digit_goes parts.Point parts.Fraction d refl refl h.0 (fraction_tail ds e h.1 k)
 
+-- behind the whole part
 frac_tail : (part : Part) (f e : List ℕ) → may_end part ≡ true → goes_on part kinds.Exponent ≡ Some parts.Exponent → goes_on part kinds.Point ≡ Some parts.Point
     → IsFrac f → IsExp e → Tail part (f ++ e)
 frac_tail part [] e ended next point h k = exp_tail part e ended next k
 frac_tail part (d ∷ ds) e ended next point h k = goes (ap (λ b. goes_on part (kind b)) h.0 ∙ ap (goes_on part) kind_point ∙ point) (point_tail ds e h.1 k)
 
+-- behind a digit of the whole part
 integer_tail : (ds f e : List ℕ) → AreDigits ds → IsFrac f → IsExp e → Tail parts.Integer (ds ++ (f ++ e))
 integer_tail [] f e h k l = frac_tail parts.Integer f e refl refl refl k l
 integer_tail (d ∷ ds) f e h k l = digit_goes parts.Integer parts.Integer d refl refl h.0 (integer_tail ds f e h.1 k l)
 
+-- a number without a sign
 int_numeral : (i f e : List ℕ) → IsInt i → IsFrac f → IsExp e → Numeral (i ++ (f ++ e))
 int_numeral [] f e h k l = absurd h
 int_numeral (d ∷ ds) f e (inl (zero, alone)) k l = record {
@@ -100,12 +108,14 @@ int_numeral (d ∷ ds) f e (inr (low, high, digits)) k l = record {
   tail = integer_tail ds f e digits k l;
 }
 
+-- behind the sign
 int_tail : (i f e : List ℕ) → IsInt i → IsFrac f → IsExp e → Tail parts.Minus (i ++ (f ++ e))
 int_tail [] f e h k l = absurd h
 int_tail (d ∷ ds) f e (inl (zero, alone)) k l = goes (ap (λ b. goes_on parts.Minus (kind b)) zero ∙ ap (goes_on parts.Minus) kind_zero)
     (subst (λ (x : List ℕ). Tail parts.Zero (x ++ (f ++ e))) (sym alone) (frac_tail parts.Zero f e refl refl refl k l))
 int_tail (d ∷ ds) f e (inr (low, high, digits)) k l = goes (ap (goes_on parts.Minus) (kind_digit d low high)) (integer_tail ds f e digits k l)
 
+-- a number with a sign or without
 minus_numeral : (m i f e : List ℕ) → IsMinus m → IsInt i → IsFrac f → IsExp e → Numeral (m ++ (i ++ (f ++ e)))
 minus_numeral [] i f e h j k l = int_numeral i f e j k l
 minus_numeral (d ∷ ds) i f e (minus, alone) j k l = record {
@@ -146,10 +156,12 @@ IsLed parts.Sign byte parts.Power = IsDigit byte
 IsLed parts.Power byte parts.Power = IsDigit byte
 IsLed _ byte _ = ⊥
 
+-- the same where the number goes on
 abbrev LedBy : Part → ℕ → Option Part → Type 0
 LedBy part byte None = ⊤
 LedBy part byte (Some next) = IsLed part byte next
 
+-- a byte of a kind leads only so
 led_by : (part : Part) (byte : ℕ) (k : Kind) → IsOf byte k → LedBy part byte (goes_on part k)
 led_by parts.Minus byte kinds.Zero of = of
 led_by parts.Minus byte kinds.Digit of = of
@@ -181,6 +193,7 @@ led_by parts.Power byte kinds.Zero of = (omega (arith, of), omega (arith, of))
 led_by parts.Power byte kinds.Digit of = (omega (arith, of.0), of.1)
 led_by parts.Power byte _ of = tt
 
+-- what goes on with a number leads so
 led : (part next : Part) (byte : ℕ) → goes_on part (kind byte) ≡ Some next → IsLed part byte next
 led part next byte e = subst (LedBy part byte) e (led_by part byte (kind byte) (kind_is byte))
 
@@ -204,6 +217,7 @@ record Digits (Ends : List ℕ → Type 0) (bytes : List ℕ) : Type 0 where
 abbrev more_digits : (Ends : List ℕ → Type 0) (byte : ℕ) (bytes : List ℕ) → IsDigit byte → Digits Ends bytes → Digits Ends (byte ∷ bytes)
 more_digits Ends byte bytes h d = record { digits = byte ∷ d.digits; behind = d.behind; whole = ap (λ x. byte ∷ x) d.whole; are = (h, d.are); is_end = d.is_end }
 
+-- no digit, and what ends the number
 no_digits : (Ends : List ℕ → Type 0) (bytes : List ℕ) → Ends bytes → Digits Ends bytes
 no_digits Ends bytes h = record { digits = []; behind = bytes; whole = refl; are = tt; is_end = h }
 
@@ -218,12 +232,15 @@ IsEnding parts.Exponent bytes = IsSignedDigits bytes
 IsEnding parts.Sign bytes = IsDigits bytes
 IsEnding parts.Power bytes = AreDigits bytes
 
+-- nothing ends a number that may end
 nothing_ends : Ending []
 nothing_ends = record { frac = []; exp = []; whole = refl; is_frac = tt; is_exp = tt }
 
+-- an exponent ends it
 exp_ends : (byte : ℕ) (bytes : List ℕ) → (byte ≡ 101) ⊎ (byte ≡ 69) → IsSignedDigits bytes → Ending (byte ∷ bytes)
 exp_ends byte bytes e h = record { frac = []; exp = byte ∷ bytes; whole = refl; is_frac = tt; is_exp = (e, h) }
 
+-- a fraction ends it
 point_ends : (byte : ℕ) (bytes : List ℕ) → byte ≡ 46 → IsEnding parts.Point bytes → Ending (byte ∷ bytes)
 point_ends byte bytes e (d, h) = record { frac = byte ∷ d.digits; exp = d.behind; whole = ap (λ x. byte ∷ x) d.whole; is_frac = (e, h); is_exp = d.is_end }
 
@@ -245,6 +262,7 @@ led_ends parts.Sign parts.Power byte bytes h e = (h, e)
 led_ends parts.Power parts.Power byte bytes h e = (h, e)
 led_ends _ _ byte bytes h e = absurd h
 
+-- where a number may end nothing is wanting
 ended : (part : Part) → may_end part ≡ true → IsEnding part []
 ended parts.Zero h = nothing_ends
 ended parts.Integer h = no_digits Ending [] nothing_ends
@@ -252,6 +270,7 @@ ended parts.Fraction h = no_digits IsExp [] tt
 ended parts.Power h = tt
 ended _ h = absurd (cc)
 
+-- what ends a number by the machine ends it by the grammar
 ending : {part : Part} {bytes : List ℕ} → Tail part bytes → IsEnding part bytes
 ending (ends {part} h) = ended part h
 ending (goes {part} {next} {byte} {bytes} e tail) = led_ends part next byte bytes (led part next byte e) (ending tail)
@@ -263,10 +282,12 @@ IsBegun byte parts.Zero = byte ≡ 48
 IsBegun byte parts.Integer = (49 ≤ byte) × (byte ≤ 57)
 IsBegun byte _ = ⊥
 
+-- the same where a number begins
 abbrev BegunBy : ℕ → Option Part → Type 0
 BegunBy byte None = ⊤
 BegunBy byte (Some part) = IsBegun byte part
 
+-- a byte of a kind begins a number only so
 begun_by : (byte : ℕ) (k : Kind) → IsOf byte k → BegunBy byte (begins_with k)
 begun_by byte kinds.Minus of = of
 begun_by byte kinds.Zero of = of

@@ -29,6 +29,7 @@ begins_front levels i bytes b = record {
   whole = subst (IsText levels b.value) (ap (λ x. x ++ b.rest) (sym (take-append-drop i bytes)) ∙ append_assoc (take i bytes) (drop i bytes) b.rest) b.whole;
 }
 
+-- what a longer front begins a shorter one does
 begins_take : (levels i j : ℕ) (bytes : List ℕ) → i ≤ j → Begins levels (take j bytes) → Begins levels (take i bytes)
 begins_take levels i j bytes h b = subst (Begins levels) (take_within i j bytes h) (begins_front levels i (take j bytes) b)
 
@@ -105,6 +106,7 @@ ill_first bytes len state v short r = record {
   utf8_first = λ i h e. ap NotUtf8 e;
 }
 
+-- and there is no value
 pub ill_only : (bytes : List ℕ) (len : ℕ) → IsValidLength bytes len → len < length bytes → (value : Json) → IsText level_limit value bytes → ⊥
 ill_only bytes len v short value t = no_ill bytes len t.utf8 (v.ill short)
 
@@ -124,6 +126,7 @@ end_first bytes state h r e =
       utf8_first = λ i k same. absurd (no_ill bytes i h k);
     }
 
+-- and there is no value
 pub end_only : (bytes : List ℕ) (state : State) → ReadsSo bytes state → finish state ≡ None → (value : Json) → IsText level_limit value bytes → ⊥
 end_only bytes state r e value t =
     let no : None ≡ Some value = sym e ∙ sym (answered bytes state 64 (omega arith) r) ∙ text_read 64 value bytes t in absurd (cc no)
@@ -132,6 +135,7 @@ end_only bytes state r e value t =
 pub done_text : (bytes : List ℕ) (state : State) (value : Json) → IsUtf8 bytes → ReadsSo bytes state → finish state ≡ Some value → IsText level_limit value bytes
 done_text bytes state value h r e = read_text 64 value bytes h (answered bytes state 64 (omega arith) r ∙ e)
 
+-- a text has one value
 pub one_value : (bytes : List ℕ) (value other : Json) → IsText level_limit value bytes → IsText level_limit other bytes → value ≡ other
 one_value bytes value other t u = let same : Some value ≡ Some other = sym (text_read 64 value bytes t) ∙ text_read 64 other bytes u in cc same
 
@@ -152,16 +156,20 @@ gives_ill bytes len value v short (state, r, e) = ill_first bytes len state v sh
 all_valid : (bytes : List ℕ) (len : ℕ) → IsValidLength bytes len → length bytes ≤ len → take len bytes ≡ bytes
 all_valid bytes len v whole = let same : len ≡ length bytes = omega (arith, v.within) in ap (λ n. take n bytes) same ∙ take-length bytes
 
+-- and then all the bytes are whole characters
 valid_text : (bytes : List ℕ) (len : ℕ) → IsValidLength bytes len → length bytes ≤ len → IsUtf8 bytes
 valid_text bytes len v whole = subst IsUtf8 (all_valid bytes len v whole) v.front
 
+-- what a text gives is its value
 pub gives_value : (bytes : List ℕ) (len : ℕ) (value : Json) → IsValidLength bytes len → length bytes ≤ len → Gives (take len bytes) (Some value) → IsText level_limit value bytes
 gives_value bytes len value v whole (state, r, e) = done_text bytes state value (valid_text bytes len v whole) (subst (λ (x : List ℕ). ReadsSo x state) (all_valid bytes len v whole) r) e
 
+-- where it gives none its end is the first offence
 pub gives_end : (bytes : List ℕ) (len : ℕ) → IsValidLength bytes len → length bytes ≤ len → Gives (take len bytes) None → IsFirstOffence bytes (Syntax len)
 gives_end bytes len v whole (state, r, e) =
     let same : length bytes ≡ len = omega (arith, v.within) in
     subst (λ (n : ℕ). IsFirstOffence bytes (Syntax n)) same (end_first bytes state (valid_text bytes len v whole) (subst (λ (x : List ℕ). ReadsSo x state) (all_valid bytes len v whole) r) e)
 
+-- and there is no value
 pub gives_end_only : (bytes : List ℕ) (len : ℕ) → IsValidLength bytes len → length bytes ≤ len → Gives (take len bytes) None → (value : Json) → IsText level_limit value bytes → ⊥
 gives_end_only bytes len v whole (state, r, e) value t = end_only bytes state (subst (λ (x : List ℕ). ReadsSo x state) (all_valid bytes len v whole) r) e value t

@@ -3,7 +3,7 @@ use Rattle.std.proofs.Common.{◌≡◌, ◌<◌, ℕ, zero, suc, ◌+◌, ◌*�
 use Rattle.std.specs.Prelude.{option_and_then, option_map}
 use Rattle.std.proofs.lemmas.Bool.Decides.{nat_tests}
 use Rattle.json_spelled.specs.Json.{Json, null, truth, spelled, text, list, object, Items, no_items, item, Members, no_members, member, Entry, items_onto, members_onto}
-use Rattle.json_spelled.specs.Grammar.{IsSpace, Spaces, none, space, IsPlain, escaped, hex_digit, Piece, Byte, Unit', Pieces, closed, plain, escape, unit, said_by, alone, said_behind, waits_behind, Value, of_null, of_true, of_false, of_number, of_string, of_no_items, of_items, of_no_members, of_members, ItemsAt, first, MoreItems, no_more, more, MembersAt, first_member, MoreMembers, no_more_members, more_members}
+use Rattle.json_spelled.specs.Grammar.{IsSpace, Spaces, none, space, IsPlain, escaped, hex_digit, Piece, Byte, Code, Pieces, closed, plain, escape, unit, said_by, alone, said_behind, waiting_after, Value, of_null, of_true, of_false, of_number, of_string, of_no_items, of_items, of_no_members, of_members, ItemsAt, first, MoreItems, no_more, more, MembersAt, first_member, MoreMembers, no_more_members, more_members}
 use Rattle.json_spelled.specs.Kind.{kind}
 use Rattle.json_spelled.specs.Machine as machine
 use Rattle.json_spelled.specs.Machine.{Frame, InList, InObject, Place, Start, Mark1, Mark2, FirstItem, BehindItem, FirstName, Name, BehindName, BehindMember, Ended, Use, AsValue, AsName, Spot, InBytes, InEscape, Hex1, Hex2, Hex3, Hex4, State, Between, InWord, InNumber, InText, deliver, finish, finish_place, finish_delivered, may_end, goes_on, number_step, step_delivered, between, begin, open_at, first_item, behind_item, first_name, name_step, behind_name, behind_member, ended_step, text_step, escape_step, in_text, unit_step, close, awaited, behind_awaited, step_by, step, answer}
@@ -89,6 +89,7 @@ word_rest words.Fa = 108 ∷ 115 ∷ 101 ∷ []
 word_rest words.Fal = 115 ∷ 101 ∷ []
 word_rest words.Fals = 101 ∷ []
 
+-- the value of a word
 abbrev word_value : Word → Json
 word_value words.N = null
 word_value words.Nu = null
@@ -118,10 +119,12 @@ RoomAt levels machine.Value count inside = levels ≡ inside + count
 RoomAt levels (Ended value) count inside = levels ≡ inside + count
 RoomAt levels _ count inside = levels ≡ suc inside + count
 
+-- the same in a string
 abbrev RoomFor : ℕ → Use → ℕ → ℕ → Type 0
 RoomFor levels AsValue count inside = levels ≡ inside + count
 RoomFor levels (AsName members) count inside = levels ≡ suc inside + count
 
+-- the same in any state
 abbrev pub Room : ℕ → State → ℕ → Type 0
 Room levels (Between place frames) inside = RoomAt levels place (length frames) inside
 Room levels (InWord word frames) inside = levels ≡ inside + length frames
@@ -139,6 +142,7 @@ opened : (levels : ℕ) (place : Place) (frames : List Frame) (bytes : List ℕ)
 opened levels place frames bytes whole true e h = (grind (arith, nat_tests), h)
 opened levels place frames bytes whole false e h = absurd h
 
+-- an array opens
 open_list_back : (levels inside : ℕ) (frames : List Frame) (bytes : List ℕ) (whole : Json) → levels ≡ inside + length frames
     → After levels (open_at levels FirstItem frames) bytes whole → Awaits inside frames (91 ∷ bytes) whole
 open_list_back levels inside frames bytes whole room h = by inside room (opened levels FirstItem frames bytes whole (nat_lt (length frames) levels) refl h)
@@ -151,6 +155,7 @@ open_list_back levels inside frames bytes whole room h = by inside room (opened 
     by zero r (deep, means) = absurd (omega arith)
     by (suc m) r (deep, means) = put m (means m r)
 
+-- an object opens
 open_object_back : (levels inside : ℕ) (frames : List Frame) (bytes : List ℕ) (whole : Json) → levels ≡ inside + length frames
     → After levels (open_at levels FirstName frames) bytes whole → Awaits inside frames (123 ∷ bytes) whole
 open_object_back levels inside frames bytes whole room h = by inside room (opened levels FirstName frames bytes whole (nat_lt (length frames) levels) refl h)
@@ -167,23 +172,28 @@ open_object_back levels inside frames bytes whole room h = by inside room (opene
 space_before : (levels : ℕ) (frames : List Frame) (byte : ℕ) (bytes : List ℕ) (whole : Json) → IsSpace byte → Awaits levels frames bytes whole → Awaits levels frames (byte ∷ bytes) whole
 space_before levels frames byte bytes whole s (at, value, rest, spaces, v, after) = (at, value, rest, space s spaces, v, after)
 
+-- a string opens
 string_back : (levels : ℕ) (frames : List Frame) (bytes : List ℕ) (whole : Json) → MeansText levels AsValue [] None frames bytes whole → Awaits levels frames (34 ∷ bytes) whole
 string_back levels frames bytes whole (pieces, rest, p, after) =
     (34 ∷ bytes, text (said_by None pieces), rest, none, of_string (record { pieces = pieces; spelled_so = p; says_so = refl }), after)
 
+-- a number opens
 number_begins : (levels : ℕ) (frames : List Frame) (byte : ℕ) (bytes : List ℕ) (whole : Json) (part : Part) → begins_with (kind byte) ≡ Some part
     → Means levels (InNumber part (byte ∷ []) frames) bytes whole → Awaits levels frames (byte ∷ bytes) whole
 number_begins levels frames byte bytes whole part e (digits, rest, split, tail, after) =
     (byte ∷ bytes, spelled (byte ∷ digits), rest, none, of_number (number_of byte digits part e tail) (ap (λ x. byte ∷ x) split), after)
 
+-- `null` opens
 null_back : (levels : ℕ) (frames : List Frame) (bytes : List ℕ) (whole : Json) → Means levels (InWord words.N frames) bytes whole → Awaits levels frames (110 ∷ bytes) whole
 null_back levels frames bytes whole (rest, split, after) = subst (λ (s : List ℕ). Awaits levels frames (110 ∷ s) whole) (sym split)
     (110 ∷ 117 ∷ 108 ∷ 108 ∷ rest, null, rest, none, of_null, after)
 
+-- `true` opens
 true_back : (levels : ℕ) (frames : List Frame) (bytes : List ℕ) (whole : Json) → Means levels (InWord words.T frames) bytes whole → Awaits levels frames (116 ∷ bytes) whole
 true_back levels frames bytes whole (rest, split, after) = subst (λ (s : List ℕ). Awaits levels frames (116 ∷ s) whole) (sym split)
     (116 ∷ 114 ∷ 117 ∷ 101 ∷ rest, truth true, rest, none, of_true, after)
 
+-- `false` opens
 false_back : (levels : ℕ) (frames : List Frame) (bytes : List ℕ) (whole : Json) → Means levels (InWord words.F frames) bytes whole → Awaits levels frames (102 ∷ bytes) whole
 false_back levels frames bytes whole (rest, split, after) = subst (λ (s : List ℕ). Awaits levels frames (102 ∷ s) whole) (sym split)
     (102 ∷ 97 ∷ 108 ∷ 115 ∷ 101 ∷ rest, truth false, rest, none, of_false, after)
@@ -221,10 +231,12 @@ delivered levels inside (InObject members name ∷ frames) value bytes whole roo
 first_item_put : (inside : ℕ) (frames : List Frame) (bytes : List ℕ) (whole : Json) → Awaits inside (InList [] ∷ frames) bytes whole → MeansPlace inside FirstItem frames bytes whole
 first_item_put inside frames bytes whole (at, value, behind, spaces, v, (further, rest, m, after)) = inr (item value further, rest, first spaces v m, after)
 
+-- a space before the first item
 first_item_space : (inside : ℕ) (frames : List Frame) (byte : ℕ) (bytes : List ℕ) (whole : Json) → IsSpace byte → MeansPlace inside FirstItem frames bytes whole → MeansPlace inside FirstItem frames (byte ∷ bytes) whole
 first_item_space inside frames byte bytes whole s (inl (rest, spaces, after)) = inl (rest, space s spaces, after)
 first_item_space inside frames byte bytes whole s (inr (items, rest, first spaces v m, after)) = inr (items, rest, first (space s spaces) v m, after)
 
+-- a byte within a new array
 first_item_back : (levels inside : ℕ) (frames : List Frame) (byte : ℕ) (bytes : List ℕ) (whole : Json) (k : Kind) → kind byte ≡ k → IsOf byte k → levels ≡ suc inside + length frames
     → After levels (first_item levels frames k byte) bytes whole → MeansPlace inside FirstItem frames (byte ∷ bytes) whole
 first_item_back levels inside frames byte bytes whole kinds.Blank e of room h = first_item_space inside frames byte bytes whole (inl of) (h inside room)
@@ -234,14 +246,17 @@ first_item_back levels inside frames byte bytes whole kinds.CloseList e of room 
 first_item_back levels inside frames byte bytes whole k e of room h =
     first_item_put inside frames (byte ∷ bytes) whole (begin_back levels inside (InList [] ∷ frames) byte bytes whole k e of (omega arith) h)
 
+-- a space behind an item
 more_space : {levels : ℕ} {items : Items} {byte : ℕ} {bytes rest : List ℕ} → IsSpace byte → MoreItems levels items bytes rest → MoreItems levels items (byte ∷ bytes) rest
 more_space s (no_more spaces) = no_more (space s spaces)
 more_space s (more spaces i) = more (space s spaces) i
 
+-- a comma behind an item
 behind_item_put : (inside : ℕ) (items : List Json) (frames : List Frame) (bytes : List ℕ) (whole : Json) → Awaits inside (InList items ∷ frames) bytes whole → MeansPlace inside (BehindItem items) frames (44 ∷ bytes) whole
 behind_item_put inside items frames bytes whole (at, value, behind, spaces, v, (further, rest, m, after)) =
     (item value further, rest, more none (first spaces v m), subst (λ (x : Items). Follows (suc inside) frames (list x) rest whole) (items_onto_more items value further) after)
 
+-- a byte behind an item
 behind_item_back : (levels inside : ℕ) (items : List Json) (frames : List Frame) (byte : ℕ) (bytes : List ℕ) (whole : Json) (k : Kind) → IsOf byte k → levels ≡ suc inside + length frames
     → After levels (behind_item items frames k) bytes whole → MeansPlace inside (BehindItem items) frames (byte ∷ bytes) whole
 behind_item_back levels inside items frames byte bytes whole kinds.Blank of room h = let (further, rest, m, after) = h inside room in (further, rest, more_space (inl of) m, after)
@@ -252,9 +267,11 @@ behind_item_back levels inside items frames byte bytes whole kinds.CloseList of 
     (no_items, bytes, no_more none, delivered levels (suc inside) frames (list (items_onto items no_items)) bytes whole room h)
 behind_item_back levels inside items frames byte bytes whole _ of room h = absurd h
 
+-- a space before a name
 member_space : {levels : ℕ} {members : Members} {byte : ℕ} {bytes rest : List ℕ} → IsSpace byte → MembersAt levels members bytes rest → MembersAt levels members (byte ∷ bytes) rest
 member_space s (first_member spaces q c d v m) = first_member (space s spaces) q c d v m
 
+-- a space behind a member
 more_members_space : {levels : ℕ} {members : Members} {byte : ℕ} {bytes rest : List ℕ} → IsSpace byte → MoreMembers levels members bytes rest → MoreMembers levels members (byte ∷ bytes) rest
 more_members_space s (no_more_members spaces) = no_more_members (space s spaces)
 more_members_space s (more_members spaces i) = more_members (space s spaces) i
@@ -269,10 +286,12 @@ name_put inside members frames bytes whole (pieces, named, p, (colon, at, value,
 first_name_put : (inside : ℕ) (frames : List Frame) (bytes : List ℕ) (whole : Json) → MeansPlace inside (Name []) frames bytes whole → MeansPlace inside FirstName frames bytes whole
 first_name_put inside frames bytes whole (further, rest, m, after) = inr (further, rest, m, after)
 
+-- a space within a new object
 first_name_space : (inside : ℕ) (frames : List Frame) (byte : ℕ) (bytes : List ℕ) (whole : Json) → IsSpace byte → MeansPlace inside FirstName frames bytes whole → MeansPlace inside FirstName frames (byte ∷ bytes) whole
 first_name_space inside frames byte bytes whole s (inl (rest, spaces, after)) = inl (rest, space s spaces, after)
 first_name_space inside frames byte bytes whole s (inr (members, rest, m, after)) = inr (members, rest, member_space s m, after)
 
+-- a byte within a new object
 first_name_back : (levels inside : ℕ) (frames : List Frame) (byte : ℕ) (bytes : List ℕ) (whole : Json) (k : Kind) → IsOf byte k → levels ≡ suc inside + length frames
     → After levels (first_name frames k) bytes whole → MeansPlace inside FirstName frames (byte ∷ bytes) whole
 first_name_back levels inside frames byte bytes whole kinds.Blank of room h = first_name_space inside frames byte bytes whole (inl of) (h inside room)
@@ -283,6 +302,7 @@ first_name_back levels inside frames byte bytes whole kinds.CloseObject of room 
     (inl (bytes, none, delivered levels (suc inside) frames (object no_members) bytes whole room h))
 first_name_back levels inside frames byte bytes whole _ of room h = absurd h
 
+-- a byte where a name has to come
 name_back : (levels inside : ℕ) (members : List Entry) (frames : List Frame) (byte : ℕ) (bytes : List ℕ) (whole : Json) (k : Kind) → IsOf byte k → levels ≡ suc inside + length frames
     → After levels (name_step members frames k) bytes whole → MeansPlace inside (Name members) frames (byte ∷ bytes) whole
 name_back levels inside members frames byte bytes whole kinds.Blank of room h = let (further, rest, m, after) = h inside room in (further, rest, member_space (inl of) m, after)
@@ -291,11 +311,13 @@ name_back levels inside members frames byte bytes whole kinds.Quote of room h = 
     (name_put inside members frames bytes whole (h inside room))
 name_back levels inside members frames byte bytes whole _ of room h = absurd h
 
+-- a space behind a name
 colon_space : (inside : ℕ) (members : List Entry) (name : List ℕ) (frames : List Frame) (byte : ℕ) (bytes : List ℕ) (whole : Json) → IsSpace byte
     → AwaitsColon inside members name frames bytes whole → AwaitsColon inside members name frames (byte ∷ bytes) whole
 colon_space inside members name frames byte bytes whole s (colon, at, value, behind, further, rest, before_colon, behind_colon, v, m, after) =
     (colon, at, value, behind, further, rest, space s before_colon, behind_colon, v, m, after)
 
+-- a colon behind a name
 colon_put : (inside : ℕ) (members : List Entry) (name : List ℕ) (frames : List Frame) (bytes : List ℕ) (whole : Json) → Awaits inside (InObject members name ∷ frames) bytes whole
     → AwaitsColon inside members name frames (58 ∷ bytes) whole
 colon_put inside members name frames bytes whole (at, value, behind, spaces, v, (further, rest, m, after)) = (
@@ -312,6 +334,7 @@ colon_put inside members name frames bytes whole (at, value, behind, spaces, v, 
   subst (λ (x : Members). Follows (suc inside) frames (object x) rest whole) (members_onto_more members (name, value) further) after,
 )
 
+-- a byte behind a name
 behind_name_back : (levels inside : ℕ) (members : List Entry) (name : List ℕ) (frames : List Frame) (byte : ℕ) (bytes : List ℕ) (whole : Json) (k : Kind) → IsOf byte k → levels ≡ suc inside + length frames
     → After levels (behind_name members name frames k) bytes whole → AwaitsColon inside members name frames (byte ∷ bytes) whole
 behind_name_back levels inside members name frames byte bytes whole kinds.Blank of room h = colon_space inside members name frames byte bytes whole (inl of) (h inside room)
@@ -320,10 +343,12 @@ behind_name_back levels inside members name frames byte bytes whole kinds.Colon 
     (colon_put inside members name frames bytes whole (h inside (omega arith)))
 behind_name_back levels inside members name frames byte bytes whole _ of room h = absurd h
 
+-- a comma behind a member
 behind_member_put : (inside : ℕ) (members : List Entry) (frames : List Frame) (bytes : List ℕ) (whole : Json) → MeansPlace inside (Name members) frames bytes whole
     → MeansPlace inside (BehindMember members) frames (44 ∷ bytes) whole
 behind_member_put inside members frames bytes whole (further, rest, m, after) = (further, rest, more_members none m, after)
 
+-- a byte behind a member
 behind_member_back : (levels inside : ℕ) (members : List Entry) (frames : List Frame) (byte : ℕ) (bytes : List ℕ) (whole : Json) (k : Kind) → IsOf byte k → levels ≡ suc inside + length frames
     → After levels (behind_member members frames k) bytes whole → MeansPlace inside (BehindMember members) frames (byte ∷ bytes) whole
 behind_member_back levels inside members frames byte bytes whole kinds.Blank of room h = let (further, rest, m, after) = h inside room in (further, rest, more_members_space (inl of) m, after)
@@ -334,6 +359,7 @@ behind_member_back levels inside members frames byte bytes whole kinds.CloseObje
     (no_members, bytes, no_more_members none, delivered levels (suc inside) frames (object (members_onto members no_members)) bytes whole room h)
 behind_member_back levels inside members frames byte bytes whole _ of room h = absurd h
 
+-- a byte behind the whole value
 ended_back : (levels inside : ℕ) (value : Json) (frames : List Frame) (byte : ℕ) (bytes : List ℕ) (whole : Json) (k : Kind) → IsOf byte k → levels ≡ inside + length frames
     → After levels (ended_step value frames k) bytes whole → MeansPlace inside (Ended value) frames (byte ∷ bytes) whole
 ended_back levels inside value frames byte bytes whole kinds.Blank of room h = let (spaces, is) = h inside room in (space (inl of) spaces, is)
@@ -346,6 +372,7 @@ mark_back : (levels inside : ℕ) (place : Place) (frames : List Frame) (byte ma
 mark_back levels inside place frames byte mark bytes whole true e room h = (grind (arith, nat_tests), h inside room)
 mark_back levels inside place frames byte mark bytes whole false e room h = absurd h
 
+-- the first byte of all
 start_back : (levels inside : ℕ) (frames : List Frame) (byte : ℕ) (bytes : List ℕ) (whole : Json) (test : Bool) → nat_eq byte 239 ≡ test → levels ≡ inside + length frames
     → After levels (cond test (Some (Between Mark1 frames)) (begin levels frames (kind byte) byte)) bytes whole → MeansPlace inside Start frames (byte ∷ bytes) whole
 start_back levels inside frames byte bytes whole true e room h =
@@ -393,6 +420,7 @@ number_ended levels inside part token frames byte bytes whole true e room h = (
 )
 number_ended levels inside part token frames byte bytes whole false e room h = absurd h
 
+-- a byte in a number or behind it
 number_back : (levels inside : ℕ) (o : Option Part) (part : Part) (token : List ℕ) (frames : List Frame) (byte : ℕ) (bytes : List ℕ) (whole : Json) → goes_on part (kind byte) ≡ o → levels ≡ inside + length frames
     → After levels (number_step levels o part token frames (kind byte) byte) bytes whole → Means inside (InNumber part token frames) (byte ∷ bytes) whole
 number_back levels inside None part token frames byte bytes whole e room h = number_ended levels inside part token frames byte bytes whole (may_end part) refl room h
@@ -414,6 +442,7 @@ word_back levels inside words.Fa frames bytes whole room h = let (rest, split, a
 word_back levels inside words.Fal frames bytes whole room h = let (rest, split, after) = h inside room in (rest, ap (λ x. 115 ∷ x) split, after)
 word_back levels inside words.Fals frames bytes whole room h = (bytes, refl, delivered levels inside frames (truth false) bytes whole room h)
 
+-- a byte in a word
 letter_back : (levels inside : ℕ) (word : Word) (frames : List Frame) (byte : ℕ) (bytes : List ℕ) (whole : Json) (test : Bool) → nat_eq byte (awaited word) ≡ test → levels ≡ inside + length frames
     → After levels (cond test (Some (behind_awaited word frames)) None) bytes whole → Means inside (InWord word frames) (byte ∷ bytes) whole
 letter_back levels inside word frames byte bytes whole true e room h =
@@ -466,6 +495,7 @@ escaped_back levels inside use' token high frames byte bytes whole (Some says) e
           (append_assoc (token ++ alone high) (says ∷ []) (said_by None pieces) ∙ append_assoc token (alone high) (says ∷ said_by None pieces)) after,
     )
 
+-- a byte behind a backslash
 escape_back : (levels inside : ℕ) (use' : Use) (token : List ℕ) (high : Option ℕ) (frames : List Frame) (byte : ℕ) (bytes : List ℕ) (whole : Json) (test : Bool) → nat_eq byte 117 ≡ test → RoomFor levels use' (length frames) inside
     → After levels (cond test (Some (InText use' Hex1 token high frames)) (option_map (λ says. InText use' InBytes ((token ++ alone high) ++ says ∷ []) None frames) (escaped byte))) bytes whole
     → MeansText inside use' token high frames (92 ∷ byte ∷ bytes) whole
@@ -480,28 +510,32 @@ hex1_back : (levels inside : ℕ) (use' : Use) (token : List ℕ) (high : Option
 hex1_back levels inside use' token high frames byte bytes whole None e room h = absurd h
 hex1_back levels inside use' token high frames byte bytes whole (Some a) e room h = h inside room byte e
 
+-- the second digit
 hex2_back : (levels inside : ℕ) (use' : Use) (token : List ℕ) (high : Option ℕ) (frames : List Frame) (byte : ℕ) (bytes : List ℕ) (whole : Json) (o : Option ℕ) (a : ℕ) → hex_digit byte ≡ o → RoomFor levels use' (length frames) inside
     → After levels (option_map (λ b. InText use' (Hex3 a b) token high frames) o) bytes whole → MeansSpot inside use' (Hex2 a) token high frames (byte ∷ bytes) whole
 hex2_back levels inside use' token high frames byte bytes whole None a e room h = absurd h
 hex2_back levels inside use' token high frames byte bytes whole (Some b) a e room h = λ x ex. h inside room x byte ex e
 
+-- the third digit
 hex3_back : (levels inside : ℕ) (use' : Use) (token : List ℕ) (high : Option ℕ) (frames : List Frame) (byte : ℕ) (bytes : List ℕ) (whole : Json) (o : Option ℕ) (a b : ℕ) → hex_digit byte ≡ o → RoomFor levels use' (length frames) inside
     → After levels (option_map (λ c. InText use' (Hex4 a b c) token high frames) o) bytes whole → MeansSpot inside use' (Hex3 a b) token high frames (byte ∷ bytes) whole
 hex3_back levels inside use' token high frames byte bytes whole None a b e room h = absurd h
 hex3_back levels inside use' token high frames byte bytes whole (Some c) a b e room h = λ x y ex ey. h inside room x y byte ex ey e
 
+-- the fourth digit
 hex4_back : (levels inside : ℕ) (use' : Use) (token : List ℕ) (high : Option ℕ) (frames : List Frame) (byte : ℕ) (bytes : List ℕ) (whole : Json) (o : Option ℕ) (a b c : ℕ) → hex_digit byte ≡ o → RoomFor levels use' (length frames) inside
     → After levels (option_map (λ d. unit_step use' token high frames (4096 * a + 256 * b + 16 * c + d)) o) bytes whole → MeansSpot inside use' (Hex4 a b c) token high frames (byte ∷ bytes) whole
 hex4_back levels inside use' token high frames byte bytes whole None a b c e room h = absurd h
 hex4_back levels inside use' token high frames byte bytes whole (Some d) a b c e room h = λ x y z ex ey ez.
     let (pieces, rest, p, after) = h inside room in (
-      Unit' (4096 * a + 256 * b + 16 * c + d) ∷ pieces,
+      Code (4096 * a + 256 * b + 16 * c + d) ∷ pieces,
       rest,
       unit ex ey ez e p,
       subst (λ (t : List ℕ). Closes inside use' t frames rest whole)
-          (append_assoc token (said_behind high (4096 * a + 256 * b + 16 * c + d)) (said_by (waits_behind high (4096 * a + 256 * b + 16 * c + d)) pieces)) after,
+          (append_assoc token (said_behind high (4096 * a + 256 * b + 16 * c + d)) (said_by (waiting_after (4096 * a + 256 * b + 16 * c + d)) pieces)) after,
     )
 
+-- a byte anywhere in a string
 spot_back : (levels inside : ℕ) (use' : Use) (spot : Spot) (token : List ℕ) (high : Option ℕ) (frames : List Frame) (byte : ℕ) (bytes : List ℕ) (whole : Json) → RoomFor levels use' (length frames) inside
     → After levels (in_text use' spot token high frames (kind byte) byte) bytes whole → MeansSpot inside use' spot token high frames (byte ∷ bytes) whole
 spot_back levels inside use' InBytes token high frames byte bytes whole room h = taken_back levels inside use' token high frames byte bytes whole (kind byte) (kind_is byte) room h
@@ -524,6 +558,7 @@ place_end : (inside : ℕ) (place : Place) (frames : List Frame) (whole : Json) 
 place_end inside (Ended value) frames whole e = (none, cc)
 place_end inside _ frames whole e = let no : None ≡ Some whole = e in absurd (cc no)
 
+-- the end of the text behind a number
 number_end : (inside : ℕ) (part : Part) (token : List ℕ) (frames : List Frame) (whole : Json) (test : Bool) → may_end part ≡ test
     → cond test (finish_delivered (deliver (spelled token) frames)) None ≡ Some whole → Means inside (InNumber part token frames) [] whole
 number_end inside part token [] whole true last e = ([], [], refl, ends last, (none, ap spelled (append-nil token) ∙ cc))
@@ -531,6 +566,7 @@ number_end inside part token (InList items ∷ frames) whole true last e = let n
 number_end inside part token (InObject members name ∷ frames) whole true last e = let no : None ≡ Some whole = e in absurd (cc no)
 number_end inside part token frames whole false last e = let no : None ≡ Some whole = e in absurd (cc no)
 
+-- the end of the text in any state
 state_end : (inside : ℕ) (state : State) (whole : Json) → finish state ≡ Some whole → Means inside state [] whole
 state_end inside (Between place frames) whole e = place_end inside place frames whole e
 state_end inside (InWord word frames) whole e = let no : None ≡ Some whole = e in absurd (cc no)

@@ -68,10 +68,11 @@ stops text i state steps.Memory short utf8 r fails = tt
 ready_by : (lexeme : Lexeme) (reader : Reader) (bytes more : List ℕ) (byte : ℕ) (k : Kind) → IsOf byte k → IsUtf8 (bytes ++ byte ∷ more) → KeepsText bytes (state_by lexeme reader) → ReadyIn lexeme k reader.token.items
 ready_by lexemes.Text reader bytes more byte k of whole h = λ e.
     let quote : byte ≡ 34 = subst (IsOf byte) e of in
-    (whole_before bytes more reader.token.items (use_of reader.place) reader.high (frames_of reader.open.items) byte (omega arith) whole h).1
+    (whole_before bytes more reader.token.items (use_of reader.place) reader.high (frames_of reader.opened.items) byte (omega arith) whole h).1
 ready_by (lexemes.Number part) reader bytes more byte k of whole h = h.1
 ready_by _ reader bytes more byte k of whole h = tt
 
+-- the same of the reader at a byte of the text
 pub ready : (reader : Reader) (text : List ℕ) (i : ℕ) → i < length text → IsUtf8 text → ReadsSo (take i text) (state_of reader) → ReadyIn reader.lexeme (kind (get_or text i 0)) reader.token.items
 ready reader text i short utf8 r = ready_by reader.lexeme reader (take i text) (drop (suc i) text) (get_or text i 0) (kind (get_or text i 0)) (kind_is (get_or text i 0))
     (subst IsUtf8 (sym (cut_at text i short)) utf8) r.keeps

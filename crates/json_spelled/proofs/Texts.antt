@@ -39,6 +39,7 @@ spelled_read levels value bytes s =
     ∙ value_read levels [] (omega arith) s.value_at (spaces_follow s.after tt)
     ∙ over_spaces levels (Ended value) [] tt s.after
 
+-- a value or a space begins a text as it begins a value
 start_value : (levels : ℕ) (bytes at : List ℕ) {inside : ℕ} {value : Json} {rest : List ℕ} → Spaces bytes at → Value inside value at rest → answer levels (Between Start []) bytes ≡ answer levels (Between machine.Value []) bytes
 start_value levels bytes at none v =
     let s = starter v in
@@ -57,6 +58,7 @@ text_read levels value bytes t = by t.spelled_so
         ∙ led_to levels (Between Mark2 []) (Between machine.Value []) 191 rest (kind 191) refl refl
         ∙ spelled_read levels value rest s
 
+-- what awaits a value with nothing around it spells one
 spelled_of : (levels : ℕ) (value : Json) (bytes : List ℕ) → Awaits levels [] bytes value → IsSpelled levels value bytes
 spelled_of levels value bytes (at, found, rest, spaces, v, (after, is)) =
     record { at = at; behind = rest; before = spaces; value_at = subst (λ (x : Json). Value levels x at rest) is v; after = after }
@@ -76,9 +78,11 @@ record Rest (bytes : List ℕ) (state : State) : Type 0 where
   utf8 : IsUtf8 (bytes ++ rest)
   answers : (levels : ℕ) → answer levels state rest ≡ Some value
 
+-- whole characters and a completion make such bytes
 completed : (bytes : List ℕ) (state : State) → Completion state → IsUtf8 bytes → Rest bytes state
 completed bytes state c h = record { rest = c.bytes; value = c.value; utf8 = IsUtf8-append bytes c.bytes h (AreAscii_text c.bytes c.ascii); answers = c.answers }
 
+-- behind two bytes of the mark
 mark2_rest : (bytes : List ℕ) (frames : List Frame) → bytes ≡ 239 ∷ 187 ∷ [] → Rest bytes (Between Mark2 frames)
 mark2_rest bytes frames h =
     let c = awaited_completion frames in
@@ -89,6 +93,7 @@ mark2_rest bytes frames h =
       answers = λ levels. led_to levels (Between Mark2 frames) (Between machine.Value frames) 191 c.bytes (kind 191) refl refl ∙ c.answers levels;
     }
 
+-- behind one byte of the mark
 mark1_rest : (bytes : List ℕ) (frames : List Frame) → bytes ≡ 239 ∷ [] → Rest bytes (Between Mark1 frames)
 mark1_rest bytes frames h =
     let c = awaited_completion frames in
@@ -100,6 +105,7 @@ mark1_rest bytes frames h =
           ∙ led_to levels (Between Mark2 frames) (Between machine.Value frames) 191 c.bytes (kind 191) refl refl ∙ c.answers levels;
     }
 
+-- where no token is open
 place_rest : (bytes : List ℕ) (place : Place) (frames : List Frame) → IsCut bytes (Between place frames) → Rest bytes (Between place frames)
 place_rest bytes Mark1 frames h = mark1_rest bytes frames h
 place_rest bytes Mark2 frames h = mark2_rest bytes frames h
@@ -113,6 +119,7 @@ place_rest bytes (machine.BehindName members name) frames h = completed bytes (B
 place_rest bytes (machine.BehindMember members) frames h = completed bytes (Between (machine.BehindMember members) frames) (completion (Between (machine.BehindMember members) frames) tt) h
 place_rest bytes (Ended value) frames h = completed bytes (Between (Ended value) frames) (completion (Between (Ended value) frames) tt) h
 
+-- in any state
 state_rest : (bytes : List ℕ) (state : State) → IsCut bytes state → Rest bytes state
 state_rest bytes (Between place frames) h = place_rest bytes place frames h
 state_rest bytes (machine.InWord word frames) h = completed bytes (machine.InWord word frames) (completion (machine.InWord word frames) tt) h
@@ -127,6 +134,7 @@ begins levels bytes state leads h =
 
 -- A text of few levels is one of more.
 mutual
+  -- a value
   value_wider : (wide : ℕ) {levels : ℕ} {value : Json} {bytes rest : List ℕ} → levels ≤ wide → Value levels value bytes rest → Value wide value bytes rest
   value_wider wide h of_null = of_null
   value_wider wide h of_true = of_true
@@ -142,23 +150,29 @@ mutual
   value_wider zero h (of_members i) = absurd (omega arith)
   value_wider (suc m) h (of_members i) = of_members (members_wider m (omega arith) i)
 
+  -- items
   items_wider : (wide : ℕ) {levels : ℕ} {items : Items} {bytes rest : List ℕ} → levels ≤ wide → ItemsAt levels items bytes rest → ItemsAt wide items bytes rest
   items_wider wide h (first s v m) = first s (value_wider wide h v) (more_wider wide h m)
 
+  -- what stands behind an item
   more_wider : (wide : ℕ) {levels : ℕ} {items : Items} {bytes rest : List ℕ} → levels ≤ wide → MoreItems levels items bytes rest → MoreItems wide items bytes rest
   more_wider wide h (no_more s) = no_more s
   more_wider m h (more s i) = more s (items_wider m h i)
 
+  -- members
   members_wider : (wide : ℕ) {levels : ℕ} {members : Members} {bytes rest : List ℕ} → levels ≤ wide → MembersAt levels members bytes rest → MembersAt wide members bytes rest
   members_wider wide h (first_member s q c d v m) = first_member s q c d (value_wider wide h v) (more_members_wider wide h m)
 
+  -- what stands behind a member
   more_members_wider : (wide : ℕ) {levels : ℕ} {members : Members} {bytes rest : List ℕ} → levels ≤ wide → MoreMembers levels members bytes rest → MoreMembers wide members bytes rest
   more_members_wider wide h (no_more_members s) = no_more_members s
   more_members_wider m h (more_members s i) = more_members s (members_wider m h i)
 
+-- a spelling
 spelled_wider : (levels wide : ℕ) (value : Json) (bytes : List ℕ) → levels ≤ wide → IsSpelled levels value bytes → IsSpelled wide value bytes
 spelled_wider levels wide value bytes h s = record { at = s.at; behind = s.behind; before = s.before; value_at = value_wider wide h s.value_at; after = s.after }
 
+-- a whole text
 pub text_wider : (levels wide : ℕ) (value : Json) (bytes : List ℕ) → levels ≤ wide → IsText levels value bytes → IsText wide value bytes
 text_wider levels wide value bytes h t = record {
   utf8 = t.utf8;
@@ -173,6 +187,7 @@ begins_none bytes stuck (levels, b) =
     let no : None ≡ Some b.value = sym (stuck (levels + 64) b.rest (omega arith)) ∙ text_read (levels + 64) b.value (bytes ++ b.rest) wide in
     absurd (cc no)
 
+-- the same for few enough levels
 pub begins_none_within : (bytes : List ℕ) → ((rest : List ℕ) → answer level_limit start (bytes ++ rest) ≡ None) → Begins level_limit bytes → ⊥
 begins_none_within bytes stuck b =
     let no : None ≡ Some b.value = sym (stuck b.rest) ∙ text_read level_limit b.value (bytes ++ b.rest) b.whole in

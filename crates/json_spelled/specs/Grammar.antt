@@ -36,7 +36,7 @@ hex_digit byte =
 -- a piece of a string: a byte, or the code unit of an escape with `u`
 pub data Piece : Type 0 where
   Byte : ℕ → Piece
-  Unit' : ℕ → Piece
+  Code : ℕ → Piece
 
 -- an unescaped byte: no control character, no quotation mark, no backslash
 abbrev pub IsPlain : ℕ → Type 0
@@ -52,12 +52,13 @@ pub data Pieces : List Piece → List ℕ → List ℕ → Type 0 where
   unit : {a b c d first second third fourth : ℕ} {pieces : List Piece} {bytes rest : List ℕ}
       → hex_digit first ≡ Some a → hex_digit second ≡ Some b → hex_digit third ≡ Some c → hex_digit fourth ≡ Some d
       → Pieces pieces bytes rest
-      → Pieces (Unit' (4096 * a + 256 * b + 16 * c + d) ∷ pieces) (92 ∷ 117 ∷ first ∷ second ∷ third ∷ fourth ∷ bytes) rest
+      → Pieces (Code (4096 * a + 256 * b + 16 * c + d) ∷ pieces) (92 ∷ 117 ∷ first ∷ second ∷ third ∷ fourth ∷ bytes) rest
 
--- a high surrogate, and a low one
+-- a high surrogate
 abbrev pub is_high : ℕ → Bool
 is_high code = nat_le 0xD800 code && nat_lt code 0xDC00
 
+-- a low surrogate
 abbrev pub is_low : ℕ → Bool
 is_low code = nat_le 0xDC00 code && nat_lt code 0xE000
 
@@ -81,14 +82,14 @@ said_behind None code = if is_high code then [] else said code
 said_behind (Some high) code = if is_high high && is_low code then said (paired high code) else (said high ++ (if is_high code then [] else said code))
 
 -- the high surrogate that then waits for its partner
-abbrev pub waits_behind : Option ℕ → ℕ → Option ℕ
-waits_behind waiting code = if is_high code then Some code else None
+abbrev pub waiting_after : ℕ → Option ℕ
+waiting_after code = if is_high code then Some code else None
 
 -- what the pieces say behind a high surrogate that waits, or behind none
 abbrev pub said_by : Option ℕ → List Piece → List ℕ
 said_by waiting [] = alone waiting
 said_by waiting (Byte byte ∷ pieces) = alone waiting ++ (byte ∷ said_by None pieces)
-said_by waiting (Unit' code ∷ pieces) = said_behind waiting code ++ said_by (waits_behind waiting code) pieces
+said_by waiting (Code code ∷ pieces) = said_behind waiting code ++ said_by (waiting_after code) pieces
 
 -- a string: the text that it says, the bytes behind the opening quotation mark, and the rest
 pub record Quoted (says bytes rest : List ℕ) : Type 0 where

@@ -1,7 +1,7 @@
 -- The machine that reads a JSON text byte by byte.
 use Rattle.std.specs.Prelude.{ℕ, ◌+◌, ◌*◌, List, [], ◌∷◌, ◌++◌, length, Bool, true, false, nat_lt, if◌then◌else◌, ◌==◌, Option, Some, None, option_and_then, option_map}
 use Rattle.json_spelled.specs.Json.{Json, null, truth, spelled, text, list, object, no_items, no_members, Entry, items_onto, members_onto}
-use Rattle.json_spelled.specs.Grammar.{escaped, hex_digit, alone, said_behind, waits_behind}
+use Rattle.json_spelled.specs.Grammar.{escaped, hex_digit, alone, said_behind, waiting_after}
 use Rattle.json_spelled.specs.Kind.{kind}
 use Rattle.json_spelled.specs.declared.kind.Kind.{Kind}
 use Rattle.json_spelled.specs.declared.kind.Kind.TheVariants as kinds
@@ -76,6 +76,7 @@ finish_place (BehindName members name) = None
 finish_place (BehindMember members) = None
 finish_place (Ended value) = Some value
 
+-- the end of the text behind a delivered value
 abbrev pub finish_delivered : State → Option Json
 finish_delivered (Between place frames) = finish_place place
 finish_delivered (InWord word frames) = None
@@ -93,6 +94,7 @@ may_end parts.Exponent = false
 may_end parts.Sign = false
 may_end parts.Power = true
 
+-- the value of the text where it ends in a state
 abbrev pub finish : State → Option Json
 finish (Between place frames) = finish_place place
 finish (InWord word frames) = None
@@ -118,12 +120,14 @@ begin levels frames kinds.SmallT byte = Some (InWord words.T frames)
 begin levels frames kinds.SmallF byte = Some (InWord words.F frames)
 begin levels frames _ byte = None
 
+-- within a new array
 abbrev pub first_item : ℕ → List Frame → Kind → ℕ → Option State
 first_item levels frames kinds.Blank byte = Some (Between FirstItem frames)
 first_item levels frames kinds.Break byte = Some (Between FirstItem frames)
 first_item levels frames kinds.CloseList byte = Some (deliver (list no_items) frames)
 first_item levels frames k byte = begin levels (InList [] ∷ frames) k byte
 
+-- behind an item
 abbrev pub behind_item : List Json → List Frame → Kind → Option State
 behind_item items frames kinds.Blank = Some (Between (BehindItem items) frames)
 behind_item items frames kinds.Break = Some (Between (BehindItem items) frames)
@@ -131,6 +135,7 @@ behind_item items frames kinds.Comma = Some (Between Value (InList items ∷ fra
 behind_item items frames kinds.CloseList = Some (deliver (list (items_onto items no_items)) frames)
 behind_item items frames _ = None
 
+-- within a new object
 abbrev pub first_name : List Frame → Kind → Option State
 first_name frames kinds.Blank = Some (Between FirstName frames)
 first_name frames kinds.Break = Some (Between FirstName frames)
@@ -138,18 +143,21 @@ first_name frames kinds.Quote = Some (InText (AsName []) InBytes [] None frames)
 first_name frames kinds.CloseObject = Some (deliver (object no_members) frames)
 first_name frames _ = None
 
+-- where a name has to come
 abbrev pub name_step : List Entry → List Frame → Kind → Option State
 name_step members frames kinds.Blank = Some (Between (Name members) frames)
 name_step members frames kinds.Break = Some (Between (Name members) frames)
 name_step members frames kinds.Quote = Some (InText (AsName members) InBytes [] None frames)
 name_step members frames _ = None
 
+-- behind a name
 abbrev pub behind_name : List Entry → List ℕ → List Frame → Kind → Option State
 behind_name members name frames kinds.Blank = Some (Between (BehindName members name) frames)
 behind_name members name frames kinds.Break = Some (Between (BehindName members name) frames)
 behind_name members name frames kinds.Colon = Some (Between Value (InObject members name ∷ frames))
 behind_name members name frames _ = None
 
+-- behind a member
 abbrev pub behind_member : List Entry → List Frame → Kind → Option State
 behind_member members frames kinds.Blank = Some (Between (BehindMember members) frames)
 behind_member members frames kinds.Break = Some (Between (BehindMember members) frames)
@@ -157,6 +165,7 @@ behind_member members frames kinds.Comma = Some (Between (Name members) frames)
 behind_member members frames kinds.CloseObject = Some (deliver (object (members_onto members no_members)) frames)
 behind_member members frames _ = None
 
+-- behind the whole value
 abbrev pub ended_step : Json → List Frame → Kind → Option State
 ended_step value frames kinds.Blank = Some (Between (Ended value) frames)
 ended_step value frames kinds.Break = Some (Between (Ended value) frames)
@@ -266,7 +275,7 @@ escape_step use' token high frames byte = if byte == 117 then Some (InText use' 
 
 -- a code unit is whole
 abbrev pub unit_step : Use → List ℕ → Option ℕ → List Frame → ℕ → State
-unit_step use' token high frames code = InText use' InBytes (token ++ said_behind high code) (waits_behind high code) frames
+unit_step use' token high frames code = InText use' InBytes (token ++ said_behind high code) (waiting_after code) frames
 
 -- in a string
 abbrev pub in_text : Use → Spot → List ℕ → Option ℕ → List Frame → Kind → ℕ → Option State

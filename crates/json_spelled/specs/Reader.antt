@@ -9,21 +9,23 @@ use Rattle.json_spelled.specs.declared.lexeme.Lexeme.TheVariants as lexemes
 use Rattle.json_spelled.specs.declared.kind.Kind.{Kind}
 use Rattle.json_spelled.specs.declared.kind.Kind.TheVariants as kinds
 use Rattle.json_spelled.specs.declared.reader.Open.{Open}
-use Rattle.json_spelled.specs.declared.reader.Open.TheVariants as opened
+use Rattle.json_spelled.specs.declared.reader.Open.TheVariants as opens
 use Rattle.json_spelled.specs.declared.reader.Place.{Place as ReaderPlace}
 use Rattle.json_spelled.specs.declared.reader.Place.TheVariants as places
 use Rattle.json_spelled.specs.declared.reader.Reader.{Reader}
 use Rattle.json_spelled.specs.declared.fault.StepFault.{StepFault}
 use Rattle.json_spelled.specs.declared.fault.StepFault.TheVariants.{Refused, TooDeep, Memory}
 
+-- the frame of what is open
 abbrev pub frame_of : Open → Frame
-frame_of (opened.List items) = InList (jsons_of items.items)
-frame_of (opened.Object members name) = InObject (entries_of members.items) (string_bytes name)
+frame_of (opens.List items) = InList (jsons_of items.items)
+frame_of (opens.Object members name) = InObject (entries_of members.items) (string_bytes name)
 
 -- the innermost first
 unfoldable pub frames_of : List Open → List Frame
-frames_of opens = reverse (map frame_of opens)
+frames_of opened = reverse (map frame_of opened)
 
+-- what may come
 abbrev pub place_of : ReaderPlace → Place
 place_of places.Start = Start
 place_of places.Mark1 = Mark1
@@ -51,17 +53,23 @@ use_of (places.BehindName members name) = AsValue
 use_of (places.BehindMember members) = AsValue
 use_of (places.Ended tree) = AsValue
 
-abbrev pub state_by : Lexeme → Reader → State
-state_by lexemes.Between r = Between (place_of r.place) (frames_of r.open.items)
-state_by (lexemes.Word word) r = InWord word (frames_of r.open.items)
-state_by (lexemes.Number part) r = InNumber part r.token.items (frames_of r.open.items)
-state_by lexemes.Text r = InText (use_of r.place) InBytes r.token.items r.high (frames_of r.open.items)
-state_by lexemes.Escape r = InText (use_of r.place) InEscape r.token.items r.high (frames_of r.open.items)
-state_by lexemes.Hex1 r = InText (use_of r.place) Hex1 r.token.items r.high (frames_of r.open.items)
-state_by lexemes.Hex2 r = InText (use_of r.place) (Hex2 r.first) r.token.items r.high (frames_of r.open.items)
-state_by lexemes.Hex3 r = InText (use_of r.place) (Hex3 r.first r.second) r.token.items r.high (frames_of r.open.items)
-state_by lexemes.Hex4 r = InText (use_of r.place) (Hex4 r.first r.second r.third) r.token.items r.high (frames_of r.open.items)
+-- the frames around what is read
+abbrev pub around : Reader → List Frame
+around r = frames_of r.opened.items
 
+-- the state within this token
+abbrev pub state_by : Lexeme → Reader → State
+state_by lexemes.Between r = Between (place_of r.place) (around r)
+state_by (lexemes.Word word) r = InWord word (around r)
+state_by (lexemes.Number part) r = InNumber part r.token.items (around r)
+state_by lexemes.Text r = InText (use_of r.place) InBytes r.token.items r.high (around r)
+state_by lexemes.Escape r = InText (use_of r.place) InEscape r.token.items r.high (around r)
+state_by lexemes.Hex1 r = InText (use_of r.place) Hex1 r.token.items r.high (around r)
+state_by lexemes.Hex2 r = InText (use_of r.place) (Hex2 r.first) r.token.items r.high (around r)
+state_by lexemes.Hex3 r = InText (use_of r.place) (Hex3 r.first r.second) r.token.items r.high (around r)
+state_by lexemes.Hex4 r = InText (use_of r.place) (Hex4 r.first r.second r.third) r.token.items r.high (around r)
+
+-- the state of a reader
 abbrev pub state_of : Reader → State
 state_of r = state_by r.lexeme r
 

@@ -26,5 +26,6 @@ json_of = fold-Tree Json view_step
 abbrev pub jsons_of : List Tree → List Json
 jsons_of trees = map json_of trees
 
+-- the members that a vector stands for
 abbrev pub entries_of : List (String Global × Tree) → List Entry
 entries_of members = map entry_of (map (λ m. (m.0, json_of m.1)) members)

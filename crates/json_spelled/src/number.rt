@@ -2,7 +2,7 @@ ghost use Rattle.std.specs.Prelude.{◌≡◌, OnOk, MatchResult, option_map, st
 ghost use Rattle.std.specs.Str.{IsUtf8};
 ghost use Rattle.json_spelled.specs.Machine.{goes_on, may_end, number_step, deliver, finish};
 ghost use Rattle.json_spelled.specs.Json.{spelled};
-ghost use Rattle.json_spelled.specs.Reader.{state_of, frames_of, Tries, Makes, Finishes};
+ghost use Rattle.json_spelled.specs.Reader.{state_of, around, Tries, Makes, Finishes};
 ghost use Rattle.json_spelled.specs.View.{json_of};
 
 use crate::fault::StepFault;
@@ -68,7 +68,7 @@ impl Reader {
     /// Takes a byte that goes on with the number, or ends it.
     pub(crate) fn number(&mut self, part: Part, kind: Kind, byte: u8) -> Result<(), StepFault>
         requires { IsUtf8 self.old.token.items }
-        ensures { Tries (λ levels. number_step levels (goes_on part kind) part self.old.token.items (frames_of self.old.open.items) kind byte)
+        ensures { Tries (λ levels. number_step levels (goes_on part kind) part self.old.token.items (around self.old) kind byte)
             result (state_of self.new) }
     {
         if let Some(next) = part_behind(part, kind) {
@@ -86,7 +86,8 @@ impl Reader {
     /// The number is whole.
     fn end_number(&mut self) -> Result<(), StepFault>
         requires { IsUtf8 self.old.token.items }
-        ensures made { Makes result (deliver (spelled self.old.token.items) (frames_of self.old.open.items)) (state_of self.new) }
+        ensures made { Makes result (deliver (spelled self.old.token.items) (around self.old))
+            (state_of self.new) }
         ensures between { OnOk result (self.new.lexeme ≡ Lexeme.Between) }
     {
         let spelling = self.copied()?;
@@ -96,7 +97,8 @@ impl Reader {
     /// The token's bytes as a text.
     pub(crate) fn copied(&self) -> Result<String, StepFault>
         requires { IsUtf8 self.now.token.items }
-        ensures { MatchResult result (λ text. string_bytes text ≡ self.now.token.items) (λ fault. fault ≡ StepFault.Memory) }
+        ensures { MatchResult result (λ text. string_bytes text ≡ self.now.token.items)
+            (λ fault. fault ≡ StepFault.Memory) }
     {
         let text = unsafe { str::from_utf8_unchecked(&self.token) };
         Ok(String::from_str(self.alloc, text)?)
@@ -105,7 +107,8 @@ impl Reader {
     /// The value of the text, where it may end here.
     pub(crate) fn finish(&mut self) -> Result<Option<Tree>, StepFault>
         requires { Finishes self.old.lexeme self.old.token.items }
-        ensures { MatchResult result (λ tree. option_map json_of tree ≡ finish (state_of self.old)) (λ fault. fault ≡ StepFault.Memory) }
+        ensures { MatchResult result (λ tree. option_map json_of tree ≡ finish (state_of self.old))
+            (λ fault. fault ≡ StepFault.Memory) }
     {
         match self.lexeme {
             Lexeme::Between => {}

@@ -65,7 +65,14 @@ fn value_of(alloc: Global, text: &[u8]) -> Result<Option<Tree>, JsonFault>
     }
 }
 
-/// The value of a JSON text.
+/// The value of a JSON text: UTF-8 with a byte order mark at its front or none, and at most 64 arrays and objects open at
+/// once. Members stand in the text's order, repeats included, and each number is its spelling. Escapes are decoded; that of
+/// a surrogate without its partner is U+FFFD.
+///
+/// A refusal is the first offence: [`JsonFault::NotUtf8`], [`JsonFault::Syntax`] or [`JsonFault::TooDeep`] with its offset,
+/// whichever stands first, and NotUtf8 before another at one offset. Only [`JsonFault::Memory`] is tied to no cause.
+///
+/// It takes time and memory in proportion to the bytes.
 pub fn read_tree(alloc: Global, bytes: &[u8]) -> Result<Tree, JsonFault>
     // What is read is spelled so.
     ensures read { IfOk result (λ tree. IsText level_limit (json_of tree) bytes.now) }

@@ -47,5 +47,5 @@ pub(crate) struct Reader {
     pub second: u8,
     pub third: u8,
     /// The arrays and objects around, the innermost last.
-    pub open: Vec<Open>,
+    pub opened: Vec<Open>,
 }

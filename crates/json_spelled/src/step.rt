@@ -1,7 +1,7 @@
 ghost use Rattle.std.specs.Prelude.{◌≡◌, ◌==◌, Some, None, if◌then◌else◌};
 ghost use Rattle.json_spelled.specs.Machine.{step, step_by, start, awaited, behind_awaited};
 ghost use Rattle.json_spelled.specs.Kind.{kind};
-ghost use Rattle.json_spelled.specs.Reader.{state_of, state_by, frames_of, Tries, Makes, ReadyIn};
+ghost use Rattle.json_spelled.specs.Reader.{state_of, state_by, around, Tries, Makes, ReadyIn};
 
 use crate::fault::StepFault;
 use crate::kind::{Kind, kind_of};
@@ -39,13 +39,13 @@ impl Reader {
             first: 0,
             second: 0,
             third: 0,
-            open: Vec::new(alloc),
+            opened: Vec::new(alloc),
         }
     }
 
     /// The word behind its next letter.
     fn next_word(&mut self, word: Word) -> Result<(), StepFault>
-        ensures { Makes result (behind_awaited word (frames_of self.old.open.items)) (state_of self.new) }
+        ensures { Makes result (behind_awaited word (around self.old)) (state_of self.new) }
     {
         self.lexeme = match word {
             Word::N => Lexeme::Word(Word::Nu),
@@ -64,7 +64,8 @@ impl Reader {
 
     /// Takes a letter of a word.
     fn word(&mut self, word: Word, byte: u8) -> Result<(), StepFault>
-        ensures { Tries (λ _. if byte == awaited word then Some (behind_awaited word (frames_of self.old.open.items)) else None) result (state_of self.new) }
+        ensures { Tries (λ _. if byte == awaited word then Some (behind_awaited word (around self.old)) else None)
+            result (state_of self.new) }
     {
         if byte != letter_behind(word) {
             return Err(StepFault::Refused);
@@ -84,7 +85,8 @@ impl Reader {
     fn go_on_in(&mut self, lexeme: Lexeme, kind: Kind, byte: u8) -> Result<(), StepFault>
         requires lexeme { self.old.lexeme ≡ lexeme }
         requires ready { ReadyIn lexeme kind self.old.token.items }
-        ensures { Tries (λ levels. step_by levels (state_by lexeme self.old) kind byte) result (state_of self.new) }
+        ensures { Tries (λ levels. step_by levels (state_by lexeme self.old) kind byte)
+            result (state_of self.new) }
     {
         match lexeme {
             Lexeme::Text => self.text(kind, byte),

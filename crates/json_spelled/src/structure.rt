@@ -1,6 +1,6 @@
 ghost use Rattle.std.specs.Prelude.{◌≡◌, ◌∷◌, [], Some, None, OnOk, string_bytes, if◌then◌else◌};
 ghost use Rattle.json_spelled.specs.Machine.{Between, InText, InBytes, InNumber, InWord, open_at, begin, between, first_item, behind_item, first_name, name_step, behind_name, behind_member, ended_step, deliver};
-ghost use Rattle.json_spelled.specs.Reader.{state_of, frames_of, place_of, use_of, Tries, Makes};
+ghost use Rattle.json_spelled.specs.Reader.{state_of, around, place_of, use_of, Tries, Makes};
 ghost use Rattle.json_spelled.specs.View.{json_of, jsons_of, entries_of};
 
 use crate::fault::StepFault;
@@ -17,10 +17,10 @@ impl Reader {
     /// Takes a whole value.
     #[tactic(auto, using(crate::proofs::Frames::frames_pushed, crate::proofs::Frames::jsons_pushed, crate::proofs::Frames::entries_pushed, crate::proofs::Frames::frames_empty))]
     pub(crate) fn deliver(&mut self, value: Tree) -> Result<(), StepFault>
-        ensures made { Makes result (deliver (json_of value) (frames_of self.old.open.items)) (state_of self.new) }
+        ensures made { Makes result (deliver (json_of value) (around self.old)) (state_of self.new) }
         ensures between { OnOk result (self.new.lexeme ≡ Lexeme.Between) }
     {
-        match self.open.pop() {
+        match self.opened.pop() {
             None => self.stand(Place::Ended(value)),
             Some(Open::List(mut items)) => {
                 items.push(value)?;
@@ -36,7 +36,7 @@ impl Reader {
 
     /// No token is open, and this may come.
     pub(crate) fn stand(&mut self, place: Place)
-        ensures made { state_of self.new ≡ Between (place_of place) (frames_of self.old.open.items) }
+        ensures made { state_of self.new ≡ Between (place_of place) (around self.old) }
         ensures between { self.new.lexeme ≡ Lexeme.Between }
     {
         self.lexeme = Lexeme::Between;
@@ -46,9 +46,10 @@ impl Reader {
     /// Opens a level, if there may be a further one.
     #[tactic(auto, using(crate::proofs::Frames::length_frames))]
     fn open_at(&mut self, place: Place) -> Result<(), StepFault>
-        ensures { Tries (λ levels. open_at levels (place_of place) (frames_of self.old.open.items)) result (state_of self.new) }
+        ensures { Tries (λ levels. open_at levels (place_of place) (around self.old))
+            result (state_of self.new) }
     {
-        if self.open.len() >= LEVELS {
+        if self.opened.len() >= LEVELS {
             return Err(StepFault::TooDeep);
         }
         self.stand(place);
@@ -56,7 +57,7 @@ impl Reader {
     }
 
     fn begin_text(&mut self, place: Place)
-        ensures { state_of self.new ≡ InText (use_of place) InBytes [] None (frames_of self.old.open.items) }
+        ensures { state_of self.new ≡ InText (use_of place) InBytes [] None (around self.old) }
     {
         self.lexeme = Lexeme::Text;
         self.place = place;
@@ -65,7 +66,7 @@ impl Reader {
     }
 
     fn begin_number(&mut self, part: Part, byte: u8) -> Result<(), StepFault>
-        ensures { Makes result (InNumber part (byte ∷ []) (frames_of self.old.open.items)) (state_of self.new) }
+        ensures { Makes result (InNumber part (byte ∷ []) (around self.old)) (state_of self.new) }
     {
         self.lexeme = Lexeme::Number(part);
         self.token.clear();
@@ -74,14 +75,15 @@ impl Reader {
     }
 
     fn begin_word(&mut self, word: Word)
-        ensures { state_of self.new ≡ InWord word (frames_of self.old.open.items) }
+        ensures { state_of self.new ≡ InWord word (around self.old) }
     {
         self.lexeme = Lexeme::Word(word);
     }
 
     /// Begins a value.
     fn begin(&mut self, kind: Kind, byte: u8) -> Result<(), StepFault>
-        ensures { Tries (λ levels. begin levels (frames_of self.old.open.items) kind byte) result (state_of self.new) }
+        ensures { Tries (λ levels. begin levels (around self.old) kind byte)
+            result (state_of self.new) }
     {
         match kind {
             Kind::Blank | Kind::Break => self.stand(Place::Value),
@@ -102,7 +104,8 @@ impl Reader {
     /// Begins the first item of an array, or closes it.
     #[tactic(auto, using(crate::proofs::Frames::frames_pushed))]
     fn first_item(&mut self, kind: Kind, byte: u8) -> Result<(), StepFault>
-        ensures { Tries (λ levels. first_item levels (frames_of self.old.open.items) kind byte) result (state_of self.new) }
+        ensures { Tries (λ levels. first_item levels (around self.old) kind byte)
+            result (state_of self.new) }
     {
         match kind {
             Kind::Blank | Kind::Break => {
@@ -111,7 +114,7 @@ impl Reader {
             }
             Kind::CloseList => self.deliver(Tree::List(Vec::new(self.alloc))),
             _ => {
-                self.open.push(Open::List(Vec::new(self.alloc)))?;
+                self.opened.push(Open::List(Vec::new(self.alloc)))?;
                 self.begin(kind, byte)
             }
         }
@@ -119,12 +122,13 @@ impl Reader {
 
     #[tactic(auto, using(crate::proofs::Frames::frames_pushed))]
     fn behind_item(&mut self, items: Vec<Tree>, kind: Kind) -> Result<(), StepFault>
-        ensures { Tries (λ _. behind_item (jsons_of items.items) (frames_of self.old.open.items) kind) result (state_of self.new) }
+        ensures { Tries (λ _. behind_item (jsons_of items.items) (around self.old) kind)
+            result (state_of self.new) }
     {
         match kind {
             Kind::Blank | Kind::Break => self.stand(Place::BehindItem(items)),
             Kind::Comma => {
-                self.open.push(Open::List(items))?;
+                self.opened.push(Open::List(items))?;
                 self.stand(Place::Value);
             }
             Kind::CloseList => self.deliver(Tree::List(items))?,
@@ -134,7 +138,7 @@ impl Reader {
     }
 
     fn first_name(&mut self, kind: Kind) -> Result<(), StepFault>
-        ensures { Tries (λ _. first_name (frames_of self.old.open.items) kind) result (state_of self.new) }
+        ensures { Tries (λ _. first_name (around self.old) kind) result (state_of self.new) }
     {
         match kind {
             Kind::Blank | Kind::Break => self.stand(Place::FirstName),
@@ -146,7 +150,8 @@ impl Reader {
     }
 
     fn name(&mut self, members: Vec<(String, Tree)>, kind: Kind) -> Result<(), StepFault>
-        ensures { Tries (λ _. name_step (entries_of members.items) (frames_of self.old.open.items) kind) result (state_of self.new) }
+        ensures { Tries (λ _. name_step (entries_of members.items) (around self.old) kind)
+            result (state_of self.new) }
     {
         match kind {
             Kind::Blank | Kind::Break => self.stand(Place::Name(members)),
@@ -163,12 +168,13 @@ impl Reader {
         name: String,
         kind: Kind,
     ) -> Result<(), StepFault>
-        ensures { Tries (λ _. behind_name (entries_of members.items) (string_bytes name) (frames_of self.old.open.items) kind) result (state_of self.new) }
+        ensures { Tries (λ _. behind_name (entries_of members.items) (string_bytes name) (around self.old) kind)
+            result (state_of self.new) }
     {
         match kind {
             Kind::Blank | Kind::Break => self.stand(Place::BehindName(members, name)),
             Kind::Colon => {
-                self.open.push(Open::Object(members, name))?;
+                self.opened.push(Open::Object(members, name))?;
                 self.stand(Place::Value);
             }
             _ => return Err(StepFault::Refused),
@@ -177,7 +183,8 @@ impl Reader {
     }
 
     fn behind_member(&mut self, members: Vec<(String, Tree)>, kind: Kind) -> Result<(), StepFault>
-        ensures { Tries (λ _. behind_member (entries_of members.items) (frames_of self.old.open.items) kind) result (state_of self.new) }
+        ensures { Tries (λ _. behind_member (entries_of members.items) (around self.old) kind)
+            result (state_of self.new) }
     {
         match kind {
             Kind::Blank | Kind::Break => self.stand(Place::BehindMember(members)),
@@ -189,7 +196,8 @@ impl Reader {
     }
 
     fn ended(&mut self, tree: Tree, kind: Kind) -> Result<(), StepFault>
-        ensures { Tries (λ _. ended_step (json_of tree) (frames_of self.old.open.items) kind) result (state_of self.new) }
+        ensures { Tries (λ _. ended_step (json_of tree) (around self.old) kind)
+            result (state_of self.new) }
     {
         match kind {
             Kind::Blank | Kind::Break => self.stand(Place::Ended(tree)),
@@ -200,7 +208,8 @@ impl Reader {
 
     /// One byte of a byte order mark.
     fn mark(&mut self, is_right: bool, place: Place) -> Result<(), StepFault>
-        ensures { Tries (λ _. if is_right then Some (Between (place_of place) (frames_of self.old.open.items)) else None) result (state_of self.new) }
+        ensures { Tries (λ _. if is_right then Some (Between (place_of place) (around self.old)) else None)
+            result (state_of self.new) }
     {
         if !is_right {
             return Err(StepFault::Refused);
@@ -211,7 +220,8 @@ impl Reader {
 
     /// Takes a byte where no token is open.
     pub(crate) fn between(&mut self, kind: Kind, byte: u8) -> Result<(), StepFault>
-        ensures { Tries (λ levels. between levels (place_of self.old.place) (frames_of self.old.open.items) kind byte) result (state_of self.new) }
+        ensures { Tries (λ levels. between levels (place_of self.old.place) (around self.old) kind byte)
+            result (state_of self.new) }
     {
         let place = mem::replace(&mut self.place, Place::Value);
         self.go_on(place, kind, byte)
@@ -219,7 +229,8 @@ impl Reader {
 
     /// Takes a byte where this may come.
     fn go_on(&mut self, place: Place, kind: Kind, byte: u8) -> Result<(), StepFault>
-        ensures { Tries (λ levels. between levels (place_of place) (frames_of self.old.open.items) kind byte) result (state_of self.new) }
+        ensures { Tries (λ levels. between levels (place_of place) (around self.old) kind byte)
+            result (state_of self.new) }
     {
         match place {
             Place::Start if byte == 0xEF => self.mark(true, Place::Mark1),

@@ -1,9 +1,9 @@
 ghost use Rattle.std.specs.Prelude.{◌≡◌, ◌++◌, ◌∷◌, [], None, MatchResult};
 ghost use Rattle.std.specs.Str.{IsUtf8};
 ghost use Rattle.json_spelled.specs.Grammar as grammar;
-ghost use Rattle.json_spelled.specs.Grammar.{said, said_behind, waits_behind, alone};
+ghost use Rattle.json_spelled.specs.Grammar.{said, said_behind, waiting_after, alone};
 ghost use Rattle.json_spelled.specs.Machine.{Hex1, Hex2, Hex3, Hex4, text_step, escape_step, in_text, unit_step, close, InText, InBytes};
-ghost use Rattle.json_spelled.specs.Reader.{state_of, frames_of, use_of, Tries, Makes};
+ghost use Rattle.json_spelled.specs.Reader.{state_of, around, use_of, Tries, Makes};
 
 use crate::fault::StepFault;
 use crate::kind::Kind;
@@ -55,7 +55,8 @@ fn hex_digit(byte: u8) -> Option<u8>
 
 /// Appends the character of a code, and U+FFFD where the code is no character's.
 fn say(token: &mut Vec<u8>, code: u32) -> Result<(), StepFault>
-    ensures { MatchResult result (λ _. token.new.items ≡ token.old.items ++ said code) (λ fault. fault ≡ StepFault.Memory) }
+    ensures { MatchResult result (λ _. token.new.items ≡ token.old.items ++ said code)
+        (λ fault. fault ≡ StepFault.Memory) }
 {
     let character = char::from_u32(code).unwrap_or('\u{FFFD}');
     let mut room = [0; 4];
@@ -65,7 +66,8 @@ fn say(token: &mut Vec<u8>, code: u32) -> Result<(), StepFault>
 
 /// Appends U+FFFD for a high surrogate whose partner doesn't come.
 fn say_alone(token: &mut Vec<u8>, high: Option<u32>) -> Result<(), StepFault>
-    ensures { MatchResult result (λ _. token.new.items ≡ token.old.items ++ alone high) (λ fault. fault ≡ StepFault.Memory) }
+    ensures { MatchResult result (λ _. token.new.items ≡ token.old.items ++ alone high)
+        (λ fault. fault ≡ StepFault.Memory) }
 {
     match high {
         Some(high) => say(token, high),
@@ -75,7 +77,8 @@ fn say_alone(token: &mut Vec<u8>, high: Option<u32>) -> Result<(), StepFault>
 
 /// Appends what a code unit says where that high surrogate stands right before it.
 fn say_behind(token: &mut Vec<u8>, waiting: Option<u32>, code: u32) -> Result<(), StepFault>
-    ensures { MatchResult result (λ _. token.new.items ≡ token.old.items ++ said_behind waiting code) (λ fault. fault ≡ StepFault.Memory) }
+    ensures { MatchResult result (λ _. token.new.items ≡ token.old.items ++ said_behind waiting code)
+        (λ fault. fault ≡ StepFault.Memory) }
 {
     if let Some(high) = waiting {
         if is_high(high) && is_low(code) {
@@ -94,7 +97,7 @@ impl Reader {
     pub(crate) fn text(&mut self, kind: Kind, byte: u8) -> Result<(), StepFault>
         requires lexeme { self.old.lexeme ≡ Lexeme.Text }
         requires whole { kind ≡ Kind.Quote → IsUtf8 self.old.token.items }
-        ensures { Tries (λ _. text_step (use_of self.old.place) self.old.token.items self.old.high (frames_of self.old.open.items) kind byte)
+        ensures { Tries (λ _. text_step (use_of self.old.place) self.old.token.items self.old.high (around self.old) kind byte)
             result (state_of self.new) }
     {
         match kind {
@@ -110,7 +113,7 @@ impl Reader {
 
     /// Appends a byte to what the string says.
     fn take_byte(&mut self, byte: u8) -> Result<(), StepFault>
-        ensures { Makes result (InText (use_of self.old.place) InBytes ((self.old.token.items ++ alone self.old.high) ++ byte ∷ []) None (frames_of self.old.open.items))
+        ensures { Makes result (InText (use_of self.old.place) InBytes ((self.old.token.items ++ alone self.old.high) ++ byte ∷ []) None (around self.old))
             (state_of self.new) }
     {
         say_alone(&mut self.token, self.high)?;
@@ -124,7 +127,8 @@ impl Reader {
     #[tactic(auto, using(crate::proofs::Tokens::alone_text))]
     fn close(&mut self) -> Result<(), StepFault>
         requires { IsUtf8 self.old.token.items }
-        ensures { Makes result (close (use_of self.old.place) (self.old.token.items ++ alone self.old.high) (frames_of self.old.open.items)) (state_of self.new) }
+        ensures { Makes result (close (use_of self.old.place) (self.old.token.items ++ alone self.old.high) (around self.old))
+            (state_of self.new) }
     {
         say_alone(&mut self.token, self.high)?;
         let says = self.copied()?;
@@ -139,7 +143,7 @@ impl Reader {
 
     /// Takes a byte behind a backslash.
     pub(crate) fn escape(&mut self, byte: u8) -> Result<(), StepFault>
-        ensures { Tries (λ _. escape_step (use_of self.old.place) self.old.token.items self.old.high (frames_of self.old.open.items) byte)
+        ensures { Tries (λ _. escape_step (use_of self.old.place) self.old.token.items self.old.high (around self.old) byte)
             result (state_of self.new) }
     {
         if byte == b'u' {
@@ -154,7 +158,7 @@ impl Reader {
 
     /// Takes the first digit of a code unit.
     pub(crate) fn hex1(&mut self, byte: u8) -> Result<(), StepFault>
-        ensures { Tries (λ _. in_text (use_of self.old.place) Hex1 self.old.token.items self.old.high (frames_of self.old.open.items) Kind.Other byte)
+        ensures { Tries (λ _. in_text (use_of self.old.place) Hex1 self.old.token.items self.old.high (around self.old) Kind.Other byte)
             result (state_of self.new) }
     {
         match hex_digit(byte) {
@@ -169,7 +173,7 @@ impl Reader {
 
     /// Takes the second.
     pub(crate) fn hex2(&mut self, byte: u8) -> Result<(), StepFault>
-        ensures { Tries (λ _. in_text (use_of self.old.place) (Hex2 self.old.first) self.old.token.items self.old.high (frames_of self.old.open.items) Kind.Other byte)
+        ensures { Tries (λ _. in_text (use_of self.old.place) (Hex2 self.old.first) self.old.token.items self.old.high (around self.old) Kind.Other byte)
             result (state_of self.new) }
     {
         match hex_digit(byte) {
@@ -184,7 +188,7 @@ impl Reader {
 
     /// Takes the third.
     pub(crate) fn hex3(&mut self, byte: u8) -> Result<(), StepFault>
-        ensures { Tries (λ _. in_text (use_of self.old.place) (Hex3 self.old.first self.old.second) self.old.token.items self.old.high (frames_of self.old.open.items) Kind.Other byte)
+        ensures { Tries (λ _. in_text (use_of self.old.place) (Hex3 self.old.first self.old.second) self.old.token.items self.old.high (around self.old) Kind.Other byte)
             result (state_of self.new) }
     {
         match hex_digit(byte) {
@@ -199,7 +203,7 @@ impl Reader {
 
     /// Takes the fourth, and with it the code unit.
     pub(crate) fn hex4(&mut self, byte: u8) -> Result<(), StepFault>
-        ensures { Tries (λ _. in_text (use_of self.old.place) (Hex4 self.old.first self.old.second self.old.third) self.old.token.items self.old.high (frames_of self.old.open.items) Kind.Other byte)
+        ensures { Tries (λ _. in_text (use_of self.old.place) (Hex4 self.old.first self.old.second self.old.third) self.old.token.items self.old.high (around self.old) Kind.Other byte)
             result (state_of self.new) }
     {
         match hex_digit(byte) {
@@ -213,7 +217,8 @@ impl Reader {
 
     /// Takes a code unit.
     fn unit(&mut self, code: u32) -> Result<(), StepFault>
-        ensures { Makes result (unit_step (use_of self.old.place) self.old.token.items self.old.high (frames_of self.old.open.items) code) (state_of self.new) }
+        ensures { Makes result (unit_step (use_of self.old.place) self.old.token.items self.old.high (around self.old) code)
+            (state_of self.new) }
     {
         say_behind(&mut self.token, self.high, code)?;
         self.high = if is_high(code) { Some(code) } else { None };

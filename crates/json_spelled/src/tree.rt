@@ -1,4 +1,4 @@
-/// A JSON value.
+/// A JSON value. One that was read has at most 64 levels of arrays and objects.
 #[derive(Debug, PartialEq, Drop)]
 pub enum Tree {
     /// `null`.

@@ -30,7 +30,7 @@ pub returns-in-Ended : goal.returns-in-Ended
 returns-in-Ended c = rw c.in-Ended.is c.ended.ensures
 
 pub returns-in-Start-2 : goal.returns-in-Start-2
-returns-in-Start-2 c = rw c.in-Start.is (start_begins c.args.kind (frames_of c.args.self.now.open.items) c.args.byte c.begin.result (state_of c.begin.new.self)
+returns-in-Start-2 c = rw c.in-Start.is (start_begins c.args.kind (frames_of c.args.self.now.opened.items) c.args.byte c.begin.result (state_of c.begin.new.self)
     c.if-byte-eq239.false c.begin.ensures)
 
 pub returns-in-Value : goal.returns-in-Value

@@ -5,5 +5,5 @@ use Rattle.json_spelled.proofs.Frames.{length_frames}
 use Rattle.json_spelled.proofs.reader.Reader.open_at.Goals as goal
 
 pub returns-then-len-ge-LEVELS : goal.returns-then-len-ge-LEVELS
-returns-then-len-ge-LEVELS c = opened_deep (place_of c.args.place) (frames_of c.args.self.now.open.items)
-    (omega (arith, length_frames c.args.self.now.open.items, c.len.ensures, c.args.self.now.open.ok.0))
+returns-then-len-ge-LEVELS c = opened_deep (place_of c.args.place) (frames_of c.args.self.now.opened.items)
+    (omega (arith, length_frames c.args.self.now.opened.items, c.len.ensures, c.args.self.now.opened.ok.0))
