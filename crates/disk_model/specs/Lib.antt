@@ -1,0 +1,5 @@
+pub mod Memory
+pub mod Plan
+pub mod Replay
+pub mod Stored
+pub mod World

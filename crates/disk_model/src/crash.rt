@@ -1,0 +1,206 @@
+//! What a crash leaves of a station in memory.
+ghost use Rattle.std.specs.Prelude.{◌≡◌, ◌≤◌, ◌+◌, OnOk, IfOk, cond, length};
+ghost use Rattle.disk_model.specs.World.{Image, Torn};
+ghost use Rattle.disk_model.specs.Replay.{State, MayLeave, step, overwritten, range_of};
+ghost use Rattle.disk_model.specs.Stored.{image_of};
+
+use crate::areas::Areas;
+use crate::call::Call;
+use crate::{Area, MemoryStation};
+use spatial_base::Memory;
+use std::alloc::{AllocError, Global};
+
+/// What becomes of the ranges that were written since the last sync of their area.
+#[derive(Clone, Copy, Debug, PartialEq, Eq)]
+pub enum Tear {
+    /// They hold what reads give.
+    Kept,
+    /// They hold what they held at that sync.
+    Lost,
+    /// They hold this byte throughout.
+    Filled(u8),
+}
+
+// Takes what the areas hold over a write.
+fn follow_write(
+    held: &mut Areas,
+    area: Area,
+    at: u64,
+    bytes: &[u8],
+    done: bool,
+) -> Result<(), AllocError>
+    ensures { OnOk result (image_of held.new
+        ≡ cond done (overwritten (range_of area at (length bytes.now)) bytes.now (image_of held.old)) (image_of held.old)) }
+{
+    if !done {
+        return Ok(());
+    }
+    let end = (at as usize).checked_add(bytes.len()).ok_or(AllocError)?;
+    held.reserve(area, end)?;
+    held.write(area, at as usize, bytes);
+    Ok(())
+}
+
+// Takes what a crash leaves over a write: the old bytes where none is given, else this byte.
+fn tear_write(
+    left: &mut Areas,
+    area: Area,
+    at: u64,
+    len: usize,
+    byte: Option<u8>,
+) -> Result<(), AllocError>
+    ensures { OnOk result (Torn area at len (image_of left.old) (image_of left.new)) }
+{
+    let Some(byte) = byte else {
+        return Ok(());
+    };
+    let end = (at as usize).checked_add(len).ok_or(AllocError)?;
+    left.reserve(area, end)?;
+    left.fill(area, at as usize, len, byte);
+    Ok(())
+}
+
+// Takes what the areas hold, and what a crash leaves of them, over one call.
+fn follow(
+    alloc: Global,
+    call: &Call,
+    byte: Option<u8>,
+    held: &mut Areas,
+    left: &mut Areas,
+) -> Result<(), AllocError>
+    ensures { OnOk result ((st : State) → st.seen ≡ image_of held.old → MayLeave st (image_of left.old)
+        → ((step st call.now).seen ≡ image_of held.new) × MayLeave (step st call.now) (image_of left.new)) }
+{
+    match call {
+        Call::Write(area, at, bytes, done) => {
+            follow_write(held, *area, *at, bytes, *done)?;
+            tear_write(left, *area, *at, bytes.len(), byte)
+        }
+        Call::Sync(area, done) => {
+            if *done {
+                left.take_over(alloc, *area, held)?;
+            }
+            Ok(())
+        }
+        Call::Read(_, _, _) => Ok(()),
+        Call::Say(_, _) => Ok(()),
+    }
+}
+
+impl MemoryStation {
+    ghost use Rattle.disk_model.specs.Memory.{holds, state_of, IsFresh, room_in};
+    ghost use Rattle.disk_model.specs.declared.crash.Tear.TheVariants as tears;
+
+    /// A station of the same room that holds one image that a crash may leave now: the ranges that are pending are
+    /// kept, lost, or filled with one byte. Nothing is pending in it, nothing was said, no call is counted, and no
+    /// call is to fail. The cost is that of the calls made.
+    pub fn crashed(&self, tear: Tear) -> Result<MemoryStation, Memory>
+        ensures may { IfOk result (λ station. MayLeave (state_of self.now) (holds station)) }
+        ensures kept { tear ≡ tears.Kept → IfOk result (λ station. holds station ≡ holds self.now) }
+        ensures fresh { IfOk result IsFresh }
+        ensures room { IfOk result (λ station. room_in station ≡ room_in self.now) }
+    {
+        self.after_crash(tear).map_err(|_| Memory)
+    }
+
+    // What a crash leaves of the station, as a station.
+    fn after_crash(&self, tear: Tear) -> Result<MemoryStation, AllocError>
+        ensures may { IfOk result (λ station. MayLeave (state_of self.now) (holds station)) }
+        ensures kept { tear ≡ tears.Kept → IfOk result (λ station. holds station ≡ holds self.now) }
+        ensures fresh { IfOk result IsFresh }
+        ensures room { IfOk result (λ station. room_in station ≡ room_in self.now) }
+    {
+        let byte = match tear {
+            Tear::Kept => return self.with_areas(&self.areas),
+            Tear::Lost => None,
+            Tear::Filled(byte) => Some(byte),
+        };
+        let left = self.torn(byte)?;
+        self.with_areas(&left)
+    }
+
+    // A station of the same room that holds these areas.
+    fn with_areas(&self, areas: &Areas) -> Result<MemoryStation, AllocError>
+        ensures holds { IfOk result (λ station. holds station ≡ image_of areas.now) }
+        ensures fresh { IfOk result IsFresh }
+        ensures room { IfOk result (λ station. room_in station ≡ room_in self.now) }
+    {
+        MemoryStation::holding(
+            self.alloc,
+            areas.bytes(Area::Pages),
+            areas.bytes(Area::Journal),
+            self.room,
+        )
+    }
+
+    // What the calls leave where the pending ranges are lost, or filled with a byte.
+    fn torn(&self, byte: Option<u8>) -> Result<Areas, AllocError>
+        ensures { IfOk result (λ left. MayLeave (state_of self.now) (image_of left)) }
+    {
+        let mut held = self.first.copy(self.alloc)?;
+        let mut left = self.first.copy(self.alloc)?;
+        for call in &self.made {
+            follow(self.alloc, call, byte, &mut held, &mut left)?;
+        }
+        Ok(left)
+    }
+}
+
+#[cfg(test)]
+mod tests {
+    use super::*;
+    use crate::{CallKind, Disk, Fail, Failed, Station};
+    use std::test::Fail as Failure;
+
+    // What the first four bytes of the pages are after a crash.
+    fn left(station: &MemoryStation, tear: Tear) -> Result<[u8; 4], Failure> {
+        let mut crashed = station.crashed(tear)?;
+        let mut bytes = [9; 4];
+        crashed.read(Area::Pages, 0, &mut bytes)?;
+        Ok(bytes)
+    }
+
+    #[test]
+    fn a_crash_keeps_loses_or_fills_what_is_not_synced(rt: HostRuntime) -> Result<(), Failure> {
+        let mut station = MemoryStation::with_image(rt.alloc(), b"abc", b"", 3)?;
+        station.write(Area::Pages, 1, b"XYZ")?;
+        assert_eq!(rt; left(&station, Tear::Kept)?, *b"aXYZ");
+        assert_eq!(rt; left(&station, Tear::Lost)?, *b"abc\0");
+        assert_eq!(rt; left(&station, Tear::Filled(7))?, [b'a', 7, 7, 7]);
+        station.sync(Area::Journal)?;
+        assert_eq!(rt; left(&station, Tear::Lost)?, *b"abc\0");
+        station.sync(Area::Pages)?;
+        assert_eq!(rt; left(&station, Tear::Lost)?, *b"aXYZ");
+        assert_eq!(rt; left(&station, Tear::Filled(7))?, *b"aXYZ");
+        Ok(())
+    }
+
+    #[test]
+    fn a_call_fails_where_it_is_listed_or_past_the_stop(rt: HostRuntime) -> Result<(), Failure> {
+        let mut station = MemoryStation::new(rt.alloc(), 3);
+        station.fail_at(&[
+            Fail {
+                kind: CallKind::Sync,
+                nth: 1,
+            },
+            Fail {
+                kind: CallKind::Say,
+                nth: 2,
+            },
+        ])?;
+        assert_eq!(rt; station.sync(Area::Pages), Err(Failed));
+        assert_eq!(rt; station.sync(Area::Pages), Ok(()));
+        assert_eq!(rt; station.say(b"hi"), Ok(2));
+        assert_eq!(rt; station.say(b"ho"), Err(Failed));
+        station.stop_after(5);
+        assert_eq!(rt; station.read(Area::Journal, 8, &mut [0; 1]), Ok(()));
+        assert_eq!(rt; station.read(Area::Journal, 8, &mut [0; 1]), Err(Failed));
+        assert_eq!(rt; station.said(), b"hi".as_slice());
+        assert_eq!(rt;
+            (station.calls(), station.reads(), station.lacks()),
+            (6, 2, 0)
+        );
+        assert_eq!(rt; station.faults(), (2, 1));
+        Ok(())
+    }
+}

@@ -1,0 +1,4 @@
+pub mod Degrees
+pub mod Fixed
+pub mod Placed
+pub mod Spelled

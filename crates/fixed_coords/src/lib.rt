@@ -1,0 +1,20 @@
+//! Decimal degrees as whole numbers: a coordinate is its exact decimal value times 10^7, rounded to the
+//! nearest whole number, halves away from zero.
+//!
+//! [`read_fixed`] reads any JSON number ([RFC 8259](https://www.rfc-editor.org/rfc/rfc8259#section-6),
+//! section 6) of at most 64 bytes, whatever its exponent is, and says why a text has no value.
+//! [`longitude`] and [`latitude`] also hold the value to its range, and [`write_fixed`] writes a value
+//! as degrees again. No call takes memory, and no work grows with the exponent.
+#![tactic(auto)]
+
+mod fault;
+mod number;
+mod read;
+mod size;
+#[cfg(test)]
+mod tests;
+mod write;
+
+pub use fault::NumberFault;
+pub use read::{latitude, longitude, read_fixed, reading_is_one};
+pub use write::write_fixed;

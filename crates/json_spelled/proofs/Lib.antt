@@ -1,0 +1,13 @@
+pub mod Attempts
+pub mod ByteKinds
+pub mod Completeness
+pub mod Completions
+pub mod Depth
+pub mod Frames
+pub mod Kept
+pub mod Numerals
+pub mod Offences
+pub mod Soundness
+pub mod Steps
+pub mod Texts
+pub mod Tokens

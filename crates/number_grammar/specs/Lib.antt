@@ -1,0 +1,3 @@
+pub mod Cut
+pub mod Number
+pub mod Stages

@@ -1,0 +1,6 @@
+pub mod Form
+pub mod Impacts
+pub mod Left
+pub mod Pairs
+pub mod Tally
+pub mod Text

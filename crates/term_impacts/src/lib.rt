@@ -1,0 +1,21 @@
+//! Words of a text and their impacts: how a place's text is weighed, word by word.
+//!
+//! The words of a text are its pieces between word boundaries (UAX #29) that have a letter or a number, after default case
+//! folding, without those of more than 32 bytes. The impact of a word is its share of all the words of the text, from 1 to 255.
+//! [`impacts`] gives the first 64 distinct words of a text with their impacts, [`one_word`] the word of a text of one word, [`Word`]
+//! a word in a form of 33 bytes that orders as its text does, and [`Words`] a map from words to impacts. Each answer is exact: the
+//! definitions are in `specs/Text.antt`, `Impacts.antt`, `Form.antt` and `Pairs.antt`.
+#![tactic(auto)]
+
+mod folding;
+mod tally;
+#[cfg(test)]
+mod tests;
+mod text;
+mod text_words;
+mod word;
+mod words;
+
+pub use text::{impacts, one_word};
+pub use word::{WORD_MAX, Word};
+pub use words::{WORDS_MAX, Words};
