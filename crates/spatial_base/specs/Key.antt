@@ -1,8 +1,11 @@
 -- Keys: texts and automatic numbers, their order, and the 66 bytes that a page or a comparison holds.
 use Rattle.std.specs.Prelude.{◌≡◌, ℕ, ◌-◌, ◌<◌, ◌≤◌, ◌^◌, ◌==◌, if◌then◌else◌, List, [], ◌∷◌, ◌++◌, length, take, drop, replicate, slice_index, Option, Some, None, IsUtf8}
 use Rattle.std.specs.Int.{w64, to_be_bytes, from_be_bytes}
+use Rattle.std.proofs.Common.{refl, ap}
 use Rattle.std.specs.declared.cmp.Ordering.{Ordering}
-use Rattle.std.specs.Ordering.{on, then_cmp, nat_cmp}
+use Rattle.std.specs.declared.cmp.Ordering.TheVariants.{Less, Equal, Greater}
+use Rattle.std.specs.FinMap.{nat_cmp-IsAntisymmetric, slice_cmp-IsAntisymmetric}
+use Rattle.std.specs.Ordering.{on, then_cmp, nat_cmp, ordering_then}
 use Rattle.std.specs.Cmp.{IsTotalOrder}
 use Rattle.std.specs.Cmp.Lexicographic.{slice_cmp}
 use Rattle.std.proofs.lemmas.Cmp.{then_total, on_total, nat_cmp_total, nat_list_cmp_total}
@@ -46,6 +49,19 @@ key_cmp = then_cmp (on kind_of nat_cmp) (then_cmp (on bytes_of (slice_cmp nat_cm
 
 pub key_cmp_total : IsTotalOrder key_cmp
 key_cmp_total = then_total (on_total kind_of nat_cmp_total) (then_total (on_total bytes_of nat_list_cmp_total) (on_total number_of nat_cmp_total))
+
+-- the first of two orders ties, and so does the second
+both_tie : (a b : Ordering) → ordering_then a b ≡ Equal → (a ≡ Equal) × (b ≡ Equal)
+both_tie Equal b h = (refl, h)
+both_tie Less b h = absurd (cc)
+both_tie Greater b h = absurd (cc)
+
+-- only the same key ties
+pub key_cmp_same : (a b : Name) → key_cmp a b ≡ Equal → a ≡ b
+key_cmp_same (Text xs) (Text ys) e = ap Text (slice_cmp-IsAntisymmetric nat_cmp-IsAntisymmetric xs ys (both_tie _ _ e).0)
+key_cmp_same (Text xs) (Auto n) e = absurd (cc)
+key_cmp_same (Auto m) (Text ys) e = absurd (cc)
+key_cmp_same (Auto m) (Auto n) e = ap Auto (nat_cmp-IsAntisymmetric m n e)
 
 -- bytes, and zeros behind them up to a width
 abbrev pub padded : ℕ → List ℕ → List ℕ
