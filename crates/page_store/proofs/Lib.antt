@@ -1,0 +1,5 @@
+mod Bytes
+mod Committed
+mod Headers
+mod OpeningReads
+mod Overlays

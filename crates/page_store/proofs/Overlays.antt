@@ -1,0 +1,161 @@
+-- What a commit of an overlay leaves.
+use Rattle.std.proofs.Common.{◌≡◌, ◌≢◌, ◌⊎◌, inl, inr, ⊎_elim, ℕ, zero, suc, ◌+◌, ◌*◌, ◌<◌, ◌≤◌, Bool, true, false, List, [], ◌∷◌, length, get_or, slice_index, nat_lt, ◌==◌, if◌then◌else◌, Option, Some, None, option_map, Box, refl, sym, ◌∙◌, ap, subst, arith}
+use Rattle.std.specs.Map.{keys_of, lookup}
+use Rattle.std.specs.BTreeMap.{is_at, IsOrdered}
+use Rattle.std.specs.List.Sorted.{IsStrictlySortedBy}
+use Rattle.std.specs.Ordering.{nat_cmp, is_eq}
+use Rattle.std.specs.declared.cmp.Ordering.TheVariants.{Less, Equal, Greater}
+use Rattle.std.specs.Cmp.{nat_cmp_is}
+use Rattle.std.specs.declared.alloc.Global.{Global}
+use Rattle.std.proofs.lemmas.Map.Keys.{below_from_sorted}
+use Rattle.std.proofs.lemmas.Bool.{cases_lt, cases_eq, cond-true, cond-false}
+use mathlib.Core.Path.{fun_ext}
+use Rattle.disk_model.specs.World.{World, LeavesOnly}
+use Rattle.disk_model.specs.declared.disk.Area.TheVariants.{Pages}
+use Rattle.disk_model.proofs.Moments.{within}
+use Rattle.page_face.specs.FreeList.{PageMap}
+use Rattle.page_journal.specs.Record.{batch_of, given, with_batch, IsBeforeOrAfter}
+use Rattle.page_journal.proofs.Batches.{page_here, page_elsewhere, length_given}
+use Rattle.page_store.specs.declared.superblock.Superblock.{Superblock}
+use Rattle.page_store.specs.Superblock.{superblock_in, IsInRange, IsStorePage}
+use Rattle.page_store.specs.Contents.{page_bytes, Overlay, page_in, IsSized, first_of, shown, counted_pages, contents_in, contents_of, HoldsOneOf}
+use Rattle.page_store.specs.Contents.{IsCommitted}
+use Rattle.page_store.proofs.Bytes.{page_bytes-read, page_bytes-same}
+
+-- the test of a look-up answers whether the keys are equal
+same_key : (n k : ℕ) → n ≡ k → is_at (nat_cmp n) k ≡ true
+same_key n k e = ap is_eq (sym (nat_cmp_is n k Equal e))
+
+other_key : (n k : ℕ) → (n ≡ k → ⊥) → is_at (nat_cmp n) k ≡ false
+other_key n k ne = ⊎_elim
+    (λ (l : n < k). ap is_eq (sym (nat_cmp_is n k Less l)))
+    (λ (g : k ≤ n). let above : k < n = omega arith in ap is_eq (sym (nat_cmp_is n k Greater above)))
+    (cases_lt n k)
+
+-- the place of a page among the entries
+record Found (entries : List (ℕ × Box (List ℕ) Global)) (n : ℕ) : Type 0 where
+  place : ℕ
+  page : Box (List ℕ) Global
+  lt : place < length entries
+  number : (get_or (given entries) place (0, [])).0 ≡ n
+  bytes : (get_or (given entries) place (0, [])).1 ≡ page.value
+  at : lookup (is_at (nat_cmp n)) entries ≡ Some page
+
+-- no entry has this page
+record Missing (entries : List (ℕ × Box (List ℕ) Global)) (n : ℕ) : Type 0 where
+  apart : (k : ℕ) → k < length entries → (get_or (given entries) k (0, [])).0 ≢ n
+  at : lookup (is_at (nat_cmp n)) entries ≡ None
+
+apart_more : (e : ℕ × Box (List ℕ) Global) (entries : List (ℕ × Box (List ℕ) Global)) (n : ℕ) → (n ≡ e.0 → ⊥) → ((k : ℕ) → k < length entries → (get_or (given entries) k (0, [])).0 ≢ n)
+    → (k : ℕ) → k < length (e ∷ entries) → (get_or (given (e ∷ entries)) k (0, [])).0 ≢ n
+apart_more e entries n ne rest zero lt is = ne (sym is)
+apart_more e entries n ne rest (suc k) lt is = rest k (omega arith) is
+
+found_or_missing : (entries : List (ℕ × Box (List ℕ) Global)) (n : ℕ) → Found entries n ⊎ Missing entries n
+found_or_missing [] n = inr record { apart = λ k lt. absurd (omega arith); at = refl }
+found_or_missing (e ∷ entries) n = ⊎_elim
+    (λ (same : n ≡ e.0). inl record { place = 0; page = e.1; lt = omega arith; number = sym same; bytes = refl; at = cond-true _ _ _ (same_key n e.0 same) })
+    (λ (ne : n ≡ e.0 → ⊥). ⊎_elim
+    (λ (f : Found entries n). inl record { place = suc f.place; page = f.page; lt = omega (arith, f.lt); number = f.number; bytes = f.bytes; at = cond-false _ _ _ (other_key n e.0 ne) ∙ f.at })
+    (λ (m : Missing entries n). inr record { apart = apart_more e entries n ne m.apart; at = cond-false _ _ _ (other_key n e.0 ne) ∙ m.at })
+    (found_or_missing entries n))
+    (cases_eq n e.0)
+
+number_given : (entries : List (ℕ × Box (List ℕ) Global)) (k : ℕ) → (get_or (given entries) k (0, [])).0 ≡ get_or (keys_of entries) k 0
+number_given [] k = refl
+number_given (e ∷ entries) zero = refl
+number_given (e ∷ entries) (suc k) = number_given entries k
+
+length_keys : (entries : List (ℕ × Box (List ℕ) Global)) → length (keys_of entries) ≡ length entries
+length_keys [] = refl
+length_keys (e ∷ entries) = ap (λ (n : ℕ). suc n) (length_keys entries)
+
+-- a later entry has another page
+later_apart : (entries : List (ℕ × Box (List ℕ) Global)) → IsStrictlySortedBy nat_cmp (keys_of entries) → (k m : ℕ) → k < m → m < length entries
+    → (get_or (given entries) m (0, [])).0 ≢ (get_or (given entries) k (0, [])).0
+later_apart entries sorted k m lt within is =
+    let a = number_given entries k in
+    let b = number_given entries m in
+    let o = below_from_sorted (keys_of entries) k m 0 sorted lt (omega (arith, length_keys entries)) in
+    omega arith
+
+-- after a commit a page is the overlay's, and else the one from before
+pub page_bytes-with_batch : (overlay : Overlay) (area : ℕ → ℕ) (n : ℕ) → IsOrdered nat_cmp overlay → IsSized overlay
+    → page_bytes (with_batch (batch_of (given overlay.entries)) area) n ≡ first_of (page_in overlay n) (page_bytes area n)
+page_bytes-with_batch overlay area n ordered sized =
+    let entries = overlay.entries in
+    let b = batch_of (given entries) in
+    let after = with_batch b area in
+    let count = length_given entries in
+    ⊎_elim
+    (λ (f : Found entries n).
+    let in_overlay : page_in overlay n ≡ Some f.page.value = ap (λ o. option_map (λ (p : Box (List ℕ) Global). p.value) o) f.at in
+    let long : length f.page.value ≡ 4096 = sized n f.page.value in_overlay in
+    let stands : (i j : ℕ) → i < length f.page.value → 4096 * n + i ≡ j → slice_index f.page.value i ≡ after j = λ i j lt is.
+    let small : i < 4096 = omega arith in
+    let place : 4096 * b.number f.place + i ≡ j = ap (λ (m : ℕ). 4096 * m + i) f.number ∙ is in
+    let here : after (4096 * b.number f.place + i) ≡ b.byte f.place i = page_here b (length (given entries)) f.place i area (omega (arith, f.lt)) (λ m low high. later_apart entries ordered f.place m low (omega arith)) small in
+    ap (λ (l : List ℕ). slice_index l i) (sym f.bytes) ∙ sym here ∙ ap after place in
+    sym (page_bytes-read after n f.page.value long stands) ∙ sym (ap (λ (o : Option (List ℕ)). first_of o (page_bytes area n)) in_overlay))
+    (λ (m : Missing entries n).
+    let none : page_in overlay n ≡ None = ap (λ o. option_map (λ (p : Box (List ℕ) Global). p.value) o) m.at in
+    elsewhere m.apart count ∙ sym (ap (λ (o : Option (List ℕ)). first_of o (page_bytes area n)) none))
+    (found_or_missing entries n)
+  where
+    elsewhere : ((k : ℕ) → k < length overlay.entries → (get_or (given overlay.entries) k (0, [])).0 ≢ n) → length (given overlay.entries) ≡ length overlay.entries
+        → page_bytes (with_batch (batch_of (given overlay.entries)) area) n ≡ page_bytes area n
+    elsewhere apart count = page_bytes-same _ area n (λ j lt. page_elsewhere (batch_of (given overlay.entries)) n j area (λ k within is. apart k (omega arith) (sym is)) lt)
+
+-- a commit of an overlay with page 0 leaves the contents that the overlay and page 0's fields hold
+pub committed_contents : (overlay whole : Overlay) (area : ℕ → ℕ) (block : Superblock) (head : List ℕ) → IsOrdered nat_cmp whole → IsSized whole → page_in whole 0 ≡ Some head → superblock_in head ≡ block
+    → ((n : ℕ) → n ≢ 0 → page_in whole n ≡ page_in overlay n) → contents_in (with_batch (batch_of (given whole.entries)) area) ≡ contents_of area overlay block
+committed_contents overlay whole area block head ordered sized at_0 law others =
+    let after = with_batch (batch_of (given whole.entries)) area in
+    let block_is : superblock_in (page_bytes after 0) ≡ block =
+    ap superblock_in (page_bytes-with_batch whole area 0 ordered sized ∙ ap (λ (o : Option (List ℕ)). first_of o (page_bytes area 0)) at_0) ∙ law in
+    ap (λ (b : Superblock). record { block = b; pages = counted_pages b.counted (page_bytes after) }) block_is
+    ∙ ap (λ (p : PageMap). record { block = block; pages = p }) (fun_ext pages)
+  where
+    pages : (n : ℕ) → counted_pages block.counted (page_bytes (with_batch (batch_of (given whole.entries)) area)) n ≡ counted_pages block.counted (shown true area overlay) n
+    pages zero = refl
+    pages (suc m) = ap (λ (l : List ℕ). if suc m == 0 then [] else if nat_lt (suc m) block.counted then l else [])
+        (page_bytes-with_batch whole area (suc m) ordered sized ∙ ap (λ (o : Option (List ℕ)). first_of o (page_bytes area (suc m))) (others (suc m) (λ e. omega arith)))
+
+-- and the pages stay, once the overlay is cleared
+pub committed_pages : (tells : Bool) (cleared overlay whole : Overlay) (area : ℕ → ℕ) (count : ℕ) → tells ≡ true → cleared.entries ≡ [] → IsOrdered nat_cmp whole → IsSized whole → ((n : ℕ) → n ≢ 0 → page_in whole n ≡ page_in overlay n)
+    → counted_pages count (shown tells (with_batch (batch_of (given whole.entries)) area) cleared) ≡ counted_pages count (shown tells area overlay)
+committed_pages tells cleared overlay whole area count is_told none ordered sized others =
+    let after = with_batch (batch_of (given whole.entries)) area in
+    let told : counted_pages count (shown true after cleared) ≡ counted_pages count (shown true area overlay) = fun_ext pages in
+    subst (λ (b : Bool). counted_pages count (shown b after cleared) ≡ counted_pages count (shown b area overlay)) (sym is_told) told
+  where
+    pages : (n : ℕ) → counted_pages count (shown true (with_batch (batch_of (given whole.entries)) area) cleared) n ≡ counted_pages count (shown true area overlay) n
+    pages zero = refl
+    pages (suc m) =
+        let empty : page_in cleared (suc m) ≡ None = ap (λ (es : List (ℕ × Box (List ℕ) Global)). option_map (λ (p : Box (List ℕ) Global). p.value) (lookup (is_at (nat_cmp (suc m))) es)) none in
+        ap (λ (l : List ℕ). if suc m == 0 then [] else if nat_lt (suc m) count then l else [])
+        (ap (λ (o : Option (List ℕ)). first_of o (page_bytes (with_batch (batch_of (given whole.entries)) area) (suc m))) empty
+        ∙ page_bytes-with_batch whole area (suc m) ordered sized ∙ ap (λ (o : Option (List ℕ)). first_of o (page_bytes area (suc m))) (others (suc m) (λ e. omega arith)))
+
+-- page 0 after a commit is the one in the overlay
+pub page_0 : (whole : Overlay) (area : ℕ → ℕ) (head : List ℕ) → IsOrdered nat_cmp whole → IsSized whole → page_in whole 0 ≡ Some head → page_bytes (with_batch (batch_of (given whole.entries)) area) 0 ≡ head
+page_0 whole area head ordered sized at_0 = page_bytes-with_batch whole area 0 ordered sized ∙ ap (λ (o : Option (List ℕ)). first_of o (page_bytes area 0)) at_0
+
+-- while a commit runs a crash leaves the contents from before, or those of the overlay
+pub commit_leaves : (overlay whole : Overlay) (block last : Superblock) (head : List ℕ) (old new : World) → IsOrdered nat_cmp whole → IsSized whole → page_in whole 0 ≡ Some head → superblock_in head ≡ block
+    → ((n : ℕ) → n ≢ 0 → page_in whole n ≡ page_in overlay n) → (IsInRange block → IsStorePage head)
+    → IsCommitted last old → LeavesOnly old new (IsBeforeOrAfter (batch_of (given whole.entries)) old)
+    → LeavesOnly old new (HoldsOneOf (contents_in (old.seen Pages)) (contents_of (old.seen Pages) overlay block) old)
+commit_leaves overlay whole block last head old new ordered sized at_0 law others store committed leaves = within leaves (λ image said d. (
+  ⊎_elim
+      (λ s. inl record { area = old.seen Pages; stands = s; holds = refl; page = λ range. committed.page (subst IsInRange committed.head range) })
+      (λ s. inr record { area = with_batch (batch_of (given whole.entries)) (old.seen Pages); stands = s; holds = committed_contents overlay whole (old.seen Pages) block head ordered sized at_0 law others; page = λ range. subst IsStorePage (sym (page_0 whole (old.seen Pages) head ordered sized at_0)) (store range) })
+      d.0,
+  d.1,
+))
+
+-- an overlay without a page holds none of another length
+pub cleared_sized : (overlay : Overlay) → overlay.entries ≡ [] → IsSized overlay
+cleared_sized overlay none n page is =
+    let empty : page_in overlay n ≡ None = ap (λ (es : List (ℕ × Box (List ℕ) Global)). option_map (λ (p : Box (List ℕ) Global). p.value) (lookup (is_at (nat_cmp n)) es)) none in
+    cc

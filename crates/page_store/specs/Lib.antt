@@ -1,0 +1,4 @@
+pub mod Contents
+pub mod Opening
+pub mod Store
+pub mod Superblock

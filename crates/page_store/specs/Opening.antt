@@ -1,0 +1,52 @@
+-- What opening a store does to its disk, and why it is refused.
+use Rattle.std.specs.Prelude.{◌≡◌, ◌⊎◌, ℕ, ◌+◌, ◌≤◌, List, ◌++◌, Result, IsErrOf}
+use Rattle.std.specs.List.{AllByRecursion}
+use Rattle.disk_model.specs.World.{World, Image, Range, Rose}
+use Rattle.disk_model.specs.declared.disk.Area.TheVariants.{Pages, Journal}
+use Rattle.page_journal.specs.Record.{StandsFor}
+use Rattle.page_face.specs.declared.fault.Damage.{Damage}
+use Rattle.page_face.specs.declared.fault.Rule.TheVariants.{Head}
+use Rattle.page_store.specs.declared.superblock.Superblock.{Superblock}
+use Rattle.page_store.specs.declared.superblock.HeadFault.{HeadFault}
+use Rattle.page_store.specs.declared.opening.OpenFault.{OpenFault}
+use Rattle.page_store.specs.declared.opening.OpenFault.TheVariants as faults
+use Rattle.page_store.specs.Superblock.{IsStorePage, IsHeadFault}
+use Rattle.page_store.specs.Contents.{page_bytes, IsCommitted}
+
+-- the read is of the journal, or of page 0
+abbrev pub IsOpeningRead : Range → Type 0
+IsOpeningRead r = (r.area ≡ Journal) ⊎ ((r.area ≡ Pages) × (r.at + r.len ≤ 4096))
+
+-- From old to new nothing was said, and of the area Pages only page 0 was read.
+pub record SaysNothingReadsHead (old new : World) : Type 0 where
+  pub said : new.said ≡ old.said
+  pub more : List Range
+  pub reads : new.reads ≡ old.reads ++ more
+  pub each : AllByRecursion IsOpeningRead more
+
+-- The store is open: the image that reads gave stands for the pages that they give now, and page 0 of them for this.
+pub record IsOpened (block : Superblock) (old new : World) : Type 0 where
+  pub stands : StandsFor old.seen (new.seen Pages)
+  pub page : IsStorePage (page_bytes (new.seen Pages) 0)
+  pub committed : IsCommitted block new
+
+-- Page 0 of the recovered store is none of a store, for this cause.
+pub record IsRefused (fault : HeadFault) (old new : World) : Type 0 where
+  pub stands : StandsFor old.seen (new.seen Pages)
+  pub page : IsHeadFault fault (page_bytes (new.seen Pages) 0)
+
+-- the rule Head, broken at page 0
+abbrev pub head_damage : Damage
+head_damage = record { page = 0; rule = Head }
+
+-- Disk comes only where the disk's count rose, and no count falls
+pub record HasOpenCause {T : Type 0} (old new : World) (result : Result T OpenFault) : Type 0 where
+  pub later : old.faults ≤ new.faults
+  pub sink : new.sink_faults ≡ old.sink_faults
+  pub rose : IsErrOf result faults.Disk → Rose old.faults new.faults
+
+-- The image stands for pages whose page 0 is none of a store, for this cause.
+pub record IsNoStore (fault : HeadFault) (image : Image) : Type 0 where
+  pub area : ℕ → ℕ
+  pub stands : StandsFor image area
+  pub page : IsHeadFault fault (page_bytes area 0)

@@ -1,0 +1,68 @@
+//! Opening a store: the journal is recovered, and page 0 is read.
+ghost use Rattle.std.specs.Prelude.{◌≡◌, ◌≢◌, ◌<◌, IsTrue, ℕ, IfOk, IsErrOf};
+ghost use Rattle.disk_model.specs.World.{LeavesOnly, WritesNothing, ChangesNoArea, HasDiskCause, Range};
+ghost use Rattle.disk_model.specs.declared.disk.Area.TheVariants as areas;
+ghost use Rattle.page_journal.specs.Record.{StandsAlike, IsBad};
+ghost use Rattle.page_store.specs.declared.superblock.HeadFault.TheVariants as heads;
+ghost use Rattle.page_store.specs.Contents.{page_bytes};
+ghost use Rattle.page_store.specs.Opening.{SaysNothingReadsHead, IsOpened, IsRefused, head_damage, HasOpenCause};
+
+use crate::page::read_page;
+use crate::superblock::{HeadFault, Superblock};
+use disk_model::Disk;
+use page_face::{Damage, Rule};
+use page_journal::{JournalFault, recover};
+
+/// Why a store was not opened.
+#[derive(Clone, Copy, Debug, PartialEq, Eq)]
+pub enum OpenFault {
+    /// The disk failed, and its count of faults rose.
+    Disk,
+    /// Page 0 of the recovered store is neither all zero nor begins with the magic.
+    NotAStore,
+    /// An open gate stands before bytes that are no record: the offset of the field that breaks its form.
+    BadJournal(u64),
+    /// Page 0 begins with the magic and breaks the rule Head.
+    Damaged(Damage),
+    /// Want of memory.
+    Memory,
+}
+
+/// Recovers the journal and reads page 0.
+///
+/// Refuses `Disk`; `BadJournal`, then nothing was written; `NotAStore`; `Damaged` with the rule Head at page 0. Takes
+/// no memory.
+pub fn look<D: Disk>(disk: &mut D) -> Result<Superblock, OpenFault>
+    // A crash at any moment leaves what a crash could leave as the call began, or what stands for the same pages.
+    ensures any_moment { IsTrue D.tells → LeavesOnly (D.world disk.old) (D.world disk.new) (StandsAlike (D.world disk.old)) }
+
+    ensures opened { IsTrue D.tells → IfOk result (λ block. IsOpened block (D.world disk.old) (D.world disk.new)) }
+    ensures in_range { IfOk result (λ block. block.first_free < block.counted) }
+    ensures not_a_store { IsTrue D.tells → IsErrOf result OpenFault.NotAStore → IsRefused heads.NotAStore (D.world disk.old) (D.world disk.new) }
+    ensures damaged { (damage : Damage) → IsErrOf result (OpenFault.Damaged damage)
+        → (damage ≡ head_damage) × (IsTrue D.tells → IsRefused heads.Broken (D.world disk.old) (D.world disk.new)) }
+    ensures bad { IsTrue D.tells → (at : ℕ) → IsErrOf result (OpenFault.BadJournal at) → IsBad (D.world disk.old).seen at }
+    ensures untouched { IsTrue D.tells → (at : ℕ) → IsErrOf result (OpenFault.BadJournal at) → WritesNothing (D.world disk.old) (D.world disk.new) }
+    ensures memory { result ≢ Err OpenFault.Memory }
+
+    ensures quiet { IsTrue D.tells → SaysNothingReadsHead (D.world disk.old) (D.world disk.new) }
+    ensures cause { HasOpenCause (D.world disk.old) (D.world disk.new) result }
+    ensures room { D.room_of disk.new ≡ D.room_of disk.old }
+{
+    match recover(disk) {
+        Ok(()) => {}
+        Err(JournalFault::Disk) => return Err(OpenFault::Disk),
+        Err(JournalFault::BadJournal(at)) => return Err(OpenFault::BadJournal(at)),
+    }
+    let Ok(page) = read_page(disk, 0) else {
+        return Err(OpenFault::Disk);
+    };
+    match Superblock::decode(&page) {
+        Ok(block) => Ok(block),
+        Err(HeadFault::NotAStore) => Err(OpenFault::NotAStore),
+        Err(HeadFault::Broken) => Err(OpenFault::Damaged(Damage {
+            page: 0,
+            rule: Rule::Head,
+        })),
+    }
+}

@@ -1,0 +1,21 @@
+//! A page of the area Pages.
+ghost use Rattle.std.specs.Prelude.{◌≡◌, ◌*◌, ◌++◌, ◌∷◌, [], ◌⊎◌, IsTrue, IfOk, OnOk, OnErr};
+ghost use Rattle.disk_model.specs.World.{ChangesNoArea, HasDiskCause};
+ghost use Rattle.disk_model.specs.declared.disk.Area.TheVariants as areas;
+ghost use Rattle.page_store.specs.Contents.{page_bytes};
+ghost use Rattle.page_store.specs.Store.{ReadsPage};
+
+use disk_model::{Area, Disk, Failed};
+use page_face::Page;
+
+// Reads a page from the disk.
+pub(crate) fn read_page<D: Disk>(disk: &mut D, number: u32) -> Result<Page, Failed>
+    ensures gives { IsTrue D.tells → IfOk result (λ page. page ≡ page_bytes ((D.world disk.old).seen areas.Pages) number) }
+    ensures reads { IsTrue D.tells → ReadsPage number (D.world disk.old) (D.world disk.new) }
+    ensures cause { HasDiskCause (D.world disk.old) (D.world disk.new) result }
+    ensures room { D.room_of disk.new ≡ D.room_of disk.old }
+{
+    let mut page = [0; 4096];
+    disk.read(Area::Pages, 4096 * number as u64, &mut page)?;
+    Ok(page)
+}

@@ -1,0 +1,185 @@
+//! The pages of a store.
+ghost use Rattle.std.specs.Prelude.{◌≡◌, ◌≢◌, ◌↔◌, ◌<◌, ◌≤◌, ◌+◌, ℕ, IsTrue, IfOk, IfErr, OnErr, IsErrOf, length};
+ghost use Rattle.disk_model.specs.World.{HasDiskCause};
+ghost use Rattle.disk_model.specs.declared.disk.Area.TheVariants as areas;
+ghost use Rattle.page_face.specs.Causes.{IsUncounted, Rose, unlinked as link};
+ghost use Rattle.page_store.specs.Contents.{shown};
+ghost use Rattle.page_store.specs.Store.{ReadsPage};
+
+use crate::overlay;
+use crate::page::read_page;
+use crate::store::Store;
+use disk_model::{Disk, Failed};
+use page_face::{Damage, Page, PageFault, Pages, Rule, free_next, free_page};
+use std::collections::BTreeMap;
+
+fn unlinked(page: u32) -> PageFault
+    ensures { result ≡ PageFault.Damaged (link page) }
+{
+    PageFault::Damaged(Damage {
+        page,
+        rule: Rule::Link,
+    })
+}
+
+fn is_uncounted(counted: u32, page: u32) -> bool
+    ensures { IsTrue result ↔ IsUncounted counted page }
+{
+    page == 0 || page >= counted
+}
+
+// The page of the overlay, or else that of the disk.
+fn shown_page<D: Disk>(
+    disk: &mut D,
+    overlay: &BTreeMap<u32, Box<Page>>,
+    number: u32,
+) -> Result<Page, Failed>
+    ensures gives { IfOk result (λ page. 0 < length (shown D.tells ((D.world disk.old).seen areas.Pages) overlay.now number)
+        → page ≡ shown D.tells ((D.world disk.old).seen areas.Pages) overlay.now number) }
+    ensures reads { IsTrue D.tells → ReadsPage number (D.world disk.old) (D.world disk.new) }
+    ensures cause { HasDiskCause (D.world disk.old) (D.world disk.new) result }
+    ensures room { D.room_of disk.new ≡ D.room_of disk.old }
+{
+    match overlay::page_of(overlay, number) {
+        Some(page) => Ok(*page),
+        None => read_page(disk, number),
+    }
+}
+
+impl<'d, D: Disk> Pages for Store<'d, D> {
+    ghost use Rattle.std.specs.Prelude.{◌≡◌, ◌≤◌, refl};
+    ghost use Rattle.disk_model.specs.declared.disk.Area.TheVariants.{Pages as pages_area};
+    ghost use Rattle.page_store.specs.Contents.{shown, counted_pages};
+    ghost use Rattle.page_store.specs.Store.{GoesOn, OnlyReads, goes_nowhere, goes_further, reads_nothing, reads_further};
+
+    ghost pages = { λ s. counted_pages s.current.counted (shown D.tells ((D.world s.disk.now).seen pages_area) s.overlay) };
+
+    ghost count = { λ s. s.current.counted };
+
+    ghost first = { λ s. s.current.first_free };
+
+    ghost room = { λ s. D.room_of s.disk.now };
+
+    ghost asked = { λ s. s.asked.items };
+
+    ghost faults = { λ s. (D.world s.disk.now).faults };
+
+    ghost refused = { λ s. s.refused };
+
+    ghost is_stopped = { λ s. s.stopped };
+
+    ghost follows_from = { λ a b. GoesOn D.tells D.world D.room_of a.disk b.disk };
+
+    ghost only_reads = { λ a b. OnlyReads D.tells D.world a.asked.items b.asked.items a.disk.now b.disk.now };
+
+    ghost first_is_counted = { λ s. s.current_first };
+
+    ghost stays = { λ s. goes_nowhere D.tells D.world D.room_of s.disk };
+
+    ghost goes_further = { λ a b c f g. goes_further D.tells D.world D.room_of a.disk b.disk c.disk f g };
+
+    ghost reads_nothing = { λ s. reads_nothing D.tells D.world s.asked.items s.disk.now };
+
+    ghost reads_further = { λ a b c f g. reads_further D.tells D.world a.asked.items b.asked.items c.asked.items a.disk.now b.disk.now c.disk.now f g };
+
+    fn counted(&self) -> u32 {
+        self.current.counted
+    }
+
+    fn first_free(&self) -> u32 {
+        self.current.first_free
+    }
+
+    fn read(&mut self, page: u32) -> Result<Page, PageFault> {
+        if self.stopped {
+            return Err(PageFault::Stopped);
+        }
+        if self.asked.push(page).is_err() {
+            return Err(PageFault::Memory);
+        }
+        if is_uncounted(self.current.counted, page) {
+            return Err(unlinked(page));
+        }
+        match shown_page(&mut *self.disk, &self.overlay, page) {
+            Ok(bytes) => Ok(bytes),
+            Err(_) => Err(PageFault::Disk),
+        }
+    }
+
+    fn write(&mut self, page: u32, bytes: &Page) -> Result<(), PageFault> {
+        if self.stopped {
+            return Err(PageFault::Stopped);
+        }
+        if is_uncounted(self.current.counted, page) {
+            return Err(unlinked(page));
+        }
+        overlay::put(self.alloc, &mut self.overlay, page, bytes)
+    }
+
+    fn take(&mut self) -> Result<u32, PageFault> {
+        if self.stopped {
+            return Err(PageFault::Stopped);
+        }
+        if self.current.first_free == 0 {
+            return self.count_one();
+        }
+        let page = self.current.first_free;
+        let Ok(bytes) = shown_page(&mut *self.disk, &self.overlay, page) else {
+            return Err(PageFault::Disk);
+        };
+        match free_next(&bytes) {
+            Ok(next) => {
+                if next >= self.current.counted {
+                    return Err(unlinked(next));
+                }
+                self.current.first_free = next;
+                Ok(page)
+            }
+            Err(rule) => Err(PageFault::Damaged(Damage { page, rule })),
+        }
+    }
+
+    fn give_back(&mut self, page: u32) -> Result<(), PageFault> {
+        if self.stopped {
+            return Err(PageFault::Stopped);
+        }
+        if is_uncounted(self.current.counted, page) {
+            return Err(unlinked(page));
+        }
+        overlay::put(
+            self.alloc,
+            &mut self.overlay,
+            page,
+            &free_page(self.current.first_free),
+        )?;
+        self.current.first_free = page;
+        Ok(())
+    }
+}
+
+impl<'d, D: Disk> Store<'d, D> {
+    // Counts one page more.
+    fn count_one(&mut self) -> Result<u32, PageFault>
+        requires { self.old.current.first_free ≡ 0 }
+        ensures counts { IfOk result (λ page. (page ≡ self.old.current.counted) × (self.new.current.counted ≡ self.old.current.counted + 1)) }
+        ensures full { IsErrOf result PageFault.NoRoom ↔ (D.room_of self.old.disk.now ≤ self.old.current.counted) }
+        ensures other { IfErr result (λ fault. fault ≡ PageFault.NoRoom) }
+        ensures kept { OnErr result (self.new.current ≡ self.old.current) }
+        ensures refused_more { IsErrOf result PageFault.NoRoom → Rose self.old.refused self.new.refused }
+        ensures refused { result ≢ Err PageFault.NoRoom → self.new.refused ≡ self.old.refused }
+        ensures refused_later { self.old.refused ≤ self.new.refused }
+        ensures first { self.new.current.first_free ≡ 0 }
+        ensures disk { self.new.disk ≡ self.old.disk }
+        ensures overlay { self.new.overlay ≡ self.old.overlay }
+        ensures asked { self.new.asked ≡ self.old.asked }
+        ensures stopped { self.new.stopped ≡ self.old.stopped }
+    {
+        let page = self.current.counted;
+        if page >= self.disk.room() {
+            self.refused = self.refused.saturating_add(1);
+            return Err(PageFault::NoRoom);
+        }
+        self.current.counted = page + 1;
+        Ok(page)
+    }
+}

@@ -1,0 +1,166 @@
+//! The store as one object.
+ghost use Rattle.std.specs.Prelude.{◌≡◌, ◌≢◌, ℕ, IsErrOf, ◌<◌, ◌≤◌, ◌-◌, ◌^◌, IsTrue, false, [], IfOk, length};
+ghost use Rattle.disk_model.specs.World.{LeavesOnly, HasSaid, HasSinkCause};
+ghost use Rattle.page_journal.specs.Record.{IsBad, StandsAlike};
+ghost use Rattle.page_store.specs.declared.superblock.HeadFault.TheVariants as heads;
+ghost use Rattle.page_store.specs.Contents.{IsCommitted, IsSized};
+ghost use Rattle.page_store.specs.Opening.{IsOpened, IsNoStore, SaysNothingReadsHead, head_damage};
+
+use crate::opening::{OpenFault, look};
+use crate::superblock::Superblock;
+use disk_model::{Disk, Failed, Station};
+use page_face::{Damage, Head, Page};
+use std::alloc::Global;
+use std::collections::BTreeMap;
+
+/// Pages on a disk that it borrows, committed whole or dropped.
+///
+/// What is written stands in an overlay until [`Store::commit_all`] makes it safe in one commit or
+/// [`Store::abandon`] drops it. A commit that fails stops the store: from then on every call of the pages answers
+/// `Stopped`, and the store is to be opened again.
+#[derive(Drop)]
+pub struct Store<'d, D: Disk> {
+    pub(crate) alloc: Global,
+    pub(crate) disk: &'d mut D,
+    // pages written since the last commit
+    pub(crate) overlay: BTreeMap<u32, Box<Page>>,
+    // page 0 as it stands, and as it was committed last
+    pub(crate) current: Superblock,
+    pub(crate) last: Superblock,
+    pub(crate) asked: Vec<u32>,
+    pub(crate) refused: u64,
+    pub(crate) stopped: bool,
+    ghost current_first: { current.first_free < current.counted },
+    ghost last_first: { last.first_free < last.counted },
+    ghost few: { length overlay.entries < 2 ^ 32 - 1 },
+    ghost sized: { IsSized overlay },
+    ghost ready: { IsTrue D.tells → stopped ≡ false → IsCommitted last (D.world disk.now) },
+}
+
+impl<'d, D: Disk> Store<'d, D> {
+    /// Recovers the journal and reads page 0. `cache` is the number of pages that a cache may hold; there is none yet.
+    ///
+    /// Refuses as [`look`] does.
+    pub fn open(alloc: Global, disk: &'d mut D, _cache: u32) -> Result<Store<'d, D>, OpenFault>
+        ensures same_loan { IfOk result (λ store. store.disk.ghost_name ≡ disk.entry.ghost_name) }
+
+        // A crash at any moment leaves what a crash could leave as the call began, or what stands for the same pages.
+        ensures any_moment { IsTrue D.tells → IfOk result (λ store. LeavesOnly (D.world disk.old) (D.world store.disk.now) (StandsAlike (D.world disk.old))) }
+        ensures quiet { IsTrue D.tells → IfOk result (λ store. SaysNothingReadsHead (D.world disk.old) (D.world store.disk.now)) }
+        ensures faults { IfOk result (λ store. (D.world disk.old).faults ≤ (D.world store.disk.now).faults) }
+        ensures sink { IfOk result (λ store. (D.world store.disk.now).sink_faults ≡ (D.world disk.old).sink_faults) }
+        ensures room { IfOk result (λ store. D.room_of store.disk.now ≡ D.room_of disk.old) }
+
+        ensures opened { IsTrue D.tells → IfOk result (λ store. IsOpened store.last (D.world disk.old) (D.world store.disk.now)) }
+        ensures clean { IfOk result (λ store. (store.overlay.entries ≡ []) × (store.current ≡ store.last)) }
+        ensures fresh { IfOk result (λ store. (store.asked.items ≡ []) × (store.refused ≡ 0) × (store.stopped ≡ false)) }
+        ensures not_a_store { IsTrue D.tells → IsErrOf result OpenFault.NotAStore → IsNoStore heads.NotAStore (D.world disk.old).seen }
+        ensures damaged { (damage : Damage) → IsErrOf result (OpenFault.Damaged damage)
+            → (damage ≡ head_damage) × (IsTrue D.tells → IsNoStore heads.Broken (D.world disk.old).seen) }
+        ensures bad { IsTrue D.tells → (at : ℕ) → IsErrOf result (OpenFault.BadJournal at) → IsBad (D.world disk.old).seen at }
+        ensures memory { result ≢ Err OpenFault.Memory }
+    {
+        let block = look(&mut *disk)?;
+        Ok(Store::over(alloc, disk, block))
+    }
+
+    /// The store over a disk that [`look`] has answered this superblock of.
+    pub fn over(alloc: Global, disk: &'d mut D, block: Superblock) -> Store<'d, D>
+        requires in_range { block.first_free < block.counted }
+        requires committed { IsTrue D.tells → IsCommitted block (D.world disk.old) }
+        ensures same_loan { result.disk.ghost_name ≡ disk.entry.ghost_name }
+        ensures disk { result.disk.now ≡ disk.old }
+        ensures block { result.last ≡ block }
+        ensures clean { (result.overlay.entries ≡ []) × (result.current ≡ result.last) }
+        ensures fresh { (result.asked.items ≡ []) × (result.refused ≡ 0) × (result.stopped ≡ false) }
+    {
+        Store {
+            alloc,
+            disk,
+            overlay: BTreeMap::new(alloc),
+            current: block,
+            last: block,
+            asked: Vec::new(alloc),
+            refused: 0,
+            stopped: false,
+        }
+    }
+
+    /// Gives the loan back.
+    pub fn into_disk(self) -> &'d mut D
+        ensures same_loan { result.ghost_name ≡ self.entry.disk.ghost_name }
+        ensures disk { result.now ≡ self.entry.disk.now }
+    {
+        let Store {
+            alloc: _,
+            disk,
+            overlay: _,
+            current: _,
+            last: _,
+            asked: _,
+            refused: _,
+            stopped: _,
+        } = self;
+        disk
+    }
+
+    /// The head as it stands, with what `set_head` gave since the last commit.
+    pub fn head(&self) -> Head
+        ensures { result ≡ self.now.current.head }
+    {
+        self.current.head
+    }
+
+    /// Puts the head in the place of the one that stands. It is made safe by the next commit.
+    pub fn set_head(&mut self, head: &Head)
+        ensures current { self.new.current ≡ record self.old.current { head = head.now } }
+        ensures last { self.new.last ≡ self.old.last }
+        ensures overlay { self.new.overlay ≡ self.old.overlay }
+        ensures disk { self.new.disk ≡ self.old.disk }
+        ensures log { self.new.asked.items ≡ self.old.asked.items }
+        ensures refused { self.new.refused ≡ self.old.refused }
+        ensures stopped { self.new.stopped ≡ self.old.stopped }
+    {
+        self.current.head = *head;
+    }
+
+    /// The pages given to `read` since `clear_log`, the last one last.
+    pub fn read_log(&self) -> &[u32]
+        ensures { result.now ≡ self.now.asked.items }
+    {
+        &self.asked
+    }
+
+    /// Empties the log of reads.
+    pub fn clear_log(&mut self)
+        ensures log { self.new.asked.items ≡ [] }
+        ensures current { self.new.current ≡ self.old.current }
+        ensures last { self.new.last ≡ self.old.last }
+        ensures overlay { self.new.overlay ≡ self.old.overlay }
+        ensures disk { self.new.disk ≡ self.old.disk }
+        ensures refused { self.new.refused ≡ self.old.refused }
+        ensures stopped { self.new.stopped ≡ self.old.stopped }
+    {
+        self.asked.clear();
+    }
+}
+
+impl<'d, D: Station> Store<'d, D> {
+    /// Passes a piece, which isn't empty, to the station, and changes nothing else.
+    pub fn say(&mut self, bytes: &[u8]) -> Result<usize, Failed>
+        requires { 0 < length bytes.now }
+        ensures same_loan { self.new.disk.ghost_name ≡ self.old.disk.ghost_name }
+        ensures count { IfOk result (λ n. (0 < n) × (n ≤ length bytes.now)) }
+        ensures told { IsTrue D.tells → HasSaid bytes.now (D.world self.old.disk.now) (D.world self.new.disk.now) result }
+        ensures cause { HasSinkCause (D.world self.old.disk.now) (D.world self.new.disk.now) result }
+        ensures room { D.room_of self.new.disk.now ≡ D.room_of self.old.disk.now }
+        ensures current { self.new.current ≡ self.old.current }
+        ensures last { self.new.last ≡ self.old.last }
+        ensures overlay { self.new.overlay ≡ self.old.overlay }
+        ensures log { self.new.asked.items ≡ self.old.asked.items }
+        ensures refused { self.new.refused ≡ self.old.refused }
+        ensures stopped { self.new.stopped ≡ self.old.stopped }
+    {
+        self.disk.say(bytes)
+    }
+}
