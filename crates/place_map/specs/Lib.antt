@@ -1,0 +1,4 @@
+pub mod Answer
+pub mod Hit
+pub mod State
+pub mod Update

@@ -1,0 +1,62 @@
+// Hits, their order, and lists of them.
+ghost use Rattle.std.specs.Prelude.{◌≡◌};
+ghost use Rattle.place_map.specs.Hit.{hit_cmp, comes_before};
+
+use spatial_base::{Key, Point};
+use std::cmp::Ordering;
+use std::marker::Model;
+
+/// A place that an answer has, and how it was ranked.
+///
+/// Hits are ordered by cost, then by key; no two places of a state share a key, so the other fields never decide.
+#[derive(Clone, Copy, Debug, PartialEq, Eq, PartialOrd, Ord)]
+pub struct Hit {
+    /// What the place costs; of a nearest query, its distance.
+    pub cost: u64,
+    /// The place's key.
+    pub key: Key,
+    /// The distance to the query's point, in degrees times 10^7.
+    pub dist: u64,
+    /// The weight of the query's words that the place holds.
+    pub text: u32,
+    /// Where the place is.
+    pub point: Point,
+}
+
+/// A list of hits, which contracts see as a list.
+#[derive(Drop)]
+pub struct Hits {
+    list: Vec<Hit>,
+}
+
+impl Model for Hits {
+    ghost use Rattle.std.specs.Prelude.{List};
+    ghost use Rattle.place_map.specs.declared.hit.Hit.{Hit};
+
+    ghost Value = { List Hit };
+
+    ghost view = { λ h. h.list.items };
+}
+
+impl Hits {
+    /// The list with these hits. It takes no memory.
+    pub fn from_vec(list: Vec<Hit>) -> Hits
+        ensures { result ≡ list.items }
+    {
+        Hits { list }
+    }
+
+    /// The hits, in order.
+    pub fn as_slice(&self) -> &[Hit]
+        ensures { result.now ≡ self.now }
+    {
+        &self.list
+    }
+}
+
+/// Whether a hit comes before another, by cost and then by key.
+pub(crate) fn is_before(a: &Hit, b: &Hit) -> bool
+    ensures { result ≡ comes_before a.now b.now }
+{
+    a.cmp(b).is_lt()
+}

@@ -1,0 +1,19 @@
+//! The map of live places: states, their updates, and the answers that scanning the whole map gives.
+//!
+//! A state is a finite map from keys to places, with a next serial and an update number. `State::apply` is the
+//! effect of an update, and `State::answer` filters, orders and cuts the places as the definitions in `specs/`
+//! say. Searches that open little prove against the same definitions.
+#![tactic(auto)]
+
+mod best;
+mod hit;
+mod place;
+mod query;
+mod state;
+mod update;
+
+pub use hit::{Hit, Hits};
+pub use place::Place;
+pub use query::{Answer, Query};
+pub use state::{NUMBER_MAX, PLACES_MAX, State};
+pub use update::{Applied, Update, UpdateFault};

@@ -1,0 +1,159 @@
+// The map of live places.
+ghost use Rattle.std.specs.Prelude.{◌≡◌, ◌≤◌, ◌+◌, ◌^◌, length, IfOk};
+ghost use Rattle.place_map.specs.State.{opening};
+ghost use Rattle.place_map.specs.Update.{Gives, effect_of, put_at, removed_at, key_for, serial_after};
+ghost use Rattle.place_map.specs.Answer.{answer_of};
+
+use crate::{Answer, Applied, Hits, Place, Query, Update, UpdateFault, best};
+use spatial_base::{Key, Memory};
+use std::alloc::Global;
+use std::collections::BTreeMap;
+use std::marker::Model;
+
+/// The greatest number of live places at which a new key is accepted is one less.
+pub const PLACES_MAX: usize = 200_000;
+
+/// The update number at which no further change is accepted.
+pub const NUMBER_MAX: u64 = 1 << 40;
+
+/// The live places by key, the next serial and the update number.
+///
+/// Contracts see it as a record: the list of keys and places in the keys' order, and the two numbers. The next serial
+/// is at most the update number plus 1.
+#[derive(Drop)]
+pub struct State {
+    alloc: Global,
+    places: BTreeMap<Key, Place>,
+    serial: u64,
+    number: u64,
+}
+
+impl Model for State {
+    ghost use Rattle.std.specs.Prelude.{◌≤◌, ◌<◌, ◌+◌, ◌^◌, length};
+    ghost use Rattle.place_map.specs.State.{Contents};
+
+    ghost Value = { Contents };
+
+    ghost view = { λ s. record { places = s.places.entries; serial = s.serial; number = s.number } };
+
+    ghost invariant = { λ s. (length s.places.entries < 2 ^ 32) × (s.serial ≤ s.number + 1) × (s.number ≤ 2 ^ 40) };
+}
+
+impl State {
+    /// The state with no place, next serial 1 and update number 0. It takes no memory.
+    pub fn new(alloc: Global) -> State
+        ensures { result ≡ opening }
+    {
+        State::with_number(alloc, 0)
+    }
+
+    /// The state with no place, next serial 1 and this update number, which is at most 2^40.
+    pub fn with_number(alloc: Global, number: u64) -> State
+        requires { number ≤ 2 ^ 40 }
+        ensures { result ≡ record opening { number = number } }
+    {
+        State {
+            alloc,
+            places: BTreeMap::new(alloc),
+            serial: 1,
+            number,
+        }
+    }
+
+    /// How many places live.
+    pub fn count(&self) -> u32
+        ensures { result ≡ length self.now.places }
+    {
+        self.places.len() as u32
+    }
+
+    /// The update number: how many updates have changed the map.
+    pub fn number(&self) -> u64
+        ensures value { result ≡ self.now.number }
+        ensures most { result ≤ 2 ^ 40 }
+    {
+        self.number
+    }
+
+    /// Changes the map by one update. It looks the key up once, or twice where 200,000 places live.
+    ///
+    /// Refuses `Full` exactly where 200,000 or more places live and the key is new, else `Worn` exactly where the update
+    /// number is 2^40 and the update would change the map; `Memory` may come instead of any answer. After a refusal
+    /// the state is as before.
+    pub fn apply(&mut self, update: Update) -> Result<Applied, UpdateFault>
+        ensures { Gives self.old (effect_of self.old update) self.new result }
+    {
+        match update {
+            Update::Put { key, point, words } => {
+                let (key, serial) = self.named(key);
+                self.put(key, serial, Place { point, words })
+            }
+            Update::Remove { key } => self.remove(&key),
+        }
+    }
+
+    // The key under which a place is put, and the next serial then.
+    fn named(&self, key: Option<Key>) -> (Key, u64)
+        ensures key { result.0 ≡ key_for self.now key }
+        ensures serial { result.1 ≡ serial_after self.now key }
+        ensures few { result.1 ≤ self.now.number + 2 }
+    {
+        match key {
+            Some(key) => (key, self.serial),
+            None => (Key::auto(self.serial), self.serial + 1),
+        }
+    }
+
+    // Puts a place at a key, and leaves this next serial.
+    fn put(&mut self, key: Key, serial: u64, place: Place) -> Result<Applied, UpdateFault>
+        requires { serial ≤ self.old.number + 2 }
+        ensures { Gives self.old (put_at self.old key serial place) self.new result }
+    {
+        if self.places.len() >= PLACES_MAX && !self.places.contains_key(&key) {
+            return Err(UpdateFault::Full);
+        }
+        if self.number == NUMBER_MAX {
+            return Err(UpdateFault::Worn);
+        }
+        let old = self.places.insert(key, place)?;
+        self.serial = serial;
+        self.number += 1;
+        Ok(if old.is_some() {
+            Applied::Replaced
+        } else {
+            Applied::New
+        })
+    }
+
+    // Takes a key out.
+    fn remove(&mut self, key: &Key) -> Result<Applied, UpdateFault>
+        ensures { Gives self.old (removed_at self.old key.now) self.new result }
+    {
+        if self.number == NUMBER_MAX {
+            return if self.places.contains_key(key) {
+                Err(UpdateFault::Worn)
+            } else {
+                Ok(Applied::Absent)
+            };
+        }
+        if self.places.remove(key).is_none() {
+            return Ok(Applied::Absent);
+        }
+        self.number += 1;
+        Ok(Applied::Gone)
+    }
+
+    /// The answer to a query, by a scan that keeps the best `k` hits: one distance for each live place.
+    ///
+    /// Refuses `Memory` alone.
+    pub fn answer(&self, query: &Query) -> Result<Answer, Memory>
+        ensures { IfOk result (λ answer. answer ≡ answer_of self.now query.now) }
+    {
+        match query {
+            Query::Nearest { at, k } => {
+                let hits = best::nearest(self.alloc, &self.places, at, *k).map_err(|_| Memory)?;
+                Ok(Answer::Hits(Hits::from_vec(hits)))
+            }
+        }
+    }
+}
