@@ -1,0 +1,14 @@
+use Rattle.std.proofs.Common.{rules, ap}
+use Rattle.byte_source.specs.MemorySource.{Held}
+use Rattle.byte_source.proofs.Pieces.{piece_given}
+use Rattle.byte_source.proofs.memory_source.MemorySourceSource.read.Goals as goal
+
+pub returns-clause-told : goal.returns-clause-told
+returns-clause-told c =
+    piece_given c.self.inside.bytes.items c.copy_from_slice.new.self c.args.buf.now c.args.self.now.left c.self.inside.at c.min-n.result c.self.inside.piece
+    (search rules)
+    (search rules)
+    (ap (λ (held : Held). held.left) c.self.view_is)
+    (search rules)
+    c.requires
+    c.self.invariant.1

@@ -1,0 +1,2 @@
+pub mod MemorySource
+pub mod Source
