@@ -1,0 +1,140 @@
+// A disk in memory that ends with the run, and standard output.
+ghost use Rattle.std.specs.Prelude.{◌≤◌, ◌<◌, ◌^◌, ◌+◌, false, length, IfOk, IfSome};
+ghost use Rattle.disk_model.specs.World.{HasDiskCause, HasSinkCause};
+ghost use Rattle.std.proofs.Common.{rules};
+ghost use Rattle.irtree_cli.specs.Untold.{untold};
+
+use disk_model::{Area, Disk, Failed, Station};
+use std::alloc::{AllocError, Global};
+use std::io::{ErrorKind, Write};
+use std::rt::Stdout;
+
+/// The number of pages that the area Pages may have.
+const ROOM: u32 = 262_144;
+
+/// Both areas in memory, and standard output as the sink. It tells no content; each call that fails raises the count of
+/// its kind, and so does a growth that finds no memory.
+#[derive(Drop)]
+pub struct ScratchStation {
+    pages: Vec<u8>,
+    journal: Vec<u8>,
+    output: Stdout,
+    faults: u64,
+    sink_faults: u64,
+}
+
+impl ScratchStation {
+    /// Empty areas.
+    pub fn new(alloc: Global, output: Stdout) -> ScratchStation {
+        ScratchStation {
+            pages: Vec::new(alloc),
+            journal: Vec::new(alloc),
+            output,
+            faults: 0,
+            sink_faults: 0,
+        }
+    }
+}
+
+// The bytes from a place on, zeros past the end.
+fn copy_out(kept: &[u8], at: usize, buf: &mut [u8]) {
+    buf.fill(0);
+    if at < kept.len() {
+        let len = buf.len().min(kept.len() - at);
+        buf[..len].copy_from_slice(&kept[at..at + len]);
+    }
+}
+
+// Puts the bytes at a place, behind zeros where the area ends before it.
+fn copy_in(kept: &mut Vec<u8>, at: usize, bytes: &[u8]) -> Result<(), AllocError>
+    requires { at + length bytes.now < 2 ^ 48 }
+{
+    let end = at + bytes.len();
+    if kept.len() < end {
+        kept.resize(end, 0)?;
+    }
+    kept[at..end].copy_from_slice(bytes);
+    Ok(())
+}
+
+// One write of at least a byte, begun anew where a signal interrupts it; None where it fails or takes nothing.
+fn write_some(output: &mut Stdout, bytes: &[u8]) -> Option<usize>
+    ensures { IfSome result (λ n. (0 < n) × (n ≤ length bytes.now)) }
+{
+    for _ in 0..u64::MAX {
+        match output.write(bytes) {
+            Ok(0) => return None,
+            Ok(n) => return Some(n),
+            Err(error) if error.kind() == ErrorKind::Interrupted => {}
+            Err(_) => return None,
+        }
+    }
+    None
+}
+
+impl Disk for ScratchStation {
+    ghost tells = { false };
+
+    ghost world = { λ station. untold station.faults station.sink_faults };
+
+    ghost room_of = { λ station. 262144 };
+
+    ghost leaves_seen = { λ station told. Prim.search rules };
+
+    ghost counts_now = { λ station t image told. Prim.search rules };
+
+    ghost only_now = { λ station image said told. Prim.search rules };
+
+    fn room(&self) -> u32 {
+        ROOM
+    }
+
+    fn read(&mut self, area: Area, at: u64, buf: &mut [u8]) -> Result<(), Failed>
+        requires { at + length buf.old < 2 ^ 48 }
+        ensures cause { HasDiskCause (untold self.old.faults self.old.sink_faults) (untold self.new.faults self.new.sink_faults) result }
+    {
+        match area {
+            Area::Pages => copy_out(&self.pages, at as usize, buf),
+            Area::Journal => copy_out(&self.journal, at as usize, buf),
+        }
+        Ok(())
+    }
+
+    fn write(&mut self, area: Area, at: u64, bytes: &[u8]) -> Result<(), Failed>
+        requires { at + length bytes.now < 2 ^ 48 }
+        ensures cause { HasDiskCause (untold self.old.faults self.old.sink_faults) (untold self.new.faults self.new.sink_faults) result }
+    {
+        let written = match area {
+            Area::Pages => copy_in(&mut self.pages, at as usize, bytes),
+            Area::Journal => copy_in(&mut self.journal, at as usize, bytes),
+        };
+        match written {
+            Ok(()) => Ok(()),
+            Err(_) => {
+                self.faults = self.faults.saturating_add(1);
+                Err(Failed)
+            }
+        }
+    }
+
+    // It ends with the run, so nothing is to be made safe.
+    fn sync(&mut self, _area: Area) -> Result<(), Failed> {
+        Ok(())
+    }
+}
+
+impl Station for ScratchStation {
+    fn say(&mut self, bytes: &[u8]) -> Result<usize, Failed>
+        requires { 0 < length bytes.now }
+        ensures count { IfOk result (λ n. (0 < n) × (n ≤ length bytes.now)) }
+        ensures cause { HasSinkCause (untold self.old.faults self.old.sink_faults) (untold self.new.faults self.new.sink_faults) result }
+    {
+        match write_some(&mut self.output, bytes) {
+            Some(n) => Ok(n),
+            None => {
+                self.sink_faults = self.sink_faults.saturating_add(1);
+                Err(Failed)
+            }
+        }
+    }
+}
