@@ -1,3 +1,5 @@
+pub mod Crashes
 pub mod Moments
+mod Pieces
 pub mod Replays
 mod Results

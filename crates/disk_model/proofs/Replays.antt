@@ -1,7 +1,7 @@
 -- What one more call does to the world of a station in memory.
-use Rattle.std.proofs.Common.{◌≡◌, ◌⊎◌, inl, inr, ⊎_elim, ℕ, zero, suc, ◌+◌, ◌-◌, ◌<◌, ◌≤◌, Bool, true, false, cond, ◌&&◌, nat_le, nat_lt, List, [], ◌∷◌, ◌++◌, length, take, slice_index, get_or, refl, sym, ◌∙◌, ap, subst, arith, Result, Ok, Err, OnOk, OnErr, Vec, length-append}
+use Rattle.std.proofs.Common.{◌≡◌, ◌⊎◌, inl, inr, ⊎_elim, ℕ, zero, suc, ◌+◌, ◌-◌, ◌<◌, ◌≤◌, Bool, true, false, cond, ◌&&◌, nat_le, nat_lt, List, [], ◌∷◌, ◌++◌, length, slice_index, refl, sym, ◌∙◌, ap, subst, arith, Result, Ok, Err, OnOk, OnErr, Vec, length-append}
 use Rattle.std.proofs.lemmas.Bool.{cases_Bool, cond-true, cond-false, and_from, and_left, and_right, le-leb, lt-ltb, le-ltb, lt-leb, cases_lt}
-use Rattle.std.proofs.lemmas.List.{append-nil, take_more, take_all}
+use Rattle.std.proofs.lemmas.List.{append-nil}
 use mathlib.Core.Path.{fun_ext}
 use Rattle.std.specs.declared.alloc.Global.{Global}
 use Rattle.disk_model.specs.declared.disk.Area.{Area}
@@ -10,7 +10,7 @@ use Rattle.disk_model.specs.declared.disk.Failed.{Failed}
 use Rattle.disk_model.specs.declared.call.Call.{Call}
 use Rattle.disk_model.specs.declared.call.Call.TheVariants as calls
 use Rattle.disk_model.specs.World.{Image, Range, Torn, TornFrom, Written, Reads, Elapses, Nothing, HasRead, HasWritten, HasSynced, HasSaid}
-use Rattle.disk_model.specs.Stored.{stored, with_area, Put}
+use Rattle.disk_model.specs.Stored.{stored, Put}
 use Rattle.disk_model.specs.Replay.{same_area, covers, IsFree, State, MayLeave, overwritten, others, range_of, step, replay, During, Since, reads_in, world_of, counts_now}
 
 pub replay-more : (st : State) (made : List Call) (call : Call) → replay st (made ++ call ∷ []) ≡ step (replay st made) call
@@ -55,7 +55,7 @@ same_self : (area : Area) → same_area area area ≡ true
 same_self Pages = refl
 same_self Journal = refl
 
-same_true : (a b : Area) → same_area a b ≡ true → b ≡ a
+pub same_true : (a b : Area) → same_area a b ≡ true → b ≡ a
 same_true Pages Pages e = refl
 same_true Journal Journal e = refl
 same_true Pages Journal e = cc
@@ -74,7 +74,7 @@ covers_out area a at len i out =
 covers_in : (area : Area) (at len i : ℕ) → at ≤ i → i < at + len → covers (range_of area at len) area i ≡ true
 covers_in area at len i low high = and_from _ _ (same_self area) (and_from _ _ (le-leb at i low) (lt-ltb i (at + len) high))
 
-others_free : (area : Area) (i : ℕ) (ranges : List Range) → IsFree (others area ranges) area i
+pub others_free : (area : Area) (i : ℕ) (ranges : List Range) → IsFree (others area ranges) area i
 others_free area i [] = tt
 others_free area i (r ∷ ranges) = ⊎_elim
     (λ (t : same_area r.area area ≡ true). subst (λ (l : List Range). IsFree l area i) (sym (cond-true _ _ _ t)) (others_free area i ranges))
@@ -90,7 +90,7 @@ others_fewer area a i (r ∷ ranges) free = ⊎_elim
 
 -- the range joins those that are pending
 abbrev torn_state : Range → State → State
-torn_state r st = record { seen = st.seen; pending = r ∷ st.pending; said = st.said }
+torn_state r st = record st { pending = r ∷ st.pending }
 
 torn_from : (st : State) (area : Area) (at len : ℕ) (image : Image) → MayLeave (torn_state (range_of area at len) st) image → TornFrom area at len (MayLeave st) image
 torn_from st area at len image may =
@@ -368,58 +368,7 @@ put_journal pages journal new bytes area at is p =
     let each : (a : Area) (i : ℕ) → stored pages new a i ≡ overwritten (range_of Journal at (length bytes)) bytes (stored pages journal) a i = elim [ Pages ↦ λ i. refl | Journal ↦ λ i. put_at Journal at i bytes journal new p ] in
     fun_ext (λ a. fun_ext (each a)) ∙ ap (λ (r : Area). overwritten (range_of r at (length bytes)) bytes (stored pages journal)) (sym is)
 
--- ---- what a crash leaves, followed call by call
-
-out_of : (area a : Area) (at len i : ℕ) → covers (range_of area at len) a i ≡ false → a ≡ area → (i < at) ⊎ (at + len ≤ i)
-out_of area a at len i free is = ⊎_elim inl (λ (h : at ≤ i). ⊎_elim
-    (λ (l : i < at + len). let yes_in = covers_in area at len i h l in let no_in = subst (λ (x : Area). covers (range_of area at len) x i ≡ false) is free in cc)
-    inr (cases_lt i (at + len))) (cases_lt i at)
-
-others_back : (area a : Area) (i : ℕ) (ranges : List Range) → same_area area a ≡ false → IsFree (others area ranges) a i → IsFree ranges a i
-others_back area a i [] apart free = tt
-others_back area a i (r ∷ ranges) apart free = ⊎_elim
-    (λ (t : same_area r.area area ≡ true).
-    let here : same_area r.area a ≡ false = subst (λ (x : Area). same_area x a ≡ false) (same_true r.area area t) apart in
-    (and_left (same_area r.area a) (nat_le r.at i && nat_lt i (r.at + r.len)) here, others_back area a i ranges apart (subst (λ (l : List Range). IsFree l a i) (cond-true _ _ _ t) free)))
-    (λ (f : same_area r.area area ≡ false).
-    let both : IsFree (r ∷ others area ranges) a i = subst (λ (l : List Range). IsFree l a i) (cond-false _ _ _ f) free in
-    (both.0, others_back area a i ranges apart both.1))
-    (cases_Bool (same_area r.area area))
-
-pub followed_write : (st : State) (call : Call) (area : Area) (at : ℕ) (bytes : Vec ℕ Global) (done : Bool) (held held2 left left2 : Image) → call ≡ calls.Write area at bytes done
-    → held2 ≡ cond done (overwritten (range_of area at (length bytes.items)) bytes.items held) held → Torn area at (length bytes.items) left left2
-    → st.seen ≡ held → MayLeave st left → ((step st call).seen ≡ held2) × MayLeave (step st call) left2
-followed_write st call area at bytes done held held2 left left2 is written torn seen may =
-    let r = range_of area at (length bytes.items) in
-    let new : (step st (calls.Write area at bytes done)).seen ≡ held2 = ap (λ (s : Image). cond done (overwritten r bytes.items s) s) seen ∙ sym written in
-    let keeps : (a : Area) (i : ℕ) → covers r a i ≡ false → (step st (calls.Write area at bytes done)).seen a i ≡ st.seen a i = λ a i free. kept st area at bytes done a i free in
-    let leaves : MayLeave (step st (calls.Write area at bytes done)) left2 = λ a i free.
-    torn.same a i (out_of area a at (length bytes.items) i free.0) ∙ may a i free.1 ∙ sym (keeps a i free.0) in
-    subst (λ (c : Call). ((step st c).seen ≡ held2) × MayLeave (step st c) left2) (sym is) (new, leaves)
-  where
-    kept : (st : State) (area : Area) (at : ℕ) (bytes : Vec ℕ Global) (done : Bool) (a : Area) (i : ℕ) → covers (range_of area at (length bytes.items)) a i ≡ false
-        → (step st (calls.Write area at bytes done)).seen a i ≡ st.seen a i
-    kept st area at bytes true a i free = cond-false _ _ _ free
-    kept st area at bytes false a i free = refl
-
--- a sync that succeeded, of which what a crash leaves takes the area over from what is held
-pub followed_sync : (st : State) (call : Call) (area : Area) (done : Bool) (held left left2 : Image) → call ≡ calls.Sync area done → done ≡ true → left2 ≡ with_area area held left
-    → st.seen ≡ held → MayLeave st left → ((step st call).seen ≡ held) × MayLeave (step st call) left2
-followed_sync st call area done held left left2 is is_done taken seen may =
-    let is_sync : call ≡ calls.Sync area true = is ∙ ap (λ (b : Bool). calls.Sync area b) is_done in
-    let leaves : (a : Area) (i : ℕ) → IsFree (others area st.pending) a i → with_area area held left a i ≡ st.seen a i = λ a i free. ⊎_elim
-    (λ (t : same_area area a ≡ true). cond-true _ _ _ t ∙ sym (ap (λ (m : Image). m a i) seen))
-    (λ (f : same_area area a ≡ false). cond-false _ _ _ f ∙ may a i (others_back area a i st.pending f free))
-    (cases_Bool (same_area area a)) in
-    subst (λ (c : Call). ((step st c).seen ≡ held) × MayLeave (step st c) left2) (sym is_sync)
-    (seen, λ a i free. ap (λ (m : Image). m a i) taken ∙ leaves a i free)
-
-pub follow_more : (first : State) (made : List Call) (k : ℕ) (call : Call) → k < length made → call ≡ get_or made k call → replay first (take (k + 1) made) ≡ step (replay first (take k made)) call
-follow_more first made k call lt is =
-    ap (λ (l : List Call). replay first l) (take_more made k call lt ∙ ap (λ (c : Call). take k made ++ c ∷ []) (sym is)) ∙ replay-more first (take k made) call
-
-pub all_followed : (first : State) (made : List Call) (k : ℕ) (image : Image) → length made ≤ k → MayLeave (replay first (take k made)) image → MayLeave (replay first made) image
-all_followed first made k image le may = subst (λ (l : List Call). MayLeave (replay first l) image) (take_all k made le) may
+-- ---- a station that was just made
 
 -- with no call made and nothing pending at first, a crash leaves what reads give
 pub safe_at_first : (first : State) (made : List Call) → made ≡ [] → first.pending ≡ [] → (image : Image) → MayLeave (replay first made) image → image ≡ (replay first made).seen

@@ -22,10 +22,11 @@ abbrev pub IsFree : List Range → Area → ℕ → Type 0
 IsFree [] area i = Unit {0}
 IsFree (r ∷ ranges) area i = (covers r area i ≡ false) × IsFree ranges area i
 
--- what is read, the ranges written since the last sync of their area, and what was said
+-- what is read, the ranges written since the last sync of their area, each area as it was read at its last sync, and what was said
 pub record State : Type 0 where
   pub seen : Image
   pub pending : List Range
+  pub safe : Image
   pub said : List ℕ
 
 -- Each pending range may hold any bytes.
@@ -45,6 +46,10 @@ others area (r ∷ ranges) = cond (same_area r.area area) (others area ranges) (
 abbrev pub range_of : Area → ℕ → ℕ → Range
 range_of area at len = record { area = area; at = at; len = len }
 
+-- the image with an area taken over from another
+abbrev pub with_area : Area → Image → Image → Image
+with_area area from to a i = cond (same_area area a) (from a i) (to a i)
+
 -- what a call leaves
 abbrev pub step : State → Call → State
 step st (calls.Read area at len) = st
@@ -52,10 +57,17 @@ step st (calls.Write area at bytes done) =
     record {
       seen = cond done (overwritten (range_of area at (length bytes.items)) bytes.items st.seen) st.seen;
       pending = range_of area at (length bytes.items) ∷ st.pending;
+      safe = st.safe;
       said = st.said;
     }
-step st (calls.Sync area done) = record { seen = st.seen; pending = cond done (others area st.pending) st.pending; said = st.said }
-step st (calls.Say piece taken) = record { seen = st.seen; pending = st.pending; said = st.said ++ take taken piece.items }
+step st (calls.Sync area done) =
+    record {
+      seen = st.seen;
+      pending = cond done (others area st.pending) st.pending;
+      safe = cond done (with_area area st.seen st.safe) st.safe;
+      said = st.said;
+    }
+step st (calls.Say piece taken) = record st { said = st.said ++ take taken piece.items }
 
 -- what a run of calls leaves
 abbrev pub replay : State → List Call → State
@@ -66,7 +78,7 @@ replay st (call ∷ later) = replay (step st call) later
 abbrev pub During : State → Call → Image → List ℕ → Type 0
 During st (calls.Read area at len) image said = MayLeave st image × (said ≡ st.said)
 During st (calls.Write area at bytes done) image said =
-    MayLeave (record { seen = st.seen; pending = range_of area at (length bytes.items) ∷ st.pending; said = st.said }) image × (said ≡ st.said)
+    MayLeave (record st { pending = range_of area at (length bytes.items) ∷ st.pending }) image × (said ≡ st.said)
 During st (calls.Sync area done) image said = MayLeave st image × (said ≡ st.said)
 During st (calls.Say piece taken) image said = MayLeave st image × ((n : ℕ) × (said ≡ st.said ++ take n piece.items))
 

@@ -1,10 +1,10 @@
 -- What the areas of a station in memory hold.
-use Rattle.std.specs.Prelude.{◌≡◌, ℕ, ◌+◌, ◌-◌, ◌<◌, ◌≤◌, List, [], length, slice_index, cond}
+use Rattle.std.specs.Prelude.{◌≡◌, ℕ, ◌+◌, ◌-◌, ◌<◌, ◌≤◌, List, [], length, slice_index}
 use Rattle.disk_model.specs.declared.areas.Areas.{Areas}
 use Rattle.disk_model.specs.declared.disk.Area.{Area}
 use Rattle.disk_model.specs.declared.disk.Area.TheVariants.{Pages, Journal}
 use Rattle.disk_model.specs.World.{Image}
-use Rattle.disk_model.specs.Replay.{State, same_area}
+use Rattle.disk_model.specs.Replay.{State}
 
 -- each area is a list of bytes, and zeros behind it
 abbrev pub stored : List ℕ → List ℕ → Image
@@ -20,21 +20,12 @@ abbrev pub bytes_of : Areas → Area → List ℕ
 bytes_of areas Pages = areas.pages.items
 bytes_of areas Journal = areas.journal.items
 
--- the image with an area taken over from another
-abbrev pub with_area : Area → Image → Image → Image
-with_area area from to a i = cond (same_area area a) (from a i) (to a i)
-
--- nothing pending and nothing said
+-- nothing pending, all of it safe, and nothing said
 abbrev pub first_state : Areas → State
-first_state areas = record { seen = image_of areas; pending = []; said = [] }
+first_state areas = record { seen = image_of areas; pending = []; safe = image_of areas; said = [] }
 
 -- new is old with these bytes at a place within it
 pub record Put (at : ℕ) (bytes old new : List ℕ) : Type 0 where
   pub below : (i : ℕ) → i < at → slice_index new i ≡ slice_index old i
   pub inside : (i : ℕ) → at ≤ i → i < at + length bytes → slice_index new i ≡ slice_index bytes (i - at)
   pub above : (i : ℕ) → at + length bytes ≤ i → slice_index new i ≡ slice_index old i
-
--- new is old but for a range
-pub record SameOutside (at len : ℕ) (old new : List ℕ) : Type 0 where
-  pub below : (i : ℕ) → i < at → slice_index new i ≡ slice_index old i
-  pub above : (i : ℕ) → at + len ≤ i → slice_index new i ≡ slice_index old i

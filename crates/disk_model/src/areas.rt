@@ -1,8 +1,8 @@
 //! The bytes of the two areas of a station in memory.
-ghost use Rattle.std.specs.Prelude.{◌≡◌, ◌≤◌, ◌<◌, ◌+◌, ◌-◌, [], ℕ, length, OnOk, IfOk, slice_index};
-ghost use Rattle.disk_model.specs.World.{Torn};
-ghost use Rattle.disk_model.specs.Replay.{overwritten, range_of};
-ghost use Rattle.disk_model.specs.Stored.{image_of, bytes_of, stored, with_area, Put, SameOutside};
+ghost use Rattle.std.specs.Prelude.{◌≡◌, ◌≤◌, ◌<◌, ◌+◌, ◌-◌, [], ◌∷◌, ℕ, length, OnOk, IfOk, slice_index, replicate};
+ghost use Rattle.disk_model.specs.Crash.{filled};
+ghost use Rattle.disk_model.specs.Replay.{overwritten, range_of, with_area};
+ghost use Rattle.disk_model.specs.Stored.{image_of, bytes_of, stored, Put};
 
 use crate::Area;
 use std::alloc::{AllocError, Global};
@@ -34,7 +34,7 @@ fn put(to: &mut Vec<u8>, at: usize, bytes: &[u8])
 
 fn fill(to: &mut Vec<u8>, at: usize, len: usize, byte: u8)
     requires { at + len ≤ length to.old.items }
-    ensures { SameOutside at len to.old.items to.new.items }
+    ensures { Put at (replicate len byte) to.old.items to.new.items }
 {
     to[at..at + len].fill(byte);
 }
@@ -124,7 +124,7 @@ impl Areas {
     // Fills a range within the bytes kept.
     pub(crate) fn fill(&mut self, area: Area, at: usize, len: usize, byte: u8)
         requires { at + len ≤ length (bytes_of self.old area) }
-        ensures { Torn area at len (image_of self.old) (image_of self.new) }
+        ensures { image_of self.new ≡ filled (range_of area at len ∷ []) byte (image_of self.old) }
     {
         match area {
             Area::Pages => fill(&mut self.pages, at, len, byte),

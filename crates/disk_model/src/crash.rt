@@ -1,6 +1,6 @@
 //! What a crash leaves of a station in memory.
 ghost use Rattle.std.specs.Prelude.{◌≡◌, ◌≤◌, ◌+◌, OnOk, IfOk, cond, length};
-ghost use Rattle.disk_model.specs.World.{Image, Torn};
+ghost use Rattle.disk_model.specs.Crash.{left_by, torn_by, torn_over};
 ghost use Rattle.disk_model.specs.Replay.{State, MayLeave, step, overwritten, range_of};
 ghost use Rattle.disk_model.specs.Stored.{image_of};
 
@@ -15,7 +15,7 @@ use std::alloc::{AllocError, Global};
 pub enum Tear {
     /// They hold what reads give.
     Kept,
-    /// They hold what they held at that sync.
+    /// They hold what they held at that sync, or at first.
     Lost,
     /// They hold this byte throughout.
     Filled(u8),
@@ -49,7 +49,7 @@ fn tear_write(
     len: usize,
     byte: Option<u8>,
 ) -> Result<(), AllocError>
-    ensures { OnOk result (Torn area at len (image_of left.old) (image_of left.new)) }
+    ensures { OnOk result (image_of left.new ≡ torn_over byte (range_of area at len) (image_of left.old)) }
 {
     let Some(byte) = byte else {
         return Ok(());
@@ -68,8 +68,8 @@ fn follow(
     held: &mut Areas,
     left: &mut Areas,
 ) -> Result<(), AllocError>
-    ensures { OnOk result ((st : State) → st.seen ≡ image_of held.old → MayLeave st (image_of left.old)
-        → ((step st call.now).seen ≡ image_of held.new) × MayLeave (step st call.now) (image_of left.new)) }
+    ensures { OnOk result ((st : State) → st.seen ≡ image_of held.old → torn_by byte st ≡ image_of left.old
+        → ((step st call.now).seen ≡ image_of held.new) × (torn_by byte (step st call.now) ≡ image_of left.new)) }
 {
     match call {
         Call::Write(area, at, bytes, done) => {
@@ -89,14 +89,13 @@ fn follow(
 
 impl MemoryStation {
     ghost use Rattle.disk_model.specs.Memory.{holds, state_of, IsFresh, room_in};
-    ghost use Rattle.disk_model.specs.declared.crash.Tear.TheVariants as tears;
 
     /// A station of the same room that holds one image that a crash may leave now: the ranges that are pending are
     /// kept, lost, or filled with one byte. Nothing is pending in it, nothing was said, no call is counted, and no
     /// call is to fail. The cost is that of the calls made.
     pub fn crashed(&self, tear: Tear) -> Result<MemoryStation, Memory>
         ensures may { IfOk result (λ station. MayLeave (state_of self.now) (holds station)) }
-        ensures kept { tear ≡ tears.Kept → IfOk result (λ station. holds station ≡ holds self.now) }
+        ensures left { IfOk result (λ station. holds station ≡ left_by tear (state_of self.now)) }
         ensures fresh { IfOk result IsFresh }
         ensures room { IfOk result (λ station. room_in station ≡ room_in self.now) }
     {
@@ -105,8 +104,7 @@ impl MemoryStation {
 
     // What a crash leaves of the station, as a station.
     fn after_crash(&self, tear: Tear) -> Result<MemoryStation, AllocError>
-        ensures may { IfOk result (λ station. MayLeave (state_of self.now) (holds station)) }
-        ensures kept { tear ≡ tears.Kept → IfOk result (λ station. holds station ≡ holds self.now) }
+        ensures left { IfOk result (λ station. holds station ≡ left_by tear (state_of self.now)) }
         ensures fresh { IfOk result IsFresh }
         ensures room { IfOk result (λ station. room_in station ≡ room_in self.now) }
     {
@@ -135,7 +133,7 @@ impl MemoryStation {
 
     // What the calls leave where the pending ranges are lost, or filled with a byte.
     fn torn(&self, byte: Option<u8>) -> Result<Areas, AllocError>
-        ensures { IfOk result (λ left. MayLeave (state_of self.now) (image_of left)) }
+        ensures { IfOk result (λ left. image_of left ≡ torn_by byte (state_of self.now)) }
     {
         let mut held = self.first.copy(self.alloc)?;
         let mut left = self.first.copy(self.alloc)?;

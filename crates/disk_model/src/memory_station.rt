@@ -1,6 +1,7 @@
 //! A station in memory. It keeps what it held at first and a record of its calls, from which its past is told.
 ghost use Rattle.std.specs.Prelude.{◌≡◌, ◌≤◌, ◌<◌, ◌+◌, ◌++◌, [], ◌∷◌, length, OnOk, OnErr, IfOk};
 ghost use Rattle.disk_model.specs.World.{LeavesOnlySeen, Rose};
+ghost use Rattle.disk_model.specs.Plan.{once_more};
 ghost use Rattle.disk_model.specs.Replay.{replay};
 ghost use Rattle.disk_model.specs.Stored.{image_of, stored, first_state};
 
@@ -15,7 +16,7 @@ use std::alloc::{AllocError, Global};
 /// gives what a crash may leave.
 ///
 /// A call fails exactly where it is a listed one, comes after the stop, or finds no memory for the record of calls.
-/// Each failure is counted.
+/// Each failure is counted. The record keeps what was written and said, so the memory grows by that.
 #[derive(Drop)]
 pub struct MemoryStation {
     pub(crate) alloc: Global,
@@ -51,6 +52,7 @@ fn append(said: &mut Vec<u8>, bytes: &[u8]) -> Result<(), AllocError>
 
 // Counts a fault.
 fn failing(faults: &mut u64) -> Failed
+    ensures counted { faults.new ≡ once_more faults.old }
     ensures rose { Rose faults.old faults.new }
     ensures later { faults.old ≤ faults.new }
 {
@@ -61,6 +63,7 @@ fn failing(faults: &mut u64) -> Failed
 // Counts a fault for want of memory.
 fn lacking(lacks: &mut u64, faults: &mut u64) -> Failed
     ensures lacks { Rose lacks.old lacks.new }
+    ensures counted { faults.new ≡ once_more faults.old }
     ensures rose { Rose faults.old faults.new }
     ensures later { faults.old ≤ faults.new }
 {
@@ -69,7 +72,7 @@ fn lacking(lacks: &mut u64, faults: &mut u64) -> Failed
 }
 
 impl MemoryStation {
-    ghost use Rattle.disk_model.specs.Memory.{holds, state_of, memory_world, said_of, faults_of, lacks_of, plan_of, listed_of, IsFresh, room_in};
+    ghost use Rattle.disk_model.specs.Memory.{holds, state_of, past_of, memory_world, said_of, faults_of, lacks_of, plan_of, listed_of, IsFresh, room_in};
     ghost use Rattle.disk_model.specs.Plan.{calls_of};
 
     /// A station whose areas are zeros, with room for so many pages. Nothing was said, and no call is to fail.
@@ -170,6 +173,7 @@ impl MemoryStation {
     /// takes the place of the first.
     pub fn stop_after(&mut self, calls: u64)
         ensures stop { plan_of self.new ≡ record (plan_of self.old) { stop = Some calls } }
+        ensures past { past_of self.new ≡ past_of self.old }
         ensures same { state_of self.new ≡ state_of self.old }
         ensures safe { LeavesOnlySeen (memory_world self.old) → LeavesOnlySeen (memory_world self.new) }
         ensures faults { faults_of self.new ≡ faults_of self.old }
@@ -187,6 +191,7 @@ impl MemoryStation {
         ensures stop { (plan_of self.new).stop ≡ (plan_of self.old).stop }
         ensures reads { (plan_of self.new).reads ≡ (plan_of self.old).reads }
         ensures calls { calls_of (plan_of self.new) ≡ calls_of (plan_of self.old) }
+        ensures past { past_of self.new ≡ past_of self.old }
         ensures same { state_of self.new ≡ state_of self.old }
         ensures safe { LeavesOnlySeen (memory_world self.old) → LeavesOnlySeen (memory_world self.new) }
         ensures faults { faults_of self.new ≡ faults_of self.old }

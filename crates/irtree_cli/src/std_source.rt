@@ -1,8 +1,8 @@
 // Standard input as a source.
 ghost use Rattle.std.specs.Prelude.{◌≤◌, ◌<◌, false, [], length, IfOk, IfSome};
-ghost use Rattle.byte_source.specs.Source.{HasReadCause};
+ghost use Rattle.disk_model.specs.Source.{HasReadCause};
 
-use byte_source::Source;
+use disk_model::Source;
 use disk_model::Failed;
 use std::io::{ErrorKind, Read};
 use std::rt::Stdin;

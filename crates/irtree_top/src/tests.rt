@@ -1,9 +1,8 @@
 ghost use Rattle.std.specs.Prelude.{◌≤◌, ◌<◌, false, [], length, IfOk};
-ghost use Rattle.byte_source.specs.Source.{HasReadCause};
+ghost use Rattle.disk_model.specs.Source.{HasReadCause};
 
 use super::*;
-use byte_source::{MemorySource, Source};
-use disk_model::{CallKind, Failed, MemoryStation};
+use disk_model::{CallKind, Failed, MemorySource, MemoryStation, Source};
 use std::alloc::Global;
 use std::test::Fail;
 

@@ -8,8 +8,7 @@ ghost use Rattle.irtree_top.specs.Words.{AreAccepted};
 
 use crate::script::Script;
 use crate::{Ended, InputFault, read_words};
-use byte_source::Source;
-use disk_model::Station;
+use disk_model::{Source, Station};
 use std::alloc::Global;
 
 /// The greatest number of bytes of a script.

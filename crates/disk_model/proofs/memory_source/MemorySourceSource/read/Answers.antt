@@ -1,7 +1,7 @@
 use Rattle.std.proofs.Common.{rules, ap}
-use Rattle.byte_source.specs.MemorySource.{Held}
-use Rattle.byte_source.proofs.Pieces.{piece_given}
-use Rattle.byte_source.proofs.memory_source.MemorySourceSource.read.Goals as goal
+use Rattle.disk_model.specs.MemorySource.{Held}
+use Rattle.disk_model.proofs.Pieces.{piece_given}
+use Rattle.disk_model.proofs.memory_source.MemorySourceSource.read.Goals as goal
 
 pub returns-clause-told : goal.returns-clause-told
 returns-clause-told c =

@@ -1,10 +1,9 @@
-// A source over bytes in memory.
+//! A source over bytes in memory.
 ghost use Rattle.std.specs.Prelude.{◌≡◌, ◌≤◌, ◌<◌, ◌↔◌, true, min, length, Contains, IfOk, IsErr};
-ghost use Rattle.byte_source.specs.MemorySource.{one_more};
-ghost use Rattle.byte_source.specs.Source.{HasGiven, HasReadCause};
+ghost use Rattle.disk_model.specs.Plan.{once_more};
+ghost use Rattle.disk_model.specs.Source.{HasGiven, HasReadCause};
 
-use crate::Source;
-use disk_model::Failed;
+use crate::{Failed, Source};
 use spatial_base::Memory;
 use std::alloc::Global;
 use std::marker::Model;
@@ -22,7 +21,7 @@ pub struct MemorySource {
 
 impl Model for MemorySource {
     ghost use Rattle.std.specs.Prelude.{◌≤◌, drop, vec_len};
-    ghost use Rattle.byte_source.specs.MemorySource.{Held};
+    ghost use Rattle.disk_model.specs.MemorySource.{Held};
 
     ghost Value = { Held };
 
@@ -69,9 +68,9 @@ impl Source for MemorySource {
         ensures count { IfOk result (λ n. n ≤ length buf.new) }
         ensures told { HasGiven buf.new self.old.left self.new.left result }
         ensures cause { HasReadCause self.old.faults self.new.faults result }
-        ensures due { IsErr result ↔ Contains self.old.fails (one_more self.old.reads) }
+        ensures due { IsErr result ↔ Contains self.old.fails (once_more self.old.reads) }
         ensures size { IfOk result (λ n. n ≡ min (length buf.old) (min self.old.piece (length self.old.left))) }
-        ensures reads { self.new.reads ≡ one_more self.old.reads }
+        ensures reads { self.new.reads ≡ once_more self.old.reads }
     {
         self.reads = self.reads.saturating_add(1);
         if self.fails.contains(&self.reads) {
@@ -82,5 +81,26 @@ impl Source for MemorySource {
         buf[..n].copy_from_slice(&self.bytes[self.at..self.at + n]);
         self.at += n;
         Ok(n)
+    }
+}
+
+#[cfg(test)]
+mod tests {
+    use super::*;
+    use std::test::Fail;
+
+    #[test]
+    fn bytes_come_in_pieces_until_none_is_left(rt: HostRuntime) -> Result<(), Fail> {
+        let mut source = MemorySource::new(rt.alloc(), b"abcde", 2, &[2])?;
+        let mut buf = [0; 8];
+        assert!(rt; source.read(&mut buf) == Ok(2));
+        assert!(rt; buf[..2].starts_with(b"ab"));
+        assert!(rt; source.read(&mut buf).is_err());
+        assert!(rt; source.read(&mut buf) == Ok(2));
+        assert!(rt; buf[..2].starts_with(b"cd"));
+        assert!(rt; source.read(&mut buf) == Ok(1));
+        assert!(rt; buf[..1].starts_with(b"e"));
+        assert!(rt; source.read(&mut buf) == Ok(0));
+        Ok(())
     }
 }

@@ -1,7 +1,7 @@
 -- A piece of the bytes left, at the front of a buffer.
 use Rattle.std.proofs.Common.{◌≡◌, ℕ, ◌+◌, ◌-◌, ◌<◌, ◌≤◌, List, ◌++◌, length, take, drop, min, Ok, sym, ap, ◌∙◌, arith}
 use Rattle.std.proofs.lemmas.List.{take-append-drop, drop-drop, drop_all, take_at, length-drop, length-take-le}
-use Rattle.byte_source.specs.Source.{HasGiven}
+use Rattle.disk_model.specs.Source.{HasGiven}
 
 -- n of the bytes from a place on, in front of what the buffer held behind them
 pub piece_given : (bytes piece buffer left : List ℕ) (at n size : ℕ) → at + n ≤ length bytes → piece ≡ take (at + n - at) (drop at bytes) → drop at bytes ≡ left → n ≡ min (min (length buffer) size) (length bytes - at) → 0 < length buffer → 1 ≤ size → HasGiven (piece ++ drop n buffer) left (drop (at + n) bytes) (Ok n)

@@ -1,8 +1,8 @@
-// Where input comes from.
+//! Where input comes from.
 ghost use Rattle.std.specs.Prelude.{◌≤◌, ◌<◌, Bool, IsTrue, List, ℕ, length, IfOk};
-ghost use Rattle.byte_source.specs.Source.{HasGiven, HasReadCause};
+ghost use Rattle.disk_model.specs.Source.{HasGiven, HasReadCause};
 
-use disk_model::Failed;
+use crate::Failed;
 
 /// Bytes that are read once, in pieces of whatever size the source likes.
 pub trait Source {

@@ -1,5 +1,5 @@
 -- What is seen of a source in memory.
-use Rattle.std.specs.Prelude.{ℕ, ◌+◌, ◌-◌, ◌^◌, min, List}
+use Rattle.std.specs.Prelude.{ℕ, List}
 
 -- the bytes left, the most that a read gives, the reads that are to fail, and how many reads were made and failed
 pub record Held : Type 0 where
@@ -8,7 +8,3 @@ pub record Held : Type 0 where
   pub fails : List ℕ
   pub reads : ℕ
   pub faults : ℕ
-
--- one more, up to the last value of a u64
-abbrev pub one_more : ℕ → ℕ
-one_more n = min (n + 1) (2 ^ 64 - 1)

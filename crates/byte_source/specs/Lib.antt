@@ -1,2 +1,0 @@
-pub mod MemorySource
-pub mod Source
