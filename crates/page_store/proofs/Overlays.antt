@@ -137,6 +137,17 @@ committed_pages tells cleared overlay whole area count is_told none ordered size
         (ap (λ (o : Option (List ℕ)). first_of o (page_bytes (with_batch (batch_of (given whole.entries)) area) (suc m))) empty
         ∙ page_bytes-with_batch whole area (suc m) ordered sized ∙ ap (λ (o : Option (List ℕ)). first_of o (page_bytes area (suc m))) (others (suc m) (λ e. omega arith)))
 
+-- an overlay without a page shows what the area holds
+pub cleared_contents : (cleared : Overlay) (area : ℕ → ℕ) (block : Superblock) → cleared.entries ≡ [] → superblock_in (page_bytes area 0) ≡ block → contents_of area cleared block ≡ contents_in area
+cleared_contents cleared area block none head =
+    ap (λ (p : PageMap). record { block = block; pages = p }) (fun_ext pages)
+    ∙ sym (ap (λ (b : Superblock). record { block = b; pages = counted_pages b.counted (page_bytes area) }) head)
+  where
+    pages : (n : ℕ) → counted_pages block.counted (shown true area cleared) n ≡ counted_pages block.counted (page_bytes area) n
+    pages n =
+        let empty : page_in cleared n ≡ None = ap (λ (es : List (ℕ × Box (List ℕ) Global)). option_map (λ (p : Box (List ℕ) Global). p.value) (lookup (is_at (nat_cmp n)) es)) none in
+        ap (λ (o : Option (List ℕ)). if n == 0 then [] else if nat_lt n block.counted then first_of o (page_bytes area n) else []) empty
+
 -- page 0 after a commit is the one in the overlay
 pub page_0 : (whole : Overlay) (area : ℕ → ℕ) (head : List ℕ) → IsOrdered nat_cmp whole → IsSized whole → page_in whole 0 ≡ Some head → page_bytes (with_batch (batch_of (given whole.entries)) area) 0 ≡ head
 page_0 whole area head ordered sized at_0 = page_bytes-with_batch whole area 0 ordered sized ∙ ap (λ (o : Option (List ℕ)). first_of o (page_bytes area 0)) at_0

@@ -8,6 +8,8 @@ use Rattle.disk_model.proofs.Moments.{started, then}
 use Rattle.std.specs.Borrow.{MutBor}
 use Rattle.disk_model.specs.World.{World, Image, Range, LeavesOnly, Nothing}
 use Rattle.disk_model.specs.declared.disk.Area.TheVariants.{Pages}
+use Rattle.page_face.specs.declared.head.Head.{Head}
+use Rattle.page_store.specs.declared.superblock.Superblock.{Superblock}
 
 -- From old to new no area changed and nothing was said.
 pub record Rests (old new : World) : Type 0 where
@@ -21,8 +23,18 @@ pub record ReadsPage (number : ℕ) (old new : World) : Type 0 where
   pub rests : Rests old new
   pub reads : (new.reads ≡ old.reads) ⊎ (new.reads ≡ old.reads ++ record { area = Pages; at = 4096 * number; len = 4096 } ∷ [])
 
--- The same loan, whose disk changed no area and said nothing; no count fell.
-pub record GoesOn {D : Type 0} (tells : Bool) (world : D → World) (room_of : D → ℕ) (old new : MutBor D) : Type 0 where
+-- what no call of the pages changes: the head as it stands, and page 0's fields as they were committed last
+pub record Kept : Type 0 where
+  pub head : Head
+  pub last : Superblock
+
+-- both, from page 0's fields as they stand
+abbrev pub kept_of : Superblock → Superblock → Kept
+kept_of current last = record { head = current.head; last = last }
+
+-- The head stands as it did; the same loan, whose disk changed no area and said nothing; no count fell.
+pub record GoesOn {D : Type 0} (tells : Bool) (world : D → World) (room_of : D → ℕ) (kept_old kept_new : Kept) (old new : MutBor D) : Type 0 where
+  pub kept : kept_new ≡ kept_old
   pub loan : new.ghost_name ≡ old.ghost_name
   pub room : room_of new.now ≡ room_of old.now
   pub faults : (world old.now).faults ≤ (world new.now).faults
@@ -40,8 +52,9 @@ rests_then ab bc = record {
 
 module _ {D : Type 0} (tells : Bool) (world : D → World) (room_of : D → ℕ) where
   -- nothing has gone on
-  pub goes_nowhere : (a : MutBor D) → GoesOn tells world room_of a a
-  goes_nowhere a = record {
+  pub goes_nowhere : (kept : Kept) (a : MutBor D) → GoesOn tells world room_of kept kept a a
+  goes_nowhere kept a = record {
+    kept = refl;
     loan = refl;
     room = refl;
     faults = omega arith;
@@ -50,8 +63,10 @@ module _ {D : Type 0} (tells : Bool) (world : D → World) (room_of : D → ℕ)
   }
 
   -- one thing after another
-  pub goes_further : (a b c : MutBor D) → GoesOn tells world room_of a b → GoesOn tells world room_of b c → GoesOn tells world room_of a c
-  goes_further a b c f g = record {
+  pub goes_further : (kept_a kept_b kept_c : Kept) (a b c : MutBor D)
+      → GoesOn tells world room_of kept_a kept_b a b → GoesOn tells world room_of kept_b kept_c b c → GoesOn tells world room_of kept_a kept_c a c
+  goes_further kept_a kept_b kept_c a b c f g = record {
+    kept = g.kept ∙ f.kept;
     loan = g.loan ∙ f.loan;
     room = g.room ∙ f.room;
     faults = omega (arith, f.faults, g.faults);

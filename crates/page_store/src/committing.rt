@@ -60,12 +60,17 @@ impl<'d, D: Disk> Store<'d, D> {
         Ok(())
     }
 
-    /// Drops the overlay: the pages and the head are those of the last commit.
+    /// Drops the overlay: the pages and the head are those of the last commit. Makes no call of the disk.
     pub fn abandon(&mut self)
         ensures disk { self.new.disk ≡ self.old.disk }
         ensures clean { self.new.overlay.entries ≡ [] }
         ensures current { self.new.current ≡ self.old.last }
         ensures last { self.new.last ≡ self.old.last }
+
+        // What stands now is what the disk holds.
+        ensures committed { IsTrue D.tells → self.old.stopped ≡ false
+            → contents_of ((D.world self.new.disk.now).seen areas.Pages) self.new.overlay self.new.current ≡ contents_in ((D.world self.new.disk.now).seen areas.Pages) }
+
         ensures stopped { self.new.stopped ≡ self.old.stopped }
         ensures asked { self.new.asked.items ≡ self.old.asked.items }
         ensures refused { self.new.refused ≡ self.old.refused }

@@ -4,7 +4,7 @@ ghost use Rattle.disk_model.specs.World.{HasDiskCause};
 ghost use Rattle.disk_model.specs.declared.disk.Area.TheVariants as areas;
 ghost use Rattle.page_face.specs.Causes.{IsUncounted, Rose, unlinked as link};
 ghost use Rattle.page_store.specs.Contents.{shown};
-ghost use Rattle.page_store.specs.Store.{ReadsPage};
+ghost use Rattle.page_store.specs.Store.{ReadsPage, kept_of};
 
 use crate::overlay;
 use crate::page::read_page;
@@ -68,15 +68,15 @@ impl<'d, D: Disk> Pages for Store<'d, D> {
 
     ghost is_stopped = { λ s. s.stopped };
 
-    ghost follows_from = { λ a b. GoesOn D.tells D.world D.room_of a.disk b.disk };
+    ghost follows_from = { λ a b. GoesOn D.tells D.world D.room_of (kept_of a.current a.last) (kept_of b.current b.last) a.disk b.disk };
 
     ghost only_reads = { λ a b. OnlyReads D.tells D.world a.asked.items b.asked.items a.disk.now b.disk.now };
 
     ghost first_is_counted = { λ s. s.current_first };
 
-    ghost stays = { λ s. goes_nowhere D.tells D.world D.room_of s.disk };
+    ghost stays = { λ s. goes_nowhere D.tells D.world D.room_of (kept_of s.current s.last) s.disk };
 
-    ghost goes_further = { λ a b c f g. goes_further D.tells D.world D.room_of a.disk b.disk c.disk f g };
+    ghost goes_further = { λ a b c f g. goes_further D.tells D.world D.room_of (kept_of a.current a.last) (kept_of b.current b.last) (kept_of c.current c.last) a.disk b.disk c.disk f g };
 
     ghost reads_nothing = { λ s. reads_nothing D.tells D.world s.asked.items s.disk.now };
 
@@ -169,6 +169,7 @@ impl<'d, D: Disk> Store<'d, D> {
         ensures refused { result ≢ Err PageFault.NoRoom → self.new.refused ≡ self.old.refused }
         ensures refused_later { self.old.refused ≤ self.new.refused }
         ensures first { self.new.current.first_free ≡ 0 }
+        ensures head { kept_of self.new.current self.new.last ≡ kept_of self.old.current self.old.last }
         ensures disk { self.new.disk ≡ self.old.disk }
         ensures overlay { self.new.overlay ≡ self.old.overlay }
         ensures asked { self.new.asked ≡ self.old.asked }

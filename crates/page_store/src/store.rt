@@ -17,7 +17,11 @@ use std::collections::BTreeMap;
 ///
 /// What is written stands in an overlay until [`Store::commit_all`] makes it safe in one commit or
 /// [`Store::abandon`] drops it. A commit that fails stops the store: from then on every call of the pages answers
-/// `Stopped`, and the store is to be opened again.
+/// `Stopped`, and the store is to be opened again. No call of the pages changes the head.
+///
+/// Cost: `read` is one look-up in the overlay, and one page read from the disk where it isn't there; so is a `take` of a
+/// free page. `write` and `give_back` put one page into the overlay and make no call of the disk. The overlay holds each
+/// page written since the last commit once.
 #[derive(Drop)]
 pub struct Store<'d, D: Disk> {
     pub(crate) alloc: Global,
@@ -40,7 +44,7 @@ pub struct Store<'d, D: Disk> {
 impl<'d, D: Disk> Store<'d, D> {
     /// Recovers the journal and reads page 0. `cache` is the number of pages that a cache may hold; there is none yet.
     ///
-    /// Refuses as [`look`] does.
+    /// Refuses as [`look`] does, and costs as much.
     pub fn open(alloc: Global, disk: &'d mut D, _cache: u32) -> Result<Store<'d, D>, OpenFault>
         ensures same_loan { IfOk result (λ store. store.disk.ghost_name ≡ disk.entry.ghost_name) }
 
@@ -64,7 +68,7 @@ impl<'d, D: Disk> Store<'d, D> {
         Ok(Store::over(alloc, disk, block))
     }
 
-    /// The store over a disk that [`look`] has answered this superblock of.
+    /// The store over a disk that [`look`] has answered this superblock of. Makes no call of the disk.
     pub fn over(alloc: Global, disk: &'d mut D, block: Superblock) -> Store<'d, D>
         requires in_range { block.first_free < block.counted }
         requires committed { IsTrue D.tells → IsCommitted block (D.world disk.old) }
@@ -86,7 +90,7 @@ impl<'d, D: Disk> Store<'d, D> {
         }
     }
 
-    /// Gives the loan back.
+    /// Gives the loan back; what wasn't committed is dropped. Makes no call of the disk.
     pub fn into_disk(self) -> &'d mut D
         ensures same_loan { result.ghost_name ≡ self.entry.disk.ghost_name }
         ensures disk { result.now ≡ self.entry.disk.now }
@@ -146,7 +150,7 @@ impl<'d, D: Disk> Store<'d, D> {
 }
 
 impl<'d, D: Station> Store<'d, D> {
-    /// Passes a piece, which isn't empty, to the station, and changes nothing else.
+    /// Passes a piece, which isn't empty, to the station, in one call, and changes nothing else. Answers as the station does.
     pub fn say(&mut self, bytes: &[u8]) -> Result<usize, Failed>
         requires { 0 < length bytes.now }
         ensures same_loan { self.new.disk.ghost_name ≡ self.old.disk.ghost_name }

@@ -9,7 +9,7 @@
 //! | 36 to 39 | live places, u32 |
 //! | 40 to 47 | next serial, u64, at least 1, at most the update number plus 1 |
 //! | 48 to 55 | update number, u64, at most 2^40 |
-//! | 56 to 63 | next word number, u64, at least 1, at most 64 times the update number plus 1 |
+//! | 56 to 63 | next word number, u64, at least 1, at most 64 * (the update number + 1) |
 //! | 64 to 4095 | spare, zero |
 //!
 //! All numbers are big-endian. The first free page and the roots are below the pages counted. A page of zeros is the empty store.
