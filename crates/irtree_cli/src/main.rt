@@ -4,16 +4,12 @@
 //! of a source and a station is the premise of the program; what is read and said is `run`'s to prove.
 #![tactic(auto)]
 
-mod scratch_station;
-mod std_source;
-
 use irtree_top::{Ended, run};
-use scratch_station::ScratchStation;
 use spatial_base::Memory;
 use std::alloc::Global;
 use std::io::{ErrorKind, Write};
 use std::process::ExitCode;
-use std_source::StdSource;
+use std_devices::{ScratchStation, StdSource};
 
 // The words behind the program's own name. Words that are no UTF-8 are refused, as words that are no command are.
 fn words(rt: &HostRuntime) -> Result<Vec<String>, Ended> {

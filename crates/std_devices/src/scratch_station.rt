@@ -1,12 +1,14 @@
-// A disk in memory that ends with the run, and standard output.
-ghost use Rattle.std.specs.Prelude.{◌≤◌, ◌<◌, ◌^◌, ◌+◌, false, length, IfOk, IfSome};
+//! A disk in memory that ends with the run, and standard output.
+ghost use Rattle.std.specs.Prelude.{◌≤◌, ◌<◌, ◌^◌, ◌+◌, false, length, IfOk};
 ghost use Rattle.disk_model.specs.World.{HasDiskCause, HasSinkCause};
+ghost use Rattle.std.specs.Io.KnownBytes.{WriteAppends};
 ghost use Rattle.std.proofs.Common.{rules};
-ghost use Rattle.irtree_cli.specs.Untold.{untold};
+ghost use Rattle.std_devices.specs.Untold.{untold};
 
+use crate::output::write_some;
 use disk_model::{Area, Disk, Failed, Station};
 use std::alloc::{AllocError, Global};
-use std::io::{ErrorKind, Write};
+use std::io::Write;
 use std::rt::Stdout;
 
 /// The number of pages that the area Pages may have.
@@ -15,17 +17,17 @@ const ROOM: u32 = 262_144;
 /// Both areas in memory, and standard output as the sink. It tells no content; each call that fails raises the count of
 /// its kind, and so does a growth that finds no memory.
 #[derive(Drop)]
-pub struct ScratchStation {
+pub struct ScratchStation<W: Write + Drop = Stdout> {
     pages: Vec<u8>,
     journal: Vec<u8>,
-    output: Stdout,
+    output: W,
     faults: u64,
     sink_faults: u64,
 }
 
-impl ScratchStation {
-    /// Empty areas.
-    pub fn new(alloc: Global, output: Stdout) -> ScratchStation {
+impl<W: Write + Drop> ScratchStation<W> {
+    /// Empty areas, and the sink.
+    pub fn new(alloc: Global, output: W) -> ScratchStation<W> {
         ScratchStation {
             pages: Vec::new(alloc),
             journal: Vec::new(alloc),
@@ -57,22 +59,7 @@ fn copy_in(kept: &mut Vec<u8>, at: usize, bytes: &[u8]) -> Result<(), AllocError
     Ok(())
 }
 
-// One write of at least a byte, begun anew where a signal interrupts it; None where it fails or takes nothing.
-fn write_some(output: &mut Stdout, bytes: &[u8]) -> Option<usize>
-    ensures { IfSome result (λ n. (0 < n) × (n ≤ length bytes.now)) }
-{
-    for _ in 0..u64::MAX {
-        match output.write(bytes) {
-            Ok(0) => return None,
-            Ok(n) => return Some(n),
-            Err(error) if error.kind() == ErrorKind::Interrupted => {}
-            Err(_) => return None,
-        }
-    }
-    None
-}
-
-impl Disk for ScratchStation {
+impl<W: Write + Drop> Disk for ScratchStation<W> {
     ghost tells = { false };
 
     ghost world = { λ station. untold station.faults station.sink_faults };
@@ -123,11 +110,12 @@ impl Disk for ScratchStation {
     }
 }
 
-impl Station for ScratchStation {
+impl<W: Write + Drop> Station for ScratchStation<W> {
     fn say(&mut self, bytes: &[u8]) -> Result<usize, Failed>
         requires { 0 < length bytes.now }
         ensures count { IfOk result (λ n. (0 < n) × (n ≤ length bytes.now)) }
         ensures cause { HasSinkCause (untold self.old.faults self.old.sink_faults) (untold self.new.faults self.new.sink_faults) result }
+        ensures bytes { WriteAppends (W.contents self.old.output) (W.contents self.new.output) result bytes.now }
     {
         match write_some(&mut self.output, bytes) {
             Some(n) => Ok(n),

@@ -1,0 +1,6 @@
+use Rattle.std.specs.Io.KnownBytes.{Keeps}
+use Rattle.std_devices.proofs.output.write_some.Given as goal
+
+-- so far the sink took nothing
+abbrev pub invariant-loop : goal.invariant-loop
+invariant-loop g l = Keeps (g.W.Write.contents l.fn.output) (g.W.Write.contents l.output)

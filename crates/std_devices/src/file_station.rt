@@ -1,0 +1,144 @@
+//! A disk over the files of a store, and standard output.
+ghost use Rattle.std.specs.Prelude.{◌≡◌, ◌≤◌, ◌<◌, ◌^◌, ◌+◌, false, length, IfOk, None, IsErr, IsSome, IsTrue};
+ghost use Rattle.disk_model.specs.World.{HasRead, HasWritten, HasSynced, HasSaid, HasDiskCause, HasSinkCause};
+ghost use Rattle.std.specs.Io.KnownBytes.{WriteAppends};
+ghost use Rattle.std.proofs.Common.{rules};
+ghost use Rattle.std_devices.specs.Untold.{untold};
+
+use crate::output::write_some;
+use crate::store_files::{FileTrouble, StoreFiles};
+use disk_model::{Area, Disk, Failed, Station};
+use spatial_base::Memory;
+use std::alloc::Global;
+use std::fs::File;
+use std::io::Write;
+use std::rt::{Files, Stdout};
+
+/// The number of pages that the area Pages may have.
+const ROOM: u32 = 4_194_304;
+
+/// The areas as the files STORE and STORE.journal, and standard output as the sink.
+///
+/// The first call of the disk opens the files, creates those that aren't there, and locks STORE until the station is
+/// dropped: a second process that asks for the same store gets a fault, where the system can tell. A read gives zeros
+/// past a file's end. A sync makes the file's bytes safe; the folder is made safe as the files are opened.
+///
+/// The station tells no content; each call that fails raises the count of its kind, and [`FileStation::trouble`] says
+/// why.
+#[derive(Drop)]
+pub struct FileStation<'a, R: Files<File = File>, W: Write + Drop = Stdout> {
+    files: StoreFiles<'a, R>,
+    output: W,
+    trouble: Option<FileTrouble>,
+    faults: u64,
+    sink_faults: u64,
+}
+
+impl<'a, R: Files<File = File>, W: Write + Drop> FileStation<'a, R, W> {
+    /// A station over the store at a path. No file is opened yet.
+    ///
+    /// Refuses `Memory` alone.
+    pub fn new(
+        alloc: Global,
+        rt: &'a R,
+        store: &str,
+        output: W,
+    ) -> Result<FileStation<'a, R, W>, Memory>
+        ensures { IfOk result (λ station. station.trouble ≡ None) }
+    {
+        Ok(FileStation {
+            files: StoreFiles::new(alloc, rt, store)?,
+            output,
+            trouble: None,
+            faults: 0,
+            sink_faults: 0,
+        })
+    }
+
+    /// Why the last call of the disk that failed did so.
+    pub fn trouble(&self) -> Option<FileTrouble>
+        ensures { result ≡ self.now.trouble }
+    {
+        self.trouble
+    }
+
+    // Counts a failure, and keeps its cause.
+    fn counted(&mut self, outcome: Result<(), FileTrouble>) -> Result<(), Failed>
+        ensures cause { HasDiskCause (untold self.old.faults self.old.sink_faults) (untold self.new.faults self.new.sink_faults) result }
+        ensures trouble { IsErr result → IsSome self.new.trouble }
+    {
+        match outcome {
+            Ok(()) => Ok(()),
+            Err(trouble) => {
+                self.trouble = Some(trouble);
+                self.faults = self.faults.saturating_add(1);
+                Err(Failed)
+            }
+        }
+    }
+}
+
+impl<'a, R: Files<File = File>, W: Write + Drop> Disk for FileStation<'a, R, W> {
+    ghost tells = { false };
+
+    ghost world = { λ station. untold station.faults station.sink_faults };
+
+    ghost room_of = { λ station. 4194304 };
+
+    ghost leaves_seen = { λ station told. Prim.search rules };
+
+    ghost counts_now = { λ station t image told. Prim.search rules };
+
+    ghost only_now = { λ station image said told. Prim.search rules };
+
+    fn room(&self) -> u32 {
+        ROOM
+    }
+
+    fn read(&mut self, area: Area, at: u64, buf: &mut [u8]) -> Result<(), Failed>
+        requires { at + length buf.old < 2 ^ 48 }
+        ensures told { IsTrue false → HasRead area at buf.new (untold self.old.faults self.old.sink_faults) (untold self.new.faults self.new.sink_faults) result }
+        ensures cause { HasDiskCause (untold self.old.faults self.old.sink_faults) (untold self.new.faults self.new.sink_faults) result }
+        ensures trouble { IsErr result → IsSome self.new.trouble }
+    {
+        let outcome = self.files.read(area, at, buf);
+        self.counted(outcome)
+    }
+
+    fn write(&mut self, area: Area, at: u64, bytes: &[u8]) -> Result<(), Failed>
+        requires { at + length bytes.now < 2 ^ 48 }
+        ensures told { IsTrue false → HasWritten area at bytes.now (untold self.old.faults self.old.sink_faults) (untold self.new.faults self.new.sink_faults) result }
+        ensures cause { HasDiskCause (untold self.old.faults self.old.sink_faults) (untold self.new.faults self.new.sink_faults) result }
+        ensures trouble { IsErr result → IsSome self.new.trouble }
+    {
+        let outcome = self.files.write(area, at, bytes);
+        self.counted(outcome)
+    }
+
+    fn sync(&mut self, area: Area) -> Result<(), Failed>
+        ensures told { IsTrue false → HasSynced area (untold self.old.faults self.old.sink_faults) (untold self.new.faults self.new.sink_faults) result }
+        ensures cause { HasDiskCause (untold self.old.faults self.old.sink_faults) (untold self.new.faults self.new.sink_faults) result }
+        ensures trouble { IsErr result → IsSome self.new.trouble }
+    {
+        let outcome = self.files.sync(area);
+        self.counted(outcome)
+    }
+}
+
+impl<'a, R: Files<File = File>, W: Write + Drop> Station for FileStation<'a, R, W> {
+    fn say(&mut self, bytes: &[u8]) -> Result<usize, Failed>
+        requires { 0 < length bytes.now }
+        ensures count { IfOk result (λ n. (0 < n) × (n ≤ length bytes.now)) }
+        ensures told { IsTrue false → HasSaid bytes.now (untold self.old.faults self.old.sink_faults) (untold self.new.faults self.new.sink_faults) result }
+        ensures cause { HasSinkCause (untold self.old.faults self.old.sink_faults) (untold self.new.faults self.new.sink_faults) result }
+        ensures bytes { WriteAppends (W.contents self.old.output) (W.contents self.new.output) result bytes.now }
+    {
+        match write_some(&mut self.output, bytes) {
+            Some(n) => Ok(n),
+            None => {
+                self.sink_faults = self.sink_faults.saturating_add(1);
+                Err(Failed)
+            }
+        }
+    }
+}
