@@ -1,6 +1,6 @@
 use Rattle.std.proofs.Common.{arith}
 use Rattle.spatial_base.proofs.Gaps.{squares-le}
-use Rattle.spatial_base.proofs.Roots.{root-is, root_below}
+use Rattle.spatial_base.specs.RootLaws.{root-is, root_below}
 use Rattle.spatial_base.proofs.distance.line.Goals as goal
 
 pub overflow_add-east : goal.overflow_add-east

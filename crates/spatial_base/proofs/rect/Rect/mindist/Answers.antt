@@ -1,6 +1,6 @@
-use Rattle.std.proofs.Common.{◌≡◌, arith, sym, ◌∙◌, ap}
+use Rattle.std.proofs.Common.{◌≡◌, arith, ◌∙◌}
 use Rattle.std.proofs.lemmas.Int.{ints, clamps}
-use Rattle.spatial_base.proofs.Rects.{gap_inside, gap_nearest, gap_far, line-le, root-zero}
+use Rattle.spatial_base.specs.Laws.{line-le, root-zero}
 use Rattle.spatial_base.proofs.rect.Rect.mindist.Goals as goal
 
 pub line-requires-clause-east : goal.line-requires-clause-east
