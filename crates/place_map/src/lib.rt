@@ -5,7 +5,6 @@
 //! say. Searches that open little prove against the same definitions.
 #![tactic(auto)]
 
-mod best;
 mod hit;
 mod listed;
 mod place;

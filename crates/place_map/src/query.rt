@@ -73,16 +73,18 @@ pub enum Query {
 }
 
 /// The place that a group chose for a word.
-#[derive(Clone, Copy, Debug, PartialEq, Eq)]
+///
+/// Picks are ordered by key; where one is for the same word as another of the same key, it is the same.
+#[derive(Clone, Copy, Debug, PartialEq, Eq, PartialOrd, Ord)]
 pub struct Pick {
-    /// The word.
-    pub word: Word,
     /// The place's key.
     pub key: Key,
-    /// Where the place is.
-    pub point: Point,
+    /// The word.
+    pub word: Word,
     /// The distance to the query's point, in degrees times 10^7.
     pub dist: u64,
+    /// Where the place is.
+    pub point: Point,
 }
 
 /// Picks, which contracts see as a list.
