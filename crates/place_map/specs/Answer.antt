@@ -14,7 +14,7 @@ use Rattle.place_map.specs.declared.query.Answer.{Answer}
 use Rattle.place_map.specs.declared.query.Answer.TheVariants as answers
 use Rattle.place_map.specs.Hit.{comes_before}
 use Rattle.place_map.specs.Filter.{passes}
-use Rattle.place_map.specs.Top.{Weighted, relevance, holds_some, top_cost}
+use Rattle.place_map.specs.Top.{Weighted, weight_sum, relevance, holds_some, top_cost}
 use Rattle.place_map.specs.Group.{group_of}
 use Rattle.place_map.specs.State.{Contents}
 
@@ -49,13 +49,21 @@ abbrev pub top_hits : Position → ℕ → ℕ → Weighted → Name × Place �
 top_hits at alpha reach words entry =
     if holds_some words entry.1
     then record {
-      cost = top_cost alpha reach words (distance at entry.1.point) (relevance words entry.1);
+      cost = top_cost alpha reach (weight_sum words) (distance at entry.1.point) (relevance words entry.1);
       key = entry.0;
       dist = distance at entry.1.point;
       text = relevance words entry.1;
       point = entry.1.point;
     } ∷ []
     else []
+
+-- what a place gives to a query; a group query has no hits
+abbrev pub hits_of : Query → Name × Place → List Hit
+hits_of (Range at radius filter) = range_hits at radius filter
+hits_of (Inside rect filter) = box_hits rect filter
+hits_of (Nearest at k filter) = near_hits at filter
+hits_of (Top at k alpha reach words) = top_hits at alpha reach words
+hits_of (Group at words) = λ entry. []
 
 -- the answer to a query over all places
 abbrev pub answer_of : Contents → Query → Answer

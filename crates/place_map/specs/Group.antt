@@ -1,5 +1,5 @@
--- Choices of a place for each word, and the least of them (Cao, Cong, Jensen and Ooi 2011: the collective spatial keyword query of
--- maximum sum cost).
+-- Choices of a place for each word, and the least of them: the collective spatial keyword query of Cao, Cong, Jensen and Ooi 2011,
+-- in the type whose cost is the greatest distance to the query plus the greatest distance between two places (their type 2).
 use Rattle.std.specs.Prelude.{ℕ, ◌+◌, max, if◌then◌else◌, Bool, List, [], ◌∷◌, map, fold, Option, Some, None}
 use Rattle.std.specs.List.{flat_map}
 use Rattle.std.specs.declared.cmp.Ordering.{Ordering}
@@ -16,34 +16,37 @@ use Rattle.place_map.specs.State.{Places}
 
 -- a place as the pick for a word
 abbrev pub pick_of : Position → List ℕ → Name × Place → Pick
-pick_of at word entry = record { word = word; key = entry.0; point = entry.1.point; dist = distance at entry.1.point }
+pick_of at word entry = record { key = entry.0; word = word; dist = distance at entry.1.point; point = entry.1.point }
 
--- the picks for a word: the places that hold it
+-- what a place gives to a word: its pick where it holds the word
+abbrev pub word_picks : Position → List ℕ → Name × Place → List Pick
+word_picks at word entry = if has_word entry.1 word then pick_of at word entry ∷ [] else []
+
+-- the picks for a word
 abbrev pub picks_for : Places → Position → List ℕ → List Pick
-picks_for places at word = flat_map (λ entry. if has_word entry.1 word then pick_of at word entry ∷ [] else []) places
+picks_for places at word = flat_map (word_picks at word) places
+
+-- all lists of one member of each list, in the lists' order
+abbrev pub product : {X : Type 0} → List (List X) → List (List X)
+product [] = [] ∷ []
+product (xs ∷ rest) = flat_map (λ x. map (λ others. x ∷ others) (product rest)) xs
 
 -- all choices: a pick for each word, in the words' order
 abbrev pub choices : Places → Position → List (List ℕ) → List (List Pick)
-choices places at [] = [] ∷ []
-choices places at (word ∷ words) =
-    flat_map (λ pick. map (λ picks. pick ∷ picks) (choices places at words)) (picks_for places at word)
+choices places at words = product (map (picks_for places at) words)
 
--- the greatest distance to the query's point
-abbrev pub farthest : List Pick → ℕ
-farthest picks = fold (λ most (pick : Pick). max most pick.dist) 0 picks
+-- the greatest distance from a point to a pick
+abbrev pub farthest : Position → List Pick → ℕ
+farthest point picks = fold (λ most (pick : Pick). max most (distance point pick.point)) 0 picks
 
--- the greatest distance from a pick to one of some others
-abbrev pub widest : Pick → List Pick → ℕ
-widest pick others = fold (λ most (other : Pick). max most (distance pick.point other.point)) 0 others
-
--- the greatest distance between two
+-- the greatest distance between two picks
 abbrev pub diameter : List Pick → ℕ
 diameter [] = 0
-diameter (pick ∷ picks) = max (widest pick picks) (diameter picks)
+diameter (pick ∷ others) = max (farthest pick.point others) (diameter others)
 
 -- what a choice costs
-abbrev pub choice_cost : List Pick → ℕ
-choice_cost picks = farthest picks + diameter picks
+abbrev pub choice_cost : Position → List Pick → ℕ
+choice_cost at picks = farthest at picks + diameter picks
 
 -- by key, then by all else
 abbrev pub pick_cmp : Pick → Pick → Ordering
@@ -53,19 +56,23 @@ pick_cmp =
     (then_cmp (on (λ (p : Pick). p.dist) nat_cmp)
     (then_cmp (on (λ (p : Pick). p.point.x) int_cmp) (on (λ (p : Pick). p.point.y) int_cmp))))
 
--- by cost, then by the picks' keys in the words' order
-abbrev pub choice_cmp : List Pick → List Pick → Ordering
-choice_cmp = then_cmp (on choice_cost nat_cmp) (slice_cmp pick_cmp)
+-- by cost, then by the keys in the words' order
+abbrev pub choice_cmp : Position → List Pick → List Pick → Ordering
+choice_cmp at = then_cmp (on (choice_cost at) nat_cmp) (slice_cmp pick_cmp)
 
 -- a choice comes before another
-abbrev pub is_cheaper : List Pick → List Pick → Bool
-is_cheaper a b = is_lt (choice_cmp a b)
+abbrev pub is_cheaper : Position → List Pick → List Pick → Bool
+is_cheaper at a b = is_lt (choice_cmp at a b)
 
 -- the first of some choices, with its cost
-abbrev pub chosen_from : List (List Pick) → Option Chosen
-chosen_from [] = None
-chosen_from (picks ∷ others) = Some record { cost = choice_cost picks; picks = picks }
+abbrev pub head_of : Position → List (List Pick) → Option Chosen
+head_of at [] = None
+head_of at (picks ∷ others) = Some record { cost = choice_cost at picks; picks = picks }
 
--- the least of all choices, where there is one
+-- the least of some choices, where there is one
+abbrev pub least_of : Position → List (List Pick) → Option Chosen
+least_of at choices = head_of at (first (is_cheaper at) 1 choices)
+
+-- the answer to a group query: the least of all choices
 abbrev pub group_of : Places → Position → List (List ℕ) → Option Chosen
-group_of places at words = chosen_from (first is_cheaper 1 (choices places at words))
+group_of places at words = least_of at (choices places at words)

@@ -22,6 +22,6 @@ abbrev pub holds_some : Weighted → Place → Bool
 holds_some words place = list_any (λ term. has_word place term.0) words
 
 -- the distance and the missing relevance, weighed by alpha and 1000 - alpha; at the distance `reach` both weigh the same
-abbrev pub top_cost : ℕ → ℕ → Weighted → ℕ → ℕ → ℕ
-top_cost alpha reach words dist text =
-    alpha * dist * 255 * weight_sum words + (1000 - alpha) * reach * (255 * weight_sum words - text)
+abbrev pub top_cost : ℕ → ℕ → ℕ → ℕ → ℕ → ℕ
+top_cost alpha reach weight dist text =
+    alpha * dist * 255 * weight + (1000 - alpha) * reach * (255 * weight - text)
