@@ -1,2 +1,4 @@
+pub mod Distinct
 pub mod Effects
+pub mod Picks
 pub mod Scans

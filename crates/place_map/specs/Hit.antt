@@ -1,5 +1,5 @@
 -- Hits and their order.
-use Rattle.std.proofs.Common.{◌≡◌, Bool, refl}
+use Rattle.std.proofs.Common.{◌≡◌, Bool, List, [], ◌∷◌, Option, Some, None, refl}
 use Rattle.std.specs.Ordering.{nat_cmp, int_cmp, on, then_cmp, is_lt, ordering_then}
 use Rattle.std.specs.declared.cmp.Ordering.{Ordering}
 use Rattle.std.specs.declared.cmp.Ordering.TheVariants.{Less, Equal, Greater}
@@ -58,3 +58,8 @@ hits_linear =
     (then_total (on_total (λ (h : Hit). h.text) nat_cmp_total)
     (then_total (on_total (λ (h : Hit). h.point.x) int_cmp_total) (on_total (λ (h : Hit). h.point.y) int_cmp_total))))))
     hit_cmp_same
+
+-- a hit that may be missing, as a list
+abbrev pub listed : Option Hit → List Hit
+listed (Some hit) = hit ∷ []
+listed None = []

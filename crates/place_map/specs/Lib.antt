@@ -1,4 +1,10 @@
 pub mod Answer
+pub mod Filter
+pub mod Group
+pub mod GroupLaws
 pub mod Hit
+pub mod Query
+pub mod Search
 pub mod State
+pub mod Top
 pub mod Update

@@ -6,14 +6,25 @@
 #![tactic(auto)]
 
 mod best;
+mod group;
 mod hit;
+mod limits;
+mod listed;
 mod place;
 mod query;
+mod scan;
 mod state;
+mod top;
 mod update;
 
 pub use hit::{Hit, Hits};
+pub use limits::{ALPHA_MAX, COUNT_MAX, RADIUS_MAX, REACH_MAX, TERMS_MAX, WEIGHT_MAX};
+pub use listed::Listed;
 pub use place::Place;
-pub use query::{Answer, Query};
+pub use query::{Answer, Chosen, Expr, Pick, Picks, Query, Terms, Weights};
 pub use state::{NUMBER_MAX, PLACES_MAX, State};
+pub use top::{cost_of, has_some, relevance_of, sum_of_weights};
 pub use update::{Applied, Update, UpdateFault};
+
+#[cfg(test)]
+mod tests;

@@ -1,6 +1,10 @@
-// Places.
+// Places, and whether they hold words.
+ghost use Rattle.std.specs.Prelude.{◌≡◌};
+ghost use Rattle.place_map.specs.Filter.{has_word, holds, passes};
+
+use crate::Expr;
 use spatial_base::Point;
-use term_impacts::Words;
+use term_impacts::{Word, Words};
 
 /// A place: where it is, and the impact of each of its words.
 #[derive(Drop)]
@@ -9,4 +13,35 @@ pub struct Place {
     pub point: Point,
     /// The impact of each of its words.
     pub words: Words,
+}
+
+impl Place {
+    /// Whether the place holds a word.
+    pub fn has(&self, word: &Word) -> bool
+        ensures { result ≡ has_word self.now word.now }
+    {
+        self.words.impact(word) > 0
+    }
+
+    /// Whether the place meets an expression. It stops at the first word that decides.
+    pub fn meets(&self, filter: &Expr) -> bool
+        ensures { result ≡ holds self.now filter.now }
+    {
+        match filter {
+            Expr::Has(word) => self.has(word),
+            Expr::Not(one) => !self.meets(one),
+            Expr::And(one, other) => self.meets(one) && self.meets(other),
+            Expr::Or(one, other) => self.meets(one) || self.meets(other),
+        }
+    }
+
+    /// Whether the place meets a filter; where there is none it does.
+    pub fn passes(&self, filter: &Option<Expr>) -> bool
+        ensures { result ≡ passes filter.now self.now }
+    {
+        match filter {
+            Some(filter) => self.meets(filter),
+            None => true,
+        }
+    }
 }

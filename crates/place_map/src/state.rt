@@ -2,13 +2,22 @@
 ghost use Rattle.std.specs.Prelude.{◌≡◌, ◌≤◌, ◌+◌, ◌^◌, length, IfOk};
 ghost use Rattle.place_map.specs.State.{opening};
 ghost use Rattle.place_map.specs.Update.{Gives, effect_of, put_at, removed_at, key_for, serial_after};
-ghost use Rattle.place_map.specs.Answer.{answer_of};
+ghost use Rattle.std.specs.List.{flat_map};
+ghost use Rattle.ranking.specs.First.{ranked, first};
+ghost use Rattle.place_map.specs.Hit.{comes_before};
+ghost use Rattle.place_map.specs.declared.query.Answer.TheVariants as answers;
+ghost use Rattle.place_map.specs.Answer.{answer_of, hits_of};
+ghost use Rattle.place_map.specs.Query.{IsWithinLimits};
+ghost use Rattle.place_map.specs.State.{place_at, shown};
 
-use crate::{Answer, Applied, Hits, Place, Query, Update, UpdateFault, best};
-use spatial_base::{Key, Memory};
+use crate::group::least_group;
+use crate::scan::{all_hits, first_hits};
+use crate::{Answer, Applied, Hits, Place, Query, Update, UpdateFault};
+use spatial_base::{Key, Memory, Point};
 use std::alloc::Global;
 use std::collections::BTreeMap;
 use std::marker::Model;
+use term_impacts::Words;
 
 /// The greatest number of live places at which a new key is accepted is one less.
 pub const PLACES_MAX: usize = 200_000;
@@ -143,17 +152,51 @@ impl State {
         Ok(Applied::Gone)
     }
 
-    /// The answer to a query, by a scan that keeps the best `k` hits: one distance for each live place.
+    /// The place of a key, and None where it has none.
+    pub fn show(&self, key: &Key) -> Option<(Point, &Words)>
+        ensures { shown result ≡ place_at key.now self.now.places }
+    {
+        let place = self.places.get(key)?;
+        Some((place.point, &place.words))
+    }
+
+    /// The answer to a query, by a scan of all live places.
+    ///
+    /// A range or a box gathers its hits and sorts them; a nearest or a top query keeps the best `k` while it goes; a group query
+    /// goes over the choices of a place for each word, and leaves those whose first places already cost too much.
     ///
     /// Refuses `Memory` alone.
     pub fn answer(&self, query: &Query) -> Result<Answer, Memory>
+        requires { IsWithinLimits query.now }
         ensures { IfOk result (λ answer. answer ≡ answer_of self.now query.now) }
     {
         match query {
-            Query::Nearest { at, k } => {
-                let hits = best::nearest(self.alloc, &self.places, at, *k).map_err(|_| Memory)?;
-                Ok(Answer::Hits(Hits::from_vec(hits)))
+            Query::Range { .. } | Query::Inside { .. } => self.all_hits(query),
+            Query::Nearest { k, .. } | Query::Top { k, .. } => self.first_hits(query, *k),
+            Query::Group { at, words } => {
+                let chosen = least_group(self.alloc, &self.places, at, words.as_slice()).map_err(
+                    |_| Memory,
+                )?;
+                Ok(Answer::Group(chosen))
             }
         }
+    }
+
+    // All hits of a query, in order.
+    fn all_hits(&self, query: &Query) -> Result<Answer, Memory>
+        requires { IsWithinLimits query.now }
+        ensures { IfOk result (λ answer. answer ≡ answers.Hits (ranked comes_before (flat_map (hits_of query.now) self.now.places))) }
+    {
+        let hits = all_hits(self.alloc, &self.places, query).map_err(|_| Memory)?;
+        Ok(Answer::Hits(Hits::from_vec(hits)))
+    }
+
+    // The first k hits of a query.
+    fn first_hits(&self, query: &Query, k: u16) -> Result<Answer, Memory>
+        requires { IsWithinLimits query.now }
+        ensures { IfOk result (λ answer. answer ≡ answers.Hits (first comes_before k (flat_map (hits_of query.now) self.now.places))) }
+    {
+        let hits = first_hits(self.alloc, &self.places, query, k).map_err(|_| Memory)?;
+        Ok(Answer::Hits(Hits::from_vec(hits)))
     }
 }

@@ -35,10 +35,12 @@ abbrev pub kind_of : Name → ℕ
 kind_of (Text bytes) = 0
 kind_of (Auto serial) = 1
 
+-- the bytes by which a text key is ordered
 abbrev pub bytes_of : Name → List ℕ
 bytes_of (Text bytes) = bytes
 bytes_of (Auto serial) = []
 
+-- the number by which an automatic key is ordered
 abbrev pub number_of : Name → ℕ
 number_of (Text bytes) = 0
 number_of (Auto serial) = serial

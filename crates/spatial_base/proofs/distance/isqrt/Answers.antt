@@ -1,6 +1,6 @@
 use Rattle.std.proofs.Common.{arith}
 use Rattle.std.proofs.lemmas.Result.{OkIff-at_ok}
-use Rattle.spatial_base.proofs.Roots.{root-is}
+use Rattle.spatial_base.specs.RootLaws.{root-is}
 use Rattle.spatial_base.proofs.distance.isqrt.Goals as goal
 
 pub returns-in-Ok-clause-value : goal.returns-in-Ok-clause-value

@@ -1,0 +1,11 @@
+use Rattle.std.proofs.Common.{sym, ◌∙◌, ap, cond}
+use Rattle.place_map.specs.GroupLaws.{pushed_first, pushed_next, with_cost}
+use Rattle.place_map.proofs.group.is_better.Goals as goal
+
+pub returns-in-Some : goal.returns-in-Some
+returns-in-Some c = λ at costs tried was.
+    pushed_next at c.args.picks.now c.args.cost c.args.best.now c.in-Some.best c.against.result tried c.in-Some.is c.against.ensures costs was
+    ∙ ap (λ t. cond t (with_cost c.args.cost c.args.picks.now) c.args.best.now) (sym c.is_lt.ensures)
+
+pub returns-in-None : goal.returns-in-None
+returns-in-None c = λ at costs tried was. pushed_first at c.args.picks.now c.args.cost c.args.best.now tried c.in-None.is costs was

@@ -1,0 +1,7 @@
+use Rattle.std.proofs.Common.{◌≡◌, map, take}
+use Rattle.place_map.specs.Group.{picks_for}
+use Rattle.place_map.specs.Search.{lists_in}
+use Rattle.place_map.proofs.group.picks_of_each.Given as goal
+
+abbrev pub invariant-loop-word : goal.invariant-loop-word
+invariant-loop-word l = lists_in l.lists.items ≡ map (picks_for l.places.entries l.at) (take l.word-index l.words)

@@ -1,0 +1,171 @@
+// The least choice of a place for each word.
+ghost use Rattle.std.specs.Prelude.{◌≡◌, ◌++◌, ◌∷◌, [], ◌≤◌, if◌then◌else◌, true, List, map, OnOk, IfOk};
+ghost use Rattle.std.specs.Cmp.Lexicographic.{slice_cmp};
+ghost use Rattle.std.specs.Ordering.{nat_cmp, ordering_then};
+ghost use Rattle.spatial_base.specs.Point.{Position};
+ghost use Rattle.place_map.specs.declared.query.Pick.{Pick};
+ghost use Rattle.place_map.specs.Group.{picks_for, product, farthest, diameter, choice_cost, pick_cmp, least_of, group_of};
+ghost use Rattle.place_map.specs.Search.{lists_in, fronted};
+
+use crate::{Chosen, Pick, Picks, Place};
+use spatial_base::{Key, Point, dist};
+use std::alloc::{AllocError, Global};
+use std::cmp::Ordering;
+use std::collections::BTreeMap;
+use term_impacts::Word;
+
+// The picks for a word: the places that hold it.
+fn picks_of(
+    alloc: Global,
+    places: &BTreeMap<Key, Place>,
+    at: &Point,
+    word: &Word,
+) -> Result<Vec<Pick>, AllocError>
+    ensures { IfOk result (λ picks. picks.items ≡ picks_for places.now.entries at.now word.now) }
+{
+    let mut picks = Vec::new(alloc);
+    for (key, place) in places {
+        if place.has(word) {
+            picks.push(Pick {
+                key: *key,
+                word: *word,
+                dist: dist(at, &place.point),
+                point: place.point,
+            })?;
+        }
+    }
+    Ok(picks)
+}
+
+// The picks for each word.
+fn picks_of_each(
+    alloc: Global,
+    places: &BTreeMap<Key, Place>,
+    at: &Point,
+    words: &[Word],
+) -> Result<Vec<Vec<Pick>>, AllocError>
+    ensures { IfOk result (λ lists. lists_in lists.items ≡ map (picks_for places.now.entries at.now) words.now) }
+{
+    let mut lists = Vec::new(alloc);
+    for word in words {
+        let picks = picks_of(alloc, places, at, word)?;
+        lists.push(picks)?;
+    }
+    Ok(lists)
+}
+
+// The greatest distance from a point to a pick.
+fn farthest_of(point: &Point, picks: &[Pick]) -> u64
+    ensures value { result ≡ farthest point.now picks.now }
+    ensures far { result ≤ 4024922359 }
+{
+    let mut most = 0;
+    for pick in picks {
+        most = most.max(dist(point, &pick.point));
+    }
+    most
+}
+
+// The greatest distance between two picks.
+fn diameter_of(picks: &[Pick]) -> u64
+    ensures value { result ≡ diameter picks.now }
+    ensures far { result ≤ 4024922359 }
+{
+    match picks.split_first() {
+        Some((pick, others)) => farthest_of(&pick.point, others).max(diameter_of(others)),
+        None => 0,
+    }
+}
+
+// What a choice costs.
+fn cost_of_choice(at: &Point, picks: &[Pick]) -> u64
+    ensures { result ≡ choice_cost at.now picks.now }
+{
+    farthest_of(at, picks) + diameter_of(picks)
+}
+
+// A choice of this cost against the best one.
+fn against(picks: &[Pick], cost: u64, best: &Chosen) -> Ordering
+    ensures { result ≡ ordering_then (nat_cmp cost best.now.cost) (slice_cmp pick_cmp picks.now best.now.picks) }
+{
+    cost.cmp(&best.cost).then(picks.cmp(best.picks.as_slice()))
+}
+
+// Whether no choice that begins so is better than the best one.
+fn is_hopeless(front: &[Pick], cost: u64, best: &Option<Chosen>) -> bool
+    ensures { result ≡ true → (at : Position) → cost ≡ choice_cost at front.now → (tried rest : List (List Pick)) → best.now ≡ least_of at tried → best.now ≡ least_of at (tried ++ fronted front.now rest) }
+{
+    match best {
+        Some(best) => against(front, cost, best).is_gt(),
+        None => false,
+    }
+}
+
+// Whether a choice is better than the best one.
+fn is_better(picks: &[Pick], cost: u64, best: &Option<Chosen>) -> bool
+    ensures { (at : Position) → cost ≡ choice_cost at picks.now → (tried : List (List Pick)) → best.now ≡ least_of at tried → least_of at (tried ++ picks.now ∷ []) ≡ (if result then Some record { cost = cost; picks = picks.now } else best.now) }
+{
+    match best {
+        Some(best) => against(picks, cost, best).is_lt(),
+        None => true,
+    }
+}
+
+// Keeps a choice where it is better than the best one.
+fn offer(
+    alloc: Global,
+    picks: &[Pick],
+    cost: u64,
+    best: &mut Option<Chosen>,
+) -> Result<(), AllocError>
+    ensures { OnOk result ((at : Position) → cost ≡ choice_cost at picks.now → (tried : List (List Pick)) → best.old ≡ least_of at tried → best.new ≡ least_of at (tried ++ picks.now ∷ [])) }
+{
+    if is_better(picks, cost, &*best) {
+        let picks = Picks::from_vec(Vec::from_slice(alloc, picks)?);
+        *best = Some(Chosen { cost, picks });
+    }
+    Ok(())
+}
+
+// Offers each choice that begins so and goes on with one of each list. A front that already costs more than the best choice
+// is left, since what completes it costs no less.
+fn extend(
+    alloc: Global,
+    at: &Point,
+    lists: &[Vec<Pick>],
+    front: &mut Vec<Pick>,
+    best: &mut Option<Chosen>,
+) -> Result<(), AllocError>
+    ensures same { OnOk result (front.new.items ≡ front.old.items) }
+    ensures least { OnOk result ((tried : List (List Pick)) → best.old ≡ least_of at.now tried → best.new ≡ least_of at.now (tried ++ fronted front.old.items (product (lists_in lists.now)))) }
+{
+    let cost = cost_of_choice(at, &*front);
+    if is_hopeless(&*front, cost, &*best) {
+        return Ok(());
+    }
+    let Some((list, others)) = lists.split_first() else {
+        return offer(alloc, &*front, cost, best);
+    };
+    for pick in list {
+        front.push(*pick)?;
+        extend(alloc, at, others, front, best)?;
+        front.pop();
+    }
+    Ok(())
+}
+
+/// The least choice of a place for each word, where there is one.
+pub(crate) fn least_group(
+    alloc: Global,
+    places: &BTreeMap<Key, Place>,
+    at: &Point,
+    words: &[Word],
+) -> Result<Option<Chosen>, AllocError>
+    ensures { IfOk result (λ chosen. chosen ≡ group_of places.now.entries at.now words.now) }
+{
+    let lists = picks_of_each(alloc, places, at, words)?;
+    let mut front = Vec::new(alloc);
+    let mut best = None;
+    extend(alloc, at, &lists, &mut front, &mut best)?;
+    Ok(best)
+}
