@@ -11,10 +11,15 @@ use json_spelled::{JsonFault, Tree, read_tree};
 use std::alloc::{AllocError, Global};
 use std::slice;
 
-/// A text has one outcome, so the clause of [`take`] pins its answer. The call does nothing: its contract is the law.
+/// A text has one outcome, so the clauses of [`take`] pin its answer. The call does nothing: its contract is the law.
 pub fn outcome_is_one()
     ensures { (bytes : List ℕ) (only : Option (List ℕ)) (one other : Result (List Item) LoadFault) →
         Takes bytes only one → Takes bytes only other → one ≡ other }
+{}
+
+/// Each text has an outcome. The call does nothing: its contract is the law.
+pub fn outcome_is_some()
+    ensures { (bytes : List ℕ) (only : Option (List ℕ)) → (outcome : Result (List Item) LoadFault) × Takes bytes only outcome }
 {}
 
 /// What a GeoJSON text gives, item by item in their order: a place, or the first reason why there is none.
@@ -25,8 +30,11 @@ pub fn outcome_is_one()
 /// `properties`, in their order, joined by LF; with `only`, it is that member's string alone.
 ///
 /// It refuses [`LoadFault::Json`] exactly where the bytes are no JSON text as [`json_spelled::read_tree`] reads it, with the
-/// first offence, and [`LoadFault::NotFeatures`] exactly where they are one of another value. Only
-/// [`LoadFault::Memory`] is tied to no cause. It reads each coordinate once, and copies no text but those of its answer.
+/// first offence, and [`LoadFault::NotFeatures`] exactly where they are a JSON text, but neither a Feature nor a
+/// FeatureCollection whose `features` is an array. Only [`LoadFault::Memory`] is tied to no cause.
+///
+/// Its work is near the number of bytes: each coordinate is read once, no name is compared with all others, and no text is
+/// copied but those of the answer.
 pub fn take(alloc: Global, bytes: &[u8], only: Option<&str>) -> Result<Vec<Taken>, LoadFault>
     requires { length bytes.now < 2 ^ 32 }
 
