@@ -53,7 +53,7 @@ same_end a b true e = e
 same_end a b false e = refl
 
 -- so is each step of a number
-same_number : (levels more : ℕ) (o : Option Part) (part : Part) (token : List ℕ) (frames : List Frame) (byte : ℕ) (k : Kind) → number_step levels o part token frames k byte ≡ number_step more o part token frames k byte
+pub same_number : (levels more : ℕ) (o : Option Part) (part : Part) (token : List ℕ) (frames : List Frame) (byte : ℕ) (k : Kind) → number_step levels o part token frames k byte ≡ number_step more o part token frames k byte
 same_number levels more (Some next) part token frames byte k = refl
 same_number levels more None part token frames byte k = same_end (step_delivered levels (deliver (spelled token) frames) k byte) (step_delivered more (deliver (spelled token) frames) k byte) (may_end part) (same_delivered levels more (spelled token) frames byte k)
 

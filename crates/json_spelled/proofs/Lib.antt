@@ -4,6 +4,7 @@ pub mod Completeness
 pub mod Completions
 pub mod Depth
 pub mod Frames
+pub mod Judged
 pub mod Kept
 pub mod Numerals
 pub mod Offences

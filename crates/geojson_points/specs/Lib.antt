@@ -1,0 +1,5 @@
+pub mod Object
+pub mod Feature
+pub mod Takes
+pub mod Draft
+pub mod Gathered
