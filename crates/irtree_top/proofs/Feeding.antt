@@ -2,7 +2,8 @@
 use Rattle.std.proofs.Common.{◌≡◌, ℕ, zero, suc, ◌+◌, List, [], ◌∷◌, ◌++◌, length, take, min, refl, sym, ap, ◌∙◌, arith, append_assoc, zero-add}
 use Rattle.std.proofs.lemmas.List.{append-nil, take_at, take_min, take-append-le}
 use Rattle.place_map.specs.State.{Contents}
-use Rattle.irtree_top.specs.Transcript.{Turn, Cut, cut, turn, script, followed, last_line}
+use Rattle.irtree_top.specs.Turn.{Turn, followed}
+use Rattle.irtree_top.specs.Script.{Cut, cut, turn, script, last_line}
 use Rattle.irtree_top.specs.Feed.{kept, EndsNoLine, text_in, state_in}
 use Rattle.irtree_top.specs.Run.{SaysFrontOf}
 use Rattle.irtree_top.proofs.Lines.{cut-none, cut-ended, kept-append, kept-none, turn-kept}

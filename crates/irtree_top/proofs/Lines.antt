@@ -1,10 +1,11 @@
 -- Lines that come piece by piece.
-use Rattle.std.proofs.Common.{◌≡◌, ℕ, zero, suc, ◌+◌, ◌-◌, ◌<◌, ◌≤◌, ◌⊎◌, ⊎_elim, ◌==◌, Bool, true, false, List, [], ◌∷◌, ◌++◌, length, take, min, refl, sym, ap, ◌∙◌, arith, append_assoc}
+use Rattle.std.proofs.Common.{◌≡◌, ℕ, zero, suc, ◌-◌, ◌<◌, ◌≤◌, ⊎_elim, ◌==◌, Bool, true, false, List, [], ◌∷◌, ◌++◌, length, take, min, refl, sym, ap, ◌∙◌, arith, append_assoc}
 use Rattle.std.proofs.lemmas.Bool.{cases_lt, cases_eq, eq-eqb, eqb-true, eqb-false, ne_eqb}
 use Rattle.std.proofs.lemmas.List.{take_all, take_min, length-take-le}
 use Rattle.place_map.specs.State.{Contents}
 use Rattle.query_lang.specs.Line.{line_of, line_of-long}
-use Rattle.irtree_top.specs.Transcript.{Turn, Cut, cut, behind, turn, turn_of, script, followed}
+use Rattle.irtree_top.specs.Turn.{Turn, followed}
+use Rattle.irtree_top.specs.Script.{Cut, cut, behind, turn, turn_of, script}
 use Rattle.irtree_top.specs.Feed.{kept, EndsNoLine}
 
 -- ---- what is kept of a line
@@ -122,11 +123,11 @@ pub turn-ended : (state : Contents) (line whole front part : List ℕ) → whole
 turn-ended state line whole front part all is =
     ap (turn state) (all ∙ ap (λ l. kept (l ++ part)) is ∙ kept-append front part) ∙ turn-kept state (front ++ part)
 
--- no bytes were counted
-pub none-left : (bytes : List ℕ) (n : ℕ) (b : Bool) → n ≡ length bytes → b ≡ (n == 0) → b ≡ true → bytes ≡ []
+-- nothing was counted
+pub none-left : {X : Type 0} (bytes : List X) (n : ℕ) (b : Bool) → n ≡ length bytes → b ≡ (n == 0) → b ≡ true → bytes ≡ []
 none-left [] n b l e t = refl
 none-left (byte ∷ bytes) n b l e t = absurd (let z : n ≡ 0 = eqb-true n 0 (sym e ∙ t) in omega arith)
 
--- some bytes were counted
-pub some-left : (bytes : List ℕ) (n : ℕ) (b : Bool) → n ≡ length bytes → b ≡ (n == 0) → b ≡ false → bytes ≡ [] → ⊥
+-- something was counted
+pub some-left : {X : Type 0} (bytes : List X) (n : ℕ) (b : Bool) → n ≡ length bytes → b ≡ (n == 0) → b ≡ false → bytes ≡ [] → ⊥
 some-left bytes n b l e f none = eqb-false n 0 (sym e ∙ f) (l ∙ ap length none)

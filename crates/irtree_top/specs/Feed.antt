@@ -1,10 +1,10 @@
 -- What a script keeps between two pieces of its input.
-use Rattle.std.specs.Prelude.{◌≡◌, ℕ, ◌<◌, ◌≤◌, List, [], ◌++◌, length, take, slice_index, Result, IfErr}
+use Rattle.std.specs.Prelude.{◌≡◌, ℕ, ◌<◌, ◌≤◌, List, ◌++◌, length, take, slice_index, Result, IfErr}
 use Rattle.place_map.specs.State.{Contents}
 use Rattle.disk_model.specs.World.{World, Rose}
 use Rattle.irtree_top.specs.declared.ended.Ended.{Ended}
-use Rattle.irtree_top.specs.declared.ended.Ended.TheVariants.{Done, Memory, Words, Source, Sink, Input}
-use Rattle.irtree_top.specs.Transcript.{cut, script}
+use Rattle.irtree_top.specs.declared.ended.Ended.TheVariants.{Done, Memory, Words, Source, Sink, Input, Limit}
+use Rattle.irtree_top.specs.Script.{cut, script}
 
 -- as much of a line as can matter: a line of more than 65,536 bytes is refused whatever follows
 unfoldable pub kept : List ℕ → List ℕ
@@ -30,6 +30,7 @@ IsSinkEnd old new Done = ⊥
 IsSinkEnd old new Words = ⊥
 IsSinkEnd old new Source = ⊥
 IsSinkEnd old new (Input fault) = ⊥
+IsSinkEnd old new (Limit fault) = ⊥
 
 -- a call that says fails only so, and the count never falls
 pub record HasSinkEnd {T : Type 0} (old new : World) (result : Result T Ended) : Type 0 where

@@ -1,103 +1,21 @@
--- What a whole run says and does, as a function of the state at its start and of the bytes of its input.
-use Rattle.std.specs.Prelude.{ℕ, ◌==◌, nat_lt, if◌then◌else◌, List, [], ◌∷◌, ◌++◌, length, take, Result, Ok, Err}
-use Rattle.place_map.specs.declared.update.Update.{Update}
-use Rattle.place_map.specs.declared.update.Applied.{Applied}
-use Rattle.place_map.specs.declared.update.Applied.TheVariants.{New, Replaced, Gone, Absent}
-use Rattle.place_map.specs.declared.update.UpdateFault.{UpdateFault}
+-- What a whole run says and does, from the state at its start, what is asked for and the bytes of its input.
+use Rattle.std.specs.Prelude.{◌≡◌, ℕ, List, Result}
 use Rattle.place_map.specs.State.{Contents}
-use Rattle.place_map.specs.Update.{effect_of}
+use Rattle.geojson_points.specs.Takes.{Item}
 use Rattle.irtree_top.specs.declared.ended.InputFault.{InputFault}
-use Rattle.irtree_top.specs.declared.ended.InputFault.TheVariants.{Long}
-use Rattle.query_lang.specs.declared.line.Line.{Line}
-use Rattle.query_lang.specs.declared.line.Line.TheVariants.{Nothing, Do, Ask}
-use Rattle.query_lang.specs.declared.line.LineFault.{LineFault}
-use Rattle.query_lang.specs.Line.{line_of}
-use Rattle.query_lang.specs.Reply.{reply_of, text_of_reply}
+use Rattle.irtree_top.specs.declared.words.Action.{Action}
+use Rattle.irtree_top.specs.declared.words.Action.TheVariants.{Run, Load}
+use Rattle.irtree_top.specs.declared.words.Job.{Job}
+use Rattle.irtree_top.specs.Turn.{Transcript}
+use Rattle.irtree_top.specs.Script.{script_transcript}
+use Rattle.irtree_top.specs.Load.{IsTaken, load_transcript}
 
--- what was said, the updates that changed the map, in order, and the state after them
-pub record Turn : Type 0 where
-  pub text : List ℕ
-  pub changes : List Update
-  pub state : Contents
+-- the transcript of an action, with so many places in a batch
+abbrev pub IsTranscriptBy : Action → ℕ → Contents → List ℕ → Transcript → Type 0
+IsTranscriptBy Run batch state input whole = whole ≡ script_transcript state input
+IsTranscriptBy Load batch state input whole =
+    (taken : Result (List Item) InputFault) × IsTaken input taken × (whole ≡ load_transcript batch state taken)
 
--- the update, where it changed the map
-abbrev pub changes_by : Update → Result Applied UpdateFault → List Update
-changes_by update (Ok New) = update ∷ []
-changes_by update (Ok Replaced) = update ∷ []
-changes_by update (Ok Gone) = update ∷ []
-changes_by update (Ok Absent) = []
-changes_by update (Err fault) = []
-
--- what a line changes
-abbrev pub changes_of : Contents → Result Line LineFault → List Update
-changes_of state (Ok (Do update)) = changes_by update (effect_of state update).answer
-changes_of state (Ok Nothing) = []
-changes_of state (Ok (Ask query)) = []
-changes_of state (Err fault) = []
-
--- the state that a line leaves
-abbrev pub state_after : Contents → Result Line LineFault → Contents
-state_after state (Ok (Do update)) = (effect_of state update).state
-state_after state (Ok Nothing) = state
-state_after state (Ok (Ask query)) = state
-state_after state (Err fault) = state
-
--- the turn of a line that was read so
-abbrev pub turn_of : Contents → Result Line LineFault → Turn
-turn_of state line = record { text = text_of_reply (reply_of state line); changes = changes_of state line; state = state_after state line }
-
--- one line of a script
-unfoldable pub turn : Contents → List ℕ → Turn
-turn state bytes = turn_of state (line_of bytes)
-
--- two turns, one behind the other
-abbrev pub followed : Turn → Turn → Turn
-followed first next = record { text = first.text ++ next.text; changes = first.changes ++ next.changes; state = next.state }
-
--- the lines of a script, each in the state that those before it leave
-unfoldable pub script : Contents → List (List ℕ) → Turn
-script state [] = record { text = []; changes = []; state = state }
-script state (line ∷ lines) = followed (turn state line) (script (turn state line).state lines)
-
--- the lines that an LF ends, and the bytes after the last LF
-pub record Cut : Type 0 where
-  pub lines : List (List ℕ)
-  pub rest : List ℕ
-
--- a byte in front of what is cut
-abbrev pub behind : ℕ → List (List ℕ) → List ℕ → Cut
-behind byte [] rest = record { lines = []; rest = byte ∷ rest }
-behind byte (line ∷ lines) rest = record { lines = (byte ∷ line) ∷ lines; rest = rest }
-
-abbrev pub cut : List ℕ → Cut
-cut [] = record { lines = []; rest = [] }
-cut (byte ∷ bytes) =
-    if byte == 10
-    then record { lines = [] ∷ (cut bytes).lines; rest = (cut bytes).rest }
-    else behind byte (cut bytes).lines (cut bytes).rest
-
--- the bytes after the last LF are a line where there are any
-abbrev pub last_line : List ℕ → List (List ℕ)
-last_line [] = []
-last_line (byte ∷ bytes) = (byte ∷ bytes) ∷ []
-
--- how a run ends by its input and its updates
-pub data End : Type 0 where
-  Done : End
-  Input : InputFault → End
-
--- all that a run says and does
-pub record Transcript : Type 0 where
-  pub turn : Turn
-  pub end : End
-
--- the greatest number of bytes of a script
-unfoldable pub input_max : ℕ
-input_max = 268435456
-
--- the transcript of a script
-abbrev pub transcript : Contents → List ℕ → Transcript
-transcript state input =
-    if nat_lt input_max (length input)
-    then record { turn = script state (cut (take input_max input)).lines; end = Input Long }
-    else record { turn = script state ((cut input).lines ++ last_line (cut input).rest); end = Done }
+-- the transcript of a job
+abbrev pub IsTranscript : Contents → Job → List ℕ → Transcript → Type 0
+IsTranscript state job input whole = IsTranscriptBy job.action job.batch state input whole

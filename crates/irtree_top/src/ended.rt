@@ -1,7 +1,9 @@
 // How a run ends.
 ghost use Rattle.std.specs.Prelude.{◌≡◌, ◌++◌, OnOk, OnErr};
-ghost use Rattle.irtree_top.specs.Ended.{status_of, line_of_end};
+ghost use Rattle.irtree_top.specs.Ended.{status_of, line_of_end, line_of_input, line_of_limit, at_line};
+ghost use Rattle.irtree_top.specs.Written.{Adds};
 
+use crate::written::{write_bytes, write_number};
 use spatial_base::Memory;
 
 /// How a run ended.
@@ -19,13 +21,32 @@ pub enum Ended {
     Sink,
     /// The input is refused.
     Input(InputFault),
+    /// The map takes no further place.
+    Limit(LimitFault),
 }
 
-/// Why an input is refused.
+/// Why an input is refused. An offset counts the bytes before what offends.
 #[derive(Clone, Copy, Debug, PartialEq, Eq)]
 pub enum InputFault {
-    /// A script has more than 268,435,456 bytes.
+    /// At this offset the text of a load isn't UTF-8.
+    NotUtf8(u64),
+    /// At this offset the text of a load stops being JSON, or ends too early.
+    Syntax(u64),
+    /// At this offset the text of a load opens its 65th level.
+    TooDeep(u64),
+    /// The text of a load is JSON, and no feature and no collection of features.
+    NotFeatures,
+    /// A script has more than 268,435,456 bytes, or the text of a load more than 67,108,864.
     Long,
+}
+
+/// Which limit of the map ended a load.
+#[derive(Clone, Copy, Debug, PartialEq, Eq)]
+pub enum LimitFault {
+    /// 200,000 or more places live, and a key is new.
+    Full,
+    /// The update number is 2^40.
+    Worn,
 }
 
 impl Ended {
@@ -40,6 +61,7 @@ impl Ended {
             Ended::Source => 4,
             Ended::Sink => 5,
             Ended::Input(_) => 6,
+            Ended::Limit(_) => 8,
         }
     }
 
@@ -50,19 +72,70 @@ impl Ended {
         ensures ok { OnOk result (out.new.items ≡ out.old.items ++ line_of_end self.now) }
         ensures err { OnErr result (out.new.items ≡ out.old.items) }
     {
-        out.extend_from_slice(self.error_line()).map_err(|_| Memory)
+        let old_len = out.len();
+        let written = self.write_line(&mut *out);
+        if written.is_err() {
+            out.truncate(old_len);
+        }
+        written
     }
 
-    fn error_line(&self) -> &'static [u8]
-        ensures { result.now ≡ line_of_end self.now }
+    // Appends the line, or after want of memory a part of it.
+    fn write_line(&self, out: &mut Vec<u8>) -> Result<(), Memory>
+        ensures { Adds result out.old.items (line_of_end self.now) out.new.items }
     {
         match self {
-            Ended::Done => b"",
-            Ended::Memory => b"irtree: want of memory\n",
-            Ended::Words => b"usage: irtree STORE run|load|verify|make [options]\n",
-            Ended::Source => b"irtree: source\n",
-            Ended::Sink => b"irtree: sink\n",
-            Ended::Input(InputFault::Long) => b"irtree: input long\n",
+            Ended::Done => Ok(()),
+            Ended::Memory => write_bytes(b"irtree: want of memory\n", out),
+            Ended::Words => {
+                write_bytes(b"usage: irtree STORE run|load|verify|make [options]\n", out)
+            }
+            Ended::Source => write_bytes(b"irtree: source\n", out),
+            Ended::Sink => write_bytes(b"irtree: sink\n", out),
+            Ended::Input(fault) => {
+                write_bytes(b"irtree: input ", &mut *out)?;
+                fault.write_line(out)
+            }
+            Ended::Limit(fault) => {
+                write_bytes(b"irtree: limit ", &mut *out)?;
+                fault.write_line(out)
+            }
         }
     }
+}
+
+impl InputFault {
+    // Appends the end of the line.
+    fn write_line(&self, out: &mut Vec<u8>) -> Result<(), Memory>
+        ensures { Adds result out.old.items (line_of_input self.now) out.new.items }
+    {
+        match self {
+            InputFault::NotUtf8(at) => write_at(b"not-utf8 ", *at, out),
+            InputFault::Syntax(at) => write_at(b"syntax ", *at, out),
+            InputFault::TooDeep(at) => write_at(b"too-deep ", *at, out),
+            InputFault::NotFeatures => write_bytes(b"not-features\n", out),
+            InputFault::Long => write_bytes(b"long\n", out),
+        }
+    }
+}
+
+impl LimitFault {
+    // Appends the end of the line.
+    fn write_line(&self, out: &mut Vec<u8>) -> Result<(), Memory>
+        ensures { Adds result out.old.items (line_of_limit self.now) out.new.items }
+    {
+        match self {
+            LimitFault::Full => write_bytes(b"full\n", out),
+            LimitFault::Worn => write_bytes(b"worn\n", out),
+        }
+    }
+}
+
+// Appends a name, an offset and LF.
+fn write_at(name: &[u8], at: u64, out: &mut Vec<u8>) -> Result<(), Memory>
+    ensures { Adds result out.old.items (name.now ++ at_line at) out.new.items }
+{
+    write_bytes(name, &mut *out)?;
+    write_number(at, &mut *out)?;
+    write_bytes(b"\n", out)
 }

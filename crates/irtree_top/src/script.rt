@@ -4,7 +4,7 @@ ghost use Rattle.query_lang.specs.Line.{line_of};
 ghost use Rattle.query_lang.specs.Reply.{update_reply, reply_of};
 ghost use Rattle.place_map.specs.State.{Contents, opening};
 ghost use Rattle.place_map.specs.Update.{effect_of};
-ghost use Rattle.irtree_top.specs.Transcript.{turn, state_after, cut, script, last_line};
+ghost use Rattle.irtree_top.specs.Script.{turn, state_after, cut, script, last_line};
 ghost use Rattle.irtree_top.specs.Feed.{kept, EndsNoLine, text_in, state_in, HasSinkEnd};
 ghost use Rattle.irtree_top.specs.Run.{SaysFrontOf};
 
@@ -58,7 +58,7 @@ fn reply_to(alloc: Global, state: &mut State, line: &[u8]) -> Result<Reply, Memo
 }
 
 // Acts on a line and says its reply whole.
-#[tactic(auto, unfolding(crate::specs::Transcript::turn))]
+#[tactic(auto, unfolding(crate::specs::Script::turn))]
 fn act<T: Station>(
     alloc: Global,
     state: &mut State,

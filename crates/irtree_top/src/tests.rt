@@ -43,12 +43,14 @@ static SCRIPTS: [(&[u8], &[u8]); 10] = [
 static PIECES: [usize; 4] = [1, 2, 7, 65_536];
 
 // Words that are no command.
-static REFUSED: [&[&str]; 6] = [
+static REFUSED: [&[&str]; 8] = [
     &[],
     &["-"],
     &["-", "dance"],
+    &["-", "verify"],
     &["run", "-"],
     &["-", "run", "--count", "5"],
+    &["-", "load", "--batch", "1"],
     &["store", "run"],
 ];
 
@@ -61,7 +63,7 @@ fn words(alloc: Global, given: &[&str]) -> Result<Vec<String>, Fail> {
 }
 
 // What a run on these words says, and how it ends.
-fn run_over(
+pub(crate) fn run_over(
     alloc: Global,
     given: &[&str],
     source: &mut impl Source,
@@ -144,9 +146,9 @@ fn a_sink_that_fails_ends_the_run(rt: HostRuntime) -> Result<(), Fail> {
 
 // A source that makes its bytes: a first line, and spaces.
 #[derive(Drop)]
-struct Spaces {
-    begun: bool,
-    left: usize,
+pub(crate) struct Spaces {
+    pub(crate) begun: bool,
+    pub(crate) left: usize,
 }
 
 impl Source for Spaces {

@@ -1,6 +1,7 @@
 use Rattle.std.proofs.Common.{◌≡◌, [], ◌++◌, subst, arith, ◌∙◌}
 use Rattle.std.specs.Prelude.{OnOk}
-use Rattle.irtree_top.specs.Transcript.{Turn, turn}
+use Rattle.irtree_top.specs.Turn.{Turn}
+use Rattle.irtree_top.specs.Script.{turn}
 use Rattle.irtree_top.specs.Run.{SaysFrontOf}
 use Rattle.irtree_top.proofs.Lines.{turn-fresh, turn-ended, none-left}
 use Rattle.irtree_top.proofs.script.Script.end_line.Goals as goal

@@ -1,7 +1,7 @@
 use Rattle.std.proofs.Common.{◌≡◌, ◌-◌, ◌≤◌, length}
 use Rattle.std.specs.Prelude.{IsTrue, vec_len}
 use Rattle.irtree_top.specs.Standing.{Standing}
-use Rattle.irtree_top.proofs.top.run_script.Given as goal
+use Rattle.irtree_top.proofs.script_run.run_script.Given as goal
 
 abbrev pub invariant-pieces : goal.invariant-pieces
 invariant-pieces g l = record {

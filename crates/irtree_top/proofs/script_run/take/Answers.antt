@@ -1,7 +1,8 @@
-use Rattle.std.proofs.Common.{◌≡◌, ◌+◌, ◌-◌, ◌++◌, drop, sym, ap, ◌∙◌, arith, append_assoc, length-append}
-use Rattle.std.proofs.lemmas.List.{take-append-drop}
-use Rattle.irtree_top.proofs.Standing.{input_max-is, standing-front, standing-ends, standing-line, standing-fed, standing-breaks, standing-long, stops-from-front, end-from-sink}
-use Rattle.irtree_top.proofs.top.take.Goals as goal
+use Rattle.std.proofs.Common.{◌-◌, ◌++◌, arith, length-append}
+use Rattle.place_map.specs.State.{opening}
+use Rattle.irtree_top.specs.Script.{script_transcript}
+use Rattle.irtree_top.proofs.Standing.{input_max-is, parts-came, standing-front, standing-ends, standing-line, standing-fed, standing-breaks, standing-long, stops-from-front, end-from-sink}
+use Rattle.irtree_top.proofs.script_run.take.Goals as goal
 
 pub overflow_sub-room : goal.overflow_sub-room
 overflow_sub-room g c = c.requires.few
@@ -25,10 +26,7 @@ returns-in-Ok-clause-told g c = λ told input left next old is s.
     let line = standing-line input left old _ _ _ _ s in
     let within = c.split_at.result.0.now in
     let beyond = c.split_at.result.1.now in
-    let parts : c.args.piece.now ≡ within ++ beyond =
-    sym (take-append-drop (268435456 - c.args.taken) c.args.piece.now)
-    ∙ ap (λ b. b ++ drop (268435456 - c.args.taken) c.args.piece.now) (sym c.split_at.ensures.front) ∙ ap (λ b. within ++ b) (sym c.split_at.ensures.back) in
-    let came : left ≡ within ++ (beyond ++ next) = is ∙ ap (λ p. p ++ next) parts ∙ append_assoc within beyond next in
+    let came = parts-came c.args.piece.now within beyond left next (268435456 - c.args.taken) c.split_at.ensures.front c.split_at.ensures.back is in
     let fed = standing-fed input left old _ _ _ _ s within (beyond ++ next) _ _ _ came (c.in-Ok.ensures.state front ends line) (c.in-Ok.ensures.line front ends line) (c.in-Ok.ensures.said front ends line told) in
     standing-long input _ old _ _ _ _ fed (omega (arith, c.split_at.ensures.front_len, input_max-is)) (omega (arith, c.split_at.ensures.back_len, length-append beyond next))
 
@@ -42,11 +40,8 @@ returns-in-Err-clause-told g c = λ told input left next old is s.
     let line = standing-line input left old _ _ _ _ s in
     let within = c.split_at.result.0.now in
     let beyond = c.split_at.result.1.now in
-    let parts : c.args.piece.now ≡ within ++ beyond =
-    sym (take-append-drop (268435456 - c.args.taken) c.args.piece.now)
-    ∙ ap (λ b. b ++ drop (268435456 - c.args.taken) c.args.piece.now) (sym c.split_at.ensures.front) ∙ ap (λ b. within ++ b) (sym c.split_at.ensures.back) in
-    let came : left ≡ within ++ (beyond ++ next) = is ∙ ap (λ p. p ++ next) parts ∙ append_assoc within beyond next in
-    stops-from-front input old _ (g.T.Disk.world c.args.station.now) (g.T.Disk.world c.feed.new.station) c.in-Err.end c.in-Err.ensures.cause.cause
+    let came = parts-came c.args.piece.now within beyond left next (268435456 - c.args.taken) c.split_at.ensures.front c.split_at.ensures.back is in
+    stops-from-front (script_transcript opening input) old _ (g.T.Disk.world c.args.station.now) (g.T.Disk.world c.feed.new.station) c.in-Err.end c.in-Err.ensures.cause.cause
     (standing-breaks input left old _ _ _ _ s within (beyond ++ next) _ came (omega (arith, c.split_at.ensures.front_len, input_max-is)) (c.in-Err.ensures.front front ends line told))
 
 pub returns-in-Err-clause-cause : goal.returns-in-Err-clause-cause
@@ -77,7 +72,7 @@ returns-in-Err-feed-clause-told g c = λ told input left next old is s.
     let front = standing-front input left old _ _ _ _ s in
     let ends = standing-ends input left old _ _ _ _ s in
     let line = standing-line input left old _ _ _ _ s in
-    stops-from-front input old _ (g.T.Disk.world c.args.station.now) (g.T.Disk.world c.feed-2.new.station) c.in-Err-feed.end c.in-Err-feed.ensures.cause.cause
+    stops-from-front (script_transcript opening input) old _ (g.T.Disk.world c.args.station.now) (g.T.Disk.world c.feed-2.new.station) c.in-Err-feed.end c.in-Err-feed.ensures.cause.cause
     (standing-breaks input left old _ _ _ _ s c.args.piece.now next _ is (omega (arith, input_max-is)) (c.in-Err-feed.ensures.front front ends line told))
 
 pub returns-in-Err-feed-clause-cause : goal.returns-in-Err-feed-clause-cause

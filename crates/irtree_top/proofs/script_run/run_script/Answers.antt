@@ -1,7 +1,7 @@
-use Rattle.std.proofs.Common.{◌≡◌, ◌+◌, ◌++◌, [], length, take, drop, sym, ap, ◌∙◌, arith}
+use Rattle.std.proofs.Common.{◌≡◌, ◌++◌, [], length, take, drop, sym, ap, ◌∙◌, arith}
 use Rattle.irtree_top.proofs.Standing.{input_max-is, standing-start, standing-front, standing-line, standing-stops}
 use Rattle.irtree_top.proofs.Endings.{standing-new, none-behind, stops-ends, standing-failed, standing-ended, cause-then, cause-of-piece, take-over}
-use Rattle.irtree_top.proofs.top.run_script.Goals as goal
+use Rattle.irtree_top.proofs.script_run.run_script.Goals as goal
 
 pub returns-in-Err-clause-cause : goal.returns-in-Err-clause-cause
 returns-in-Err-clause-cause g c = record { source = omega arith; sink = omega arith; cause = tt }

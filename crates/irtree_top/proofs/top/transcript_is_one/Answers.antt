@@ -1,0 +1,5 @@
+use Rattle.irtree_top.proofs.Jobs.{transcript-one}
+use Rattle.irtree_top.proofs.top.transcript_is_one.Goals as goal
+
+pub returns : goal.returns
+returns c = transcript-one c.outcome_is_one.ensures

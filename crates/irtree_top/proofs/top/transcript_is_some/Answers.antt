@@ -1,0 +1,5 @@
+use Rattle.irtree_top.proofs.Jobs.{transcript-some}
+use Rattle.irtree_top.proofs.top.transcript_is_some.Goals as goal
+
+pub returns : goal.returns
+returns c = transcript-some c.outcome_is_some.ensures
