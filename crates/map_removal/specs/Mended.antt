@@ -1,0 +1,33 @@
+-- What taking out a row does to trees of pages.
+use Rattle.std.specs.Prelude.{◌≡◌, ℕ, ◌+◌, List, [], ◌∷◌, Bool, if◌then◌else◌}
+use Rattle.page_face.specs.FreeList.{PageMap}
+use Rattle.map_nodes.specs.declared.form.Form.{Form}
+use Rattle.map_nodes.specs.Supply.{View, view, Moves, one_at}
+use Rattle.map_nodes.specs.Rows.{Row}
+use Rattle.map_nodes.specs.Nodes.{Entry}
+use Rattle.map_nodes.specs.Tree.{uses, total, IsFan, IsTree}
+use Rattle.map_nodes.specs.Store.{below_rows}
+
+-- two pages have become one, of these bytes, and the other one is free
+pub record IsMerged (before : View) (pages : PageMap) (count first left right : ℕ) (bytes : List ℕ) : Type 0 where
+  pub free : List ℕ
+  pub moves : Moves before (view pages count first free) (λ n. one_at left n + one_at right n) (one_at left)
+  pub here : pages left ≡ bytes
+
+-- two pages have been written
+pub record IsHalved (before : View) (pages : PageMap) (count first left right : ℕ) (front back : List ℕ) : Type 0 where
+  pub free : List ℕ
+  pub moves : Moves before (view pages count first free) (λ n. one_at left n + one_at right n) (λ n. one_at left n + one_at right n)
+  pub here : pages left ≡ front
+  pub there : pages right ≡ back
+
+-- Trees of the pages `mine` have become those of these entries, side by side from `low` up to `high`, with these rows; no page is lost.
+pub record Becomes (form : Form) (least : ℕ) (before : View) (mine : ℕ → ℕ) (pages : PageMap) (count first level low high : ℕ) (rows : List Row) (entries : List Entry) : Type 0 where
+  pub free : List ℕ
+  pub moves : Moves before (view pages count first free) mine (λ n. total (λ c. uses form pages level c n) entries)
+  pub fan : IsFan (IsTree form least pages level) low high entries
+  pub gives : below_rows form pages level entries ≡ rows
+
+-- the entries of two neighbours: of the left one alone where they were merged, and else of both, the right one under a new key
+abbrev pub joined : Bool → ℕ → ℕ → ℕ → ℕ → List Entry
+joined merged low left right middle = if merged then (low, left) ∷ [] else (low, left) ∷ ((middle, right) ∷ [])

@@ -1,0 +1,10 @@
+//! The way of a row out of a paged map: pages that have become too empty share their cells with a neighbour.
+//!
+//! A page other than the root holds at least half of the cells that fit. Where a page has fewer after a row was taken
+//! out, its cells and those of a neighbour are gathered. Where they fit in one page they become one, and the other page
+//! is given back; else each of the two gets half of them.
+#![tactic(auto)]
+
+mod pair;
+
+pub use pair::{halve, merge};
