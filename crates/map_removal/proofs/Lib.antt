@@ -1,2 +1,4 @@
 pub mod Gives
+pub mod Bodies
+pub mod Joins
 pub mod Pairs

@@ -6,5 +6,7 @@
 #![tactic(auto)]
 
 mod pair;
+mod sharing;
 
 pub use pair::{halve, merge};
+pub use sharing::{shape_at, share};
