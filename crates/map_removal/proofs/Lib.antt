@@ -1,4 +1,5 @@
 pub mod Gives
 pub mod Bodies
 pub mod Joins
+pub mod Holds
 pub mod Pairs

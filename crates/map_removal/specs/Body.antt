@@ -1,5 +1,5 @@
 -- The cells of a page of a map, apart from the page.
-use Rattle.std.specs.Prelude.{◌≡◌, ℕ, zero, suc, ◌+◌, List, [], ◌∷◌, ◌++◌, take, drop, map, replicate}
+use Rattle.std.specs.Prelude.{◌≡◌, ℕ, zero, suc, ◌+◌, ◌*◌, List, [], ◌∷◌, ◌++◌, length, take, drop, map, replicate}
 use Rattle.page_face.specs.FreeList.{PageMap}
 use Rattle.page_cells.specs.Number.{number}
 use Rattle.page_cells.specs.Cells.{chop}
@@ -47,3 +47,15 @@ cleared (suc level) key bytes = replicate key 0 ++ drop key bytes
 abbrev pub headed : ℕ → ℕ → List ℕ → List ℕ → List ℕ
 headed zero key parting bytes = bytes
 headed (suc level) key parting bytes = parting ++ drop key bytes
+
+-- the bytes of so many cells of a page
+abbrev pub cells_in : ℕ → ℕ → List ℕ → List ℕ
+cells_in width count page = take (width * count) (drop 16 page)
+
+-- cells without the one at this place
+abbrev pub without_cell : ℕ → ℕ → List ℕ → List ℕ
+without_cell width at cells = take (width * at) cells ++ drop (width * at + width) cells
+
+-- cells with another key at this place
+abbrev pub with_key : ℕ → ℕ → List ℕ → List ℕ → List ℕ
+with_key width at key cells = take (width * at) cells ++ (key ++ drop (width * at + length key) cells)

@@ -5,6 +5,8 @@
 //! is given back; else each of the two gets half of them.
 #![tactic(auto)]
 
+mod cells;
+mod join;
 mod pair;
 mod sharing;
 
