@@ -1,11 +1,11 @@
 -- What taking out a row does to trees of pages.
-use Rattle.std.specs.Prelude.{◌≡◌, ℕ, ◌+◌, List, [], ◌∷◌, Bool, if◌then◌else◌}
+use Rattle.std.specs.Prelude.{◌≡◌, ℕ, ◌+◌, List, [], ◌∷◌, ◌++◌, length, Bool, if◌then◌else◌}
 use Rattle.page_face.specs.FreeList.{PageMap}
 use Rattle.map_nodes.specs.declared.form.Form.{Form}
 use Rattle.map_nodes.specs.Supply.{View, view, Moves, one_at}
 use Rattle.map_nodes.specs.Rows.{Row}
-use Rattle.map_nodes.specs.Nodes.{Entry}
-use Rattle.map_nodes.specs.Tree.{uses, total, IsFan, IsTree}
+use Rattle.map_nodes.specs.Nodes.{Entry, half_of}
+use Rattle.map_nodes.specs.Tree.{uses, total, next_key, IsFan, IsTree}
 use Rattle.map_nodes.specs.Store.{below_rows}
 
 -- two pages have become one, of these bytes, and the other one is free
@@ -31,3 +31,16 @@ pub record Becomes (form : Form) (least : ℕ) (before : View) (mine : ℕ → �
 -- the entries of two neighbours: of the left one alone where they were merged, and else of both, the right one under a new key
 abbrev pub joined : Bool → ℕ → ℕ → ℕ → ℕ → List Entry
 joined merged low left right middle = if merged then (low, left) ∷ [] else (low, left) ∷ ((middle, right) ∷ [])
+
+-- Of these entries, that at the place and the next one head trees, of which one may have few cells. All before and behind the two head trees that are half full.
+pub record HasPair (form : Form) (pages : PageMap) (level low high at : ℕ) (entries : List Entry) : Type 0 where
+  pub xs : List Entry
+  pub ys : List Entry
+  pub left : Entry
+  pub right : Entry
+  pub is : entries ≡ xs ++ (left ∷ (right ∷ ys))
+  pub place : length xs ≡ at
+  pub front : IsFan (IsTree form (half_of form level) pages level) low left.0 xs
+  pub first : IsTree form 1 pages level left.1 left.0 right.0
+  pub second : IsTree form 1 pages level right.1 right.0 (next_key high ys)
+  pub back : IsFan (IsTree form (half_of form level) pages level) (next_key high ys) high ys

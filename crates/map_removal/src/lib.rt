@@ -7,6 +7,7 @@
 
 mod cells;
 mod join;
+mod mend;
 mod pair;
 mod sharing;
 
