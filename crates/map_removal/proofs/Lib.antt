@@ -5,4 +5,6 @@ pub mod Holds
 pub mod Changes
 pub mod Mending
 pub mod Relinks
+pub mod Walks
+pub mod Outs
 pub mod Pairs

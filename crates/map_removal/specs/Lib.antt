@@ -1,2 +1,3 @@
 pub mod Body
 pub mod Mended
+pub mod Removal

@@ -7,7 +7,9 @@
 
 mod cells;
 mod join;
+mod leaf;
 mod mend;
+mod node;
 mod pair;
 mod sharing;
 
