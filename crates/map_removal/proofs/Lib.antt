@@ -3,8 +3,9 @@ pub mod Bodies
 pub mod Joins
 pub mod Holds
 pub mod Changes
-pub mod Mending
+pub mod Among
 pub mod Relinks
 pub mod Walks
 pub mod Outs
+pub mod Settles
 pub mod Pairs

@@ -21,7 +21,7 @@ use Rattle.map_removal.proofs.Gives.{moves-give, page-some}
 use Rattle.map_removal.proofs.Joins.{few, width-some}
 use Rattle.map_removal.proofs.Holds.{cells-rows, becomes-as}
 use Rattle.map_removal.proofs.Changes.{rows-without, length-without}
-use Rattle.map_removal.proofs.Mending.{written-becomes}
+use Rattle.map_removal.proofs.Among.{written-becomes}
 
 empty : (rows : List Row) → length rows ≡ 0 → rows ≡ []
 empty [] h = refl

@@ -24,7 +24,7 @@ use Rattle.map_removal.proofs.Bodies.{length-entries_of}
 use Rattle.map_removal.proofs.Holds.{becomes-as, cells-entries, cells-first}
 use Rattle.map_removal.proofs.Joins.{few}
 use Rattle.map_removal.proofs.Changes.{entries-without, length-without, entries-with, length-with, first-stays, with_low-take, drop-low}
-use Rattle.map_removal.proofs.Mending.{written-becomes, front-same, back-same, among-moves, among-rows, fan-between}
+use Rattle.map_removal.proofs.Among.{written-becomes, front-same, back-same, among-moves, among-rows, fan-between}
 
 -- the count of a page that was made
 pub made-count : (number kind level count : ℕ) (bytes : List ℕ) → count < 2 ^ 16 → count_of (image number kind level count bytes) ≡ count

@@ -1,5 +1,5 @@
 -- One step down a tree: what a page's child has is what the page has.
-use Rattle.std.proofs.Common.{◌≡◌, ℕ, zero, suc, ◌+◌, ◌<◌, ◌≤◌, ◌⊎◌, inl, inr, List, [], ◌∷◌, ◌++◌, length, arith, refl, sym, ap, ◌∙◌, subst, Result, Ok, Err, Option, Some, None, Bool, true, false, if◌then◌else◌, ⊎_elim, get_or}
+use Rattle.std.proofs.Common.{append_assoc, ◌≡◌, ℕ, zero, suc, ◌+◌, ◌<◌, ◌≤◌, ◌⊎◌, inl, inr, List, [], ◌∷◌, ◌++◌, length, arith, refl, sym, ap, ◌∙◌, subst, Result, Ok, Err, Option, Some, None, Bool, true, false, if◌then◌else◌, ⊎_elim, get_or}
 use Rattle.std.proofs.lemmas.Bool.{cases_lt}
 use Rattle.std.specs.Result.{IfOk, IsErrOf}
 use Rattle.page_face.specs.FreeList.{PageMap}
@@ -14,7 +14,8 @@ use Rattle.map_nodes.specs.Rows.{Row, lookup}
 use Rattle.map_nodes.specs.Nodes.{Entry, count_of, rows_in, entries_in, half_of, IsLeaf}
 use Rattle.map_nodes.specs.Tree.{IsTree, IsPlaceFor, rows_at, uses}
 use Rattle.map_nodes.specs.Bounds.{low_at, high_at, child_of}
-use Rattle.map_nodes.specs.Damages.{IsDamaged, AreTold, AskedSince, AsksOnly}
+use Rattle.map_nodes.specs.Damages.{BreaksLeaf, BreaksInner, IsDamaged, AreTold, AskedSince, AsksOnly}
+use Rattle.map_removal.specs.Removal.{BreaksAt}
 use Rattle.map_nodes.proofs.Spots.{length-entries_in}
 use Rattle.map_nodes.proofs.Trees.{tree-child, child-uses, child-damage, place-lookup, tree-size}
 use Rattle.map_nodes.proofs.Harms.{asked-here, asked-sooner, asks-here, asks-further, asks-more, asks-nothing}
@@ -119,3 +120,45 @@ module _ (form : Form) (pages : PageMap) (bytes : List ℕ) (level l page at : �
       ap (λ (k : ℕ). lookup key (rows_at form pages k page)) up
       ∙ place-lookup form least pages l page low high key at (subst (λ (k : ℕ). IsTree form least pages k page low high) up tree) from to (subst (λ (b : List ℕ). IsPlaceFor (entries_in form b) key at) is place)
       ∙ ap (λ (c : ℕ). lookup key (rows_at form pages l c)) (sym e')
+
+-- the damage is the rule that a page was refused for
+pub damage-rule : (form : Form) (pages : PageMap) (count : ℕ) (damage : Damage) (least level page low high : ℕ) (bytes : List ℕ) (rule : Rule) (fault : PageFault) → bytes ≡ pages page
+    → fault ≡ Damaged (record { page = page; rule = rule }) → fault ≡ Damaged damage → BreaksAt rule form least level low high bytes → IsDamaged form pages count damage least level page low high
+damage-rule form pages count damage least zero page low high bytes rule fault is e f h =
+    let same : record { page = page; rule = rule } ≡ damage = cc in
+    subst (λ (d : Damage). IsDamaged form pages count d least 0 page low high) same (refl, inr (subst (λ (b : List ℕ). BreaksLeaf rule form least low high b) is h))
+damage-rule form pages count damage least (suc level) page low high bytes rule fault is e f h =
+    let same : record { page = page; rule = rule } ≡ damage = cc in
+    subst (λ (d : Damage). IsDamaged form pages count d least (suc level) page low high) same (inl (refl, inr (subst (λ (b : List ℕ). BreaksInner rule form least (suc level) low high b) is h)))
+
+-- a page asked for stays so when more are
+pub asked-later : (mine : ℕ → ℕ) (before middle after : List ℕ) (page : ℕ) → AskedSince before middle page → AsksOnly mine middle after → AskedSince before after page
+asked-later mine before middle after page a m = record {
+  front = a.front;
+  back = a.back ++ m.more;
+  is = m.is ∙ ap (λ (x : List ℕ). x ++ m.more) a.is ∙ append_assoc before (a.front ++ (page ∷ a.back)) m.more
+      ∙ ap (λ (x : List ℕ). before ++ x) (append_assoc a.front (page ∷ a.back) m.more);
+}
+
+-- a page that is asked for now
+pub asked-now : (mine : ℕ → ℕ) (before middle after : List ℕ) (page : ℕ) → AsksOnly mine before middle → after ≡ middle ++ page ∷ [] → AskedSince before after page
+asked-now mine before middle after page m e = record {
+  front = m.more;
+  back = [];
+  is = e ∙ ap (λ (x : List ℕ). x ++ page ∷ []) m.is ∙ append_assoc before m.more (page ∷ []);
+}
+
+-- a page asked for before the first of these, where that one was itself asked for later than this
+pub asked-from : (before middle after : List ℕ) (first page : ℕ) → AskedSince before middle first → AskedSince middle after page → AskedSince before after page
+asked-from before middle after first page a b = record {
+  front = (a.front ++ (first ∷ a.back)) ++ b.front;
+  back = b.back;
+  is = b.is ∙ ap (λ (x : List ℕ). x ++ (b.front ++ (page ∷ b.back))) a.is ∙ append_assoc before (a.front ++ (first ∷ a.back)) (b.front ++ (page ∷ b.back))
+      ∙ ap (λ (x : List ℕ). before ++ x) (sym (append_assoc (a.front ++ (first ∷ a.back)) b.front (page ∷ b.back)));
+}
+
+-- a read that was refused as damaged has asked for its page
+pub named-refused : {T : Type 0} (asked new : List ℕ) (child : ℕ) (result : Result T PageFault) (damage : Damage) → new ≡ asked_after result child asked → result ≡ Err (Damaged damage) → damage.page ≡ child → AskedSince asked new damage.page
+named-refused {T = T} asked new child result damage n e same =
+    asked-here asked new damage.page
+    (n ∙ ap (λ (r : Result T PageFault). asked_after r child asked) e ∙ ap (λ (p : ℕ). asked ++ p ∷ []) (sym same))

@@ -1,5 +1,5 @@
 -- What taking out a row does to trees of pages.
-use Rattle.std.specs.Prelude.{◌≡◌, ℕ, ◌+◌, List, [], ◌∷◌, ◌++◌, length, Bool, if◌then◌else◌}
+use Rattle.std.specs.Prelude.{◌≡◌, ◌⊎◌, ℕ, ◌+◌, ◌<◌, List, [], ◌∷◌, ◌++◌, length, Bool, if◌then◌else◌}
 use Rattle.page_face.specs.FreeList.{PageMap}
 use Rattle.map_nodes.specs.declared.form.Form.{Form}
 use Rattle.map_nodes.specs.Supply.{View, view, Moves, one_at}
@@ -44,3 +44,18 @@ pub record HasPair (form : Form) (pages : PageMap) (level low high at : ℕ) (en
   pub first : IsTree form 1 pages level left.1 left.0 right.0
   pub second : IsTree form 1 pages level right.1 right.0 (next_key high ys)
   pub back : IsFan (IsTree form (half_of form level) pages level) (next_key high ys) high ys
+
+-- Of these entries, that at the place heads a tree whose top has at least `left` cells. All before and behind it head trees that are half full.
+pub record HasLow (form : Form) (pages : PageMap) (level low high at left : ℕ) (entries : List Entry) : Type 0 where
+  pub xs : List Entry
+  pub ys : List Entry
+  pub child : Entry
+  pub is : entries ≡ xs ++ (child ∷ ys)
+  pub place : length xs ≡ at
+  pub front : IsFan (IsTree form (half_of form level) pages level) low child.0 xs
+  pub tree : IsTree form left pages level child.1 child.0 (next_key high ys)
+  pub back : IsFan (IsTree form (half_of form level) pages level) (next_key high ys) high ys
+
+-- one place is next to another one, among so many
+abbrev pub IsBeside : ℕ → ℕ → ℕ → Type 0
+IsBeside at count near = (near < count) × ((near ≡ at + 1) ⊎ (near + 1 ≡ at))

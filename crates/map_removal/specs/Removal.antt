@@ -1,11 +1,11 @@
 -- What taking out a row answers.
-use Rattle.std.specs.Prelude.{◌≡◌, ℕ, zero, suc, ◌+◌, ◌<◌, ◌≤◌, List, [], ◌∷◌, Option, Some, None}
+use Rattle.std.specs.Prelude.{◌≡◌, ℕ, zero, suc, ◌+◌, ◌*◌, ◌<◌, ◌≤◌, List, [], ◌∷◌, Option, Some, None}
 use Rattle.page_face.specs.FreeList.{PageMap}
 use Rattle.page_face.specs.declared.fault.Rule.{Rule}
 use Rattle.map_nodes.specs.declared.form.Form.{Form}
 use Rattle.map_nodes.specs.Supply.{View, view, Moves}
 use Rattle.map_nodes.specs.Rows.{Row, lookup, without}
-use Rattle.map_nodes.specs.Nodes.{count_of}
+use Rattle.map_nodes.specs.Nodes.{count_of, width_of}
 use Rattle.map_nodes.specs.Damages.{BreaksLeaf, BreaksInner}
 use Rattle.map_removal.specs.Mended.{Becomes}
 
@@ -32,10 +32,18 @@ abbrev pub HasRemoved : Form → View → (ℕ → ℕ) → PageMap → ℕ → 
 HasRemoved form before mine pages count first level page low high key rows bytes None = lookup key rows ≡ None
 HasRemoved form before mine pages count first level page low high key rows bytes (Some left) = IsOut form before mine pages count first level page low high key rows bytes left
 
--- The bytes have the count that is answered, which is that before or one less.
-abbrev pub IsLess : ℕ → List ℕ → List ℕ → Option ℕ → Type 0
-IsLess least old new None = new ≡ old
-IsLess least old new (Some left) = (0 < left → left ≡ count_of new) × (left ≤ count_of old) × (count_of old ≤ left + 1) × (least ≤ left + 1)
+-- A page that has `left` cells had at most one more, and not fewer than its least number, all of which fit.
+pub record IsLess (form : Form) (level least : ℕ) (old new : List ℕ) (left : ℕ) : Type 0 where
+  pub counted : 0 < left → left ≡ count_of new
+  pub most : left ≤ count_of old
+  pub one : count_of old ≤ left + 1
+  pub fill : least ≤ left + 1
+  pub fits : 16 + width_of form level * left ≤ 4096
+
+-- the page's bytes are as they were, or have at most one cell less
+abbrev pub Lessens : Form → ℕ → ℕ → List ℕ → List ℕ → Option ℕ → Type 0
+Lessens form level least old new None = new ≡ old
+Lessens form level least old new (Some left) = IsLess form level least old new left
 
 -- where no row had the key, the pages are as they were
 abbrev pub IsSame : PageMap → PageMap → ℕ → ℕ → Option ℕ → Type 0

@@ -5,12 +5,14 @@
 //! is given back; else each of the two gets half of them.
 #![tactic(auto)]
 
+mod beside;
 mod cells;
 mod join;
 mod leaf;
-mod mend;
+mod mending;
 mod node;
 mod pair;
+mod settling;
 mod sharing;
 
 pub use pair::{halve, merge};

@@ -8,7 +8,7 @@ use Rattle.map_nodes.specs.Tree.{next_key}
 use Rattle.map_removal.specs.Body.{without_cell, with_key, cells_in}
 use Rattle.map_removal.proofs.Joins.{few}
 use Rattle.map_removal.proofs.Relinks.{made-count, can-join, mended-merged, mended-shared}
-use Rattle.map_removal.proofs.mend.mend_in.Goals as goal
+use Rattle.map_removal.proofs.mending.mend_in.Goals as goal
 
 pub returns-then-merged-clause-counted : goal.returns-then-merged-clause-counted
 returns-then-merged-clause-counted g c =
