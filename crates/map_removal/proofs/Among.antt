@@ -1,5 +1,5 @@
 -- Trees that change beside others, and pages that are written above them.
-use Rattle.std.proofs.Common.{◌≡◌, ℕ, zero, suc, ◌+◌, ◌-◌, ◌*◌, ◌^◌, ◌<◌, ◌≤◌, List, [], ◌∷◌, ◌++◌, length, get_or, take, drop, arith, refl, sym, ap, ◌∙◌, subst, append-nil, append_assoc}
+use Rattle.std.proofs.Common.{◌≡◌, ℕ, ◌+◌, ◌*◌, ◌^◌, ◌<◌, ◌≤◌, List, [], ◌∷◌, ◌++◌, length, arith, refl, sym, ap, ◌∙◌, subst, append-nil}
 use Rattle.page_face.specs.FreeList.{PageMap, with_page}
 use Rattle.page_cells.specs.Build.{image}
 use Rattle.map_nodes.specs.declared.form.Form.{Form}
@@ -8,11 +8,11 @@ use Rattle.map_nodes.specs.Rows.{Row}
 use Rattle.map_nodes.specs.Nodes.{Entry, width_of, half_of}
 use Rattle.map_nodes.specs.Tree.{next_key, IsFan, IsTree, rows_at, uses, total}
 use Rattle.map_nodes.specs.Store.{below_rows}
-use Rattle.map_nodes.proofs.Supplies.{moves-write, moves-beside, moves-as, moves-further, one_at-same, with-same, with-other}
+use Rattle.map_nodes.proofs.Supplies.{moves-write, moves-beside, moves-as, one_at-same, with-same, with-other}
 use Rattle.map_nodes.proofs.Frames.{SameFan, fan-frame, tree-frame, fan-head, fan-append, flat_map-append, total-append}
 use Rattle.map_removal.specs.Body.{kind_of, IsBody, body_rows, body_uses}
 use Rattle.map_removal.specs.Mended.{Becomes}
-use Rattle.map_removal.proofs.Bodies.{SameBody, body-frame, IsTreeOf, tree-of, body-lt}
+use Rattle.map_removal.proofs.Bodies.{body-frame, tree-of, body-lt}
 
 -- a counted page in use is written: its cells are then a tree
 pub written-becomes : (form : Form) (least : ℕ) (old new : PageMap) (count first count' first' level page low high n : ℕ) (free bytes : List ℕ)

@@ -1,23 +1,22 @@
 -- The cells of a node: cut in two, joined, and written into a page.
-use Rattle.std.proofs.Common.{◌≡◌, ℕ, zero, suc, ◌+◌, ◌-◌, ◌*◌, ◌^◌, ◌<◌, ◌≤◌, List, [], ◌∷◌, ◌++◌, length, get_or, take, drop, map, replicate, arith, refl, sym, ap, ◌∙◌, subst}
-use Rattle.std.specs.List.{flat_map}
+use Rattle.std.proofs.Common.{◌≡◌, ℕ, zero, suc, ◌+◌, ◌-◌, ◌*◌, ◌^◌, ◌<◌, ◌≤◌, List, [], ◌∷◌, ◌++◌, length, take, drop, map, replicate, arith, refl, sym, ap, ◌∙◌, subst}
 use Rattle.std.specs.Int.{from_be_bytes, w32}
-use Rattle.std.proofs.lemmas.List.{drop-take, length-drop, length-append, length-replicate, map-append, take-take, take-append-drop, take-append-le, take_at, drop_at, drop-drop, length-take-le, length-map}
+use Rattle.std.proofs.lemmas.List.{drop-take, length-drop, length-replicate, map-append, take-take, take-append-drop, take-append-le, take_at, drop_at, drop-drop, length-take-le, length-map}
 use Rattle.std.proofs.Math.Nat.{mul-le-mul_left, mul-zero, zero-mul}
 use Rattle.page_face.specs.FreeList.{PageMap}
 use Rattle.page_cells.specs.Number.{number}
-use Rattle.page_cells.specs.Cells.{chop, cells, key_at}
+use Rattle.page_cells.specs.Cells.{chop, key_at}
 use Rattle.page_cells.specs.Build.{image}
 use Rattle.page_cells.proofs.Chops.{chop-append, length-chop}
 use Rattle.map_nodes.specs.declared.form.Form.{Form}
 use Rattle.map_nodes.specs.Supply.{one_at}
 use Rattle.map_nodes.specs.Rows.{Row, IsWithin}
-use Rattle.map_nodes.specs.Nodes.{Entry, count_of, rows_in, row_of, entries_in, entry_of, width_of, half_of, IsNode, IsLeaf, IsInner}
+use Rattle.map_nodes.specs.Nodes.{Entry, rows_in, row_of, entries_in, entry_of, width_of, half_of, IsLeaf, IsInner}
 use Rattle.map_nodes.specs.Tree.{next_key, IsTree, IsFan, rows_at, uses, total, with_low}
 use Rattle.map_nodes.specs.Store.{below_rows}
 use Rattle.map_nodes.proofs.Spans.{within-le, within-append}
 use Rattle.map_nodes.proofs.Fans.{with_low-rows, length-with_low}
-use Rattle.map_nodes.proofs.Frames.{SameFan, fan-frame, fan-head, fan-append, tree-frame, flat_map-append, total-append, with_low-total}
+use Rattle.map_nodes.proofs.Frames.{fan-frame, fan-head, fan-append, tree-frame, flat_map-append, total-append, with_low-total}
 use Rattle.map_nodes.proofs.Images.{image-node, image-rows, image-cells}
 use Rattle.map_removal.specs.Body.{kind_of, rows_of, entries_of, IsBody, body_rows, body_uses, cleared, headed}
 

@@ -1,11 +1,11 @@
 -- Cells without one of them, and with another key at one.
-use Rattle.std.proofs.Common.{◌≡◌, ℕ, zero, suc, ◌+◌, ◌-◌, ◌*◌, ◌<◌, ◌≤◌, List, [], ◌∷◌, ◌++◌, length, take, drop, map, arith, refl, sym, ap, ◌∙◌, subst, append_assoc}
+use Rattle.std.proofs.Common.{◌≡◌, ℕ, zero, suc, ◌+◌, ◌*◌, ◌<◌, ◌≤◌, List, [], ◌∷◌, ◌++◌, length, take, drop, map, arith, refl, sym, ap, ◌∙◌}
 use Rattle.std.specs.List.{take-map, drop-map}
-use Rattle.std.proofs.lemmas.List.{map-append, take_at, drop_at, drop-drop, take-take, take-append-le, length-take-le, length-append, length-map, length-drop}
+use Rattle.std.proofs.lemmas.List.{map-append, drop-drop, take-take, take-append-le, length-take-le, length-append, length-drop}
 use Rattle.std.proofs.Math.Nat.{mul-le-mul_left, mul-suc}
 use Rattle.page_cells.specs.Number.{number}
 use Rattle.page_cells.specs.Cells.{chop}
-use Rattle.page_cells.proofs.Chops.{chop-append, chop-front, chop-back, length-chop}
+use Rattle.page_cells.proofs.Chops.{chop-append, chop-front, chop-back}
 use Rattle.map_nodes.specs.declared.form.Form.{Form}
 use Rattle.map_nodes.specs.Rows.{Row}
 use Rattle.map_nodes.specs.Nodes.{Entry, row_of, entry_of}

@@ -7,15 +7,14 @@ use Rattle.page_face.specs.FreeList.{PageMap}
 use Rattle.page_cells.specs.Number.{number}
 use Rattle.page_cells.specs.Build.{image}
 use Rattle.map_nodes.specs.declared.form.Form.{Form}
-use Rattle.map_nodes.specs.Supply.{View, view, spare_in, Moves, one_at}
+use Rattle.map_nodes.specs.Supply.{View, spare_in, one_at}
 use Rattle.map_nodes.specs.Rows.{Row}
-use Rattle.map_nodes.specs.Nodes.{Entry, width_of, half_of, half_of_width}
-use Rattle.map_nodes.specs.Tree.{IsTree, rows_at, uses, total}
-use Rattle.map_nodes.specs.Store.{below_rows}
+use Rattle.map_nodes.specs.Nodes.{width_of, half_of, half_of_width}
+use Rattle.map_nodes.specs.Tree.{rows_at}
 use Rattle.map_nodes.proofs.Supplies.{moves-beside, moves-as}
 use Rattle.map_removal.specs.Body.{kind_of, IsBody, body_rows, body_uses, cleared}
 use Rattle.map_removal.specs.Mended.{IsMerged, IsHalved, Becomes}
-use Rattle.map_removal.proofs.Bodies.{SameBody, body-frame, IsTreeOf, tree-of, body-lt, IsCut, body-cut}
+use Rattle.map_removal.proofs.Bodies.{SameBody, body-frame, tree-of, body-lt, body-cut}
 
 -- a cell has some bytes, and at most 1,020
 pub width-some : (form : Form) (level : ℕ) → 1 ≤ width_of form level × width_of form level ≤ 1020

@@ -8,4 +8,5 @@ pub mod Relinks
 pub mod Walks
 pub mod Outs
 pub mod Settles
+pub mod Rises
 pub mod Pairs

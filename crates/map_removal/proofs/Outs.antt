@@ -1,14 +1,13 @@
 -- A row that is out of a leaf.
-use Rattle.std.proofs.Common.{◌≡◌, ℕ, zero, suc, ◌+◌, ◌-◌, ◌*◌, ◌^◌, ◌<◌, ◌≤◌, List, [], ◌∷◌, ◌++◌, length, get_or, take, drop, arith, refl, sym, ap, ◌∙◌, subst, Some, None}
+use Rattle.std.proofs.Common.{◌≡◌, ℕ, suc, ◌+◌, ◌-◌, ◌*◌, ◌<◌, ◌≤◌, List, [], ◌∷◌, ◌++◌, length, get_or, take, drop, arith, refl, sym, ap, ◌∙◌, subst, None}
 use Rattle.std.proofs.lemmas.List.{take-append-drop, drop_more, length-append, length-take-le, length-drop}
 use Rattle.std.proofs.Math.Nat.{mul-le-mul_left}
 use Rattle.page_face.specs.FreeList.{PageMap, with_page, IsFreePage, next_free}
-use Rattle.page_cells.specs.Number.{number}
 use Rattle.page_cells.specs.Cells.{IsPlace, key_at}
 use Rattle.page_cells.specs.Build.{image}
 use Rattle.map_nodes.specs.declared.form.Form.{Form}
-use Rattle.map_nodes.specs.Supply.{View, view, IsSupplied, spare, one_at}
-use Rattle.map_nodes.specs.Rows.{Row, IsWithin, lookup, without, IsEdit}
+use Rattle.map_nodes.specs.Supply.{view, IsSupplied, spare, one_at}
+use Rattle.map_nodes.specs.Rows.{Row, IsWithin, lookup, without}
 use Rattle.map_nodes.specs.Nodes.{count_of, rows_in}
 use Rattle.map_nodes.proofs.Spans.{no_row, within-append, within-wider}
 use Rattle.map_nodes.proofs.Spots.{length-rows_in, row-key}
@@ -16,8 +15,8 @@ use Rattle.map_nodes.proofs.Finds.{front, back, found}
 use Rattle.map_nodes.proofs.Puts.{without-edit, without-here}
 use Rattle.map_nodes.proofs.Supplies.{moves-as, one_at-same, with-same}
 use Rattle.map_removal.specs.Body.{rows_of, cells_in, without_cell}
-use Rattle.map_removal.specs.Removal.{IsEmptied, IsOut}
-use Rattle.map_removal.proofs.Gives.{moves-give, page-some}
+use Rattle.map_removal.specs.Removal.{IsOut}
+use Rattle.map_removal.proofs.Gives.{moves-give}
 use Rattle.map_removal.proofs.Joins.{few, width-some}
 use Rattle.map_removal.proofs.Holds.{cells-rows, becomes-as}
 use Rattle.map_removal.proofs.Changes.{rows-without, length-without}

@@ -1,5 +1,5 @@
 -- An inner page whose entries change with its children.
-use Rattle.std.proofs.Common.{◌≡◌, ℕ, zero, suc, ◌+◌, ◌-◌, ◌*◌, ◌^◌, ◌<◌, ◌≤◌, List, [], ◌∷◌, ◌++◌, length, get_or, take, drop, arith, refl, sym, ap, ◌∙◌, subst, append_assoc, Bool, true, false}
+use Rattle.std.proofs.Common.{◌≡◌, ℕ, suc, ◌+◌, ◌-◌, ◌*◌, ◌^◌, ◌<◌, ◌≤◌, List, [], ◌∷◌, ◌++◌, length, get_or, take, drop, arith, refl, sym, ap, ◌∙◌, subst, append_assoc, Bool, true, false}
 use Rattle.std.proofs.lemmas.Nat.{from_be_bytes-to_be_bytes_2}
 use Rattle.std.proofs.lemmas.List.{length-take-le, length-drop}
 use Rattle.std.proofs.Math.Nat.{mul-le-mul_left}
@@ -8,19 +8,18 @@ use Rattle.page_cells.specs.Number.{number}
 use Rattle.page_cells.specs.Cells.{key_at}
 use Rattle.page_cells.specs.Build.{image}
 use Rattle.map_nodes.specs.declared.form.Form.{Form}
-use Rattle.map_nodes.specs.Supply.{View, view, IsSupplied, spare_in, spare, Moves, one_at}
+use Rattle.map_nodes.specs.Supply.{View, view, spare_in, spare, one_at}
 use Rattle.map_nodes.specs.Rows.{Row}
-use Rattle.map_nodes.specs.Nodes.{Entry, count_of, entries_in, width_of, half_of, IsInner}
+use Rattle.map_nodes.specs.Nodes.{Entry, count_of, entries_in, half_of}
 use Rattle.map_nodes.specs.Tree.{next_key, IsFan, IsTree, rows_at, uses, total, with_low}
 use Rattle.map_nodes.specs.Bounds.{child_of}
 use Rattle.map_nodes.specs.Store.{below_rows}
-use Rattle.map_nodes.proofs.Fans.{no_entry, with_low-child, with_low-key, with_low-rows, length-with_low}
+use Rattle.map_nodes.proofs.Fans.{no_entry, with_low-child, with_low-key, with_low-rows}
 use Rattle.map_nodes.proofs.Frames.{flat_map-append, total-append, with_low-total}
 use Rattle.map_nodes.proofs.Spots.{entry-key, length-entries_in}
 use Rattle.map_nodes.proofs.Supplies.{moves-beside, moves-as, moves-further}
 use Rattle.map_removal.specs.Body.{IsBody, entries_of, cells_in, without_cell, with_key}
 use Rattle.map_removal.specs.Mended.{Becomes, HasPair, joined}
-use Rattle.map_removal.proofs.Bodies.{length-entries_of}
 use Rattle.map_removal.proofs.Holds.{becomes-as, cells-entries, cells-first}
 use Rattle.map_removal.proofs.Joins.{few}
 use Rattle.map_removal.proofs.Changes.{entries-without, length-without, entries-with, length-with, first-stays, with_low-take, drop-low}

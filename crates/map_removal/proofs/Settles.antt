@@ -1,16 +1,14 @@
 -- A child with few cells, and its neighbour.
-use Rattle.std.proofs.Common.{◌≡◌, ℕ, zero, suc, ◌+◌, ◌-◌, ◌*◌, ◌/◌, ◌<◌, ◌≤◌, List, [], ◌∷◌, ◌++◌, length, arith, refl, sym, ap, ◌∙◌, subst, append-nil, append_assoc, ◌⊎◌, ⊎_elim}
+use Rattle.std.proofs.Common.{◌≡◌, ℕ, zero, suc, ◌+◌, ◌*◌, ◌/◌, ◌<◌, ◌≤◌, List, [], ◌∷◌, ◌++◌, length, arith, refl, sym, ap, ◌∙◌, subst, append-nil, append_assoc, ◌⊎◌, ⊎_elim}
 use Rattle.std.proofs.lemmas.List.{length-append}
 use Rattle.std.proofs.lemmas.Nat.{le-div}
-use Rattle.std.proofs.Math.Nat.{mul-le-mul_left}
 use Rattle.page_face.specs.FreeList.{PageMap}
 use Rattle.map_nodes.specs.declared.form.Form.{Form}
-use Rattle.map_nodes.specs.Supply.{view, IsSupplied, spare, Moves, one_at}
-use Rattle.map_nodes.specs.Nodes.{Entry, count_of, entries_in, IsNode, IsLeaf, IsInner, width_of, half_of, half_of_width}
+use Rattle.map_nodes.specs.Supply.{view, IsSupplied, Moves, one_at}
+use Rattle.map_nodes.specs.Nodes.{Entry, count_of, entries_in, IsNode, IsInner, width_of, half_of, half_of_width}
 use Rattle.map_nodes.specs.Tree.{next_key, IsFan, IsTree, rows_at, uses, total, with_low}
 use Rattle.map_nodes.specs.Store.{below_rows}
 use Rattle.map_nodes.proofs.Fans.{length-with_low}
-use Rattle.map_nodes.proofs.Frames.{fan-append}
 use Rattle.map_nodes.proofs.Spots.{length-entries_in}
 use Rattle.map_removal.specs.Body.{cells_in}
 use Rattle.map_removal.specs.Mended.{Becomes, HasPair, HasLow}
@@ -19,9 +17,17 @@ use Rattle.map_removal.proofs.Joins.{width-some}
 use Rattle.map_removal.proofs.Holds.{holds-tree}
 use Rattle.map_removal.proofs.Among.{fan-between}
 
-node-fewer : (number kind level width most least : ℕ) (page : List ℕ) → least ≤ count_of page → IsNode number kind level width most page → IsNode number kind level width least page
+pub node-fewer : (number kind level width most least : ℕ) (page : List ℕ) → least ≤ count_of page → IsNode number kind level width most page → IsNode number kind level width least page
 node-fewer number kind level width most least page h n = record {
-  size = n.size; kind = n.kind; of = n.of; level = n.level; some = n.some; fill = h; fits = n.fits; plain = n.plain; rest = n.rest;
+  size = n.size;
+  kind = n.kind;
+  of = n.of;
+  level = n.level;
+  some = n.some;
+  fill = h;
+  fits = n.fits;
+  plain = n.plain;
+  rest = n.rest;
 }
 
 -- a tree whose top has as many cells as it has

@@ -1,7 +1,7 @@
 -- One step down a tree: what a page's child has is what the page has.
-use Rattle.std.proofs.Common.{append_assoc, ◌≡◌, ℕ, zero, suc, ◌+◌, ◌<◌, ◌≤◌, ◌⊎◌, inl, inr, List, [], ◌∷◌, ◌++◌, length, arith, refl, sym, ap, ◌∙◌, subst, Result, Ok, Err, Option, Some, None, Bool, true, false, if◌then◌else◌, ⊎_elim, get_or}
+use Rattle.std.proofs.Common.{append_assoc, ◌≡◌, ℕ, zero, suc, ◌+◌, ◌<◌, ◌≤◌, inl, inr, List, [], ◌∷◌, ◌++◌, length, arith, refl, sym, ap, ◌∙◌, subst, Result, Ok, Err, Option, Some, None, ⊎_elim}
 use Rattle.std.proofs.lemmas.Bool.{cases_lt}
-use Rattle.std.specs.Result.{IfOk, IsErrOf}
+use Rattle.std.specs.Result.{IsErrOf}
 use Rattle.page_face.specs.FreeList.{PageMap}
 use Rattle.page_face.specs.Causes.{IsUncounted, asked_after, unlinked}
 use Rattle.page_face.specs.declared.fault.Rule.{Rule}
@@ -10,15 +10,18 @@ use Rattle.page_face.specs.declared.fault.PageFault.{PageFault}
 use Rattle.page_face.specs.declared.fault.PageFault.TheVariants.{Disk, NoRoom, Stopped, Damaged, Memory}
 use Rattle.page_cells.specs.Cells.{IsPlace, key_at}
 use Rattle.map_nodes.specs.declared.form.Form.{Form}
-use Rattle.map_nodes.specs.Rows.{Row, lookup}
-use Rattle.map_nodes.specs.Nodes.{Entry, count_of, rows_in, entries_in, half_of, IsLeaf}
+use Rattle.map_nodes.specs.Rows.{lookup}
+use Rattle.map_nodes.specs.Nodes.{count_of, entries_in, half_of}
 use Rattle.map_nodes.specs.Tree.{IsTree, IsPlaceFor, rows_at, uses}
 use Rattle.map_nodes.specs.Bounds.{low_at, high_at, child_of}
 use Rattle.map_nodes.specs.Damages.{BreaksLeaf, BreaksInner, IsDamaged, AreTold, AskedSince, AsksOnly}
 use Rattle.map_removal.specs.Removal.{BreaksAt}
+use Rattle.map_removal.specs.Mended.{IsBeside}
+use Rattle.map_removal.specs.Looks.{HasLooked, TellsBeside, HasBeside}
+use Rattle.map_removal.specs.declared.settling.Beside.{Beside}
 use Rattle.map_nodes.proofs.Spots.{length-entries_in}
-use Rattle.map_nodes.proofs.Trees.{tree-child, child-uses, child-damage, place-lookup, tree-size}
-use Rattle.map_nodes.proofs.Harms.{asked-here, asked-sooner, asks-here, asks-further, asks-more, asks-nothing}
+use Rattle.map_nodes.proofs.Trees.{tree-child, child-uses, child-damage, place-lookup}
+use Rattle.map_nodes.proofs.Harms.{asked-here, asked-sooner, asks-here, asks-further}
 use Rattle.map_nodes.proofs.Supplies.{one_at-same}
 
 -- the page that a refusal names
@@ -162,3 +165,28 @@ pub named-refused : {T : Type 0} (asked new : List ℕ) (child : ℕ) (result : 
 named-refused {T = T} asked new child result damage n e same =
     asked-here asked new damage.page
     (n ∙ ap (λ (r : Result T PageFault). asked_after r child asked) e ∙ ap (λ (p : ℕ). asked ++ p ∷ []) (sym same))
+
+-- the page asked for, and then its child
+pub asked-child : (before asked new : List ℕ) (page child : ℕ) → AskedSince before asked page → new ≡ asked ++ child ∷ [] → AskedSince before new child
+asked-child before asked new page child a e = asked-from before asked new page child a (asked-here asked new child e)
+
+-- what was looked at stays so with more cells
+pub looked-more : (form : Form) (counted counted' below : ℕ) (bytes : List ℕ) (at count cells cells' : ℕ) (o : Option Beside) → counted' ≡ counted → cells ≤ cells'
+    → HasLooked form counted below bytes at count cells o → HasLooked form counted' below bytes at count cells' o
+looked-more form counted counted' below bytes at count cells cells' None e h l = omega arith
+looked-more form counted counted' below bytes at count cells cells' (Some b) e h l = record {
+  place = l.place;
+  is_counted = λ u. l.is_counted (subst (λ (k : ℕ). IsUncounted k (child_of form bytes b.at)) e u);
+  count_is = l.count_is;
+  half = l.half;
+  fits = l.fits;
+}
+
+-- the neighbour's bytes are those of its page, where that is told and stays
+pub beside-is : (form : Form) (pages old mid : PageMap) (counted below : ℕ) (bytes : List ℕ) (at count cells : ℕ) (o : Option Beside) → pages ≡ old → HasLooked form counted below bytes at count cells o → TellsBeside form pages bytes o
+    → ((near : ℕ) → IsBeside at count near → (0 < length (old (child_of form bytes near))) × (mid (child_of form bytes near) ≡ old (child_of form bytes near))) → HasBeside form mid bytes o
+beside-is form pages old mid counted below bytes at count cells None e l t h = tt
+beside-is form pages old mid counted below bytes at count cells (Some b) e l t h =
+    let k = h b.at l.place in
+    let told : 0 < length (pages (child_of form bytes b.at)) = subst (λ (p : PageMap). 0 < length (p (child_of form bytes b.at))) (sym e) k.0 in
+    t told ∙ ap (λ (p : PageMap). p (child_of form bytes b.at)) e ∙ sym k.1

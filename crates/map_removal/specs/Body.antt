@@ -1,5 +1,5 @@
 -- The cells of a page of a map, apart from the page.
-use Rattle.std.specs.Prelude.{◌≡◌, ℕ, zero, suc, ◌+◌, ◌*◌, List, [], ◌∷◌, ◌++◌, length, take, drop, map, replicate}
+use Rattle.std.specs.Prelude.{◌≡◌, ℕ, zero, suc, ◌+◌, ◌*◌, List, ◌++◌, length, take, drop, map, replicate}
 use Rattle.page_face.specs.FreeList.{PageMap}
 use Rattle.page_cells.specs.Number.{number}
 use Rattle.page_cells.specs.Cells.{chop}

@@ -7,7 +7,7 @@ ghost use Rattle.map_nodes.specs.Tree.{uses};
 ghost use Rattle.map_nodes.specs.Bounds.{upper_of, child_of};
 ghost use Rattle.map_nodes.specs.Damages.{IsDamaged, AreTold, AskedSince, AsksOnly};
 ghost use Rattle.map_removal.specs.Mended.{IsBeside};
-ghost use Rattle.map_removal.specs.Looks.{HasLooked};
+ghost use Rattle.map_removal.specs.Looks.{HasLooked, TellsBeside};
 
 use crate::node::{Found, check_child, count_in, damaged};
 use crate::settling::Beside;
@@ -109,7 +109,8 @@ pub fn look_if_low<P: Pages>(
     requires fits { 16 + (form.key + 4) * found.count ≤ 4096 }
     requires low { length low.now ≡ form.key }
     requires high { 0 < length high.now → length high.now ≡ form.key }
-    ensures looked { IfOk result (HasLooked form (P.pages pages.old) (P.count pages.old) below bytes.now found.at found.count (count_of child.now)) }
+    ensures looked { IfOk result (HasLooked form (P.count pages.old) below bytes.now found.at found.count (count_of child.now)) }
+    ensures tells { IfOk result (TellsBeside form (P.pages pages.old) bytes.now) }
 
     ensures damaged { (page least : ℕ) → AreTold (P.pages pages.old) (P.count pages.old) → bytes.now ≡ P.pages pages.old page
         → (damage : Damage) → IsErrOf result (PageFault.Damaged damage)

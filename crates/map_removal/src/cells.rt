@@ -30,14 +30,7 @@ fn first_key<'a>(form: Form, level: u8, cells: &'a [u8], parting: &'a [u8]) -> &
 }
 
 /// Writes the cells of two neighbours into `out`, one behind the other.
-pub fn gather(
-    form: Form,
-    level: u8,
-    front: &[u8],
-    parting: &[u8],
-    back: &[u8],
-    out: &mut [u8],
-)
+pub fn gather(form: Form, level: u8, front: &[u8], parting: &[u8], back: &[u8], out: &mut [u8])
     requires back { form.key ≤ length back.now }
     requires parting { length parting.now ≡ form.key }
     requires out { length out.old ≡ length front.now + length back.now }
@@ -112,13 +105,7 @@ fn build_with(
     let from = shape.width * at;
     let none = &cells[..0];
     splice(cells, from, from + key.len(), key, none, out);
-    build(
-        shape.number,
-        shape.kind,
-        shape.level,
-        count as u16,
-        out,
-    )
+    build(shape.number, shape.kind, shape.level, count as u16, out)
 }
 
 /// The page with another key at this place.

@@ -7,7 +7,7 @@
 
 mod beside;
 mod cells;
-mod join;
+mod joining;
 mod leaf;
 mod mending;
 mod node;
@@ -15,5 +15,11 @@ mod pair;
 mod settling;
 mod sharing;
 
+pub use beside::{look_beside, look_if_low};
+pub use joining::join;
+pub use leaf::{remove_leaf, take_out};
+pub use mending::mend;
+pub use node::{Found, find_place};
 pub use pair::{halve, merge};
+pub use settling::{Beside, settle, settle_if_low};
 pub use sharing::{shape_at, share};

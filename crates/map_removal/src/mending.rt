@@ -9,7 +9,7 @@ ghost use Rattle.map_nodes.specs.Store.{below_rows};
 ghost use Rattle.map_removal.specs.Mended.{Becomes, HasPair};
 
 use crate::cells::{rekeyed, without};
-use crate::join::join;
+use crate::joining::join;
 use map_nodes::{Form, child_at};
 use page_cells::key_of;
 use page_face::{Damage, Page, PageFault, Pages};

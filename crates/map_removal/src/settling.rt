@@ -7,6 +7,7 @@ ghost use Rattle.map_nodes.specs.Tree.{uses, total, with_low};
 ghost use Rattle.map_nodes.specs.Bounds.{child_of};
 ghost use Rattle.map_nodes.specs.Store.{below_rows};
 ghost use Rattle.map_removal.specs.Mended.{Becomes, HasLow, IsBeside};
+ghost use Rattle.map_removal.specs.Looks.{HasLooked, HasBeside};
 
 use crate::mending::mend;
 use crate::node::Found;
@@ -110,4 +111,62 @@ pub fn settle<P: Pages>(
         child,
     )?;
     Ok(entries)
+}
+
+/// Joins a child that has `left` cells with its neighbour where these are too few, as [`settle`]. Where no neighbour was
+/// read they are enough.
+pub fn settle_if_low<P: Pages>(
+    pages: &mut P,
+    form: Form,
+    page: u32,
+    bytes: &mut Page,
+    below: u8,
+    found: Found,
+    child: &Page,
+    left: usize,
+    beside: &Option<Beside>,
+) -> Result<usize, PageFault>
+    requires at { found.at < found.count }
+    requires count { found.count ≡ count_of bytes.old }
+    requires fits { 16 + (form.key + 4) * found.count ≤ 4096 }
+    requires level { below < 255 }
+    requires left_fits { 16 + width_of form below * left ≤ 4096 }
+    requires left_some { 1 ≤ left }
+    requires looked { HasLooked form (P.count pages.old) below bytes.old found.at found.count (left + 1) beside.now }
+    requires page { ¬ IsUncounted (P.count pages.old) page }
+    requires child { ¬ IsUncounted (P.count pages.old) (child_of form bytes.old found.at) }
+    ensures becomes { (low high : ℕ) (free : List ℕ) → IsInner form 2 (suc below) bytes.old → bytes.old ≡ P.pages pages.old page
+        → child.now ≡ P.pages pages.old (child_of form bytes.old found.at) → HasBeside form (P.pages pages.old) bytes.old beside.now
+        → left ≡ count_of child.now
+        → HasLow form (P.pages pages.old) below low high found.at left (with_low low (entries_in form bytes.old))
+        → IsSupplied (view (P.pages pages.old) (P.count pages.old) (P.first pages.old) free)
+        → ((n : ℕ) → one_at page n + total (λ c. uses form (P.pages pages.old) below c n) (entries_in form bytes.old) + spare free (P.count pages.old) n ≤ 1)
+        → IfOk result (λ n. Becomes form n (view (P.pages pages.old) (P.count pages.old) (P.first pages.old) free)
+        (λ n. one_at page n + total (λ c. uses form (P.pages pages.old) below c n) (entries_in form bytes.old))
+        (P.pages pages.new) (P.count pages.new) (P.first pages.new) (suc below) low high
+        (below_rows form (P.pages pages.old) below (entries_in form bytes.old)) ((low, page) ∷ [])) }
+    ensures bytes { bytes.old ≡ P.pages pages.old page → IfOk result (λ n. bytes.new ≡ P.pages pages.new page) }
+    ensures counted { IfOk result (λ n. n ≡ count_of bytes.new) }
+    ensures range { IfOk result (λ n. (1 ≤ n) × (n ≤ found.count) × (found.count ≤ n + 1)) }
+
+    ensures damaged { (damage : Damage) → result ≢ Err (PageFault.Damaged damage) }
+    ensures disk { result ≢ Err PageFault.Disk }
+    ensures room_left { result ≢ Err PageFault.NoRoom }
+    ensures stopped { IsErrOf result PageFault.Stopped → IsTrue (P.is_stopped pages.old) }
+
+    ensures asked { P.asked pages.new ≡ P.asked pages.old }
+    ensures count { P.count pages.new ≡ P.count pages.old }
+    ensures room { P.room pages.new ≡ P.room pages.old }
+    ensures faults { P.faults pages.new ≡ P.faults pages.old }
+    ensures refused { P.refused pages.new ≡ P.refused pages.old }
+    ensures goes_on { P.is_stopped pages.new ≡ P.is_stopped pages.old }
+    ensures follows { P.follows_from pages.old pages.new }
+{
+    match beside {
+        None => Ok(found.count),
+        Some(beside) => {
+            let entries = settle(pages, form, page, bytes, below, found, child, left, beside)?;
+            Ok(entries)
+        }
+    }
 }

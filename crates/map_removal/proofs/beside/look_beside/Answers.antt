@@ -1,12 +1,11 @@
-use Rattle.std.proofs.Common.{arith, ◌≡◌, ◌<◌, ◌++◌, ◌∷◌, [], ℕ, suc, List, sym, ap, ◌∙◌, subst, refl, Err}
+use Rattle.std.proofs.Common.{arith, ◌≡◌, ◌++◌, ◌∷◌, [], ℕ, suc, List, sym, ap, ◌∙◌, subst, refl, Err}
 use Rattle.std.proofs.lemmas.Result.{err_from_is_err_and}
 use Rattle.page_face.specs.FreeList.{PageMap}
 use Rattle.page_face.specs.declared.fault.Damage.{Damage}
 use Rattle.page_cells.specs.Number.{number}
-use Rattle.map_nodes.specs.Nodes.{count_of, half_of}
 use Rattle.map_nodes.specs.Tree.{uses}
 use Rattle.map_nodes.specs.Bounds.{upper_of}
-use Rattle.map_nodes.specs.Damages.{AsksOnly, AskedSince}
+use Rattle.map_nodes.specs.Damages.{AsksOnly}
 use Rattle.map_nodes.proofs.Harms.{asked-here, asks-here, asks-nothing}
 use Rattle.map_removal.specs.declared.settling.Beside.{Beside}
 use Rattle.map_removal.proofs.Walks.{named-refused, named-page, same-fault, told-read, uses-self, asks-read, damage-link, damage-rule, uses-below, damage-below}

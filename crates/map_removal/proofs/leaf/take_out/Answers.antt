@@ -1,5 +1,4 @@
-use Rattle.std.proofs.Common.{arith, ◌≡◌, ◌+◌, ◌-◌, ℕ, List, sym, ap, ◌∙◌}
-use Rattle.page_face.specs.FreeList.{PageMap}
+use Rattle.std.proofs.Common.{arith, ◌+◌, ◌-◌, ℕ, List, sym, ap, ◌∙◌}
 use Rattle.page_cells.specs.Number.{number}
 use Rattle.page_cells.specs.Build.{image}
 use Rattle.map_nodes.specs.declared.form.Shape.{Shape}

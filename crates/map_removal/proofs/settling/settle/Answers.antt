@@ -1,4 +1,4 @@
-use Rattle.std.proofs.Common.{arith, ◌≡◌, ◌+◌, ◌<◌, ℕ, sym, ap, ◌∙◌, refl, length}
+use Rattle.std.proofs.Common.{arith, ◌≡◌, ◌+◌, ℕ, sym, ap, ◌∙◌, refl}
 use Rattle.page_face.specs.FreeList.{PageMap}
 use Rattle.map_nodes.specs.Nodes.{entries_in}
 use Rattle.map_nodes.specs.Tree.{with_low}

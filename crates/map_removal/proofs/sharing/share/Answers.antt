@@ -1,7 +1,6 @@
-use Rattle.std.proofs.Common.{arith, ◌+◌, ◌-◌, ◌*◌, ◌/◌, ℕ, ◌∙◌, sym, ap, take, drop, length}
+use Rattle.std.proofs.Common.{arith, ◌*◌, ◌/◌, ℕ, ◌∙◌, ap, take, drop}
 use Rattle.std.proofs.lemmas.List.{take_rest}
 use Rattle.map_nodes.specs.Nodes.{width_of}
-use Rattle.map_removal.specs.Body.{cleared}
 use Rattle.map_removal.proofs.Joins.{merged-becomes, merged-as, halved-as, back-length, width-some, few}
 use Rattle.map_removal.proofs.sharing.share.Goals as goal
 

@@ -1,8 +1,8 @@
-use Rattle.std.proofs.Common.{arith, ◌+◌, ℕ, List, sym, subst}
+use Rattle.std.proofs.Common.{arith, ℕ, List, sym, subst}
 use Rattle.page_face.specs.FreeList.{PageMap}
 use Rattle.map_removal.proofs.Bodies.{IsSum}
 use Rattle.map_removal.proofs.Holds.{becomes-as, body-both}
-use Rattle.map_removal.proofs.join.join_in.Goals as goal
+use Rattle.map_removal.proofs.joining.join_in.Goals as goal
 
 pub returns-clause-becomes : goal.returns-clause-becomes
 returns-clause-becomes g c = λ low high free first second enough supplied once.
