@@ -1,0 +1,12 @@
+pub mod Gives
+pub mod Bodies
+pub mod Joins
+pub mod Holds
+pub mod Changes
+pub mod Among
+pub mod Relinks
+pub mod Walks
+pub mod Outs
+pub mod Settles
+pub mod Rises
+pub mod Pairs

@@ -1,0 +1,4 @@
+pub mod Body
+pub mod Mended
+pub mod Removal
+pub mod Looks
