@@ -1,0 +1,14 @@
+pub mod Supplies
+pub mod Spans
+pub mod Orders
+pub mod Fans
+pub mod Spots
+pub mod Frames
+pub mod Trees
+pub mod Finds
+pub mod Puts
+pub mod Images
+pub mod Splits
+pub mod Harms
+pub mod Firsts
+pub mod Checks
