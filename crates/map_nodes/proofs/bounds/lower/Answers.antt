@@ -1,5 +1,6 @@
-use Rattle.std.proofs.Common.{arith, ◌∙◌, ap, sym}
+use Rattle.std.proofs.Common.{arith, ◌≡◌, ◌∙◌, ◌+◌, ◌*◌, ◌≤◌, ap, sym, length, ℕ}
 use Rattle.page_cells.specs.Number.{number}
+use Rattle.page_cells.specs.Cells.{key_at}
 use Rattle.map_nodes.specs.Nodes.{entries_in}
 use Rattle.map_nodes.proofs.Spots.{entry-key, length-entries_in}
 use Rattle.map_nodes.proofs.Fans.{with_low-key, with_low-first}
@@ -13,3 +14,10 @@ pub returns-clause-is : goal.returns-clause-is
 returns-clause-is c =
     ap number c.key_of.ensures.is
     ∙ sym (with_low-key (number c.args.low.now) (entries_in c.args.form c.args.page.now) c.args.at (omega arith) ∙ entry-key c.args.form c.args.page.now c.args.at c.requires.at)
+
+pub returns-clause-from : goal.returns-clause-from
+returns-clause-from c = λ key place from.
+    let same : number c.key_of.result.now ≡ key_at c.args.form.key (c.args.form.key + 4) c.args.page.now c.args.at = ap number c.key_of.ensures.is in
+    let k = entry-key c.args.form c.args.page.now c.args.at c.requires.at in
+    let f = place.from in
+    omega arith

@@ -1,11 +1,11 @@
-use Rattle.std.proofs.Common.{arith, ◌≡◌, ◌∙◌, ◌+◌, ap, sym, suc, ℕ}
+use Rattle.std.proofs.Common.{arith, ◌≡◌, ◌∙◌, ◌+◌, ◌*◌, ◌<◌, ap, sym, suc, length, ℕ, get_or}
 use Rattle.page_cells.specs.Number.{number}
 use Rattle.page_cells.specs.Cells.{key_at}
 use Rattle.map_nodes.specs.Nodes.{entries_in}
 use Rattle.map_nodes.specs.Bounds.{upper_of}
 use Rattle.map_nodes.proofs.Checks.{upper-some}
 use Rattle.map_nodes.proofs.Spots.{fits_at, entry-key, length-entries_in}
-use Rattle.map_nodes.proofs.Fans.{next_key-at, next_key-end}
+use Rattle.map_nodes.proofs.Fans.{no_entry, next_key-at, next_key-end}
 use Rattle.map_nodes.proofs.bounds.upper.Goals as goal
 
 pub returns-then-at-count-clause-is : goal.returns-then-at-count-clause-is
@@ -24,3 +24,14 @@ returns-clause-is c =
     ∙ ap number c.key_of.ensures.is
     ∙ ap (λ (i : ℕ). key_at c.args.form.key (c.args.form.key + 4) c.args.page.now i) up
     ∙ sym (next_key-at (upper_of c.args.form.key c.args.high.now) (entries_in c.args.form c.args.page.now) (suc c.args.at) (omega arith) ∙ entry-key c.args.form c.args.page.now (suc c.args.at) (omega arith))
+
+pub returns-clause-to : goal.returns-clause-to
+returns-clause-to c = λ key place to.
+    let n = length-entries_in c.args.form c.args.page.now in
+    let f = c.if-at-count.false in
+    let up : c.args.at + 1 ≡ suc c.args.at = omega arith in
+    let is : upper_of c.args.form.key c.key_of.result.now ≡ (get_or (entries_in c.args.form c.args.page.now) (suc c.args.at) no_entry).0 =
+    upper-some c.args.form.key c.key_of.result.now (omega (arith, c.key_of.ensures.length)) ∙ ap number c.key_of.ensures.is
+    ∙ ap (λ (i : ℕ). key_at c.args.form.key (c.args.form.key + 4) c.args.page.now i) up ∙ sym (entry-key c.args.form c.args.page.now (suc c.args.at) (omega arith)) in
+    let next = place.next (omega arith) in
+    omega arith
