@@ -1,0 +1,105 @@
+-- Words and their numbers: how a place's hold on a word is counted.
+use Rattle.std.specs.Prelude.{◌≡◌, ◌↔◌, ℕ, ◌+◌, ◌-◌, ◌<◌, ◌≤◌, ◌^◌, ◌==◌, if◌then◌else◌, nat_le, Bool, List, [], ◌∷◌, Option, Some, None, IsSome, IfSome, option_map, unwrap_or}
+use Rattle.std.specs.BTreeMap.{insert_entry, is_at}
+use Rattle.std.specs.List.{list_any, count_by}
+use Rattle.std.specs.Map.{remove_entry, values_of}
+use Rattle.std.specs.Ordering.{nat_cmp}
+use Rattle.spatial_base.specs.Key.{Name}
+use Rattle.store_rows.specs.declared.counted.Counted.{Counted}
+use Rattle.store_rows.specs.declared.stored.Stored.{Stored}
+use Rattle.store_rows.specs.Pairs.{Pair}
+use Rattle.store_rows.specs.Stored.{held_pairs}
+use Rattle.store_tables.specs.Entries.{Entries, word_cmp, number_of_word, word_of_number}
+
+-- how many places hold a number's word; none where the number has no word
+abbrev pub places_of_number : ℕ → List (ℕ × Counted) → ℕ
+places_of_number number numbers = unwrap_or (option_map (λ (c : Counted). c.places) (word_of_number number numbers)) 0
+
+-- the place has a pair of this number
+abbrev pub has_number : ℕ → Stored → Bool
+has_number number stored = list_any (λ (p : Pair). p.0 == number) (held_pairs stored)
+
+-- how many of the places have a pair of this number
+abbrev pub holders : ℕ → List (Name × Stored) → ℕ
+holders number places = count_by (has_number number) (values_of places)
+
+-- The word tables agree, each word has as many places as are claimed, and at least one, and each number is below the next one.
+pub record WordTablesAgree (claims : ℕ → ℕ) (texts : List (List ℕ × ℕ)) (numbers : List (ℕ × Counted)) (next_word : ℕ) : Type 0 where
+  pub inverse : (word : List ℕ) (number : ℕ) → (number_of_word word texts ≡ Some number) ↔ (option_map (λ (c : Counted). c.word) (word_of_number number numbers) ≡ Some word)
+  pub counts : (number : ℕ) → places_of_number number numbers ≡ claims number
+  pub some : (number : ℕ) → IfSome (word_of_number number numbers) (λ c. 1 ≤ c.places)
+  pub below : (number : ℕ) → IsSome (word_of_number number numbers) → number < next_word
+
+-- the word tables agree with the places
+abbrev pub WordsAgree : Entries → ℕ → Type 0
+WordsAgree entries next_word = WordTablesAgree (λ number. holders number entries.places) entries.texts entries.numbers next_word
+
+-- the number that a word has, or that it is given
+abbrev pub number_for : List ℕ → ℕ → List (List ℕ × ℕ) → ℕ
+number_for word next_word texts = unwrap_or (number_of_word word texts) next_word
+
+-- the next word number after a word was held that had this number, or none
+abbrev pub next_after : Option ℕ → ℕ → ℕ
+next_after None next_word = next_word + 1
+next_after (Some number) next_word = next_word
+
+-- the numbers of words after a word was held that had this number, or none
+abbrev pub texts_after : Option ℕ → List ℕ → ℕ → List (List ℕ × ℕ) → List (List ℕ × ℕ)
+texts_after None word next_word texts = insert_entry word_cmp texts word next_word
+texts_after (Some number) word next_word texts = texts
+
+-- one place more holds the word, which has its number or the next one
+abbrev pub with_hold : List ℕ → ℕ → Entries → Entries
+with_hold word next_word entries =
+    let number = number_for word next_word entries.texts in
+    record entries {
+      texts = texts_after (number_of_word word entries.texts) word next_word entries.texts;
+      numbers = insert_entry nat_cmp entries.numbers number (record { word = word; places = places_of_number number entries.numbers + 1 });
+    }
+
+-- The two tables agree on a word that has this number, or none, and its count can rise: the number is the word's, and fewer than 2^32 - 1 places hold it; and where the word has none, no word has the next number.
+abbrev pub IsHoldable : List ℕ → ℕ → List (ℕ × Counted) → Option ℕ → Type 0
+IsHoldable word next_word numbers None = word_of_number next_word numbers ≡ None
+IsHoldable word next_word numbers (Some number) =
+    (option_map (λ (c : Counted). c.word) (word_of_number number numbers) ≡ Some word) × (places_of_number number numbers + 1 < 2 ^ 32)
+
+-- the two tables agree on a word, and its count can rise
+abbrev pub CanHold : List ℕ → ℕ → Entries → Type 0
+CanHold word next_word entries = IsHoldable word next_word entries.numbers (number_of_word word entries.texts)
+
+-- the entries where one place less holds the word of a number: it goes with its last place
+abbrev pub released : ℕ → Option Counted → Entries → Entries
+released number None entries = entries
+released number (Some counted) entries =
+    if nat_le counted.places 1
+    then record entries {
+      texts = remove_entry (is_at (word_cmp counted.word)) entries.texts;
+      numbers = remove_entry (is_at (nat_cmp number)) entries.numbers;
+    }
+    else record entries { numbers = insert_entry nat_cmp entries.numbers number (record counted { places = counted.places - 1 }) }
+
+-- one place less holds the number's word
+abbrev pub without_hold : ℕ → Entries → Entries
+without_hold number entries = released number (word_of_number number entries.numbers) entries
+
+-- the words with one more, where the number has one
+abbrev pub with_word : Option Counted → ℕ → List (List ℕ × ℕ) → List (List ℕ × ℕ)
+with_word None impact words = words
+with_word (Some counted) impact words = insert_entry word_cmp words counted.word impact
+
+-- the words of pairs by number, with their impacts, in the order of the words
+abbrev pub words_of_pairs : List (ℕ × Counted) → List Pair → List (List ℕ × ℕ)
+words_of_pairs numbers [] = []
+words_of_pairs numbers (pair ∷ pairs) = with_word (word_of_number pair.0 numbers) pair.1 (words_of_pairs numbers pairs)
+
+-- the words of a place, with their impacts, in the order of the words
+abbrev pub words_of_place : List (ℕ × Counted) → Stored → List (List ℕ × ℕ)
+words_of_place numbers stored = words_of_pairs numbers (held_pairs stored)
+
+-- the claims with one more on a number
+abbrev pub claimed_more : ℕ → (ℕ → ℕ) → ℕ → ℕ
+claimed_more number claims n = if number == n then claims n + 1 else claims n
+
+-- the claims with one less on a number
+abbrev pub claimed_less : ℕ → (ℕ → ℕ) → ℕ → ℕ
+claimed_less number claims n = if number == n then claims n - 1 else claims n
