@@ -100,7 +100,11 @@ impl<'d, D: Disk> Pages for Store<'d, D> {
         if is_uncounted(self.current.counted, page) {
             return Err(unlinked(page));
         }
-        match shown_page(&mut *self.disk, &self.overlay, page) {
+        // Not through `shown_page`, whose answer of another type would copy the page once more.
+        if let Some(held) = overlay::page_of(&self.overlay, page) {
+            return Ok(*held);
+        }
+        match read_page(&mut *self.disk, page) {
             Ok(bytes) => Ok(bytes),
             Err(_) => Err(PageFault::Disk),
         }

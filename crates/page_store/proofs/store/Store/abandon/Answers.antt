@@ -1,5 +1,5 @@
 use Rattle.disk_model.specs.declared.disk.Area.TheVariants.{Pages}
-use Rattle.page_store.proofs.Overlays.{cleared_contents, cleared_sized}
+use Rattle.page_store.proofs.Overlays.{cleared_contents}
 use Rattle.page_store.proofs.store.Store.abandon.Goals as goal
 
 pub returns-clause-committed : goal.returns-clause-committed
