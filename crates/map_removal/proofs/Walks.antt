@@ -1,7 +1,7 @@
 -- One step down a tree: what a page's child has is what the page has.
-use Rattle.std.proofs.Common.{append_assoc, ◌≡◌, ℕ, zero, suc, ◌+◌, ◌<◌, ◌≤◌, inl, inr, List, [], ◌∷◌, ◌++◌, length, arith, refl, sym, ap, ◌∙◌, subst, Result, Ok, Err, Option, Some, None, ⊎_elim}
+use Rattle.std.proofs.Common.{append_assoc, ◌≡◌, ℕ, zero, suc, ◌+◌, ◌<◌, ◌≤◌, ◌⊎◌, inl, inr, List, [], ◌∷◌, ◌++◌, length, arith, refl, sym, ap, ◌∙◌, subst, Result, Ok, Err, Option, Some, None, Bool, true, false, if◌then◌else◌, ⊎_elim, get_or}
 use Rattle.std.proofs.lemmas.Bool.{cases_lt}
-use Rattle.std.specs.Result.{IsErrOf}
+use Rattle.std.specs.Result.{IfOk, IsErrOf}
 use Rattle.page_face.specs.FreeList.{PageMap}
 use Rattle.page_face.specs.Causes.{IsUncounted, asked_after, unlinked}
 use Rattle.page_face.specs.declared.fault.Rule.{Rule}
@@ -10,8 +10,8 @@ use Rattle.page_face.specs.declared.fault.PageFault.{PageFault}
 use Rattle.page_face.specs.declared.fault.PageFault.TheVariants.{Disk, NoRoom, Stopped, Damaged, Memory}
 use Rattle.page_cells.specs.Cells.{IsPlace, key_at}
 use Rattle.map_nodes.specs.declared.form.Form.{Form}
-use Rattle.map_nodes.specs.Rows.{lookup}
-use Rattle.map_nodes.specs.Nodes.{count_of, entries_in, half_of}
+use Rattle.map_nodes.specs.Rows.{Row, lookup}
+use Rattle.map_nodes.specs.Nodes.{Entry, count_of, rows_in, entries_in, half_of, IsLeaf}
 use Rattle.map_nodes.specs.Tree.{IsTree, IsPlaceFor, rows_at, uses}
 use Rattle.map_nodes.specs.Bounds.{low_at, high_at, child_of}
 use Rattle.map_nodes.specs.Damages.{BreaksLeaf, BreaksInner, IsDamaged, AreTold, AskedSince, AsksOnly}
@@ -20,8 +20,8 @@ use Rattle.map_removal.specs.Mended.{IsBeside}
 use Rattle.map_removal.specs.Looks.{HasLooked, TellsBeside, HasBeside}
 use Rattle.map_removal.specs.declared.settling.Beside.{Beside}
 use Rattle.map_nodes.proofs.Spots.{length-entries_in}
-use Rattle.map_nodes.proofs.Trees.{tree-child, child-uses, child-damage, place-lookup}
-use Rattle.map_nodes.proofs.Harms.{asked-here, asked-sooner, asks-here, asks-further}
+use Rattle.map_nodes.proofs.Trees.{tree-child, child-uses, child-damage, place-lookup, tree-size}
+use Rattle.map_nodes.proofs.Harms.{asked-here, asked-sooner, asks-here, asks-further, asks-more, asks-nothing}
 use Rattle.map_nodes.proofs.Supplies.{one_at-same}
 
 -- the page that a refusal names
@@ -190,3 +190,38 @@ beside-is form pages old mid counted below bytes at count cells (Some b) e l t h
     let k = h b.at l.place in
     let told : 0 < length (pages (child_of form bytes b.at)) = subst (λ (p : PageMap). 0 < length (p (child_of form bytes b.at))) (sym e) k.0 in
     t told ∙ ap (λ (p : PageMap). p (child_of form bytes b.at)) e ∙ sym k.1
+
+-- what was asked for down to a child's neighbour
+pub own-looked : (form : Form) (old pages : PageMap) (level l page at child : ℕ) (bytes a0 a1 a2 : List ℕ) → level ≡ suc l → bytes ≡ old page → at < count_of bytes → child ≡ child_of form bytes at → pages ≡ old → a1 ≡ a0 ++ child ∷ []
+    → ((p : ℕ) → bytes ≡ pages p → AsksOnly (uses form pages (suc l) p) a1 a2) → AsksOnly (uses form old level page) a0 a2
+own-looked form old pages level l page at child bytes a0 a1 a2 up is small e same asked looked =
+    let mine : ℕ → ℕ = uses form old level page in
+    let u = uses-below form old bytes level l page at up is small child child e (uses-self form old l child) in
+    let b : AsksOnly (uses form old (suc l) page) a1 a2 = subst (λ (q : PageMap). bytes ≡ q page → AsksOnly (uses form q (suc l) page) a1 a2) same (looked page) is in
+    asks-further mine a0 a1 a2 (asks-here mine a0 a1 child u asked) (subst (λ (k : ℕ). AsksOnly (uses form old k page) a1 a2) (sym up) b)
+
+-- and below the child
+pub own-below : (form : Form) (old pages : PageMap) (count count' level l page at child : ℕ) (bytes below a0 a2 a3 : List ℕ) → level ≡ suc l → bytes ≡ old page → at < count_of bytes → child ≡ child_of form bytes at → pages ≡ old → count' ≡ count
+    → AreTold old count → below ≡ old child → AsksOnly (uses form old level page) a0 a2 → (AreTold pages count' → below ≡ pages child → AsksOnly (uses form pages l child) a2 a3) → AsksOnly (uses form old level page) a0 a3
+own-below form old pages count count' level l page at child bytes below a0 a2 a3 up is small e same more told there first deeper =
+    let mine : ℕ → ℕ = uses form old level page in
+    let b : AsksOnly (uses form old l child) a2 a3 = subst (λ (n : ℕ). AreTold old n → below ≡ old child → AsksOnly (uses form old l child) a2 a3) more
+    (subst (λ (q : PageMap). AreTold q count' → below ≡ q child → AsksOnly (uses form q l child) a2 a3) same deeper) told there in
+    asks-further mine a0 a2 a3 first (asks-more (uses form old l child) mine a2 a3 (λ n h. uses-below form old bytes level l page at up is small child n e h) b)
+
+-- a neighbour's damage is the page's
+pub damage-looked : (form : Form) (old pages : PageMap) (count count' level l page least low high : ℕ) (bytes : List ℕ) (damage : Damage) → level ≡ suc l → pages ≡ old → count' ≡ count → AreTold old count → bytes ≡ old page
+    → (AreTold pages count' → bytes ≡ pages page → IsDamaged form pages count' damage least (suc l) page low high) → IsDamaged form old count damage least level page low high
+damage-looked form old pages count count' level l page least low high bytes damage up same more told is d =
+    let b : IsDamaged form old count damage least (suc l) page low high = subst (λ (n : ℕ). AreTold old n → bytes ≡ old page → IsDamaged form old n damage least (suc l) page low high) more
+    (subst (λ (q : PageMap). AreTold q count' → bytes ≡ q page → IsDamaged form q count' damage least (suc l) page low high) same d) told is in
+    subst (λ (k : ℕ). IsDamaged form old count damage least k page low high) (sym up) b
+
+-- a child's pages are among those of the page
+pub uses-most : (form : Form) (old : PageMap) (bytes : List ℕ) (level l page at : ℕ) → level ≡ suc l → bytes ≡ old page → at < count_of bytes → (child n : ℕ) → child ≡ child_of form bytes at → uses form old l child n ≤ uses form old level page n
+uses-most form old bytes level l page at up is small child n e =
+    let e' : child ≡ child_of form (old page) at = e ∙ ap (λ (b : List ℕ). child_of form b at) is in
+    let a : uses form old l child n ≡ uses form old l (child_of form (old page) at) n = ap (λ (c : ℕ). uses form old l c n) e' in
+    let b = child-uses form old l page at (inside form old bytes level l page at up is small) n in
+    let d : uses form old level page n ≡ uses form old (suc l) page n = ap (λ (k : ℕ). uses form old k page n) up in
+    omega arith

@@ -12,6 +12,7 @@ mod leaf;
 mod mending;
 mod node;
 mod pair;
+mod remove;
 mod settling;
 mod sharing;
 
@@ -21,5 +22,6 @@ pub use leaf::{remove_leaf, take_out};
 pub use mending::mend;
 pub use node::{Found, find_place};
 pub use pair::{halve, merge};
+pub use remove::remove_in;
 pub use settling::{Beside, settle, settle_if_low};
 pub use sharing::{shape_at, share};
