@@ -1,14 +1,12 @@
 -- What a put below an inner page has done to it.
-use Rattle.std.proofs.Common.{◌≡◌, ℕ, zero, suc, ◌+◌, ◌-◌, ◌*◌, ◌<◌, ◌≤◌, List, [], ◌∷◌, ◌++◌, length, get_or, take, drop, arith, refl, sym, ap, ◌∙◌, subst, append-nil, append_assoc, ◌==◌, Bool, true, false, if◌then◌else◌}
-use Rattle.std.specs.List.{flat_map}
+use Rattle.std.proofs.Common.{◌≡◌, ℕ, suc, ◌+◌, ◌-◌, ◌<◌, ◌≤◌, List, [], ◌∷◌, ◌++◌, length, get_or, take, drop, arith, refl, sym, ap, ◌∙◌, subst, append-nil, append_assoc, ◌==◌, Bool, true, false, if◌then◌else◌}
 use Rattle.std.proofs.lemmas.List.{take-append-drop, drop_more, take_more}
-use Rattle.std.proofs.lemmas.Bool.Decides.{nat_tests}
 use Rattle.page_face.specs.FreeList.{PageMap}
 use Rattle.map_nodes.specs.Supply.{one_at, spare}
-use Rattle.map_nodes.specs.Supply.{View, view, IsSupplied, spare_in, Moves}
+use Rattle.map_nodes.specs.Supply.{view, IsSupplied, Moves}
 use Rattle.map_nodes.proofs.Supplies.{one_at-same, moves-beside, moves-further, moves-as}
 use Rattle.map_nodes.specs.declared.form.Form.{Form}
-use Rattle.map_nodes.specs.Rows.{Row, IsWithin, put}
+use Rattle.map_nodes.specs.Rows.{put}
 use Rattle.map_nodes.specs.Nodes.{Entry, entries_in, IsInner, half_of}
 use Rattle.map_nodes.specs.Bounds.{low_at, high_at, child_of}
 use Rattle.map_nodes.specs.Tree.{next_key, IsFan, IsTree, IsPlaceFor, rows_at, uses, total, with_low}

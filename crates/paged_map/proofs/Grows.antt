@@ -1,22 +1,21 @@
 -- A put below an inner page, seen from the page.
-use Rattle.std.proofs.Common.{◌≡◌, ℕ, zero, suc, ◌+◌, ◌-◌, ◌<◌, ◌≤◌, ◌⊎◌, inl, inr, List, [], ◌∷◌, ◌++◌, length, arith, refl, sym, ap, ◌∙◌, subst, Result, Ok, Err}
-use Rattle.std.specs.Result.{IsErrOf}
+use Rattle.std.proofs.Common.{◌≡◌, ℕ, zero, suc, ◌+◌, ◌<◌, ◌≤◌, inl, inr, List, length, arith, refl, sym, ap, ◌∙◌, subst, Result, Err}
 use Rattle.page_face.specs.FreeList.{PageMap}
 use Rattle.page_face.specs.declared.fault.Rule.{Rule}
 use Rattle.page_face.specs.declared.fault.Damage.{Damage}
 use Rattle.page_face.specs.declared.fault.PageFault.{PageFault}
 use Rattle.page_face.specs.declared.fault.PageFault.TheVariants.{Damaged}
 use Rattle.map_nodes.specs.declared.form.Form.{Form}
-use Rattle.map_nodes.specs.Supply.{View, view, IsSupplied, spare, one_at}
-use Rattle.map_nodes.specs.Rows.{Row, put}
-use Rattle.map_nodes.specs.Nodes.{Entry, count_of, entries_in, half_of}
+use Rattle.map_nodes.specs.Supply.{view, IsSupplied, spare}
+use Rattle.map_nodes.specs.Rows.{put}
+use Rattle.map_nodes.specs.Nodes.{count_of, entries_in, half_of}
 use Rattle.map_nodes.specs.Tree.{IsTree, IsPlaceFor, rows_at, uses}
 use Rattle.map_nodes.specs.Bounds.{low_at, high_at, child_of}
 use Rattle.map_nodes.specs.Damages.{IsDamaged, BreaksLeaf, BreaksInner}
 use Rattle.map_nodes.specs.Store.{IsGrown}
 use Rattle.map_nodes.proofs.Spots.{length-entries_in}
 use Rattle.map_nodes.proofs.Trees.{tree-size, child-uses}
-use Rattle.paged_map.proofs.Walks.{tree-below, uses-below}
+use Rattle.paged_map.proofs.Walks.{tree-below}
 use Rattle.paged_map.proofs.Climbs.{not_split, Links, links}
 
 -- the damage that a refusal names

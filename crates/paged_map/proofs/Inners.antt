@@ -1,12 +1,11 @@
 -- Inner pages that were made.
-use Rattle.std.proofs.Common.{◌≡◌, ℕ, zero, suc, ◌+◌, ◌-◌, ◌*◌, ◌/◌, ◌^◌, ◌<◌, ◌≤◌, List, [], ◌∷◌, ◌++◌, length, get_or, take, drop, map, replicate, arith, refl, sym, ap, ◌∙◌, subst, append-nil}
-use Rattle.std.specs.List.{flat_map}
+use Rattle.std.proofs.Common.{◌≡◌, ℕ, zero, suc, ◌+◌, ◌-◌, ◌*◌, ◌/◌, ◌^◌, ◌<◌, ◌≤◌, List, [], ◌∷◌, ◌++◌, length, take, drop, map, replicate, arith, refl, sym, ap, ◌∙◌, subst, append-nil}
 use Rattle.std.proofs.lemmas.List.{drop-take, length-drop, length-append, length-replicate, map-append, take-take, take-append-drop, take-append-le, take_at, drop_at, drop-drop, length-take-le, length-map}
 use Rattle.std.proofs.Math.Nat.{mul-le-mul_left, mul-zero, zero-mul}
 use Rattle.page_face.specs.FreeList.{PageMap, with_page}
 use Rattle.map_nodes.specs.Supply.{one_at, spare}
 use Rattle.map_nodes.specs.Supply.{View, view, IsSupplied, spare_in, Moves}
-use Rattle.map_nodes.proofs.Supplies.{moves-write, moves-as, moves-beside, one_at-same, one_at-is, one_at-other, with-same, with-other}
+use Rattle.map_nodes.proofs.Supplies.{moves-write, moves-as, moves-beside, one_at-same, with-same, with-other}
 use Rattle.std.specs.Int.{from_be_bytes, w32}
 use Rattle.page_cells.specs.Number.{number}
 use Rattle.page_cells.specs.Cells.{chop, cells, key_at}
@@ -16,9 +15,8 @@ use Rattle.map_nodes.specs.declared.form.Form.{Form}
 use Rattle.map_nodes.specs.Rows.{Row}
 use Rattle.map_nodes.specs.Nodes.{Entry, IsInner, entries_in, entry_of, half_of}
 use Rattle.map_nodes.specs.Tree.{next_key, IsTree, IsFan, rows_at, uses, total, with_low}
-use Rattle.map_nodes.specs.Store.{IsSplit, IsGrown, grown, below_rows}
-use Rattle.map_nodes.proofs.Trees.{tree-within}
-use Rattle.map_nodes.proofs.Fans.{with_low-rows, length-with_low, no_entry}
+use Rattle.map_nodes.specs.Store.{IsSplit, IsGrown, below_rows}
+use Rattle.map_nodes.proofs.Fans.{with_low-rows, length-with_low}
 use Rattle.map_nodes.proofs.Frames.{SameFan, fan-frame, tree-frame, fan-head, flat_map-append, total-append, with_low-total}
 use Rattle.map_nodes.proofs.Images.{image-node, image-cells}
 use Rattle.paged_map.proofs.Leaves.{grown-two, after-split, half-split}

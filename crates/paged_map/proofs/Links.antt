@@ -1,15 +1,15 @@
 -- An entry that is put into an inner page's cells.
-use Rattle.std.proofs.Common.{◌≡◌, ℕ, zero, suc, ◌+◌, ◌-◌, ◌*◌, ◌^◌, ◌<◌, ◌≤◌, List, [], ◌∷◌, ◌++◌, length, get_or, take, drop, map, arith, refl, sym, ap, ◌∙◌, subst}
+use Rattle.std.proofs.Common.{◌≡◌, ℕ, suc, ◌+◌, ◌-◌, ◌*◌, ◌^◌, ◌<◌, ◌≤◌, List, [], ◌∷◌, ◌++◌, length, take, drop, map, arith, refl, sym, ap, ◌∙◌}
 use Rattle.std.specs.List.{take-map, drop-map}
 use Rattle.std.specs.Int.{from_be_bytes, to_be_bytes, w32}
-use Rattle.std.proofs.lemmas.List.{map-append, take_at, drop_at, take-take, take-append-le, length-take-le, length-append, length-map, length-drop}
+use Rattle.std.proofs.lemmas.List.{map-append, take_at, drop_at, take-take, take-append-le, length-take-le, length-append, length-map}
 use Rattle.std.proofs.lemmas.Nat.{from_be_bytes-to_be_bytes_4}
 use Rattle.std.proofs.Math.Nat.{mul-le-mul_left, mul-zero}
 use Rattle.page_cells.specs.Number.{number}
 use Rattle.page_cells.specs.Cells.{chop, cells, key_at}
 use Rattle.page_cells.proofs.Chops.{chop-splice, length-chop}
 use Rattle.map_nodes.specs.declared.form.Form.{Form}
-use Rattle.map_nodes.specs.Nodes.{Entry, IsInner, count_of, entries_in, entry_of}
+use Rattle.map_nodes.specs.Nodes.{Entry, count_of, entries_in, entry_of}
 use Rattle.map_nodes.specs.Tree.{with_low}
 use Rattle.map_nodes.specs.Store.{linked}
 use Rattle.paged_map.proofs.Inners.{entries_of}

@@ -1,18 +1,17 @@
 -- A row that is put into a leaf's cells.
-use Rattle.std.proofs.Common.{◌≡◌, ℕ, zero, suc, ◌+◌, ◌-◌, ◌*◌, ◌<◌, ◌≤◌, ◌⊎◌, inl, inr, List, [], ◌∷◌, ◌++◌, length, get_or, take, drop, map, arith, refl, sym, ap, ◌∙◌, subst, ⊎_elim, true, false, nat_eq}
+use Rattle.std.proofs.Common.{◌≡◌, ℕ, ◌+◌, ◌-◌, ◌*◌, ◌<◌, ◌≤◌, ◌⊎◌, inl, inr, List, ◌∷◌, ◌++◌, length, get_or, take, drop, map, arith, sym, ap, ◌∙◌, subst, ⊎_elim, true, false, nat_eq}
 use Rattle.std.specs.Option.{is_some}
 use Rattle.std.proofs.lemmas.Bool.Decides.{nat_tests}
 use Rattle.std.proofs.lemmas.Bool.{cases_eq}
 use Rattle.std.specs.List.{take-map, drop-map}
 use Rattle.std.proofs.lemmas.List.{take-append-drop, drop_more, length-take-le, length-append, length-drop, map-append, take_all, take_at, drop_at}
-use Rattle.std.proofs.Math.Nat.{mul-le-mul_left}
 use Rattle.page_cells.specs.Number.{number}
 use Rattle.page_cells.specs.Cells.{chop, cells, IsPlace, key_at}
 use Rattle.page_cells.proofs.Chops.{chop-splice, chop-front, length-chop}
 use Rattle.map_nodes.specs.declared.form.Form.{Form}
 use Rattle.map_nodes.specs.Rows.{Row, IsWithin, IsMade, lookup, put}
 use Rattle.map_nodes.specs.Nodes.{count_of, row_of, rows_in}
-use Rattle.map_nodes.proofs.Spans.{no_row, within-append, within-drop}
+use Rattle.map_nodes.proofs.Spans.{no_row, within-append}
 use Rattle.map_nodes.proofs.Puts.{put-append_right, put-first, put-here}
 use Rattle.map_nodes.proofs.Finds.{front, back, beyond, found, missed}
 use Rattle.map_nodes.proofs.Spots.{length-rows_in, row-key}

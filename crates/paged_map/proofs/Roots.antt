@@ -1,16 +1,14 @@
 -- A root above two pages.
-use Rattle.std.proofs.Common.{◌≡◌, ℕ, zero, suc, ◌+◌, ◌-◌, ◌*◌, ◌^◌, ◌<◌, ◌≤◌, List, [], ◌∷◌, ◌++◌, length, get_or, take, drop, map, replicate, arith, refl, sym, ap, ◌∙◌, subst, append_assoc}
+use Rattle.std.proofs.Common.{◌≡◌, ℕ, suc, ◌+◌, ◌*◌, ◌^◌, ◌<◌, ◌≤◌, List, [], ◌∷◌, ◌++◌, length, take, drop, replicate, arith, refl, sym, ap, ◌∙◌, subst, append_assoc}
 use Rattle.std.specs.Int.{from_be_bytes, to_be_bytes, w32}
-use Rattle.std.proofs.lemmas.List.{take_all, take_at, drop_at, length-append, length-replicate, take-append-le}
+use Rattle.std.proofs.lemmas.List.{take_all, take_at, drop_at, length-append, length-replicate}
 use Rattle.std.proofs.lemmas.Nat.{from_be_bytes-to_be_bytes_4}
 use Rattle.page_face.specs.FreeList.{PageMap, with_page, next_free}
 use Rattle.map_nodes.specs.Supply.{one_at, spare, tail}
-use Rattle.map_nodes.specs.Supply.{View, view, IsSupplied, spare_in, Moves}
+use Rattle.map_nodes.specs.Supply.{View, view, IsSupplied, Moves}
 use Rattle.map_nodes.proofs.Supplies.{moves-take, moves-as, moves-beside, moves-further, one_at-same, none}
 use Rattle.page_cells.specs.Number.{number}
-use Rattle.page_cells.specs.Cells.{chop}
 use Rattle.page_cells.specs.Build.{image}
-use Rattle.page_cells.proofs.Chops.{chop-append}
 use Rattle.map_nodes.specs.declared.form.Form.{Form}
 use Rattle.map_nodes.specs.Rows.{Row, IsWithin}
 use Rattle.map_nodes.specs.Nodes.{Entry, entry_of, row_of, half_of}
@@ -18,7 +16,7 @@ use Rattle.paged_map.proofs.Leaves.{rows_of, one_leaf, grown-two, after-split}
 use Rattle.map_nodes.specs.Tree.{IsTree, IsFan, rows_at, uses, total, with_low}
 use Rattle.map_nodes.specs.Store.{IsGrown, below_rows, least_after}
 use Rattle.map_nodes.proofs.Frames.{SameFan, fan-frame, tree-frame}
-use Rattle.paged_map.proofs.Inners.{entries_of, one_inner, number-zeros}
+use Rattle.paged_map.proofs.Inners.{entries_of, one_inner}
 
 pub two-joined : (z l m r a b d e : List ℕ) (key : ℕ) → z ≡ replicate key 0 → length m ≡ key → length l ≡ 4 → length r ≡ 4 → length e ≡ (key + 4) + (key + 4)
     → take (0 + length z) a ≡ z → take (key + length l) b ≡ take key a ++ l → take (key + 4 + length m) d ≡ take (key + 4) b ++ m → take (key + 4 + key + length r) e ≡ take (key + 4 + key) d ++ r

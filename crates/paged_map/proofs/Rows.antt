@@ -19,12 +19,12 @@ use Rattle.page_cells.specs.Number.{number}
 use Rattle.page_cells.specs.Cells.{key_at, IsPlace}
 use Rattle.map_nodes.specs.declared.form.Form.{Form}
 use Rattle.map_nodes.specs.Rows.{Row, IsWithin, lookup, first_from}
-use Rattle.map_nodes.specs.Nodes.{Entry, count_of, row_of, rows_in, entries_in, half_of, IsLeaf}
+use Rattle.map_nodes.specs.Nodes.{Entry, count_of, rows_in, entries_in, half_of, IsLeaf}
 use Rattle.map_nodes.specs.Tree.{IsFan, IsTree, IsPlaceFor, rows_at, uses, with_low, next_key}
 use Rattle.map_nodes.specs.Bounds.{child_of, low_at, high_at}
-use Rattle.map_nodes.proofs.Spans.{no_row, within-row, within-le}
-use Rattle.map_nodes.proofs.Spots.{cell_at, length-rows_in, get_or-rows_in, row-key, length-entries_in}
-use Rattle.map_nodes.proofs.Fans.{no_entry, fan-key, with_low-rows, with_low-child, with_low-key, with_low-from, length-with_low, drop-with_low}
+use Rattle.map_nodes.proofs.Spans.{no_row, within-row}
+use Rattle.map_nodes.proofs.Spots.{length-rows_in, get_or-rows_in, row-key, length-entries_in}
+use Rattle.map_nodes.proofs.Fans.{no_entry, fan-key, with_low-rows, with_low-child, with_low-key, length-with_low, drop-with_low}
 use Rattle.map_nodes.proofs.Firsts.{first_from-last, first_from-at, first_from-below, first_from-left, first_from-right, first_from-here}
 use Rattle.map_nodes.proofs.Trees.{tree-within, tree-child}
 

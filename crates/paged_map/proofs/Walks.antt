@@ -1,5 +1,5 @@
 -- One step down a tree: what a page's child has is what the page has.
-use Rattle.std.proofs.Common.{◌≡◌, ℕ, zero, suc, ◌+◌, ◌<◌, ◌≤◌, ◌⊎◌, inl, inr, List, [], ◌∷◌, ◌++◌, length, arith, refl, sym, ap, ◌∙◌, subst, Result, Ok, Err, Option, Some, None, Bool, true, false, if◌then◌else◌, ⊎_elim, get_or}
+use Rattle.std.proofs.Common.{◌≡◌, ℕ, zero, suc, ◌+◌, ◌<◌, ◌≤◌, inl, inr, List, [], ◌∷◌, ◌++◌, length, arith, refl, sym, ap, ◌∙◌, subst, Result, Ok, Err, Option, Some, None, Bool, true, false, if◌then◌else◌, ⊎_elim, get_or}
 use Rattle.std.proofs.lemmas.Bool.{cases_lt}
 use Rattle.std.specs.Result.{IfOk, IsErrOf}
 use Rattle.std.proofs.lemmas.Result.{IfOk-weaker}
@@ -12,14 +12,14 @@ use Rattle.page_face.specs.declared.fault.PageFault.{PageFault}
 use Rattle.page_face.specs.declared.fault.PageFault.TheVariants.{Disk, NoRoom, Stopped, Damaged, Memory}
 use Rattle.page_cells.specs.Cells.{IsPlace, key_at}
 use Rattle.map_nodes.specs.declared.form.Form.{Form}
-use Rattle.map_nodes.specs.Rows.{Row, lookup}
-use Rattle.map_nodes.specs.Nodes.{Entry, count_of, rows_in, entries_in, half_of, IsLeaf}
+use Rattle.map_nodes.specs.Rows.{lookup}
+use Rattle.map_nodes.specs.Nodes.{count_of, rows_in, entries_in, half_of, IsLeaf}
 use Rattle.map_nodes.specs.Tree.{IsTree, IsPlaceFor, rows_at, uses}
 use Rattle.map_nodes.specs.Bounds.{low_at, high_at, child_of}
 use Rattle.map_nodes.specs.Damages.{IsDamaged, AreTold, AskedSince, AsksOnly}
 use Rattle.map_nodes.proofs.Spots.{length-entries_in}
-use Rattle.map_nodes.proofs.Trees.{tree-child, child-uses, child-damage, place-lookup, tree-size}
-use Rattle.map_nodes.proofs.Harms.{asked-here, asked-sooner, asks-here, asks-further, asks-more, asks-nothing}
+use Rattle.map_nodes.proofs.Trees.{tree-child, child-uses, child-damage, place-lookup}
+use Rattle.map_nodes.proofs.Harms.{asked-here, asked-sooner, asks-here, asks-further}
 use Rattle.map_nodes.proofs.Supplies.{one_at-same}
 use Rattle.paged_map.specs.Answers.{HoldsRow, Locates}
 

@@ -1,7 +1,6 @@
-use Rattle.std.proofs.Common.{arith, ◌≡◌, ◌+◌, ◌-◌, ◌*◌, ◌/◌, ◌<◌, ◌≤◌, ℕ, ◌∙◌, sym, ap, length, take, drop, List, subst, suc, ◌^◌, refl}
+use Rattle.std.proofs.Common.{arith, ◌≡◌, ◌+◌, ◌-◌, ◌*◌, ◌/◌, ℕ, ◌∙◌, ap, length, take, drop, suc, refl}
 use Rattle.std.proofs.lemmas.Result.{err_from_is_err_and}
 use Rattle.std.proofs.lemmas.List.{length-drop, take_rest}
-use Rattle.page_cells.specs.Number.{number}
 use Rattle.page_cells.specs.Build.{image}
 use Rattle.page_face.specs.FreeList.{PageMap, with_page}
 use Rattle.paged_map.proofs.Leaves.{few, many, back_fits}

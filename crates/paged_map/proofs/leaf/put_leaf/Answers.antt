@@ -1,7 +1,6 @@
-use Rattle.std.proofs.Common.{arith, ◌≡◌, ◌+◌, ◌-◌, ◌*◌, ◌<◌, ◌≤◌, ℕ, ◌∙◌, sym, ap, length, take, drop, List, ◌++◌, subst, Some, None, Err}
+use Rattle.std.proofs.Common.{arith, ◌≡◌, ◌+◌, ◌-◌, ◌*◌, ℕ, ◌∙◌, sym, ap, take, drop, List, ◌++◌, subst, Err}
 use Rattle.std.proofs.lemmas.Result.{err_from_is_err_and}
 use Rattle.page_cells.specs.Number.{number}
-use Rattle.page_cells.specs.Cells.{IsPlace}
 use Rattle.map_nodes.specs.Nodes.{count_of, rows_in}
 use Rattle.map_nodes.specs.Rows.{IsMade, put}
 use Rattle.map_nodes.specs.Bounds.{upper_of}

@@ -1,4 +1,4 @@
-use Rattle.std.proofs.Common.{arith, ◌+◌, ◌-◌}
+use Rattle.std.proofs.Common.{arith, ◌+◌}
 use Rattle.paged_map.proofs.leaf.room_for.Goals as goal
 use Rattle.paged_map.proofs.Leaves.{room}
 

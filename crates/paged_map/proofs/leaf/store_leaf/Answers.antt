@@ -1,7 +1,6 @@
-use Rattle.std.proofs.Common.{arith, ◌≡◌, ◌+◌, ◌-◌, ◌*◌, ◌/◌, ◌<◌, ◌≤◌, ℕ, ◌∙◌, sym, ap, length, take, drop, List, subst, suc, ◌^◌, refl}
+use Rattle.std.proofs.Common.{arith, ◌+◌, ◌-◌, ◌*◌, ◌/◌, ℕ, ◌∙◌, ap, length, take, drop, refl}
 use Rattle.std.proofs.lemmas.Result.{err_from_is_err_and}
 use Rattle.std.proofs.lemmas.List.{length-drop, take_rest}
-use Rattle.page_cells.specs.Number.{number}
 use Rattle.paged_map.proofs.Leaves.{one_leaf, two_leaves_as, few, many, back_fits}
 use Rattle.paged_map.proofs.leaf.store_leaf.Goals as goal
 

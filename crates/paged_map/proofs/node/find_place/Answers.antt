@@ -1,4 +1,4 @@
-use Rattle.std.proofs.Common.{arith, ◌≡◌, ◌+◌, ◌*◌, ◌<◌, ◌≤◌, ℕ, ◌∙◌, sym, ap, length, take, drop, List}
+use Rattle.std.proofs.Common.{arith, ◌≡◌}
 use Rattle.page_cells.specs.Number.{number}
 use Rattle.map_nodes.specs.Nodes.{count_of}
 use Rattle.map_nodes.proofs.Finds.{place_as, place-found}

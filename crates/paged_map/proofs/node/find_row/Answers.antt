@@ -1,4 +1,4 @@
-use Rattle.std.proofs.Common.{arith, ◌≡◌, ◌+◌, ◌*◌, ◌<◌, ◌≤◌, ℕ, ◌∙◌, sym, ap, length, take, drop, List, Some}
+use Rattle.std.proofs.Common.{arith, ◌≡◌, ◌+◌, ℕ, ◌∙◌, sym, ap, List, Some}
 use Rattle.std.proofs.lemmas.Cmp.{ranked}
 use Rattle.std.specs.declared.cmp.Ordering.TheVariants.{Equal}
 use Rattle.std.specs.Cmp.{nat_cmp_is}

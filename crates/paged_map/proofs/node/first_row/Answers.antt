@@ -1,9 +1,8 @@
-use Rattle.std.proofs.Common.{arith, ◌≡◌, ◌+◌, ◌-◌, ◌*◌, ◌<◌, ◌≤◌, ℕ, ◌∙◌, sym, ap, length, take, drop, List, Some, suc, get_or, subst}
+use Rattle.std.proofs.Common.{arith, ◌≡◌}
 use Rattle.page_cells.specs.Number.{number}
 use Rattle.map_nodes.specs.Nodes.{count_of}
 use Rattle.map_nodes.specs.Bounds.{upper_of}
 use Rattle.map_nodes.proofs.Finds.{place_as}
-use Rattle.map_nodes.proofs.Spots.{fits_at}
 use Rattle.paged_map.proofs.Rows.{first-missed, first-found, first-holds}
 use Rattle.paged_map.proofs.node.first_row.Goals as goal
 

@@ -1,24 +1,23 @@
-use Rattle.std.proofs.Common.{arith, ◌≡◌, ◌+◌, ◌-◌, ◌*◌, ◌<◌, ◌≤◌, ℕ, ◌∙◌, sym, ap, length, take, drop, List, subst, suc, refl, ◌++◌, ◌∷◌, [], Ok, Err, inl, inr, ◌⊎◌, ⊎_elim}
+use Rattle.std.proofs.Common.{arith, ◌≡◌, ◌+◌, ◌-◌, ◌<◌, ◌≤◌, ℕ, ◌∙◌, sym, ap, List, subst, suc, refl, ◌++◌, ◌∷◌, [], Ok, Err, inl, inr, ◌⊎◌, ⊎_elim}
 use Rattle.std.specs.Result.{IfOk}
 use Rattle.std.specs.Option.{is_some}
 use Rattle.std.proofs.lemmas.Result.{err_from_is_err_and}
 use Rattle.page_face.specs.FreeList.{PageMap}
 use Rattle.page_face.specs.Causes.{IsUncounted}
 use Rattle.page_face.specs.declared.fault.Damage.{Damage}
-use Rattle.page_face.specs.declared.fault.PageFault.TheVariants.{Damaged}
 use Rattle.page_cells.specs.Number.{number}
 use Rattle.map_nodes.specs.declared.form.Form.{Form}
-use Rattle.map_nodes.specs.Supply.{view, IsSupplied, spare, one_at}
+use Rattle.map_nodes.specs.Supply.{view, spare, one_at}
 use Rattle.map_nodes.specs.Rows.{lookup, put}
-use Rattle.map_nodes.specs.Nodes.{count_of, rows_in, entries_in}
-use Rattle.map_nodes.specs.Tree.{IsTree, rows_at, uses}
+use Rattle.map_nodes.specs.Nodes.{count_of, rows_in}
+use Rattle.map_nodes.specs.Tree.{rows_at, uses}
 use Rattle.map_nodes.specs.Bounds.{upper_of}
 use Rattle.map_nodes.specs.Damages.{IsDamaged, AreTold, AskedSince, AsksOnly, IsRefusedTake}
 use Rattle.map_nodes.specs.Store.{IsGrown}
 use Rattle.map_nodes.proofs.Harms.{asked-here, asked-sooner, asks-here, asks-further, asks-more}
 use Rattle.paged_map.specs.declared.leaf.Grown.{Grown}
 use Rattle.paged_map.proofs.Walks.{same-fault, named-read, told-read, uses-self, asks-read, damage-link, uses-below, damage-below, lookup-below}
-use Rattle.paged_map.proofs.Readings.{LinkClaim, ok-map}
+use Rattle.paged_map.proofs.Readings.{LinkClaim}
 use Rattle.paged_map.proofs.Grows.{same-damage, damage-leaf, damage-inner, mid-tree, mid-bytes, mid-supplied, mid-once, whole, to-be-linked}
 use Rattle.paged_map.proofs.put.+put_in.Goals as goal
 

@@ -1,4 +1,4 @@
-use Rattle.std.proofs.Common.{arith, ◌≡◌, ◌+◌, ◌*◌, ℕ, ◌∙◌, sym, ap, take, drop, List, ◌++◌, subst}
+use Rattle.std.proofs.Common.{arith, ℕ, ◌∙◌, ap, take, List}
 use Rattle.page_cells.specs.Number.{number}
 use Rattle.paged_map.proofs.Inners.{entries_of}
 use Rattle.paged_map.proofs.Links.{body-entries, body-first}

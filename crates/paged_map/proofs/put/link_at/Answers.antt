@@ -1,6 +1,5 @@
-use Rattle.std.proofs.Common.{arith, ◌≡◌, ◌+◌, ◌*◌, ℕ, ◌∙◌, sym, ap, take, drop, List, ◌++◌, subst, length}
+use Rattle.std.proofs.Common.{arith, ◌+◌, ℕ, ◌∙◌, ap, take, List, subst}
 use Rattle.page_cells.specs.Number.{number}
-use Rattle.page_face.specs.FreeList.{PageMap}
 use Rattle.map_nodes.specs.Tree.{with_low}
 use Rattle.paged_map.proofs.Inners.{entries_of}
 use Rattle.paged_map.proofs.Links.{linked-cells, linked-first}

@@ -1,5 +1,4 @@
-use Rattle.std.proofs.Common.{arith, ◌+◌}
-use Rattle.std.proofs.Math.Nat.{mul-suc}
+use Rattle.std.proofs.Common.{arith}
 use Rattle.paged_map.proofs.put.room_for.Goals as goal
 
 pub returns-clause-small : goal.returns-clause-small

@@ -1,23 +1,22 @@
-use Rattle.std.proofs.Common.{arith, ◌≡◌, ◌+◌, ◌^◌, ◌<◌, ◌≤◌, ℕ, ◌∙◌, sym, ap, length, List, [], ◌∷◌, subst, refl, suc, Err, inl, inr, ⊎_elim, ◌⊎◌}
+use Rattle.std.proofs.Common.{arith, ◌≡◌, ◌+◌, ◌^◌, ◌<◌, ◌≤◌, ℕ, ◌∙◌, sym, ap, List, [], ◌∷◌, subst, refl, suc, Err, inl, inr, ⊎_elim, ◌⊎◌}
 use Rattle.std.specs.Option.{is_some}
 use Rattle.std.proofs.lemmas.Result.{err_from_is_err_and}
 use Rattle.page_face.specs.FreeList.{PageMap}
 use Rattle.page_face.specs.Causes.{IsUncounted}
 use Rattle.page_face.specs.declared.fault.Damage.{Damage}
-use Rattle.page_face.specs.declared.fault.PageFault.TheVariants.{Damaged}
 use Rattle.page_cells.specs.Number.{number}
 use Rattle.page_cells.proofs.Numbers.{number_below}
 use Rattle.map_nodes.specs.declared.form.Form.{Form}
 use Rattle.map_nodes.specs.Supply.{view, View, IsSupplied, spare}
 use Rattle.map_nodes.specs.Rows.{lookup, put}
 use Rattle.map_nodes.specs.Nodes.{least_of_root, half_of}
-use Rattle.map_nodes.specs.Tree.{IsTree, IsFan, IsMap, total, rows_at, uses, map_rows, map_uses, level_of}
+use Rattle.map_nodes.specs.Tree.{IsTree, IsFan, total, rows_at, uses, map_uses, level_of}
 use Rattle.map_nodes.specs.Damages.{IsDamaged, IsRefusedTake, AreTold, AskedSince, AsksOnly}
 use Rattle.map_nodes.specs.Store.{IsGrown, below_rows}
 use Rattle.map_nodes.proofs.Trees.{tree-size}
 use Rattle.map_nodes.proofs.Harms.{asks-more, asks-nothing}
 use Rattle.paged_map.specs.declared.putting.Rooted.{Rooted}
-use Rattle.paged_map.specs.Maps.{IsKept, HasBecome, IsMapDamaged, AreCounted}
+use Rattle.paged_map.specs.Maps.{HasBecome}
 use Rattle.paged_map.proofs.Walks.{same-fault, told-read, uses-self, asks-read, damage-link}
 use Rattle.paged_map.proofs.Rows.{named-first}
 use Rattle.paged_map.proofs.Roots.{to-root, rooted}

@@ -1,4 +1,4 @@
-use Rattle.std.proofs.Common.{arith, ◌≡◌, ◌∙◌, ◌+◌, ◌^◌, ◌<◌, ℕ, length, subst}
+use Rattle.std.proofs.Common.{arith, ◌∙◌, ◌^◌, ◌<◌, ℕ, subst}
 use Rattle.std.proofs.lemmas.Result.{err_from_is_err_and}
 use Rattle.page_cells.specs.Number.{number}
 use Rattle.page_cells.proofs.Numbers.{number_below}

@@ -1,4 +1,4 @@
-use Rattle.std.proofs.Common.{arith, ◌≡◌, take, drop, replicate, ap, ◌∙◌, length, refl, ◌+◌, sym, List, ℕ, ◌*◌, suc, ◌++◌, subst}
+use Rattle.std.proofs.Common.{arith, ◌≡◌, replicate, ap, ◌∙◌, ◌+◌, List, ℕ, suc, ◌++◌}
 use Rattle.std.specs.Int.{to_be_bytes, w32}
 use Rattle.std.proofs.lemmas.List.{take_at, length-replicate, take-append-le, length-append}
 use Rattle.std.proofs.lemmas.Result.{err_from_is_err_and}

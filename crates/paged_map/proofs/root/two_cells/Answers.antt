@@ -1,4 +1,4 @@
-use Rattle.std.proofs.Common.{arith, ◌≡◌, take, drop, replicate, ap, ◌∙◌, length, refl, ◌+◌, ◌++◌, subst, List, ℕ}
+use Rattle.std.proofs.Common.{arith, ◌≡◌, take, replicate, length, refl, ◌+◌, ◌++◌, subst, List, ℕ}
 use Rattle.std.specs.Int.{to_be_bytes, w32}
 use Rattle.std.proofs.lemmas.List.{take-replicate}
 use Rattle.paged_map.proofs.Roots.{two-joined}

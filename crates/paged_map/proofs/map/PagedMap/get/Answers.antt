@@ -1,23 +1,21 @@
-use Rattle.std.proofs.Common.{arith, ◌≡◌, ◌+◌, ◌^◌, ◌<◌, ◌≤◌, ℕ, ◌∙◌, sym, ap, length, List, [], subst, Option, refl, Err}
+use Rattle.std.proofs.Common.{arith, ◌≡◌, ◌^◌, ◌<◌, ℕ, ◌∙◌, sym, ap, length, List, subst, Option, refl, Err}
 use Rattle.std.specs.Result.{IfOk}
 use Rattle.std.proofs.lemmas.Result.{err_from_is_err_and, IfOk-weaker}
 use Rattle.page_face.specs.FreeList.{PageMap}
 use Rattle.page_face.specs.declared.fault.Damage.{Damage}
-use Rattle.page_face.specs.declared.fault.PageFault.TheVariants.{Damaged}
 use Rattle.page_cells.specs.Number.{number}
 use Rattle.page_cells.proofs.Numbers.{number_below}
 use Rattle.map_nodes.specs.declared.form.Form.{Form}
-use Rattle.map_nodes.specs.Rows.{Row, lookup, first_from}
+use Rattle.map_nodes.specs.Rows.{Row, lookup}
 use Rattle.map_nodes.specs.Nodes.{least_of_root}
 use Rattle.map_nodes.specs.Tree.{IsTree, rows_at, uses, map_rows, map_uses, level_of}
-use Rattle.map_nodes.specs.Damages.{IsDamaged, AreTold, AskedSince, AsksOnly}
+use Rattle.map_nodes.specs.Damages.{IsDamaged, AreTold, AsksOnly}
 use Rattle.map_nodes.proofs.Trees.{tree-size}
 use Rattle.map_nodes.proofs.Harms.{asks-more, asks-nothing}
 use Rattle.paged_map.specs.Answers.{HoldsRow, Locates}
-use Rattle.paged_map.specs.Maps.{IsMapDamaged}
 use Rattle.paged_map.proofs.Walks.{locates-below, same-fault, told-read, uses-self, asks-read, damage-link}
-use Rattle.paged_map.proofs.Rows.{located-as, named-first}
-use Rattle.paged_map.proofs.Maps.{enter, map-tree, map-rows, map-uses, map-damage, map-none, map-undamaged}
+use Rattle.paged_map.proofs.Rows.{named-first}
+use Rattle.paged_map.proofs.Maps.{enter, map-tree, map-rows, map-uses, map-damage, map-undamaged}
 use Rattle.paged_map.proofs.map.PagedMap.get.Goals as goal
 
 pub returns-in_err-bytes-clause-damaged : goal.returns-in_err-bytes-clause-damaged

@@ -1,12 +1,11 @@
-use Rattle.std.proofs.Common.{arith, ◌≡◌, ◌+◌, ◌^◌, ◌<◌, ◌≤◌, ℕ, ◌∙◌, sym, ap, length, List, [], ◌∷◌, subst, refl, Err, Bool, inl, inr, ⊎_elim, ◌⊎◌}
+use Rattle.std.proofs.Common.{arith, ◌≡◌, ◌^◌, ℕ, ◌∙◌, sym, ap, [], ◌∷◌, subst, Err, Bool, inr, ◌⊎◌}
 use Rattle.std.specs.Option.{is_some}
 use Rattle.std.proofs.lemmas.Bool.Decides.{nat_tests}
 use Rattle.std.proofs.lemmas.Result.{err_from_is_err_and}
 use Rattle.page_face.specs.FreeList.{PageMap}
-use Rattle.page_face.specs.declared.fault.Damage.{Damage}
 use Rattle.page_cells.specs.Number.{number}
 use Rattle.map_nodes.specs.declared.form.Form.{Form}
-use Rattle.map_nodes.specs.Supply.{view, IsSupplied, spare}
+use Rattle.map_nodes.specs.Supply.{view}
 use Rattle.map_nodes.specs.Rows.{Row, lookup, put}
 use Rattle.map_nodes.specs.Tree.{IsMap, map_rows, map_uses}
 use Rattle.map_nodes.specs.Damages.{IsRefusedTake, AskedSince, AsksOnly}
