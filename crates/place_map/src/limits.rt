@@ -1,5 +1,5 @@
 // The limits of queries.
-ghost use Rattle.std.specs.Prelude.{◌≡◌, ◌↔◌, ◌≤◌, false, IsTrue, map, length, All};
+ghost use Rattle.std.specs.Prelude.{◌≡◌, ◌↔◌, false, IsTrue, map, All};
 ghost use Rattle.std.specs.List.{AllByRecursion, IsDistinct};
 ghost use Rattle.std.specs.Str.{bytes_eq};
 ghost use Rattle.place_map.specs.Query.{IsCount, IsScale, IsTerms, IsWeight, IsWeights, IsWithinLimits};
