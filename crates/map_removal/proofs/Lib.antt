@@ -9,4 +9,5 @@ pub mod Walks
 pub mod Outs
 pub mod Settles
 pub mod Rises
+pub mod Lowers
 pub mod Pairs

@@ -1,7 +1,7 @@
 -- One step down a tree: what a page's child has is what the page has.
-use Rattle.std.proofs.Common.{append_assoc, ◌≡◌, ℕ, zero, suc, ◌+◌, ◌<◌, ◌≤◌, ◌⊎◌, inl, inr, List, [], ◌∷◌, ◌++◌, length, arith, refl, sym, ap, ◌∙◌, subst, Result, Ok, Err, Option, Some, None, Bool, true, false, if◌then◌else◌, ⊎_elim, get_or}
+use Rattle.std.proofs.Common.{append_assoc, ◌≡◌, ℕ, zero, suc, ◌+◌, ◌<◌, ◌≤◌, inl, inr, List, [], ◌∷◌, ◌++◌, length, arith, refl, sym, ap, ◌∙◌, subst, Result, Ok, Err, Option, Some, None, ⊎_elim}
 use Rattle.std.proofs.lemmas.Bool.{cases_lt}
-use Rattle.std.specs.Result.{IfOk, IsErrOf}
+use Rattle.std.specs.Result.{IsErrOf}
 use Rattle.page_face.specs.FreeList.{PageMap}
 use Rattle.page_face.specs.Causes.{IsUncounted, asked_after, unlinked}
 use Rattle.page_face.specs.declared.fault.Rule.{Rule}
@@ -10,8 +10,8 @@ use Rattle.page_face.specs.declared.fault.PageFault.{PageFault}
 use Rattle.page_face.specs.declared.fault.PageFault.TheVariants.{Disk, NoRoom, Stopped, Damaged, Memory}
 use Rattle.page_cells.specs.Cells.{IsPlace, key_at}
 use Rattle.map_nodes.specs.declared.form.Form.{Form}
-use Rattle.map_nodes.specs.Rows.{Row, lookup}
-use Rattle.map_nodes.specs.Nodes.{Entry, count_of, rows_in, entries_in, half_of, IsLeaf}
+use Rattle.map_nodes.specs.Rows.{lookup}
+use Rattle.map_nodes.specs.Nodes.{count_of, entries_in, half_of}
 use Rattle.map_nodes.specs.Tree.{IsTree, IsPlaceFor, rows_at, uses}
 use Rattle.map_nodes.specs.Bounds.{low_at, high_at, child_of}
 use Rattle.map_nodes.specs.Damages.{BreaksLeaf, BreaksInner, IsDamaged, AreTold, AskedSince, AsksOnly}
@@ -20,8 +20,8 @@ use Rattle.map_removal.specs.Mended.{IsBeside}
 use Rattle.map_removal.specs.Looks.{HasLooked, TellsBeside, HasBeside}
 use Rattle.map_removal.specs.declared.settling.Beside.{Beside}
 use Rattle.map_nodes.proofs.Spots.{length-entries_in}
-use Rattle.map_nodes.proofs.Trees.{tree-child, child-uses, child-damage, place-lookup, tree-size}
-use Rattle.map_nodes.proofs.Harms.{asked-here, asked-sooner, asks-here, asks-further, asks-more, asks-nothing}
+use Rattle.map_nodes.proofs.Trees.{tree-child, child-uses, child-damage, place-lookup}
+use Rattle.map_nodes.proofs.Harms.{asked-here, asked-sooner, asks-here, asks-further, asks-more}
 use Rattle.map_nodes.proofs.Supplies.{one_at-same}
 
 -- the page that a refusal names

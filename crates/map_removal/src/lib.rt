@@ -13,6 +13,7 @@ mod mending;
 mod node;
 mod pair;
 mod remove;
+mod root;
 mod settling;
 mod sharing;
 
@@ -23,5 +24,6 @@ pub use mending::mend;
 pub use node::{Found, find_place};
 pub use pair::{halve, merge};
 pub use remove::remove_in;
+pub use root::lower_root;
 pub use settling::{Beside, settle, settle_if_low};
 pub use sharing::{shape_at, share};

@@ -1,24 +1,23 @@
-use Rattle.std.proofs.Common.{rules, arith, ◌≡◌, ◌+◌, ◌-◌, ◌*◌, ◌<◌, ◌≤◌, ℕ, ◌∙◌, sym, ap, length, List, subst, Option, Some, None, refl, suc, ◌++◌, ◌∷◌, [], Err}
-use Rattle.std.specs.Result.{IfOk}
+use Rattle.std.proofs.Common.{arith, ◌≡◌, ◌+◌, ◌-◌, ◌*◌, ◌<◌, ◌≤◌, ℕ, ◌∙◌, sym, ap, length, List, subst, Option, refl, suc, Err}
 use Rattle.std.proofs.lemmas.Result.{err_from_is_err_and}
 use Rattle.page_face.specs.FreeList.{PageMap}
 use Rattle.page_face.specs.declared.fault.Damage.{Damage}
 use Rattle.page_cells.specs.Number.{number}
-use Rattle.map_nodes.specs.Supply.{view, one_at, spare}
-use Rattle.map_nodes.specs.Rows.{Row, lookup}
-use Rattle.map_nodes.specs.Nodes.{count_of, rows_in, width_of, half_of, least_of_root}
+use Rattle.map_nodes.specs.Supply.{view, spare}
+use Rattle.map_nodes.specs.Rows.{lookup}
+use Rattle.map_nodes.specs.Nodes.{count_of, width_of, least_of_root}
 use Rattle.map_nodes.specs.Tree.{IsTree, rows_at, uses}
 use Rattle.map_nodes.specs.Bounds.{upper_of, child_of}
-use Rattle.map_nodes.specs.Damages.{BreaksLeaf, IsDamaged, AreTold, AskedSince, AsksOnly}
+use Rattle.map_nodes.specs.Damages.{IsDamaged, AreTold, AskedSince, AsksOnly}
 use Rattle.std.proofs.Math.Nat.{mul-le-mul_left}
 use Rattle.page_face.specs.Causes.{IsUncounted}
-use Rattle.map_nodes.proofs.Trees.{tree-size, child-uses}
-use Rattle.map_nodes.proofs.Harms.{asked-here, asks-here, asks-further, asks-more, asks-nothing}
+use Rattle.map_nodes.proofs.Trees.{tree-size}
+use Rattle.map_nodes.proofs.Harms.{asks-here, asks-nothing}
 use Rattle.map_removal.specs.Removal.{HasRemoved, Lessens, IsOut, IsLess}
 use Rattle.map_removal.specs.Mended.{IsBeside}
 use Rattle.map_removal.proofs.Settles.{half_some}
-use Rattle.map_removal.proofs.Rises.{rise, ChildClaim, child-claim}
-use Rattle.map_removal.proofs.Walks.{uses-most, named-page, same-fault, named-refused, told-read, uses-self, asks-read, damage-link, damage-rule, uses-below, tree-below, damage-below, lookup-below, asked-later, asked-from, asked-child, beside-is, own-looked, own-below, damage-looked}
+use Rattle.map_removal.proofs.Rises.{rise, child-claim}
+use Rattle.map_removal.proofs.Walks.{uses-most, same-fault, named-refused, told-read, uses-self, asks-read, damage-link, uses-below, tree-below, damage-below, lookup-below, asked-later, asked-from, asked-child, beside-is, own-looked, own-below, damage-looked}
 use Rattle.map_removal.proofs.remove.+remove_in.Goals as goal
 
 pub returns-then-level-eq0-clause-named : goal.returns-then-level-eq0-clause-named
