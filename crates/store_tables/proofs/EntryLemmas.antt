@@ -8,21 +8,14 @@ use Rattle.std.specs.Map.{lookup, remove_entry}
 use Rattle.std.specs.Ordering.{nat_cmp, is_eq, is_lt, match_ordering}
 use Rattle.std.specs.declared.cmp.Ordering.{Ordering}
 use Rattle.std.specs.declared.cmp.Ordering.TheVariants.{Less, Equal, Greater}
-use Rattle.map_nodes.specs.Rows.{Row, put, without} 
+use Rattle.map_nodes.specs.Rows.{Row, put, without}
 use Rattle.map_nodes.specs.Rows as Rows
 use Rattle.map_nodes.proofs.Puts.{put-before, put-here, put-behind, without-here, without-other}
+use Rattle.store_tables.specs.Holding.{row_by, IsEntryOf}
 
 -- a numbering of keys that has their order
 pub record IsCoding {K : Type 0} (cmp : K → K → Ordering) (IsKey : K → Type 0) (code : K → ℕ) : Type 0 where
   pub agrees : (a b : K) → IsKey a → IsKey b → cmp a b ≡ nat_cmp (code a) (code b)
-
--- an entry's row
-abbrev pub row_by : {K V : Type 0} → (K → ℕ) → (V → List ℕ) → K × V → Row
-row_by code value e = (code e.0, value e.1)
-
--- an entry of such a key and value
-abbrev pub IsEntryOf : {K V : Type 0} → (K → Type 0) → (V → Type 0) → K × V → Type 0
-IsEntryOf IsKey IsValue e = IsKey e.0 × IsValue e.1
 
 less : {m n : ℕ} → m < n → nat_cmp m n ≡ Less
 less {m} {n} h = sym (nat_cmp_is m n Less h)
@@ -34,7 +27,7 @@ greater : {m n : ℕ} → n < m → nat_cmp m n ≡ Greater
 greater {m} {n} h = sym (nat_cmp_is m n Greater h)
 
 -- a test of two numbers and of their order
-equal_test : (m n : ℕ) → (n == m) ≡ is_eq (nat_cmp m n)
+pub equal_test : (m n : ℕ) → (n == m) ≡ is_eq (nat_cmp m n)
 equal_test m n = ⊎_elim
     (λ (c : m ≡ n). eq-eqb n m (sym c) ∙ sym (ap is_eq (level c)))
     (⊎_elim

@@ -1,2 +1,4 @@
 pub mod CodeLemmas
 pub mod EntryLemmas
+pub mod MapLemmas
+pub mod WordLemmas

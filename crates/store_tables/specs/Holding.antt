@@ -28,47 +28,56 @@ texts_form = record { key = 33; value = 8; map = 2; some = lit≤ tt; short = li
 abbrev pub numbers_form : Form
 numbers_form = record { key = 8; value = 37; map = 3; some = lit≤ tt; short = lit≤ tt; fits = lit≤ tt }
 
--- a place's row: its key's form, as a number, and its value
+-- a key's form as a number
 unfoldable pub key_code : Name → ℕ
 key_code key = number (form_of key)
 
-abbrev pub place_row : Name × Stored → Row
-place_row e = (key_code e.0, place_value e.1)
-
--- a word's row by text
+-- a word's form as a number
 unfoldable pub word_code : List ℕ → ℕ
 word_code word = number (word_form word)
 
-abbrev pub text_row : List ℕ × ℕ → Row
-text_row e = (word_code e.0, number_bytes e.1)
+-- a word's number, which is the number of its 8 bytes
+abbrev pub number_code : ℕ → ℕ
+number_code n = n
 
--- a word's row by number
-abbrev pub number_row : ℕ × Counted → Row
-number_row e = (e.0, counted_value e.1)
+-- an entry's row: its key as a number, and the bytes of its value
+abbrev pub row_by : {K V : Type 0} → (K → ℕ) → (V → List ℕ) → K × V → Row
+row_by code value e = (code e.0, value e.1)
 
--- a key, and a place of its form
-abbrev pub IsPlaceEntry : Name × Stored → Type 0
-IsPlaceEntry e = IsName e.0 × IsValue e.1 × IsStored e.1
+-- an entry of such a key and value
+abbrev pub IsEntryOf : {K V : Type 0} → (K → Type 0) → (V → Type 0) → K × V → Type 0
+IsEntryOf IsKey IsValue e = IsKey e.0 × IsValue e.1
 
--- a word, and a u64
-abbrev pub IsTextEntry : List ℕ × ℕ → Type 0
-IsTextEntry e = IsWordText e.0 × (e.1 < 2 ^ 64)
+-- a place of its form
+abbrev pub IsPlaceValue : Stored → Type 0
+IsPlaceValue stored = IsValue stored × IsStored stored
 
--- a u64, and a word with its places
-abbrev pub IsNumberEntry : ℕ × Counted → Type 0
-IsNumberEntry e = (e.0 < 2 ^ 64) × IsCounted e.1
+abbrev pub IsU64 : ℕ → Type 0
+IsU64 n = n < 2 ^ 64
 
--- The map with this root is well formed, and its rows are those of the entries, in order.
-pub record HoldsMap {E : Type 0} (form : Form) (row : E → Row) (IsEntry : E → Type 0) (pages : PageMap) (root : ℕ) (entries : List E) : Type 0 where
+-- The map with this root is well formed, and its rows are those of the entries, one by one.
+pub record HoldsMap {K V : Type 0} (form : Form) (code : K → ℕ) (value : V → List ℕ) (IsKey : K → Type 0) (IsValue : V → Type 0) (pages : PageMap) (root : ℕ) (entries : List (K × V)) : Type 0 where
   pub tree : IsMap form pages root
-  pub rows : map_rows form pages root ≡ map row entries
-  pub each : All IsEntry entries
+  pub rows : map_rows form pages root ≡ map (row_by code value) entries
+  pub each : All (IsEntryOf IsKey IsValue) entries
+
+-- the place table holds these places
+abbrev pub HoldsPlaces : PageMap → ℕ → List (Name × Stored) → Type 0
+HoldsPlaces = HoldsMap places_form key_code place_value IsName IsPlaceValue
+
+-- the words by text hold these numbers
+abbrev pub HoldsTexts : PageMap → ℕ → List (List ℕ × ℕ) → Type 0
+HoldsTexts = HoldsMap texts_form word_code number_bytes IsWordText IsU64
+
+-- the words by number hold these words
+abbrev pub HoldsNumbers : PageMap → ℕ → List (ℕ × Counted) → Type 0
+HoldsNumbers = HoldsMap numbers_form number_code counted_value IsU64 IsCounted
 
 -- the three maps hold the entries
 pub record Holds (pages : PageMap) (tables : Tables) (entries : Entries) : Type 0 where
-  pub places : HoldsMap places_form place_row IsPlaceEntry pages tables.places entries.places
-  pub texts : HoldsMap texts_form text_row IsTextEntry pages tables.texts entries.texts
-  pub numbers : HoldsMap numbers_form number_row IsNumberEntry pages tables.numbers entries.numbers
+  pub places : HoldsPlaces pages tables.places entries.places
+  pub texts : HoldsTexts pages tables.texts entries.texts
+  pub numbers : HoldsNumbers pages tables.numbers entries.numbers
 
 -- how often the tables use a page
 abbrev pub table_uses : PageMap → Tables → ℕ → ℕ

@@ -2,7 +2,7 @@
 use Rattle.std.specs.Prelude.{◌≡◌, ◌↔◌, ℕ, ◌+◌, ◌-◌, ◌<◌, ◌≤◌, ◌^◌, ◌==◌, if◌then◌else◌, nat_le, Bool, List, [], ◌∷◌, length, Option, Some, None, IsSome, IfSome, option_map, unwrap_or, filter_map}
 use Rattle.std.specs.BTreeMap.{insert_entry, is_at}
 use Rattle.std.specs.List.{list_any, count_by}
-use Rattle.std.specs.Map.{remove_entry}
+use Rattle.std.specs.Map.{remove_entry, values_of}
 use Rattle.std.specs.Ordering.{nat_cmp}
 use Rattle.spatial_base.specs.Key.{Name}
 use Rattle.spatial_base.specs.Point.{Position}
@@ -22,7 +22,7 @@ has_number number stored = list_any (λ (p : Pair). p.0 == number) (held_pairs s
 
 -- how many of the places have a pair of this number
 abbrev pub holders : ℕ → List (Name × Stored) → ℕ
-holders number places = count_by (λ (e : Name × Stored). has_number number e.1) places
+holders number places = count_by (has_number number) (values_of places)
 
 -- The word tables agree, each word has as many places as are claimed, and at least one, and each number is below the next one.
 pub record AreCounted (claims : ℕ → ℕ) (texts : List (List ℕ × ℕ)) (numbers : List (ℕ × Counted)) (next_word : ℕ) : Type 0 where
@@ -39,13 +39,10 @@ WordsAgree entries next_word = AreCounted (λ number. holders number entries.pla
 abbrev pub number_for : List ℕ → ℕ → List (List ℕ × ℕ) → ℕ
 number_for word next_word texts = unwrap_or (number_of_word word texts) next_word
 
--- the next word number after a word is held: one more where the word had none
-abbrev pub next_after : List ℕ → ℕ → List (List ℕ × ℕ) → ℕ
-next_after word next_word texts = next_of (number_of_word word texts)
-  where
-    next_of : Option ℕ → ℕ
-    next_of None = next_word + 1
-    next_of (Some number) = next_word
+-- the next word number after a word was held that had this number, or none
+abbrev pub next_after : Option ℕ → ℕ → ℕ
+next_after None next_word = next_word + 1
+next_after (Some number) next_word = next_word
 
 -- one place more holds the word, which has its number or the next one
 abbrev pub with_hold : List ℕ → ℕ → Entries → Entries
@@ -56,28 +53,30 @@ with_hold word next_word entries =
       numbers = insert_entry nat_cmp entries.numbers number (record { word = word; places = places_of_number number entries.numbers + 1 });
     }
 
--- the two tables agree on a word: a number that it has is the word's, and fewer than 2^32 - 1 places hold it; and where it has none, the next number has no word
-abbrev pub CanHold : List ℕ → ℕ → Entries → Type 0
-CanHold word next_word entries = can_hold (number_of_word word entries.texts)
-  where
-    can_hold : Option ℕ → Type 0
-    can_hold None = word_of_number next_word entries.numbers ≡ None
-    can_hold (Some number) =
-        (option_map (λ (c : Counted). c.word) (word_of_number number entries.numbers) ≡ Some word) × (places_of_number number entries.numbers + 1 < 2 ^ 32)
+-- The two tables agree on a word that has this number, or none, and its count can rise: the number is the word's, and fewer than 2^32 - 1 places hold it; and where the word has none, no word has the next number.
+abbrev pub IsHoldable : List ℕ → ℕ → List (ℕ × Counted) → Option ℕ → Type 0
+IsHoldable word next_word numbers None = word_of_number next_word numbers ≡ None
+IsHoldable word next_word numbers (Some number) =
+    (option_map (λ (c : Counted). c.word) (word_of_number number numbers) ≡ Some word) × (places_of_number number numbers + 1 < 2 ^ 32)
 
--- one place less holds the number's word, which goes with its last place
+-- the two tables agree on a word, and its count can rise
+abbrev pub CanHold : List ℕ → ℕ → Entries → Type 0
+CanHold word next_word entries = IsHoldable word next_word entries.numbers (number_of_word word entries.texts)
+
+-- the entries where one place less holds the word of a number: it goes with its last place
+abbrev pub released : ℕ → Option Counted → Entries → Entries
+released number None entries = entries
+released number (Some counted) entries =
+    if nat_le counted.places 1
+    then record entries {
+      texts = remove_entry (is_at (word_cmp counted.word)) entries.texts;
+      numbers = remove_entry (is_at (nat_cmp number)) entries.numbers;
+    }
+    else record entries { numbers = insert_entry nat_cmp entries.numbers number (record counted { places = counted.places - 1 }) }
+
+-- one place less holds the number's word
 abbrev pub without_hold : ℕ → Entries → Entries
-without_hold number entries = released (word_of_number number entries.numbers)
-  where
-    released : Option Counted → Entries
-    released None = entries
-    released (Some counted) =
-        if nat_le counted.places 1
-        then record entries {
-          texts = remove_entry (is_at (word_cmp counted.word)) entries.texts;
-          numbers = remove_entry (is_at (nat_cmp number)) entries.numbers;
-        }
-        else record entries { numbers = insert_entry nat_cmp entries.numbers number (record counted { places = counted.places - 1 }) }
+without_hold number entries = released number (word_of_number number entries.numbers) entries
 
 -- the words with one more, where the number has one
 abbrev pub with_word : Option Counted → ℕ → List (List ℕ × ℕ) → List (List ℕ × ℕ)
@@ -92,3 +91,11 @@ words_of_pairs numbers (pair ∷ pairs) = with_word (word_of_number pair.0 numbe
 -- the words of a place, with their impacts, in the order of the words
 abbrev pub words_of_place : List (ℕ × Counted) → Stored → List (List ℕ × ℕ)
 words_of_place numbers stored = words_of_pairs numbers (held_pairs stored)
+
+-- the claims with one more on a number
+abbrev pub claimed_more : ℕ → (ℕ → ℕ) → ℕ → ℕ
+claimed_more number claims n = if number == n then claims n + 1 else claims n
+
+-- the claims with one less on a number
+abbrev pub claimed_less : ℕ → (ℕ → ℕ) → ℕ → ℕ
+claimed_less number claims n = if number == n then claims n - 1 else claims n
