@@ -124,6 +124,7 @@ impl Key {
     pub fn of_bytes(bytes: &[u8; 66]) -> Option<Key>
         ensures some { IsSome result ↔ IsKeyForm bytes.now }
         ensures value { IfSome result (λ key. form_of key ≡ bytes.now) }
+        ensures name { IfSome result IsName }
     {
         let key = named_by(bytes)?;
         if key.bytes == *bytes { Some(key) } else { None }

@@ -17,7 +17,7 @@ use Rattle.page_cells.specs.Number.{number}
 use Rattle.page_cells.proofs.Numbers.{AreBytes, compare_numbers, number_below}
 use Rattle.store_rows.specs.Counted.{number_bytes}
 use Rattle.store_tables.specs.Entries.{word_cmp}
-use Rattle.store_tables.specs.Holding.{key_code, word_code}
+use Rattle.store_tables.specs.Coded.{key_code, word_code}
 
 -- ---- bytes
 
@@ -79,7 +79,7 @@ high_first-bytes (suc k) n = one (byte_at k n) (bytes_high_first k n) (small k) 
 
 -- ---- keys
 
-form-bytes : (key : Name) → IsName key → AreBytes (form_of key)
+pub form-bytes : (key : Name) → IsName key → AreBytes (form_of key)
 form-bytes (Text bytes) is =
     let few : length bytes ≤ 64 = is.1 in
     one 0 (padded 64 bytes ++ length bytes ∷ []) (omega arith)

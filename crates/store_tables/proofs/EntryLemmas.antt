@@ -11,7 +11,7 @@ use Rattle.std.specs.declared.cmp.Ordering.TheVariants.{Less, Equal, Greater}
 use Rattle.map_nodes.specs.Rows.{Row, put, without}
 use Rattle.map_nodes.specs.Rows as Rows
 use Rattle.map_nodes.proofs.Puts.{put-before, put-here, put-behind, without-here, without-other}
-use Rattle.store_tables.specs.Holding.{row_by, IsEntryOf}
+use Rattle.store_tables.specs.Coded.{row_by, IsEntryOf}
 
 -- a numbering of keys that has their order
 pub record IsCoding {K : Type 0} (cmp : K → K → Ordering) (IsKey : K → Type 0) (code : K → ℕ) : Type 0 where

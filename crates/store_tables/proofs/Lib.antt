@@ -1,4 +1,6 @@
 pub mod CodeLemmas
 pub mod EntryLemmas
+pub mod KeyLemmas
+pub mod LookupLemmas
 pub mod MapLemmas
 pub mod WordLemmas

@@ -12,7 +12,7 @@ use Rattle.store_rows.specs.declared.counted.Counted.{Counted}
 use Rattle.store_rows.specs.declared.stored.Stored.{Stored}
 use Rattle.store_rows.specs.Pairs.{Pair}
 use Rattle.store_tables.specs.Entries.{Entries, word_cmp, number_of_word, word_of_number, place_of_key, with_place, without_place}
-use Rattle.store_tables.specs.Words.{AreCounted, CanHold, IsHoldable, claimed_less, claimed_more, has_number, holders, next_after, number_for, places_of_number, released, with_hold, with_word, without_hold, words_of_pairs}
+use Rattle.store_tables.specs.Words.{WordTablesAgree, CanHold, IsHoldable, claimed_less, claimed_more, has_number, holders, next_after, number_for, places_of_number, released, with_hold, with_word, without_hold, words_of_pairs}
 use Rattle.store_tables.proofs.EntryLemmas.{equal_test}
 use Rattle.store_tables.proofs.MapLemmas.{lookup-insert, lookup-remove, numbers_are_ordered, same_from_test, test_of_same, words_are_ordered}
 
@@ -46,8 +46,8 @@ pub record IsFor (word : List ℕ) (number : ℕ) (texts : List (List ℕ × ℕ
   pub below : number < next
   pub rises : next_word ≤ next
 
-held_number : (claims : ℕ → ℕ) (texts : List (List ℕ × ℕ)) (numbers : List (ℕ × Counted)) (next_word next : ℕ) (word : List ℕ) (number : ℕ) → AreCounted claims texts numbers next_word → IsFor word number texts next_word next
-    → AreCounted (claimed_more number claims) (insert_entry word_cmp texts word number) (insert_entry nat_cmp numbers number (record { word = word; places = places_of_number number numbers + 1 })) next
+held_number : (claims : ℕ → ℕ) (texts : List (List ℕ × ℕ)) (numbers : List (ℕ × Counted)) (next_word next : ℕ) (word : List ℕ) (number : ℕ) → WordTablesAgree claims texts numbers next_word → IsFor word number texts next_word next
+    → WordTablesAgree (claimed_more number claims) (insert_entry word_cmp texts word number) (insert_entry nat_cmp numbers number (record { word = word; places = places_of_number number numbers + 1 })) next
 held_number claims texts numbers next_word next word number agree is = record {
   inverse = λ w m.
     let l = lookup-insert words_are_ordered w word number texts in
@@ -93,7 +93,7 @@ held_number claims texts numbers next_word next word number agree is = record {
     below m true at_number there = let same : m ≡ number = same_from_test numbers_are_ordered m number at_number in let lt = is.below in omega arith
     below m false at_number there = let lt = agree.below m there in let le = is.rises in omega arith
 
-is_for : (claims : ℕ → ℕ) (texts : List (List ℕ × ℕ)) (numbers : List (ℕ × Counted)) (next_word : ℕ) (word : List ℕ) (found : Option ℕ) → AreCounted claims texts numbers next_word → number_of_word word texts ≡ found
+is_for : (claims : ℕ → ℕ) (texts : List (List ℕ × ℕ)) (numbers : List (ℕ × Counted)) (next_word : ℕ) (word : List ℕ) (found : Option ℕ) → WordTablesAgree claims texts numbers next_word → number_of_word word texts ≡ found
     → IsHoldable word next_word numbers found → IsFor word (unwrap_or found next_word) texts next_word (next_after found next_word)
 is_for claims texts numbers next_word word None agree was can = record {
   alone = λ w there. absurd (no_word w (ap word_in (sym can) ∙ (agree.inverse w next_word).0 there));
@@ -109,14 +109,14 @@ is_for claims texts numbers next_word word (Some number) agree was can = record 
 }
 
 -- after a hold the tables agree, and one place more is claimed for the word
-pub counted-with_hold : (claims : ℕ → ℕ) (entries : Entries) (next_word : ℕ) (word : List ℕ) → AreCounted claims entries.texts entries.numbers next_word → CanHold word next_word entries
-    → AreCounted (claimed_more (number_for word next_word entries.texts) claims) (with_hold word next_word entries).texts (with_hold word next_word entries).numbers (next_after (number_of_word word entries.texts) next_word)
-counted-with_hold claims entries next_word word agree can =
+pub agree-with_hold : (claims : ℕ → ℕ) (entries : Entries) (next_word : ℕ) (word : List ℕ) → WordTablesAgree claims entries.texts entries.numbers next_word → CanHold word next_word entries
+    → WordTablesAgree (claimed_more (number_for word next_word entries.texts) claims) (with_hold word next_word entries).texts (with_hold word next_word entries).numbers (next_after (number_of_word word entries.texts) next_word)
+agree-with_hold claims entries next_word word agree can =
     held_number claims entries.texts entries.numbers next_word _ word _ agree (is_for claims entries.texts entries.numbers next_word word (number_of_word word entries.texts) agree refl can)
 
 -- where the tables agree and no count is at its end, each word can be held
-pub can_hold-counted : (claims : ℕ → ℕ) (entries : Entries) (next_word : ℕ) (word : List ℕ) → AreCounted claims entries.texts entries.numbers next_word → ((n : ℕ) → claims n + 1 < 2 ^ 32) → CanHold word next_word entries
-can_hold-counted claims entries next_word word agree room = holdable (number_of_word word entries.texts) refl
+pub can_hold-agree : (claims : ℕ → ℕ) (entries : Entries) (next_word : ℕ) (word : List ℕ) → WordTablesAgree claims entries.texts entries.numbers next_word → ((n : ℕ) → claims n + 1 < 2 ^ 32) → CanHold word next_word entries
+can_hold-agree claims entries next_word word agree room = holdable (number_of_word word entries.texts) refl
   where
     none_at : (found : Option Counted) → word_of_number next_word entries.numbers ≡ found → found ≡ None
     none_at None e = refl
@@ -130,8 +130,8 @@ can_hold-counted claims entries next_word word agree room = holdable (number_of_
 
 -- the last place goes
 gone : (claims : ℕ → ℕ) (entries : Entries) (next_word number : ℕ) (counted : Counted) → IsStrictlySortedBy word_cmp (keys_of entries.texts) → IsStrictlySortedBy nat_cmp (keys_of entries.numbers)
-    → AreCounted claims entries.texts entries.numbers next_word → word_of_number number entries.numbers ≡ Some counted → counted.places ≤ 1
-    → AreCounted (claimed_less number claims) (remove_entry (is_at (word_cmp counted.word)) entries.texts) (remove_entry (is_at (nat_cmp number)) entries.numbers) next_word
+    → WordTablesAgree claims entries.texts entries.numbers next_word → word_of_number number entries.numbers ≡ Some counted → counted.places ≤ 1
+    → WordTablesAgree (claimed_less number claims) (remove_entry (is_at (word_cmp counted.word)) entries.texts) (remove_entry (is_at (nat_cmp number)) entries.numbers) next_word
 gone claims entries next_word number counted texts_ascend numbers_ascend agree is last = record {
   inverse = λ w m.
     let l = lookup-remove words_are_ordered w counted.word entries.texts texts_ascend in
@@ -183,8 +183,8 @@ gone claims entries next_word number counted texts_ascend numbers_ascend agree i
     below m false there = agree.below m there
 
 -- one of several places goes
-lowered : (claims : ℕ → ℕ) (entries : Entries) (next_word number : ℕ) (counted : Counted) → AreCounted claims entries.texts entries.numbers next_word → word_of_number number entries.numbers ≡ Some counted → 1 < counted.places
-    → AreCounted (claimed_less number claims) entries.texts (insert_entry nat_cmp entries.numbers number (record counted { places = counted.places - 1 })) next_word
+lowered : (claims : ℕ → ℕ) (entries : Entries) (next_word number : ℕ) (counted : Counted) → WordTablesAgree claims entries.texts entries.numbers next_word → word_of_number number entries.numbers ≡ Some counted → 1 < counted.places
+    → WordTablesAgree (claimed_less number claims) entries.texts (insert_entry nat_cmp entries.numbers number (record counted { places = counted.places - 1 })) next_word
 lowered claims entries next_word number counted agree is more = record {
   inverse = λ w m.
     let r = lookup-insert numbers_are_ordered m number fewer entries.numbers in
@@ -222,15 +222,15 @@ lowered claims entries next_word number counted agree is more = record {
     below m false at_number there = agree.below m there
 
 -- after a release the tables agree, and one place less is claimed for the number
-pub counted-without_hold : (claims : ℕ → ℕ) (entries : Entries) (next_word number : ℕ) (counted : Counted) → IsStrictlySortedBy word_cmp (keys_of entries.texts) → IsStrictlySortedBy nat_cmp (keys_of entries.numbers)
-    → AreCounted claims entries.texts entries.numbers next_word → word_of_number number entries.numbers ≡ Some counted
-    → AreCounted (claimed_less number claims) (without_hold number entries).texts (without_hold number entries).numbers next_word
-counted-without_hold claims entries next_word number counted texts_ascend numbers_ascend agree is =
-    let Agree : Entries → Type 0 = λ e. AreCounted (claimed_less number claims) e.texts e.numbers next_word in
+pub agree-without_hold : (claims : ℕ → ℕ) (entries : Entries) (next_word number : ℕ) (counted : Counted) → IsStrictlySortedBy word_cmp (keys_of entries.texts) → IsStrictlySortedBy nat_cmp (keys_of entries.numbers)
+    → WordTablesAgree claims entries.texts entries.numbers next_word → word_of_number number entries.numbers ≡ Some counted
+    → WordTablesAgree (claimed_less number claims) (without_hold number entries).texts (without_hold number entries).numbers next_word
+agree-without_hold claims entries next_word number counted texts_ascend numbers_ascend agree is =
+    let Agree : Entries → Type 0 = λ e. WordTablesAgree (claimed_less number claims) e.texts e.numbers next_word in
     subst (λ found. Agree (released number found entries)) (sym is) (split (nat_le counted.places 1) refl)
   where
     split : (b : Bool) → nat_le counted.places 1 ≡ b
-        → AreCounted (claimed_less number claims)
+        → WordTablesAgree (claimed_less number claims)
         (cond b (record entries { texts = remove_entry (is_at (word_cmp counted.word)) entries.texts; numbers = remove_entry (is_at (nat_cmp number)) entries.numbers })
         (record entries { numbers = insert_entry nat_cmp entries.numbers number (record counted { places = counted.places - 1 }) })).texts
         (cond b (record entries { texts = remove_entry (is_at (word_cmp counted.word)) entries.texts; numbers = remove_entry (is_at (nat_cmp number)) entries.numbers })
@@ -240,7 +240,7 @@ counted-without_hold claims entries next_word number counted texts_ascend number
     split false more = lowered claims entries next_word number counted agree is (leb-false counted.places 1 more)
 
 -- a number that is claimed has a word
-pub known-claimed : (claims : ℕ → ℕ) (texts : List (List ℕ × ℕ)) (numbers : List (ℕ × Counted)) (next_word number : ℕ) → AreCounted claims texts numbers next_word → 0 < claims number → IsSome (word_of_number number numbers)
+pub known-claimed : (claims : ℕ → ℕ) (texts : List (List ℕ × ℕ)) (numbers : List (ℕ × Counted)) (next_word number : ℕ) → WordTablesAgree claims texts numbers next_word → 0 < claims number → IsSome (word_of_number number numbers)
 known-claimed claims texts numbers next_word number agree claimed = known (word_of_number number numbers) (agree.counts number)
   where
     known : (found : Option Counted) → places_in found ≡ claims number → IsSome found

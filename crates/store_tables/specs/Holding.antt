@@ -1,6 +1,7 @@
 -- The pages of a store's tables, and what they hold.
 use Rattle.std.specs.Prelude.{◌≡◌, ℕ, ◌+◌, ◌<◌, ◌≤◌, ◌^◌, List, map, All}
 use Rattle.std.proofs.Common.{lit≤}
+use Rattle.page_face.specs.Causes.{IsUncounted}
 use Rattle.page_face.specs.FreeList.{PageMap}
 use Rattle.page_cells.specs.Number.{number}
 use Rattle.map_nodes.specs.declared.form.Form.{Form}
@@ -14,6 +15,7 @@ use Rattle.store_rows.specs.declared.stored.Stored.{Stored}
 use Rattle.store_rows.specs.Counted.{IsCounted, counted_value, number_bytes}
 use Rattle.store_rows.specs.Stored.{IsStored, IsValue, place_value}
 use Rattle.store_tables.specs.declared.tables.Tables.{Tables}
+use Rattle.store_tables.specs.Coded.{IsEntryOf, IsPlaceValue, IsU64, key_code, number_code, row_by, word_code}
 use Rattle.store_tables.specs.Entries.{Entries}
 
 -- the place table: keys of 66 bytes, values of 585, map 1
@@ -27,33 +29,6 @@ texts_form = record { key = 33; value = 8; map = 2; some = lit≤ tt; short = li
 -- the words by number: keys of 8 bytes, values of 37, map 3
 abbrev pub numbers_form : Form
 numbers_form = record { key = 8; value = 37; map = 3; some = lit≤ tt; short = lit≤ tt; fits = lit≤ tt }
-
--- a key's form as a number
-unfoldable pub key_code : Name → ℕ
-key_code key = number (form_of key)
-
--- a word's form as a number
-unfoldable pub word_code : List ℕ → ℕ
-word_code word = number (word_form word)
-
--- a word's number, which is the number of its 8 bytes
-abbrev pub number_code : ℕ → ℕ
-number_code n = n
-
--- an entry's row: its key as a number, and the bytes of its value
-abbrev pub row_by : {K V : Type 0} → (K → ℕ) → (V → List ℕ) → K × V → Row
-row_by code value e = (code e.0, value e.1)
-
--- an entry of such a key and value
-abbrev pub IsEntryOf : {K V : Type 0} → (K → Type 0) → (V → Type 0) → K × V → Type 0
-IsEntryOf IsKey IsValue e = IsKey e.0 × IsValue e.1
-
--- a place of its form
-abbrev pub IsPlaceValue : Stored → Type 0
-IsPlaceValue stored = IsValue stored × IsStored stored
-
-abbrev pub IsU64 : ℕ → Type 0
-IsU64 n = n < 2 ^ 64
 
 -- The map with this root is well formed, and its rows are those of the entries, one by one.
 pub record HoldsMap {K V : Type 0} (form : Form) (code : K → ℕ) (value : V → List ℕ) (IsKey : K → Type 0) (IsValue : V → Type 0) (pages : PageMap) (root : ℕ) (entries : List (K × V)) : Type 0 where
@@ -83,6 +58,10 @@ pub record Holds (pages : PageMap) (tables : Tables) (entries : Entries) : Type 
 abbrev pub table_uses : PageMap → Tables → ℕ → ℕ
 table_uses pages tables n =
     map_uses places_form pages tables.places n + map_uses texts_form pages tables.texts n + map_uses numbers_form pages tables.numbers n
+
+-- each page of the tables is counted
+abbrev pub UsesCounted : PageMap → ℕ → Tables → Type 0
+UsesCounted pages count tables = (n : ℕ) → 0 < table_uses pages tables n → IsUncounted count n → ⊥
 
 -- the free list ends at 0, and no page is used twice or both used and free
 pub record IsApart (v : View) (tables : Tables) : Type 0 where

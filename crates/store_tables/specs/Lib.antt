@@ -1,3 +1,5 @@
+pub mod Broken
+pub mod Coded
 pub mod Entries
-pub mod Words
 pub mod Holding
+pub mod Words

@@ -25,7 +25,7 @@ abbrev pub holders : ℕ → List (Name × Stored) → ℕ
 holders number places = count_by (has_number number) (values_of places)
 
 -- The word tables agree, each word has as many places as are claimed, and at least one, and each number is below the next one.
-pub record AreCounted (claims : ℕ → ℕ) (texts : List (List ℕ × ℕ)) (numbers : List (ℕ × Counted)) (next_word : ℕ) : Type 0 where
+pub record WordTablesAgree (claims : ℕ → ℕ) (texts : List (List ℕ × ℕ)) (numbers : List (ℕ × Counted)) (next_word : ℕ) : Type 0 where
   pub inverse : (word : List ℕ) (number : ℕ) → (number_of_word word texts ≡ Some number) ↔ (option_map (λ (c : Counted). c.word) (word_of_number number numbers) ≡ Some word)
   pub counts : (number : ℕ) → places_of_number number numbers ≡ claims number
   pub some : (number : ℕ) → IfSome (word_of_number number numbers) (λ c. 1 ≤ c.places)
@@ -33,7 +33,7 @@ pub record AreCounted (claims : ℕ → ℕ) (texts : List (List ℕ × ℕ)) (n
 
 -- the word tables agree with the places
 abbrev pub WordsAgree : Entries → ℕ → Type 0
-WordsAgree entries next_word = AreCounted (λ number. holders number entries.places) entries.texts entries.numbers next_word
+WordsAgree entries next_word = WordTablesAgree (λ number. holders number entries.places) entries.texts entries.numbers next_word
 
 -- the number that a word has, or that it is given
 abbrev pub number_for : List ℕ → ℕ → List (List ℕ × ℕ) → ℕ

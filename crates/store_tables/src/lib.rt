@@ -1,6 +1,10 @@
 //! The place table and the two word tables of a store.
 #![tactic(auto)]
 
+mod entry;
+mod layouts;
+mod maps;
+mod reading;
 mod tables;
 
 pub use store_rows::Stored;

@@ -1,0 +1,50 @@
+-- Keys from bytes, and the bytes that follow a key's.
+use Rattle.std.proofs.Common.{◌≡◌, ℕ, zero, suc, ◌+◌, ◌-◌, ◌*◌, ◌<◌, ◌≤◌, ◌^◌, List, [], ◌∷◌, ◌++◌, length, get_or, set, replicate, refl, sym, ap, ◌∙◌, arith}
+use Rattle.std.proofs.lemmas.List.{get_or_at, length-append, length-replicate, length-set}
+use Rattle.std.specs.Cmp.{nat_cmp_is}
+use Rattle.std.specs.FinMap.{nat_cmp-IsAntisymmetric, slice_cmp-IsAntisymmetric}
+use Rattle.std.specs.Int.{to_be_bytes, w64}
+use Rattle.std.specs.Ordering.{nat_cmp}
+use Rattle.std.specs.declared.cmp.Ordering.TheVariants.{Equal}
+use Rattle.spatial_base.specs.Key.{Name, Text, Auto, IsName, key_cmp_same, form_of, padded}
+use Rattle.page_cells.specs.Number.{number}
+use Rattle.page_cells.proofs.Numbers.{AreBytes, compare_numbers}
+use Rattle.store_tables.specs.Coded.{key_code}
+use Rattle.store_tables.proofs.CodeLemmas.{form-bytes, key-order, length-form_of}
+
+level : (m n : ℕ) → m ≡ n → nat_cmp m n ≡ Equal
+level m n h = sym (nat_cmp_is m n Equal h)
+
+-- bytes of one length that spell one number are the same
+pub number-same : (xs ys : List ℕ) → length xs ≡ length ys → AreBytes xs → AreBytes ys → number xs ≡ number ys → xs ≡ ys
+number-same xs ys long small also same =
+    slice_cmp-IsAntisymmetric nat_cmp-IsAntisymmetric xs ys (compare_numbers xs ys long small also ∙ level (number xs) (number ys) same)
+
+-- the bytes that spell a key's number are its form
+pub form_from_number : (bytes : List ℕ) (key : Name) → length bytes ≡ 66 → AreBytes bytes → IsName key → number bytes ≡ key_code key → bytes ≡ form_of key
+unfolding key_code
+form_from_number bytes key long small is same = number-same bytes (form_of key) (long ∙ sym (length-form_of key is)) small (form-bytes key is) same
+
+-- one form is one key's
+pub form-same : (a b : Name) → IsName a → IsName b → form_of a ≡ form_of b → a ≡ b
+unfolding key_code
+form-same a b is also same = key_cmp_same a b (key-order a b is also ∙ level (number (form_of a)) (number (form_of b)) (ap number same))
+
+-- a form's last byte is a length
+pub last-form : (key : Name) → IsName key → get_or (form_of key) 65 0 ≤ 64
+last-form (Text bytes) is =
+    let few : length bytes ≤ 64 = is.1 in
+    let front : length (0 ∷ padded 64 bytes) ≡ 65 = omega (arith, length-append bytes (replicate (64 - length bytes) 0), length-replicate {A = ℕ} (64 - length bytes) 0) in
+    let last : get_or (form_of (Text bytes)) 65 0 ≡ length bytes = get_or_at (0 ∷ padded 64 bytes) (length bytes) [] 0 65 front in
+    omega arith
+last-form (Auto serial) is = omega arith
+
+-- a last byte that is one more makes the number one more
+pub number-behind : (xs : List ℕ) (i : ℕ) → suc i ≡ length xs → number (set xs i (get_or xs i 0 + 1)) ≡ number xs + 1
+number-behind [] i e = absurd (omega arith)
+number-behind (x ∷ []) zero e = omega arith
+number-behind (x ∷ (y ∷ xs)) zero e = absurd (omega arith)
+number-behind (x ∷ xs) (suc i) e =
+    let long : length (set xs i (get_or xs i 0 + 1)) ≡ length xs = length-set xs i (get_or xs i 0 + 1) in
+    let rest = number-behind xs i (omega arith) in
+    ap (λ (n : ℕ). x * 256 ^ n + number (set xs i (get_or xs i 0 + 1))) long ∙ (let here = rest in omega arith)

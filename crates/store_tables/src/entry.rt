@@ -1,0 +1,40 @@
+//! Keys and rows of the place table.
+ghost use Rattle.std.specs.Prelude.{◌≡◌, ◌≢◌, ℕ, ◌+◌, List, IfSome, IfNone};
+ghost use Rattle.std.specs.Option.{option_copied};
+ghost use Rattle.page_cells.specs.Number.{number};
+ghost use Rattle.spatial_base.specs.Key.{Name, IsName};
+ghost use Rattle.store_rows.specs.Stored.{place_value};
+ghost use Rattle.store_tables.specs.Coded.{IsPlaceEntry, key_code, next_code};
+ghost use Rattle.store_rows.specs.declared.stored.Stored.{Stored};
+
+use spatial_base::Key;
+use store_rows::Stored;
+
+// The bytes that follow those of a key: the number of a key's form plus 1, which no form's last byte, a length, lets overflow.
+fn behind(key: &Key) -> [u8; 66]
+    ensures number { number result ≡ key_code key.now + 1 }
+    ensures name { IsName key.now }
+{
+    let mut bytes = key.bytes();
+    bytes[65] += 1;
+    bytes
+}
+
+/// The least bytes that are greater than a key's form, or the least of all.
+pub(crate) fn first_behind(after: Option<&Key>) -> [u8; 66]
+    ensures number { number result ≡ next_code (option_copied after.entry) }
+    ensures name { IfSome (option_copied after.entry) IsName }
+{
+    match after {
+        Some(key) => behind(key),
+        None => [0; 66],
+    }
+}
+
+/// The key and the place that a row's bytes stand for, and None exactly where they stand for none.
+pub(crate) fn entry_of_bytes(key: &[u8; 66], value: &[u8; 585]) -> Option<(Key, Stored)>
+    ensures form { IfSome result (λ entry. IsPlaceEntry entry × (number key.now ≡ key_code entry.0) × (value.now ≡ place_value entry.1)) }
+    ensures every { (entry : Name × Stored) → IsPlaceEntry entry → number key.now ≡ key_code entry.0 → value.now ≡ place_value entry.1 → result ≡ Some entry }
+{
+    Some((Key::of_bytes(key)?, Stored::decode(value)?))
+}

@@ -1,0 +1,265 @@
+//! What the tables hold, looked up.
+ghost use Rattle.std.specs.Prelude.{◌≡◌, ◌≢◌, ℕ, ◌≤◌, ◌<◌, ◌+◌, List, length, option_map, Some, IfOk, IfSome, IsTrue, IsErrOf};
+ghost use Rattle.std.specs.Option.{option_copied};
+ghost use Rattle.page_face.specs.Causes.{Rose};
+ghost use Rattle.page_cells.specs.Number.{number as number_of_bytes};
+ghost use Rattle.map_nodes.specs.Rows.{lookup, first_from};
+ghost use Rattle.map_nodes.specs.Tree.{IsMap, map_rows, map_uses};
+ghost use Rattle.map_nodes.specs.Damages.{AreTold, AskedSince, AsksOnly};
+ghost use Rattle.paged_map.specs.Maps.{IsMapDamaged};
+ghost use Rattle.store_rows.specs.Counted.{IsCounted, counted_value, number_bytes as bytes_of_number};
+ghost use Rattle.store_rows.specs.Stored.{place_value};
+ghost use Rattle.store_tables.specs.Entries.{Entries, place_of_key, place_after, number_of_word, word_of_number};
+
+use crate::Tables;
+use crate::entry::{entry_of_bytes, first_behind};
+use crate::layouts::{Numbers, Places, Texts};
+use crate::maps::{first_row, get_row};
+use page_face::{Damage, PageFault, Pages, Rule};
+use spatial_base::Key;
+use store_rows::{Counted, Stored, number_bytes, number_of_bytes};
+use term_impacts::Word;
+
+/// The fault of a row that isn't of its form, at its leaf.
+pub(crate) fn broken(leaf: u32) -> PageFault
+    ensures { result ≡ PageFault.Damaged (record { page = leaf; rule = Rule.Value }) }
+{
+    PageFault::Damaged(Damage {
+        page: leaf,
+        rule: Rule::Value,
+    })
+}
+
+impl Tables {
+    ghost use Rattle.store_tables.specs.Coded.{IsPlaceEntry, IsPlaceValue, key_code, next_code, place_row, word_code};
+    ghost use Rattle.store_tables.specs.Holding.{Holds, UsesCounted, numbers_form, places_form, texts_form};
+    ghost use Rattle.store_tables.specs.Broken.{IsPlaceDamage, IsNumberDamage, IsNextDamage};
+
+    /// The place of a key.
+    ///
+    /// Refuses as the pages do, and `Damaged` by a rule that a page of the place table breaks, or with `Value` at the leaf whose
+    /// row at the key is no place's.
+    pub fn place<P: Pages>(
+        &self,
+        pages: &mut P,
+        key: &Key,
+    ) -> Result<Option<Stored>, PageFault>
+        ensures found { (entries : Entries) → Holds (P.pages pages.old) self.now entries
+            → IfOk result (λ found. found ≡ place_of_key key.now entries.places) }
+        ensures formed { IsMap places_form (P.pages pages.old) self.now.places
+            → IfOk result (λ found. (lookup (key_code key.now) (map_rows places_form (P.pages pages.old) self.now.places) ≡ option_map place_value found)
+            × IfSome found IsPlaceValue) }
+        ensures honest { (entries : Entries) → Holds (P.pages pages.old) self.now entries
+            → AreTold (P.pages pages.old) (P.count pages.old) → UsesCounted (P.pages pages.old) (P.count pages.old) self.now
+            → (damage : Damage) → ¬ IsErrOf result (PageFault.Damaged damage) }
+        ensures damaged { AreTold (P.pages pages.old) (P.count pages.old)
+            → (damage : Damage) → IsErrOf result (PageFault.Damaged damage)
+            → IsPlaceDamage (P.pages pages.old) (P.count pages.old) self.now.places key.now damage }
+        ensures named { AreTold (P.pages pages.old) (P.count pages.old)
+            → (damage : Damage) → IsErrOf result (PageFault.Damaged damage) → damage.rule ≢ Rule.Value → AskedSince (P.asked pages.old) (P.asked pages.new) damage.page }
+        ensures own { AreTold (P.pages pages.old) (P.count pages.old)
+            → AsksOnly (map_uses places_form (P.pages pages.old) self.now.places) (P.asked pages.old) (P.asked pages.new) }
+        ensures disk { IsErrOf result PageFault.Disk → Rose (P.faults pages.old) (P.faults pages.new) }
+        ensures room_left { result ≢ Err PageFault.NoRoom }
+        ensures stopped { IsErrOf result PageFault.Stopped → IsTrue (P.is_stopped pages.old) }
+
+        ensures pages { P.pages pages.new ≡ P.pages pages.old }
+        ensures count { P.count pages.new ≡ P.count pages.old }
+        ensures first { P.first pages.new ≡ P.first pages.old }
+        ensures room { P.room pages.new ≡ P.room pages.old }
+        ensures faults { P.faults pages.old ≤ P.faults pages.new }
+        ensures refused { P.refused pages.new ≡ P.refused pages.old }
+        ensures goes_on { P.is_stopped pages.new ≡ P.is_stopped pages.old }
+        ensures only_reads { P.only_reads pages.old pages.new }
+        ensures follows { P.follows_from pages.old pages.new }
+    {
+        let mut value = [0; 585];
+        let Some(leaf) = get_row::<Places, P>(pages, self.places, &key.bytes(), &mut value)? else {
+            return Ok(None);
+        };
+        match Stored::decode(&value) {
+            Some(stored) => Ok(Some(stored)),
+            None => Err(broken(leaf)),
+        }
+    }
+
+    /// The number of a word.
+    ///
+    /// Refuses as the pages do, and `Damaged` by a rule that a page of the words by text breaks.
+    pub fn number_of<P: Pages>(
+        &self,
+        pages: &mut P,
+        word: &Word,
+    ) -> Result<Option<u64>, PageFault>
+        ensures found { (entries : Entries) → Holds (P.pages pages.old) self.now entries
+            → IfOk result (λ found. found ≡ number_of_word word.now entries.texts) }
+        ensures formed { IsMap texts_form (P.pages pages.old) self.now.texts
+            → IfOk result (λ found. lookup (word_code word.now) (map_rows texts_form (P.pages pages.old) self.now.texts) ≡ option_map bytes_of_number found) }
+        ensures honest { (entries : Entries) → Holds (P.pages pages.old) self.now entries
+            → AreTold (P.pages pages.old) (P.count pages.old) → UsesCounted (P.pages pages.old) (P.count pages.old) self.now
+            → (damage : Damage) → ¬ IsErrOf result (PageFault.Damaged damage) }
+        ensures damaged { AreTold (P.pages pages.old) (P.count pages.old)
+            → (damage : Damage) → IsErrOf result (PageFault.Damaged damage)
+            → IsMapDamaged texts_form (P.pages pages.old) (P.count pages.old) self.now.texts damage }
+        ensures named { AreTold (P.pages pages.old) (P.count pages.old)
+            → (damage : Damage) → IsErrOf result (PageFault.Damaged damage) → AskedSince (P.asked pages.old) (P.asked pages.new) damage.page }
+        ensures own { AreTold (P.pages pages.old) (P.count pages.old)
+            → AsksOnly (map_uses texts_form (P.pages pages.old) self.now.texts) (P.asked pages.old) (P.asked pages.new) }
+        ensures disk { IsErrOf result PageFault.Disk → Rose (P.faults pages.old) (P.faults pages.new) }
+        ensures room_left { result ≢ Err PageFault.NoRoom }
+        ensures stopped { IsErrOf result PageFault.Stopped → IsTrue (P.is_stopped pages.old) }
+
+        ensures pages { P.pages pages.new ≡ P.pages pages.old }
+        ensures count { P.count pages.new ≡ P.count pages.old }
+        ensures first { P.first pages.new ≡ P.first pages.old }
+        ensures room { P.room pages.new ≡ P.room pages.old }
+        ensures faults { P.faults pages.old ≤ P.faults pages.new }
+        ensures refused { P.refused pages.new ≡ P.refused pages.old }
+        ensures goes_on { P.is_stopped pages.new ≡ P.is_stopped pages.old }
+        ensures only_reads { P.only_reads pages.old pages.new }
+        ensures follows { P.follows_from pages.old pages.new }
+    {
+        let mut value = [0; 8];
+        match get_row::<Texts, P>(pages, self.texts, &word.bytes(), &mut value)? {
+            Some(_) => Ok(Some(number_of_bytes(&value))),
+            None => Ok(None),
+        }
+    }
+
+    /// The word of a number, and how many places hold it.
+    pub(crate) fn counted<P: Pages>(
+        &self,
+        pages: &mut P,
+        number: u64,
+    ) -> Result<Option<Counted>, PageFault>
+        ensures found { (entries : Entries) → Holds (P.pages pages.old) self.now entries
+            → IfOk result (λ found. found ≡ word_of_number number entries.numbers) }
+        ensures formed { IsMap numbers_form (P.pages pages.old) self.now.numbers
+            → IfOk result (λ found. (lookup number (map_rows numbers_form (P.pages pages.old) self.now.numbers) ≡ option_map counted_value found)
+            × IfSome found IsCounted) }
+        ensures honest { (entries : Entries) → Holds (P.pages pages.old) self.now entries
+            → AreTold (P.pages pages.old) (P.count pages.old) → UsesCounted (P.pages pages.old) (P.count pages.old) self.now
+            → (damage : Damage) → ¬ IsErrOf result (PageFault.Damaged damage) }
+        ensures damaged { AreTold (P.pages pages.old) (P.count pages.old)
+            → (damage : Damage) → IsErrOf result (PageFault.Damaged damage)
+            → IsNumberDamage (P.pages pages.old) (P.count pages.old) self.now.numbers number damage }
+        ensures named { AreTold (P.pages pages.old) (P.count pages.old)
+            → (damage : Damage) → IsErrOf result (PageFault.Damaged damage) → damage.rule ≢ Rule.Value → AskedSince (P.asked pages.old) (P.asked pages.new) damage.page }
+        ensures own { AreTold (P.pages pages.old) (P.count pages.old)
+            → AsksOnly (map_uses numbers_form (P.pages pages.old) self.now.numbers) (P.asked pages.old) (P.asked pages.new) }
+        ensures disk { IsErrOf result PageFault.Disk → Rose (P.faults pages.old) (P.faults pages.new) }
+        ensures room_left { result ≢ Err PageFault.NoRoom }
+        ensures stopped { IsErrOf result PageFault.Stopped → IsTrue (P.is_stopped pages.old) }
+
+        ensures pages { P.pages pages.new ≡ P.pages pages.old }
+        ensures count { P.count pages.new ≡ P.count pages.old }
+        ensures first { P.first pages.new ≡ P.first pages.old }
+        ensures room { P.room pages.new ≡ P.room pages.old }
+        ensures faults { P.faults pages.old ≤ P.faults pages.new }
+        ensures refused { P.refused pages.new ≡ P.refused pages.old }
+        ensures goes_on { P.is_stopped pages.new ≡ P.is_stopped pages.old }
+        ensures only_reads { P.only_reads pages.old pages.new }
+        ensures follows { P.follows_from pages.old pages.new }
+    {
+        let mut value = [0; 37];
+        let key = number_bytes(number);
+        let Some(leaf) = get_row::<Numbers, P>(pages, self.numbers, &key, &mut value)? else {
+            return Ok(None);
+        };
+        match Counted::decode(&value) {
+            Some(counted) => Ok(Some(counted)),
+            None => Err(broken(leaf)),
+        }
+    }
+
+    /// The word of a number.
+    ///
+    /// Refuses as the pages do, and `Damaged` by a rule that a page of the words by number breaks, or with `Value` at the leaf
+    /// whose row at the number is no word's.
+    pub fn word_of<P: Pages>(
+        &self,
+        pages: &mut P,
+        number: u64,
+    ) -> Result<Option<Word>, PageFault>
+        ensures found { (entries : Entries) → Holds (P.pages pages.old) self.now entries
+            → IfOk result (λ found. found ≡ option_map (λ c. c.word) (word_of_number number entries.numbers)) }
+        ensures honest { (entries : Entries) → Holds (P.pages pages.old) self.now entries
+            → AreTold (P.pages pages.old) (P.count pages.old) → UsesCounted (P.pages pages.old) (P.count pages.old) self.now
+            → (damage : Damage) → ¬ IsErrOf result (PageFault.Damaged damage) }
+        ensures damaged { AreTold (P.pages pages.old) (P.count pages.old)
+            → (damage : Damage) → IsErrOf result (PageFault.Damaged damage)
+            → IsNumberDamage (P.pages pages.old) (P.count pages.old) self.now.numbers number damage }
+        ensures named { AreTold (P.pages pages.old) (P.count pages.old)
+            → (damage : Damage) → IsErrOf result (PageFault.Damaged damage) → damage.rule ≢ Rule.Value → AskedSince (P.asked pages.old) (P.asked pages.new) damage.page }
+        ensures own { AreTold (P.pages pages.old) (P.count pages.old)
+            → AsksOnly (map_uses numbers_form (P.pages pages.old) self.now.numbers) (P.asked pages.old) (P.asked pages.new) }
+        ensures disk { IsErrOf result PageFault.Disk → Rose (P.faults pages.old) (P.faults pages.new) }
+        ensures room_left { result ≢ Err PageFault.NoRoom }
+        ensures stopped { IsErrOf result PageFault.Stopped → IsTrue (P.is_stopped pages.old) }
+
+        ensures pages { P.pages pages.new ≡ P.pages pages.old }
+        ensures count { P.count pages.new ≡ P.count pages.old }
+        ensures first { P.first pages.new ≡ P.first pages.old }
+        ensures room { P.room pages.new ≡ P.room pages.old }
+        ensures faults { P.faults pages.old ≤ P.faults pages.new }
+        ensures refused { P.refused pages.new ≡ P.refused pages.old }
+        ensures goes_on { P.is_stopped pages.new ≡ P.is_stopped pages.old }
+        ensures only_reads { P.only_reads pages.old pages.new }
+        ensures follows { P.follows_from pages.old pages.new }
+    {
+        match self.counted(pages, number)? {
+            Some(counted) => Ok(Some(counted.word)),
+            None => Ok(None),
+        }
+    }
+
+    /// The first place whose key is greater, or the first of all.
+    ///
+    /// Refuses as the pages do, and `Damaged` by a rule that a page of the place table breaks, or with `Value` at the leaf whose
+    /// row is no place's.
+    pub fn next_place<P: Pages>(
+        &self,
+        pages: &mut P,
+        after: Option<&Key>,
+    ) -> Result<Option<(Key, Stored)>, PageFault>
+        ensures found { (entries : Entries) → Holds (P.pages pages.old) self.now entries
+            → IfOk result (λ found. found ≡ place_after (option_copied after.entry) entries.places) }
+        ensures formed { IsMap places_form (P.pages pages.old) self.now.places
+            → IfOk result (λ found. (first_from (next_code (option_copied after.entry)) (map_rows places_form (P.pages pages.old) self.now.places) ≡ option_map place_row found)
+            × IfSome found IsPlaceEntry) }
+        ensures honest { (entries : Entries) → Holds (P.pages pages.old) self.now entries
+            → AreTold (P.pages pages.old) (P.count pages.old) → UsesCounted (P.pages pages.old) (P.count pages.old) self.now
+            → (damage : Damage) → ¬ IsErrOf result (PageFault.Damaged damage) }
+        ensures damaged { AreTold (P.pages pages.old) (P.count pages.old)
+            → (damage : Damage) → IsErrOf result (PageFault.Damaged damage)
+            → IsNextDamage (P.pages pages.old) (P.count pages.old) self.now.places (next_code (option_copied after.entry)) damage }
+        ensures named { AreTold (P.pages pages.old) (P.count pages.old)
+            → (damage : Damage) → IsErrOf result (PageFault.Damaged damage) → damage.rule ≢ Rule.Value → AskedSince (P.asked pages.old) (P.asked pages.new) damage.page }
+        ensures own { AreTold (P.pages pages.old) (P.count pages.old)
+            → AsksOnly (map_uses places_form (P.pages pages.old) self.now.places) (P.asked pages.old) (P.asked pages.new) }
+        ensures disk { IsErrOf result PageFault.Disk → Rose (P.faults pages.old) (P.faults pages.new) }
+        ensures room_left { result ≢ Err PageFault.NoRoom }
+        ensures stopped { IsErrOf result PageFault.Stopped → IsTrue (P.is_stopped pages.old) }
+
+        ensures pages { P.pages pages.new ≡ P.pages pages.old }
+        ensures count { P.count pages.new ≡ P.count pages.old }
+        ensures first { P.first pages.new ≡ P.first pages.old }
+        ensures room { P.room pages.new ≡ P.room pages.old }
+        ensures faults { P.faults pages.old ≤ P.faults pages.new }
+        ensures refused { P.refused pages.new ≡ P.refused pages.old }
+        ensures goes_on { P.is_stopped pages.new ≡ P.is_stopped pages.old }
+        ensures only_reads { P.only_reads pages.old pages.new }
+        ensures follows { P.follows_from pages.old pages.new }
+    {
+        let mut found = [0; 66];
+        let mut value = [0; 585];
+        let from = first_behind(after);
+        let Some(leaf) = first_row::<Places, P>(pages, self.places, &from, &mut found, &mut value)? else {
+            return Ok(None);
+        };
+        match entry_of_bytes(&found, &value) {
+            Some(entry) => Ok(Some(entry)),
+            None => Err(broken(leaf)),
+        }
+    }
+}
