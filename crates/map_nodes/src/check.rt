@@ -3,7 +3,7 @@ ghost use Rattle.std.specs.Prelude.{◌≡◌, ◌↔◌, ℕ, ◌+◌, ◌-◌,
 ghost use Rattle.page_face.specs.FreeList.{are_zero as is_clear};
 ghost use Rattle.page_cells.specs.Number.{number};
 ghost use Rattle.map_nodes.specs.Rows.{IsWithin};
-ghost use Rattle.map_nodes.specs.Nodes.{IsNode, IsLeaf, IsInner, count_of, rows_in, half_of_width};
+ghost use Rattle.map_nodes.specs.Nodes.{IsNode, IsLeaf, IsInner, count_of, rows_in, half_of_width, half_of, least_of_root};
 ghost use Rattle.map_nodes.specs.Tree.{level_of};
 ghost use Rattle.map_nodes.specs.Bounds.{upper_of};
 ghost use Rattle.map_nodes.specs.Damages.{Breaks, BreaksLeaf, BreaksInner, IsOrdered};
@@ -52,6 +52,25 @@ pub fn half(width: usize) -> usize
     ensures least { 2 ≤ result }
 {
     4080 / width / 2
+}
+
+/// The least number of cells of a page of this level that isn't the root.
+pub fn least_at(form: Form, level: u8) -> usize
+    ensures is { result ≡ half_of form level }
+    ensures some { least_of_root level ≤ result }
+{
+    if level == 0 {
+        half(form.key + form.value)
+    } else {
+        half(form.key + 4)
+    }
+}
+
+/// The least number of cells of a root of this level.
+pub fn root_least(level: u8) -> usize
+    ensures { result ≡ least_of_root level }
+{
+    if level == 0 { 1 } else { 2 }
 }
 
 // The count of a page of this shape with at least so many cells, whatever their order.

@@ -13,6 +13,6 @@ mod form;
 mod store;
 
 pub use bounds::{child_at, is_below, lower, upper};
-pub use check::{check_inner, check_leaf, half, level};
+pub use check::{check_inner, check_leaf, half, least_at, level, root_least};
 pub use form::{Form, Shape};
 pub use store::{store_one, store_two};

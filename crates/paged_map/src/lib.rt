@@ -1,0 +1,16 @@
+//! Maps of fixed rows over [`Pages`](page_face::Pages): a B+-tree of byte keys and byte values, all of one length.
+//!
+//! Over a well-formed map [`PagedMap`] is a finite map: `get`, `first_from` and `put` are the list functions `lookup`,
+//! `first_from` and `put` on its rows, and all other pages stay. Over any other bytes each call is safe and ends, and
+//! names a rule that a page breaks. Pages that lead in a circle end a call too, since levels fall. There is no call
+//! yet that takes a row out.
+#![tactic(auto)]
+
+mod find;
+mod first;
+mod layout;
+mod map;
+mod node;
+
+pub use layout::Layout;
+pub use map::PagedMap;

@@ -1,0 +1,170 @@
+//! A map by its root.
+ghost use Rattle.std.specs.Prelude.{◌≡◌, ◌≢◌, ℕ, ◌≤◌, List, length, IfOk, IsTrue, IsErrOf};
+ghost use Rattle.page_face.specs.Causes.{Rose};
+ghost use Rattle.page_cells.specs.Number.{number};
+ghost use Rattle.map_nodes.specs.Rows.{lookup, first_from};
+ghost use Rattle.map_nodes.specs.Tree.{IsMap, map_rows, map_uses};
+ghost use Rattle.map_nodes.specs.Damages.{AreTold, AskedSince, AsksOnly};
+ghost use Rattle.paged_map.specs.Answers.{HoldsRow, Locates};
+ghost use Rattle.paged_map.specs.Maps.{AreCounted, IsMapDamaged};
+
+use crate::find::find_in;
+use crate::first::first_in;
+use crate::layout::{Layout, form_of, least_key};
+use map_nodes::{level, root_least};
+use page_face::{Damage, PageFault, Pages};
+use std::marker::PhantomData;
+
+/// A map of rows of one layout, by its root's page. A root of 0 is the empty map, which has no page.
+///
+/// Keys and values have the layout's lengths, as a condition of each call. Keys are ordered as their bytes are. What
+/// is said of rows has a well-formed map as its premise; safety, the end of each call and the causes of its refusals
+/// have none. A call asks for pages of its own map alone.
+#[derive(Drop)]
+pub struct PagedMap<L: Layout> {
+    root: u32,
+    layout: PhantomData<L>,
+}
+
+impl<L: Layout> PagedMap<L> {
+    /// The map below a root.
+    pub fn at(root: u32) -> PagedMap<L>
+        ensures { result.root ≡ root }
+    {
+        PagedMap {
+            root,
+            layout: PhantomData,
+        }
+    }
+
+    /// The root's page, or 0.
+    pub fn root(&self) -> u32
+        ensures { result ≡ self.now.root }
+    {
+        self.root
+    }
+
+    /// The page of the leaf that holds the row at a key, whose value is then left in `value`; `None` exactly where the
+    /// key isn't there, and where `value` may hold anything.
+    ///
+    /// Refuses `Damaged` with a rule that a page asked for in this call breaks in its place; `Disk`; `Stopped`;
+    /// `Memory`. It reads a page a level.
+    pub fn get<P: Pages>(
+        &self,
+        pages: &mut P,
+        key: &[u8],
+        value: &mut [u8],
+    ) -> Result<Option<u32>, PageFault>
+        requires key { length key.now ≡ L.KEY }
+        requires value { length value.old ≡ L.VALUE }
+        ensures found { IsMap L.form (P.pages pages.old) self.now.root
+            → IfOk result (Locates (lookup (number key.now) (map_rows L.form (P.pages pages.old) self.now.root)) value.new
+            (HoldsRow L.form (P.pages pages.old) (map_uses L.form (P.pages pages.old) self.now.root) (number key.now, value.new))) }
+
+        // On a well-formed map whose pages are counted no page is damaged.
+        ensures honest { IsMap L.form (P.pages pages.old) self.now.root → AreCounted (map_uses L.form (P.pages pages.old) self.now.root) (P.count pages.old)
+            → AreTold (P.pages pages.old) (P.count pages.old) → (damage : Damage) → result ≢ Err (PageFault.Damaged damage) }
+        ensures damaged { AreTold (P.pages pages.old) (P.count pages.old)
+            → (damage : Damage) → IsErrOf result (PageFault.Damaged damage) → IsMapDamaged L.form (P.pages pages.old) (P.count pages.old) self.now.root damage }
+        ensures named { AreTold (P.pages pages.old) (P.count pages.old)
+            → (damage : Damage) → IsErrOf result (PageFault.Damaged damage) → AskedSince (P.asked pages.old) (P.asked pages.new) damage.page }
+        ensures own { AreTold (P.pages pages.old) (P.count pages.old)
+            → AsksOnly (map_uses L.form (P.pages pages.old) self.now.root) (P.asked pages.old) (P.asked pages.new) }
+        ensures disk { IsErrOf result PageFault.Disk → Rose (P.faults pages.old) (P.faults pages.new) }
+        ensures room_left { result ≢ Err PageFault.NoRoom }
+        ensures stopped { IsErrOf result PageFault.Stopped → IsTrue (P.is_stopped pages.old) }
+
+        ensures pages { P.pages pages.new ≡ P.pages pages.old }
+        ensures count { P.count pages.new ≡ P.count pages.old }
+        ensures first { P.first pages.new ≡ P.first pages.old }
+        ensures room { P.room pages.new ≡ P.room pages.old }
+        ensures faults { P.faults pages.old ≤ P.faults pages.new }
+        ensures refused { P.refused pages.new ≡ P.refused pages.old }
+        ensures goes_on { P.is_stopped pages.new ≡ P.is_stopped pages.old }
+        ensures only_reads { P.only_reads pages.old pages.new }
+        ensures follows { P.follows_from pages.old pages.new }
+    {
+        if self.root == 0 {
+            return Ok(None);
+        }
+        let form = form_of::<L>();
+        let bytes = pages.read(self.root)?;
+        let level = level(&bytes);
+        let low = least_key(form);
+        find_in(
+            pages,
+            form,
+            root_least(level),
+            self.root,
+            &bytes,
+            level,
+            low,
+            &[],
+            key,
+            value,
+        )
+    }
+
+    /// The page of the leaf that holds the first row whose key isn't less; the row's key is then left in `found` and
+    /// its value in `value`. `None` exactly where there is no such row, and where both may hold anything.
+    ///
+    /// Refuses as [`PagedMap::get`]. It reads at most two pages a level.
+    pub fn first_from<P: Pages>(
+        &self,
+        pages: &mut P,
+        key: &[u8],
+        found: &mut [u8],
+        value: &mut [u8],
+    ) -> Result<Option<u32>, PageFault>
+        requires key { length key.now ≡ L.KEY }
+        requires found { length found.old ≡ L.KEY }
+        requires value { length value.old ≡ L.VALUE }
+        ensures found { IsMap L.form (P.pages pages.old) self.now.root
+            → IfOk result (Locates (first_from (number key.now) (map_rows L.form (P.pages pages.old) self.now.root)) (number found.new, value.new)
+            (HoldsRow L.form (P.pages pages.old) (map_uses L.form (P.pages pages.old) self.now.root) (number found.new, value.new))) }
+
+        // On a well-formed map whose pages are counted no page is damaged.
+        ensures honest { IsMap L.form (P.pages pages.old) self.now.root → AreCounted (map_uses L.form (P.pages pages.old) self.now.root) (P.count pages.old)
+            → AreTold (P.pages pages.old) (P.count pages.old) → (damage : Damage) → result ≢ Err (PageFault.Damaged damage) }
+        ensures damaged { AreTold (P.pages pages.old) (P.count pages.old)
+            → (damage : Damage) → IsErrOf result (PageFault.Damaged damage) → IsMapDamaged L.form (P.pages pages.old) (P.count pages.old) self.now.root damage }
+        ensures named { AreTold (P.pages pages.old) (P.count pages.old)
+            → (damage : Damage) → IsErrOf result (PageFault.Damaged damage) → AskedSince (P.asked pages.old) (P.asked pages.new) damage.page }
+        ensures own { AreTold (P.pages pages.old) (P.count pages.old)
+            → AsksOnly (map_uses L.form (P.pages pages.old) self.now.root) (P.asked pages.old) (P.asked pages.new) }
+        ensures disk { IsErrOf result PageFault.Disk → Rose (P.faults pages.old) (P.faults pages.new) }
+        ensures room_left { result ≢ Err PageFault.NoRoom }
+        ensures stopped { IsErrOf result PageFault.Stopped → IsTrue (P.is_stopped pages.old) }
+
+        ensures pages { P.pages pages.new ≡ P.pages pages.old }
+        ensures count { P.count pages.new ≡ P.count pages.old }
+        ensures first { P.first pages.new ≡ P.first pages.old }
+        ensures room { P.room pages.new ≡ P.room pages.old }
+        ensures faults { P.faults pages.old ≤ P.faults pages.new }
+        ensures refused { P.refused pages.new ≡ P.refused pages.old }
+        ensures goes_on { P.is_stopped pages.new ≡ P.is_stopped pages.old }
+        ensures only_reads { P.only_reads pages.old pages.new }
+        ensures follows { P.follows_from pages.old pages.new }
+    {
+        if self.root == 0 {
+            return Ok(None);
+        }
+        let form = form_of::<L>();
+        let bytes = pages.read(self.root)?;
+        let level = level(&bytes);
+        let low = least_key(form);
+        first_in(
+            pages,
+            form,
+            root_least(level),
+            self.root,
+            &bytes,
+            level,
+            low,
+            &[],
+            key,
+            found,
+            value,
+        )
+    }
+}
