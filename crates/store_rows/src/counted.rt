@@ -23,11 +23,13 @@ impl Counted {
     /// The row's value: the word's form, 33 bytes, and the number of places, 4 bytes.
     #[tactic(auto, unfolding(crate::specs::Counted::counted_value))]
     pub fn encode(&self) -> [u8; 37]
-        ensures { result ≡ counted_value self.now }
+        ensures bytes { result ≡ counted_value self.now }
+        ensures value { IsCounted self.now }
     {
+        let Counted { word, places } = *self;
         let mut bytes = [0; 37];
-        write_at(&mut bytes, 0, &self.word.bytes());
-        write_at(&mut bytes, 33, &self.places.to_be_bytes());
+        write_at(&mut bytes, 0, &word.bytes());
+        write_at(&mut bytes, 33, &places.to_be_bytes());
         bytes
     }
 

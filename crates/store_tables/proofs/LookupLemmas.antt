@@ -5,21 +5,17 @@ use Rattle.std.specs.Map.{lookup}
 use Rattle.std.specs.Ordering.{is_lt, nat_cmp}
 use Rattle.std.proofs.lemmas.List.Elements.{All-head}
 use Rattle.std.specs.declared.cmp.Ordering.{Ordering}
-use Rattle.page_face.specs.Causes.{IsUncounted}
 use Rattle.page_face.specs.FreeList.{PageMap}
 use Rattle.page_face.specs.declared.fault.Damage.{Damage}
 use Rattle.page_cells.specs.Number.{number}
 use Rattle.map_nodes.specs.declared.form.Form.{Form}
-use Rattle.map_nodes.specs.Nodes.{root_least}
 use Rattle.map_nodes.specs.Rows.{Row}
 use Rattle.map_nodes.specs.Rows as Rows
-use Rattle.map_nodes.specs.Tree.{IsMap, level_of, map_rows, map_uses}
-use Rattle.map_nodes.proofs.Harms.{tree-undamaged}
+use Rattle.map_nodes.specs.Tree.{map_rows, map_uses}
 use Rattle.page_face.specs.declared.fault.PageFault.{PageFault}
 use Rattle.page_face.specs.declared.fault.PageFault.TheVariants.{Damaged}
 use Rattle.page_face.specs.declared.fault.Rule.TheVariants.{Value}
 use Rattle.paged_map.specs.Answers.{HoldsRow, Locates}
-use Rattle.paged_map.specs.Maps.{IsMapDamaged}
 use Rattle.spatial_base.specs.Key.{Name, IsName, form_of, key_cmp}
 use Rattle.term_impacts.specs.Form.{IsWordText, word_form}
 use Rattle.store_tables.specs.Broken.{IsBrokenNumber, IsBrokenPlace}
@@ -52,13 +48,6 @@ number-key bytes key is = ap number is
 pub number-word : (bytes word : List ℕ) → bytes ≡ word_form word → number bytes ≡ word_code word
 unfolding word_code
 number-word bytes word is = ap number is
-
--- a map that is well formed and whose pages are counted has no damage
-pub map-undamaged : (form : Form) (pages : PageMap) (count root : ℕ) (damage : Damage) → IsMap form pages root → ((n : ℕ) → 0 < map_uses form pages root n → IsUncounted count n → ⊥)
-    → IsMapDamaged form pages count root damage → ⊥
-map-undamaged form pages count zero damage tree counted harm = harm
-map-undamaged form pages count (suc n) damage tree counted harm =
-    tree-undamaged form pages count damage (root_least (level_of (pages (suc n)))) (level_of (pages (suc n))) (suc n) 0 (256 ^ form.key) tree counted harm
 
 none_map : {X Y : Type 0} (f : X → Y) (o : Option X) → option_map f o ≡ None → o ≡ None
 none_map f None e = refl

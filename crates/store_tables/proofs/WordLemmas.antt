@@ -12,7 +12,7 @@ use Rattle.store_rows.specs.declared.counted.Counted.{Counted}
 use Rattle.store_rows.specs.declared.stored.Stored.{Stored}
 use Rattle.store_rows.specs.Pairs.{Pair}
 use Rattle.store_tables.specs.Entries.{Entries, word_cmp, number_of_word, word_of_number, place_of_key, with_place, without_place}
-use Rattle.store_tables.specs.Words.{WordTablesAgree, CanHold, IsHoldable, claimed_less, claimed_more, has_number, holders, next_after, number_for, places_of_number, released, with_hold, with_word, without_hold, words_of_pairs}
+use Rattle.store_tables.specs.Words.{WordTablesAgree, CanHold, IsHoldable, claimed_less, claimed_more, has_number, holders, next_after, number_for, places_of_number, released, texts_after, with_hold, with_word, without_hold, words_of_pairs}
 use Rattle.store_tables.proofs.EntryLemmas.{equal_test}
 use Rattle.store_tables.proofs.MapLemmas.{lookup-insert, lookup-remove, numbers_are_ordered, same_from_test, test_of_same, words_are_ordered}
 
@@ -108,11 +108,35 @@ is_for claims texts numbers next_word word (Some number) agree was can = record 
   rises = omega arith;
 }
 
+-- tables in which each word has the same number agree alike
+agree-texts : (claims : ℕ → ℕ) (old new : List (List ℕ × ℕ)) (numbers : List (ℕ × Counted)) (next_word : ℕ) → ((w : List ℕ) → number_of_word w new ≡ number_of_word w old) → WordTablesAgree claims old numbers next_word → WordTablesAgree claims new numbers next_word
+agree-texts claims old new numbers next_word same agree = record {
+  inverse = λ w m. (λ h. (agree.inverse w m).0 (sym (same w) ∙ h), λ h. same w ∙ (agree.inverse w m).1 h);
+  counts = agree.counts;
+  some = agree.some;
+  below = agree.below;
+}
+
+-- a word's number put at it again
+put_again : (texts : List (List ℕ × ℕ)) (word : List ℕ) (number : ℕ) → number_of_word word texts ≡ Some number → (w : List ℕ) → number_of_word w texts ≡ number_of_word w (insert_entry word_cmp texts word number)
+put_again texts word number was w = same (is_at (word_cmp w) word) refl ∙ sym (lookup-insert words_are_ordered w word number texts)
+  where
+    same : (b : Bool) → is_at (word_cmp w) word ≡ b → number_of_word w texts ≡ cond b (Some number) (number_of_word w texts)
+    same true e = ap (λ (k : List ℕ). number_of_word k texts) (same_from_test words_are_ordered w word e) ∙ was
+    same false e = refl
+
 -- after a hold the tables agree, and one place more is claimed for the word
 pub agree-with_hold : (claims : ℕ → ℕ) (entries : Entries) (next_word : ℕ) (word : List ℕ) → WordTablesAgree claims entries.texts entries.numbers next_word → CanHold word next_word entries
     → WordTablesAgree (claimed_more (number_for word next_word entries.texts) claims) (with_hold word next_word entries).texts (with_hold word next_word entries).numbers (next_after (number_of_word word entries.texts) next_word)
-agree-with_hold claims entries next_word word agree can =
-    held_number claims entries.texts entries.numbers next_word _ word _ agree (is_for claims entries.texts entries.numbers next_word word (number_of_word word entries.texts) agree refl can)
+agree-with_hold claims entries next_word word agree can = split (number_of_word word entries.texts) refl can
+  where
+    split : (found : Option ℕ) → number_of_word word entries.texts ≡ found → IsHoldable word next_word entries.numbers found
+        → WordTablesAgree (claimed_more (unwrap_or found next_word) claims) (texts_after found word next_word entries.texts)
+        (insert_entry nat_cmp entries.numbers (unwrap_or found next_word) (record { word = word; places = places_of_number (unwrap_or found next_word) entries.numbers + 1 })) (next_after found next_word)
+    split None was holdable = held_number claims entries.texts entries.numbers next_word (next_word + 1) word next_word agree (is_for claims entries.texts entries.numbers next_word word None agree was holdable)
+    split (Some number) was holdable =
+        agree-texts (claimed_more number claims) (insert_entry word_cmp entries.texts word number) entries.texts _ next_word (put_again entries.texts word number was)
+        (held_number claims entries.texts entries.numbers next_word next_word word number agree (is_for claims entries.texts entries.numbers next_word word (Some number) agree was holdable))
 
 -- where the tables agree and no count is at its end, each word can be held
 pub can_hold-agree : (claims : ℕ → ℕ) (entries : Entries) (next_word : ℕ) (word : List ℕ) → WordTablesAgree claims entries.texts entries.numbers next_word → ((n : ℕ) → claims n + 1 < 2 ^ 32) → CanHold word next_word entries

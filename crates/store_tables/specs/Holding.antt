@@ -1,7 +1,6 @@
 -- The pages of a store's tables, and what they hold.
 use Rattle.std.specs.Prelude.{◌≡◌, ℕ, ◌+◌, ◌<◌, ◌≤◌, ◌^◌, List, map, All}
 use Rattle.std.proofs.Common.{lit≤}
-use Rattle.page_face.specs.Causes.{IsUncounted}
 use Rattle.page_face.specs.FreeList.{PageMap}
 use Rattle.page_cells.specs.Number.{number}
 use Rattle.map_nodes.specs.declared.form.Form.{Form}
@@ -58,10 +57,6 @@ pub record Holds (pages : PageMap) (tables : Tables) (entries : Entries) : Type 
 abbrev pub table_uses : PageMap → Tables → ℕ → ℕ
 table_uses pages tables n =
     map_uses places_form pages tables.places n + map_uses texts_form pages tables.texts n + map_uses numbers_form pages tables.numbers n
-
--- each page of the tables is counted
-abbrev pub UsesCounted : PageMap → ℕ → Tables → Type 0
-UsesCounted pages count tables = (n : ℕ) → 0 < table_uses pages tables n → IsUncounted count n → ⊥
 
 -- the free list ends at 0, and no page is used twice or both used and free
 pub record IsApart (v : View) (tables : Tables) : Type 0 where

@@ -1,4 +1,5 @@
 pub mod Broken
+pub mod Changed
 pub mod Coded
 pub mod Entries
 pub mod Holding

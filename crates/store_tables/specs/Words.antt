@@ -44,12 +44,17 @@ abbrev pub next_after : Option ℕ → ℕ → ℕ
 next_after None next_word = next_word + 1
 next_after (Some number) next_word = next_word
 
+-- the numbers of words after a word was held that had this number, or none
+abbrev pub texts_after : Option ℕ → List ℕ → ℕ → List (List ℕ × ℕ) → List (List ℕ × ℕ)
+texts_after None word next_word texts = insert_entry word_cmp texts word next_word
+texts_after (Some number) word next_word texts = texts
+
 -- one place more holds the word, which has its number or the next one
 abbrev pub with_hold : List ℕ → ℕ → Entries → Entries
 with_hold word next_word entries =
     let number = number_for word next_word entries.texts in
     record entries {
-      texts = insert_entry word_cmp entries.texts word number;
+      texts = texts_after (number_of_word word entries.texts) word next_word entries.texts;
       numbers = insert_entry nat_cmp entries.numbers number (record { word = word; places = places_of_number number entries.numbers + 1 });
     }
 

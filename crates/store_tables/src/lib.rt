@@ -6,6 +6,7 @@ mod layouts;
 mod maps;
 mod reading;
 mod tables;
+mod writing;
 
 pub use store_rows::Stored;
 pub use tables::Tables;

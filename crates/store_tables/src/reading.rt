@@ -6,7 +6,7 @@ ghost use Rattle.page_cells.specs.Number.{number as number_of_bytes};
 ghost use Rattle.map_nodes.specs.Rows.{lookup, first_from};
 ghost use Rattle.map_nodes.specs.Tree.{IsMap, map_rows, map_uses};
 ghost use Rattle.map_nodes.specs.Damages.{AreTold, AskedSince, AsksOnly};
-ghost use Rattle.paged_map.specs.Maps.{IsMapDamaged};
+ghost use Rattle.paged_map.specs.Maps.{AreCounted, IsMapDamaged};
 ghost use Rattle.store_rows.specs.Counted.{IsCounted, counted_value, number_bytes as bytes_of_number};
 ghost use Rattle.store_rows.specs.Stored.{place_value};
 ghost use Rattle.store_tables.specs.Entries.{Entries, place_of_key, place_after, number_of_word, word_of_number};
@@ -32,7 +32,7 @@ pub(crate) fn broken(leaf: u32) -> PageFault
 
 impl Tables {
     ghost use Rattle.store_tables.specs.Coded.{IsPlaceEntry, IsPlaceValue, key_code, next_code, place_row, word_code};
-    ghost use Rattle.store_tables.specs.Holding.{Holds, UsesCounted, numbers_form, places_form, texts_form};
+    ghost use Rattle.store_tables.specs.Holding.{Holds, table_uses, numbers_form, places_form, texts_form};
     ghost use Rattle.store_tables.specs.Broken.{IsPlaceDamage, IsNumberDamage, IsNextDamage};
 
     /// The place of a key.
@@ -50,7 +50,7 @@ impl Tables {
             → IfOk result (λ found. (lookup (key_code key.now) (map_rows places_form (P.pages pages.old) self.now.places) ≡ option_map place_value found)
             × IfSome found IsPlaceValue) }
         ensures honest { (entries : Entries) → Holds (P.pages pages.old) self.now entries
-            → AreTold (P.pages pages.old) (P.count pages.old) → UsesCounted (P.pages pages.old) (P.count pages.old) self.now
+            → AreTold (P.pages pages.old) (P.count pages.old) → AreCounted (table_uses (P.pages pages.old) self.now) (P.count pages.old)
             → (damage : Damage) → ¬ IsErrOf result (PageFault.Damaged damage) }
         ensures damaged { AreTold (P.pages pages.old) (P.count pages.old)
             → (damage : Damage) → IsErrOf result (PageFault.Damaged damage)
@@ -96,7 +96,7 @@ impl Tables {
         ensures formed { IsMap texts_form (P.pages pages.old) self.now.texts
             → IfOk result (λ found. lookup (word_code word.now) (map_rows texts_form (P.pages pages.old) self.now.texts) ≡ option_map bytes_of_number found) }
         ensures honest { (entries : Entries) → Holds (P.pages pages.old) self.now entries
-            → AreTold (P.pages pages.old) (P.count pages.old) → UsesCounted (P.pages pages.old) (P.count pages.old) self.now
+            → AreTold (P.pages pages.old) (P.count pages.old) → AreCounted (table_uses (P.pages pages.old) self.now) (P.count pages.old)
             → (damage : Damage) → ¬ IsErrOf result (PageFault.Damaged damage) }
         ensures damaged { AreTold (P.pages pages.old) (P.count pages.old)
             → (damage : Damage) → IsErrOf result (PageFault.Damaged damage)
@@ -138,7 +138,7 @@ impl Tables {
             → IfOk result (λ found. (lookup number (map_rows numbers_form (P.pages pages.old) self.now.numbers) ≡ option_map counted_value found)
             × IfSome found IsCounted) }
         ensures honest { (entries : Entries) → Holds (P.pages pages.old) self.now entries
-            → AreTold (P.pages pages.old) (P.count pages.old) → UsesCounted (P.pages pages.old) (P.count pages.old) self.now
+            → AreTold (P.pages pages.old) (P.count pages.old) → AreCounted (table_uses (P.pages pages.old) self.now) (P.count pages.old)
             → (damage : Damage) → ¬ IsErrOf result (PageFault.Damaged damage) }
         ensures damaged { AreTold (P.pages pages.old) (P.count pages.old)
             → (damage : Damage) → IsErrOf result (PageFault.Damaged damage)
@@ -184,7 +184,7 @@ impl Tables {
         ensures found { (entries : Entries) → Holds (P.pages pages.old) self.now entries
             → IfOk result (λ found. found ≡ option_map (λ c. c.word) (word_of_number number entries.numbers)) }
         ensures honest { (entries : Entries) → Holds (P.pages pages.old) self.now entries
-            → AreTold (P.pages pages.old) (P.count pages.old) → UsesCounted (P.pages pages.old) (P.count pages.old) self.now
+            → AreTold (P.pages pages.old) (P.count pages.old) → AreCounted (table_uses (P.pages pages.old) self.now) (P.count pages.old)
             → (damage : Damage) → ¬ IsErrOf result (PageFault.Damaged damage) }
         ensures damaged { AreTold (P.pages pages.old) (P.count pages.old)
             → (damage : Damage) → IsErrOf result (PageFault.Damaged damage)
@@ -228,7 +228,7 @@ impl Tables {
             → IfOk result (λ found. (first_from (next_code (option_copied after.entry)) (map_rows places_form (P.pages pages.old) self.now.places) ≡ option_map place_row found)
             × IfSome found IsPlaceEntry) }
         ensures honest { (entries : Entries) → Holds (P.pages pages.old) self.now entries
-            → AreTold (P.pages pages.old) (P.count pages.old) → UsesCounted (P.pages pages.old) (P.count pages.old) self.now
+            → AreTold (P.pages pages.old) (P.count pages.old) → AreCounted (table_uses (P.pages pages.old) self.now) (P.count pages.old)
             → (damage : Damage) → ¬ IsErrOf result (PageFault.Damaged damage) }
         ensures damaged { AreTold (P.pages pages.old) (P.count pages.old)
             → (damage : Damage) → IsErrOf result (PageFault.Damaged damage)
