@@ -1,11 +1,10 @@
 -- Keys, words and numbers are ordered as the numbers that their bytes spell.
-use Rattle.std.proofs.Common.{◌≡◌, ℕ, zero, suc, ◌+◌, ◌-◌, ◌*◌, ◌/◌, ◌%◌, ◌<◌, ◌≤◌, ◌^◌, Bool, true, false, cond, ltb, ◌&&◌, ◌⊎◌, ⊎_elim, List, [], ◌∷◌, ◌++◌, length, get_or, replicate, refl, sym, ap, subst, ◌∙◌, arith}
+use Rattle.std.proofs.Common.{◌≡◌, ℕ, zero, suc, ◌+◌, ◌-◌, ◌/◌, ◌<◌, ◌≤◌, ◌^◌, Bool, true, false, cond, ltb, ◌&&◌, ⊎_elim, List, [], ◌∷◌, ◌++◌, length, replicate, refl, sym, subst, ◌∙◌, arith}
 use Rattle.std.proofs.Math.Utf8.{encode, encodes, next, scalar, scalars, scalar_cases}
 use Rattle.std.proofs.lemmas.Bool.{ltb-true}
 use Rattle.std.proofs.lemmas.List.{length-append, length-replicate}
 use Rattle.std.proofs.lemmas.Nat.{from_be_bytes-to_be_bytes_8}
 use Rattle.std.proofs.lemmas.Str.{IsUtf8-had}
-use Rattle.std.specs.Cmp.Lexicographic.{slice_cmp}
 use Rattle.std.specs.Int.{byte_at, bytes_high_first, from_be_bytes, to_be_bytes, w64}
 use Rattle.std.specs.Ordering.{nat_cmp}
 use Rattle.std.specs.Str.{IsUtf8}
@@ -14,7 +13,7 @@ use Rattle.spatial_base.proofs.KeyOrder.{form_cmp}
 use Rattle.term_impacts.specs.Form.{IsWordText, word_form}
 use Rattle.term_impacts.proofs.FormLemmas.{slice_cmp-word_form}
 use Rattle.page_cells.specs.Number.{number}
-use Rattle.page_cells.proofs.Numbers.{AreBytes, compare_numbers, number_below}
+use Rattle.page_cells.proofs.Numbers.{AreBytes, compare_numbers}
 use Rattle.store_rows.specs.Counted.{number_bytes}
 use Rattle.store_tables.specs.Entries.{word_cmp}
 use Rattle.store_tables.specs.Coded.{key_code, word_code}

@@ -1,5 +1,5 @@
 -- Entries in the order of their keys, and the rows that a map has of them.
-use Rattle.std.proofs.Common.{◌≡◌, ℕ, zero, suc, ◌+◌, ◌<◌, ◌≤◌, Bool, true, false, cond, not, nat_lt, ◌==◌, eq-eqb, ◌⊎◌, ⊎_elim, List, [], ◌∷◌, map, find, All, Option, Some, None, IfSome, option_map, refl, sym, ap, subst, ◌∙◌, arith}
+use Rattle.std.proofs.Common.{◌≡◌, ℕ, ◌+◌, ◌<◌, Bool, true, false, cond, not, nat_lt, ◌==◌, eq-eqb, ⊎_elim, List, [], ◌∷◌, map, find, All, Option, Some, IfSome, option_map, refl, sym, ap, ◌∙◌, arith}
 use Rattle.std.proofs.lemmas.Bool.{cases_order, ne_eqb, le-ltb, lt-ltb}
 use Rattle.std.proofs.lemmas.List.Elements.{All-cons, All-head, All-nil, All-tail}
 use Rattle.std.specs.BTreeMap.{insert_entry, is_at}
@@ -10,7 +10,7 @@ use Rattle.std.specs.declared.cmp.Ordering.{Ordering}
 use Rattle.std.specs.declared.cmp.Ordering.TheVariants.{Less, Equal, Greater}
 use Rattle.map_nodes.specs.Rows.{Row, put, without}
 use Rattle.map_nodes.specs.Rows as Rows
-use Rattle.map_nodes.proofs.Puts.{put-before, put-here, put-behind, without-here, without-other}
+use Rattle.map_nodes.proofs.Puts.{put-before, put-here, put-behind}
 use Rattle.store_tables.specs.Coded.{row_by, IsEntryOf}
 
 -- a numbering of keys that has their order

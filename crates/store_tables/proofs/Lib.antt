@@ -1,7 +1,5 @@
-pub mod ChangeLemmas
 pub mod CodeLemmas
 pub mod EntryLemmas
-pub mod FrameLemmas
 pub mod KeyLemmas
 pub mod LookupLemmas
 pub mod MapLemmas

@@ -1,5 +1,5 @@
 -- What is found in entries after one was put or taken out.
-use Rattle.std.proofs.Common.{◌≡◌, ℕ, Bool, true, false, cond, List, [], ◌∷◌, Option, Some, None, refl, sym, ap, ◌∙◌}
+use Rattle.std.proofs.Common.{◌≡◌, Bool, true, false, cond, List, [], ◌∷◌, Option, Some, None, refl, sym, ap, ◌∙◌}
 use Rattle.std.proofs.lemmas.Cmp.{nat_cmp_total, nat_list_cmp_total, tied_itself}
 use Rattle.std.proofs.lemmas.Map.{lookup-remove_entry}
 use Rattle.std.proofs.lemmas.Map.Keys.{IsDistinct-from_sorted}
@@ -8,7 +8,7 @@ use Rattle.std.specs.Cmp.{IsTotalOrder, eq_by_cmp_equiv}
 use Rattle.std.specs.FinMap.{nat_cmp-IsAntisymmetric, slice_cmp-IsAntisymmetric}
 use Rattle.std.specs.List.Sorted.{IsStrictlySortedBy}
 use Rattle.std.specs.Map.{keys_of, lookup, remove_entry}
-use Rattle.std.specs.Ordering.{eq_by_cmp, is_eq, match_ordering, nat_cmp}
+use Rattle.std.specs.Ordering.{is_eq, match_ordering, nat_cmp}
 use Rattle.std.specs.declared.cmp.Ordering.{Ordering}
 use Rattle.std.specs.declared.cmp.Ordering.TheVariants.{Less, Equal, Greater}
 use Rattle.spatial_base.specs.Key.{key_cmp, key_cmp_same, key_cmp_total}
@@ -60,9 +60,9 @@ lookup-insert {K} {V} {cmp} order q k v (e ∷ es) =
       | Less ↦ λ _. refl
       | Equal ↦ λ tie. merged (test e.0) (Some v) (Some e.1) (lookup test es) ∙ ap (λ (key : K). cond (test key) (Some v) (cond (test e.0) (Some e.1) (lookup test es))) (sym (order.same k e.0 tie))
       | Greater ↦ λ over. ap (λ (r : Option V). cond (test e.0) (Some e.1) r) (lookup-insert order q k v es)
-      ∙ swapped (test e.0) (test k) (Some e.1) (Some v) (lookup test es) (λ there here.
-      let tie : cmp k e.0 ≡ Equal = ap (λ (key : K). cmp key e.0) (sym (same_from_test order q k here) ∙ same_from_test order q e.0 there) ∙ tied_itself order.total e.0 in
-      let no : ⊥ = cc (tie, over) in no)
+          ∙ swapped (test e.0) (test k) (Some e.1) (Some v) (lookup test es) (λ there here.
+          let tie : cmp k e.0 ≡ Equal = ap (λ (key : K). cmp key e.0) (sym (same_from_test order q k here) ∙ same_from_test order q e.0 there) ∙ tied_itself order.total e.0 in
+          let no : ⊥ = cc (tie, over) in no)
     ] refl
 
 -- what is found after an entry was taken out

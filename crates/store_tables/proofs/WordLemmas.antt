@@ -1,11 +1,11 @@
 -- What holding and releasing words does to the word tables.
-use Rattle.std.proofs.Common.{◌≡◌, ◌↔◌, ℕ, zero, suc, ◌+◌, ◌-◌, ◌<◌, ◌≤◌, ◌^◌, ◌==◌, eq-eqb, ⊎_elim, Bool, true, false, cond, nat_le, List, [], ◌∷◌, All, Option, Some, None, IsSome, IfSome, option_map, unwrap_or, refl, sym, ap, subst, ◌∙◌, true≢false, arith}
+use Rattle.std.proofs.Common.{◌≡◌, ◌↔◌, ℕ, ◌+◌, ◌-◌, ◌<◌, ◌≤◌, ◌^◌, ◌==◌, eq-eqb, ⊎_elim, Bool, true, false, cond, nat_le, List, [], ◌∷◌, All, Option, Some, None, IsSome, IfSome, option_map, unwrap_or, refl, sym, ap, subst, ◌∙◌, true≢false, arith}
 use Rattle.std.proofs.lemmas.Bool.{cases_eq, leb-false, leb-true, ne_eqb}
 use Rattle.std.proofs.lemmas.List.Elements.{All-head, All-tail}
 use Rattle.std.proofs.lemmas.Map.Entries.{sum_by-insert_entry, sum_by-remove_entry}
 use Rattle.std.specs.BTreeMap.{insert_entry, is_at}
 use Rattle.std.specs.List.Sorted.{IsStrictlySortedBy}
-use Rattle.std.specs.Map.{keys_of, lookup, remove_entry}
+use Rattle.std.specs.Map.{keys_of, remove_entry}
 use Rattle.std.specs.Ordering.{nat_cmp}
 use Rattle.spatial_base.specs.Key.{Name, key_cmp, key_cmp_total}
 use Rattle.store_rows.specs.declared.counted.Counted.{Counted}
@@ -50,12 +50,12 @@ held_number : (claims : ℕ → ℕ) (texts : List (List ℕ × ℕ)) (numbers :
     → WordTablesAgree (claimed_more number claims) (insert_entry word_cmp texts word number) (insert_entry nat_cmp numbers number (record { word = word; places = places_of_number number numbers + 1 })) next
 held_number claims texts numbers next_word next word number agree is = record {
   inverse = λ w m.
-    let l = lookup-insert words_are_ordered w word number texts in
-    let r = lookup-insert numbers_are_ordered m number counted numbers in
-    let both = inverse w m (is_at (word_cmp w) word) (is_at (nat_cmp m) number) refl refl in
-    (λ h. ap word_in r ∙ both.0 (sym l ∙ h), λ h. l ∙ both.1 (ap word_in (sym r) ∙ h));
+      let l = lookup-insert words_are_ordered w word number texts in
+      let r = lookup-insert numbers_are_ordered m number counted numbers in
+      let both = inverse w m (is_at (word_cmp w) word) (is_at (nat_cmp m) number) refl refl in
+      (λ h. ap word_in r ∙ both.0 (sym l ∙ h), λ h. l ∙ both.1 (ap word_in (sym r) ∙ h));
   counts = λ m. ap places_in (lookup-insert numbers_are_ordered m number counted numbers) ∙ counts m (is_at (nat_cmp m) number) refl
-  ∙ ap (λ b. cond b (claims m + 1) (claims m)) (sym (equal_test m number));
+      ∙ ap (λ b. cond b (claims m + 1) (claims m)) (sym (equal_test m number));
   some = λ m. subst (λ f. IfSome f (λ c. 1 ≤ c.places)) (sym (lookup-insert numbers_are_ordered m number counted numbers)) (some m (is_at (nat_cmp m) number));
   below = λ m there. below m (is_at (nat_cmp m) number) refl (subst IsSome (lookup-insert numbers_are_ordered m number counted numbers) there);
 }
@@ -158,12 +158,12 @@ gone : (claims : ℕ → ℕ) (entries : Entries) (next_word number : ℕ) (coun
     → WordTablesAgree (claimed_less number claims) (remove_entry (is_at (word_cmp counted.word)) entries.texts) (remove_entry (is_at (nat_cmp number)) entries.numbers) next_word
 gone claims entries next_word number counted texts_ascend numbers_ascend agree is last = record {
   inverse = λ w m.
-    let l = lookup-remove words_are_ordered w counted.word entries.texts texts_ascend in
-    let r = lookup-remove numbers_are_ordered m number entries.numbers numbers_ascend in
-    let both = inverse w m (is_at (word_cmp counted.word) w) (is_at (nat_cmp number) m) refl refl in
-    (λ h. ap word_in r ∙ both.0 (sym l ∙ h), λ h. l ∙ both.1 (ap word_in (sym r) ∙ h));
+      let l = lookup-remove words_are_ordered w counted.word entries.texts texts_ascend in
+      let r = lookup-remove numbers_are_ordered m number entries.numbers numbers_ascend in
+      let both = inverse w m (is_at (word_cmp counted.word) w) (is_at (nat_cmp number) m) refl refl in
+      (λ h. ap word_in r ∙ both.0 (sym l ∙ h), λ h. l ∙ both.1 (ap word_in (sym r) ∙ h));
   counts = λ m. ap places_in (lookup-remove numbers_are_ordered m number entries.numbers numbers_ascend) ∙ counts m (is_at (nat_cmp number) m) refl
-  ∙ ap (λ b. cond b (claims m - 1) (claims m)) (flipped m (is_at (nat_cmp number) m) refl);
+      ∙ ap (λ b. cond b (claims m - 1) (claims m)) (flipped m (is_at (nat_cmp number) m) refl);
   some = λ m. subst (λ f. IfSome f (λ c. 1 ≤ c.places)) (sym (lookup-remove numbers_are_ordered m number entries.numbers numbers_ascend)) (some m (is_at (nat_cmp number) m));
   below = λ m there. below m (is_at (nat_cmp number) m) (subst IsSome (lookup-remove numbers_are_ordered m number entries.numbers numbers_ascend) there);
 }
@@ -179,16 +179,20 @@ gone claims entries next_word number counted texts_ascend numbers_ascend agree i
     inverse w m true true at_word at_number = (λ h. absurd (no_number m h), λ h. absurd (no_word w h))
     inverse w m true false at_word at_number =
         let here : counted.word ≡ w = same_from_test words_are_ordered counted.word w at_word in
-        let other : number ≡ m → ⊥ = λ e. true≢false (sym (test_of_same numbers_are_ordered number m e) ∙ at_number) in
-        (λ h. absurd (no_number m h), λ h.
-        let same : Some number ≡ Some m = sym had ∙ (agree.inverse counted.word m).1 (h ∙ ap Some (sym here)) in
-        absurd (other (cc same)))
+        let other : number ≡ m → ⊥ = λ e. true≢false (sym (test_of_same numbers_are_ordered number m e) ∙ at_number) in (
+          λ h. absurd (no_number m h),
+          λ h.
+              let same : Some number ≡ Some m = sym had ∙ (agree.inverse counted.word m).1 (h ∙ ap Some (sym here)) in
+              absurd (other (cc same)),
+        )
     inverse w m false true at_word at_number =
         let there : number ≡ m = same_from_test numbers_are_ordered number m at_number in
-        let other : counted.word ≡ w → ⊥ = λ e. true≢false (sym (test_of_same words_are_ordered counted.word w e) ∙ at_word) in
-        (λ h.
-        let same : Some counted.word ≡ Some w = sym (ap word_in is) ∙ (agree.inverse w number).0 (h ∙ ap Some (sym there)) in
-        absurd (other (cc same)), λ h. absurd (no_word w h))
+        let other : counted.word ≡ w → ⊥ = λ e. true≢false (sym (test_of_same words_are_ordered counted.word w e) ∙ at_word) in (
+          λ h.
+              let same : Some counted.word ≡ Some w = sym (ap word_in is) ∙ (agree.inverse w number).0 (h ∙ ap Some (sym there)) in
+              absurd (other (cc same)),
+          λ h. absurd (no_word w h),
+        )
     inverse w m false false at_word at_number = agree.inverse w m
 
     counts : (m : ℕ) (c : Bool) → is_at (nat_cmp number) m ≡ c → places_in (cond c None (word_of_number m entries.numbers)) ≡ cond c (claims m - 1) (claims m)
@@ -211,11 +215,11 @@ lowered : (claims : ℕ → ℕ) (entries : Entries) (next_word number : ℕ) (c
     → WordTablesAgree (claimed_less number claims) entries.texts (insert_entry nat_cmp entries.numbers number (record counted { places = counted.places - 1 })) next_word
 lowered claims entries next_word number counted agree is more = record {
   inverse = λ w m.
-    let r = lookup-insert numbers_are_ordered m number fewer entries.numbers in
-    let both = inverse w m (is_at (nat_cmp m) number) refl in
-    (λ h. ap word_in r ∙ both.0 h, λ h. both.1 (ap word_in (sym r) ∙ h));
+      let r = lookup-insert numbers_are_ordered m number fewer entries.numbers in
+      let both = inverse w m (is_at (nat_cmp m) number) refl in
+      (λ h. ap word_in r ∙ both.0 h, λ h. both.1 (ap word_in (sym r) ∙ h));
   counts = λ m. ap places_in (lookup-insert numbers_are_ordered m number fewer entries.numbers) ∙ counts m (is_at (nat_cmp m) number) refl
-  ∙ ap (λ b. cond b (claims m - 1) (claims m)) (sym (equal_test m number));
+      ∙ ap (λ b. cond b (claims m - 1) (claims m)) (sym (equal_test m number));
   some = λ m. subst (λ f. IfSome f (λ c. 1 ≤ c.places)) (sym (lookup-insert numbers_are_ordered m number fewer entries.numbers)) (some m (is_at (nat_cmp m) number));
   below = λ m there. below m (is_at (nat_cmp m) number) refl (subst IsSome (lookup-insert numbers_are_ordered m number fewer entries.numbers) there);
 }
@@ -272,7 +276,6 @@ known-claimed claims texts numbers next_word number agree claimed = known (word_
     known (Some c) e = refl
 
 -- ---- places
-
 
 -- how many places hold a number after one was put: those before, less the one that it replaces, and itself
 pub holders-with_place : (number : ℕ) (key : Name) (stored : Stored) (places : List (Name × Stored)) → IsStrictlySortedBy key_cmp (keys_of places)

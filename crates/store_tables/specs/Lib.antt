@@ -1,5 +1,4 @@
 pub mod Broken
-pub mod Changed
 pub mod Coded
 pub mod Entries
 pub mod Holding

@@ -1,4 +1,11 @@
-//! The place table and the two word tables of a store.
+//! The tables of a store over [`Pages`](page_face::Pages): the places by key, and the words by text and by number.
+//!
+//! Each is a paged B+-tree map of rows of one length, as `store_rows` writes them. [`Tables`] holds their roots. On pages that
+//! hold entries (`specs/Holding.antt`) each call is a look-up in those entries, asks only for pages of its own map and
+//! answers no damage. On any other pages it is safe, ends, and names a rule that a page breaks in its place, or the leaf whose
+//! row isn't of its form. No call writes.
+//!
+//! What a place's hold on its words does to the two tables of words is defined in `specs/Words.antt`.
 #![tactic(auto)]
 
 mod entry;
@@ -6,7 +13,8 @@ mod layouts;
 mod maps;
 mod reading;
 mod tables;
-mod writing;
+#[cfg(test)]
+mod tests;
 
 pub use store_rows::Stored;
 pub use tables::Tables;

@@ -39,11 +39,7 @@ impl Tables {
     ///
     /// Refuses as the pages do, and `Damaged` by a rule that a page of the place table breaks, or with `Value` at the leaf whose
     /// row at the key is no place's.
-    pub fn place<P: Pages>(
-        &self,
-        pages: &mut P,
-        key: &Key,
-    ) -> Result<Option<Stored>, PageFault>
+    pub fn place<P: Pages>(&self, pages: &mut P, key: &Key) -> Result<Option<Stored>, PageFault>
         ensures found { (entries : Entries) → Holds (P.pages pages.old) self.now entries
             → IfOk result (λ found. found ≡ place_of_key key.now entries.places) }
         ensures formed { IsMap places_form (P.pages pages.old) self.now.places
@@ -86,11 +82,7 @@ impl Tables {
     /// The number of a word.
     ///
     /// Refuses as the pages do, and `Damaged` by a rule that a page of the words by text breaks.
-    pub fn number_of<P: Pages>(
-        &self,
-        pages: &mut P,
-        word: &Word,
-    ) -> Result<Option<u64>, PageFault>
+    pub fn number_of<P: Pages>(&self, pages: &mut P, word: &Word) -> Result<Option<u64>, PageFault>
         ensures found { (entries : Entries) → Holds (P.pages pages.old) self.now entries
             → IfOk result (λ found. found ≡ number_of_word word.now entries.texts) }
         ensures formed { IsMap texts_form (P.pages pages.old) self.now.texts
@@ -176,11 +168,7 @@ impl Tables {
     ///
     /// Refuses as the pages do, and `Damaged` by a rule that a page of the words by number breaks, or with `Value` at the leaf
     /// whose row at the number is no word's.
-    pub fn word_of<P: Pages>(
-        &self,
-        pages: &mut P,
-        number: u64,
-    ) -> Result<Option<Word>, PageFault>
+    pub fn word_of<P: Pages>(&self, pages: &mut P, number: u64) -> Result<Option<Word>, PageFault>
         ensures found { (entries : Entries) → Holds (P.pages pages.old) self.now entries
             → IfOk result (λ found. found ≡ option_map (λ c. c.word) (word_of_number number entries.numbers)) }
         ensures honest { (entries : Entries) → Holds (P.pages pages.old) self.now entries
@@ -254,7 +242,8 @@ impl Tables {
         let mut found = [0; 66];
         let mut value = [0; 585];
         let from = first_behind(after);
-        let Some(leaf) = first_row::<Places, P>(pages, self.places, &from, &mut found, &mut value)? else {
+        let Some(leaf) = first_row::<Places, P>(pages, self.places, &from, &mut found, &mut value)?
+        else {
             return Ok(None);
         };
         match entry_of_bytes(&found, &value) {

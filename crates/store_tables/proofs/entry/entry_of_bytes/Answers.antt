@@ -1,5 +1,4 @@
 use Rattle.std.proofs.Common.{◌≡◌, ◌∙◌, Some, sym, true≢false}
-use Rattle.store_rows.specs.declared.stored.Stored.{Stored}
 use Rattle.store_tables.proofs.KeyLemmas.{form_from_number, form-same}
 use Rattle.store_tables.proofs.LookupLemmas.{number-key}
 use Rattle.store_tables.proofs.entry.entry_of_bytes.Goals as goal

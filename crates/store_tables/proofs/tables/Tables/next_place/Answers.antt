@@ -1,8 +1,7 @@
 use Rattle.std.proofs.Common.{◌≡◌, ℕ, Err, Some, inr, ap, refl, sym, subst, ◌∙◌, arith}
 use Rattle.std.proofs.lemmas.Result.{err_from_is_err_and}
 use Rattle.std.specs.Option.{option_copied}
-use Rattle.map_nodes.specs.Rows.{Row, first_from}
-use Rattle.map_nodes.specs.Tree.{map_rows}
+use Rattle.map_nodes.specs.Rows.{Row}
 use Rattle.page_cells.specs.Number.{number}
 use Rattle.page_face.specs.FreeList.{PageMap}
 use Rattle.page_face.specs.declared.fault.PageFault.TheVariants.{Damaged}
@@ -69,13 +68,19 @@ returns-in-None-clause-honest g c entries holds told counted damage e =
 pub returns-in-None-clause-damaged : goal.returns-in-None-clause-damaged
 returns-in-None-clause-damaged g c told damage e =
     let at = value_at c.in-Some.leaf c.broken.result damage c.broken.ensures (same_fault c.broken.result (Damaged damage) _ _ refl refl e) in
-    inr (at.1, λ tree.
-    let pages : PageMap = g.P.Pages.pages c.args.pages.now in
-    let root : ℕ = c.args.self.now.places in
-    let row : Row = (number c.first_row.new.found, c.first_row.new.value) in
-    let some = first-some places_form pages root _ (next_code (option_copied c.args.after)) row _ c.in-Some.leaf c.first_behind-from.ensures.number c.in-Some.is (c.in_ok-leaf.ensures.found tree) in
-    (row, some.0, subst (λ leaf. IsBrokenPlace pages root row leaf) at.0
-    (place-unread pages root row c.in-Some.leaf some.1 (λ entry is key value. let no = c.in-None.ensures.every entry is key value in cc no))))
+    inr (
+      at.1,
+      λ tree.
+          let pages : PageMap = g.P.Pages.pages c.args.pages.now in
+          let root : ℕ = c.args.self.now.places in
+          let row : Row = (number c.first_row.new.found, c.first_row.new.value) in
+          let some = first-some places_form pages root _ (next_code (option_copied c.args.after)) row _ c.in-Some.leaf c.first_behind-from.ensures.number c.in-Some.is (c.in_ok-leaf.ensures.found tree) in (
+            row,
+            some.0,
+            subst (λ leaf. IsBrokenPlace pages root row leaf) at.0
+                (place-unread pages root row c.in-Some.leaf some.1 (λ entry is key value. let no = c.in-None.ensures.every entry is key value in cc no)),
+          ),
+    )
 
 pub returns-in-None-clause-named : goal.returns-in-None-clause-named
 returns-in-None-clause-named g c told damage e other =

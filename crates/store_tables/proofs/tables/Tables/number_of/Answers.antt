@@ -1,4 +1,4 @@
-use Rattle.std.proofs.Common.{◌≡◌, ◌<◌, ◌^◌, ℕ, Some, ap, sym, ◌∙◌, rules}
+use Rattle.std.proofs.Common.{◌<◌, ◌^◌, ℕ, Some, ap, sym, ◌∙◌, rules}
 use Rattle.page_face.specs.FreeList.{PageMap}
 use Rattle.store_tables.specs.Coded.{word_code}
 use Rattle.store_tables.specs.Holding.{texts_form}

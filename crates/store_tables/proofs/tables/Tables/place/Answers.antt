@@ -62,12 +62,17 @@ returns-in-None-clause-honest g c entries holds told counted damage e =
 pub returns-in-None-clause-damaged : goal.returns-in-None-clause-damaged
 returns-in-None-clause-damaged g c told damage e =
     let at = value_at c.in-Some.leaf c.broken.result damage c.broken.ensures (same_fault c.broken.result (Damaged damage) _ _ refl refl e) in
-    inr (at.1, λ tree.
-    let pages : PageMap = g.P.Pages.pages c.args.pages.now in
-    let root : ℕ = c.args.self.now.places in
-    let some = told-some places_form pages root _ (key_code c.args.key.now) _ _ c.in-Some.leaf (number-key c.bytes.result c.args.key.now c.bytes.ensures.form) c.in-Some.is (c.in_ok-leaf.ensures.found tree) in
-    (c.get_row.new.value, subst (λ leaf. IsBrokenPlace pages root (key_code c.args.key.now, c.get_row.new.value) leaf) at.0
-    (place-broken pages root (key_code c.args.key.now, c.get_row.new.value) c.in-Some.leaf some.held (λ stored is same. let no = c.in-None.ensures.every stored is.0 is.1 same in cc no))))
+    inr (
+      at.1,
+      λ tree.
+          let pages : PageMap = g.P.Pages.pages c.args.pages.now in
+          let root : ℕ = c.args.self.now.places in
+          let some = told-some places_form pages root _ (key_code c.args.key.now) _ _ c.in-Some.leaf (number-key c.bytes.result c.args.key.now c.bytes.ensures.form) c.in-Some.is (c.in_ok-leaf.ensures.found tree) in (
+            c.get_row.new.value,
+            subst (λ leaf. IsBrokenPlace pages root (key_code c.args.key.now, c.get_row.new.value) leaf) at.0
+                (place-broken pages root (key_code c.args.key.now, c.get_row.new.value) c.in-Some.leaf some.held (λ stored is same. let no = c.in-None.ensures.every stored is.0 is.1 same in cc no)),
+          ),
+    )
 
 pub returns-in-None-clause-named : goal.returns-in-None-clause-named
 returns-in-None-clause-named g c told damage e other =

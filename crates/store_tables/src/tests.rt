@@ -1,0 +1,132 @@
+//! Tables of one leaf each, whose bytes were worked out by hand from the format.
+use super::*;
+use page_face::{Damage, MemoryPages, Page, PageFault, Pages, Rule};
+use spatial_base::{Key, Point};
+use std::process::Abort;
+use std::test::Fail;
+use term_impacts::Word;
+
+// The key ab: kind 0, the text, 62 zero bytes, and the length.
+static KEY: [u8; 66] = [
+    0, 0x61, 0x62, 0, 0, 0, 0, 0, 0, 0, 0, 0, 0, 0, 0, 0, 0, 0, 0, 0, 0, 0, 0, 0, 0, 0, 0, 0, 0, 0,
+    0, 0, 0, 0, 0, 0, 0, 0, 0, 0, 0, 0, 0, 0, 0, 0, 0, 0, 0, 0, 0, 0, 0, 0, 0, 0, 0, 0, 0, 0, 0, 0,
+    0, 0, 0, 2,
+];
+
+// The place at longitude -1 and latitude 2 of one word, number 7 with impact 9; zeros follow.
+static PLACE: [u8; 18] = [
+    0xff, 0xff, 0xff, 0xff, 0, 0, 0, 2, 1, 0, 0, 0, 0, 0, 0, 0, 7, 9,
+];
+
+// The word café, its form's 27 zero bytes and its length.
+static CAFE: [u8; 33] = [
+    0x63, 0x61, 0x66, 0xc3, 0xa9, 0, 0, 0, 0, 0, 0, 0, 0, 0, 0, 0, 0, 0, 0, 0, 0, 0, 0, 0, 0, 0, 0,
+    0, 0, 0, 0, 0, 5,
+];
+
+static SEVEN: [u8; 8] = [0, 0, 0, 0, 0, 0, 0, 7];
+
+static ONE_PLACE: [u8; 4] = [0, 0, 0, 1];
+
+// Writes bytes at a place of a page.
+fn write(page: &mut Page, at: usize, bytes: &[u8]) {
+    for (to, from) in page.iter_mut().skip(at).zip(bytes) {
+        *to = *from;
+    }
+}
+
+// A leaf of a map with one row, in two pieces behind the key.
+fn leaf(map: u8, key: &[u8], value: &[u8], more: &[u8]) -> Page {
+    let mut page = [0; 4096];
+    write(&mut page, 0, &[1, map, 0, 1]);
+    write(&mut page, 16, key);
+    write(&mut page, key.len().saturating_add(16), value);
+    write(
+        &mut page,
+        key.len().saturating_add(value.len()).saturating_add(16),
+        more,
+    );
+    page
+}
+
+// A page of these bytes.
+fn put(pages: &mut MemoryPages, bytes: &Page) -> Result<u32, PageFault> {
+    let page = pages.take()?;
+    pages.write(page, bytes)?;
+    Ok(page)
+}
+
+// The three tables with a row each.
+fn tables(pages: &mut MemoryPages, place: &[u8]) -> Result<Tables, PageFault> {
+    Ok(Tables {
+        places: put(pages, &leaf(1, &KEY, place, &[]))?,
+        texts: put(pages, &leaf(2, &CAFE, &SEVEN, &[]))?,
+        numbers: put(pages, &leaf(3, &SEVEN, &CAFE, &ONE_PLACE))?,
+        next_word: 8,
+    })
+}
+
+fn key(rt: &impl Abort) -> Key {
+    Key::of_text("ab").expect(rt, "a key")
+}
+
+#[test]
+fn rows_are_found(rt: HostRuntime) -> Result<(), Fail> {
+    let mut pages = MemoryPages::new(rt.alloc(), 10);
+    let tables = tables(&mut pages, &PLACE)?;
+    let word = Word::of_bytes(&CAFE).ok_or("no word")?;
+    assert_eq!(rt; tables.number_of(&mut pages, &word)?, Some(7));
+    assert!(rt; tables.word_of(&mut pages, 7)? == Some(word));
+    assert!(rt; tables.word_of(&mut pages, 8)?.is_none());
+    let stored = tables.place(&mut pages, &key(&rt))?.ok_or("no place")?;
+    assert_eq!(rt; stored.point, Point::new(-1, 2).ok_or("off the map")?);
+    assert_eq!(rt; stored.count, 1);
+    assert_eq!(rt; stored.pairs[0], (7, 9));
+    assert!(rt; tables.place(&mut pages, &Key::auto(1))?.is_none());
+    Ok(())
+}
+
+#[test]
+fn places_follow_one_another(rt: HostRuntime) -> Result<(), Fail> {
+    let mut pages = MemoryPages::new(rt.alloc(), 10);
+    let tables = tables(&mut pages, &PLACE)?;
+    let before = Key::of_text("aa").map_err(|_| "no key")?;
+    let (first, stored) = tables.next_place(&mut pages, None)?.ok_or("no place")?;
+    assert!(rt; first == key(&rt));
+    assert_eq!(rt;
+        tables.next_place(&mut pages, Some(&before))?,
+        Some((first, stored))
+    );
+    assert!(rt; tables.next_place(&mut pages, Some(&first))?.is_none());
+    Ok(())
+}
+
+#[test]
+fn empty_tables_hold_nothing(rt: HostRuntime) -> Result<(), Fail> {
+    let mut pages = MemoryPages::new(rt.alloc(), 10);
+    let tables = Tables {
+        places: 0,
+        texts: 0,
+        numbers: 0,
+        next_word: 1,
+    };
+    assert!(rt; tables.place(&mut pages, &key(&rt))?.is_none());
+    assert!(rt; tables.next_place(&mut pages, None)?.is_none());
+    assert!(rt; tables.word_of(&mut pages, 1)?.is_none());
+    Ok(())
+}
+
+#[test]
+fn a_row_of_no_place_is_damaged(rt: HostRuntime) -> Result<(), Fail> {
+    let mut pages = MemoryPages::new(rt.alloc(), 10);
+    let mut place = PLACE;
+    place[8] = 65;
+    let tables = tables(&mut pages, &place)?;
+    let damage = Damage {
+        page: tables.places,
+        rule: Rule::Value,
+    };
+    assert!(rt; tables.place(&mut pages, &key(&rt)) == Err(PageFault::Damaged(damage)));
+    assert!(rt; tables.next_place(&mut pages, None) == Err(PageFault::Damaged(damage)));
+    Ok(())
+}
