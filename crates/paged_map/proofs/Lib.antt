@@ -6,3 +6,6 @@ pub mod Inners
 pub mod Links
 pub mod Roots
 pub mod Maps
+pub mod Climbs
+pub mod Readings
+pub mod Grows

@@ -1,18 +1,22 @@
 -- A map entered at its root.
-use Rattle.std.proofs.Common.{◌≡◌, ℕ, zero, suc, ◌+◌, ◌^◌, ◌<◌, ◌≤◌, List, [], ◌∷◌, ◌++◌, length, take, replicate, arith, refl, sym, ap, ◌∙◌, subst, Option, Some, None, Result}
+use Rattle.std.proofs.Common.{◌≡◌, ℕ, zero, suc, ◌+◌, ◌^◌, ◌<◌, ◌≤◌, List, [], ◌∷◌, ◌++◌, length, take, replicate, arith, refl, sym, ap, ◌∙◌, subst, Option, Some, None, Result, append-nil, ⊎_elim}
 use Rattle.std.specs.Result.{IfOk}
 use Rattle.std.proofs.lemmas.List.{take-replicate}
-use Rattle.page_face.specs.FreeList.{PageMap}
+use Rattle.std.specs.List.{flat_map}
+use Rattle.page_face.specs.FreeList.{PageMap, IsFreeList, next_free}
 use Rattle.page_face.specs.Causes.{IsUncounted}
 use Rattle.page_face.specs.declared.fault.Damage.{Damage}
 use Rattle.page_cells.specs.Number.{number}
 use Rattle.map_nodes.specs.declared.form.Form.{Form}
 use Rattle.map_nodes.specs.Rows.{Row}
-use Rattle.map_nodes.specs.Nodes.{least_of_root}
-use Rattle.map_nodes.specs.Tree.{IsTree, IsMap, rows_at, uses, map_rows, map_uses, level_of}
+use Rattle.map_nodes.specs.Supply.{View, view, IsSupplied, spare_in, times, Moves}
+use Rattle.map_nodes.specs.Nodes.{Entry, least_of_root}
+use Rattle.map_nodes.specs.Store.{IsGrown}
+use Rattle.map_nodes.proofs.Supplies.{one_at-other, moves-as, counted-none, uncounted-past}
+use Rattle.map_nodes.specs.Tree.{IsTree, IsFan, IsMap, total, rows_at, uses, map_rows, map_uses, level_of}
 use Rattle.map_nodes.specs.Damages.{IsDamaged}
 use Rattle.map_nodes.proofs.Harms.{tree-undamaged}
-use Rattle.paged_map.specs.Maps.{IsMapDamaged, AreCounted}
+use Rattle.paged_map.specs.Maps.{IsMapDamaged, AreCounted, IsKept, HasBecome}
 use Rattle.paged_map.proofs.Inners.{number-zeros}
 
 -- what is said of a page by other names is said of it
@@ -31,6 +35,10 @@ pub map-tree : (form : Form) (pages : PageMap) (root : ℕ) → 0 < root → IsM
 map-tree form pages zero some map = absurd (omega arith)
 map-tree form pages (suc n) some map = map
 
+pub to-map : (form : Form) (pages : PageMap) (root : ℕ) → 0 < root → IsTree form (least_of_root (level_of (pages root))) pages (level_of (pages root)) root 0 (256 ^ form.key) → IsMap form pages root
+to-map form pages zero some tree = absurd (omega arith)
+to-map form pages (suc n) some tree = tree
+
 pub map-rows : (form : Form) (pages : PageMap) (root : ℕ) → 0 < root → map_rows form pages root ≡ rows_at form pages (level_of (pages root)) root
 map-rows form pages zero some = absurd (omega arith)
 map-rows form pages (suc n) some = refl
@@ -48,6 +56,11 @@ pub map-none : (form : Form) (pages : PageMap) (root : ℕ) → root ≡ 0 → m
 map-none form pages zero e = refl
 map-none form pages (suc n) e = absurd (omega arith)
 
+-- an empty map uses no page
+pub unused : (form : Form) (pages : PageMap) (root n : ℕ) → root ≡ 0 → map_uses form pages root n ≡ 0
+unused form pages zero n e = refl
+unused form pages (suc m) n e = absurd (omega arith)
+
 -- no page of a well-formed map is damaged
 pub map-undamaged : (form : Form) (pages : PageMap) (count root : ℕ) (damage : Damage) → IsMap form pages root → AreCounted (map_uses form pages root) count → IsMapDamaged form pages count root damage → ⊥
 map-undamaged form pages count zero damage map counted d = d
@@ -57,3 +70,61 @@ map-undamaged form pages count (suc n) damage map counted d =
 -- the least key
 pub number-low : (key : ℕ) → key ≤ 255 → number (take key (replicate 255 0)) ≡ 0
 number-low key h = ap number (take-replicate key 255 0 h) ∙ number-zeros key
+
+-- the root's level is the one that its page says
+pub tree-level : (form : Form) (least : ℕ) (pages : PageMap) (level page low high : ℕ) → IsTree form least pages level page low high → level_of (pages page) ≡ level
+tree-level form least pages zero page low high tree = tree.0.level
+tree-level form least pages (suc level) page low high tree = tree.0.node.level
+
+-- no free page is page 0
+free-away : (pages : PageMap) (count first : ℕ) (free : List ℕ) → IsFreeList pages count first free → times free 0 ≡ 0
+free-away pages count first [] s = refl
+free-away pages count first (page ∷ rest) s =
+    let i = free-away pages count (next_free (pages page)) rest s.4 in
+    let p = s.1 in
+    let o = one_at-other page 0 (λ e. absurd (omega arith)) in
+    omega arith
+
+pub spare-away : (v : View) → 0 < v.count → IsSupplied v → spare_in v 0 ≡ 0
+spare-away v some s = let f = free-away v.pages v.count v.first v.free s in let c = counted-none v.count 0 some in omega arith
+
+-- A tree that has grown into one tree, over a root's pages, is what the map has become.
+pub becomes : (form : Form) (before : View) (pages : PageMap) (count first level root page middle : ℕ) (mine : ℕ → ℕ) (rows : List Row) → 0 < page → before.count ≤ count → IsKept form before root
+    → ((n : ℕ) → mine n ≡ map_uses form before.pages root n)
+    → IsGrown form (least_of_root level) before mine pages count first level page 0 (256 ^ form.key) rows 0 middle → HasBecome form before pages count first root page rows
+becomes form before pages count first level root page middle mine rows some more kept same grew =
+    let fan : IsFan (IsTree form (least_of_root level) pages level) 0 (256 ^ form.key) ((0, page) ∷ []) = subst (λ (es : List Entry). IsFan (IsTree form (least_of_root level) pages level) 0 (256 ^ form.key) es) grew.is grew.fan in
+    let tree : IsTree form (least_of_root level) pages level page 0 (256 ^ form.key) = fan.2 in
+    let lv : level_of (pages page) ≡ level = tree-level form (least_of_root level) pages level page 0 (256 ^ form.key) tree in
+    let tree' : IsTree form (least_of_root (level_of (pages page))) pages (level_of (pages page)) page 0 (256 ^ form.key) =
+    subst (λ (k : ℕ). IsTree form (least_of_root k) pages k page 0 (256 ^ form.key)) (sym lv) tree in
+    let ours : (n : ℕ) → map_uses form pages page n ≡ total (λ (c : ℕ). uses form pages level c n) grew.entries = λ n.
+    let a = map-uses form pages page n some in
+    let b : uses form pages (level_of (pages page)) page n ≡ uses form pages level page n = ap (λ (k : ℕ). uses form pages k page n) lv in
+    let d : total (λ (c : ℕ). uses form pages level c n) grew.entries ≡ total (λ (c : ℕ). uses form pages level c n) ((0, page) ∷ []) = ap (total (λ (c : ℕ). uses form pages level c n)) grew.is in
+    omega arith in
+    let moved : Moves before (view pages count first grew.free) (map_uses form before.pages root) (map_uses form pages page) = moves-as (λ n. sym (same n)) ours grew.moves in
+    let zero_before = spare-away before kept.some kept.supplied in
+    let at_zero = moved.kept 0 in
+    let z = kept.away in
+    record {
+      free = grew.free;
+      kept = record {
+        map = to-map form pages page some tree';
+        supplied = moved.supplied;
+        once = λ n. let k = moved.kept n in let o = kept.once n in omega arith;
+        away = omega arith;
+        some = let s = kept.some in omega arith;
+      };
+      has = map-rows form pages page some ∙ ap (λ (k : ℕ). rows_at form pages k page) lv
+          ∙ sym (append-nil (rows_at form pages level page))
+          ∙ ap (λ (es : List Entry). flat_map (λ (e : Entry). rows_at form pages level e.1) es) (sym grew.is) ∙ grew.gives;
+      moves = moved;
+    }
+
+-- each page of a map that is kept is counted
+pub kept-counted : (form : Form) (v : View) (root : ℕ) → IsKept form v root → AreCounted (map_uses form v.pages root) v.count
+kept-counted form v root kept n used u =
+    ⊎_elim
+    (λ (z : n ≡ 0). let a = kept.away in let e : map_uses form v.pages root n ≡ map_uses form v.pages root 0 = ap (map_uses form v.pages root) z in absurd (omega arith))
+    (λ (past : v.count ≤ n). let o = kept.once n in let c = uncounted-past v.count n past in absurd (omega arith)) u

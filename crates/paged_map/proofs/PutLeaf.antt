@@ -1,5 +1,7 @@
 -- A row that is put into a leaf's cells.
-use Rattle.std.proofs.Common.{◌≡◌, ℕ, zero, suc, ◌+◌, ◌-◌, ◌*◌, ◌<◌, ◌≤◌, ◌⊎◌, inl, inr, List, [], ◌∷◌, ◌++◌, length, get_or, take, drop, map, arith, refl, sym, ap, ◌∙◌, subst, ⊎_elim}
+use Rattle.std.proofs.Common.{◌≡◌, ℕ, zero, suc, ◌+◌, ◌-◌, ◌*◌, ◌<◌, ◌≤◌, ◌⊎◌, inl, inr, List, [], ◌∷◌, ◌++◌, length, get_or, take, drop, map, arith, refl, sym, ap, ◌∙◌, subst, ⊎_elim, true, false, nat_eq}
+use Rattle.std.specs.Option.{is_some}
+use Rattle.std.proofs.lemmas.Bool.Decides.{nat_tests}
 use Rattle.std.proofs.lemmas.Bool.{cases_eq}
 use Rattle.std.specs.List.{take-map, drop-map}
 use Rattle.std.proofs.lemmas.List.{take-append-drop, drop_more, length-take-le, length-append, length-drop, map-append, take_all, take_at, drop_at}
@@ -8,11 +10,11 @@ use Rattle.page_cells.specs.Number.{number}
 use Rattle.page_cells.specs.Cells.{chop, cells, IsPlace, key_at}
 use Rattle.page_cells.proofs.Chops.{chop-splice, chop-front, length-chop}
 use Rattle.map_nodes.specs.declared.form.Form.{Form}
-use Rattle.map_nodes.specs.Rows.{Row, IsWithin, IsMade, put}
+use Rattle.map_nodes.specs.Rows.{Row, IsWithin, IsMade, lookup, put}
 use Rattle.map_nodes.specs.Nodes.{count_of, row_of, rows_in}
 use Rattle.map_nodes.proofs.Spans.{no_row, within-append, within-drop}
 use Rattle.map_nodes.proofs.Puts.{put-append_right, put-first, put-here}
-use Rattle.map_nodes.proofs.Finds.{front, back, beyond}
+use Rattle.map_nodes.proofs.Finds.{front, back, beyond, found, missed}
 use Rattle.map_nodes.proofs.Spots.{length-rows_in, row-key}
 use Rattle.paged_map.proofs.Leaves.{rows_of}
 
@@ -86,3 +88,17 @@ put_cells form page key value low high at gone total size fits lk lv place withi
     (⊎_elim (λ e. let s = some e in inr (e, omega (arith, length-rows_in form page, s.0), row-key form page at s.0 ∙ s.1, back form page low high (number key) at place within from to))
     (λ n. inl (omega arith, beyond form page low high (number key) at place within from to (none n))) (cases_eq gone 1)) in
     subst (λ (x : List Row). IsMade low high (put (number key) value) (rows_in form page) x) (sym rows) whole
+
+-- whether the key was there
+pub put-had : (form : Form) (page : List ℕ) (low high key at gone : ℕ) → IsPlace form.key (form.key + form.value) (count_of page) page key at → IsWithin low high (rows_in form page) → low ≤ key → key < high
+    → (gone ≡ 1 → (at < count_of page) × (key_at form.key (form.key + form.value) page at ≡ key))
+    → ((gone ≡ 1 → ⊥) → at < count_of page → key_at form.key (form.key + form.value) page at ≡ key → ⊥) → nat_eq gone 1 ≡ is_some (lookup key (rows_in form page))
+put-had form page low high key at gone place within from to some none =
+    ⊎_elim
+    (λ (e : gone ≡ 1). let s = some e in
+    let t : nat_eq gone 1 ≡ true = grind (arith, nat_tests) in
+    t ∙ ap is_some (sym (found form page low high key at place within from to s.0 s.1)))
+    (λ (n : gone ≡ 1 → ⊥).
+    let t : nat_eq gone 1 ≡ false = grind (arith, nat_tests) in
+    t ∙ ap is_some (sym (missed form page low high key at place within from to (none n))))
+    (cases_eq gone 1)

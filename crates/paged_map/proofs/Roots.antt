@@ -12,9 +12,11 @@ use Rattle.page_cells.specs.Cells.{chop}
 use Rattle.page_cells.specs.Build.{image}
 use Rattle.page_cells.proofs.Chops.{chop-append}
 use Rattle.map_nodes.specs.declared.form.Form.{Form}
-use Rattle.map_nodes.specs.Nodes.{Entry, entry_of, half_of}
+use Rattle.map_nodes.specs.Rows.{Row, IsWithin}
+use Rattle.map_nodes.specs.Nodes.{Entry, entry_of, row_of, half_of}
+use Rattle.paged_map.proofs.Leaves.{rows_of, one_leaf, grown-two, after-split}
 use Rattle.map_nodes.specs.Tree.{IsTree, IsFan, rows_at, uses, total, with_low}
-use Rattle.map_nodes.specs.Store.{IsGrown, below_rows}
+use Rattle.map_nodes.specs.Store.{IsGrown, below_rows, least_after}
 use Rattle.map_nodes.proofs.Frames.{SameFan, fan-frame, tree-frame}
 use Rattle.paged_map.proofs.Inners.{entries_of, one_inner, number-zeros}
 
@@ -84,3 +86,68 @@ module _ (form : Form) (old taken new : PageMap) (count more first next count' f
         fan = made'.fan;
         gives = made'.gives ∙ kept.rows;
       }
+
+-- the first leaf of a map
+module _ (form : Form) (old taken new : PageMap) (count more first next count' first' root : ℕ) (free key value : List ℕ)
+    (supplied : IsSupplied (view old count first free))
+    (once : (n : ℕ) → spare free count n ≤ 1)
+    (isnew : first ≡ 0 → (root ≡ count) × (more ≡ count + 1) × (next ≡ 0))
+    (isfree : 0 < first → (root ≡ first) × (more ≡ count) × (0 < length (old root) → next ≡ next_free (old root)))
+    (others : (n : ℕ) → (n ≡ root → ⊥) → taken n ≡ old n)
+    (written : new ≡ with_page root (image form.map 1 0 1 (key ++ value)) taken) (same_count : count' ≡ more) (same_first : first' ≡ next)
+    (long : length key ≡ form.key) (wide : length value ≡ form.value) (small : number key < 256 ^ form.key) where
+  took_leaf : Moves (view old count first free) (view taken more next (tail free)) none (one_at root)
+  took_leaf = moves-take old taken count more first next root free supplied once isnew isfree others
+
+  one_row : rows_of form 1 (key ++ value) ≡ (number key, value) ∷ []
+  one_row =
+      let all : take (form.key + form.value) (key ++ value) ≡ key ++ value = take_all (form.key + form.value) (key ++ value) (omega (arith, length-append key value)) in
+      ap (λ (c : List ℕ). row_of form.key c ∷ []) all
+      ∙ ap (λ (k : List ℕ). (number k, drop form.key (key ++ value)) ∷ []) (take_at key value form.key long)
+      ∙ ap (λ (v : List ℕ). (number key, v) ∷ []) (drop_at key value form.key long)
+
+  pub planted : IsGrown form 1 (view old count first free) none new count' first' 0 root 0 (256 ^ form.key) ((number key, value) ∷ []) 0 0
+  planted =
+      let within : IsWithin 0 (256 ^ form.key) (rows_of form 1 (key ++ value)) = subst (λ (x : List Row). IsWithin 0 (256 ^ form.key) x) (sym one_row) (omega arith, omega arith) in
+      let made = one_leaf form 1 taken new more next count' first' root 0 (256 ^ form.key) 1 0 (key ++ value) (tail free) written same_count same_first (omega arith) (omega arith) (omega arith)
+      (omega (arith, length-append key value)) (omega (arith, length-append key value)) within took_leaf.supplied
+      (λ k. let t = took_leaf.kept k in let o = once k in omega arith) in
+      record {
+        free = made.free;
+        entries = made.entries;
+        is = made.is;
+        moves = moves-further took_leaf made.moves;
+        fan = made.fan;
+        gives = made.gives ∙ one_row;
+      }
+
+-- the entries of a page that was split, for a root above them
+pub record IsRooted (form : Form) (before mid : View) (level page high right middle : ℕ) (mine : ℕ → ℕ) (rows : List Row) : Type 0 where
+  pub fan : IsFan (IsTree form (half_of form level) mid.pages level) 0 high ((0, page) ∷ ((middle, right) ∷ []))
+  pub moves : Moves before mid mine (λ n. total (λ (c : ℕ). uses form mid.pages level c n) ((0, page) ∷ ((middle, right) ∷ [])))
+  pub gives : below_rows form mid.pages level ((0, page) ∷ ((middle, right) ∷ [])) ≡ rows
+
+pub to-root : (form : Form) (least : ℕ) (before : View) (mine : ℕ → ℕ) (pages : PageMap) (count first level page high right middle : ℕ) (rows : List Row) → 0 < right
+    → (grew : IsGrown form least before mine pages count first level page 0 high rows right middle) → IsRooted form before (view pages count first grew.free) level page high right middle mine rows
+to-root form least before mine pages count first level page high right middle rows some grew =
+    let e : grew.entries ≡ (0, page) ∷ ((middle, right) ∷ []) = grew.is ∙ sym (grown-two 0 page right middle some) in
+    record {
+      fan = subst (λ (k : ℕ). IsFan (IsTree form k pages level) 0 high ((0, page) ∷ ((middle, right) ∷ []))) (after-split least (half_of form level) right some)
+          (subst (λ (es : List Entry). IsFan (IsTree form (least_after least (half_of form level) right) pages level) 0 high es) e grew.fan);
+      moves = moves-as (λ n. refl) (λ n. ap (total (λ (c : ℕ). uses form pages level c n)) (sym e)) grew.moves;
+      gives = ap (below_rows form pages level) (sym e) ∙ grew.gives;
+    }
+
+-- a root above what a page has become is one tree of it
+pub rooted : (form : Form) (before : View) (mine : ℕ → ℕ) (mid : PageMap) (count first level page high right middle : ℕ) (rows : List Row) (free : List ℕ) (new : PageMap) (count' first' root : ℕ)
+    → IsRooted form before (view mid count first free) level page high right middle mine rows
+    → IsGrown form 2 (view mid count first free) (λ n. total (λ (c : ℕ). uses form mid level c n) ((0, page) ∷ ((middle, right) ∷ []))) new count' first' (suc level) root 0 high (below_rows form mid level ((0, page) ∷ ((middle, right) ∷ []))) 0 0
+    → IsGrown form 2 before mine new count' first' (suc level) root 0 high rows 0 0
+rooted form before mine mid count first level page high right middle rows free new count' first' root up made = record {
+  free = made.free;
+  entries = made.entries;
+  is = made.is;
+  moves = moves-further up.moves made.moves;
+  fan = made.fan;
+  gives = made.gives ∙ up.gives;
+}

@@ -2,15 +2,24 @@
 //!
 //! Over a well-formed map [`PagedMap`] is a finite map: `get`, `first_from` and `put` are the list functions `lookup`,
 //! `first_from` and `put` on its rows, and all other pages stay. Over any other bytes each call is safe and ends, and
-//! names a rule that a page breaks. Pages that lead in a circle end a call too, since levels fall. There is no call
-//! yet that takes a row out.
+//! names a rule that a page breaks in its place. Pages that lead in a circle end a call too, since levels fall. A map
+//! and the free list lose no page: each page that was the map's, free or newly counted is then in exactly one of them.
+//! There is no call yet that takes a row out.
 #![tactic(auto)]
 
 mod find;
 mod first;
+mod inner;
 mod layout;
+mod leaf;
 mod map;
 mod node;
+mod put;
+mod putting;
+mod root;
 
 pub use layout::Layout;
 pub use map::PagedMap;
+
+#[cfg(test)]
+mod tests;

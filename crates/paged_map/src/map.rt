@@ -1,16 +1,19 @@
 //! A map by its root.
-ghost use Rattle.std.specs.Prelude.{◌≡◌, ◌≢◌, ℕ, ◌≤◌, List, length, IfOk, IsTrue, IsErrOf};
+ghost use Rattle.std.specs.Prelude.{◌≡◌, ◌≢◌, ◌⊎◌, ℕ, ◌≤◌, List, length, IfOk, IsTrue, IsErrOf, OnErr, is_some};
 ghost use Rattle.page_face.specs.Causes.{Rose};
 ghost use Rattle.page_cells.specs.Number.{number};
-ghost use Rattle.map_nodes.specs.Rows.{lookup, first_from};
+ghost use Rattle.map_nodes.specs.Supply.{view};
+ghost use Rattle.map_nodes.specs.Rows.{lookup, first_from, put};
 ghost use Rattle.map_nodes.specs.Tree.{IsMap, map_rows, map_uses};
-ghost use Rattle.map_nodes.specs.Damages.{AreTold, AskedSince, AsksOnly};
+ghost use Rattle.map_nodes.specs.Damages.{AreTold, AskedSince, AsksOnly, IsRefusedTake};
 ghost use Rattle.paged_map.specs.Answers.{HoldsRow, Locates};
-ghost use Rattle.paged_map.specs.Maps.{AreCounted, IsMapDamaged};
+ghost use Rattle.paged_map.specs.Maps.{AreCounted, IsMapDamaged, IsKept, HasBecome};
 
 use crate::find::find_in;
 use crate::first::first_in;
 use crate::layout::{Layout, form_of, least_key};
+use crate::putting::put_below;
+use crate::root::first_leaf;
 use map_nodes::{level, root_least};
 use page_face::{Damage, PageFault, Pages};
 use std::marker::PhantomData;
@@ -166,5 +169,56 @@ impl<L: Layout> PagedMap<L> {
             found,
             value,
         )
+    }
+
+    /// Puts a row: the value at the key is this one from now on. Answers whether the key was there.
+    ///
+    /// Refuses `Damaged` with a rule that a page asked for in this call breaks in its place, or as a `take` answered it;
+    /// `Disk`; `NoRoom`; `Stopped`; `Memory`. After a refusal the root is as before, and pages may have changed: they are
+    /// to be abandoned. It reads and writes a page a level, and takes one for each page that is split.
+    pub fn put<P: Pages>(
+        &mut self,
+        pages: &mut P,
+        key: &[u8],
+        value: &[u8],
+    ) -> Result<bool, PageFault>
+        requires key { length key.now ≡ L.KEY }
+        requires value { length value.now ≡ L.VALUE }
+        ensures becomes { (free : List ℕ) → IsKept L.form (view (P.pages pages.old) (P.count pages.old) (P.first pages.old) free) self.old.root
+            → IfOk result (λ had. HasBecome L.form (view (P.pages pages.old) (P.count pages.old) (P.first pages.old) free) (P.pages pages.new) (P.count pages.new) (P.first pages.new) self.old.root self.new.root
+            (put (number key.now) value.now (map_rows L.form (P.pages pages.old) self.old.root))) }
+        ensures had { IsMap L.form (P.pages pages.old) self.old.root → IfOk result (λ had. had ≡ is_some (lookup (number key.now) (map_rows L.form (P.pages pages.old) self.old.root))) }
+        ensures root_stays { OnErr result (self.new.root ≡ self.old.root) }
+
+        // On a well-formed map and a free list that ends at 0 no page is damaged.
+        ensures honest { (free : List ℕ) → IsKept L.form (view (P.pages pages.old) (P.count pages.old) (P.first pages.old) free) self.old.root
+            → (damage : Damage) → result ≢ Err (PageFault.Damaged damage) }
+        ensures damaged { AreTold (P.pages pages.old) (P.count pages.old) → (damage : Damage) → IsErrOf result (PageFault.Damaged damage)
+            → (IsMapDamaged L.form (P.pages pages.old) (P.count pages.old) self.old.root damage × AskedSince (P.asked pages.old) (P.asked pages.new) damage.page)
+            ⊎ IsRefusedTake (P.pages pages.new) (P.count pages.new) (P.first pages.new) damage }
+        ensures own { AreTold (P.pages pages.old) (P.count pages.old)
+            → AsksOnly (map_uses L.form (P.pages pages.old) self.old.root) (P.asked pages.old) (P.asked pages.new) }
+        ensures disk { IsErrOf result PageFault.Disk → Rose (P.faults pages.old) (P.faults pages.new) }
+        ensures refused_more { IsErrOf result PageFault.NoRoom → Rose (P.refused pages.old) (P.refused pages.new) }
+        ensures stopped { IsErrOf result PageFault.Stopped → IsTrue (P.is_stopped pages.old) }
+
+        ensures counts { P.count pages.old ≤ P.count pages.new }
+        ensures room { P.room pages.new ≡ P.room pages.old }
+        ensures faults { P.faults pages.old ≤ P.faults pages.new }
+        ensures refused { P.refused pages.old ≤ P.refused pages.new }
+        ensures goes_on { P.is_stopped pages.new ≡ P.is_stopped pages.old }
+        ensures follows { P.follows_from pages.old pages.new }
+    {
+        let form = form_of::<L>();
+        let empty = self.root == 0;
+        if empty {
+            let leaf = first_leaf(pages, form, key, value)?;
+            self.root = leaf;
+            return Ok(false);
+        }
+        let mut middle = [0; 255];
+        let rooted = put_below(pages, form, self.root, key, value, &mut middle[..form.key])?;
+        self.root = rooted.root;
+        Ok(rooted.had)
     }
 }

@@ -1,0 +1,95 @@
+//! A row that is put into a map by its root.
+ghost use Rattle.std.specs.Prelude.{◌≡◌, ◌≢◌, ◌⊎◌, ℕ, ◌<◌, ◌≤◌, List, length, IfOk, IsErrOf, IsTrue, is_some};
+ghost use Rattle.page_face.specs.Causes.{Rose};
+ghost use Rattle.page_cells.specs.Number.{number};
+ghost use Rattle.map_nodes.specs.Supply.{view};
+ghost use Rattle.map_nodes.specs.Rows.{lookup, put};
+ghost use Rattle.map_nodes.specs.Tree.{IsMap, map_rows, map_uses};
+ghost use Rattle.map_nodes.specs.Damages.{IsRefusedTake, AreTold, AskedSince, AsksOnly};
+ghost use Rattle.paged_map.specs.Maps.{IsKept, HasBecome, IsMapDamaged};
+
+use crate::layout::least_key;
+use crate::put::put_in;
+use crate::root::grow_root;
+use map_nodes::{Form, level, root_least};
+use page_face::{Damage, PageFault, Pages};
+
+// The greatest level that a page can say.
+const LAST: u8 = 255;
+
+/// What putting a row into a map has done.
+#[derive(Clone, Copy, Debug, PartialEq, Eq)]
+pub struct Rooted {
+    /// The map's root.
+    pub root: u32,
+    /// Whether the key was there.
+    pub had: bool,
+}
+
+/// Puts a row into a map that has a root. `middle` is room for a key.
+///
+/// Refuses the rule that a page breaks in its place, and what a `take` refuses. A root of level 255 that would have to
+/// be split is refused as `Memory`; a well-formed map has none, since it would have more pages than there are numbers.
+pub fn put_below<P: Pages>(
+    pages: &mut P,
+    form: Form,
+    root: u32,
+    key: &[u8],
+    value: &[u8],
+    middle: &mut [u8],
+) -> Result<Rooted, PageFault>
+    requires root { 0 < root }
+    requires key { length key.now ≡ form.key }
+    requires value { length value.now ≡ form.value }
+    requires middle { length middle.old ≡ form.key }
+    ensures becomes { (free : List ℕ) → IsKept form (view (P.pages pages.old) (P.count pages.old) (P.first pages.old) free) root
+        → IfOk result (λ rooted. HasBecome form (view (P.pages pages.old) (P.count pages.old) (P.first pages.old) free) (P.pages pages.new) (P.count pages.new) (P.first pages.new) root rooted.root (put (number key.now) value.now (map_rows form (P.pages pages.old) root))) }
+    ensures had { IsMap form (P.pages pages.old) root → IfOk result (λ rooted. rooted.had ≡ is_some (lookup (number key.now) (map_rows form (P.pages pages.old) root))) }
+
+    ensures honest { (free : List ℕ) → IsKept form (view (P.pages pages.old) (P.count pages.old) (P.first pages.old) free) root → (damage : Damage) → result ≢ Err (PageFault.Damaged damage) }
+    ensures damaged { AreTold (P.pages pages.old) (P.count pages.old) → (damage : Damage) → IsErrOf result (PageFault.Damaged damage)
+        → (IsMapDamaged form (P.pages pages.old) (P.count pages.old) root damage × AskedSince (P.asked pages.old) (P.asked pages.new) damage.page)
+        ⊎ IsRefusedTake (P.pages pages.new) (P.count pages.new) (P.first pages.new) damage }
+    ensures own { AreTold (P.pages pages.old) (P.count pages.old) → AsksOnly (map_uses form (P.pages pages.old) root) (P.asked pages.old) (P.asked pages.new) }
+    ensures disk { IsErrOf result PageFault.Disk → Rose (P.faults pages.old) (P.faults pages.new) }
+    ensures refused_more { IsErrOf result PageFault.NoRoom → Rose (P.refused pages.old) (P.refused pages.new) }
+    ensures stopped { IsErrOf result PageFault.Stopped → IsTrue (P.is_stopped pages.old) }
+
+    ensures counts { P.count pages.old ≤ P.count pages.new }
+    ensures room { P.room pages.new ≡ P.room pages.old }
+    ensures faults { P.faults pages.old ≤ P.faults pages.new }
+    ensures refused { P.refused pages.old ≤ P.refused pages.new }
+    ensures goes_on { P.is_stopped pages.new ≡ P.is_stopped pages.old }
+    ensures follows { P.follows_from pages.old pages.new }
+{
+    let bytes = pages.read(root)?;
+    let level = level(&bytes);
+    let grown = put_in(
+        pages,
+        form,
+        root_least(level),
+        root,
+        &bytes,
+        level,
+        least_key(form),
+        &[],
+        key,
+        value,
+        middle,
+    )?;
+    let right = grown.right;
+    if right == 0 {
+        return Ok(Rooted {
+            root,
+            had: grown.had,
+        });
+    }
+    if level == LAST {
+        return Err(PageFault::Memory);
+    }
+    let top = grow_root(pages, form, level, root, middle, right)?;
+    Ok(Rooted {
+        root: top,
+        had: grown.had,
+    })
+}

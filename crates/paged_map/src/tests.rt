@@ -1,0 +1,197 @@
+use super::*;
+use page_cells::build;
+use page_face::{Damage, MemoryPages, Page, PageFault, Pages, Rule};
+use std::collections::BTreeMap;
+use std::test::Fail;
+
+// Rows of 1,020 bytes: a leaf has two to four of them.
+struct Wide;
+
+impl Layout for Wide {
+    ghost use Rattle.std.specs.Prelude.{refl};
+    ghost use Rattle.std.proofs.Common.{lit≤};
+
+    ghost form = { record { key = 255; value = 765; map = 9; some = lit≤ tt; short = lit≤ tt; fits = lit≤ tt } };
+
+    ghost KEY = { 255 };
+
+    const KEY: usize = 255;
+
+    ghost VALUE = { 765 };
+
+    const VALUE: usize = 765;
+
+    ghost MAP = { 9 };
+
+    const MAP: u8 = 9;
+
+    ghost key_is = { refl };
+
+    ghost value_is = { refl };
+
+    ghost map_is = { refl };
+}
+
+fn key(last: u8) -> [u8; 255] {
+    let mut key = [0; 255];
+    key[254] = last;
+    key
+}
+
+// A leaf of two rows, whose values begin with their keys' last bytes.
+fn leaf(first: u8, second: u8) -> Page {
+    let mut cells = [0; 2040];
+    cells[254] = first;
+    cells[255] = first;
+    cells[1274] = second;
+    cells[1275] = second;
+    build(9, 1, 0, 2, &cells)
+}
+
+// An inner page of two entries.
+fn inner(level: u8, left: u8, middle: u8, right: u8) -> Page {
+    let mut cells = [0; 518];
+    cells[258] = left;
+    cells[513] = middle;
+    cells[517] = right;
+    build(9, 2, level, 2, &cells)
+}
+
+// A root at page 3 above the leaves 1 and 2.
+fn write_all(
+    pages: &mut MemoryPages,
+    left: &Page,
+    right: &Page,
+    root: &Page,
+) -> Result<(), PageFault> {
+    pages.write(1, left)?;
+    pages.write(2, right)?;
+    pages.write(3, root)
+}
+
+#[test]
+fn rows_are_found_by_key_and_in_order(rt: HostRuntime) -> Result<(), Fail> {
+    let mut pages = MemoryPages::new(rt.alloc(), 8);
+    assert_eq!(rt; pages.take(), Ok(1));
+    assert_eq!(rt; pages.take(), Ok(2));
+    assert_eq!(rt; pages.take(), Ok(3));
+    assert_eq!(rt;
+        write_all(&mut pages, &leaf(2, 4), &leaf(6, 8), &inner(1, 1, 6, 2)),
+        Ok(())
+    );
+    let map: PagedMap<Wide> = PagedMap::at(3);
+    let mut found = [0; 255];
+    let mut value = [0; 765];
+    assert_eq!(rt; map.root(), 3);
+    assert_eq!(rt; map.get(&mut pages, &key(4), &mut value), Ok(Some(1)));
+    assert_eq!(rt; value[0], 4);
+    assert_eq!(rt; map.get(&mut pages, &key(6), &mut value), Ok(Some(2)));
+    assert_eq!(rt; map.get(&mut pages, &key(5), &mut value), Ok(None));
+    assert_eq!(rt;
+        map.first_from(&mut pages, &key(0), &mut found, &mut value),
+        Ok(Some(1))
+    );
+    assert_eq!(rt; found[254], 2);
+    assert_eq!(rt;
+        map.first_from(&mut pages, &key(5), &mut found, &mut value),
+        Ok(Some(2))
+    );
+    assert_eq!(rt; found[254], 6);
+    assert_eq!(rt; value[0], 6);
+    assert_eq!(rt;
+        map.first_from(&mut pages, &key(9), &mut found, &mut value),
+        Ok(None)
+    );
+    let none: PagedMap<Wide> = PagedMap::at(0);
+    assert_eq!(rt; none.get(&mut pages, &key(4), &mut value), Ok(None));
+    assert_eq!(rt;
+        none.first_from(&mut pages, &key(0), &mut found, &mut value),
+        Ok(None)
+    );
+    Ok(())
+}
+
+#[test]
+fn a_broken_page_is_named_with_its_rule(rt: HostRuntime) -> Result<(), Fail> {
+    let mut pages = MemoryPages::new(rt.alloc(), 8);
+    assert_eq!(rt; pages.take(), Ok(1));
+    assert_eq!(rt; pages.take(), Ok(2));
+    assert_eq!(rt; pages.take(), Ok(3));
+    let cases = [
+        (leaf(2, 4), inner(255, 3, 6, 2), 3, Rule::Level),
+        (leaf(2, 4), inner(1, 7, 6, 2), 7, Rule::Link),
+        (leaf(4, 2), inner(1, 1, 6, 2), 1, Rule::Order),
+        (leaf(2, 6), inner(1, 1, 6, 2), 1, Rule::Order),
+        (inner(0, 1, 2, 1), inner(1, 1, 6, 2), 1, Rule::Kind),
+        (
+            build(9, 1, 0, 1, &[1; 1020]),
+            inner(1, 1, 6, 2),
+            1,
+            Rule::Fill,
+        ),
+        (
+            build(9, 1, 0, 2, &[1; 2041]),
+            inner(1, 1, 6, 2),
+            1,
+            Rule::Spare,
+        ),
+    ];
+    let map: PagedMap<Wide> = PagedMap::at(3);
+    let mut value = [0; 765];
+    for (left, root, page, rule) in &cases {
+        assert_eq!(rt; write_all(&mut pages, left, &leaf(6, 8), root), Ok(()));
+        let answer = map.get(&mut pages, &key(2), &mut value);
+        assert_eq!(rt;
+            answer,
+            Err(PageFault::Damaged(Damage {
+                page: *page,
+                rule: *rule
+            }))
+        );
+    }
+    Ok(())
+}
+
+#[test]
+fn rows_put_are_those_of_a_sorted_map(rt: HostRuntime) -> Result<(), Fail> {
+    let mut pages = MemoryPages::new(rt.alloc(), 99);
+    let mut map: PagedMap<Wide> = PagedMap::at(0);
+    let mut model: BTreeMap<u8, u8> = BTreeMap::new(rt.alloc());
+    let mut value = [0; 765];
+    for step in 0..90u8 {
+        let last = step.wrapping_mul(37) % 60;
+        value[0] = step;
+        let had = model.insert(last, step)?.is_some();
+        assert_eq!(rt; map.put(&mut pages, &key(last), &value), Ok(had));
+    }
+    for last in 0..99u8 {
+        let leaf = map.get(&mut pages, &key(last), &mut value);
+        assert_eq!(rt;
+            leaf.map(|page| page.is_some()),
+            Ok(model.contains_key(&last))
+        );
+        if let Some(step) = model.get(&last) {
+            assert_eq!(rt; value[0], *step);
+        }
+    }
+    let root = pages.read(map.root());
+    assert_eq!(rt; root.map(|page| page[4]), Ok(2));
+    Ok(())
+}
+
+#[test]
+fn a_split_without_room_leaves_the_root(rt: HostRuntime) -> Result<(), Fail> {
+    let mut pages = MemoryPages::new(rt.alloc(), 2);
+    let mut map: PagedMap<Wide> = PagedMap::at(0);
+    let value = [7; 765];
+    for last in 1..5u8 {
+        assert_eq!(rt; map.put(&mut pages, &key(last), &value), Ok(false));
+    }
+    assert_eq!(rt; map.put(&mut pages, &key(3), &value), Ok(true));
+    assert_eq!(rt;
+        map.put(&mut pages, &key(9), &value),
+        Err(PageFault::NoRoom)
+    );
+    assert_eq!(rt; map.root(), 1);
+    Ok(())
+}
