@@ -16,7 +16,7 @@ use Rattle.store_rows.specs.declared.stored.Stored.{Stored}
 use Rattle.store_rows.specs.Counted.{IsCounted, counted_value, number_bytes}
 use Rattle.store_rows.specs.Stored.{place_value}
 use Rattle.store_tables.specs.declared.tables.Tables.{Tables}
-use Rattle.store_tables.specs.Changed.{IsChangedMap}
+use Rattle.paged_map.specs.Maps.{HasBecome}
 use Rattle.store_tables.specs.Coded.{IsEntryOf, IsPlaceValue, IsU64, key_code, row_by, word_code}
 use Rattle.store_tables.specs.Entries.{Entries, number_of_word, place_of_key, with_place, word_cmp, word_of_number}
 use Rattle.store_tables.specs.Holding.{Holds, HoldsMap, IsApart, IsChanged, numbers_form, places_form, texts_form}
@@ -28,11 +28,11 @@ use Rattle.store_tables.proofs.LookupLemmas.{keys_coding, numbers_coding, words_
 -- a map with one row more holds one entry more
 holds-put : {K V : Type 0} {form : Form} {code : K → ℕ} {value : V → List ℕ} {IsKey : K → Type 0} {IsValue : V → Type 0} {cmp : K → K → Ordering} {old : PageMap} {root : ℕ} {entries : List (K × V)} → IsCoding cmp IsKey code
     → HoldsMap form code value IsKey IsValue old root entries → (k : K) (v : V) (n : ℕ) (bytes : List ℕ) → IsKey k → IsValue v → n ≡ code k → bytes ≡ value v
-    → {before : View} {was : ℕ} {pages : PageMap} {count first new : ℕ} → IsChangedMap form before was pages count first new (put n bytes (map_rows form old root))
+    → {before : View} {was : ℕ} {pages : PageMap} {count first new : ℕ} → HasBecome form before pages count first was new (put n bytes (map_rows form old root))
     → HoldsMap form code value IsKey IsValue pages new (insert_entry cmp entries k v)
 holds-put {code = code} {value = value} {IsKey = IsKey} {IsValue = IsValue} {cmp = cmp} {entries = entries} coding holds k v n bytes key is at stands c = record {
-  tree = c.tree;
-  rows = c.gives ∙ (λ i. put (at i) (stands i) (holds.rows i)) ∙ put-rows cmp IsKey code IsValue value coding k key v entries holds.each;
+  tree = c.kept.map;
+  rows = c.has ∙ (λ i. put (at i) (stands i) (holds.rows i)) ∙ put-rows cmp IsKey code IsValue value coding k key v entries holds.each;
   each = insert-each cmp IsKey IsValue k v entries key is holds.each;
 }
 
@@ -48,7 +48,7 @@ was-there {code = code} {value = value} {IsKey = IsKey} {IsValue = IsValue} {cmp
 
 -- a place that was put
 pub place-put : (before : View) (old : Tables) (entries : Entries) → Holds before.pages old entries → IsApart before old → (key : Name) (stored : Stored) (n : ℕ) (bytes : List ℕ) → IsName key → IsPlaceValue stored → n ≡ key_code key → bytes ≡ place_value stored
-    → (pages : PageMap) (count first root : ℕ) (was : Bool) → was ≡ is_some (Rows.lookup n (map_rows places_form before.pages old.places)) → IsChangedMap places_form before old.places pages count first root (put n bytes (map_rows places_form before.pages old.places))
+    → (pages : PageMap) (count first root : ℕ) (was : Bool) → was ≡ is_some (Rows.lookup n (map_rows places_form before.pages old.places)) → HasBecome places_form before pages count first old.places root (put n bytes (map_rows places_form before.pages old.places))
     → (was ≡ is_some (place_of_key key entries.places)) × IsChanged before old pages count first (record old { places = root }) (record entries { places = with_place key stored entries.places })
 place-put before old entries holds apart key stored n bytes is formed at stands pages count first root was there c = (
   there ∙ was-there keys_coding holds.places key n is at,
@@ -57,7 +57,7 @@ place-put before old entries holds apart key stored n bytes is formed at stands 
 
 -- a word's number that was put
 pub text-put : (before : View) (old : Tables) (entries : Entries) → Holds before.pages old entries → IsApart before old → (word : List ℕ) (number n : ℕ) (bytes : List ℕ) → IsWordText word → IsU64 number → n ≡ word_code word → bytes ≡ number_bytes number
-    → (pages : PageMap) (count first root : ℕ) (was : Bool) → was ≡ is_some (Rows.lookup n (map_rows texts_form before.pages old.texts)) → IsChangedMap texts_form before old.texts pages count first root (put n bytes (map_rows texts_form before.pages old.texts))
+    → (pages : PageMap) (count first root : ℕ) (was : Bool) → was ≡ is_some (Rows.lookup n (map_rows texts_form before.pages old.texts)) → HasBecome texts_form before pages count first old.texts root (put n bytes (map_rows texts_form before.pages old.texts))
     → (was ≡ is_some (number_of_word word entries.texts)) × IsChanged before old pages count first (record old { texts = root }) (record entries { texts = insert_entry word_cmp entries.texts word number })
 text-put before old entries holds apart word number n bytes is formed at stands pages count first root was there c = (
   there ∙ was-there words_coding holds.texts word n is at,
@@ -66,7 +66,7 @@ text-put before old entries holds apart word number n bytes is formed at stands 
 
 -- a number's word that was put
 pub number-put : (before : View) (old : Tables) (entries : Entries) → Holds before.pages old entries → IsApart before old → (number : ℕ) (counted : Counted) (n : ℕ) (bytes : List ℕ) → IsU64 number → IsCounted counted → n ≡ number → bytes ≡ counted_value counted
-    → (pages : PageMap) (count first root : ℕ) (was : Bool) → was ≡ is_some (Rows.lookup n (map_rows numbers_form before.pages old.numbers)) → IsChangedMap numbers_form before old.numbers pages count first root (put n bytes (map_rows numbers_form before.pages old.numbers))
+    → (pages : PageMap) (count first root : ℕ) (was : Bool) → was ≡ is_some (Rows.lookup n (map_rows numbers_form before.pages old.numbers)) → HasBecome numbers_form before pages count first old.numbers root (put n bytes (map_rows numbers_form before.pages old.numbers))
     → (was ≡ is_some (word_of_number number entries.numbers)) × IsChanged before old pages count first (record old { numbers = root }) (record entries { numbers = insert_entry nat_cmp entries.numbers number counted })
 number-put before old entries holds apart number counted n bytes is formed at stands pages count first root was there c = (
   there ∙ was-there numbers_coding holds.numbers number n is at,

@@ -12,7 +12,7 @@ use Rattle.spatial_base.specs.Key.{Name}
 use Rattle.store_rows.specs.declared.counted.Counted.{Counted}
 use Rattle.store_rows.specs.declared.stored.Stored.{Stored}
 use Rattle.store_tables.specs.declared.tables.Tables.{Tables}
-use Rattle.store_tables.specs.Changed.{IsChangedMap}
+use Rattle.paged_map.specs.Maps.{HasBecome, IsKept}
 use Rattle.store_tables.specs.Entries.{Entries}
 use Rattle.store_tables.specs.Holding.{Holds, HoldsMap, HoldsNumbers, HoldsPlaces, HoldsTexts, IsApart, IsChanged, numbers_form, places_form, table_uses, texts_form}
 
@@ -48,52 +48,96 @@ holds-frame holds same = record { tree = same.tree; rows = same.rows ∙ holds.r
 stays : {before after : View} {mine ours : ℕ → ℕ} → Moves before after mine ours → (theirs : ℕ → ℕ) → ((n : ℕ) → mine n + theirs n + spare_in before n ≤ 1) → (n : ℕ) → 0 < theirs n → after.pages n ≡ before.pages n
 stays moves theirs once n used = (let o = once n in moves.others n (omega arith) (omega arith))
 
--- after a change the tables' pages are apart
-pub changed-apart : {before : View} {old new : Tables} {pages : PageMap} {count first : ℕ} {entries : Entries} → IsApart before old → (c : IsChanged before old pages count first new entries) → IsApart (view pages count first c.free) new
-changed-apart apart c = record { supplied = c.moves.supplied; once = λ n. (let o = apart.once n in let k = c.moves.kept n in omega arith) }
-
 -- one change after another
 pub changed-further : {before : View} {old middle new : Tables} {pages pages' : PageMap} {count count' first first' : ℕ} {entries entries' : Entries} → (c : IsChanged before old pages count first middle entries)
     → IsChanged (view pages count first c.free) middle pages' count' first' new entries' → IsChanged before old pages' count' first' new entries'
-changed-further c d = record { free = d.free; holds = d.holds; moves = moves-further c.moves d.moves }
+changed-further c d = record { free = d.free; holds = d.holds; apart = d.apart; moves = moves-further c.moves d.moves }
 
 -- ---- one of the three maps changes
 
 -- the place table
 pub places-changed : (before : View) (old : Tables) (pages : PageMap) (count first root : ℕ) (rows : List Row) (entries : Entries) (places : List (Name × Stored)) → Holds before.pages old entries → IsApart before old
-    → (c : IsChangedMap places_form before old.places pages count first root rows) → HoldsPlaces pages root places → IsChanged before old pages count first (record old { places = root }) (record entries { places = places })
+    → (c : HasBecome places_form before pages count first old.places root rows) → HoldsPlaces pages root places → IsChanged before old pages count first (record old { places = root }) (record entries { places = places })
 places-changed before old pages count first root rows entries places holds apart c now =
     let texts = map-frame texts_form before.pages pages old.texts holds.texts.tree (stays c.moves (map_uses texts_form before.pages old.texts) (λ n. let o = apart.once n in omega arith)) in
     let numbers = map-frame numbers_form before.pages pages old.numbers holds.numbers.tree (stays c.moves (map_uses numbers_form before.pages old.numbers) (λ n. let o = apart.once n in omega arith)) in
     record {
       free = c.free;
       holds = record { places = now; texts = holds-frame holds.texts texts; numbers = holds-frame holds.numbers numbers };
+      apart = record {
+        supplied = c.kept.supplied;
+        once = λ n. (let o = apart.once n in let k = c.moves.kept n in let t = texts.uses n in let m = numbers.uses n in omega arith);
+        away = (let z = apart.away in let own = c.kept.away in let t = texts.uses 0 in let m = numbers.uses 0 in omega arith);
+        some = c.kept.some;
+      };
       moves = moves-as (λ n. omega arith) (λ n. let t = texts.uses n in let m = numbers.uses n in omega arith)
       (moves-beside (λ n. map_uses texts_form before.pages old.texts n + map_uses numbers_form before.pages old.numbers n) c.moves);
     }
 
 -- the words by text
 pub texts-changed : (before : View) (old : Tables) (pages : PageMap) (count first root : ℕ) (rows : List Row) (entries : Entries) (texts : List (List ℕ × ℕ)) → Holds before.pages old entries → IsApart before old
-    → (c : IsChangedMap texts_form before old.texts pages count first root rows) → HoldsTexts pages root texts → IsChanged before old pages count first (record old { texts = root }) (record entries { texts = texts })
+    → (c : HasBecome texts_form before pages count first old.texts root rows) → HoldsTexts pages root texts → IsChanged before old pages count first (record old { texts = root }) (record entries { texts = texts })
 texts-changed before old pages count first root rows entries texts holds apart c now =
     let places = map-frame places_form before.pages pages old.places holds.places.tree (stays c.moves (map_uses places_form before.pages old.places) (λ n. let o = apart.once n in omega arith)) in
     let numbers = map-frame numbers_form before.pages pages old.numbers holds.numbers.tree (stays c.moves (map_uses numbers_form before.pages old.numbers) (λ n. let o = apart.once n in omega arith)) in
     record {
       free = c.free;
       holds = record { places = holds-frame holds.places places; texts = now; numbers = holds-frame holds.numbers numbers };
+      apart = record {
+        supplied = c.kept.supplied;
+        once = λ n. (let o = apart.once n in let k = c.moves.kept n in let t = places.uses n in let m = numbers.uses n in omega arith);
+        away = (let z = apart.away in let own = c.kept.away in let t = places.uses 0 in let m = numbers.uses 0 in omega arith);
+        some = c.kept.some;
+      };
       moves = moves-as (λ n. omega arith) (λ n. let t = places.uses n in let m = numbers.uses n in omega arith)
       (moves-beside (λ n. map_uses places_form before.pages old.places n + map_uses numbers_form before.pages old.numbers n) c.moves);
     }
 
 -- the words by number
 pub numbers-changed : (before : View) (old : Tables) (pages : PageMap) (count first root : ℕ) (rows : List Row) (entries : Entries) (numbers : List (ℕ × Counted)) → Holds before.pages old entries → IsApart before old
-    → (c : IsChangedMap numbers_form before old.numbers pages count first root rows) → HoldsNumbers pages root numbers → IsChanged before old pages count first (record old { numbers = root }) (record entries { numbers = numbers })
+    → (c : HasBecome numbers_form before pages count first old.numbers root rows) → HoldsNumbers pages root numbers → IsChanged before old pages count first (record old { numbers = root }) (record entries { numbers = numbers })
 numbers-changed before old pages count first root rows entries numbers holds apart c now =
     let places = map-frame places_form before.pages pages old.places holds.places.tree (stays c.moves (map_uses places_form before.pages old.places) (λ n. let o = apart.once n in omega arith)) in
     let texts = map-frame texts_form before.pages pages old.texts holds.texts.tree (stays c.moves (map_uses texts_form before.pages old.texts) (λ n. let o = apart.once n in omega arith)) in
     record {
       free = c.free;
       holds = record { places = holds-frame holds.places places; texts = holds-frame holds.texts texts; numbers = now };
+      apart = record {
+        supplied = c.kept.supplied;
+        once = λ n. (let o = apart.once n in let k = c.moves.kept n in let t = places.uses n in let m = texts.uses n in omega arith);
+        away = (let z = apart.away in let own = c.kept.away in let t = places.uses 0 in let m = texts.uses 0 in omega arith);
+        some = c.kept.some;
+      };
       moves = moves-as (λ n. omega arith) (λ n. let t = places.uses n in let m = texts.uses n in omega arith)
       (moves-beside (λ n. map_uses places_form before.pages old.places n + map_uses texts_form before.pages old.texts n) c.moves);
     }
+
+-- the map of places of tables that are apart is kept
+pub kept-places : (v : View) (tables : Tables) (entries : Entries) → Holds v.pages tables entries → IsApart v tables → IsKept places_form v tables.places
+kept-places v tables entries holds apart = record {
+  map = holds.places.tree;
+  supplied = apart.supplied;
+  once = λ n. (let o = apart.once n in omega arith);
+  away = (let z = apart.away in omega arith);
+  some = apart.some;
+}
+
+-- the map of texts of tables that are apart is kept
+pub kept-texts : (v : View) (tables : Tables) (entries : Entries) → Holds v.pages tables entries → IsApart v tables → IsKept texts_form v tables.texts
+kept-texts v tables entries holds apart = record {
+  map = holds.texts.tree;
+  supplied = apart.supplied;
+  once = λ n. (let o = apart.once n in omega arith);
+  away = (let z = apart.away in omega arith);
+  some = apart.some;
+}
+
+-- the map of numbers of tables that are apart is kept
+pub kept-numbers : (v : View) (tables : Tables) (entries : Entries) → Holds v.pages tables entries → IsApart v tables → IsKept numbers_form v tables.numbers
+kept-numbers v tables entries holds apart = record {
+  map = holds.numbers.tree;
+  supplied = apart.supplied;
+  once = λ n. (let o = apart.once n in omega arith);
+  away = (let z = apart.away in omega arith);
+  some = apart.some;
+}

@@ -15,6 +15,7 @@ mod reading;
 mod tables;
 #[cfg(test)]
 mod tests;
+mod writing;
 
 pub use store_rows::Stored;
 pub use tables::Tables;

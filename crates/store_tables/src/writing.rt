@@ -5,8 +5,8 @@ ghost use Rattle.std.specs.Ordering.{nat_cmp};
 ghost use Rattle.page_face.specs.Causes.{Rose};
 ghost use Rattle.map_nodes.specs.Supply.{view};
 ghost use Rattle.map_nodes.specs.Tree.{map_uses};
-ghost use Rattle.map_nodes.specs.Damages.{AreTold, AsksOnly, IsRefusedTake};
-ghost use Rattle.paged_map.specs.Maps.{AreCounted, IsMapDamaged};
+ghost use Rattle.map_nodes.specs.Damages.{AreTold, AskedSince, AsksOnly, IsRefusedTake};
+ghost use Rattle.paged_map.specs.Maps.{IsMapDamaged};
 ghost use Rattle.store_rows.specs.Counted.{IsCounted};
 ghost use Rattle.store_rows.specs.Stored.{IsStored};
 ghost use Rattle.store_tables.specs.Entries.{Entries, number_of_word, place_of_key, with_place, word_cmp, word_of_number};
@@ -20,7 +20,7 @@ use store_rows::{Counted, Stored, number_bytes};
 use term_impacts::Word;
 
 impl Tables {
-    ghost use Rattle.store_tables.specs.Holding.{Holds, IsApart, IsChanged, numbers_form, places_form, table_uses, texts_form};
+    ghost use Rattle.store_tables.specs.Holding.{Holds, IsApart, IsChanged, numbers_form, places_form, texts_form};
 
     /// Puts a place at its key, and answers whether the key was there.
     ///
@@ -38,11 +38,10 @@ impl Tables {
             × IsChanged (view (P.pages pages.old) (P.count pages.old) (P.first pages.old) free) self.old
             (P.pages pages.new) (P.count pages.new) (P.first pages.new) self.new (record entries { places = with_place key.now stored.now entries.places })) }
         ensures honest { (entries : Entries) (free : List ℕ) → Holds (P.pages pages.old) self.old entries → IsApart (view (P.pages pages.old) (P.count pages.old) (P.first pages.old) free) self.old
-            → AreTold (P.pages pages.old) (P.count pages.old) → AreCounted (table_uses (P.pages pages.old) self.old) (P.count pages.old)
             → (damage : Damage) → ¬ IsErrOf result (PageFault.Damaged damage) }
         ensures damaged { AreTold (P.pages pages.old) (P.count pages.old)
             → (damage : Damage) → IsErrOf result (PageFault.Damaged damage)
-            → IsMapDamaged places_form (P.pages pages.old) (P.count pages.old) self.old.places damage
+            → (IsMapDamaged places_form (P.pages pages.old) (P.count pages.old) self.old.places damage × AskedSince (P.asked pages.old) (P.asked pages.new) damage.page)
             ⊎ IsRefusedTake (P.pages pages.new) (P.count pages.new) (P.first pages.new) damage }
         ensures own { AreTold (P.pages pages.old) (P.count pages.old)
             → AsksOnly (map_uses places_form (P.pages pages.old) self.old.places) (P.asked pages.old) (P.asked pages.new) }
@@ -75,11 +74,10 @@ impl Tables {
             × IsChanged (view (P.pages pages.old) (P.count pages.old) (P.first pages.old) free) self.old
             (P.pages pages.new) (P.count pages.new) (P.first pages.new) self.new (record entries { texts = insert_entry word_cmp entries.texts word.now number })) }
         ensures honest { (entries : Entries) (free : List ℕ) → Holds (P.pages pages.old) self.old entries → IsApart (view (P.pages pages.old) (P.count pages.old) (P.first pages.old) free) self.old
-            → AreTold (P.pages pages.old) (P.count pages.old) → AreCounted (table_uses (P.pages pages.old) self.old) (P.count pages.old)
             → (damage : Damage) → ¬ IsErrOf result (PageFault.Damaged damage) }
         ensures damaged { AreTold (P.pages pages.old) (P.count pages.old)
             → (damage : Damage) → IsErrOf result (PageFault.Damaged damage)
-            → IsMapDamaged texts_form (P.pages pages.old) (P.count pages.old) self.old.texts damage
+            → (IsMapDamaged texts_form (P.pages pages.old) (P.count pages.old) self.old.texts damage × AskedSince (P.asked pages.old) (P.asked pages.new) damage.page)
             ⊎ IsRefusedTake (P.pages pages.new) (P.count pages.new) (P.first pages.new) damage }
         ensures own { AreTold (P.pages pages.old) (P.count pages.old)
             → AsksOnly (map_uses texts_form (P.pages pages.old) self.old.texts) (P.asked pages.old) (P.asked pages.new) }
@@ -112,11 +110,10 @@ impl Tables {
             × IsChanged (view (P.pages pages.old) (P.count pages.old) (P.first pages.old) free) self.old
             (P.pages pages.new) (P.count pages.new) (P.first pages.new) self.new (record entries { numbers = insert_entry nat_cmp entries.numbers number counted.now })) }
         ensures honest { (entries : Entries) (free : List ℕ) → Holds (P.pages pages.old) self.old entries → IsApart (view (P.pages pages.old) (P.count pages.old) (P.first pages.old) free) self.old
-            → AreTold (P.pages pages.old) (P.count pages.old) → AreCounted (table_uses (P.pages pages.old) self.old) (P.count pages.old)
             → (damage : Damage) → ¬ IsErrOf result (PageFault.Damaged damage) }
         ensures damaged { AreTold (P.pages pages.old) (P.count pages.old)
             → (damage : Damage) → IsErrOf result (PageFault.Damaged damage)
-            → IsMapDamaged numbers_form (P.pages pages.old) (P.count pages.old) self.old.numbers damage
+            → (IsMapDamaged numbers_form (P.pages pages.old) (P.count pages.old) self.old.numbers damage × AskedSince (P.asked pages.old) (P.asked pages.new) damage.page)
             ⊎ IsRefusedTake (P.pages pages.new) (P.count pages.new) (P.first pages.new) damage }
         ensures own { AreTold (P.pages pages.old) (P.count pages.old)
             → AsksOnly (map_uses numbers_form (P.pages pages.old) self.old.numbers) (P.asked pages.old) (P.asked pages.new) }
