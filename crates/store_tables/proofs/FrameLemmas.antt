@@ -71,7 +71,7 @@ places-changed before old pages count first root rows entries places holds apart
         some = c.kept.some;
       };
       moves = moves-as (λ n. omega arith) (λ n. let t = texts.uses n in let m = numbers.uses n in omega arith)
-      (moves-beside (λ n. map_uses texts_form before.pages old.texts n + map_uses numbers_form before.pages old.numbers n) c.moves);
+          (moves-beside (λ n. map_uses texts_form before.pages old.texts n + map_uses numbers_form before.pages old.numbers n) c.moves);
     }
 
 -- the words by text
@@ -90,7 +90,7 @@ texts-changed before old pages count first root rows entries texts holds apart c
         some = c.kept.some;
       };
       moves = moves-as (λ n. omega arith) (λ n. let t = places.uses n in let m = numbers.uses n in omega arith)
-      (moves-beside (λ n. map_uses places_form before.pages old.places n + map_uses numbers_form before.pages old.numbers n) c.moves);
+          (moves-beside (λ n. map_uses places_form before.pages old.places n + map_uses numbers_form before.pages old.numbers n) c.moves);
     }
 
 -- the words by number
@@ -109,7 +109,7 @@ numbers-changed before old pages count first root rows entries numbers holds apa
         some = c.kept.some;
       };
       moves = moves-as (λ n. omega arith) (λ n. let t = places.uses n in let m = texts.uses n in omega arith)
-      (moves-beside (λ n. map_uses places_form before.pages old.places n + map_uses texts_form before.pages old.texts n) c.moves);
+          (moves-beside (λ n. map_uses places_form before.pages old.places n + map_uses texts_form before.pages old.texts n) c.moves);
     }
 
 -- the map of places of tables that are apart is kept
