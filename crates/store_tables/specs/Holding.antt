@@ -1,5 +1,5 @@
 -- The pages of a store's tables, and what they hold.
-use Rattle.std.specs.Prelude.{◌≡◌, ℕ, ◌+◌, ◌≤◌, List, map, All}
+use Rattle.std.specs.Prelude.{◌≡◌, ◌<◌, ℕ, ◌+◌, ◌≤◌, List, map, All}
 use Rattle.std.proofs.Common.{lit≤}
 use Rattle.page_face.specs.FreeList.{PageMap}
 use Rattle.map_nodes.specs.declared.form.Form.{Form}
@@ -56,13 +56,16 @@ abbrev pub table_uses : PageMap → Tables → ℕ → ℕ
 table_uses pages tables n =
     map_uses places_form pages tables.places n + map_uses texts_form pages tables.texts n + map_uses numbers_form pages tables.numbers n
 
--- the free list ends at 0, and no page is used twice or both used and free
+-- The free list ends at 0, no page is used twice or both used and free, each is counted, and none is page 0.
 pub record IsApart (v : View) (tables : Tables) : Type 0 where
   pub supplied : IsSupplied v
   pub once : (n : ℕ) → table_uses v.pages tables n + spare_in v n ≤ 1
+  pub away : table_uses v.pages tables 0 ≡ 0
+  pub some : 0 < v.count
 
--- The tables now hold these entries. None of their pages is lost, and every page that was neither theirs nor free is as it was.
+-- The tables now hold these entries, on pages that are apart. None of their pages is lost, and every page that was neither theirs nor free is as it was.
 pub record IsChanged (before : View) (old : Tables) (pages : PageMap) (count first : ℕ) (new : Tables) (entries : Entries) : Type 0 where
   pub free : List ℕ
   pub holds : Holds pages new entries
+  pub apart : IsApart (view pages count first free) new
   pub moves : Moves before (view pages count first free) (table_uses before.pages old) (table_uses pages new)

@@ -102,6 +102,23 @@ fn places_follow_one_another(rt: HostRuntime) -> Result<(), Fail> {
 }
 
 #[test]
+fn a_place_that_was_put_is_found(rt: HostRuntime) -> Result<(), Fail> {
+    let mut pages = MemoryPages::new(rt.alloc(), 10);
+    let mut tables = tables(&mut pages, &PLACE)?;
+    let point = Point::new(5, 6).ok_or("off the map")?;
+    let stored = Stored {
+        point,
+        count: 0,
+        pairs: [(0, 0); 64],
+    };
+    assert!(rt; !tables.put_place(&mut pages, &Key::auto(1), &stored)?);
+    assert!(rt; tables.put_place(&mut pages, &Key::auto(1), &stored)?);
+    assert!(rt; tables.place(&mut pages, &Key::auto(1))? == Some(stored));
+    assert!(rt; tables.place(&mut pages, &key(&rt))?.is_some());
+    Ok(())
+}
+
+#[test]
 fn empty_tables_hold_nothing(rt: HostRuntime) -> Result<(), Fail> {
     let mut pages = MemoryPages::new(rt.alloc(), 10);
     let tables = Tables {

@@ -1,0 +1,60 @@
+//! Places that are put into the place table.
+ghost use Rattle.std.specs.Prelude.{◌≡◌, ◌⊎◌, ℕ, ◌≤◌, List, IfOk, OnErr, IsTrue, IsErrOf, is_some};
+ghost use Rattle.page_face.specs.Causes.{Rose};
+ghost use Rattle.map_nodes.specs.Supply.{view};
+ghost use Rattle.map_nodes.specs.Tree.{map_uses};
+ghost use Rattle.map_nodes.specs.Damages.{AreTold, AskedSince, AsksOnly, IsRefusedTake};
+ghost use Rattle.paged_map.specs.Maps.{IsMapDamaged};
+ghost use Rattle.store_rows.specs.Stored.{IsStored};
+ghost use Rattle.store_tables.specs.Entries.{Entries, place_of_key, with_place};
+
+use crate::Tables;
+use crate::layouts::Places;
+use crate::maps::put_row;
+use page_face::{Damage, PageFault, Pages};
+use spatial_base::Key;
+use store_rows::Stored;
+
+impl Tables {
+    ghost use Rattle.store_tables.specs.Holding.{Holds, IsApart, IsChanged, places_form};
+
+    /// Puts a place at its key, and answers whether the key was there.
+    ///
+    /// Refuses as the pages do, and `Damaged` by a rule that a page of the place table breaks, or as a take of a page refuses.
+    /// After a refusal the tables are as before, and pages may have changed.
+    pub fn put_place<P: Pages>(
+        &mut self,
+        pages: &mut P,
+        key: &Key,
+        stored: &Stored,
+    ) -> Result<bool, PageFault>
+        requires { IsStored stored.now }
+        ensures put { (entries : Entries) (free : List ℕ) → Holds (P.pages pages.old) self.old entries → IsApart (view (P.pages pages.old) (P.count pages.old) (P.first pages.old) free) self.old
+            → IfOk result (λ was. (was ≡ is_some (place_of_key key.now entries.places))
+            × IsChanged (view (P.pages pages.old) (P.count pages.old) (P.first pages.old) free) self.old
+            (P.pages pages.new) (P.count pages.new) (P.first pages.new) self.new (record entries { places = with_place key.now stored.now entries.places })) }
+        ensures honest { (entries : Entries) (free : List ℕ) → Holds (P.pages pages.old) self.old entries → IsApart (view (P.pages pages.old) (P.count pages.old) (P.first pages.old) free) self.old
+            → (damage : Damage) → ¬ IsErrOf result (PageFault.Damaged damage) }
+        ensures damaged { AreTold (P.pages pages.old) (P.count pages.old)
+            → (damage : Damage) → IsErrOf result (PageFault.Damaged damage)
+            → (IsMapDamaged places_form (P.pages pages.old) (P.count pages.old) self.old.places damage × AskedSince (P.asked pages.old) (P.asked pages.new) damage.page)
+            ⊎ IsRefusedTake (P.pages pages.new) (P.count pages.new) (P.first pages.new) damage }
+        ensures own { AreTold (P.pages pages.old) (P.count pages.old)
+            → AsksOnly (map_uses places_form (P.pages pages.old) self.old.places) (P.asked pages.old) (P.asked pages.new) }
+        ensures others { self.new ≡ record self.old { places = self.new.places } }
+        ensures kept { OnErr result (self.new ≡ self.old) }
+        ensures disk { IsErrOf result PageFault.Disk → Rose (P.faults pages.old) (P.faults pages.new) }
+        ensures no_room { IsErrOf result PageFault.NoRoom → Rose (P.refused pages.old) (P.refused pages.new) }
+        ensures stopped { IsErrOf result PageFault.Stopped → IsTrue (P.is_stopped pages.old) }
+
+        ensures room { P.room pages.new ≡ P.room pages.old }
+        ensures faults { P.faults pages.old ≤ P.faults pages.new }
+        ensures refused { P.refused pages.old ≤ P.refused pages.new }
+        ensures goes_on { P.is_stopped pages.new ≡ P.is_stopped pages.old }
+        ensures follows { P.follows_from pages.old pages.new }
+    {
+        let put = put_row::<Places, P>(pages, self.places, &key.bytes(), &stored.encode())?;
+        self.places = put.root;
+        Ok(put.was)
+    }
+}
