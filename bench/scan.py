@@ -1,0 +1,243 @@
+#!/usr/bin/env python3
+"""The plain program: answers a script by scanning a dict of places, as the definitions say.
+
+usage: bench/scan.py < SCRIPT
+
+It reads lines that are well formed, with texts of ASCII letters and digits, and says what the program irtree says of
+them. It is an oracle for tests and the slow side of a benchmark, and shares no code with the program.
+"""
+import itertools
+import json
+import math
+import re
+import sys
+from decimal import ROUND_HALF_UP, Decimal
+
+UNIT = Decimal(10) ** 7
+TOKEN = re.compile(r'\(|\)|"(?:[^"\\]|\\.)*"|[^ \t()"]+')
+
+
+def units(spelling):
+    return int((Decimal(spelling) * UNIT).to_integral_value(rounding=ROUND_HALF_UP))
+
+
+def degrees(n):
+    whole, part = divmod(n, 10**7)
+    return f"{whole}.{part:07d}"
+
+
+def dist(p, q):
+    dx, dy = p[0] - q[0], p[1] - q[1]
+    return math.isqrt(dx * dx + dy * dy)
+
+
+def impacts(text):
+    words = [word.casefold() for word in re.findall(r"[A-Za-z0-9]+", text)]
+    words = [word for word in words if len(word.encode()) <= 32]
+    kept = list(dict.fromkeys(words))[:64]
+    return {word: 1 + 254 * words.count(word) // len(words) for word in kept}
+
+
+def key_order(key):
+    return (0, key.encode(), 0) if isinstance(key, str) else (1, b"", key)
+
+
+def literal(text):
+    return json.dumps(text, ensure_ascii=False)
+
+
+def key_text(key):
+    return literal(key) if isinstance(key, str) else f"#{key}"
+
+
+def word_of(token):
+    return (json.loads(token) if token.startswith('"') else token).casefold()
+
+
+class Filter:
+    """E is one or more T joined by `or`, T one or more F joined by `and`, F is `not F`, `( E )` or a word."""
+
+    def __init__(self, tokens):
+        self.tokens = tokens
+        self.at = 0
+        self.test = self.either()
+
+    def next_is(self, word):
+        return self.at < len(self.tokens) and self.tokens[self.at] == word
+
+    def either(self):
+        left = self.both()
+        while self.next_is("or"):
+            self.at += 1
+            left = (lambda a, b: lambda words: a(words) or b(words))(left, self.both())
+        return left
+
+    def both(self):
+        left = self.one()
+        while self.next_is("and"):
+            self.at += 1
+            left = (lambda a, b: lambda words: a(words) and b(words))(left, self.one())
+        return left
+
+    def one(self):
+        token = self.tokens[self.at]
+        self.at += 1
+        if token == "not":
+            inner = self.one()
+            return lambda words: not inner(words)
+        if token == "(":
+            inner = self.either()
+            self.at += 1
+            return inner
+        word = word_of(token)
+        return lambda words: word in words
+
+
+def filter_of(tokens):
+    return Filter(tokens[1:]).test if tokens else (lambda words: True)
+
+
+class Store:
+    def __init__(self):
+        self.places = {}
+        self.order = None
+
+    def by_key(self):
+        if self.order is None:
+            self.order = sorted(self.places, key=key_order)
+        return self.order
+
+    def key(self, token):
+        if token.startswith('"'):
+            return json.loads(token)
+        return int(token[1:]) if token.startswith("#") else token
+
+    def near(self, at, keep):
+        hits = []
+        for key in self.by_key():
+            point, words = self.places[key]
+            if keep(words):
+                hits.append((dist(at, point), key_order(key), key, point))
+        hits.sort()
+        return hits
+
+    def hits(self, hits, explain):
+        yield f"= {len(hits)}"
+        for rank, (cost, _, key, point) in enumerate(hits, 1):
+            where = f" at {signed(point[0])} {signed(point[1])}" if explain else ""
+            yield f"{rank} {key_text(key)} {degrees(cost)}{where}"
+
+    def range(self, tokens, explain):
+        at, radius = (units(tokens[0]), units(tokens[1])), units(tokens[2])
+        yield from self.hits([hit for hit in self.near(at, filter_of(tokens[3:])) if hit[0] <= radius], explain)
+
+    def nearest(self, tokens, explain):
+        at = units(tokens[0]), units(tokens[1])
+        yield from self.hits(self.near(at, filter_of(tokens[3:]))[: int(tokens[2])], explain)
+
+    def box(self, tokens, explain):
+        west, south, east, north = map(units, tokens[:4])
+        keep = filter_of(tokens[4:])
+        found = []
+        for key in self.by_key():
+            (x, y), words = self.places[key]
+            if west <= x <= east and south <= y <= north and keep(words):
+                found.append((key, (x, y)))
+        yield f"= {len(found)}"
+        for rank, (key, point) in enumerate(found, 1):
+            where = f" at {signed(point[0])} {signed(point[1])}" if explain else ""
+            yield f"{rank} {key_text(key)}{where}"
+
+    def top(self, tokens, explain):
+        at, k, alpha, reach = (units(tokens[0]), units(tokens[1])), int(tokens[2]), int(tokens[3]), units(tokens[4])
+        weights = {}
+        for token in tokens[6:]:
+            word, _, weight = (token, "", "") if token.startswith('"') else token.rpartition("*")
+            weights[word_of(word or token)] = int(weight) if word else 1
+        total = sum(weights.values())
+        hits = []
+        for key in self.by_key():
+            point, words = self.places[key]
+            if any(word in words for word in weights):
+                text = sum(weight * words.get(word, 0) for word, weight in weights.items())
+                away = dist(at, point)
+                cost = alpha * away * 255 * total + (1000 - alpha) * reach * (255 * total - text)
+                hits.append((cost, key_order(key), key, point, away, text))
+        hits.sort()
+        hits = hits[:k]
+        yield f"= {len(hits)}"
+        for rank, (cost, _, key, point, away, text) in enumerate(hits, 1):
+            more = ""
+            if explain:
+                more = f" at {signed(point[0])} {signed(point[1])} dist {degrees(away)} text {text} of {255 * total}"
+            yield f"{rank} {key_text(key)} {cost}{more}"
+
+    def group(self, tokens, explain):
+        at = units(tokens[0]), units(tokens[1])
+        words = [word_of(token) for token in tokens[3:]]
+        columns = [[key for key in self.by_key() if word in self.places[key][1]] for word in words]
+        best = None
+        for choice in itertools.product(*columns):
+            points = [self.places[key][0] for key in choice]
+            far = max(dist(at, point) for point in points)
+            wide = max(dist(p, q) for p in points for q in points)
+            offer = (far + wide, [key_order(key) for key in choice], choice)
+            if best is None or offer < best:
+                best = offer
+        if best is None:
+            yield "none"
+            return
+        yield f"= {len(words)} {degrees(best[0])}"
+        for rank, (word, key) in enumerate(zip(words, best[2]), 1):
+            point = self.places[key][0]
+            where = f" at {signed(point[0])} {signed(point[1])}" if explain else ""
+            yield f"{rank} {literal(word)} {key_text(key)} {degrees(dist(at, point))}{where}"
+
+    def line(self, line):
+        tokens = TOKEN.findall(line)
+        if not tokens or tokens[0].startswith("#"):
+            return
+        command = tokens[0]
+        if command == "add":
+            key, text = self.key(tokens[1]), line.split(None, 4)
+            self.order = None if key not in self.places else self.order
+            yield "ok replaced" if key in self.places else "ok"
+            self.places[key] = (units(tokens[2]), units(tokens[3])), impacts(text[4] if len(text) > 4 else "")
+        elif command == "remove":
+            key = self.key(tokens[1])
+            if key in self.places:
+                del self.places[key]
+                self.order = None
+                yield "ok"
+            else:
+                yield "absent"
+        elif command == "count":
+            yield f"count {len(self.places)}"
+        elif command == "show":
+            key = self.key(tokens[1])
+            if key not in self.places:
+                yield "absent"
+                return
+            point, words = self.places[key]
+            yield f"place {key_text(key)} {signed(point[0])} {signed(point[1])} {len(words)}"
+            for word in sorted(words, key=str.encode):
+                yield f"{literal(word)} {words[word]}"
+        elif command == "explain":
+            yield from getattr(self, tokens[1])(tokens[2:], True)
+        else:
+            yield from getattr(self, command)(tokens[1:], False)
+
+
+def signed(n):
+    return ("-" if n < 0 else "") + degrees(abs(n))
+
+
+def main():
+    store = Store()
+    for line in sys.stdin:
+        for reply in store.line(line.rstrip("\r\n")):
+            print(reply)
+
+
+if __name__ == "__main__":
+    main()
