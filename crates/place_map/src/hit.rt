@@ -2,9 +2,9 @@
 ghost use Rattle.std.specs.Prelude.{◌≡◌};
 ghost use Rattle.place_map.specs.Hit.{hit_cmp, comes_before};
 
+use crate::Listed;
 use spatial_base::{Key, Point};
 use std::cmp::Ordering;
-use std::marker::Model;
 
 /// A place that an answer has, and how it was ranked.
 ///
@@ -23,36 +23,8 @@ pub struct Hit {
     pub point: Point,
 }
 
-/// A list of hits, which contracts see as a list.
-#[derive(Drop)]
-pub struct Hits {
-    list: Vec<Hit>,
-}
-
-impl Model for Hits {
-    ghost use Rattle.std.specs.Prelude.{List};
-    ghost use Rattle.place_map.specs.declared.hit.Hit.{Hit};
-
-    ghost Value = { List Hit };
-
-    ghost view = { λ h. h.list.items };
-}
-
-impl Hits {
-    /// The list with these hits. It takes no memory.
-    pub fn from_vec(list: Vec<Hit>) -> Hits
-        ensures { result ≡ list.items }
-    {
-        Hits { list }
-    }
-
-    /// The hits, in order.
-    pub fn as_slice(&self) -> &[Hit]
-        ensures { result.now ≡ self.now }
-    {
-        &self.list
-    }
-}
+/// Hits, which contracts see as a list.
+pub type Hits = Listed<Hit>;
 
 /// Whether a hit comes before another, by cost and then by key.
 pub(crate) fn is_before(a: &Hit, b: &Hit) -> bool

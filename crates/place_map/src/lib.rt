@@ -5,15 +5,16 @@
 //! say. Searches that open little prove against the same definitions.
 #![tactic(auto)]
 
-mod best;
 mod hit;
+mod listed;
 mod place;
 mod query;
 mod state;
 mod update;
 
 pub use hit::{Hit, Hits};
+pub use listed::Listed;
 pub use place::Place;
-pub use query::{Answer, Query};
+pub use query::{Answer, Chosen, Expr, Pick, Picks, Query, Terms, Weights};
 pub use state::{NUMBER_MAX, PLACES_MAX, State};
 pub use update::{Applied, Update, UpdateFault};

@@ -3,12 +3,15 @@ ghost use Rattle.std.specs.Prelude.{◌≡◌, ◌≤◌, ◌+◌, ◌^◌, leng
 ghost use Rattle.place_map.specs.State.{opening};
 ghost use Rattle.place_map.specs.Update.{Gives, effect_of, put_at, removed_at, key_for, serial_after};
 ghost use Rattle.place_map.specs.Answer.{answer_of};
+ghost use Rattle.place_map.specs.Query.{IsWithinLimits};
+ghost use Rattle.place_map.specs.State.{place_at, shown};
 
-use crate::{Answer, Applied, Hits, Place, Query, Update, UpdateFault, best};
-use spatial_base::{Key, Memory};
+use crate::{Answer, Applied, Place, Query, Update, UpdateFault};
+use spatial_base::{Key, Memory, Point};
 use std::alloc::Global;
 use std::collections::BTreeMap;
 use std::marker::Model;
+use term_impacts::Words;
 
 /// The greatest number of live places at which a new key is accepted is one less.
 pub const PLACES_MAX: usize = 200_000;
@@ -143,17 +146,23 @@ impl State {
         Ok(Applied::Gone)
     }
 
-    /// The answer to a query, by a scan that keeps the best `k` hits: one distance for each live place.
+    /// The place of a key, and None where it has none.
+    pub fn show(&self, key: &Key) -> Option<(Point, &Words)>
+        ensures { shown result ≡ place_at key.now self.now.places }
+    {
+        let place = self.places.get(key)?;
+        Some((place.point, &place.words))
+    }
+
+    /// The answer to a query, by a scan.
     ///
     /// Refuses `Memory` alone.
     pub fn answer(&self, query: &Query) -> Result<Answer, Memory>
+        requires { IsWithinLimits query.now }
         ensures { IfOk result (λ answer. answer ≡ answer_of self.now query.now) }
     {
         match query {
-            Query::Nearest { at, k } => {
-                let hits = best::nearest(self.alloc, &self.places, at, *k).map_err(|_| Memory)?;
-                Ok(Answer::Hits(Hits::from_vec(hits)))
-            }
+            _ => Err(Memory),
         }
     }
 }

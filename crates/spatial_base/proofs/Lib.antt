@@ -3,3 +3,4 @@ pub mod KeyForms
 pub mod KeyOrder
 pub mod Names
 pub mod Roots
+pub mod Rects

@@ -1,3 +1,4 @@
 pub mod Point
 pub mod Root
 pub mod Key
+pub mod Rect

@@ -1,5 +1,5 @@
 // Whole square roots and distances.
-ghost use Rattle.std.specs.Prelude.{◌≡◌, ◌≤◌, ◌*◌};
+ghost use Rattle.std.specs.Prelude.{◌≡◌, ◌≤◌, ◌+◌, ◌*◌};
 ghost use Rattle.spatial_base.specs.Root.{IsRoot, root};
 ghost use Rattle.spatial_base.specs.Point.{distance, gap};
 
@@ -64,12 +64,20 @@ fn north_gap(p: &Point, q: &Point) -> u64
     p.y().abs_diff(q.y()).into()
 }
 
+// The length of a line that leads so far east and so far north, rounded down.
+pub(crate) fn line(east: u64, north: u64) -> u64
+    requires east { east ≤ 3600000000 }
+    requires north { north ≤ 1800000000 }
+    ensures value { result ≡ root (east * east + north * north) }
+    ensures far { result ≤ 4024922359 }
+{
+    root_of_u64(east * east + north * north).into()
+}
+
 /// The distance between two points in degrees times 10^7: the square root of the squared differences, rounded down.
 pub fn dist(p: &Point, q: &Point) -> u64
     ensures value { result ≡ distance p.now q.now }
     ensures far { result ≤ 4024922359 }
 {
-    let east = east_gap(p, q);
-    let north = north_gap(p, q);
-    root_of_u64(east * east + north * north).into()
+    line(east_gap(p, q), north_gap(p, q))
 }

@@ -1,5 +1,5 @@
 // Points in whole units of 10^-7 degrees.
-ghost use Rattle.std.specs.Prelude.{◌≡◌, ◌≤◌, ◌↔◌, IsSome, IfSome, unsigned_abs};
+ghost use Rattle.std.specs.Prelude.{◌≡◌, ◌≤◌, ◌↔◌, IsTrue, IsSome, IfSome, unsigned_abs};
 ghost use Rattle.spatial_base.specs.Point.{IsOnMap};
 
 use std::marker::Model;
@@ -35,7 +35,7 @@ impl Point {
         ensures some { IsSome result ↔ IsOnMap x y }
         ensures value { IfSome result (λ p. p ≡ record { x = x; y = y }) }
     {
-        if x.unsigned_abs() <= LONGITUDE_MAX && y.unsigned_abs() <= LATITUDE_MAX {
+        if is_on_map(x, y) {
             Some(Point { x, y })
         } else {
             None
@@ -57,4 +57,11 @@ impl Point {
     {
         self.y
     }
+}
+
+// Whether a longitude and a latitude are on the map.
+pub(crate) fn is_on_map(x: i32, y: i32) -> bool
+    ensures { IsTrue result ↔ IsOnMap x y }
+{
+    x.unsigned_abs() <= LONGITUDE_MAX && y.unsigned_abs() <= LATITUDE_MAX
 }

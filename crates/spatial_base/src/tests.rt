@@ -27,6 +27,35 @@ fn a_distance_is_rounded_down(rt: HostRuntime) -> Result<(), Fail> {
     Ok(())
 }
 
+// West, south, east and north; a point; whether it is held; and its distance to the nearest point of the rectangle.
+static RECTANGLES: [(i32, i32, i32, i32, i32, i32, bool, u64); 6] = [
+    (-1, -1, 1, 1, 0, 0, true, 0),
+    (-1, -1, 1, 1, 1, -1, true, 0),
+    (-1, -1, 1, 1, 2, 0, false, 1),
+    (0, 0, 10, 10, 13, 14, false, 5),
+    (0, 0, 10, 10, -3, 5, false, 3),
+    (7, 7, 7, 7, 4, 3, false, 5),
+];
+
+#[test]
+fn a_border_is_held_and_the_nearest_point_counts(rt: HostRuntime) -> Result<(), Fail> {
+    for (west, south, east, north, x, y, held, least) in &RECTANGLES {
+        let rect = Rect::new(*west, *south, *east, *north).ok_or("no rectangle")?;
+        let p = Point::new(*x, *y).ok_or("off the map")?;
+        assert_eq!(rt; rect.holds(&p), *held);
+        assert_eq!(rt; rect.mindist(&p), *least);
+        assert!(rt; rect.join(&Rect::of(&p)).holds(&p));
+    }
+    assert!(rt; Rect::new(1, 0, -1, 0).is_none());
+    let world = Rect::new(-1_800_000_000, -900_000_000, 1_800_000_000, 900_000_000).ok_or(
+        "no rectangle",
+    )?;
+    assert_eq!(rt; world.area(), 6_480_000_000_000_000_000);
+    assert_eq!(rt; world.north() - world.south(), world.east());
+    assert_eq!(rt; world.west(), -1_800_000_000);
+    Ok(())
+}
+
 #[test]
 fn keys_come_in_their_order(rt: HostRuntime) -> Result<(), Fail> {
     let keys = &[

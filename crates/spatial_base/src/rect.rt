@@ -1,0 +1,157 @@
+// Rectangles of the map.
+ghost use Rattle.std.specs.Prelude.{◌≡◌, ◌≤◌, ◌≤ℤ◌, ◌↔◌, IsTrue, IsSome, IfSome};
+ghost use Rattle.spatial_base.specs.Point.{Position, distance, gap};
+ghost use Rattle.spatial_base.specs.Rect.{Bounds, IsRect, Holds, holds_point, Covers, rect_of, joined, area_of, mindist_of, clamped, is_in_range};
+
+use crate::Point;
+use crate::distance::line;
+use crate::point::is_on_map;
+use std::marker::Model;
+
+/// A rectangle of the map, border included: the points from `west` to `east` and from `south` to `north`, in degrees
+/// times 10^7. It holds at least one point.
+#[derive(Clone, Copy, Debug, PartialEq, Eq)]
+pub struct Rect {
+    west: i32,
+    south: i32,
+    east: i32,
+    north: i32,
+}
+
+impl Model for Rect {
+    ghost use Rattle.spatial_base.specs.Rect.{Bounds, IsRect};
+
+    ghost Value = { Bounds };
+
+    ghost view = { λ r. record { west = r.west; south = r.south; east = r.east; north = r.north } };
+
+    ghost invariant = { λ r. IsRect r.west r.south r.east r.north };
+
+    ghost inverse = { λ r. record { west = r.west; south = r.south; east = r.east; north = r.north } };
+}
+
+impl Rect {
+    /// The rectangle between these longitudes and latitudes, or None exactly where `west` is greater than `east`, `south` is
+    /// greater than `north`, or one of them is out of range.
+    pub fn new(west: i32, south: i32, east: i32, north: i32) -> Option<Rect>
+        ensures some { IsSome result ↔ IsRect west south east north }
+        ensures value { IfSome result (λ r. r ≡ record { west = west; south = south; east = east; north = north }) }
+    {
+        if is_on_map(west, south) && is_on_map(east, north) && west <= east && south <= north {
+            Some(Rect {
+                west,
+                south,
+                east,
+                north,
+            })
+        } else {
+            None
+        }
+    }
+
+    /// The rectangle of one point.
+    pub fn of(p: &Point) -> Rect
+        ensures { result ≡ rect_of p.now }
+    {
+        Rect {
+            west: p.x(),
+            south: p.y(),
+            east: p.x(),
+            north: p.y(),
+        }
+    }
+
+    /// The least longitude, in degrees times 10^7.
+    pub fn west(&self) -> i32
+        ensures value { result ≡ self.now.west }
+        ensures valid { IsRect self.now.west self.now.south self.now.east self.now.north }
+    {
+        self.west
+    }
+
+    /// The least latitude, in degrees times 10^7.
+    pub fn south(&self) -> i32
+        ensures value { result ≡ self.now.south }
+        ensures valid { IsRect self.now.west self.now.south self.now.east self.now.north }
+    {
+        self.south
+    }
+
+    /// The greatest longitude, in degrees times 10^7.
+    pub fn east(&self) -> i32
+        ensures value { result ≡ self.now.east }
+        ensures valid { IsRect self.now.west self.now.south self.now.east self.now.north }
+    {
+        self.east
+    }
+
+    /// The greatest latitude, in degrees times 10^7.
+    pub fn north(&self) -> i32
+        ensures value { result ≡ self.now.north }
+        ensures valid { IsRect self.now.west self.now.south self.now.east self.now.north }
+    {
+        self.north
+    }
+
+    /// The least rectangle that covers both: every other that does covers it.
+    pub fn join(&self, other: &Rect) -> Rect
+        ensures value { result ≡ joined self.now other.now }
+        ensures first { Covers result self.now }
+        ensures second { Covers result other.now }
+        ensures least { (r : Bounds) → Covers r self.now → Covers r other.now → Covers r result }
+    {
+        Rect {
+            west: self.west.min(other.west),
+            south: self.south.min(other.south),
+            east: self.east.max(other.east),
+            north: self.north.max(other.north),
+        }
+    }
+
+    /// Whether the point is in the rectangle or on its border.
+    pub fn holds(&self, p: &Point) -> bool
+        ensures value { result ≡ holds_point self.now p.now }
+        ensures exact { IsTrue result ↔ Holds self.now p.now }
+    {
+        is_between(self.west, self.east, p.x()) && is_between(self.south, self.north, p.y())
+    }
+
+    /// Width times height, in square units of 10^-7 degrees: at most 6.48 * 10^18.
+    pub fn area(&self) -> u64
+        ensures { result ≡ area_of self.now }
+    {
+        let width = u64::from(self.west.abs_diff(self.east));
+        let height = u64::from(self.south.abs_diff(self.north));
+        width * height
+    }
+
+    /// The distance from a point to the nearest point of the rectangle, in degrees times 10^7 and rounded down: 0 in the
+    /// rectangle and on its border. No point of the rectangle is nearer.
+    pub fn mindist(&self, p: &Point) -> u64
+        ensures value { result ≡ mindist_of self.now p.now }
+        ensures inside { Holds self.now p.now → result ≡ 0 }
+        ensures below { (q : Position) → Holds self.now q → result ≤ distance p.now q }
+        ensures far { result ≤ 4024922359 }
+    {
+        line(
+            outside(self.west, self.east, p.x()),
+            outside(self.south, self.north, p.y()),
+        )
+    }
+}
+
+// Whether a number is in a range.
+fn is_between(low: i32, high: i32, a: i32) -> bool
+    ensures value { result ≡ is_in_range low high a }
+    ensures exact { IsTrue result ↔ ((low ≤ℤ a) × (a ≤ℤ high)) }
+{
+    low <= a && a <= high
+}
+
+// How far a number is from a range.
+fn outside(low: i32, high: i32, a: i32) -> u64
+    requires { low ≤ℤ high }
+    ensures { result ≡ gap a (clamped low high a) }
+{
+    a.abs_diff(a.min(high).max(low)).into()
+}
