@@ -22,10 +22,14 @@ done_text done.Absent = codes "absent\n"
 abbrev pub word_line : List ℕ × ℕ → List ℕ
 word_line pair = quoted pair.0 ++ (32 ∷ (decimal pair.1 ++ 10 ∷ []))
 
+-- how many words there are, and a line for each
+abbrev pub impacts_text : List (List ℕ × ℕ) → List ℕ
+impacts_text words = decimal (length words) ++ (10 ∷ flat_map word_line words)
+
 -- `place KEY LON LAT N`, and a line for each word
 abbrev pub place_text : Name → Position → List (List ℕ × ℕ) → List ℕ
 place_text key point words =
-    codes "place " ++ (key_text key ++ (32 ∷ (point_text point ++ (32 ∷ (decimal (length words) ++ (10 ∷ flat_map word_line words))))))
+    codes "place " ++ (key_text key ++ (32 ∷ (point_text point ++ (32 ∷ impacts_text words))))
 
 -- what a reply writes
 unfoldable pub text_of_reply : Reply → List ℕ

@@ -1,6 +1,6 @@
 //! Replies and their text.
 ghost use Rattle.std.specs.Prelude.{◌≡◌, ◌++◌, OnOk, OnErr};
-ghost use Rattle.query_replies.specs.Reply.{done_text, place_text, text_of_reply, HasReason};
+ghost use Rattle.query_replies.specs.Reply.{done_text, impacts_text, place_text, text_of_reply, HasReason};
 ghost use Rattle.query_replies.specs.Written.{Adds};
 
 use crate::fault::{LineFault, reason};
@@ -87,19 +87,26 @@ fn write_done(done: UpdateDone, out: &mut Vec<u8>) -> Result<(), Memory>
     }
 }
 
+// Appends how many words there are, and a line for each.
+fn write_impacts(alloc: Global, words: &Words, out: &mut Vec<u8>) -> Result<(), Memory>
+    ensures { Adds result out.old.items (impacts_text words.now) out.new.items }
+{
+    let words = words.pairs();
+    write_number(words.len() as u64, &mut *out)?;
+    write_bytes(b"\n", &mut *out)?;
+    write_words(alloc, words, out)
+}
+
 // Appends a place.
 fn write_place(alloc: Global, key: &Key, point: &Point, words: &Words, out: &mut Vec<u8>) -> Result<(), Memory>
     ensures { Adds result out.old.items (place_text key.now point.now words.now) out.new.items }
 {
-    let words = words.pairs();
     write_bytes(b"place ", &mut *out)?;
     write_key(alloc, key, &mut *out)?;
     write_bytes(b" ", &mut *out)?;
     write_point(point, &mut *out)?;
     write_bytes(b" ", &mut *out)?;
-    write_number(words.len() as u64, &mut *out)?;
-    write_bytes(b"\n", &mut *out)?;
-    write_words(alloc, words, out)
+    write_impacts(alloc, words, out)
 }
 
 // Appends the text of a reply, or after want of memory a part of it.
