@@ -1,4 +1,8 @@
+pub mod Clauses
+pub mod Filters
 pub mod Lines
+pub mod Naming
 pub mod Numbers
-pub mod Replies
-pub mod Tokens
+pub mod Readings
+pub mod Stars
+pub mod Wording

@@ -1,5 +1,11 @@
+pub mod Degrees
+pub mod Expression
+pub mod Key
+pub mod Kinds
+pub mod Laws
 pub mod Line
 pub mod Number
+pub mod Plain
+pub mod Reader
 pub mod Reply
-pub mod Token
-pub mod Written
+pub mod Word

@@ -1,83 +1,188 @@
 -- The line that bytes stand for.
-use Rattle.std.specs.Prelude.{◌≡◌, ℕ, ◌-◌, ◌<◌, ◌&&◌, ◌==◌, nat_le, nat_lt, if◌then◌else◌, Bool, false, ℤ, pos, ◌*ℤ◌, unsigned_abs, List, [], ◌∷◌, length, take, slice_index, Option, Some, None, option_and_then, option_map, ok_or, Result, Err, codes, refl}
+use Rattle.std.specs.Prelude.{◌≡◌, ℕ, ◌-◌, ◌^◌, ◌<◌, ◌==◌, nat_lt, if◌then◌else◌, Bool, true, false, ℤ, pos, neg_ℤ, unsigned_abs, List, [], ◌∷◌, length, take, slice_index, codes, Option, Some, None, Result, Ok, Err, refl}
 use Rattle.std.proofs.lemmas.Bool.{lt-ltb}
-use Rattle.std.specs.List.{list_all}
-use Rattle.std.specs.Char.{is_ascii_alphanumeric}
 use Rattle.std.specs.Str.{bytes_eq, is_utf8}
-use Rattle.spatial_base.specs.Key.{Name, Text}
 use Rattle.spatial_base.specs.Point.{Position}
-use Rattle.place_map.specs.declared.update.Update.TheVariants.{Put}
-use Rattle.place_map.specs.declared.query.Query.TheVariants.{Nearest}
+use Rattle.spatial_base.specs.Rect.{Bounds}
+use Rattle.term_impacts.specs.Impacts.{word_impacts}
+use Rattle.place_map.specs.declared.update.Update.TheVariants as updates
+use Rattle.place_map.specs.declared.query.Expr.{Expr}
+use Rattle.place_map.specs.declared.query.Query.{Query}
+use Rattle.place_map.specs.declared.query.Query.TheVariants as queries
+use Rattle.line_tokens.specs.Token.{Token, Bare, Quoted, Open, Close, Broken, token_of, after_blanks}
+use Rattle.query_replies.specs.declared.fault.LineFault.{LineFault}
+use Rattle.query_replies.specs.declared.fault.LineFault.TheVariants as faults
 use Rattle.query_lang.specs.declared.line.Line.{Line}
-use Rattle.query_lang.specs.declared.line.Line.TheVariants.{Nothing, Do, Ask}
-use Rattle.query_lang.specs.declared.line.LineFault.{LineFault}
-use Rattle.query_lang.specs.declared.line.LineFault.TheVariants.{Form}
-use Rattle.query_lang.specs.Number.{number_of, degrees_of}
-use Rattle.query_lang.specs.Token.{tokens_of}
-
--- 1 to 64 ASCII letters and digits
-abbrev pub is_key : List ℕ → Bool
-is_key bytes = nat_le 1 (length bytes) && (nat_le (length bytes) 64 && list_all is_ascii_alphanumeric bytes)
-
--- KEY
-abbrev pub key_of : List ℕ → Option Name
-key_of bytes = if is_key bytes then Some (Text bytes) else None
-
--- LON or LAT: whole degrees, at most so many to each side of 0
-abbrev pub coordinate_of : ℕ → List ℕ → Option ℤ
-coordinate_of most bytes =
-    option_and_then (λ degrees. if nat_le (unsigned_abs degrees) most then Some (degrees *ℤ pos 10000000) else None) (degrees_of bytes)
+use Rattle.query_lang.specs.declared.line.Line.TheVariants as lines
+use Rattle.query_lang.specs.declared.command.Command.{Command}
+use Rattle.query_lang.specs.declared.command.Command.TheVariants as commands
+use Rattle.query_lang.specs.declared.command.Asked.{Asked}
+use Rattle.query_lang.specs.declared.command.Asked.TheVariants as asked
+use Rattle.query_lang.specs.Reader.{Reader, ◌>>=◌, gives, part, accepted, at_end, is_word, made}
+use Rattle.query_lang.specs.Number.{whole_of}
+use Rattle.query_lang.specs.Degrees.{degrees_of}
+use Rattle.query_lang.specs.Key.{key_of}
+use Rattle.query_lang.specs.Word.{word_of, term_of, some_words}
+use Rattle.query_lang.specs.Expression.{filter_of}
 
 -- LON LAT
-abbrev pub point_of : List ℕ → List ℕ → Option Position
-point_of longitude latitude =
-    option_and_then (λ x. option_map (λ y. record { x = x; y = y }) (coordinate_of 90 latitude)) (coordinate_of 180 longitude)
+unfoldable pub point_part : Reader Position
+point_part = do
+  x ← part (degrees_of (neg_ℤ (pos 1800000000)) (pos 1800000000))
+  y ← part (degrees_of (neg_ℤ (pos 900000000)) (pos 900000000))
+  gives record { x = x; y = y }
 
--- K: 1 to 4 digits, from 1 to 1000
-abbrev pub count_of : List ℕ → Option ℕ
-count_of bytes = option_and_then (λ k. if nat_le 1 k && nat_le k 1000 then Some k else None) (number_of 4 bytes)
+-- a query that ends with `where` and a filter, or without one
+abbrev pub filtered : (Option Expr → Query) → List ℕ → Result Query LineFault
+filtered make text = made make (filter_of text)
 
--- three tokens and no more
-abbrev pub three_of : List (List ℕ) → Option (List ℕ × List ℕ × List ℕ)
-three_of (first ∷ second ∷ third ∷ []) = Some (first, second, third)
-three_of tokens = None
+-- LON LAT R
+unfoldable pub range_query : List ℕ → Result Query LineFault
+range_query = do
+  at ← point_part
+  radius ← part (degrees_of (pos 0) (pos (10 ^ 12)))
+  filtered (queries.Range at (unsigned_abs radius))
 
--- KEY LON LAT, of `add`
-abbrev pub add_of : List ℕ × List ℕ × List ℕ → Option Line
-add_of parts =
-    option_and_then (λ key. option_map (λ point. Do (Put (Some key) point [])) (point_of parts.1 parts.2)) (key_of parts.0)
+-- W S E N
+unfoldable pub rect_part : Reader Bounds
+rect_part = do
+  west ← part (degrees_of (neg_ℤ (pos 1800000000)) (pos 1800000000))
+  south ← part (degrees_of (neg_ℤ (pos 900000000)) (pos 900000000))
+  east ← part (degrees_of west (pos 1800000000))
+  north ← part (degrees_of south (pos 900000000))
+  gives record { west = west; south = south; east = east; north = north }
 
--- LON LAT K, of `nearest`
-abbrev pub nearest_of : List ℕ × List ℕ × List ℕ → Option Line
-nearest_of parts =
-    option_and_then (λ at. option_map (λ k. Ask (Nearest at k)) (count_of parts.2)) (point_of parts.0 parts.1)
+-- W S E N, and the filter
+unfoldable pub box_query : List ℕ → Result Query LineFault
+box_query = do
+  rect ← rect_part
+  filtered (queries.Inside rect)
 
--- a comment begins with `#`
-abbrev pub is_comment : List ℕ → Bool
-is_comment [] = false
-is_comment (byte ∷ bytes) = byte == 35
+-- LON LAT K
+unfoldable pub nearest_query : List ℕ → Result Query LineFault
+nearest_query = do
+  at ← point_part
+  k ← part (whole_of 1 1000)
+  filtered (queries.Nearest at k)
 
--- the line of some tokens
-abbrev pub line_of_tokens : List (List ℕ) → Option Line
-line_of_tokens [] = Some Nothing
-line_of_tokens (command ∷ parts) =
-    if is_comment command then Some Nothing
-    else if bytes_eq command (codes "add") then option_and_then add_of (three_of parts)
-    else if bytes_eq command (codes "nearest") then option_and_then nearest_of (three_of parts)
-    else None
+-- `words`
+abbrev pub words_sign : Token → Result (Unit {0}) LineFault
+words_sign token = if is_word (codes "words") token then Ok tt else Err faults.Extra
+
+-- LON LAT K ALPHA REACH words, and the words with their weights
+unfoldable pub top_query : List ℕ → Result Query LineFault
+top_query = do
+  at ← point_part
+  k ← part (whole_of 1 1000)
+  alpha ← part (whole_of 0 1000)
+  reach ← part (degrees_of (pos 1) (pos 4024922359))
+  _ ← part words_sign
+  λ text. made (queries.Top at k alpha (unsigned_abs reach)) (some_words term_of text)
+
+-- LON LAT words, and the words
+unfoldable pub group_query : List ℕ → Result Query LineFault
+group_query = do
+  at ← point_part
+  _ ← part words_sign
+  λ text. made (queries.Group at) (some_words word_of text)
+
+-- the query behind its command
+abbrev pub query_by : Asked → List ℕ → Result Query LineFault
+query_by asked.Range = range_query
+query_by asked.Box = box_query
+query_by asked.Nearest = nearest_query
+query_by asked.Top = top_query
+query_by asked.Group = group_query
+
+-- the command that a bare token names
+abbrev pub command_named : List ℕ → Result Command LineFault
+command_named bytes =
+    if bytes_eq bytes (codes "add") then Ok commands.Add
+    else if bytes_eq bytes (codes "remove") then Ok commands.Remove
+    else if bytes_eq bytes (codes "show") then Ok commands.Show
+    else if bytes_eq bytes (codes "count") then Ok commands.Count
+    else if bytes_eq bytes (codes "explain") then Ok commands.Explain
+    else if bytes_eq bytes (codes "range") then Ok (commands.Ask asked.Range)
+    else if bytes_eq bytes (codes "box") then Ok (commands.Ask asked.Box)
+    else if bytes_eq bytes (codes "nearest") then Ok (commands.Ask asked.Nearest)
+    else if bytes_eq bytes (codes "top") then Ok (commands.Ask asked.Top)
+    else if bytes_eq bytes (codes "group") then Ok (commands.Ask asked.Group)
+    else Err faults.Command
+
+-- a token that is a command
+abbrev pub command_of : Token → Result Command LineFault
+command_of (Bare bytes) = command_named bytes
+command_of (Quoted bytes) = Err faults.Command
+command_of Open = Err faults.Command
+command_of Close = Err faults.Command
+command_of Broken = Err faults.Command
+
+-- a command that asks
+abbrev pub asks : Result Command LineFault → Result Asked LineFault
+asks (Ok (commands.Ask query)) = Ok query
+asks (Ok commands.Add) = Err faults.Command
+asks (Ok commands.Remove) = Err faults.Command
+asks (Ok commands.Show) = Err faults.Command
+asks (Ok commands.Count) = Err faults.Command
+asks (Ok commands.Explain) = Err faults.Command
+asks (Err fault) = Err fault
+
+-- a query, with or without what explains its answer
+abbrev pub ask_line : Bool → Asked → List ℕ → Result Line LineFault
+ask_line explain query text = made (λ q. lines.Ask q explain) (query_by query text)
+
+-- KEY LON LAT, and the text behind the blanks that follow
+unfoldable pub add_line : List ℕ → Result Line LineFault
+add_line = do
+  key ← part (key_of false)
+  at ← point_part
+  λ text. Ok (lines.Do (updates.Put (Some key) at (word_impacts (after_blanks text))))
+
+-- KEY
+abbrev pub remove_line : List ℕ → Result Line LineFault
+remove_line = do
+  key ← part (key_of true)
+  at_end (lines.Do (updates.Remove key))
+
+abbrev pub show_line : List ℕ → Result Line LineFault
+show_line = do
+  key ← part (key_of true)
+  at_end (lines.Show key)
+
+-- the line behind its command
+abbrev pub line_by : Command → List ℕ → Result Line LineFault
+line_by commands.Add = add_line
+line_by commands.Remove = remove_line
+line_by commands.Show = show_line
+line_by commands.Count = at_end lines.Count
+line_by commands.Explain = part (λ token. asks (command_of token)) >>= ask_line true
+line_by (commands.Ask query) = ask_line false query
+
+-- a text that says nothing: it has only blanks, or begins with `#` behind them
+abbrev pub is_silent : List ℕ → Bool
+is_silent [] = true
+is_silent (byte ∷ bytes) = byte == 35
+
+-- a command, and what it is followed by
+abbrev pub commanded : List ℕ → Result Line LineFault
+commanded = part command_of >>= line_by
+
+-- the line of a text
+unfoldable pub line_of_text : List ℕ → Result Line LineFault
+line_of_text text = if is_silent (after_blanks text) then Ok lines.Nothing else commanded text
 
 -- the bytes without one CR at the end
 abbrev pub without_cr : List ℕ → List ℕ
 without_cr bytes = if slice_index bytes (length bytes - 1) == 13 then take (length bytes - 1) bytes else bytes
 
--- the line that bytes stand for, at most 65,536 of them and UTF-8
+-- the line that bytes stand for, without their LF
 unfoldable pub line_of : List ℕ → Result Line LineFault
 line_of bytes =
-    if nat_lt 65536 (length bytes) then Err Form
-    else if is_utf8 bytes then ok_or (line_of_tokens (tokens_of (without_cr bytes))) Form
-    else Err Form
+    if nat_lt 65536 (length bytes) then Err faults.Length
+    else if is_utf8 (without_cr bytes) then line_of_text (without_cr bytes)
+    else Err faults.Utf8
 
 -- more bytes are no line
-pub line_of-long : (bytes : List ℕ) → 65536 < length bytes → line_of bytes ≡ Err Form
+pub line_of-long : (bytes : List ℕ) → 65536 < length bytes → line_of bytes ≡ Err faults.Length
 unfolding line_of
 line_of-long bytes long = rw (lt-ltb 65536 (length bytes) long) refl

@@ -1,30 +1,33 @@
--- The numbers of a line.
-use Rattle.std.specs.Prelude.{ℕ, ◌&&◌, ◌==◌, nat_le, if◌then◌else◌, Bool, false, ℤ, pos, neg_ℤ, List, [], ◌∷◌, length, Option, Some, None}
+-- Whole numbers of a line.
+use Rattle.std.specs.Prelude.{ℕ, ◌&&◌, ◌^◌, nat_le, nat_lt, if◌then◌else◌, Bool, List, length, Option, Some, None, Result, Ok, Err}
 use Rattle.std.specs.List.{list_all}
-use Rattle.std.specs.Option.{option_map}
 use Rattle.std.specs.Char.{is_ascii_digit}
 use Rattle.std.specs.Str.Parse.{digits_value}
+use Rattle.line_tokens.specs.Token.{Token, Bare, Quoted, Open, Close, Broken}
+use Rattle.query_replies.specs.declared.fault.LineFault.{LineFault}
+use Rattle.query_replies.specs.declared.fault.LineFault.TheVariants.{Number, Range}
 
--- digits, at least one and at most so many
-abbrev pub are_digits : ℕ → List ℕ → Bool
-are_digits most bytes = nat_le 1 (length bytes) && (nat_le (length bytes) most && list_all is_ascii_digit bytes)
+-- 1 to 20 digits
+abbrev pub are_digits : List ℕ → Bool
+are_digits bytes = nat_le 1 (length bytes) && (nat_le (length bytes) 20 && list_all is_ascii_digit bytes)
 
--- the number that one to so many digits write
-abbrev pub number_of : ℕ → List ℕ → Option ℕ
-number_of most bytes = if are_digits most bytes then Some (digits_value 10 bytes) else None
+-- the number that 1 to 20 digits write
+unfoldable pub number_of : List ℕ → Option ℕ
+number_of bytes = if are_digits bytes then Some (digits_value 10 bytes) else None
 
--- a `0` that other digits follow
-abbrev pub has_idle_zero : List ℕ → Bool
-has_idle_zero [] = false
-has_idle_zero (digit ∷ []) = false
-has_idle_zero (digit ∷ next ∷ digits) = digit == 48
+-- a number that has to be from low to high
+abbrev pub in_range : ℕ → ℕ → Option ℕ → Result ℕ LineFault
+in_range low high None = Err Number
+in_range low high (Some n) = if nat_le low n && nat_le n high then Ok n else Err Range
 
--- one to three digits that write a number of RFC 8259, section 6
-abbrev pub whole_of : List ℕ → Option ℕ
-whole_of bytes = if has_idle_zero bytes then None else number_of 3 bytes
+-- 1 to 20 digits that write a number from low to high
+abbrev pub number_in : ℕ → ℕ → List ℕ → Result ℕ LineFault
+number_in low high bytes = in_range low high (number_of bytes)
 
--- whole degrees, with or without `-`
-abbrev pub degrees_of : List ℕ → Option ℤ
-degrees_of [] = None
-degrees_of (byte ∷ bytes) =
-    if byte == 45 then option_map (λ n. neg_ℤ (pos n)) (whole_of bytes) else option_map pos (whole_of (byte ∷ bytes))
+-- a token that is such a number
+abbrev pub whole_of : ℕ → ℕ → Token → Result ℕ LineFault
+whole_of low high (Bare bytes) = number_in low high bytes
+whole_of low high (Quoted bytes) = Err Number
+whole_of low high Open = Err Number
+whole_of low high Close = Err Number
+whole_of low high Broken = Err Number

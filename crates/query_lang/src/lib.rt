@@ -1,17 +1,21 @@
-//! The language of scripts: which line bytes stand for, and which text a reply has.
+//! The language of scripts: which line bytes stand for.
 //!
-//! [`read_line`] answers the line that the definition `line_of` of `specs/Line.antt` gives, or that there is none.
-//! [`reply_text`] appends exactly the text that `text_of_reply` of `specs/Reply.antt` gives, or nothing.
+//! [`read_line`] answers the line that the definition `line_of` of `specs/Line.antt` gives, or the reason of its first
+//! offence from the left. What lines are answered is in the crate `query_replies`, whose names are passed on.
 #![tactic(auto)]
 
+mod clause;
+mod command;
+mod degrees;
+mod expression;
+mod key;
+mod kind;
 mod line;
 mod number;
-mod reply;
-mod token;
-mod written;
+mod part;
+mod query;
+mod word;
 
-pub use line::{LINE_MAX, Line, LineFault, read_line};
-pub use reply::{Reply, UpdateDone, reply_text};
+pub use line::{LINE_MAX, Line, read_line};
+pub use query_replies::{LineFault, Reply, UpdateDone, reply_text};
 
-#[cfg(test)]
-mod tests;

@@ -1,14 +1,20 @@
-// Lines of a script.
-ghost use Rattle.std.specs.Prelude.{◌≡◌, ◌≤◌, ◌*◌, [], Some, IfSome, option_and_then, unsigned_abs};
-ghost use Rattle.query_lang.specs.Line.{is_comment, key_of, coordinate_of, point_of, count_of, three_of, add_of, nearest_of, line_of_tokens, without_cr, line_of};
-ghost use Rattle.query_lang.specs.Token.{tokens_of};
+//! Lines of a script.
+ghost use Rattle.std.specs.Prelude.{◌≡◌, IfOk};
+ghost use Rattle.query_lang.specs.Laws as laws;
+ghost use Rattle.query_lang.specs.Line.{add_line, remove_line, show_line, ask_line, line_by, is_silent, commanded, line_of_text, without_cr, line_of};
+ghost use Rattle.query_lang.specs.Plain.{plain_line, IsSound};
+ghost use Rattle.query_lang.specs.Reader.{Answers, at_end};
 
-use crate::number::{degrees, number};
-use crate::token::{alphanumeric, next_token, three_tokens};
+use crate::command::{Asked, Command, asked_in, command_in};
+use crate::key::key;
+use crate::part::{end, next};
+use crate::query::{point_part, query};
+use line_tokens::after_blanks;
 use place_map::{Query, Update};
-use spatial_base::{Key, Point};
+use query_replies::LineFault;
+use spatial_base::Key;
 use std::alloc::Global;
-use term_impacts::Words;
+use term_impacts::impacts;
 
 /// The greatest number of bytes of a line, without its LF.
 pub const LINE_MAX: usize = 65_536;
@@ -21,112 +27,131 @@ pub enum Line {
     /// A change of the map.
     Do(Update),
     /// A question.
-    Ask(Query),
+    Ask {
+        /// What is asked.
+        query: Query,
+        /// Whether each line of the answer says where the place is, and in a top query how its cost came about.
+        explain: bool,
+    },
+    /// What is kept at a key.
+    Show(Key),
+    /// How many places live.
+    Count,
 }
 
-/// Why bytes are no line.
-#[derive(Clone, Copy, Debug, PartialEq, Eq)]
-pub enum LineFault {
-    /// They have not the form of a line.
-    Form,
-}
-
-// A key: 1 to 64 ASCII letters and digits.
-fn key(token: &[u8]) -> Option<Key>
-    ensures { result ≡ key_of token.now }
+// KEY LON LAT TEXT, of `add`.
+#[tactic(auto, unfolding(crate::specs::Line::add_line))]
+fn add(alloc: Global, text: &str) -> Result<Line, LineFault>
+    ensures says { Answers plain_line result (add_line text.now) }
+    ensures sound { IfOk result IsSound }
 {
-    Key::of_text(alphanumeric(token)?).ok()
-}
-
-// A coordinate in whole degrees, at most so many to each side of 0.
-fn coordinate(token: &[u8], most: u32) -> Option<i32>
-    requires { most ≤ 180 }
-    ensures value { result ≡ coordinate_of most token.now }
-    ensures within { IfSome result (λ x. unsigned_abs x ≤ most * 10000000) }
-{
-    let degrees = degrees(token)?;
-    if degrees.unsigned_abs() > most {
-        return None;
-    }
-    Some(degrees * 10_000_000)
-}
-
-// A longitude and a latitude.
-fn point(longitude: &[u8], latitude: &[u8]) -> Option<Point>
-    ensures { result ≡ point_of longitude.now latitude.now }
-{
-    let x = coordinate(longitude, 180)?;
-    let y = coordinate(latitude, 90)?;
-    Point::new(x, y)
-}
-
-// How many hits are asked for: 1 to 1000.
-fn count(token: &[u8]) -> Option<u16>
-    ensures { result ≡ count_of token.now }
-{
-    let k = number(token, 4)?;
-    if 1 <= k && k <= 1000 {
-        Some(k as u16)
-    } else {
-        None
-    }
-}
-
-// No words.
-fn no_words(alloc: Global) -> Option<Words>
-    ensures { result ≡ Some [] }
-{
-    Words::of_pairs(Vec::new(alloc))
-}
-
-// KEY LON LAT, of `add`.
-fn add(alloc: Global, parts: &[u8]) -> Option<Line>
-    ensures { result ≡ option_and_then add_of (three_of (tokens_of parts.now)) }
-{
-    let (name, longitude, latitude) = three_tokens(parts)?;
-    let key = key(name)?;
-    let point = point(longitude, latitude)?;
-    let words = no_words(alloc)?;
-    Some(Line::Do(Update::Put {
+    let (token, text) = next(alloc, text)?;
+    let key = key(&token, false)?;
+    let (point, text) = match point_part(alloc, text) {
+        Ok(read) => read,
+        Err(fault) => return Err(fault),
+    };
+    let words = impacts(alloc, after_blanks(text)).map_err(|_| LineFault::Memory)?;
+    Ok(Line::Do(Update::Put {
         key: Some(key),
         point,
         words,
     }))
 }
 
-// LON LAT K, of `nearest`.
-fn nearest(parts: &[u8]) -> Option<Line>
-    ensures { result ≡ option_and_then nearest_of (three_of (tokens_of parts.now)) }
+// KEY, of `remove`.
+#[tactic(auto, unfolding(crate::specs::Line::remove_line))]
+fn remove(alloc: Global, text: &str) -> Result<Line, LineFault>
+    ensures says { Answers plain_line result (remove_line text.now) }
+    ensures sound { IfOk result IsSound }
 {
-    let (longitude, latitude, k) = three_tokens(parts)?;
-    let at = point(longitude, latitude)?;
-    let k = count(k)?;
-    Some(Line::Ask(Query::Nearest { at, k }))
+    let (token, text) = next(alloc, text)?;
+    let key = key(&token, true)?;
+    end(alloc, text)?;
+    Ok(Line::Do(Update::Remove { key }))
 }
 
-// Whether a token begins a comment.
-fn is_comment(token: &[u8]) -> bool
-    ensures { result ≡ is_comment token.now }
+// KEY, of `show`.
+fn show(alloc: Global, text: &str) -> Result<Line, LineFault>
+    ensures says { Answers plain_line result (show_line text.now) }
+    ensures sound { IfOk result IsSound }
 {
-    matches!(token, [b'#', ..])
+    let (token, text) = next(alloc, text)?;
+    let key = key(&token, true)?;
+    end(alloc, text)?;
+    Ok(Line::Show(key))
 }
 
-// The line of a text, token by token.
-fn line_of_text(alloc: Global, text: &[u8]) -> Option<Line>
-    ensures { result ≡ line_of_tokens (tokens_of text.now) }
+// Nothing more, of `count`.
+fn count(alloc: Global, text: &str) -> Result<Line, LineFault>
+    ensures says { Answers plain_line result (at_end Line.Count text.now) }
+    ensures sound { IfOk result IsSound }
 {
-    let Some((command, parts)) = next_token(text) else {
-        return Some(Line::Nothing);
-    };
-    if is_comment(command) {
-        Some(Line::Nothing)
-    } else if command == b"add".as_slice() {
-        add(alloc, parts)
-    } else if command == b"nearest".as_slice() {
-        nearest(parts)
-    } else {
-        None
+    end(alloc, text)?;
+    Ok(Line::Count)
+}
+
+// A query.
+fn ask(alloc: Global, explain: bool, asked: Asked, text: &str) -> Result<Line, LineFault>
+    ensures says { Answers plain_line result (ask_line explain asked text.now) }
+    ensures sound { IfOk result IsSound }
+{
+    let query = query(alloc, asked, text)?;
+    Ok(Line::Ask { query, explain })
+}
+
+// A query whose answer is to be explained.
+fn explained(alloc: Global, text: &str) -> Result<Line, LineFault>
+    ensures says { Answers plain_line result (line_by Command.Explain text.now) }
+    ensures sound { IfOk result IsSound }
+{
+    let (token, text) = next(alloc, text)?;
+    let asked = asked_in(&token)?;
+    ask(alloc, true, asked, text)
+}
+
+// The line behind its command.
+fn line_by(alloc: Global, command: Command, text: &str) -> Result<Line, LineFault>
+    ensures says { Answers plain_line result (line_by command text.now) }
+    ensures sound { IfOk result IsSound }
+{
+    match command {
+        Command::Add => add(alloc, text),
+        Command::Remove => remove(alloc, text),
+        Command::Show => show(alloc, text),
+        Command::Count => count(alloc, text),
+        Command::Explain => explained(alloc, text),
+        Command::Ask(asked) => ask(alloc, false, asked, text),
     }
+}
+
+// Whether a text says nothing, behind its blanks.
+fn is_silent(text: &str) -> bool
+    ensures { result ≡ is_silent text.now }
+{
+    matches!(text.as_bytes(), [] | [b'#', ..])
+}
+
+// The line of a text that begins with a command.
+fn commanded(alloc: Global, text: &str) -> Result<Line, LineFault>
+    ensures says { Answers plain_line result (commanded text.now) }
+    ensures sound { IfOk result IsSound }
+{
+    let (token, text) = next(alloc, text)?;
+    let command = command_in(&token)?;
+    line_by(alloc, command, text)
+}
+
+// The line of a text.
+#[tactic(auto, unfolding(crate::specs::Line::line_of_text))]
+fn line_of_text(alloc: Global, text: &str) -> Result<Line, LineFault>
+    ensures says { Answers plain_line result (line_of_text text.now) }
+    ensures sound { IfOk result IsSound }
+{
+    if is_silent(after_blanks(text)) {
+        return Ok(Line::Nothing);
+    }
+    commanded(alloc, text)
 }
 
 // The bytes without one CR at the end.
@@ -141,22 +166,21 @@ fn without_cr(bytes: &[u8]) -> &[u8]
 
 /// The line that bytes stand for, without their LF.
 ///
-/// Tokens are separated by spaces and tabs, and one CR at the end is dropped first. A line without a token, or
-/// whose first token begins with `#`, asks for nothing. `add KEY LON LAT` puts a place without words at a key of 1 to
-/// 64 ASCII letters and digits; `nearest LON LAT K` asks for the nearest places, K being 1 to 4 digits from 1 to 1000.
-/// LON and LAT are whole degrees within plus or minus 180 and 90: one to three digits, with or without `-`, as
-/// [RFC 8259](https://www.rfc-editor.org/rfc/rfc8259#section-6), section 6, writes a number.
+/// It answers the definition `line_of` of `specs/Line.antt`: a line, or the reason of its first offence from the left, `Length`
+/// before `Utf8` before all else. Contracts see a line as its plain form, since in memory the boxes of an expression stand
+/// anywhere. `Memory` alone may come instead of any answer. A query keeps the limits, and a place is put at a text key.
 ///
-/// Refuses `Form` exactly where the bytes are none of these, are no UTF-8, or are more than [`LINE_MAX`]. It reads the
-/// bytes a few times over, and takes no memory: `alloc` stands in the empty list of words.
-pub fn read_line(alloc: Global, bytes: &[u8]) -> Result<Line, LineFault>
-    ensures { result ≡ line_of bytes.now }
+/// It reads the bytes from left to right, a token at a time. Memory is taken for the words of a place, the boxes of an
+/// expression, a query's list of words, and what a literal with escapes says.
+pub fn read_line(alloc: Global, line: &[u8]) -> Result<Line, LineFault>
+    ensures says { Answers plain_line result (line_of line.now) }
+    ensures sound { IfOk result IsSound }
 {
-    if bytes.len() > LINE_MAX {
-        return Err(LineFault::Form);
+    if line.len() > LINE_MAX {
+        return Err(LineFault::Length);
     }
-    match std::str::from_utf8(bytes) {
-        Ok(_) => line_of_text(alloc, without_cr(bytes)).ok_or(LineFault::Form),
-        Err(_) => Err(LineFault::Form),
+    match std::str::from_utf8(without_cr(line)) {
+        Ok(text) => line_of_text(alloc, text),
+        Err(_) => Err(LineFault::Utf8),
     }
 }

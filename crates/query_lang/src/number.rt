@@ -1,38 +1,59 @@
-// The numbers of a line.
-ghost use Rattle.std.specs.Prelude.{◌≡◌, ◌≤◌, ◌<◌, ◌^◌, IfSome, unsigned_abs};
-ghost use Rattle.query_lang.specs.Number.{number_of, whole_of, degrees_of};
+//! Whole numbers.
+ghost use Rattle.std.specs.Prelude.{◌≡◌, ◌≤◌, ◌<◌, ◌^◌, is_some, IfSome, IfOk};
+ghost use Rattle.std.specs.List.{list_all};
+ghost use Rattle.std.specs.Char.{is_ascii_digit};
+ghost use Rattle.line_tokens.specs.Seen.{seen};
+ghost use Rattle.query_lang.specs.Number.{number_of, number_in, whole_of};
 
-use crate::token::alphanumeric;
+use line_tokens::Token;
+use query_replies::LineFault;
 
-/// The number that one to `most` digits write.
-pub(crate) fn number(token: &[u8], most: usize) -> Option<u32>
-    requires { most ≤ 9 }
-    ensures value { result ≡ number_of most token.now }
-    ensures within { IfSome result (λ n. n < 10 ^ most) }
+/// The greatest number of digits of a number.
+const DIGITS_MAX: usize = 20;
+
+// Bytes as a text, where they are ASCII digits.
+fn digits(bytes: &[u8]) -> Option<&str>
+    ensures test { is_some result ≡ list_all is_ascii_digit bytes.now }
+    ensures text { IfSome result (λ text. text.now ≡ bytes.now) }
 {
-    if token.len() > most {
+    if !bytes.iter().all(u8::is_ascii_digit) {
         return None;
     }
-    alphanumeric(token)?.parse().ok()
+    std::str::from_utf8(bytes).ok()
 }
 
-// One to three digits that write a whole number as JSON does: without a zero that other digits follow.
-fn whole(token: &[u8]) -> Option<u32>
-    ensures value { result ≡ whole_of token.now }
-    ensures within { IfSome result (λ n. n < 1000) }
+/// The number that 1 to 20 digits write.
+pub(crate) fn number(bytes: &[u8]) -> Option<u128>
+    ensures { result ≡ number_of bytes.now }
 {
-    match token {
-        [b'0', _, ..] => None,
-        _ => number(token, 3),
+    if bytes.len() > DIGITS_MAX {
+        return None;
+    }
+    digits(bytes)?.parse().ok()
+}
+
+/// The number that 1 to 20 digits write, where it is from `low` to `high`.
+pub(crate) fn number_in(bytes: &[u8], low: u16, high: u16) -> Result<u16, LineFault>
+    ensures value { result ≡ number_in low high bytes.now }
+    ensures within { IfOk result (λ n. (low ≤ n) × (n ≤ high)) }
+{
+    let Some(n) = number(bytes) else {
+        return Err(LineFault::Number);
+    };
+    if u128::from(low) <= n && n <= u128::from(high) {
+        Ok(n as u16)
+    } else {
+        Err(LineFault::Range)
     }
 }
 
-/// Whole degrees, with or without `-`.
-pub(crate) fn degrees(token: &[u8]) -> Option<i32>
-    ensures { result ≡ degrees_of token.now }
+/// The whole number that a token writes, from `low` to `high`.
+pub(crate) fn whole(token: &Token, low: u16, high: u16) -> Result<u16, LineFault>
+    ensures value { result ≡ whole_of low high (seen token.now) }
+    ensures within { IfOk result (λ n. (low ≤ n) × (n ≤ high)) }
 {
     match token {
-        [b'-', size @ ..] => Some(-(whole(size)? as i32)),
-        _ => Some(whole(token)? as i32),
+        Token::Bare(text) => number_in(text.as_bytes(), low, high),
+        _ => Err(LineFault::Number),
     }
 }

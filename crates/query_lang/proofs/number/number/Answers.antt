@@ -1,17 +1,15 @@
 use Rattle.std.proofs.Common.{sym, ◌∙◌, arith}
-use Rattle.query_lang.proofs.Numbers.{number_of-other, number_of-parsed, number_of-within}
+use Rattle.query_lang.proofs.Numbers.{number_of-long, number_of-other, number_of-parsed}
 use Rattle.query_lang.proofs.number.number.Goals as goal
 
-pub returns-in_err-alphanumeric-clause-value : goal.returns-in_err-alphanumeric-clause-value
-returns-in_err-alphanumeric-clause-value c =
-    c.from_residual.ensures ∙ sym (number_of-other c.args.most c.args.token.now (sym c.in_err-alphanumeric.ensures.test))
+pub returns-then-bytes-gt-DIGITS_MAX : goal.returns-then-bytes-gt-DIGITS_MAX
+returns-then-bytes-gt-DIGITS_MAX c = sym (number_of-long c.args.bytes.now (omega arith))
 
-pub returns-clause-value : goal.returns-clause-value
-returns-clause-value c =
-    let text = c.in_ok-alphanumeric.ensures.text in
+pub returns-in_err-digits : goal.returns-in_err-digits
+returns-in_err-digits c = c.from_residual.ensures ∙ sym (number_of-other c.args.bytes.now (sym c.in_err-digits.ensures.test))
+
+pub returns : goal.returns
+returns c =
+    let text = c.in_ok-digits.ensures.text in
     c.ok.ensures.value
-    ∙ number_of-parsed c.args.most c.args.token.now c.parse.result (omega arith) c.requires (sym c.in_ok-alphanumeric.ensures.test)
-    (rw text at c.parse.ensures.value.0)
-
-pub returns-clause-within : goal.returns-clause-within
-returns-clause-within c = rw (returns-clause-value c) (number_of-within c.args.most c.args.token.now)
+    ∙ number_of-parsed c.args.bytes.now c.parse.result (omega arith) (sym c.in_ok-digits.ensures.test) (rw text at c.parse.ensures.value.0)

@@ -1,0 +1,68 @@
+//! Commands.
+ghost use Rattle.std.specs.Prelude.{◌≡◌};
+ghost use Rattle.line_tokens.specs.Seen.{seen};
+ghost use Rattle.query_lang.specs.Line.{command_named, command_of, asks, line_of};
+ghost use Rattle.query_lang.specs.Reply.{reply_of};
+
+use line_tokens::Token;
+use query_replies::LineFault;
+
+/// What may be asked.
+#[derive(Clone, Copy)]
+pub(crate) enum Asked {
+    Range,
+    Box,
+    Nearest,
+    Top,
+    Group,
+}
+
+/// What a line may do.
+#[derive(Clone, Copy)]
+pub(crate) enum Command {
+    Add,
+    Remove,
+    Show,
+    Count,
+    Explain,
+    Ask(Asked),
+}
+
+// The command of this name.
+fn command_named(name: &str) -> Result<Command, LineFault>
+    ensures { result ≡ command_named name.now }
+{
+    match name {
+        "add" => Ok(Command::Add),
+        "remove" => Ok(Command::Remove),
+        "show" => Ok(Command::Show),
+        "count" => Ok(Command::Count),
+        "explain" => Ok(Command::Explain),
+        "range" => Ok(Command::Ask(Asked::Range)),
+        "box" => Ok(Command::Ask(Asked::Box)),
+        "nearest" => Ok(Command::Ask(Asked::Nearest)),
+        "top" => Ok(Command::Ask(Asked::Top)),
+        "group" => Ok(Command::Ask(Asked::Group)),
+        _ => Err(LineFault::Command),
+    }
+}
+
+/// The command that a token names.
+pub(crate) fn command_in(token: &Token) -> Result<Command, LineFault>
+    ensures { result ≡ command_of (seen token.now) }
+{
+    match token {
+        Token::Bare(name) => command_named(name),
+        _ => Err(LineFault::Command),
+    }
+}
+
+/// What the command that a token names asks.
+pub(crate) fn asked_in(token: &Token) -> Result<Asked, LineFault>
+    ensures { result ≡ asks (command_of (seen token.now)) }
+{
+    match command_in(token)? {
+        Command::Ask(asked) => Ok(asked),
+        _ => Err(LineFault::Command),
+    }
+}

@@ -1,0 +1,205 @@
+//! Queries.
+ghost use Rattle.std.specs.Prelude.{◌≡◌, ◌≤ℤ◌, Ok, IfOk, pos, neg_ℤ};
+ghost use Rattle.place_map.specs.Query.{IsWithinLimits};
+ghost use Rattle.query_lang.specs.Line as spec;
+ghost use Rattle.query_lang.specs.Line.{range_query, box_query, nearest_query, top_query, group_query, query_by};
+ghost use Rattle.query_lang.specs.Plain.{plain_query};
+ghost use Rattle.query_lang.specs.Reader.{Answers, part};
+
+use crate::command::Asked;
+use crate::expression::filter;
+use crate::kind::is_word;
+use crate::part::{degrees_part, next, whole_part};
+use crate::word::{terms, words};
+use place_map::{Query, Terms, Weights};
+use query_replies::LineFault;
+use spatial_base::{Point, Rect};
+use std::alloc::Global;
+
+/// The greatest longitude, in units of 10^-7 degrees.
+const LONGITUDE_MAX: i64 = 1_800_000_000;
+
+/// The greatest latitude, in units of 10^-7 degrees.
+const LATITUDE_MAX: i64 = 900_000_000;
+
+/// The greatest radius, in units of 10^-7 degrees.
+const RADIUS_MAX: i64 = 1_000_000_000_000;
+
+/// The greatest reach, in units of 10^-7 degrees: as far as two points can be apart.
+const REACH_MAX: i64 = 4_024_922_359;
+
+// The point at a longitude and a latitude.
+fn point_at(x: i64, y: i64) -> Result<Point, LineFault>
+    requires west { neg_ℤ (pos 1800000000) ≤ℤ x }
+    requires east { x ≤ℤ pos 1800000000 }
+    requires south { neg_ℤ (pos 900000000) ≤ℤ y }
+    requires north { y ≤ℤ pos 900000000 }
+    ensures { result ≡ Ok record { x = x; y = y } }
+{
+    Point::new(x as i32, y as i32).ok_or(LineFault::Range)
+}
+
+/// LON LAT, and the text behind them.
+#[tactic(auto, unfolding(crate::specs::Line::point_part))]
+pub(crate) fn point_part(alloc: Global, text: &str) -> Result<(Point, &str), LineFault>
+    ensures { Answers (λ got. (got.0, got.1.now)) result (spec.point_part text.now) }
+{
+    let (x, text) = degrees_part(alloc, -LONGITUDE_MAX, LONGITUDE_MAX, text)?;
+    let (y, text) = degrees_part(alloc, -LATITUDE_MAX, LATITUDE_MAX, text)?;
+    let point = point_at(x, y)?;
+    Ok((point, text))
+}
+
+// LON LAT R, and a filter or none.
+#[tactic(auto, unfolding(crate::specs::Line::range_query))]
+fn range(alloc: Global, text: &str) -> Result<Query, LineFault>
+    ensures says { Answers plain_query result (range_query text.now) }
+    ensures sound { IfOk result IsWithinLimits }
+{
+    let (at, text) = match point_part(alloc, text) {
+        Ok(read) => read,
+        Err(fault) => return Err(fault),
+    };
+    let (radius, text) = degrees_part(alloc, 0, RADIUS_MAX, text)?;
+    let filter = filter(alloc, text)?;
+    Ok(Query::Range {
+        at,
+        radius: radius.unsigned_abs(),
+        filter,
+    })
+}
+
+// The rectangle between two points.
+fn rect_between(corner: &Point, other: &Point) -> Result<Rect, LineFault>
+    requires across { corner.now.x ≤ℤ other.now.x }
+    requires up { corner.now.y ≤ℤ other.now.y }
+    ensures { result
+        ≡ Ok record { west = corner.now.x; south = corner.now.y; east = other.now.x; north = other.now.y } }
+{
+    Rect::new(corner.x(), corner.y(), other.x(), other.y()).ok_or(LineFault::Range)
+}
+
+// The rectangle between these longitudes and latitudes.
+fn rect_at(west: i64, south: i64, east: i64, north: i64) -> Result<Rect, LineFault>
+    requires west { neg_ℤ (pos 1800000000) ≤ℤ west }
+    requires south { neg_ℤ (pos 900000000) ≤ℤ south }
+    requires across { west ≤ℤ east }
+    requires up { south ≤ℤ north }
+    requires east { east ≤ℤ pos 1800000000 }
+    requires north { north ≤ℤ pos 900000000 }
+    ensures { result ≡ Ok record { west = west; south = south; east = east; north = north } }
+{
+    let corner = point_at(west, south)?;
+    let other = point_at(east, north)?;
+    rect_between(&corner, &other)
+}
+
+// W S E N, and the text behind them.
+#[tactic(auto, unfolding(crate::specs::Line::rect_part))]
+fn rect_part(alloc: Global, text: &str) -> Result<(Rect, &str), LineFault>
+    ensures { Answers (λ got. (got.0, got.1.now)) result (spec.rect_part text.now) }
+{
+    let (west, text) = degrees_part(alloc, -LONGITUDE_MAX, LONGITUDE_MAX, text)?;
+    let (south, text) = degrees_part(alloc, -LATITUDE_MAX, LATITUDE_MAX, text)?;
+    let (east, text) = degrees_part(alloc, west, LONGITUDE_MAX, text)?;
+    let (north, text) = degrees_part(alloc, south, LATITUDE_MAX, text)?;
+    let rect = rect_at(west, south, east, north)?;
+    Ok((rect, text))
+}
+
+// W S E N, and a filter or none.
+#[tactic(auto, unfolding(crate::specs::Line::box_query))]
+fn inside(alloc: Global, text: &str) -> Result<Query, LineFault>
+    ensures says { Answers plain_query result (box_query text.now) }
+    ensures sound { IfOk result IsWithinLimits }
+{
+    let (rect, text) = match rect_part(alloc, text) {
+        Ok(read) => read,
+        Err(fault) => return Err(fault),
+    };
+    let filter = filter(alloc, text)?;
+    Ok(Query::Inside { rect, filter })
+}
+
+// LON LAT K, and a filter or none.
+#[tactic(auto, unfolding(crate::specs::Line::nearest_query))]
+fn nearest(alloc: Global, text: &str) -> Result<Query, LineFault>
+    ensures says { Answers plain_query result (nearest_query text.now) }
+    ensures sound { IfOk result IsWithinLimits }
+{
+    let (at, text) = match point_part(alloc, text) {
+        Ok(read) => read,
+        Err(fault) => return Err(fault),
+    };
+    let (k, text) = whole_part(alloc, 1, 1000, text)?;
+    let filter = filter(alloc, text)?;
+    Ok(Query::Nearest { at, k, filter })
+}
+
+// The text behind `words`.
+fn behind_words(alloc: Global, text: &str) -> Result<&str, LineFault>
+    ensures { Answers (λ rest. (tt {0}, rest.now)) result (part spec.words_sign text.now) }
+{
+    let (token, text) = next(alloc, text)?;
+    if is_word(&token, "words") {
+        Ok(text)
+    } else {
+        Err(LineFault::Extra)
+    }
+}
+
+// LON LAT K ALPHA REACH words, and the words with their weights.
+#[tactic(auto, unfolding(crate::specs::Line::top_query))]
+fn top(alloc: Global, text: &str) -> Result<Query, LineFault>
+    ensures says { Answers plain_query result (top_query text.now) }
+    ensures sound { IfOk result IsWithinLimits }
+{
+    let (at, text) = match point_part(alloc, text) {
+        Ok(read) => read,
+        Err(fault) => return Err(fault),
+    };
+    let (k, text) = whole_part(alloc, 1, 1000, text)?;
+    let (alpha, text) = whole_part(alloc, 0, 1000, text)?;
+    let (reach, text) = degrees_part(alloc, 1, REACH_MAX, text)?;
+    let text = behind_words(alloc, text)?;
+    let words = terms(alloc, text)?;
+    Ok(Query::Top {
+        at,
+        k,
+        alpha,
+        reach: reach.unsigned_abs(),
+        words: Weights::from_vec(words),
+    })
+}
+
+// LON LAT words, and the words.
+#[tactic(auto, unfolding(crate::specs::Line::group_query))]
+fn group(alloc: Global, text: &str) -> Result<Query, LineFault>
+    ensures says { Answers plain_query result (group_query text.now) }
+    ensures sound { IfOk result IsWithinLimits }
+{
+    let (at, text) = match point_part(alloc, text) {
+        Ok(read) => read,
+        Err(fault) => return Err(fault),
+    };
+    let text = behind_words(alloc, text)?;
+    let words = words(alloc, text)?;
+    Ok(Query::Group {
+        at,
+        words: Terms::from_vec(words),
+    })
+}
+
+/// The query behind its command.
+pub(crate) fn query(alloc: Global, asked: Asked, text: &str) -> Result<Query, LineFault>
+    ensures says { Answers plain_query result (query_by asked text.now) }
+    ensures sound { IfOk result IsWithinLimits }
+{
+    match asked {
+        Asked::Range => range(alloc, text),
+        Asked::Box => inside(alloc, text),
+        Asked::Nearest => nearest(alloc, text),
+        Asked::Top => top(alloc, text),
+        Asked::Group => group(alloc, text),
+    }
+}

@@ -1,0 +1,141 @@
+//! Replies and their text.
+ghost use Rattle.std.specs.Prelude.{◌≡◌, ◌++◌, OnOk, OnErr};
+ghost use Rattle.query_replies.specs.Reply.{done_text, impacts_text, place_text, text_of_reply, HasReason};
+ghost use Rattle.query_replies.specs.Written.{Adds};
+
+use crate::fault::{LineFault, reason};
+use crate::found::write_found;
+use crate::lines::write_words;
+use crate::parts::{write_bytes, write_key, write_number, write_point};
+use place_map::{Answer, Query};
+use spatial_base::{Key, Memory, Point};
+use std::alloc::Global;
+use term_impacts::Words;
+
+/// What an accepted update is answered.
+#[derive(Clone, Copy, Debug, PartialEq, Eq)]
+pub enum UpdateDone {
+    /// The map has changed: a new place, or one taken out.
+    Ok,
+    /// A place was put at a key that had one.
+    Replaced,
+    /// There was no such key.
+    Absent,
+}
+
+/// What a line is answered.
+#[derive(Drop)]
+pub enum Reply {
+    /// No byte.
+    Nothing,
+    /// An update was accepted.
+    Applied(UpdateDone),
+    /// 200,000 places live, and the key is new.
+    Full,
+    /// The update number is 2^40.
+    Worn,
+    /// The line is refused.
+    Bad(LineFault),
+    /// The answer to a query.
+    Found {
+        /// The answer.
+        answer: Answer,
+        /// The query.
+        query: Query,
+        /// Whether each line says where the place is, and in a top query how its cost came about.
+        explain: bool,
+    },
+    /// A place that was asked for.
+    Place {
+        /// Its key.
+        key: Key,
+        /// Where it is.
+        point: Point,
+        /// The impacts of its words.
+        words: Words,
+    },
+    /// There is no place at the key that was asked for.
+    Absent,
+    /// How many places live.
+    Count(u32),
+}
+
+/// Appends the text of a reply: whole lines that end with LF. A refusal that it says is none for want of memory.
+///
+/// An answer to a query of another kind has no byte. Refuses `Memory` alone, and then `out` holds its old bytes.
+pub fn reply_text(alloc: Global, reply: &Reply, out: &mut Vec<u8>) -> Result<(), Memory>
+    requires { HasReason reply.now }
+    ensures ok { OnOk result (out.new.items ≡ out.old.items ++ text_of_reply reply.now) }
+    ensures err { OnErr result (out.new.items ≡ out.old.items) }
+{
+    let old_len = out.len();
+    let written = write_reply(alloc, reply, &mut *out);
+    if written.is_err() {
+        out.truncate(old_len);
+    }
+    written
+}
+
+// Appends what an update is answered.
+fn write_done(done: UpdateDone, out: &mut Vec<u8>) -> Result<(), Memory>
+    ensures { Adds result out.old.items (done_text done) out.new.items }
+{
+    match done {
+        UpdateDone::Ok => write_bytes(b"ok\n", out),
+        UpdateDone::Replaced => write_bytes(b"ok replaced\n", out),
+        UpdateDone::Absent => write_bytes(b"absent\n", out),
+    }
+}
+
+// Appends how many words there are, and a line for each.
+fn write_impacts(alloc: Global, words: &Words, out: &mut Vec<u8>) -> Result<(), Memory>
+    ensures { Adds result out.old.items (impacts_text words.now) out.new.items }
+{
+    let words = words.pairs();
+    write_number(words.len() as u64, &mut *out)?;
+    write_bytes(b"\n", &mut *out)?;
+    write_words(alloc, words, out)
+}
+
+// Appends a place.
+fn write_place(alloc: Global, key: &Key, point: &Point, words: &Words, out: &mut Vec<u8>) -> Result<(), Memory>
+    ensures { Adds result out.old.items (place_text key.now point.now words.now) out.new.items }
+{
+    write_bytes(b"place ", &mut *out)?;
+    write_key(alloc, key, &mut *out)?;
+    write_bytes(b" ", &mut *out)?;
+    write_point(point, &mut *out)?;
+    write_bytes(b" ", &mut *out)?;
+    write_impacts(alloc, words, out)
+}
+
+// Appends the text of a reply, or after want of memory a part of it.
+#[tactic(auto, unfolding(crate::specs::Reply::text_of_reply))]
+fn write_reply(alloc: Global, reply: &Reply, out: &mut Vec<u8>) -> Result<(), Memory>
+    requires { HasReason reply.now }
+    ensures { Adds result out.old.items (text_of_reply reply.now) out.new.items }
+{
+    match reply {
+        Reply::Nothing => Ok(()),
+        Reply::Applied(done) => write_done(*done, out),
+        Reply::Full => write_bytes(b"full\n", out),
+        Reply::Worn => write_bytes(b"worn\n", out),
+        Reply::Bad(fault) => {
+            write_bytes(b"bad ", &mut *out)?;
+            write_bytes(reason(*fault), &mut *out)?;
+            write_bytes(b"\n", out)
+        }
+        Reply::Found {
+            answer,
+            query,
+            explain,
+        } => write_found(alloc, *explain, query, answer, out),
+        Reply::Place { key, point, words } => write_place(alloc, key, point, words, out),
+        Reply::Absent => write_bytes(b"absent\n", out),
+        Reply::Count(n) => {
+            write_bytes(b"count ", &mut *out)?;
+            write_number(u64::from(*n), &mut *out)?;
+            write_bytes(b"\n", out)
+        }
+    }
+}
