@@ -5,4 +5,5 @@ pub mod Jobs
 pub mod Lines
 pub mod Outcomes
 pub mod Progress
+pub mod Replies
 pub mod Standing

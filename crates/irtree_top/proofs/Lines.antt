@@ -1,9 +1,11 @@
 -- Lines that come piece by piece.
 use Rattle.std.proofs.Common.{◌≡◌, ℕ, zero, suc, ◌-◌, ◌<◌, ◌≤◌, ⊎_elim, ◌==◌, Bool, true, false, List, [], ◌∷◌, ◌++◌, length, take, min, refl, sym, ap, ◌∙◌, arith, append_assoc}
-use Rattle.std.proofs.lemmas.Bool.{cases_lt, cases_eq, eq-eqb, eqb-true, eqb-false, ne_eqb}
+use Rattle.std.specs.Prelude.{Err}
+use Rattle.std.proofs.lemmas.Bool.{lt-ltb, cases_lt, cases_eq, eq-eqb, eqb-true, eqb-false, ne_eqb}
 use Rattle.std.proofs.lemmas.List.{take_all, take_min, length-take-le}
 use Rattle.place_map.specs.State.{Contents}
-use Rattle.query_lang.specs.Line.{line_of, line_of-long}
+use Rattle.query_replies.specs.declared.fault.LineFault.TheVariants.{Length}
+use Rattle.query_lang.specs.Line.{line_of}
 use Rattle.irtree_top.specs.Turn.{Turn, followed}
 use Rattle.irtree_top.specs.Script.{Cut, cut, behind, turn, turn_of, script}
 use Rattle.irtree_top.specs.Feed.{kept, EndsNoLine}
@@ -25,6 +27,11 @@ take-room (suc room) (byte ∷ line) part n l e = ap (λ l. byte ∷ l) (take-ro
 take-none : (n : ℕ) (line : List ℕ) → take (suc n) line ≡ [] → line ≡ []
 take-none n [] e = refl
 take-none n (byte ∷ line) e = absurd (cc)
+
+-- more bytes are no line
+line_of-long : (bytes : List ℕ) → 65536 < length bytes → line_of bytes ≡ Err Length
+unfolding line_of
+line_of-long bytes long = rw (lt-ltb 65536 (length bytes) long) refl
 
 long-alike : (n : ℕ) (line : List ℕ) → 65536 < n → line_of (take n line) ≡ line_of line
 long-alike n line big = ⊎_elim

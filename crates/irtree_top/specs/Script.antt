@@ -8,10 +8,11 @@ use Rattle.place_map.specs.State.{Contents}
 use Rattle.place_map.specs.Update.{effect_of}
 use Rattle.irtree_top.specs.declared.ended.InputFault.TheVariants.{Long}
 use Rattle.query_lang.specs.declared.line.Line.{Line}
-use Rattle.query_lang.specs.declared.line.Line.TheVariants.{Nothing, Do, Ask}
-use Rattle.query_lang.specs.declared.line.LineFault.{LineFault}
+use Rattle.query_lang.specs.declared.line.Line.TheVariants.{Nothing, Do, Ask, Show, Count}
+use Rattle.query_replies.specs.declared.fault.LineFault.{LineFault}
+use Rattle.query_replies.specs.Reply.{text_of_reply}
 use Rattle.query_lang.specs.Line.{line_of}
-use Rattle.query_lang.specs.Reply.{reply_of, text_of_reply}
+use Rattle.query_lang.specs.Reply.{reply_of}
 use Rattle.irtree_top.specs.Turn.{Turn, followed, Transcript, Done, Input}
 
 -- the update, where it changed the map
@@ -26,14 +27,18 @@ changes_by update (Err fault) = []
 abbrev pub changes_of : Contents → Result Line LineFault → List Update
 changes_of state (Ok (Do update)) = changes_by update (effect_of state update).answer
 changes_of state (Ok Nothing) = []
-changes_of state (Ok (Ask query)) = []
+changes_of state (Ok (Ask query explain)) = []
+changes_of state (Ok (Show key)) = []
+changes_of state (Ok Count) = []
 changes_of state (Err fault) = []
 
 -- the state that a line leaves
 abbrev pub state_after : Contents → Result Line LineFault → Contents
 state_after state (Ok (Do update)) = (effect_of state update).state
 state_after state (Ok Nothing) = state
-state_after state (Ok (Ask query)) = state
+state_after state (Ok (Ask query explain)) = state
+state_after state (Ok (Show key)) = state
+state_after state (Ok Count) = state
 state_after state (Err fault) = state
 
 -- the turn of a line that was read so

@@ -24,6 +24,8 @@ pub use top::{run, transcript_is_one, transcript_is_some};
 pub use words::{Action, Job, WordsFault, read_words};
 
 #[cfg(test)]
+mod language_tests;
+#[cfg(test)]
 mod load_tests;
 #[cfg(test)]
 mod tests;

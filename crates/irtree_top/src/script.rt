@@ -1,8 +1,10 @@
 // A script, read piece by piece.
-ghost use Rattle.std.specs.Prelude.{◌≡◌, ◌≤◌, ◌<◌, ◌++◌, ◌∷◌, [], ℕ, List, length, take, slice_index, IsTrue, IfOk, OnOk, OnErr, IfNone, IfSome, IfErr};
+ghost use Rattle.std.specs.Prelude.{◌≡◌, ◌≤◌, ◌<◌, ◌++◌, ◌∷◌, [], ℕ, List, length, take, slice_index, IsTrue, IfOk, OnOk, OnErr, IfNone, IfSome, IfErr, Ok};
 ghost use Rattle.query_lang.specs.Line.{line_of};
-ghost use Rattle.query_lang.specs.Reply.{update_reply, reply_of};
-ghost use Rattle.place_map.specs.State.{Contents, opening};
+ghost use Rattle.query_lang.specs.Plain.{IsSound};
+ghost use Rattle.query_lang.specs.Reply.{update_reply, show_reply, reply_of};
+ghost use Rattle.query_replies.specs.Reply.{text_of_reply, HasReason};
+ghost use Rattle.place_map.specs.State.{Contents, opening, place_at};
 ghost use Rattle.place_map.specs.Update.{effect_of};
 ghost use Rattle.irtree_top.specs.Script.{turn, state_after, cut, script, last_line};
 ghost use Rattle.irtree_top.specs.Feed.{kept, EndsNoLine, text_in, state_in, HasSinkEnd};
@@ -12,8 +14,8 @@ use crate::Ended;
 use crate::say::say_all;
 use disk_model::Station;
 use place_map::{Applied, State, Update, UpdateFault};
-use query_lang::{LINE_MAX, Line, Reply, UpdateDone, read_line, reply_text};
-use spatial_base::Memory;
+use query_lang::{LINE_MAX, Line, LineFault, Reply, UpdateDone, read_line, reply_text};
+use spatial_base::{Key, Memory};
 use std::alloc::Global;
 
 /// How many bytes of a line are kept: a longer line is refused whatever its other bytes are.
@@ -31,6 +33,7 @@ pub(crate) struct Script {
 // The reply to an update, which is made.
 fn update(state: &mut State, update: Update) -> Result<Reply, Memory>
     ensures reply { IfOk result (λ reply. reply ≡ update_reply (effect_of state.old update).answer) }
+    ensures reason { IfOk result HasReason }
     ensures state { OnOk result (state.new ≡ (effect_of state.old update).state) }
 {
     match state.apply(update) {
@@ -43,16 +46,53 @@ fn update(state: &mut State, update: Update) -> Result<Reply, Memory>
     }
 }
 
+// The reply that shows what is kept at a key.
+fn show(alloc: Global, state: &State, key: Key) -> Result<Reply, Memory>
+    ensures { IfOk result (λ reply. reply ≡ show_reply key (place_at key state.now.places)) }
+{
+    match state.show(&key) {
+        Some((point, words)) => match words.copy(alloc) {
+            Ok(words) => Ok(Reply::Place { key, point, words }),
+            Err(Memory) => Err(Memory),
+        },
+        None => Ok(Reply::Absent),
+    }
+}
+
 // The reply to a line, which is acted on.
 #[tactic(auto, unfolding(query_lang::specs::Reply::reply_of))]
+fn answer(alloc: Global, state: &mut State, line: Line) -> Result<Reply, Memory>
+    requires { IsSound line }
+    ensures reply { IfOk result (λ reply. reply ≡ reply_of state.old (Ok line)) }
+    ensures state { OnOk result (state.new ≡ state_after state.old (Ok line)) }
+    ensures reason { IfOk result HasReason }
+{
+    match line {
+        Line::Nothing => Ok(Reply::Nothing),
+        Line::Do(change) => update(state, change),
+        Line::Ask { query, explain } => match state.answer(&query) {
+            Ok(answer) => Ok(Reply::Found {
+                answer,
+                query,
+                explain,
+            }),
+            Err(Memory) => Err(Memory),
+        },
+        Line::Show(key) => show(alloc, &*state, key),
+        Line::Count => Ok(Reply::Count(state.count())),
+    }
+}
+
+// The reply to what a line's bytes stand for, which is acted on.
+#[tactic(auto, unfolding(query_lang::specs::Reply::reply_of))]
 fn reply_to(alloc: Global, state: &mut State, line: &[u8]) -> Result<Reply, Memory>
-    ensures reply { IfOk result (λ reply. reply ≡ reply_of state.old (line_of line.now)) }
+    ensures reply { IfOk result (λ reply. text_of_reply reply ≡ text_of_reply (reply_of state.old (line_of line.now))) }
     ensures state { OnOk result (state.new ≡ state_after state.old (line_of line.now)) }
+    ensures reason { IfOk result HasReason }
 {
     match read_line(alloc, line) {
-        Ok(Line::Nothing) => Ok(Reply::Nothing),
-        Ok(Line::Do(change)) => update(state, change),
-        Ok(Line::Ask(query)) => Ok(Reply::Found(state.answer(&query)?)),
+        Ok(line) => answer(alloc, state, line),
+        Err(LineFault::Memory) => Err(Memory),
         Err(fault) => Ok(Reply::Bad(fault)),
     }
 }

@@ -9,7 +9,7 @@ use std::test::Fail;
 static RUN: [&str; 2] = ["-", "run"];
 
 // A script, and what is said of it.
-static SCRIPTS: [(&[u8], &[u8]); 10] = [
+static SCRIPTS: [(&[u8], &[u8]); 9] = [
     (
         b"add a 0 0\nadd b 3 4\nnearest 0 0 2\n",
         b"ok\nok\n= 2\n1 \"a\" 0.0000000\n2 \"b\" 5.0000000\n",
@@ -30,14 +30,13 @@ static SCRIPTS: [(&[u8], &[u8]); 10] = [
     ),
     (b"add a 0 0\nnearest 0 0 1", b"ok\n= 1\n1 \"a\" 0.0000000\n"),
     (
-        b"ad a 0 0\nadd a 0\nadd \xff 0 0\nadd \0 0 0\nadd a 0 0\n",
-        b"bad form\nbad form\nbad form\nbad form\nok\n",
+        b"ad a 0 0\nadd a 0\nadd \xff 0 0\nadd a 0 0\n",
+        b"bad command\nbad missing\nbad utf8\nok\n",
     ),
     (
-        b"nearest 0 0 0\nnearest 0 0 1001\n\n\xff",
-        b"bad form\nbad form\nbad form\n",
+        b"nearest 0 0 1000\nnearest 0 0 0\nnearest 0 0 1001\n\n\xff\ncount",
+        b"= 0\nbad range\nbad range\nbad utf8\ncount 0\n",
     ),
-    (b"nearest 0 0 1000\n", b"= 0\n"),
 ];
 
 static PIECES: [usize; 4] = [1, 2, 7, 65_536];
@@ -74,7 +73,7 @@ pub(crate) fn run_over(
 }
 
 // What a script says that comes in such pieces.
-fn said(alloc: Global, input: &[u8], piece: usize) -> Result<(Ended, Vec<u8>), Fail> {
+pub(crate) fn said(alloc: Global, input: &[u8], piece: usize) -> Result<(Ended, Vec<u8>), Fail> {
     let mut source = MemorySource::new(alloc, input, piece.max(1), &[]).map_err(|_| "memory")?;
     run_over(alloc, &RUN, &mut source)
 }
@@ -97,8 +96,8 @@ fn a_line_has_65536_bytes_at_most(rt: HostRuntime) -> Result<(), Fail> {
     line.extend_from_slice(b"add a 0 0")?;
     assert!(rt; said(rt.alloc(), &line, 65_536)?.1.as_slice() == b"ok\n".as_slice());
     line.push(b' ')?;
-    assert!(rt; said(rt.alloc(), &line, 65_536)?.1.as_slice() == b"bad form\n".as_slice());
-    assert!(rt; said(rt.alloc(), &line, 1_000)?.1.as_slice() == b"bad form\n".as_slice());
+    assert!(rt; said(rt.alloc(), &line, 65_536)?.1.as_slice() == b"bad length\n".as_slice());
+    assert!(rt; said(rt.alloc(), &line, 1_000)?.1.as_slice() == b"bad length\n".as_slice());
     Ok(())
 }
 
@@ -183,7 +182,7 @@ fn a_script_has_268435456_bytes_at_most(rt: HostRuntime) -> Result<(), Fail> {
     };
     let (ended, text) = run_over(rt.alloc(), &RUN, &mut most)?;
     assert!(rt; ended == Ended::Done);
-    assert!(rt; text.as_slice() == b"ok\nbad form\n".as_slice());
+    assert!(rt; text.as_slice() == b"ok\nbad length\n".as_slice());
     let mut more = Spaces {
         begun: false,
         left: INPUT_MAX - 9,
