@@ -18,4 +18,3 @@ mod word;
 
 pub use line::{LINE_MAX, Line, read_line};
 pub use query_replies::{LineFault, Reply, UpdateDone, reply_text};
-

@@ -5,7 +5,9 @@ ghost use Rattle.query_replies.specs.Found.{column_of, number_text, score_text, 
 ghost use Rattle.query_replies.specs.Written.{Adds};
 
 use crate::lines::{write_hits, write_picks};
-use crate::parts::{write_at, write_bytes, write_key, write_literal, write_number, write_units, write_wide};
+use crate::parts::{
+    write_at, write_bytes, write_key, write_literal, write_number, write_units, write_wide,
+};
 use place_map::{Answer, Chosen, Hit, Pick, Query};
 use spatial_base::Memory;
 use std::alloc::Global;
@@ -101,7 +103,12 @@ pub(crate) fn write_hit(
 }
 
 /// Appends what the line of a pick says behind its rank.
-pub(crate) fn write_pick(alloc: Global, explain: bool, pick: &Pick, out: &mut Vec<u8>) -> Result<(), Memory>
+pub(crate) fn write_pick(
+    alloc: Global,
+    explain: bool,
+    pick: &Pick,
+    out: &mut Vec<u8>,
+) -> Result<(), Memory>
     ensures { Adds result out.old.items (pick_text explain pick.now) out.new.items }
 {
     write_literal(alloc, pick.word.text(), &mut *out)?;
@@ -129,7 +136,12 @@ fn write_hits_found(
 }
 
 // Appends the choice of a group query, or that there is none.
-fn write_chosen(alloc: Global, explain: bool, chosen: &Option<Chosen>, out: &mut Vec<u8>) -> Result<(), Memory>
+fn write_chosen(
+    alloc: Global,
+    explain: bool,
+    chosen: &Option<Chosen>,
+    out: &mut Vec<u8>,
+) -> Result<(), Memory>
     ensures { Adds result out.old.items (group_text explain chosen.now) out.new.items }
 {
     let Some(chosen) = chosen else {

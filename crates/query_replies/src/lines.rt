@@ -91,7 +91,11 @@ fn write_word(alloc: Global, word: &Word, impact: u8, out: &mut Vec<u8>) -> Resu
 }
 
 /// Appends a line for each word.
-pub(crate) fn write_words(alloc: Global, words: &[(Word, u8)], out: &mut Vec<u8>) -> Result<(), Memory>
+pub(crate) fn write_words(
+    alloc: Global,
+    words: &[(Word, u8)],
+    out: &mut Vec<u8>,
+) -> Result<(), Memory>
     ensures { Adds result out.old.items (flat_map word_line words.now) out.new.items }
 {
     for (word, impact) in words {

@@ -98,7 +98,13 @@ fn write_impacts(alloc: Global, words: &Words, out: &mut Vec<u8>) -> Result<(), 
 }
 
 // Appends a place.
-fn write_place(alloc: Global, key: &Key, point: &Point, words: &Words, out: &mut Vec<u8>) -> Result<(), Memory>
+fn write_place(
+    alloc: Global,
+    key: &Key,
+    point: &Point,
+    words: &Words,
+    out: &mut Vec<u8>,
+) -> Result<(), Memory>
     ensures { Adds result out.old.items (place_text key.now point.now words.now) out.new.items }
 {
     write_bytes(b"place ", &mut *out)?;
