@@ -13,6 +13,3 @@ mod token;
 pub use literal::literals_are_json;
 pub use scan::{after_blanks, next_token};
 pub use token::{Quoted, Token};
-
-#[cfg(test)]
-mod tests;
