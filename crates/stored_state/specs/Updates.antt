@@ -1,0 +1,75 @@
+-- What an update does to the entries of the tables.
+use Rattle.std.specs.Prelude.{ℕ, ◌-◌, ◌==◌, Bool, if◌then◌else◌, List, [], ◌∷◌, ◌++◌, length, replicate, fold, Option, Some, None}
+use Rattle.std.specs.BTreeMap.{insert_entry}
+use Rattle.std.specs.List.{list_any}
+use Rattle.std.specs.Ordering.{nat_cmp}
+use Rattle.spatial_base.specs.Key.{Name}
+use Rattle.spatial_base.specs.Point.{Position}
+use Rattle.store_rows.specs.declared.stored.Stored.{Stored}
+use Rattle.store_rows.specs.Pairs.{Pair}
+use Rattle.store_rows.specs.Stored.{held_pairs}
+use Rattle.store_tables.specs.Entries.{Entries, place_of_key, with_place, without_place, number_of_word}
+use Rattle.store_tables.specs.Words.{number_for, next_after, with_hold, without_hold}
+
+-- whether a number is among the pairs
+abbrev pub has_pair : ℕ → List Pair → Bool
+has_pair number pairs = list_any (λ (p : Pair). p.0 == number) pairs
+
+-- the pairs of the place at a key; none where there is no place
+abbrev pub pairs_of : Option Stored → List Pair
+pairs_of None = []
+pairs_of (Some stored) = held_pairs stored
+
+-- the entries and the next word number after a place took hold of words, and the words' numbers with their impacts
+pub record Numbered : Type 0 where
+  pub entries : Entries
+  pub next_word : ℕ
+  pub pairs : List Pair
+
+-- with one pair more
+abbrev pub with_pair : Pair → Numbered → Numbered
+with_pair pair numbered = record numbered { pairs = pair ∷ numbered.pairs }
+
+-- One place more holds each of the words, but those whose numbers the place before it held.
+abbrev pub numbered : List Pair → List (List ℕ × ℕ) → ℕ → Entries → Numbered
+numbered old [] next_word entries = record { entries = entries; next_word = next_word; pairs = [] }
+numbered old (term ∷ words) next_word entries =
+    let number = number_for term.0 next_word entries.texts in
+    with_pair (number, term.1)
+    (if has_pair number old
+    then numbered old words next_word entries
+    else numbered old words (next_after (number_of_word term.0 entries.texts) next_word) (with_hold term.0 next_word entries))
+
+-- One place less holds each word of the old pairs whose number isn't among the new ones.
+abbrev pub released_all : List Pair → List Pair → Entries → Entries
+released_all new [] entries = entries
+released_all new (pair ∷ old) entries =
+    if has_pair pair.0 new then released_all new old entries else released_all new old (without_hold pair.0 entries)
+
+-- the pairs in the order of their numbers
+abbrev pub by_number : List Pair → List Pair
+by_number pairs = fold (λ placed pair. insert_entry nat_cmp placed pair.0 pair.1) [] pairs
+
+-- a place with these pairs
+abbrev pub stored_with : Position → List Pair → Stored
+stored_with point pairs = record { point = point; count = length pairs; pairs = pairs ++ replicate (64 - length pairs) (0, 0) }
+
+-- the entries with a place put at a key, whose words have been numbered
+abbrev pub entries_with : Name → Position → List Pair → Numbered → Entries
+entries_with key point old numbered =
+    released_all numbered.pairs old
+    (record numbered.entries { places = with_place key (stored_with point (by_number numbered.pairs)) numbered.entries.places })
+
+-- the entries and the next word number after a place was put at a key, and the numbers of its words
+abbrev pub numbered_for : Name → List (List ℕ × ℕ) → ℕ → Entries → Numbered
+numbered_for key words next_word entries = numbered (pairs_of (place_of_key key entries.places)) words next_word entries
+
+-- the entries after a place was put at a key
+abbrev pub after_put : Name → Position → List (List ℕ × ℕ) → ℕ → Entries → Entries
+after_put key point words next_word entries =
+    entries_with key point (pairs_of (place_of_key key entries.places)) (numbered_for key words next_word entries)
+
+-- the entries after a key was taken out
+abbrev pub after_remove : Name → Entries → Entries
+after_remove key entries =
+    released_all [] (pairs_of (place_of_key key entries.places)) (record entries { places = without_place key entries.places })
