@@ -176,7 +176,7 @@ claimed-old claims pairs old pair known n =
         rw in_old refl
     split false other = ap (λ (b : Bool). claims n + cond (has_pair n old) 0 (cond b 1 0)) (sym (or_false (has_pair n pairs)))
 
-claimed-none : (claims : ℕ → ℕ) (old : List Pair) (n : ℕ) → claims n ≡ claimed_beside [] old claims n
+pub claimed-none : (claims : ℕ → ℕ) (old : List Pair) (n : ℕ) → claims n ≡ claimed_beside [] old claims n
 claimed-none claims old n = none (has_pair n old)
   where
     none : (b : Bool) → claims n ≡ claims n + cond b 0 0
