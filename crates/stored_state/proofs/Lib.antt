@@ -1,3 +1,5 @@
+pub mod Images
+pub mod Maps
 pub mod Numbers
 pub mod Ordered
 pub mod Pairs
