@@ -1,3 +1,4 @@
+pub mod Changes
 pub mod Images
 pub mod Maps
 pub mod Numbers

@@ -1,5 +1,5 @@
 -- Pairs in the order of their numbers, as a place has them.
-use Rattle.std.proofs.Common.{◌≡◌, ℕ, ◌+◌, ◌-◌, ◌<◌, ◌≤◌, ◌^◌, ◌==◌, Bool, true, false, cond, ◌||◌, is_some, List, [], ◌∷◌, ◌++◌, length, replicate, length-append, take_at, drop_at, fold, All, Option, Some, None, option_map, refl, sym, ap, subst, ◌∙◌, true≢false, arith}
+use Rattle.std.proofs.Common.{drop, ◌≡◌, ℕ, zero, suc, ◌+◌, ◌-◌, ◌<◌, ◌≤◌, ◌^◌, ◌==◌, Bool, true, false, cond, ◌||◌, is_some, List, [], ◌∷◌, ◌++◌, length, replicate, length-append, take_at, drop_at, fold, All, Option, Some, None, option_map, refl, sym, ap, subst, ◌∙◌, true≢false, arith}
 use Rattle.std.proofs.lemmas.Cmp.{nat_cmp_total, tied_itself}
 use Rattle.std.proofs.lemmas.List.{length-replicate}
 use Rattle.std.proofs.lemmas.List.Elements.{All-append, All-head, All-nil, All-replicate, All-tail, All-weaker}
@@ -56,6 +56,12 @@ apart-numbered numbers (t ∷ words) (p ∷ pairs) named sorted =
         let level : word_cmp t.0 t.0 ≡ Equal = tied_itself words_are_ordered.total t.0 in
         let here : word_cmp t.0 k ≡ Less = less.0 in
         (λ e. (let no : ⊥ = cc (level, here, e, same) in no), others w same ks less.1)
+
+-- those behind the first are apart
+pub apart-drop : (n : ℕ) (pairs : List Pair) → AreApart pairs → AreApart (drop n pairs)
+apart-drop zero pairs apart = apart
+apart-drop (suc n) [] apart = apart
+apart-drop (suc n) (p ∷ pairs) apart = apart-drop n pairs apart.1
 
 -- ---- in order
 

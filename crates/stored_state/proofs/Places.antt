@@ -5,6 +5,7 @@ use Rattle.std.proofs.lemmas.List.Sums.{count_by-le-length, sum_by-cons}
 use Rattle.std.proofs.lemmas.Map.Entries.{length-values_of, sum_by-insert_entry, sum_by-remove_entry}
 use Rattle.std.proofs.lemmas.Map.Keys.{sorted_from_strictly_increasing}
 use Rattle.std.specs.BTreeMap.{is_at}
+use Rattle.std.specs.List.{AllByRecursion}
 use Rattle.std.specs.List.Sorted.{IsStrictlySortedBy}
 use Rattle.std.specs.Map.{keys_of, lookup, values_of}
 use Rattle.spatial_base.specs.Key.{Name, key_cmp, key_cmp_total}
@@ -94,6 +95,18 @@ apart_found test (e ∷ places) each = here (test e.0) (apart_found test places 
 -- they are apart
 pub apart-old : (key : Name) (places : List (Name × Stored)) → All IsPlaceEntry places → AreApart (pairs_of (place_of_key key places))
 apart-old key places each = apart_found (is_at (key_cmp key)) places each
+
+-- each number of each place has a word
+pub known-each : (entries : Entries) (next_word : ℕ) → WordsAgree entries next_word → AllByRecursion (λ (e : Name × Stored). (n : ℕ) → has_pair n (held_pairs e.1) ≡ true → IsSome (word_of_number n entries.numbers)) entries.places
+known-each entries next_word agree = known entries.places (λ n claimed. known-claimed (λ m. holders m entries.places) entries.texts entries.numbers next_word n agree claimed)
+  where
+    known : (places : List (Name × Stored)) → ((n : ℕ) → 0 < holders n places → IsSome (word_of_number n entries.numbers)) → AllByRecursion (λ (e : Name × Stored). (n : ℕ) → has_pair n (held_pairs e.1) ≡ true → IsSome (word_of_number n entries.numbers)) places
+    known [] all = tt
+    known (e ∷ places) all =
+        let one = λ (n : ℕ). sum_by-cons (λ (s : Stored). cond (has_number n s) 1 0) e.1 (values_of places) in (
+          λ n held. (let here : ◌≡◌ {A = ℕ} (cond (has_pair n (held_pairs e.1)) 1 0) 1 = ap (λ b. cond b 1 0) held in all n (omega (arith, one n, here))),
+          known places (λ n claimed. all n (omega (arith, one n, claimed))),
+        )
 
 -- ---- words
 
