@@ -1,5 +1,5 @@
 -- What an update's pages stand for.
-use Rattle.std.proofs.Common.{◌≡◌, ◌⊎◌, ⊎_elim, ℕ, ◌+◌, ◌*◌, ◌<◌, ◌≤◌, ◌^◌, Bool, true, false, cond, nat_lt, is_some, List, length, All, Option, Some, None, option_map, inl, inr, refl, sym, ap, subst, subst₂, ◌∙◌, arith}
+use Rattle.std.proofs.Common.{◌≡◌, ◌⊎◌, ⊎_elim, ℕ, ◌+◌, ◌*◌, ◌<◌, ◌≤◌, ◌^◌, cond, is_some, List, length, Option, Some, None, option_map, inl, inr, refl, sym, ap, subst, subst₂, ◌∙◌, arith}
 use Rattle.std.proofs.lemmas.Bool.{cases_order, le-ltb}
 use Rattle.std.proofs.lemmas.List.{length-map}
 use Rattle.term_impacts.specs.Pairs.{IsWordMap}
@@ -8,12 +8,10 @@ use Rattle.spatial_base.specs.Point.{Position}
 use Rattle.page_face.specs.FreeList.{PageMap}
 use Rattle.page_store.specs.Superblock.{IsInRange}
 use Rattle.page_store.specs.declared.superblock.Superblock.{Superblock}
-use Rattle.map_nodes.specs.Supply.{spare, spare_in, times, uncounted, view}
+use Rattle.map_nodes.specs.Supply.{spare, uncounted, view}
 use Rattle.place_map.specs.State as states
-use Rattle.place_map.specs.declared.place.Place.{Place}
 use Rattle.store_rows.specs.declared.stored.Stored.{Stored}
-use Rattle.store_tables.specs.Coded.{IsPlaceEntry}
-use Rattle.store_tables.specs.Entries.{Entries, place_of_key, with_place, without_place}
+use Rattle.store_tables.specs.Entries.{Entries, place_of_key, without_place}
 use Rattle.store_tables.specs.Holding.{IsChanged, table_uses}
 use Rattle.stored_state.specs.Stands.{AreSound, IsBelowSerial, PagesStand, place_in, places_in, state_in, tables_in}
 use Rattle.stored_state.specs.Steps.{AreAscending}
@@ -57,9 +55,11 @@ module _ (old : Superblock) (pages : PageMap) (state : states.Contents) (stand :
     is = refl;
   }
 
+  -- the tables were in the order of their keys
   ascending : AreAscending stand.entries
   ascending = ascending-holds pages (tables_in old.head) stand.entries stand.holds
 
+  -- the state's places were those of the entries
   places-before : state.places ≡ places_in stand.entries
   places-before = ap (λ (s : states.Contents). s.places) stand.is
 

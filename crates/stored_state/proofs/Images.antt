@@ -42,6 +42,7 @@ stands-one image s t is also =
 
 -- ---- the empty store
 
+-- no value is found in nothing
 no_some : {X : Type 0} (x : X) → None ≡ Some x → ⊥
 no_some x e = cc
 
@@ -66,6 +67,7 @@ empty-holds pages = record {
   numbers = record { tree = tt; rows = refl; each = All-nil _ };
 }
 
+-- no page is used by no map, and each can be taken at most once
 few_uncounted : (n : ℕ) → 0 + (0 + uncounted 1 n) ≤ 1
 unfolding uncounted
 few_uncounted n = few (nat_lt n 1)

@@ -82,6 +82,7 @@ ascending-holds pages tables entries holds = record {
 
 -- ---- one list
 
+-- equal numbers tie
 level : {m n : ℕ} → m ≡ n → nat_cmp m n ≡ Equal
 level {m} {n} h = sym (nat_cmp_is m n Equal h)
 
@@ -132,14 +133,17 @@ point_bytes-same p q on also same =
     let y = coordinate-same p.y q.y (omega (arith, on.1)) (omega (arith, also.1)) (ap (λ (l : List ℕ). drop 4 l) same) in
     λ i. record { x = x i; y = y i }
 
+-- the first 8 bytes of a value are its point
 point_first : (stored : Stored) → take 8 (place_value stored) ≡ point_bytes stored.point
 unfolding place_value point_bytes
 point_first stored = refl
 
+-- the next is the count
 count_next : (stored : Stored) → stored.count ≡ get_or (place_value stored) 8 0
 unfolding place_value point_bytes
 count_next stored = refl
 
+-- and those behind it are the pairs
 pairs_last : (stored : Stored) → IsValue stored → flat_map pair_bytes stored.pairs ≡ take 576 (drop 9 (place_value stored))
 unfolding place_value point_bytes
 pairs_last stored value = let size = value.size in sym (take_all 576 (flat_map pair_bytes stored.pairs) (omega (arith, size, length-pairs stored.pairs)))

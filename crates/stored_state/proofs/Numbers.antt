@@ -1,5 +1,5 @@
 -- A place's words are numbered one after another.
-use Rattle.std.proofs.Common.{length, suc, take, drop, get_or, take-append-drop, drop-cons, ◌≡◌, length-append, append-nil, append_assoc, ℕ, ◌+◌, ◌<◌, ◌≤◌, ◌^◌, ◌==◌, eqb-true, Bool, true, false, cond, ◌||◌, List, [], ◌∷◌, ◌++◌, Option, Some, None, IsSome, option_map, unwrap_or, refl, sym, ap, subst, subst₂, ◌∙◌, true≢false, arith}
+use Rattle.std.proofs.Common.{length, suc, take, drop, get_or, take-append-drop, drop-cons, ◌≡◌, length-append, append-nil, append_assoc, ℕ, ◌+◌, ◌<◌, ◌≤◌, ◌^◌, ◌==◌, eqb-true, Bool, true, false, cond, ◌||◌, List, [], ◌∷◌, ◌++◌, Option, Some, None, IsSome, option_map, unwrap_or, refl, sym, ap, subst, subst₂, ◌∙◌, arith}
 use Rattle.std.proofs.lemmas.Bool.{ne_eqb}
 use Rattle.std.proofs.lemmas.Cmp.{tied_itself}
 use Rattle.std.proofs.lemmas.Map.Keys.{sorted_head, sorted_tail}
@@ -21,16 +21,14 @@ use Rattle.stored_state.proofs.Ordered.{sorted-insert}
 
 -- ---- one word
 
-no_word : (w : List ℕ) → None ≡ Some w → ⊥
+-- no word is found in nothing
+pub no_word : (w : List ℕ) → None ≡ Some w → ⊥
 no_word w e = cc
 
+-- a row with a word is one
 some_with_word : (found : Option Counted) (w : List ℕ) → option_map (λ (c : Counted). c.word) found ≡ Some w → IsSome found
 some_with_word None w e = absurd (no_word w e)
 some_with_word (Some c) w e = refl
-
-word_in_some : (found : Option Counted) → IsSome found → (w : List ℕ) × (option_map (λ (c : Counted). c.word) found ≡ Some w)
-word_in_some None e = absurd (true≢false (sym e))
-word_in_some (Some c) e = (c.word, refl)
 
 -- a number with a word is below the next one
 pub below_next : (claims : ℕ → ℕ) (texts : List (List ℕ × ℕ)) (numbers : List (ℕ × Counted)) (next_word number : ℕ) (word : List ℕ) → WordTablesAgree claims texts numbers next_word → word_at number numbers ≡ Some word → number < next_word
@@ -130,25 +128,19 @@ agree-claims claims others texts numbers next_word same agree = record {
   below = agree.below;
 }
 
+-- what one more test that fails leaves
 or_false : (b : Bool) → (b || false) ≡ b
 or_false true = refl
 or_false false = refl
 
-or_true : (b : Bool) → (b || true) ≡ true
-or_true true = refl
-or_true false = refl
-
-or_turned : (b : Bool) → (b || false) ≡ (false || b)
-or_turned true = refl
-or_turned false = refl
-
+-- one more test goes behind the others
 or_moved : (a b c d : Bool) → b ≡ (c || d) → (a || b) ≡ ((a || c) || d)
 or_moved true b c d e = refl
 or_moved false b c d e = e
 
 -- a number is among the pairs and one more where it is among them or is that one's
 pub has_pair-push : (n : ℕ) (pairs : List Pair) (pair : Pair) → has_pair n (pairs ++ pair ∷ []) ≡ (has_pair n pairs || (pair.0 == n))
-has_pair-push n [] pair = or_turned (pair.0 == n)
+has_pair-push n [] pair = or_false (pair.0 == n)
 has_pair-push n (p ∷ pairs) pair = or_moved (p.0 == n) (has_pair n (pairs ++ pair ∷ [])) (has_pair n pairs) (pair.0 == n) (has_pair-push n pairs pair)
 
 -- one claim more for a number that is among no pairs yet
@@ -176,6 +168,7 @@ claimed-old claims pairs old pair known n =
         rw in_old refl
     split false other = ap (λ (b : Bool). claims n + cond (has_pair n old) 0 (cond b 1 0)) (sym (or_false (has_pair n pairs)))
 
+-- before the first pair nothing more is claimed
 pub claimed-none : (claims : ℕ → ℕ) (old : List Pair) (n : ℕ) → claims n ≡ claimed_beside [] old claims n
 claimed-none claims old n = none (has_pair n old)
   where
@@ -199,6 +192,7 @@ numbering-start claims old entries next_word agree ascend known = record {
   few = omega arith;
 }
 
+-- what holds of each word holds of one among them
 key_inside : (P : List ℕ → Type 0) (front : List (List ℕ × ℕ)) (term : List ℕ × ℕ) (rest : List (List ℕ × ℕ)) → AllByRecursion P (keys_of (front ++ term ∷ rest)) → P term.0
 key_inside P [] term rest all = all.0
 key_inside P (t ∷ front) term rest all = key_inside P front term rest all.1
@@ -254,10 +248,12 @@ module _ (claims : ℕ → ℕ) (old : List Pair) (before : Entries) (next_word 
     few = let few = is.few in omega (arith, length-append done (term ∷ []));
   }
 
+  -- a hold lets the next number not fall
   next_rises : (f : Option ℕ) → state.next_word ≤ next_after f state.next_word
   next_rises None = omega arith
   next_rises (Some m) = omega arith
 
+  -- and raises it by one at most
   next_few : (f : Option ℕ) → next_after f state.next_word ≤ state.next_word + 1
   next_few None = omega arith
   next_few (Some m) = omega arith

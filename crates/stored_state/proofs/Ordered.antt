@@ -58,19 +58,23 @@ sorted-remove {K} {V} cmp test (e ∷ es) sorted =
       | false ↦ (each_left (λ y. cmp e.0 y ≡ Less) test es sorted.0, sorted-remove cmp test es sorted.1)
     ]
 
+-- two tests that hold
 both : (a b : Bool) → T a → T b → T (a && b)
 both true b p q = q
 both false b p q = p
 
+-- a key below all others, as a test
 below_test : {K V : Type 0} (cmp : K → K → Ordering) (k : K) (es : List (K × V)) → AllByRecursion (λ y. cmp k y ≡ Less) (keys_of es) → T (below_all cmp k es)
 below_test cmp k [] all = tt
 below_test cmp k (e ∷ es) all = both _ _ (subst (λ o. T (is_lt o)) (sym all.0) tt) (below_test cmp k es all.1)
 
+-- entries in order, as a test
 sorted_test : {K V : Type 0} (cmp : K → K → Ordering) (es : List (K × V)) → IsStrictlySortedBy cmp (keys_of es) → T (is_sorted cmp es)
 unfolding IsStrictlySortedBy
 sorted_test cmp [] sorted = tt
 sorted_test cmp (e ∷ es) sorted = both _ _ (below_test cmp e.0 es sorted.0) (sorted_test cmp es sorted.1)
 
+-- finding is looking up
 find_is : {K V : Type 0} (cmp : K → K → Ordering) (q : K) (es : List (K × V)) → find cmp q es ≡ lookup (is_at (cmp q)) es
 find_is cmp q [] = refl
 find_is cmp q (e ∷ es) = ap (cond (is_eq (cmp q e.0)) (Some e.1)) (find_is cmp q es)

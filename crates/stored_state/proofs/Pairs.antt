@@ -22,7 +22,7 @@ use Rattle.store_tables.proofs.EntryLemmas.{equal_test, insert-each}
 use Rattle.store_tables.proofs.MapLemmas.{lookup-insert, numbers_are_ordered, same_from_test, test_of_same, words_are_ordered}
 use Rattle.stored_state.specs.Updates.{has_pair, by_number, stored_with}
 use Rattle.stored_state.specs.Steps.{word_at, AreNumbered, AreApart}
-use Rattle.stored_state.proofs.Numbers.{unpaired}
+use Rattle.stored_state.proofs.Numbers.{no_word, unpaired}
 use Rattle.stored_state.proofs.Ordered.{length-insert, same_from_lookups, sorted-insert}
 
 -- ---- apart
@@ -74,6 +74,7 @@ has_pair-lookup n (p ∷ pairs) = ap (λ (b : Bool). b || has_pair n pairs) (equ
     found true e = refl
     found false e = e
 
+-- what is not found is nothing
 none_found : (found : Option ℕ) → is_some found ≡ false → found ≡ None
 none_found None e = refl
 none_found (Some x) e = absurd (true≢false e)
@@ -83,6 +84,7 @@ abbrev or_else : Option ℕ → Option ℕ → Option ℕ
 or_else None other = other
 or_else (Some x) other = Some x
 
+-- nothing else is found where there is nothing
 or_else_none : (found : Option ℕ) → or_else found None ≡ found
 or_else_none None = refl
 or_else_none (Some x) = refl
@@ -91,6 +93,7 @@ or_else_none (Some x) = refl
 abbrev placed : List Pair → List Pair → List Pair
 placed = fold (λ done pair. insert_entry nat_cmp done pair.0 pair.1)
 
+-- what is found among pairs that were put
 lookup_placed : (n : ℕ) (done pairs : List Pair) → AreApart pairs → lookup (is_at (nat_cmp n)) (placed done pairs) ≡ or_else (lookup (is_at (nat_cmp n)) pairs) (lookup (is_at (nat_cmp n)) done)
 lookup_placed n done [] apart = refl
 lookup_placed n done (p ∷ pairs) apart =
@@ -114,6 +117,7 @@ lookup-by_number n pairs apart = lookup_placed n [] pairs apart ∙ or_else_none
 pub has_pair-by_number : (n : ℕ) (pairs : List Pair) → AreApart pairs → has_pair n (by_number pairs) ≡ has_pair n pairs
 has_pair-by_number n pairs apart = has_pair-lookup n (by_number pairs) ∙ ap is_some (lookup-by_number n pairs apart) ∙ sym (has_pair-lookup n pairs)
 
+-- pairs that were put ascend
 sorted_placed : (done pairs : List Pair) → IsStrictlySortedBy nat_cmp (keys_of done) → IsStrictlySortedBy nat_cmp (keys_of (placed done pairs))
 sorted_placed done [] sorted = sorted
 sorted_placed done (p ∷ pairs) sorted = sorted_placed (insert_entry nat_cmp done p.0 p.1) pairs (sorted-insert nat_cmp_total p.0 p.1 done sorted)
@@ -123,6 +127,7 @@ pub sorted-by_number : (pairs : List Pair) → IsStrictlySortedBy nat_cmp (keys_
 unfolding IsStrictlySortedBy
 sorted-by_number pairs = sorted_placed [] pairs tt
 
+-- and are no more than those that were there and those that came
 length_placed : (done pairs : List Pair) → length (placed done pairs) ≤ length done + length pairs
 length_placed done [] = omega arith
 length_placed done (p ∷ pairs) = let rest = length_placed (insert_entry nat_cmp done p.0 p.1) pairs in omega (arith, length-insert nat_cmp p.0 p.1 done)
@@ -135,6 +140,7 @@ length-by_number pairs = let all = length_placed [] pairs in omega arith
 pub by_number-push : (pairs : List Pair) (pair : Pair) → by_number (pairs ++ pair ∷ []) ≡ insert_entry nat_cmp (by_number pairs) pair.0 pair.1
 by_number-push pairs pair = fold-append (λ done p. insert_entry nat_cmp done p.0 p.1) [] pairs (pair ∷ [])
 
+-- what holds of each pair holds of those that were put
 each_placed : (P Q : ℕ → Type 0) (done pairs : List Pair) → All (IsEntryOf P Q) done → All (IsEntryOf P Q) pairs → All (IsEntryOf P Q) (placed done pairs)
 each_placed P Q done [] all each = all
 each_placed P Q done (p ∷ pairs) all each =
@@ -155,9 +161,6 @@ impact_at (Some n) pairs = lookup (is_at (nat_cmp n)) pairs
 -- the word of a row
 abbrev word_in : Option Counted → Option (List ℕ)
 word_in = option_map (λ (c : Counted). c.word)
-
-no_word : (w : List ℕ) → None ≡ Some w → ⊥
-no_word w e = cc
 
 -- the words of pairs ascend
 sorted-words : (numbers : List (ℕ × Counted)) (pairs : List Pair) → IsStrictlySortedBy word_cmp (keys_of (words_of_pairs numbers pairs))
@@ -244,10 +247,11 @@ words-numbered numbers (t ∷ words) (p ∷ pairs) named sorted =
 pub held-stored_with : (point : Position) (pairs : List Pair) → held_pairs (stored_with point pairs) ≡ pairs
 held-stored_with point pairs = take_at pairs (replicate (64 - length pairs) (0, 0)) (length pairs) refl
 
--- a word's number and impact, of a u64 and a byte
+-- a number of a u64
 abbrev pub IsNumber : ℕ → Type 0
 IsNumber n = n < 2 ^ 64
 
+-- an impact
 abbrev pub IsImpact : ℕ → Type 0
 IsImpact i = (1 ≤ i) × (i ≤ 255)
 

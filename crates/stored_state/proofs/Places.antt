@@ -36,6 +36,7 @@ one_each : {X : Type 0} (xs : List X) → sum_by (λ x. 1) xs ≡ length xs
 one_each [] = refl
 one_each (x ∷ xs) = let rest = one_each xs in omega (arith, sum_by-cons (λ y. 1) x xs)
 
+-- a place that is found counts for one
 one_found : {X : Type 0} (found : Option X) → ◌≡◌ {A = ℕ} (unwrap_or (option_map (λ x. 1) found) 0) (cond (is_some found) 1 0)
 one_found None = refl
 one_found (Some x) = refl
@@ -84,6 +85,7 @@ known-old key entries next_word agree n held =
     let all = holders-but n key entries.places in
     known-claimed (λ m. holders m entries.places) entries.texts entries.numbers next_word n agree (omega (arith, one, all))
 
+-- the numbers of a place that is found are apart
 apart_found : (test : Name → Bool) (places : List (Name × Stored)) → All IsPlaceEntry places → AreApart (pairs_of (lookup test places))
 apart_found test [] each = tt
 apart_found test (e ∷ places) each = here (test e.0) (apart_found test places (All-tail IsPlaceEntry e places each))
@@ -110,6 +112,7 @@ known-each entries next_word agree = known entries.places (λ n claimed. known-c
 
 -- ---- words
 
+-- each row has a word
 word_of_row : (found : Option Counted) → IsSome found → (w : List ℕ) × (option_map (λ (c : Counted). c.word) found ≡ Some w)
 word_of_row None e = absurd (true≢false (sym e))
 word_of_row (Some c) e = (c.word, refl)
@@ -155,6 +158,7 @@ numbered-same old new (t ∷ words) (p ∷ pairs) same named = (
   numbered-same old new words pairs (All-tail (λ (q : Pair). word_at q.0 new ≡ word_at q.0 old) p pairs same) named.2,
 )
 
+-- a word with an impact from 1 to 255
 abbrev HasTermImpact : List ℕ × ℕ → Type 0
 HasTermImpact term = (1 ≤ term.1) × (term.1 ≤ 255)
 

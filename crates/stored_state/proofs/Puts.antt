@@ -50,9 +50,11 @@ module _ (key : Name) (point : Position) (words : List (List ℕ × ℕ)) (entri
   abbrev then : Entries
   then = record now.entries { places = with_place key stored now.entries.places }
 
+  -- the entries after the put
   abbrev after : Entries
   after = after_put key point words next_word entries
 
+  -- how many places hold a number, with it
   abbrev claims_then : ℕ → ℕ
   claims_then n = holders n (with_place key stored entries.places)
 
@@ -64,6 +66,7 @@ module _ (key : Name) (point : Position) (words : List (List ℕ × ℕ)) (entri
   pub put-next : (next_word ≤ now.next_word) × (now.next_word ≤ next_word + length words)
   put-next = (put-numbered.rises, put-numbered.few)
 
+  -- no two words have one number
   put-apart : AreApart now.pairs
   put-apart = apart-numbered now.entries.numbers words now.pairs put-numbered.named map_of_words.ascending
 
@@ -73,6 +76,7 @@ module _ (key : Name) (point : Position) (words : List (List ℕ × ℕ)) (entri
       let few = put-numbered.few in
       each-numbered (claimed_beside now.pairs old claims) now.entries.texts now.entries.numbers now.next_word put-numbered.agree (omega (arith, few, numbers_left)) words now.pairs put-numbered.named map_of_words.impacts
 
+  -- there are at most 64 of them
   put-few : length now.pairs ≤ 64
   put-few = let few = map_of_words.few in omega (arith, few, length-numbered now.entries.numbers words now.pairs put-numbered.named)
 
@@ -111,6 +115,7 @@ module _ (key : Name) (point : Position) (words : List (List ℕ × ℕ)) (entri
     places = refl;
   }
 
+  -- all old words that are left are released
   put-released : IsReleasing claims_then now.pairs then now.next_word [] after
   put-released = releasing-all claims_then now.pairs then now.next_word old then (apart-old key entries.places each) put-releasing
 
@@ -118,6 +123,7 @@ module _ (key : Name) (point : Position) (words : List (List ℕ × ℕ)) (entri
   pub put-entries : after.places ≡ with_place key stored entries.places
   put-entries = put-released.places ∙ ap (with_place key stored) put-numbered.places
 
+  -- a key below a serial is below those behind it
   later : (next : ℕ) → serial ≤ next → (k : Name) → IsBelowSerial serial k → IsBelowSerial next k
   later next le (Text bytes) below = tt
   later next le (Auto n) below = omega (arith, le, below)

@@ -11,13 +11,10 @@ use Rattle.store_tables.proofs.MapLemmas.{lookup-insert, lookup-remove, numbers_
 use Rattle.store_tables.proofs.WordLemmas.{agree-without_hold, known-claimed}
 use Rattle.stored_state.specs.Updates.{has_pair, released_all}
 use Rattle.stored_state.specs.Steps.{word_at, KeepsWords, claimed_beside, AreAscending, IsReleasing, AreApart}
-use Rattle.stored_state.proofs.Numbers.{agree-claims}
+use Rattle.stored_state.proofs.Numbers.{agree-claims, no_word}
 use Rattle.stored_state.proofs.Ordered.{sorted-insert, sorted-remove}
 
 -- ---- one word
-
-no_word : (w : List ℕ) → None ≡ Some w → ⊥
-no_word w e = cc
 
 -- after a release no number has another word than before
 pub keeps-release : (entries : Entries) (number : ℕ) → AreAscending entries → KeepsWords (without_hold number entries).numbers entries.numbers
