@@ -1,5 +1,6 @@
 pub mod Changes
 pub mod Images
+pub mod Loops
 pub mod Maps
 pub mod Numbers
 pub mod Ordered
