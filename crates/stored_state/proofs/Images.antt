@@ -109,13 +109,16 @@ empty-pages pages = record {
   is = refl;
 }
 
--- An image whose gate is closed and whose page 0 is all zeros stands for the state in which nothing was put.
-pub empty-stands : (image : Image) → image Journal 0 ≡ 0 → is_zero (page_bytes (image Pages) 0) ≡ true → Stands image opening
-empty-stands image closed zeros =
-    let area = image Pages in
+-- An image that stands for pages whose page 0 is all zeros stands for the state in which nothing was put.
+pub empty-area : (image : Image) (area : ℕ → ℕ) → StandsFor image area → is_zero (page_bytes area 0) ≡ true → Stands image opening
+empty-area image area stands zeros =
     let block : superblock_in (page_bytes area 0) ≡ empty_store = ap (λ b. cond b empty_store (fields_of (page_bytes area 0))) zeros in
     record {
       contents = contents_in area;
-      holds = record { area = area; stands = inl (closed, refl); holds = refl; page = λ range some. absurd (true≢false (sym zeros ∙ some)) };
+      holds = record { area = area; stands = stands; holds = refl; page = λ range some. absurd (true≢false (sym zeros ∙ some)) };
       stand = subst (λ (b : Superblock). PagesStand b (counted_pages b.counted (page_bytes area)) opening) (sym block) (empty-pages (counted_pages empty_store.counted (page_bytes area)));
     }
+
+-- And so does one whose gate is closed and whose page 0 is all zeros.
+pub empty-stands : (image : Image) → image Journal 0 ≡ 0 → is_zero (page_bytes (image Pages) 0) ≡ true → Stands image opening
+empty-stands image closed zeros = empty-area image (image Pages) (inl (closed, refl)) zeros

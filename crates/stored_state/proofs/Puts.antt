@@ -67,7 +67,7 @@ module _ (key : Name) (point : Position) (words : List (List ℕ × ℕ)) (entri
   put-next = (put-numbered.rises, put-numbered.few)
 
   -- no two words have one number
-  put-apart : AreApart now.pairs
+  pub put-apart : AreApart now.pairs
   put-apart = apart-numbered now.entries.numbers words now.pairs put-numbered.named map_of_words.ascending
 
   -- the pairs are a word's number and its impact each
@@ -89,7 +89,7 @@ module _ (key : Name) (point : Position) (words : List (List ℕ × ℕ)) (entri
   put-value on = value-by_number point now.pairs on put-few put-pairs
 
   -- it holds the numbers of the words
-  put-holds : (n : ℕ) → has_number n stored ≡ has_pair n now.pairs
+  pub put-holds : (n : ℕ) → has_number n stored ≡ has_pair n now.pairs
   put-holds n = ap (has_pair n) (held-stored_with point (by_number now.pairs)) ∙ has_pair-by_number n now.pairs put-apart
 
   -- what is claimed for the numbered words and the old place is claimed for the new one and the old words that are left
@@ -116,7 +116,7 @@ module _ (key : Name) (point : Position) (words : List (List ℕ × ℕ)) (entri
   }
 
   -- all old words that are left are released
-  put-released : IsReleasing claims_then now.pairs then now.next_word [] after
+  pub put-released : IsReleasing claims_then now.pairs then now.next_word [] after
   put-released = releasing-all claims_then now.pairs then now.next_word old then (apart-old key entries.places each) put-releasing
 
   -- the place is at the key, and the others stay

@@ -21,7 +21,7 @@ use Rattle.stored_state.proofs.Places.{apart-old, held-claimed, holders-but, agr
 use Rattle.stored_state.proofs.Releases.{releasing-all}
 
 -- the place at a key still holds its words, where it was taken out
-releasing-without : (key : Name) (entries : Entries) (next_word : ℕ) → WordsAgree entries next_word → AreAscending entries
+pub releasing-without : (key : Name) (entries : Entries) (next_word : ℕ) → WordsAgree entries next_word → AreAscending entries
     → IsReleasing (λ n. holders n (without_place key entries.places)) [] (record entries { places = without_place key entries.places }) next_word (pairs_of (place_of_key key entries.places)) (record entries { places = without_place key entries.places })
 releasing-without key entries next_word agree ascend = record {
   agree = agree-claims (λ n. holders n entries.places) _ entries.texts entries.numbers next_word (λ n. sym (holders-but n key entries.places)) agree;
@@ -32,7 +32,7 @@ releasing-without key entries next_word agree ascend = record {
 
 module _ (key : Name) (entries : Entries) (next_word serial : ℕ) (sound : AreSound entries next_word serial) (ascend : AreAscending entries) (each : All IsPlaceEntry entries.places) where
   -- all its words are released
-  remove-released : IsReleasing (λ n. holders n (without_place key entries.places)) [] (record entries { places = without_place key entries.places }) next_word [] (after_remove key entries)
+  pub remove-released : IsReleasing (λ n. holders n (without_place key entries.places)) [] (record entries { places = without_place key entries.places }) next_word [] (after_remove key entries)
   remove-released =
       releasing-all (λ n. holders n (without_place key entries.places)) [] _ next_word (pairs_of (place_of_key key entries.places)) _ (apart-old key entries.places each) (releasing-without key entries next_word sound.words ascend)
 
