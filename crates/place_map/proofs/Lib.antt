@@ -1,4 +1,6 @@
+pub mod Ascending
 pub mod Distinct
 pub mod Effects
 pub mod Picks
+pub mod Rows
 pub mod Scans
