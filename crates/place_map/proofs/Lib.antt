@@ -1,4 +1,7 @@
+pub mod Ascending
 pub mod Distinct
 pub mod Effects
 pub mod Picks
+pub mod Relevance
+pub mod Rows
 pub mod Scans

@@ -4,6 +4,7 @@ pub mod Group
 pub mod GroupLaws
 pub mod Hit
 pub mod Query
+pub mod Restored
 pub mod Search
 pub mod State
 pub mod Top

@@ -1,6 +1,6 @@
 // Hits, their order, and lists of them.
 ghost use Rattle.std.specs.Prelude.{◌≡◌};
-ghost use Rattle.place_map.specs.Hit.{hit_cmp, comes_before};
+ghost use Rattle.place_map.specs.Hit.{comes_before};
 
 use crate::Listed;
 use spatial_base::{Key, Point};

@@ -12,6 +12,7 @@ mod limits;
 mod listed;
 mod place;
 mod query;
+mod restored;
 mod scan;
 mod state;
 mod top;

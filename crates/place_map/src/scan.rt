@@ -7,7 +7,7 @@ ghost use Rattle.place_map.specs.Query.{IsWithinLimits, IsScale, IsWeights};
 ghost use Rattle.place_map.specs.Answer.{near_hit, near_hits, range_hits, box_hits, top_hits, hits_of};
 
 use crate::best::keep;
-use crate::top::{cost_of, has_some, relevance_of, sum_of_weights};
+use crate::top::{cost_of, relevance_of, sum_of_weights};
 use crate::{Expr, Hit, Place, Query};
 use spatial_base::{Key, Point, Rect, dist};
 use std::alloc::{AllocError, Global};
@@ -86,11 +86,11 @@ fn hit_of_top(
     requires words { IsWeights words.now }
     ensures { listed result ≡ top_hits at.now alpha reach words.now (key.now, place.now) }
 {
-    if !has_some(words, place) {
+    let text = relevance_of(words, place);
+    if text == 0 {
         return None;
     }
     let dist = dist(at, &place.point);
-    let text = relevance_of(words, place);
     Some(Hit {
         cost: cost_of(alpha, reach, sum_of_weights(words), dist, text),
         key: *key,

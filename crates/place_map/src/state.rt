@@ -1,6 +1,7 @@
 // The map of live places.
-ghost use Rattle.std.specs.Prelude.{◌≡◌, ◌≤◌, ◌+◌, ◌^◌, length, IfOk};
+ghost use Rattle.std.specs.Prelude.{◌≡◌, ◌≤◌, ◌+◌, ◌<◌, ◌↔◌, ◌^◌, length, IfOk, IfSome, IsSome};
 ghost use Rattle.place_map.specs.State.{opening};
+ghost use Rattle.place_map.specs.Restored.{AreStatePlaces, places_in};
 ghost use Rattle.place_map.specs.Update.{Gives, effect_of, put_at, removed_at, key_for, serial_after};
 ghost use Rattle.std.specs.List.{flat_map};
 ghost use Rattle.ranking.specs.First.{ranked, first};
@@ -11,6 +12,7 @@ ghost use Rattle.place_map.specs.Query.{IsWithinLimits};
 ghost use Rattle.place_map.specs.State.{place_at, shown};
 
 use crate::group::least_group;
+use crate::restored::{are_state_places, map_of};
 use crate::scan::{all_hits, first_hits};
 use crate::{Answer, Applied, Hits, Place, Query, Update, UpdateFault};
 use spatial_base::{Key, Memory, Point};
@@ -67,6 +69,33 @@ impl State {
             serial: 1,
             number,
         }
+    }
+
+    /// The state of these places with this next serial and update number, and `None` exactly where they are none of a state: where
+    /// the keys don't ascend strictly, where the serial is 0 or above the number plus 1, where the number is above 2^40, or where an
+    /// automatic key isn't below the serial.
+    ///
+    /// Refuses `Memory` alone. It takes time in proportion to n log n.
+    pub fn with_places(
+        alloc: Global,
+        serial: u64,
+        number: u64,
+        places: Vec<(Key, Point, Words)>,
+    ) -> Result<Option<State>, Memory>
+        requires { length places.items < 2 ^ 32 }
+        ensures same { IfOk result (λ made. IfSome made (λ state. state ≡ record { places = places_in places.items; serial = serial; number = number })) }
+        ensures exact { IfOk result (λ made. IsSome made ↔ AreStatePlaces places.items serial number) }
+    {
+        if !are_state_places(serial, number, places.as_slice()) {
+            return Ok(None);
+        }
+        let places = map_of(alloc, places)?;
+        Ok(Some(State {
+            alloc,
+            places,
+            serial,
+            number,
+        }))
     }
 
     /// How many places live.

@@ -4,7 +4,7 @@ use spatial_base::{Key, Point, Rect};
 use std::alloc::Global;
 use std::fmt::Write;
 use std::test::Fail;
-use term_impacts::{Word, impacts, one_word};
+use term_impacts::{Word, Words, impacts, one_word};
 
 // A place: its key, its longitude and latitude in degrees times 10^7, and its text.
 type Row = (&'static str, i32, i32, &'static str);
@@ -246,5 +246,60 @@ fn a_place_is_shown_replaced_and_removed(rt: HostRuntime) -> Result<(), Fail> {
     assert!(rt; state.apply(Update::Remove { key })? == Applied::Gone);
     assert!(rt; state.apply(Update::Remove { key })? == Applied::Absent);
     assert_eq!(rt; shown(&state, &key, &y), None);
+    Ok(())
+}
+
+// A row of a state: the text of its key or the number of its automatic key.
+type Given = Result<&'static str, u64>;
+
+// Keys, the next serial, the update number, and how many places the state has.
+static RESTORED: [(&[Given], u64, u64, Option<u32>); 10] = [
+    (&[], 1, 0, Some(0)),
+    (
+        &[Ok("a"), Ok("ab"), Ok("b"), Err(3), Err(20)],
+        21,
+        40,
+        Some(5),
+    ),
+    (&[Ok("a"), Ok("a")], 1, 2, None),
+    (&[Ok("b"), Ok("a")], 1, 2, None),
+    (&[Err(1), Ok("a")], 2, 2, None),
+    (&[Ok("a")], 0, 1, None),
+    (&[Ok("a")], 3, 1, None),
+    (&[Err(1)], 1, 1, None),
+    (&[], 1, 1 << 40, Some(0)),
+    (&[], 1, (1 << 40) + 1, None),
+];
+
+// Places of these keys.
+fn rows_of(alloc: Global, given: &[Given]) -> Result<Vec<(Key, Point, Words)>, Fail> {
+    let mut rows = Vec::new(alloc);
+    for one in given {
+        let key = match one {
+            Ok(text) => Key::of_text(text).map_err(|_| "no key")?,
+            Err(serial) => Key::auto(*serial),
+        };
+        let at = Point::new(5, 7).ok_or("off the map")?;
+        rows.push((key, at, impacts(alloc, "x")?))?;
+    }
+    Ok(rows)
+}
+
+#[test]
+fn only_what_a_state_can_hold_is_restored(rt: HostRuntime) -> Result<(), Fail> {
+    for (given, serial, number, count) in &RESTORED {
+        let rows = rows_of(rt.alloc(), *given)?;
+        assert!(rt; rows.len() <= 5);
+        let made = State::with_places(rt.alloc(), *serial, *number, rows)?;
+        let seen = match &made {
+            Some(state) => Some((state.count(), state.number())),
+            None => None,
+        };
+        let wanted = match count {
+            Some(count) => Some((*count, *number)),
+            None => None,
+        };
+        assert_eq!(rt; seen, wanted);
+    }
     Ok(())
 }

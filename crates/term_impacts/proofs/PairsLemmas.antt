@@ -1,23 +1,20 @@
 -- Maps from words to impacts: what a search finds, and what an insertion leaves.
-use Rattle.std.proofs.Common.{◌≡◌, ℕ, zero, suc, set, ◌+◌, ◌<◌, ◌≤◌, ◌↔◌, Bool, true, false, IsTrue, cond, inl, inr, List, [], ◌∷◌, length, get_or, All, Some, unwrap_or, refl, sym, ap, subst, ◌∙◌, true≢false, arith, suc-le-suc, zero-le}
-use Rattle.std.proofs.lemmas.Bool.{cases_lt}
-use Rattle.std.proofs.lemmas.Cmp.{nat_list_cmp_total, nat_list_eq_equiv}
+use Rattle.std.proofs.Common.{◌≡◌, ℕ, zero, suc, set, ◌+◌, ◌<◌, ◌≤◌, ◌↔◌, Bool, true, false, IsTrue, List, [], ◌∷◌, length, get_or, All, refl, sym, ap, subst, ◌∙◌, true≢false, arith, suc-le-suc, zero-le}
+use Rattle.std.proofs.lemmas.Cmp.{nat_list_cmp_total}
 use Rattle.std.proofs.lemmas.List.{get_or-map, length-map}
 use Rattle.std.proofs.lemmas.List.Elements.{All-cons, All-nil, All-head, All-tail}
 use Rattle.std.proofs.lemmas.List.Sorted.{searchable_from_sorted}
 use Rattle.std.proofs.lemmas.Map.Keys.{sorted_from_all_adjacent, sorted_tail, Less-from_sorted}
-use Rattle.std.proofs.lemmas.Map.Text.{is_eq-slice_cmp}
 use Rattle.std.specs.BTreeMap.{insert_entry}
 use Rattle.std.specs.Cmp.Lexicographic.{slice_cmp}
 use Rattle.std.specs.FinMap.{nat_cmp-IsAntisymmetric, slice_cmp-IsAntisymmetric}
 use Rattle.std.specs.List.{IsAllAdjacentAnswer, AllAdjacentBelow, AllWithin, AllByRecursion, insert}
 use Rattle.std.specs.List.Sorted.{IsStrictlySortedBy, IsNonDecreasingBy}
-use Rattle.std.specs.Map.{keys_of, lookup}
-use Rattle.std.specs.Ordering.{nat_cmp, is_lt, is_eq, match_ordering, ordering_reverse, ordering_index}
-use Rattle.std.specs.Str.{bytes_eq}
+use Rattle.std.specs.Map.{keys_of}
+use Rattle.std.specs.Ordering.{nat_cmp, is_lt, match_ordering, ordering_reverse, ordering_index}
 use Rattle.std.specs.declared.cmp.Ordering.{Ordering}
 use Rattle.std.specs.declared.cmp.Ordering.TheVariants.{Less, Equal, Greater}
-use Rattle.term_impacts.specs.Pairs.{IsWordMap, impact_in}
+use Rattle.term_impacts.specs.Pairs.{IsWordMap}
 
 -- the order of words
 abbrev pub word_cmp : List ℕ → List ℕ → Ordering
@@ -55,41 +52,6 @@ not_ascending pairs k lt fails sorted =
 
 same_word : (word other : List ℕ) → word_cmp other word ≡ Equal → other ≡ word
 same_word word other e = slice_cmp-IsAntisymmetric nat_cmp-IsAntisymmetric other word e
-
-other_word : (word other : List ℕ) (r : Ordering) → word_cmp other word ≡ r → is_eq r ≡ false → bytes_eq word other ≡ false
-other_word word other r e differs = nat_list_eq_equiv.symm word other ∙ sym (is_eq-slice_cmp other word) ∙ ap is_eq e ∙ differs
-
--- the word at the place is the one asked for, so its impact is found
-pub impact_in-found : (pairs : List (List ℕ × ℕ)) (word : List ℕ) (at : ℕ) (d : List ℕ × ℕ) → IsStrictlySortedBy word_cmp (keys_of pairs) → at < length pairs
-    → word_cmp (get_or pairs at d).0 word ≡ Equal → impact_in pairs word ≡ (get_or pairs at d).1
-impact_in-found [] word at d sorted lt e = absurd (omega arith)
-impact_in-found (p ∷ pairs) word zero d sorted lt e =
-    ap (λ b. unwrap_or (cond b (Some p.1) (lookup (bytes_eq word) pairs)) 0)
-    (ap (bytes_eq word) (same_word word p.0 e) ∙ nat_list_eq_equiv.refl word)
-impact_in-found (p ∷ pairs) word (suc at) d sorted lt e =
-    let inside : at < length pairs = omega arith in
-    let less = Less-from_sorted word_cmp (keys_of (p ∷ pairs)) 0 (suc at) [] sorted (omega arith)
-    (subst (λ n. suc at < n) (sym (length-map (p ∷ pairs) (λ q. q.0))) lt) in
-    let here : word_cmp p.0 word ≡ Less =
-    ap (word_cmp p.0) (sym (same_word word (get_or pairs at d).0 e)) ∙ ap (word_cmp p.0) (sym (key_at pairs at d inside)) ∙ less in
-    ap (λ b. unwrap_or (cond b (Some p.1) (lookup (bytes_eq word) pairs)) 0) (other_word word p.0 Less here refl)
-    ∙ impact_in-found pairs word at d (sorted_tail word_cmp p.0 (keys_of pairs) sorted) inside e
-
--- no word of the map is the one asked for
-pub impact_in-absent : (pairs : List (List ℕ × ℕ)) (word : List ℕ) → All (λ p. bytes_eq word p.0 ≡ false) pairs → impact_in pairs word ≡ 0
-impact_in-absent [] word none = refl
-impact_in-absent (p ∷ pairs) word none =
-    ap (λ b. unwrap_or (cond b (Some p.1) (lookup (bytes_eq word) pairs)) 0) (All-head (λ q. bytes_eq word q.0 ≡ false) p pairs none)
-    ∙ impact_in-absent pairs word (All-tail (λ q. bytes_eq word q.0 ≡ false) p pairs none)
-
--- the words before a place are less and those from it on greater, so none is equal
-pub none_from_partition : (pairs : List (List ℕ × ℕ)) (word : List ℕ) (at : ℕ) → AllWithin (λ p. word_cmp p.0 word ≡ Less) pairs 0 at
-    → AllWithin (λ p. word_cmp p.0 word ≡ Greater) pairs at (length pairs) → All (λ p. bytes_eq word p.0 ≡ false) pairs
-none_from_partition pairs word at less greater k d lt =
-    elim (cases_lt k at) [
-      | inl below ↦ other_word word _ Less (less k d zero-le below) refl
-      | inr above ↦ other_word word _ Greater (greater k d above lt) refl
-    ]
 
 -- a search may be made in ascending words
 pub searchable : (pairs : List (List ℕ × ℕ)) (word : List ℕ) → IsStrictlySortedBy word_cmp (keys_of pairs)

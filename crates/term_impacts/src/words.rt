@@ -41,14 +41,12 @@ impl Words {
         self.pairs.as_slice()
     }
 
-    /// The impact of a word, 1 to 255, and 0 where the word is absent. It is found by binary search.
+    /// The impact of a word, 1 to 255, and 0 where the word is absent. It looks at one pair after another: most places have few
+    /// words, and most pairs are told apart by their words' lengths.
     pub fn impact(&self, word: &Word) -> u8
         ensures { result ≡ impact_in self.now word.now }
     {
-        match self.pairs.binary_search_by_key(word, |pair| pair.0) {
-            Ok(at) => self.pairs[at].1,
-            Err(_) => 0,
-        }
+        impact_among(self.pairs.as_slice(), word)
     }
 
     /// The same map in memory of its own. It fails for want of memory alone.
@@ -96,6 +94,22 @@ impl Words {
         };
         self.pairs.insert(at, (word, impact))?;
         Ok(())
+    }
+}
+
+/// The impact of a word among pairs of which it is in at most one, and 0 where it is in none.
+fn impact_among(pairs: &[(Word, u8)], word: &Word) -> u8
+    ensures { result ≡ impact_in pairs.now word.now }
+{
+    match pairs.split_first() {
+        Some((pair, others)) => {
+            if *word == pair.0 {
+                pair.1
+            } else {
+                impact_among(others, word)
+            }
+        }
+        None => 0,
     }
 }
 

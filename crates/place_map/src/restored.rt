@@ -1,0 +1,74 @@
+// The state of places that are given at once.
+ghost use Rattle.std.specs.Prelude.{◌≡◌, ◌↔◌, All, IsTrue, IfOk, OnOk};
+ghost use Rattle.std.specs.List.Sorted.{IsStrictlySortedBy};
+ghost use Rattle.spatial_base.specs.Key.{key_cmp};
+ghost use Rattle.place_map.specs.State.{with_place};
+ghost use Rattle.place_map.specs.Restored.{IsSerialAbove, AreNumbers, AreStatePlaces, keys_in, places_in};
+
+use crate::Place;
+use crate::state::NUMBER_MAX;
+use spatial_base::{Key, Memory, Point};
+use std::alloc::Global;
+use std::collections::BTreeMap;
+use term_impacts::Words;
+
+// Whether these may be a state's next serial and update number.
+fn are_numbers(serial: u64, number: u64) -> bool
+    ensures { IsTrue result ↔ AreNumbers serial number }
+{
+    number <= NUMBER_MAX && 1 <= serial && serial <= number + 1
+}
+
+// Whether a key is a text, or automatic and below the next serial.
+fn is_given(serial: u64, key: &Key) -> bool
+    ensures { IsTrue result ↔ IsSerialAbove serial key.now }
+{
+    match key.serial() {
+        Some(given) => given < serial,
+        None => true,
+    }
+}
+
+// Whether each key is before the next.
+fn are_ascending(places: &[(Key, Point, Words)]) -> bool
+    ensures { IsTrue result ↔ IsStrictlySortedBy key_cmp (keys_in places.now) }
+{
+    places.is_sorted_by(|place, next| place.0.cmp(&next.0).is_lt())
+}
+
+// Whether the serial is above each automatic key.
+fn are_given(serial: u64, places: &[(Key, Point, Words)]) -> bool
+    ensures { IsTrue result ↔ All (λ row. IsSerialAbove serial row.0) places.now }
+{
+    places.iter().all(|place| is_given(serial, &place.0))
+}
+
+/// Whether a state may have these places, this next serial and this update number.
+pub(crate) fn are_state_places(serial: u64, number: u64, places: &[(Key, Point, Words)]) -> bool
+    ensures { IsTrue result ↔ AreStatePlaces places.now serial number }
+{
+    are_numbers(serial, number) && are_ascending(places) && are_given(serial, places)
+}
+
+// Maps a key to a place.
+fn put(map: &mut BTreeMap<Key, Place>, key: Key, place: Place) -> Result<(), Memory>
+    ensures { OnOk result (map.new.entries ≡ with_place key place map.old.entries) }
+{
+    map.insert(key, place).map_err(|_| Memory)?;
+    Ok(())
+}
+
+/// The map of places whose keys ascend.
+pub(crate) fn map_of(
+    alloc: Global,
+    places: Vec<(Key, Point, Words)>,
+) -> Result<BTreeMap<Key, Place>, Memory>
+    requires { IsStrictlySortedBy key_cmp (keys_in places.items) }
+    ensures { IfOk result (λ map. map.entries ≡ places_in places.items) }
+{
+    let mut map = BTreeMap::new(alloc);
+    for (key, point, words) in places {
+        put(&mut map, key, Place { point, words })?;
+    }
+    Ok(map)
+}
