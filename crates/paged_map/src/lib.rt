@@ -16,6 +16,7 @@ mod map;
 mod node;
 mod put;
 mod putting;
+mod removing;
 mod root;
 
 pub use layout::Layout;
