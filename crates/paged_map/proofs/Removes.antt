@@ -1,12 +1,12 @@
 -- A map from which a row was taken out.
-use Rattle.std.proofs.Common.{◌≡◌, ℕ, zero, suc, ◌+◌, ◌^◌, ◌==◌, if◌then◌else◌, ◌<◌, ◌≤◌, List, [], ◌∷◌, Option, Some, None, Bool, true, false, arith, refl, sym, ap, ◌∙◌, subst, append-nil}
+use Rattle.std.proofs.Common.{◌≡◌, ℕ, zero, suc, ◌^◌, ◌==◌, if◌then◌else◌, ◌<◌, ◌≤◌, List, [], ◌∷◌, Option, Some, None, Bool, true, false, arith, refl, sym, ap, ◌∙◌, append-nil}
 use Rattle.std.specs.Option.{is_some}
 use Rattle.page_face.specs.FreeList.{PageMap}
 use Rattle.map_nodes.specs.declared.form.Form.{Form}
 use Rattle.map_nodes.specs.Supply.{View, view, Moves}
 use Rattle.map_nodes.specs.Rows.{Row, lookup, without}
-use Rattle.map_nodes.specs.Nodes.{Entry, half_of, least_of_root}
-use Rattle.map_nodes.specs.Tree.{IsTree, rows_at, uses, map_rows, map_uses}
+use Rattle.map_nodes.specs.Nodes.{half_of, least_of_root}
+use Rattle.map_nodes.specs.Tree.{rows_at, uses, map_rows, map_uses}
 use Rattle.map_nodes.proofs.Supplies.{moves-as, moves-further}
 use Rattle.map_removal.specs.Mended.{Becomes}
 use Rattle.map_removal.specs.Removal.{IsEmptied}

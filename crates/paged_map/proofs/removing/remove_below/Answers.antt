@@ -1,4 +1,4 @@
-use Rattle.std.proofs.Common.{arith, ◌≡◌, ◌+◌, ◌^◌, ◌<◌, ◌≤◌, ℕ, ◌∙◌, sym, ap, List, subst, refl, Err, Option, None, Some, true, false}
+use Rattle.std.proofs.Common.{arith, ◌≡◌, ◌+◌, ◌^◌, ◌<◌, ◌≤◌, ℕ, ◌∙◌, sym, ap, List, subst, refl, Err, Option, None}
 use Rattle.std.specs.Option.{is_some}
 use Rattle.std.proofs.lemmas.Result.{err_from_is_err_and}
 use Rattle.page_face.specs.FreeList.{PageMap}
@@ -7,11 +7,11 @@ use Rattle.page_face.specs.declared.fault.Damage.{Damage}
 use Rattle.page_cells.specs.Number.{number}
 use Rattle.page_cells.proofs.Numbers.{number_below}
 use Rattle.map_nodes.specs.declared.form.Form.{Form}
-use Rattle.map_nodes.specs.Supply.{view, View, IsSupplied, spare}
+use Rattle.map_nodes.specs.Supply.{view, IsSupplied, spare}
 use Rattle.map_nodes.specs.Rows.{lookup, without}
 use Rattle.map_nodes.specs.Nodes.{least_of_root}
 use Rattle.map_nodes.specs.Tree.{IsTree, rows_at, uses, map_rows, map_uses, level_of}
-use Rattle.map_nodes.specs.Damages.{IsDamaged, AreTold, AskedSince, AsksOnly}
+use Rattle.map_nodes.specs.Damages.{IsDamaged, AreTold, AsksOnly}
 use Rattle.map_nodes.proofs.Trees.{tree-size}
 use Rattle.map_nodes.proofs.Harms.{asked-here, asks-here, asks-further, asks-more, asks-nothing}
 use Rattle.map_removal.specs.Removal.{HasRemoved, IsOut, IsSame, Lessens}
