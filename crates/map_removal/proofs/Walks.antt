@@ -217,6 +217,16 @@ damage-looked form old pages count count' level l page least low high bytes dama
     (subst (λ (q : PageMap). AreTold q count' → bytes ≡ q page → IsDamaged form q count' damage least (suc l) page low high) same d) told is in
     subst (λ (k : ℕ). IsDamaged form old count damage least k page low high) (sym up) b
 
+-- the same in a well-formed tree
+pub damage-in_tree : (form : Form) (old pages : PageMap) (count count' level l page least low high : ℕ) (bytes : List ℕ) (damage : Damage) → level ≡ suc l → pages ≡ old → count' ≡ count → bytes ≡ old page
+    → IsTree form least old level page low high
+    → (bytes ≡ pages page → IsTree form least pages (suc l) page low high → IsDamaged form pages count' damage least (suc l) page low high) → IsDamaged form old count damage least level page low high
+damage-in_tree form old pages count count' level l page least low high bytes damage up same more is tree d =
+    let b : IsDamaged form old count damage least (suc l) page low high = subst (λ (n : ℕ). IsDamaged form old n damage least (suc l) page low high) more
+    (subst (λ (q : PageMap). bytes ≡ q page → IsTree form least q (suc l) page low high → IsDamaged form q count' damage least (suc l) page low high) same d is
+    (subst (λ (k : ℕ). IsTree form least old k page low high) up tree)) in
+    subst (λ (k : ℕ). IsDamaged form old count damage least k page low high) (sym up) b
+
 -- a child's pages are among those of the page
 pub uses-most : (form : Form) (old : PageMap) (bytes : List ℕ) (level l page at : ℕ) → level ≡ suc l → bytes ≡ old page → at < count_of bytes → (child n : ℕ) → child ≡ child_of form bytes at → uses form old l child n ≤ uses form old level page n
 uses-most form old bytes level l page at up is small child n e =

@@ -3,7 +3,7 @@ ghost use Rattle.std.specs.Prelude.{◌≡◌, ◌≢◌, ◌+◌, ◌*◌, ◌<
 ghost use Rattle.page_face.specs.Causes.{Rose, IsUncounted};
 ghost use Rattle.page_cells.specs.Number.{number};
 ghost use Rattle.map_nodes.specs.Nodes.{count_of, width_of, half_of};
-ghost use Rattle.map_nodes.specs.Tree.{uses};
+ghost use Rattle.map_nodes.specs.Tree.{IsTree, uses};
 ghost use Rattle.map_nodes.specs.Bounds.{upper_of, child_of};
 ghost use Rattle.map_nodes.specs.Damages.{IsDamaged, AreTold, AskedSince, AsksOnly};
 ghost use Rattle.map_removal.specs.Mended.{IsBeside};
@@ -52,6 +52,10 @@ pub fn look_beside<P: Pages>(
     ensures count { IfOk result (λ b. (b.count ≡ count_of b.bytes) × (half_of form below ≤ b.count) × (16 + width_of form below * b.count ≤ 4096)) }
 
     ensures damaged { (page least : ℕ) → AreTold (P.pages pages.old) (P.count pages.old) → bytes.now ≡ P.pages pages.old page
+        → (damage : Damage) → IsErrOf result (PageFault.Damaged damage)
+        → IsDamaged form (P.pages pages.old) (P.count pages.old) damage least (suc below) page (number low.now) (upper_of form.key high.now) }
+    ensures in_tree { (page least : ℕ) → bytes.now ≡ P.pages pages.old page
+        → IsTree form least (P.pages pages.old) (suc below) page (number low.now) (upper_of form.key high.now)
         → (damage : Damage) → IsErrOf result (PageFault.Damaged damage)
         → IsDamaged form (P.pages pages.old) (P.count pages.old) damage least (suc below) page (number low.now) (upper_of form.key high.now) }
     ensures named { (damage : Damage) → IsErrOf result (PageFault.Damaged damage) → AskedSince (P.asked pages.old) (P.asked pages.new) damage.page }
@@ -113,6 +117,10 @@ pub fn look_if_low<P: Pages>(
     ensures tells { IfOk result (TellsBeside form (P.pages pages.old) bytes.now) }
 
     ensures damaged { (page least : ℕ) → AreTold (P.pages pages.old) (P.count pages.old) → bytes.now ≡ P.pages pages.old page
+        → (damage : Damage) → IsErrOf result (PageFault.Damaged damage)
+        → IsDamaged form (P.pages pages.old) (P.count pages.old) damage least (suc below) page (number low.now) (upper_of form.key high.now) }
+    ensures in_tree { (page least : ℕ) → bytes.now ≡ P.pages pages.old page
+        → IsTree form least (P.pages pages.old) (suc below) page (number low.now) (upper_of form.key high.now)
         → (damage : Damage) → IsErrOf result (PageFault.Damaged damage)
         → IsDamaged form (P.pages pages.old) (P.count pages.old) damage least (suc below) page (number low.now) (upper_of form.key high.now) }
     ensures named { (damage : Damage) → IsErrOf result (PageFault.Damaged damage) → AskedSince (P.asked pages.old) (P.asked pages.new) damage.page }

@@ -53,6 +53,12 @@ pub fn remove_in<P: Pages>(
     ensures damaged { AreTold (P.pages pages.old) (P.count pages.old) → bytes.old ≡ P.pages pages.old page
         → (damage : Damage) → IsErrOf result (PageFault.Damaged damage)
         → IsDamaged form (P.pages pages.old) (P.count pages.old) damage least level page (number low.now) (upper_of form.key high.now) }
+
+    // Of a well-formed tree whatever is told of other pages.
+    ensures in_tree { bytes.old ≡ P.pages pages.old page
+        → IsTree form least (P.pages pages.old) level page (number low.now) (upper_of form.key high.now)
+        → (damage : Damage) → IsErrOf result (PageFault.Damaged damage)
+        → IsDamaged form (P.pages pages.old) (P.count pages.old) damage least level page (number low.now) (upper_of form.key high.now) }
     ensures named { (before : List ℕ) → AskedSince before (P.asked pages.old) page
         → (damage : Damage) → IsErrOf result (PageFault.Damaged damage) → AskedSince before (P.asked pages.new) damage.page }
     ensures own { AreTold (P.pages pages.old) (P.count pages.old) → bytes.old ≡ P.pages pages.old page

@@ -9,3 +9,4 @@ pub mod Maps
 pub mod Climbs
 pub mod Readings
 pub mod Grows
+pub mod Removes

@@ -1,10 +1,10 @@
 //! Maps of fixed rows over [`Pages`](page_face::Pages): a B+-tree of byte keys and byte values, all of one length.
 //!
-//! Over a well-formed map [`PagedMap`] is a finite map: `get`, `first_from` and `put` are the list functions `lookup`,
-//! `first_from` and `put` on its rows, and all other pages stay. Over any other bytes each call is safe and ends, and
-//! names a rule that a page breaks in its place. Pages that lead in a circle end a call too, since levels fall. A map
-//! and the free list lose no page: each page that was the map's, free or newly counted is then in exactly one of them.
-//! There is no call yet that takes a row out.
+//! Over a well-formed map [`PagedMap`] is a finite map: `get`, `first_from`, `put` and `remove` are the list functions
+//! `lookup`, `first_from`, `put` and `without` on its rows, and all other pages stay. Over any other bytes each call is
+//! safe and ends, and names a rule that a page breaks in its place. Pages that lead in a circle end a call too, since
+//! levels fall. A map and the free list lose no page: each page that was the map's, free or newly counted is then in
+//! exactly one of them.
 #![tactic(auto)]
 
 mod find;
@@ -16,6 +16,7 @@ mod map;
 mod node;
 mod put;
 mod putting;
+mod removing;
 mod root;
 
 pub use layout::Layout;

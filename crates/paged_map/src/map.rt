@@ -3,7 +3,7 @@ ghost use Rattle.std.specs.Prelude.{◌≡◌, ◌≢◌, ◌⊎◌, ℕ, ◌≤
 ghost use Rattle.page_face.specs.Causes.{Rose};
 ghost use Rattle.page_cells.specs.Number.{number};
 ghost use Rattle.map_nodes.specs.Supply.{view};
-ghost use Rattle.map_nodes.specs.Rows.{lookup, first_from, put};
+ghost use Rattle.map_nodes.specs.Rows.{lookup, first_from, put, without};
 ghost use Rattle.map_nodes.specs.Tree.{IsMap, map_rows, map_uses};
 ghost use Rattle.map_nodes.specs.Damages.{AreTold, AskedSince, AsksOnly, IsRefusedTake};
 ghost use Rattle.paged_map.specs.Answers.{HoldsRow, Locates};
@@ -13,6 +13,7 @@ use crate::find::find_in;
 use crate::first::first_in;
 use crate::layout::{Layout, form_of, least_key};
 use crate::putting::put_below;
+use crate::removing::remove_below;
 use crate::root::first_leaf;
 use map_nodes::{level, root_least};
 use page_face::{Damage, PageFault, Pages};
@@ -220,5 +221,45 @@ impl<L: Layout> PagedMap<L> {
         let rooted = put_below(pages, form, self.root, key, value, &mut middle[..form.key])?;
         self.root = rooted.root;
         Ok(rooted.had)
+    }
+
+    /// Takes the row at a key out. Answers whether the key was there.
+    ///
+    /// Refuses `Damaged` with a rule that a page asked for in this call breaks in its place; `Disk`; `Stopped`; `Memory`.
+    /// After a refusal the root is as before, and pages may have changed: they are to be abandoned. Where the key isn't
+    /// there all pages are as before. It reads at most two pages a level and writes at most three, and gives each page
+    /// back that it empties.
+    pub fn remove<P: Pages>(&mut self, pages: &mut P, key: &[u8]) -> Result<bool, PageFault>
+        requires key { length key.now ≡ L.KEY }
+        ensures removed { (free : List ℕ) → IsKept L.form (view (P.pages pages.old) (P.count pages.old) (P.first pages.old) free) self.old.root
+            → IfOk result (λ was. (was ≡ is_some (lookup (number key.now) (map_rows L.form (P.pages pages.old) self.old.root)))
+            × HasBecome L.form (view (P.pages pages.old) (P.count pages.old) (P.first pages.old) free) (P.pages pages.new) (P.count pages.new) (P.first pages.new) self.old.root self.new.root
+            (without (number key.now) (map_rows L.form (P.pages pages.old) self.old.root))) }
+        ensures kept { OnErr result (self.new ≡ self.old) }
+
+        // On a well-formed map and a free list that ends at 0 no page is damaged.
+        ensures honest { (free : List ℕ) → IsKept L.form (view (P.pages pages.old) (P.count pages.old) (P.first pages.old) free) self.old.root
+            → (damage : Damage) → result ≢ Err (PageFault.Damaged damage) }
+        ensures damaged { AreTold (P.pages pages.old) (P.count pages.old) → (damage : Damage) → IsErrOf result (PageFault.Damaged damage)
+            → IsMapDamaged L.form (P.pages pages.old) (P.count pages.old) self.old.root damage × AskedSince (P.asked pages.old) (P.asked pages.new) damage.page }
+        ensures own { AreTold (P.pages pages.old) (P.count pages.old)
+            → AsksOnly (map_uses L.form (P.pages pages.old) self.old.root) (P.asked pages.old) (P.asked pages.new) }
+        ensures disk { IsErrOf result PageFault.Disk → Rose (P.faults pages.old) (P.faults pages.new) }
+        ensures room_left { result ≢ Err PageFault.NoRoom }
+        ensures stopped { IsErrOf result PageFault.Stopped → IsTrue (P.is_stopped pages.old) }
+
+        ensures count { P.count pages.new ≡ P.count pages.old }
+        ensures room { P.room pages.new ≡ P.room pages.old }
+        ensures faults { P.faults pages.old ≤ P.faults pages.new }
+        ensures refused { P.refused pages.new ≡ P.refused pages.old }
+        ensures goes_on { P.is_stopped pages.new ≡ P.is_stopped pages.old }
+        ensures follows { P.follows_from pages.old pages.new }
+    {
+        if self.root == 0 {
+            return Ok(false);
+        }
+        let after = remove_below(pages, form_of::<L>(), self.root, key)?;
+        self.root = after.root;
+        Ok(after.had)
     }
 }

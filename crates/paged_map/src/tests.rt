@@ -1,6 +1,6 @@
 use super::*;
 use page_cells::build;
-use page_face::{Damage, MemoryPages, Page, PageFault, Pages, Rule};
+use page_face::{Damage, MemoryPages, Page, PageFault, Pages, Rule, free_next};
 use std::collections::BTreeMap;
 use std::test::Fail;
 
@@ -193,5 +193,92 @@ fn a_split_without_room_leaves_the_root(rt: HostRuntime) -> Result<(), Fail> {
         Err(PageFault::NoRoom)
     );
     assert_eq!(rt; map.root(), 1);
+    Ok(())
+}
+
+// Whether a look-up of each key answers as the model.
+fn is_model(
+    pages: &mut MemoryPages,
+    map: &PagedMap<Wide>,
+    model: &BTreeMap<u8, u8>,
+) -> Result<bool, PageFault> {
+    let mut value = [0; 765];
+    for last in 0..=255u8 {
+        let there = map.get(pages, &key(last), &mut value)?.is_some();
+        let same = match model.get(&last) {
+            Some(first) => there && value[0] == *first,
+            None => !there,
+        };
+        if !same {
+            return Ok(false);
+        }
+    }
+    Ok(true)
+}
+
+// How many pages the free list has, which must end at 0.
+fn count_free(pages: &mut MemoryPages) -> Result<Option<u32>, PageFault> {
+    let mut next = pages.first_free();
+    for count in 0..pages.counted() {
+        if next == 0 {
+            return Ok(Some(count));
+        }
+        let page = pages.read(next)?;
+        next = match free_next(&page) {
+            Ok(next) => next,
+            Err(_) => return Ok(None),
+        };
+    }
+    Ok(None)
+}
+
+#[test]
+fn rows_removed_in_another_order_leave_a_sorted_map_and_at_last_no_page(
+    rt: HostRuntime,
+) -> Result<(), Fail> {
+    let mut pages = MemoryPages::new(rt.alloc(), 200);
+    let mut map: PagedMap<Wide> = PagedMap::at(0);
+    let mut model: BTreeMap<u8, u8> = BTreeMap::new(rt.alloc());
+    let mut value = [0; 765];
+    for step in 0..200u16 {
+        let last = (step * 37 % 200) as u8;
+        value[0] = step as u8;
+        model.insert(last, step as u8)?;
+        assert_eq!(rt; map.put(&mut pages, &key(last), &value), Ok(false));
+    }
+    for step in 0..200u16 {
+        if step % 25 == 0 {
+            assert_eq!(rt; is_model(&mut pages, &map, &model), Ok(true));
+        }
+        let last = (step * 71 % 200) as u8;
+        model.remove(&last);
+        assert_eq!(rt; map.remove(&mut pages, &key(last)), Ok(true));
+    }
+    assert_eq!(rt; map.root(), 0);
+    assert_eq!(rt; is_model(&mut pages, &map, &model), Ok(true));
+    let free = count_free(&mut pages);
+    assert_eq!(rt; free, Ok(Some(pages.counted() - 1)));
+    Ok(())
+}
+
+#[test]
+fn a_key_that_is_not_there_is_not_removed(rt: HostRuntime) -> Result<(), Fail> {
+    let mut pages = MemoryPages::new(rt.alloc(), 20);
+    let mut map: PagedMap<Wide> = PagedMap::at(0);
+    let mut model: BTreeMap<u8, u8> = BTreeMap::new(rt.alloc());
+    assert_eq!(rt; map.remove(&mut pages, &key(4)), Ok(false));
+    assert_eq!(rt; map.root(), 0);
+    let value = [7; 765];
+    for half in 1..9u8 {
+        model.insert(half * 2, 7)?;
+        assert_eq!(rt; map.put(&mut pages, &key(half * 2), &value), Ok(false));
+    }
+    let root = map.root();
+    for last in [0, 1, 7, 9, 17, 255] {
+        assert_eq!(rt; map.remove(&mut pages, &key(last)), Ok(false));
+        assert_eq!(rt; map.root(), root);
+    }
+    assert_eq!(rt; is_model(&mut pages, &map, &model), Ok(true));
+    assert_eq!(rt; pages.first_free(), 0);
     Ok(())
 }

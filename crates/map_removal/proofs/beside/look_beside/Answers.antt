@@ -6,9 +6,10 @@ use Rattle.page_cells.specs.Number.{number}
 use Rattle.map_nodes.specs.Tree.{uses}
 use Rattle.map_nodes.specs.Bounds.{upper_of}
 use Rattle.map_nodes.specs.Damages.{AsksOnly}
+use Rattle.map_nodes.proofs.Trees.{tree-size}
 use Rattle.map_nodes.proofs.Harms.{asked-here, asks-here, asks-nothing}
 use Rattle.map_removal.specs.declared.settling.Beside.{Beside}
-use Rattle.map_removal.proofs.Walks.{named-refused, named-page, same-fault, told-read, uses-self, asks-read, damage-link, damage-rule, uses-below, damage-below}
+use Rattle.map_removal.proofs.Walks.{named-refused, named-page, same-fault, told-read, uses-self, asks-read, damage-link, damage-rule, uses-below, tree-below, damage-below}
 use Rattle.map_removal.proofs.beside.look_beside.Goals as goal
 
 pub returns-in_err-page-clause-damaged : goal.returns-in_err-page-clause-damaged
@@ -16,6 +17,17 @@ returns-in_err-page-clause-damaged g c =
     let passed = err_from_is_err_and c.from_residual.result c.from_residual.ensures.1 in
     let old : PageMap = g.P.Pages.pages c.args.pages.now in
     rw (passed.1, passed.2) (λ page least told is damage e.
+    let d = c.read.ensures.damaged damage (c.in_err-page.was ∙ ap Err (same-fault {T = Beside} _ _ e)) in
+    let n = c.next_to-near.ensures.0 in
+    damage-below c.args.form old c.args.bytes.now (suc c.args.below) c.args.below page c.next_to-near.result refl is (omega arith) (g.P.Pages.count c.args.pages.now) damage least _ (number c.args.low.now) (upper_of c.args.form.key c.args.high.now) _ _ c.child_at-child.result
+    refl refl refl c.child_at-child.ensures
+    (damage-link c.args.form old (g.P.Pages.count c.args.pages.now) damage _ c.args.below c.child_at-child.result _ _ d.0 d.1))
+
+pub returns-in_err-page-clause-in_tree : goal.returns-in_err-page-clause-in_tree
+returns-in_err-page-clause-in_tree g c =
+    let passed = err_from_is_err_and c.from_residual.result c.from_residual.ensures.1 in
+    let old : PageMap = g.P.Pages.pages c.args.pages.now in
+    rw (passed.1, passed.2) (λ page least is tree damage e.
     let d = c.read.ensures.damaged damage (c.in_err-page.was ∙ ap Err (same-fault {T = Beside} _ _ e)) in
     let n = c.next_to-near.ensures.0 in
     damage-below c.args.form old c.args.bytes.now (suc c.args.below) c.args.below page c.next_to-near.result refl is (omega arith) (g.P.Pages.count c.args.pages.now) damage least _ (number c.args.low.now) (upper_of c.args.form.key c.args.high.now) _ _ c.child_at-child.result
@@ -79,6 +91,23 @@ returns-in-Err-clause-damaged g c = λ page least told is damage e.
     let read = c.in_ok-page.ensures in
     let child : ℕ = c.child_at-child.result in
     let bytes = read.gives (told-read old count child told (λ u. let f = read.uncounted u in cc)) in
+    let same = same-fault {T = Beside} _ _ e in
+    damage-below c.args.form old c.args.bytes.now (suc c.args.below) c.args.below page c.next_to-near.result refl is (omega arith) count damage least c.least_at.result (number c.args.low.now) (upper_of c.args.form.key c.args.high.now)
+    (number c.lower.result.now) (upper_of c.args.form.key c.upper.result.now) child c.least_at.ensures.is c.lower.ensures.is c.upper.ensures.is c.child_at-child.ensures
+    (damage-rule c.args.form old count damage c.least_at.result c.args.below child (number c.lower.result.now) (upper_of c.args.form.key c.upper.result.now) c.in_ok-page.page c.in-Err.rule c.damaged.result bytes c.damaged.ensures same c.in-Err.ensures.breaks)
+
+pub returns-in-Err-clause-in_tree : goal.returns-in-Err-clause-in_tree
+returns-in-Err-clause-in_tree g c = λ page least is tree damage e.
+    let old : PageMap = g.P.Pages.pages c.args.pages.now in
+    let count : ℕ = g.P.Pages.count c.args.pages.now in
+    let n = c.next_to-near.ensures.0 in
+    let read = c.in_ok-page.ensures in
+    let child : ℕ = c.child_at-child.result in
+    let lo : ℕ = number c.lower.result.now in
+    let hi : ℕ = upper_of c.args.form.key c.upper.result.now in
+    let below_tree = tree-below c.args.form old c.args.bytes.now (suc c.args.below) c.args.below page c.next_to-near.result refl is (omega arith) least c.least_at.result (number c.args.low.now) (upper_of c.args.form.key c.args.high.now)
+    lo hi child c.least_at.ensures.is c.lower.ensures.is c.upper.ensures.is c.child_at-child.ensures tree in
+    let bytes = read.gives (tree-size c.args.form c.least_at.result old c.args.below child lo hi below_tree) in
     let same = same-fault {T = Beside} _ _ e in
     damage-below c.args.form old c.args.bytes.now (suc c.args.below) c.args.below page c.next_to-near.result refl is (omega arith) count damage least c.least_at.result (number c.args.low.now) (upper_of c.args.form.key c.args.high.now)
     (number c.lower.result.now) (upper_of c.args.form.key c.upper.result.now) child c.least_at.ensures.is c.lower.ensures.is c.upper.ensures.is c.child_at-child.ensures

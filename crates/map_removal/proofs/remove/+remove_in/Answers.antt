@@ -17,7 +17,7 @@ use Rattle.map_removal.specs.Removal.{HasRemoved, Lessens, IsOut, IsLess}
 use Rattle.map_removal.specs.Mended.{IsBeside}
 use Rattle.map_removal.proofs.Settles.{half_some}
 use Rattle.map_removal.proofs.Rises.{rise, child-claim}
-use Rattle.map_removal.proofs.Walks.{uses-most, same-fault, named-refused, told-read, uses-self, asks-read, damage-link, uses-below, tree-below, damage-below, lookup-below, asked-later, asked-from, asked-child, beside-is, own-looked, own-below, damage-looked}
+use Rattle.map_removal.proofs.Walks.{uses-most, same-fault, named-refused, told-read, uses-self, asks-read, damage-link, uses-below, tree-below, damage-below, lookup-below, asked-later, asked-from, asked-child, beside-is, own-looked, own-below, damage-looked, damage-in_tree}
 use Rattle.map_removal.proofs.remove.+remove_in.Goals as goal
 
 pub returns-then-level-eq0-clause-named : goal.returns-then-level-eq0-clause-named
@@ -45,6 +45,29 @@ returns-in_err-below-clause-damaged g t c =
     let a1 : List ℕ = g.P.Pages.asked c.read.new.self in
     let passed = err_from_is_err_and c.from_residual.result c.from_residual.ensures.1 in
     rw (passed.1, passed.2) (λ told is damage r.
+    let d = c.read.ensures.damaged damage (c.in_err-below.was ∙ ap Err (same-fault {T = Option ℕ} _ _ r)) in
+    damage-below form old c.args.bytes.now c.args.level l page at up is small count damage c.args.least _ lo hi _ _ child refl refl refl e
+    (damage-link form old count damage _ l child _ _ d.0 d.1))
+
+pub returns-in_err-below-clause-in_tree : goal.returns-in_err-below-clause-in_tree
+returns-in_err-below-clause-in_tree g t c =
+    let old : PageMap = g.P.Pages.pages c.args.pages.now in
+    let form = c.args.form in
+    let page : ℕ = c.args.page in
+    let l : ℕ = c.args.level - 1 in
+    let up : c.args.level ≡ suc l = omega arith in
+    let at : ℕ = c.in-Ok.found.at in
+    let w = c.in-Ok.ensures.within in
+    let small : at < count_of c.args.bytes.now = omega arith in
+    let child : ℕ = c.child_at-child.result in
+    let e = c.child_at-child.ensures in
+    let lo : ℕ = number c.args.low.now in
+    let hi : ℕ = upper_of form.key c.args.high.now in
+    let count : ℕ = g.P.Pages.count c.args.pages.now in
+    let a0 : List ℕ = g.P.Pages.asked c.args.pages.now in
+    let a1 : List ℕ = g.P.Pages.asked c.read.new.self in
+    let passed = err_from_is_err_and c.from_residual.result c.from_residual.ensures.1 in
+    rw (passed.1, passed.2) (λ is tree damage r.
     let d = c.read.ensures.damaged damage (c.in_err-below.was ∙ ap Err (same-fault {T = Option ℕ} _ _ r)) in
     damage-below form old c.args.bytes.now c.args.level l page at up is small count damage c.args.least _ lo hi _ _ child refl refl refl e
     (damage-link form old count damage _ l child _ _ d.0 d.1))
@@ -102,6 +125,30 @@ returns-in_err-beside-clause-damaged g t c =
     let was = c.in_err-beside.was ∙ ap Err (same-fault {T = Option ℕ} _ _ r) in
     damage-looked form old (g.P.Pages.pages c.read.new.self) count (g.P.Pages.count c.read.new.self) c.args.level l page c.args.least lo hi c.args.bytes.now damage up read.pages read.count told is
     (λ a b. c.look_if_low.ensures.damaged page c.args.least a b damage was))
+
+pub returns-in_err-beside-clause-in_tree : goal.returns-in_err-beside-clause-in_tree
+returns-in_err-beside-clause-in_tree g t c =
+    let old : PageMap = g.P.Pages.pages c.args.pages.now in
+    let form = c.args.form in
+    let page : ℕ = c.args.page in
+    let l : ℕ = c.args.level - 1 in
+    let up : c.args.level ≡ suc l = omega arith in
+    let at : ℕ = c.in-Ok.found.at in
+    let w = c.in-Ok.ensures.within in
+    let small : at < count_of c.args.bytes.now = omega arith in
+    let child : ℕ = c.child_at-child.result in
+    let e = c.child_at-child.ensures in
+    let lo : ℕ = number c.args.low.now in
+    let hi : ℕ = upper_of form.key c.args.high.now in
+    let count : ℕ = g.P.Pages.count c.args.pages.now in
+    let a0 : List ℕ = g.P.Pages.asked c.args.pages.now in
+    let a1 : List ℕ = g.P.Pages.asked c.read.new.self in
+    let read = c.in_ok-below.ensures in
+    let passed = err_from_is_err_and c.from_residual-in_err-beside.result c.from_residual-in_err-beside.ensures.1 in
+    rw (passed.1, passed.2) (λ is tree damage r.
+    let was = c.in_err-beside.was ∙ ap Err (same-fault {T = Option ℕ} _ _ r) in
+    damage-in_tree form old (g.P.Pages.pages c.read.new.self) count (g.P.Pages.count c.read.new.self) c.args.level l page c.args.least lo hi c.args.bytes.now damage up read.pages read.count is tree
+    (λ a b. c.look_if_low.ensures.in_tree page c.args.least a b damage was))
 
 pub returns-in_err-beside-clause-named : goal.returns-in_err-beside-clause-named
 returns-in_err-beside-clause-named g t c =
@@ -210,6 +257,43 @@ returns-in_err-removed-clause-damaged g t c =
     (λ a b. c.remove_in.ensures.damaged a b damage was)) in
     damage-below form old c.args.bytes.now c.args.level l page at up is small count damage c.args.least c.least_at.result lo hi lo' hi' child
     c.least_at.ensures.is c.lower.ensures.is c.upper.ensures.is e (claim told there))
+
+pub returns-in_err-removed-clause-in_tree : goal.returns-in_err-removed-clause-in_tree
+returns-in_err-removed-clause-in_tree g t c =
+    let old : PageMap = g.P.Pages.pages c.args.pages.now in
+    let form = c.args.form in
+    let page : ℕ = c.args.page in
+    let l : ℕ = c.args.level - 1 in
+    let up : c.args.level ≡ suc l = omega arith in
+    let at : ℕ = c.in-Ok.found.at in
+    let w = c.in-Ok.ensures.within in
+    let small : at < count_of c.args.bytes.now = omega arith in
+    let child : ℕ = c.child_at-child.result in
+    let e = c.child_at-child.ensures in
+    let lo : ℕ = number c.args.low.now in
+    let hi : ℕ = upper_of form.key c.args.high.now in
+    let count : ℕ = g.P.Pages.count c.args.pages.now in
+    let a0 : List ℕ = g.P.Pages.asked c.args.pages.now in
+    let a1 : List ℕ = g.P.Pages.asked c.read.new.self in
+    let read = c.in_ok-below.ensures in
+    let look = c.look_if_low.ensures in
+    let a2 : List ℕ = g.P.Pages.asked c.look_if_low.new.pages in
+    let p2 : PageMap = g.P.Pages.pages c.look_if_low.new.pages in
+    let n2 : ℕ = g.P.Pages.count c.look_if_low.new.pages in
+    let same = look.pages ∙ read.pages in
+    let more = look.count_same ∙ read.count in
+    let passed = err_from_is_err_and c.from_residual-in_err-removed.result c.from_residual-in_err-removed.ensures.1 in
+    rw (passed.1, passed.2) (λ is tree damage r.
+    let was = c.in_err-removed.was ∙ ap Err (same-fault {T = Option ℕ} _ _ r) in
+    let lo' : ℕ = number c.lower.result.now in
+    let hi' : ℕ = upper_of form.key c.upper.result.now in
+    let below_tree = tree-below form old c.args.bytes.now c.args.level l page at up is small c.args.least c.least_at.result lo hi lo' hi' child c.least_at.ensures.is c.lower.ensures.is c.upper.ensures.is e tree in
+    let there = read.gives (tree-size form c.least_at.result old l child lo' hi' below_tree) in
+    let claim = subst (λ (n : ℕ). c.in_ok-below.below ≡ old child → IsTree form c.least_at.result old l child lo' hi' → IsDamaged form old n damage c.least_at.result l child lo' hi') more
+    (subst (λ (p : PageMap). c.in_ok-below.below ≡ p child → IsTree form c.least_at.result p l child lo' hi' → IsDamaged form p n2 damage c.least_at.result l child lo' hi') same
+    (λ a b. c.remove_in.ensures.in_tree a b damage was)) in
+    damage-below form old c.args.bytes.now c.args.level l page at up is small count damage c.args.least c.least_at.result lo hi lo' hi' child
+    c.least_at.ensures.is c.lower.ensures.is c.upper.ensures.is e (claim there below_tree))
 
 pub returns-in_err-removed-clause-named : goal.returns-in_err-removed-clause-named
 returns-in_err-removed-clause-named g t c =

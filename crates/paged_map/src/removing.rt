@@ -1,0 +1,110 @@
+//! A row that is taken out of a map by its root.
+ghost use Rattle.std.specs.Prelude.{◌≡◌, ◌≢◌, ℕ, ◌^◌, ◌<◌, ◌≤◌, List, length, IfOk, IsErrOf, IsTrue, is_some};
+ghost use Rattle.page_face.specs.Causes.{Rose, IsUncounted};
+ghost use Rattle.page_cells.specs.Number.{number};
+ghost use Rattle.map_nodes.specs.Supply.{View, view};
+ghost use Rattle.map_nodes.specs.Rows.{Row, lookup, without};
+ghost use Rattle.map_nodes.specs.Nodes.{count_of};
+ghost use Rattle.map_nodes.specs.Tree.{map_rows, map_uses};
+ghost use Rattle.map_nodes.specs.Damages.{AreTold, AskedSince, AsksOnly};
+ghost use Rattle.map_removal.specs.Removal.{IsOut};
+ghost use Rattle.paged_map.specs.Maps.{IsKept, HasBecome, IsMapDamaged};
+
+use crate::layout::least_key;
+use crate::putting::Rooted;
+use map_nodes::{Form, level, root_least};
+use map_removal::{lower_root, remove_in};
+use page_face::{Damage, Page, PageFault, Pages};
+
+// The root of a map whose root's page has so many cells left: 0 where no row is left, and where an inner page has one
+// entry left its child, for which the page is given back.
+fn root_after<P: Pages>(
+    pages: &mut P,
+    form: Form,
+    root: u32,
+    bytes: &Page,
+    level: u8,
+    left: usize,
+) -> Result<u32, PageFault>
+    requires root { ¬ IsUncounted (P.count pages.old) root }
+    requires left { 0 < left → left ≡ count_of bytes.now }
+    ensures becomes { (before : View) (mine : ℕ → ℕ) (key : ℕ) (rows : List Row) → before.count ≡ P.count pages.old → IsKept form before root
+        → ((n : ℕ) → mine n ≡ map_uses form before.pages root n)
+        → IsOut form before mine (P.pages pages.old) (P.count pages.old) (P.first pages.old) level root 0 (256 ^ form.key) key rows bytes.now left
+        → IfOk result (λ top. HasBecome form before (P.pages pages.new) (P.count pages.new) (P.first pages.new) root top (without key rows)) }
+
+    ensures damaged { (damage : Damage) → result ≢ Err (PageFault.Damaged damage) }
+    ensures disk { result ≢ Err PageFault.Disk }
+    ensures room_left { result ≢ Err PageFault.NoRoom }
+    ensures stopped { IsErrOf result PageFault.Stopped → IsTrue (P.is_stopped pages.old) }
+
+    ensures asked { P.asked pages.new ≡ P.asked pages.old }
+    ensures count { P.count pages.new ≡ P.count pages.old }
+    ensures room { P.room pages.new ≡ P.room pages.old }
+    ensures faults { P.faults pages.new ≡ P.faults pages.old }
+    ensures refused { P.refused pages.new ≡ P.refused pages.old }
+    ensures goes_on { P.is_stopped pages.new ≡ P.is_stopped pages.old }
+    ensures follows { P.follows_from pages.old pages.new }
+{
+    if left >= root_least(level) {
+        return Ok(root);
+    }
+    if left == 0 {
+        return Ok(0);
+    }
+    lower_root(pages, form, root, bytes)
+}
+
+/// Takes the row at a key out of a map that has a root. Answers the root, and whether the key was there.
+///
+/// Refuses the rule that a page breaks in its place, `Disk`, `Stopped` and `Memory`.
+pub fn remove_below<P: Pages>(
+    pages: &mut P,
+    form: Form,
+    root: u32,
+    key: &[u8],
+) -> Result<Rooted, PageFault>
+    requires root { 0 < root }
+    requires key { length key.now ≡ form.key }
+    ensures removed { (free : List ℕ) → IsKept form (view (P.pages pages.old) (P.count pages.old) (P.first pages.old) free) root
+        → IfOk result (λ rooted. (rooted.had ≡ is_some (lookup (number key.now) (map_rows form (P.pages pages.old) root)))
+        × HasBecome form (view (P.pages pages.old) (P.count pages.old) (P.first pages.old) free) (P.pages pages.new) (P.count pages.new) (P.first pages.new) root rooted.root (without (number key.now) (map_rows form (P.pages pages.old) root))) }
+
+    ensures honest { (free : List ℕ) → IsKept form (view (P.pages pages.old) (P.count pages.old) (P.first pages.old) free) root → (damage : Damage) → result ≢ Err (PageFault.Damaged damage) }
+    ensures damaged { AreTold (P.pages pages.old) (P.count pages.old) → (damage : Damage) → IsErrOf result (PageFault.Damaged damage)
+        → IsMapDamaged form (P.pages pages.old) (P.count pages.old) root damage × AskedSince (P.asked pages.old) (P.asked pages.new) damage.page }
+    ensures own { AreTold (P.pages pages.old) (P.count pages.old) → AsksOnly (map_uses form (P.pages pages.old) root) (P.asked pages.old) (P.asked pages.new) }
+    ensures disk { IsErrOf result PageFault.Disk → Rose (P.faults pages.old) (P.faults pages.new) }
+    ensures room_left { result ≢ Err PageFault.NoRoom }
+    ensures stopped { IsErrOf result PageFault.Stopped → IsTrue (P.is_stopped pages.old) }
+
+    ensures count { P.count pages.new ≡ P.count pages.old }
+    ensures room { P.room pages.new ≡ P.room pages.old }
+    ensures faults { P.faults pages.old ≤ P.faults pages.new }
+    ensures refused { P.refused pages.new ≡ P.refused pages.old }
+    ensures goes_on { P.is_stopped pages.new ≡ P.is_stopped pages.old }
+    ensures follows { P.follows_from pages.old pages.new }
+{
+    let mut bytes = pages.read(root)?;
+    let level = level(&bytes);
+    let removed = remove_in(
+        pages,
+        form,
+        root_least(level),
+        root,
+        &mut bytes,
+        level,
+        least_key(form),
+        &[],
+        key,
+    )?;
+    let left = match removed {
+        Some(left) => left,
+        None => return Ok(Rooted { root, had: false }),
+    };
+    let top = root_after(pages, form, root, &bytes, level, left)?;
+    Ok(Rooted {
+        root: top,
+        had: true,
+    })
+}
