@@ -1,5 +1,5 @@
 -- Rows that were put or taken out are entries that were put or taken out.
-use Rattle.std.proofs.Common.{◌≡◌, ℕ, Bool, List, All, map, Option, Some, None, is_some, option_map, refl, sym, ap, ◌∙◌}
+use Rattle.std.proofs.Common.{◌≡◌, ℕ, Bool, List, Option, Some, None, is_some, option_map, refl, ap, ◌∙◌}
 use Rattle.std.specs.BTreeMap.{insert_entry, is_at}
 use Rattle.std.specs.Map.{lookup, remove_entry}
 use Rattle.std.specs.declared.cmp.Ordering.{Ordering}
@@ -17,7 +17,7 @@ use Rattle.store_rows.specs.Counted.{IsCounted, counted_value, number_bytes}
 use Rattle.store_rows.specs.Stored.{place_value}
 use Rattle.store_tables.specs.declared.tables.Tables.{Tables}
 use Rattle.paged_map.specs.Maps.{HasBecome}
-use Rattle.store_tables.specs.Coded.{IsEntryOf, IsPlaceValue, IsU64, key_code, row_by, word_code}
+use Rattle.store_tables.specs.Coded.{IsEntryOf, IsPlaceValue, IsU64, key_code, word_code}
 use Rattle.store_tables.specs.Entries.{Entries, number_of_word, place_of_key, with_place, without_place, word_cmp, word_of_number}
 use Rattle.store_tables.specs.Holding.{Holds, HoldsMap, IsApart, IsChanged, numbers_form, places_form, texts_form}
 use Rattle.std.specs.Ordering.{nat_cmp}

@@ -5,7 +5,7 @@ use Rattle.map_nodes.specs.declared.form.Form.{Form}
 use Rattle.map_nodes.specs.Nodes.{least_of_root}
 use Rattle.map_nodes.specs.Rows.{Row}
 use Rattle.map_nodes.specs.Supply.{Moves, View, spare_in, view}
-use Rattle.map_nodes.specs.Tree.{IsMap, IsTree, level_of, map_rows, map_uses, rows_at, uses}
+use Rattle.map_nodes.specs.Tree.{IsMap, IsTree, level_of, map_uses, rows_at, uses}
 use Rattle.map_nodes.proofs.Frames.{tree-frame}
 use Rattle.map_nodes.proofs.Supplies.{moves-as, moves-beside, moves-further, one_at-same}
 use Rattle.spatial_base.specs.Key.{Name}
@@ -14,7 +14,7 @@ use Rattle.store_rows.specs.declared.stored.Stored.{Stored}
 use Rattle.store_tables.specs.declared.tables.Tables.{Tables}
 use Rattle.paged_map.specs.Maps.{HasBecome, IsKept}
 use Rattle.store_tables.specs.Entries.{Entries}
-use Rattle.store_tables.specs.Holding.{Holds, HoldsMap, HoldsNumbers, HoldsPlaces, HoldsTexts, IsApart, IsChanged, IsSameMap, numbers_form, places_form, table_uses, texts_form}
+use Rattle.store_tables.specs.Holding.{Holds, HoldsMap, HoldsNumbers, HoldsPlaces, HoldsTexts, IsApart, IsChanged, IsSameMap, numbers_form, places_form, texts_form}
 
 uses-root : (form : Form) (pages : PageMap) (level page : ℕ) → 0 < uses form pages level page page
 uses-root form pages zero page = let one = one_at-same page in omega arith

@@ -1,13 +1,13 @@
 -- What the tables hold once a word is held.
-use Rattle.std.proofs.Common.{◌≡◌, ℕ, ◌+◌, List, Option, Some, None, unwrap_or, sym, ap, subst, ◌∙◌}
+use Rattle.std.proofs.Common.{◌≡◌, ℕ, ◌+◌, List, Option, Some, None, unwrap_or, Result, Ok, Err, IfOk, OnOk, sym, ap, subst, ◌∙◌}
 use Rattle.std.specs.BTreeMap.{insert_entry}
 use Rattle.std.specs.Ordering.{nat_cmp}
 use Rattle.page_face.specs.FreeList.{PageMap}
-use Rattle.map_nodes.specs.Supply.{View, view}
+use Rattle.map_nodes.specs.Supply.{View}
 use Rattle.store_rows.specs.declared.counted.Counted.{Counted}
 use Rattle.store_tables.specs.declared.tables.Tables.{Tables}
 use Rattle.store_tables.specs.Entries.{Entries, number_of_word, word_cmp, word_of_number}
-use Rattle.store_tables.specs.Holding.{Holds, IsApart, IsChanged}
+use Rattle.store_tables.specs.Holding.{IsChanged}
 use Rattle.store_tables.specs.Words.{CanHold, IsHoldableRow, number_for, places_in, places_of_number, texts_after, with_hold}
 
 -- the entries after a hold, by the word's number, or none, and its new count
@@ -53,6 +53,11 @@ cannot_hold-read word next_word entries found row was is unheld can =
 pub places-read : (word : List ℕ) (next_word places : ℕ) (entries : Entries) (found : Option ℕ) (row : Option Counted) → found ≡ number_of_word word entries.texts → row ≡ word_of_number (unwrap_or found next_word) entries.numbers → places ≡ places_in row + 1
     → places ≡ places_of_number (number_for word next_word entries.texts) entries.numbers + 1
 places-read word next_word places entries found row was is more = more ∙ ap (λ (r : Option Counted). places_in r + 1) (read_as word next_word entries found row was is)
+
+-- what a call that succeeds says, by three of its clauses
+pub if_ok : {T E : Type 0} {P Q R : T → Type 0} {N : Type 0} (result : Result T E) → IfOk result P → IfOk result Q → OnOk result N → ((x : T) → P x → Q x → N → R x) → IfOk result R
+if_ok (Ok x) p q n f = f x p q n
+if_ok (Err e) p q n f = tt
 
 -- tables of the same roots hold the same
 pub changed-next : {before : View} {old new : Tables} {pages : PageMap} {count first : ℕ} {entries : Entries} → (c : IsChanged before old pages count first new entries) → (next_word : ℕ)

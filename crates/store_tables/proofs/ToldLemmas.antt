@@ -1,7 +1,6 @@
 -- Pages that are told and counted, and rules that no page of a map breaks.
-use Rattle.std.proofs.Common.{◌≡◌, ◌≢◌, ◌⊎◌, ℕ, zero, suc, ◌+◌, ◌<◌, ◌≤◌, ◌^◌, ⊎_elim, List, [], ◌∷◌, length, arith, sym, subst, ◌∙◌}
+use Rattle.std.proofs.Common.{◌≡◌, ◌≢◌, ℕ, zero, suc, ◌+◌, ◌<◌, ◌≤◌, ◌^◌, ⊎_elim, List, [], ◌∷◌, length, arith, sym, subst, ◌∙◌}
 use Rattle.std.proofs.lemmas.Bool.{cases_lt}
-use Rattle.page_face.specs.Causes.{IsUncounted}
 use Rattle.page_face.specs.FreeList.{PageMap, IsFreeList, next_free}
 use Rattle.page_face.specs.declared.fault.Damage.{Damage}
 use Rattle.page_face.specs.declared.fault.Rule.{Rule}
@@ -9,7 +8,7 @@ use Rattle.page_face.specs.declared.fault.Rule.TheVariants.{Link, Value}
 use Rattle.map_nodes.specs.declared.form.Form.{Form}
 use Rattle.map_nodes.specs.Damages.{AreTold, AsksOnly, Breaks, IsDamaged, SomeChild}
 use Rattle.map_nodes.specs.Nodes.{Entry, entries_in, half_of, least_of_root}
-use Rattle.map_nodes.specs.Supply.{Moves, View, one_at, spare_in, times, uncounted, view}
+use Rattle.map_nodes.specs.Supply.{View, one_at, spare_in, times, uncounted}
 use Rattle.map_nodes.specs.Tree.{IsFan, IsMap, IsTree, level_of, map_uses, next_key, total, uses, with_low}
 use Rattle.map_nodes.proofs.Frames.{with_low-total}
 use Rattle.map_nodes.proofs.Harms.{asks-further, asks-more}
