@@ -5,7 +5,7 @@ use Rattle.map_nodes.specs.declared.form.Form.{Form}
 use Rattle.map_nodes.specs.Nodes.{least_of_root}
 use Rattle.map_nodes.specs.Rows.{Row}
 use Rattle.map_nodes.specs.Supply.{Moves, View, spare_in, view}
-use Rattle.map_nodes.specs.Tree.{IsMap, IsTree, level_of, map_rows, map_uses, rows_at, uses}
+use Rattle.map_nodes.specs.Tree.{IsMap, IsTree, level_of, map_uses, rows_at, uses}
 use Rattle.map_nodes.proofs.Frames.{tree-frame}
 use Rattle.map_nodes.proofs.Supplies.{moves-as, moves-beside, moves-further, one_at-same}
 use Rattle.spatial_base.specs.Key.{Name}
@@ -14,18 +14,13 @@ use Rattle.store_rows.specs.declared.stored.Stored.{Stored}
 use Rattle.store_tables.specs.declared.tables.Tables.{Tables}
 use Rattle.paged_map.specs.Maps.{HasBecome, IsKept}
 use Rattle.store_tables.specs.Entries.{Entries}
-use Rattle.store_tables.specs.Holding.{Holds, HoldsMap, HoldsNumbers, HoldsPlaces, HoldsTexts, IsApart, IsChanged, numbers_form, places_form, table_uses, texts_form}
+use Rattle.store_tables.specs.Holding.{Holds, HoldsMap, HoldsNumbers, HoldsPlaces, HoldsTexts, IsApart, IsChanged, IsSameMap, numbers_form, places_form, texts_form}
 
 uses-root : (form : Form) (pages : PageMap) (level page : ℕ) → 0 < uses form pages level page page
 uses-root form pages zero page = let one = one_at-same page in omega arith
 uses-root form pages (suc level) page = let one = one_at-same page in omega arith
 
 -- a map of which each page stayed is the same map
-pub record IsSameMap (form : Form) (old new : PageMap) (root : ℕ) : Type 0 where
-  pub tree : IsMap form new root
-  pub rows : map_rows form new root ≡ map_rows form old root
-  pub uses : (n : ℕ) → map_uses form new root n ≡ map_uses form old root n
-
 pub map-frame : (form : Form) (old new : PageMap) (root : ℕ) → IsMap form old root → ((n : ℕ) → 0 < map_uses form old root n → new n ≡ old n) → IsSameMap form old new root
 map-frame form old new zero tree same = record { tree = tt; rows = refl; uses = λ n. refl }
 map-frame form old new (suc m) tree same =
@@ -93,12 +88,18 @@ texts-changed before old pages count first root rows entries texts holds apart c
           (moves-beside (λ n. map_uses places_form before.pages old.places n + map_uses numbers_form before.pages old.numbers n) c.moves);
     }
 
+-- the words by text stay while those by number change
+pub texts-stay : (before : View) (old : Tables) (pages : PageMap) (count first root : ℕ) (rows : List Row) (entries : Entries) → Holds before.pages old entries → IsApart before old
+    → HasBecome numbers_form before pages count first old.numbers root rows → IsSameMap texts_form before.pages pages old.texts
+texts-stay before old pages count first root rows entries holds apart c =
+    map-frame texts_form before.pages pages old.texts holds.texts.tree (stays c.moves (map_uses texts_form before.pages old.texts) (λ n. let o = apart.once n in omega arith))
+
 -- the words by number
 pub numbers-changed : (before : View) (old : Tables) (pages : PageMap) (count first root : ℕ) (rows : List Row) (entries : Entries) (numbers : List (ℕ × Counted)) → Holds before.pages old entries → IsApart before old
     → (c : HasBecome numbers_form before pages count first old.numbers root rows) → HoldsNumbers pages root numbers → IsChanged before old pages count first (record old { numbers = root }) (record entries { numbers = numbers })
 numbers-changed before old pages count first root rows entries numbers holds apart c now =
     let places = map-frame places_form before.pages pages old.places holds.places.tree (stays c.moves (map_uses places_form before.pages old.places) (λ n. let o = apart.once n in omega arith)) in
-    let texts = map-frame texts_form before.pages pages old.texts holds.texts.tree (stays c.moves (map_uses texts_form before.pages old.texts) (λ n. let o = apart.once n in omega arith)) in
+    let texts = texts-stay before old pages count first root rows entries holds apart c in
     record {
       free = c.free;
       holds = record { places = holds-frame holds.places places; texts = holds-frame holds.texts texts; numbers = now };

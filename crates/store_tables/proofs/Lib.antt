@@ -2,7 +2,9 @@ pub mod ChangeLemmas
 pub mod CodeLemmas
 pub mod EntryLemmas
 pub mod FrameLemmas
+pub mod HoldLemmas
 pub mod KeyLemmas
 pub mod LookupLemmas
 pub mod MapLemmas
+pub mod ToldLemmas
 pub mod WordLemmas

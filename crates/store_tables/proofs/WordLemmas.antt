@@ -1,5 +1,5 @@
 -- What holding and releasing words does to the word tables.
-use Rattle.std.proofs.Common.{◌≡◌, ◌↔◌, ℕ, ◌+◌, ◌-◌, ◌<◌, ◌≤◌, ◌^◌, ◌==◌, eq-eqb, ⊎_elim, Bool, true, false, cond, nat_le, List, [], ◌∷◌, All, Option, Some, None, IsSome, IfSome, option_map, unwrap_or, refl, sym, ap, subst, ◌∙◌, true≢false, arith}
+use Rattle.std.proofs.Common.{◌≡◌, ◌↔◌, ℕ, ◌+◌, ◌-◌, ◌<◌, ◌≤◌, ◌^◌, ◌==◌, eq-eqb, ⊎_elim, Bool, true, false, cond, nat_le, List, [], ◌∷◌, All, Option, Some, None, IsSome, IsSomeAnd, IfSome, option_map, unwrap_or, refl, sym, ap, subst, ◌∙◌, true≢false, arith}
 use Rattle.std.proofs.lemmas.Bool.{cases_eq, leb-false, leb-true, ne_eqb}
 use Rattle.std.proofs.lemmas.List.Elements.{All-head, All-tail}
 use Rattle.std.proofs.lemmas.Map.Entries.{sum_by-insert_entry, sum_by-remove_entry}
@@ -12,17 +12,9 @@ use Rattle.store_rows.specs.declared.counted.Counted.{Counted}
 use Rattle.store_rows.specs.declared.stored.Stored.{Stored}
 use Rattle.store_rows.specs.Pairs.{Pair}
 use Rattle.store_tables.specs.Entries.{Entries, word_cmp, number_of_word, word_of_number, place_of_key, with_place, without_place}
-use Rattle.store_tables.specs.Words.{WordTablesAgree, CanHold, IsHoldable, claimed_less, claimed_more, has_number, holders, next_after, number_for, places_of_number, released, texts_after, with_hold, with_word, without_hold, words_of_pairs}
+use Rattle.store_tables.specs.Words.{WordTablesAgree, CanHold, CanRelease, IsHoldable, claimed_less, claimed_more, has_number, holders, next_after, number_for, places_in, places_of_number, released, texts_after, with_hold, with_word, without_hold, word_in, words_of_pairs}
 use Rattle.store_tables.proofs.EntryLemmas.{equal_test}
 use Rattle.store_tables.proofs.MapLemmas.{lookup-insert, lookup-remove, numbers_are_ordered, same_from_test, test_of_same, words_are_ordered}
-
--- the word of a row
-abbrev word_in : Option Counted → Option (List ℕ)
-word_in = option_map (λ (c : Counted). c.word)
-
--- its number of places
-abbrev places_in : Option Counted → ℕ
-places_in found = unwrap_or (option_map (λ (c : Counted). c.places) found) 0
 
 eqb_flip : (m n : ℕ) → (m == n) ≡ (n == m)
 eqb_flip m n = ⊎_elim (λ (e : m ≡ n). eq-eqb m n e ∙ sym (eq-eqb n m (sym e))) (λ (ne : m ≡ n → ⊥). ne_eqb m n ne ∙ sym (ne_eqb n m (λ e. ne (sym e)))) (cases_eq m n)
@@ -149,6 +141,14 @@ can_hold-agree claims entries next_word word agree room = holdable (number_of_wo
     holdable : (found : Option ℕ) → number_of_word word entries.texts ≡ found → IsHoldable word next_word entries.numbers found
     holdable None e = none_at (word_of_number next_word entries.numbers) refl
     holdable (Some number) e = ((agree.inverse word number).0 e, (let few = room number in let count = agree.counts number in omega arith))
+
+-- where the tables agree, each number that has a word can be released
+pub can_release-agree : (claims : ℕ → ℕ) (entries : Entries) (next_word number : ℕ) → WordTablesAgree claims entries.texts entries.numbers next_word → IsSome (word_of_number number entries.numbers) → CanRelease number entries
+can_release-agree claims entries next_word number agree there = releasable (word_of_number number entries.numbers) refl there
+  where
+    releasable : (row : Option Counted) → word_of_number number entries.numbers ≡ row → IsSome row → IsSomeAnd row (λ (c : Counted). c.places ≤ 1 → number_of_word c.word entries.texts ≡ Some number)
+    releasable None e some = absurd (cc)
+    releasable (Some counted) e some = λ last. (agree.inverse counted.word number).1 (ap word_in e)
 
 -- ---- one place less
 

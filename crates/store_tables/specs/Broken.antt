@@ -1,18 +1,22 @@
 -- Rows that aren't of their form.
-use Rattle.std.specs.Prelude.{◌≡◌, ◌≢◌, ◌⊎◌, ℕ, List, Some}
+use Rattle.std.specs.Prelude.{◌≡◌, ◌≢◌, ◌⊎◌, ℕ, ◌≤◌, List, Option, Some, None, option_map, unwrap_or}
 use Rattle.page_face.specs.FreeList.{PageMap}
 use Rattle.page_face.specs.declared.fault.Damage.{Damage}
 use Rattle.page_face.specs.declared.fault.Rule.TheVariants.{Value, Words}
 use Rattle.map_nodes.specs.declared.form.Form.{Form}
-use Rattle.map_nodes.specs.Rows.{Row, first_from}
+use Rattle.map_nodes.specs.Damages.{AskedSince}
+use Rattle.map_nodes.specs.Rows.{Row, first_from, lookup}
 use Rattle.map_nodes.specs.Tree.{IsMap, map_rows, map_uses}
 use Rattle.paged_map.specs.Answers.{HoldsRow}
 use Rattle.paged_map.specs.Maps.{IsMapDamaged}
 use Rattle.spatial_base.specs.Key.{Name, IsName}
-use Rattle.store_rows.specs.Counted.{IsCounted, counted_value}
+use Rattle.store_rows.specs.declared.counted.Counted.{Counted}
+use Rattle.store_rows.specs.Counted.{IsCounted, counted_value, number_bytes}
 use Rattle.store_rows.specs.Stored.{place_value}
-use Rattle.store_tables.specs.Coded.{IsEntryOf, IsPlaceValue, IsU64, key_code, number_code, row_by}
-use Rattle.store_tables.specs.Holding.{numbers_form, places_form}
+use Rattle.store_tables.specs.Coded.{IsEntryOf, IsPlaceValue, IsU64, key_code, number_code, row_by, word_code}
+use Rattle.store_tables.specs.Holding.{numbers_form, places_form, texts_form}
+use Rattle.store_tables.specs.Words.{IsHoldableRow}
+use Rattle.store_tables.specs.declared.tables.Tables.{Tables}
 
 -- a row of a leaf of the map is no entry's
 pub record IsBroken {K V : Type 0} (form : Form) (code : K → ℕ) (value : V → List ℕ) (IsKey : K → Type 0) (IsValue : V → Type 0) (pages : PageMap) (root : ℕ) (row : Row) (leaf : ℕ) : Type 0 where
@@ -48,3 +52,45 @@ IsNextDamage pages count root from damage =
 -- the rule Words, broken at page 0
 abbrev pub words_disagree : Damage
 words_disagree = record { page = 0; rule = Words }
+
+-- the number that the words by text have of a word, or none, where they are well formed
+abbrev pub IsTextSought : PageMap → Tables → List ℕ → Option ℕ → Type 0
+IsTextSought pages tables word found =
+    IsMap texts_form pages tables.texts → lookup (word_code word) (map_rows texts_form pages tables.texts) ≡ option_map number_bytes found
+
+-- the row that the words by number have of a number, or none, where they are well formed
+abbrev pub IsRowSought : PageMap → Tables → ℕ → Option Counted → Type 0
+IsRowSought pages tables number row =
+    IsMap numbers_form pages tables.numbers → lookup number (map_rows numbers_form pages tables.numbers) ≡ option_map counted_value row
+
+-- What the word tables say of a word, its number and that number's row, or that of the next number, is no word's that can be held once more.
+pub record IsUnholdable (pages : PageMap) (tables : Tables) (word : List ℕ) : Type 0 where
+  pub found : Option ℕ
+  pub row : Option Counted
+  pub text : IsTextSought pages tables word found
+  pub number : IsRowSought pages tables (unwrap_or found tables.next_word) row
+  pub unheld : IsHoldableRow word found row → ⊥
+
+-- Why a word's count is damaged: a page of the words by text is, or one of those by number, or there the row of the word's number or of the next one is no word's, or the two disagree.
+abbrev pub IsCountDamage : PageMap → ℕ → Tables → List ℕ → List ℕ → List ℕ → Damage → Type 0
+IsCountDamage pages count tables word before asked damage =
+    (IsMapDamaged texts_form pages count tables.texts damage × AskedSince before asked damage.page)
+    ⊎ (IsMapDamaged numbers_form pages count tables.numbers damage × AskedSince before asked damage.page)
+    ⊎ ((damage.rule ≡ Value) × (found : Option ℕ) × IsTextSought pages tables word found
+    × (IsMap numbers_form pages tables.numbers → (bytes : List ℕ) × IsBrokenNumber pages tables.numbers (unwrap_or found tables.next_word, bytes) damage.page))
+    ⊎ ((damage ≡ words_disagree) × IsUnholdable pages tables word)
+
+-- What the word tables say of a number is no word that can be released: there is no row, or the word of the row has its last place, and the words by text have another number of it, or none.
+abbrev pub IsUnreleasable : PageMap → Tables → ℕ → Type 0
+IsUnreleasable pages tables number =
+    IsRowSought pages tables number None
+    ⊎ ((counted : Counted) × IsRowSought pages tables number (Some counted) × (counted.places ≤ 1)
+    × (found : Option ℕ) × IsTextSought pages tables counted.word found × (found ≢ Some number))
+
+-- Why a release is damaged: a page of the words by number is, or the row there is no word's, or a page of the words by text is, or the two disagree.
+abbrev pub IsReleaseDamage : PageMap → ℕ → Tables → ℕ → List ℕ → List ℕ → Damage → Type 0
+IsReleaseDamage pages count tables number before asked damage =
+    (IsMapDamaged numbers_form pages count tables.numbers damage × AskedSince before asked damage.page)
+    ⊎ ((damage.rule ≡ Value) × (IsMap numbers_form pages tables.numbers → (bytes : List ℕ) × IsBrokenNumber pages tables.numbers (number, bytes) damage.page))
+    ⊎ (IsMapDamaged texts_form pages count tables.texts damage × AskedSince before asked damage.page)
+    ⊎ ((damage ≡ words_disagree) × IsUnreleasable pages tables number)

@@ -51,10 +51,20 @@ pub record Holds (pages : PageMap) (tables : Tables) (entries : Entries) : Type 
   pub texts : HoldsTexts pages tables.texts entries.texts
   pub numbers : HoldsNumbers pages tables.numbers entries.numbers
 
+-- A map of which each page stayed is the same map: as well formed, of the same rows, on the same pages.
+pub record IsSameMap (form : Form) (old new : PageMap) (root : ℕ) : Type 0 where
+  pub tree : IsMap form new root
+  pub rows : map_rows form new root ≡ map_rows form old root
+  pub uses : (n : ℕ) → map_uses form new root n ≡ map_uses form old root n
+
 -- how often the tables use a page
 abbrev pub table_uses : PageMap → Tables → ℕ → ℕ
 table_uses pages tables n =
     map_uses places_form pages tables.places n + map_uses texts_form pages tables.texts n + map_uses numbers_form pages tables.numbers n
+
+-- how often the tables of words use a page
+abbrev pub word_uses : PageMap → Tables → ℕ → ℕ
+word_uses pages tables n = map_uses texts_form pages tables.texts n + map_uses numbers_form pages tables.numbers n
 
 -- The free list ends at 0, no page is used twice or both used and free, each is counted, and none is page 0.
 pub record IsApart (v : View) (tables : Tables) : Type 0 where

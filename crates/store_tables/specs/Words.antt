@@ -1,5 +1,5 @@
 -- Words and their numbers: how a place's hold on a word is counted.
-use Rattle.std.specs.Prelude.{◌≡◌, ◌↔◌, ℕ, ◌+◌, ◌-◌, ◌<◌, ◌≤◌, ◌^◌, ◌==◌, if◌then◌else◌, nat_le, Bool, List, [], ◌∷◌, Option, Some, None, IsSome, IfSome, option_map, unwrap_or}
+use Rattle.std.specs.Prelude.{◌≡◌, ◌↔◌, ℕ, ◌+◌, ◌-◌, ◌<◌, ◌≤◌, ◌^◌, ◌==◌, if◌then◌else◌, nat_le, Bool, List, [], ◌∷◌, Option, Some, None, IsSome, IsSomeAnd, IfSome, option_map, unwrap_or}
 use Rattle.std.specs.BTreeMap.{insert_entry, is_at}
 use Rattle.std.specs.List.{list_any, count_by}
 use Rattle.std.specs.Map.{remove_entry, values_of}
@@ -11,9 +11,17 @@ use Rattle.store_rows.specs.Pairs.{Pair}
 use Rattle.store_rows.specs.Stored.{held_pairs}
 use Rattle.store_tables.specs.Entries.{Entries, word_cmp, number_of_word, word_of_number}
 
+-- the word of a number's row, if there is one
+abbrev pub word_in : Option Counted → Option (List ℕ)
+word_in = option_map (λ (c : Counted). c.word)
+
+-- how many places hold the word of a number's row; none where there is no row
+abbrev pub places_in : Option Counted → ℕ
+places_in row = unwrap_or (option_map (λ (c : Counted). c.places) row) 0
+
 -- how many places hold a number's word; none where the number has no word
 abbrev pub places_of_number : ℕ → List (ℕ × Counted) → ℕ
-places_of_number number numbers = unwrap_or (option_map (λ (c : Counted). c.places) (word_of_number number numbers)) 0
+places_of_number number numbers = places_in (word_of_number number numbers)
 
 -- the place has a pair of this number
 abbrev pub has_number : ℕ → Stored → Bool
@@ -25,7 +33,7 @@ holders number places = count_by (has_number number) (values_of places)
 
 -- The word tables agree, each word has as many places as are claimed, and at least one, and each number is below the next one.
 pub record WordTablesAgree (claims : ℕ → ℕ) (texts : List (List ℕ × ℕ)) (numbers : List (ℕ × Counted)) (next_word : ℕ) : Type 0 where
-  pub inverse : (word : List ℕ) (number : ℕ) → (number_of_word word texts ≡ Some number) ↔ (option_map (λ (c : Counted). c.word) (word_of_number number numbers) ≡ Some word)
+  pub inverse : (word : List ℕ) (number : ℕ) → (number_of_word word texts ≡ Some number) ↔ (word_in (word_of_number number numbers) ≡ Some word)
   pub counts : (number : ℕ) → places_of_number number numbers ≡ claims number
   pub some : (number : ℕ) → IfSome (word_of_number number numbers) (λ c. 1 ≤ c.places)
   pub below : (number : ℕ) → IsSome (word_of_number number numbers) → number < next_word
@@ -57,11 +65,14 @@ with_hold word next_word entries =
       numbers = insert_entry nat_cmp entries.numbers number (record { word = word; places = places_of_number number entries.numbers + 1 });
     }
 
--- The two tables agree on a word that has this number, or none, and its count can rise: the number is the word's, and fewer than 2^32 - 1 places hold it; and where the word has none, no word has the next number.
+-- The two tables agree on a word that has this number, or none, and its count can rise, by the row of that number, or of the next one: the row is the word's, and fewer than 2^32 - 1 places hold it; and where the word has no number, there is no row.
+abbrev pub IsHoldableRow : List ℕ → Option ℕ → Option Counted → Type 0
+IsHoldableRow word None row = row ≡ None
+IsHoldableRow word (Some number) row = (word_in row ≡ Some word) × (places_in row + 1 < 2 ^ 32)
+
+-- and by the rows of all numbers
 abbrev pub IsHoldable : List ℕ → ℕ → List (ℕ × Counted) → Option ℕ → Type 0
-IsHoldable word next_word numbers None = word_of_number next_word numbers ≡ None
-IsHoldable word next_word numbers (Some number) =
-    (option_map (λ (c : Counted). c.word) (word_of_number number numbers) ≡ Some word) × (places_of_number number numbers + 1 < 2 ^ 32)
+IsHoldable word next_word numbers found = IsHoldableRow word found (word_of_number (unwrap_or found next_word) numbers)
 
 -- the two tables agree on a word, and its count can rise
 abbrev pub CanHold : List ℕ → ℕ → Entries → Type 0
@@ -81,6 +92,11 @@ released number (Some counted) entries =
 -- one place less holds the number's word
 abbrev pub without_hold : ℕ → Entries → Entries
 without_hold number entries = released number (word_of_number number entries.numbers) entries
+
+-- The number has a word, and where the word goes with its last place, the words by text have that number of it.
+abbrev pub CanRelease : ℕ → Entries → Type 0
+CanRelease number entries =
+    IsSomeAnd (word_of_number number entries.numbers) (λ (c : Counted). c.places ≤ 1 → number_of_word c.word entries.texts ≡ Some number)
 
 -- the words with one more, where the number has one
 abbrev pub with_word : Option Counted → ℕ → List (List ℕ × ℕ) → List (List ℕ × ℕ)

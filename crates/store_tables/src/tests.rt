@@ -147,3 +147,75 @@ fn a_row_of_no_place_is_damaged(rt: HostRuntime) -> Result<(), Fail> {
     assert!(rt; tables.next_place(&mut pages, None) == Err(PageFault::Damaged(damage)));
     Ok(())
 }
+
+// Words that are held one after another, and their numbers.
+static HELD: [(&str, u64); 4] = [("tea", 1), ("cake", 2), ("tea", 1), ("art", 3)];
+
+static NO_TABLES: Tables = Tables {
+    places: 0,
+    texts: 0,
+    numbers: 0,
+    next_word: 1,
+};
+
+static DISAGREEMENT: PageFault = PageFault::Damaged(Damage {
+    page: 0,
+    rule: Rule::Words,
+});
+
+// The word of a text.
+fn word(text: &str) -> Option<Word> {
+    let mut form = [0; 33];
+    for (to, from) in form.iter_mut().zip(text.bytes()) {
+        *to = from;
+    }
+    form[32] = u8::try_from(text.len()).ok()?;
+    Word::of_bytes(&form)
+}
+
+// Holds the words, and answers whether each has its number.
+fn hold_all(pages: &mut MemoryPages, tables: &mut Tables) -> Result<bool, PageFault> {
+    let mut are_so = true;
+    for (text, number) in HELD {
+        let Some(word) = word(text) else {
+            return Ok(false);
+        };
+        if tables.next_word >= 100 {
+            return Ok(false);
+        }
+        are_so &= tables.hold(pages, &word)? == number;
+    }
+    Ok(are_so)
+}
+
+#[test]
+fn a_word_keeps_the_number_that_it_is_given(rt: HostRuntime) -> Result<(), Fail> {
+    let mut pages = MemoryPages::new(rt.alloc(), 10);
+    let mut tables = NO_TABLES;
+    assert!(rt; hold_all(&mut pages, &mut tables)?);
+    assert_eq!(rt; tables.next_word, 4);
+    assert!(rt; tables.word_of(&mut pages, 2)? == word("cake"));
+    let counted = tables.counted(&mut pages, 1)?.ok_or("no tea")?;
+    assert_eq!(rt; counted.places, 2);
+    Ok(())
+}
+
+#[test]
+fn tables_of_words_that_disagree_are_damaged(rt: HostRuntime) -> Result<(), Fail> {
+    let mut pages = MemoryPages::new(rt.alloc(), 10);
+    let cafe = Word::of_bytes(&CAFE).ok_or("no word")?;
+    let mut both = Tables {
+        next_word: 8,
+        ..tables(&mut pages, &PLACE)?
+    };
+    let mut no_number = Tables { numbers: 0, ..both };
+    let mut next_is_known = Tables {
+        texts: 0,
+        next_word: 7,
+        ..both
+    };
+    assert!(rt; no_number.hold(&mut pages, &cafe) == Err(DISAGREEMENT));
+    assert!(rt; next_is_known.hold(&mut pages, &cafe) == Err(DISAGREEMENT));
+    assert_eq!(rt; both.hold(&mut pages, &cafe)?, 7);
+    Ok(())
+}

@@ -1,22 +1,25 @@
-//! Places that are put into the place table.
-ghost use Rattle.std.specs.Prelude.{◌≡◌, ◌⊎◌, ℕ, ◌≤◌, List, IfOk, OnErr, IsTrue, IsErrOf, is_some};
+//! Rows that are put into one of the tables.
+ghost use Rattle.std.specs.Prelude.{◌≡◌, ◌⊎◌, ℕ, ◌≤◌, List, IfOk, OnOk, OnErr, IsTrue, IsErrOf, is_some};
+ghost use Rattle.std.specs.BTreeMap.{insert_entry};
+ghost use Rattle.std.specs.Ordering.{nat_cmp};
 ghost use Rattle.page_face.specs.Causes.{Rose};
 ghost use Rattle.map_nodes.specs.Supply.{view};
 ghost use Rattle.map_nodes.specs.Tree.{map_uses};
 ghost use Rattle.map_nodes.specs.Damages.{AreTold, AskedSince, AsksOnly, IsRefusedTake};
 ghost use Rattle.paged_map.specs.Maps.{IsMapDamaged};
 ghost use Rattle.store_rows.specs.Stored.{IsStored};
-ghost use Rattle.store_tables.specs.Entries.{Entries, place_of_key, with_place};
+ghost use Rattle.store_tables.specs.Entries.{Entries, number_of_word, place_of_key, with_place, word_cmp, word_of_number};
 
 use crate::Tables;
-use crate::layouts::Places;
+use crate::layouts::{Numbers, Places, Texts};
 use crate::maps::put_row;
 use page_face::{Damage, PageFault, Pages};
 use spatial_base::Key;
-use store_rows::Stored;
+use store_rows::{Counted, Stored, number_bytes};
+use term_impacts::Word;
 
 impl Tables {
-    ghost use Rattle.store_tables.specs.Holding.{Holds, IsApart, IsChanged, places_form};
+    ghost use Rattle.store_tables.specs.Holding.{Holds, IsApart, IsChanged, IsSameMap, numbers_form, places_form, texts_form};
 
     /// Puts a place at its key, and answers whether the key was there.
     ///
@@ -55,6 +58,81 @@ impl Tables {
     {
         let put = put_row::<Places, P>(pages, self.places, &key.bytes(), &stored.encode())?;
         self.places = put.root;
+        Ok(put.was)
+    }
+
+    /// Puts a word's number at its text, and answers whether the word was there.
+    pub(crate) fn put_text<P: Pages>(
+        &mut self,
+        pages: &mut P,
+        word: &Word,
+        number: u64,
+    ) -> Result<bool, PageFault>
+        ensures put { (entries : Entries) (free : List ℕ) → Holds (P.pages pages.old) self.old entries → IsApart (view (P.pages pages.old) (P.count pages.old) (P.first pages.old) free) self.old
+            → IfOk result (λ was. (was ≡ is_some (number_of_word word.now entries.texts))
+            × IsChanged (view (P.pages pages.old) (P.count pages.old) (P.first pages.old) free) self.old
+            (P.pages pages.new) (P.count pages.new) (P.first pages.new) self.new (record entries { texts = insert_entry word_cmp entries.texts word.now number })) }
+        ensures honest { (entries : Entries) (free : List ℕ) → Holds (P.pages pages.old) self.old entries → IsApart (view (P.pages pages.old) (P.count pages.old) (P.first pages.old) free) self.old
+            → (damage : Damage) → ¬ IsErrOf result (PageFault.Damaged damage) }
+        ensures damaged { AreTold (P.pages pages.old) (P.count pages.old)
+            → (damage : Damage) → IsErrOf result (PageFault.Damaged damage)
+            → (IsMapDamaged texts_form (P.pages pages.old) (P.count pages.old) self.old.texts damage × AskedSince (P.asked pages.old) (P.asked pages.new) damage.page)
+            ⊎ IsRefusedTake (P.pages pages.new) (P.count pages.new) (P.first pages.new) damage }
+        ensures own { AreTold (P.pages pages.old) (P.count pages.old)
+            → AsksOnly (map_uses texts_form (P.pages pages.old) self.old.texts) (P.asked pages.old) (P.asked pages.new) }
+        ensures others { self.new ≡ record self.old { texts = self.new.texts } }
+        ensures kept { OnErr result (self.new ≡ self.old) }
+        ensures disk { IsErrOf result PageFault.Disk → Rose (P.faults pages.old) (P.faults pages.new) }
+        ensures no_room { IsErrOf result PageFault.NoRoom → Rose (P.refused pages.old) (P.refused pages.new) }
+        ensures stopped { IsErrOf result PageFault.Stopped → IsTrue (P.is_stopped pages.old) }
+
+        ensures room { P.room pages.new ≡ P.room pages.old }
+        ensures faults { P.faults pages.old ≤ P.faults pages.new }
+        ensures refused { P.refused pages.old ≤ P.refused pages.new }
+        ensures goes_on { P.is_stopped pages.new ≡ P.is_stopped pages.old }
+        ensures follows { P.follows_from pages.old pages.new }
+    {
+        let put = put_row::<Texts, P>(pages, self.texts, &word.bytes(), &number_bytes(number))?;
+        self.texts = put.root;
+        Ok(put.was)
+    }
+
+    /// Puts a word and its count at the word's number, and answers whether the number was there. The words by text stay.
+    pub(crate) fn put_number<P: Pages>(
+        &mut self,
+        pages: &mut P,
+        number: u64,
+        counted: &Counted,
+    ) -> Result<bool, PageFault>
+        ensures put { (entries : Entries) (free : List ℕ) → Holds (P.pages pages.old) self.old entries → IsApart (view (P.pages pages.old) (P.count pages.old) (P.first pages.old) free) self.old
+            → IfOk result (λ was. (was ≡ is_some (word_of_number number entries.numbers))
+            × IsChanged (view (P.pages pages.old) (P.count pages.old) (P.first pages.old) free) self.old
+            (P.pages pages.new) (P.count pages.new) (P.first pages.new) self.new (record entries { numbers = insert_entry nat_cmp entries.numbers number counted.now })) }
+        ensures texts { (entries : Entries) (free : List ℕ) → Holds (P.pages pages.old) self.old entries → IsApart (view (P.pages pages.old) (P.count pages.old) (P.first pages.old) free) self.old
+            → OnOk result (IsSameMap texts_form (P.pages pages.old) (P.pages pages.new) self.old.texts) }
+        ensures honest { (entries : Entries) (free : List ℕ) → Holds (P.pages pages.old) self.old entries → IsApart (view (P.pages pages.old) (P.count pages.old) (P.first pages.old) free) self.old
+            → (damage : Damage) → ¬ IsErrOf result (PageFault.Damaged damage) }
+        ensures damaged { AreTold (P.pages pages.old) (P.count pages.old)
+            → (damage : Damage) → IsErrOf result (PageFault.Damaged damage)
+            → (IsMapDamaged numbers_form (P.pages pages.old) (P.count pages.old) self.old.numbers damage × AskedSince (P.asked pages.old) (P.asked pages.new) damage.page)
+            ⊎ IsRefusedTake (P.pages pages.new) (P.count pages.new) (P.first pages.new) damage }
+        ensures own { AreTold (P.pages pages.old) (P.count pages.old)
+            → AsksOnly (map_uses numbers_form (P.pages pages.old) self.old.numbers) (P.asked pages.old) (P.asked pages.new) }
+        ensures others { self.new ≡ record self.old { numbers = self.new.numbers } }
+        ensures kept { OnErr result (self.new ≡ self.old) }
+        ensures disk { IsErrOf result PageFault.Disk → Rose (P.faults pages.old) (P.faults pages.new) }
+        ensures no_room { IsErrOf result PageFault.NoRoom → Rose (P.refused pages.old) (P.refused pages.new) }
+        ensures stopped { IsErrOf result PageFault.Stopped → IsTrue (P.is_stopped pages.old) }
+
+        ensures room { P.room pages.new ≡ P.room pages.old }
+        ensures faults { P.faults pages.old ≤ P.faults pages.new }
+        ensures refused { P.refused pages.old ≤ P.refused pages.new }
+        ensures goes_on { P.is_stopped pages.new ≡ P.is_stopped pages.old }
+        ensures follows { P.follows_from pages.old pages.new }
+    {
+        let key = number_bytes(number);
+        let put = put_row::<Numbers, P>(pages, self.numbers, &key, &counted.encode())?;
+        self.numbers = put.root;
         Ok(put.was)
     }
 }

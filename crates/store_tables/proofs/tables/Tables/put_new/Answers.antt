@@ -1,0 +1,64 @@
+use Rattle.std.proofs.Common.{◌≡◌, ◌+◌, Err, inl, inr, ⊎_elim, ap, subst}
+use Rattle.std.proofs.lemmas.Result.{err_from_is_err_and}
+use Rattle.page_face.specs.declared.fault.PageFault.TheVariants.{Damaged}
+use Rattle.map_nodes.specs.Supply.{View, view}
+use Rattle.map_nodes.specs.Damages.{AsksOnly}
+use Rattle.map_nodes.specs.Tree.{map_uses}
+use Rattle.store_tables.specs.declared.tables.Tables.{Tables}
+use Rattle.store_tables.specs.Holding.{texts_form}
+use Rattle.store_tables.proofs.FrameLemmas.{changed-further}
+use Rattle.store_tables.proofs.HoldLemmas.{changed-next}
+use Rattle.store_tables.proofs.ToldLemmas.{asks-both, asks-numbers, told-changed}
+use Rattle.store_tables.proofs.tables.Tables.put_new.Goals as goal
+
+pub returns-clause-put : goal.returns-clause-put
+returns-clause-put g c entries free holds apart =
+    let first = c.in_ok-put_number.ensures.put entries free holds apart in
+    let second = c.in_ok-put_text.ensures.put _ first.1.free first.1.holds first.1.apart in
+    changed-next (changed-further first.1 second.1) (c.args.self.now.next_word + 1)
+
+pub returns-clause-own : goal.returns-clause-own
+returns-clause-own g c entries free holds apart told =
+    let before : View = view (g.P.Pages.pages c.args.pages.now) (g.P.Pages.count c.args.pages.now) (g.P.Pages.first c.args.pages.now) free in
+    let first = c.in_ok-put_number.ensures.put entries free holds apart in
+    asks-both (g.P.Pages.pages c.args.pages.now) (g.P.Pages.pages c.put_number.new.pages) c.args.self.now _ _ _ (c.in_ok-put_number.ensures.texts entries free holds apart)
+    (c.put_number.ensures.own told) (subst (λ (t : Tables). AsksOnly (map_uses texts_form (g.P.Pages.pages c.put_number.new.pages) t.texts) (g.P.Pages.asked c.put_number.new.pages) (g.P.Pages.asked c.put_text.new.pages)) c.put_number.ensures.others
+    (c.put_text.ensures.own (told-changed before c.args.self.now _ _ _ _ _ first.1 told)))
+
+pub returns-in_err-put_number-clause-honest : goal.returns-in_err-put_number-clause-honest
+returns-in_err-put_number-clause-honest g c entries free holds apart damage =
+    let p = err_from_is_err_and c.from_residual.result c.from_residual.ensures.1 in
+    λ e. (let same : c.in_err-put_number.field-0.0 ≡ Damaged damage = cc (p.1, p.2, e) in
+    c.in_err-put_number.ensures.honest entries free holds apart damage (ap Err same))
+
+pub returns-in_err-put_number-clause-damaged : goal.returns-in_err-put_number-clause-damaged
+returns-in_err-put_number-clause-damaged g c told damage =
+    let p = err_from_is_err_and c.from_residual.result c.from_residual.ensures.1 in
+    λ e. (let same : c.in_err-put_number.field-0.0 ≡ Damaged damage = cc (p.1, p.2, e) in
+    ⊎_elim (λ map. inl map) (λ take. inr (inl take)) (c.in_err-put_number.ensures.damaged told damage (ap Err same)))
+
+pub returns-in_err-put_number-clause-own : goal.returns-in_err-put_number-clause-own
+returns-in_err-put_number-clause-own g c entries free holds apart told = asks-numbers (g.P.Pages.pages c.args.pages.now) c.args.self.now _ _ (c.put_number.ensures.own told)
+
+pub returns-in_err-put_text-clause-honest : goal.returns-in_err-put_text-clause-honest
+returns-in_err-put_text-clause-honest g c entries free holds apart damage =
+    let first = c.in_ok-put_number.ensures.put entries free holds apart in
+    let p = err_from_is_err_and c.from_residual-in_err-put_text.result c.from_residual-in_err-put_text.ensures.1 in
+    λ e. (let same : c.in_err-put_text.field-0.0 ≡ Damaged damage = cc (p.1, p.2, e) in
+    c.in_err-put_text.ensures.honest _ first.1.free first.1.holds first.1.apart damage (ap Err same))
+
+pub returns-in_err-put_text-clause-damaged : goal.returns-in_err-put_text-clause-damaged
+returns-in_err-put_text-clause-damaged g c told damage =
+    let p = err_from_is_err_and c.from_residual-in_err-put_text.result c.from_residual-in_err-put_text.ensures.1 in
+    λ e. (let same : c.in_err-put_text.field-0.0 ≡ Damaged damage = cc (p.1, p.2, e) in
+    inr (inr (λ entries free holds apart.
+    let first = c.in_ok-put_number.ensures.put entries free holds apart in
+    c.in_err-put_text.ensures.honest _ first.1.free first.1.holds first.1.apart damage (ap Err same))))
+
+pub returns-in_err-put_text-clause-own : goal.returns-in_err-put_text-clause-own
+returns-in_err-put_text-clause-own g c entries free holds apart told =
+    let before : View = view (g.P.Pages.pages c.args.pages.now) (g.P.Pages.count c.args.pages.now) (g.P.Pages.first c.args.pages.now) free in
+    let first = c.in_ok-put_number.ensures.put entries free holds apart in
+    asks-both (g.P.Pages.pages c.args.pages.now) (g.P.Pages.pages c.put_number.new.pages) c.args.self.now _ _ _ (c.in_ok-put_number.ensures.texts entries free holds apart)
+    (c.put_number.ensures.own told) (subst (λ (t : Tables). AsksOnly (map_uses texts_form (g.P.Pages.pages c.put_number.new.pages) t.texts) (g.P.Pages.asked c.put_number.new.pages) (g.P.Pages.asked c.put_text.new.pages)) c.put_number.ensures.others
+    (c.put_text.ensures.own (told-changed before c.args.self.now _ _ _ _ _ first.1 told)))
