@@ -1,5 +1,5 @@
 //! A disk over the files of a store, and standard output.
-ghost use Rattle.std.specs.Prelude.{◌≡◌, ◌≤◌, ◌<◌, ◌^◌, ◌+◌, false, length, IfOk, OnOk, None, IsErr, IsSome, IsTrue};
+ghost use Rattle.std.specs.Prelude.{◌≡◌, ◌≤◌, ◌<◌, ◌^◌, ◌+◌, ◌++◌, false, length, codes, string_bytes, IfOk, OnOk, None, IsErr, IsSome, IsTrue};
 ghost use Rattle.disk_model.specs.World.{HasRead, HasWritten, HasSynced, HasSaid, HasDiskCause, HasSinkCause};
 ghost use Rattle.std.specs.Io.KnownBytes.{WriteAppends};
 ghost use Rattle.std.proofs.Common.{rules};
@@ -44,6 +44,8 @@ impl<'a, R: Files<File = File>, W: Write + Drop> FileStation<'a, R, W> {
         store: &str,
         output: W,
     ) -> Result<FileStation<'a, R, W>, Memory>
+        ensures pages { IfOk result (λ station. string_bytes station.files.pages ≡ store.now) }
+        ensures journal { IfOk result (λ station. string_bytes station.files.journal ≡ store.now ++ codes ".journal") }
         ensures output { IfOk result (λ station. station.output ≡ output) }
         ensures faults { IfOk result (λ station. station.faults ≡ 0) }
         ensures sink_faults { IfOk result (λ station. station.sink_faults ≡ 0) }
