@@ -8,6 +8,8 @@
 
 mod literal;
 mod scan;
+#[cfg(test)]
+mod tests;
 mod token;
 
 pub use literal::literals_are_json;

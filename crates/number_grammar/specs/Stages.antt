@@ -21,10 +21,11 @@ Continues Exponent bytes = AreDigits bytes
 abbrev pub stage_of_digit : ℕ → Option Stage
 stage_of_digit byte = if byte == 48 then Some Zero else (if is_ascii_digit byte then Some Whole else None)
 
--- the stage after the integer's end
+-- the stage that a letter of an exponent begins
 abbrev pub stage_of_exp : ℕ → Option Stage
 stage_of_exp byte = if byte == 101 || byte == 69 then Some Letter else None
 
+-- the stage after the integer's end: that of a point, or of an exponent's letter
 abbrev pub stage_of_frac : ℕ → Option Stage
 stage_of_frac byte = if byte == 46 then Some Point else stage_of_exp byte
 

@@ -1,5 +1,5 @@
-mod Bytes
+pub mod Bytes
 mod Committed
 mod Headers
 mod OpeningReads
-mod Overlays
+pub mod Overlays

@@ -9,6 +9,7 @@ use Rattle.std.specs.Borrow.{MutBor}
 use Rattle.disk_model.specs.World.{World, Image, Range, LeavesOnly, Nothing}
 use Rattle.disk_model.specs.declared.disk.Area.TheVariants.{Pages}
 use Rattle.page_face.specs.declared.head.Head.{Head}
+use Rattle.page_store.specs.Contents.{Overlay}
 use Rattle.page_store.specs.declared.superblock.Superblock.{Superblock}
 
 -- From old to new no area changed and nothing was said.
@@ -84,8 +85,9 @@ pub record ReadsOnly (pages : List ℕ) (old new : World) : Type 0 where
   pub are : new.reads ≡ old.reads ++ taken
   pub each : AllByRecursion (IsReadOf pages) taken
 
--- more pages were asked for, and the reads taken meanwhile are all of those
-pub record OnlyReads {D : Type 0} (tells : Bool) (world : D → World) (asked_old asked_new : List ℕ) (old new : D) : Type 0 where
+-- More pages were asked for, and the reads taken meanwhile are all of those. The pages that wait for a commit are as they were.
+pub record OnlyReads {D : Type 0} (tells : Bool) (world : D → World) (overlay_old overlay_new : Overlay) (asked_old asked_new : List ℕ) (old new : D) : Type 0 where
+  pub overlay : overlay_new ≡ overlay_old
   pub more : List ℕ
   pub asked : asked_new ≡ asked_old ++ more
   pub reads : IsTrue tells → ReadsOnly more (world old) (world new)
@@ -98,16 +100,19 @@ joined_reads pages more (r ∷ taken) later each behind = ((each.0.0, (each.0.1.
 
 module _ {D : Type 0} (tells : Bool) (world : D → World) where
   -- no read has gone on
-  pub reads_nothing : (asked : List ℕ) (disk : D) → OnlyReads tells world asked asked disk disk
-  reads_nothing asked disk = record {
+  pub reads_nothing : (overlay : Overlay) (asked : List ℕ) (disk : D) → OnlyReads tells world overlay overlay asked asked disk disk
+  reads_nothing overlay asked disk = record {
+    overlay = refl;
     more = [];
     asked = sym (append-nil asked);
     reads = λ t. record { taken = []; are = sym (append-nil (world disk).reads); each = tt };
   }
 
   -- one read after another
-  pub reads_further : (asked_a asked_b asked_c : List ℕ) (a b c : D) → OnlyReads tells world asked_a asked_b a b → OnlyReads tells world asked_b asked_c b c → OnlyReads tells world asked_a asked_c a c
-  reads_further asked_a asked_b asked_c a b c f g = record {
+  pub reads_further : (overlay_a overlay_b overlay_c : Overlay) (asked_a asked_b asked_c : List ℕ) (a b c : D)
+      → OnlyReads tells world overlay_a overlay_b asked_a asked_b a b → OnlyReads tells world overlay_b overlay_c asked_b asked_c b c → OnlyReads tells world overlay_a overlay_c asked_a asked_c a c
+  reads_further overlay_a overlay_b overlay_c asked_a asked_b asked_c a b c f g = record {
+    overlay = g.overlay ∙ f.overlay;
     more = f.more ++ g.more;
     asked = g.asked ∙ ap (λ (l : List ℕ). l ++ g.more) f.asked ∙ append_assoc asked_a f.more g.more;
     reads = λ t. let first = f.reads t in let second = g.reads t in record {

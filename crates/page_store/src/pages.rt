@@ -70,7 +70,7 @@ impl<'d, D: Disk> Pages for Store<'d, D> {
 
     ghost follows_from = { λ a b. GoesOn D.tells D.world D.room_of (kept_of a.current a.last) (kept_of b.current b.last) a.disk b.disk };
 
-    ghost only_reads = { λ a b. OnlyReads D.tells D.world a.asked.items b.asked.items a.disk.now b.disk.now };
+    ghost only_reads = { λ a b. OnlyReads D.tells D.world a.overlay b.overlay a.asked.items b.asked.items a.disk.now b.disk.now };
 
     ghost first_is_counted = { λ s. s.current_first };
 
@@ -78,9 +78,9 @@ impl<'d, D: Disk> Pages for Store<'d, D> {
 
     ghost goes_further = { λ a b c f g. goes_further D.tells D.world D.room_of (kept_of a.current a.last) (kept_of b.current b.last) (kept_of c.current c.last) a.disk b.disk c.disk f g };
 
-    ghost reads_nothing = { λ s. reads_nothing D.tells D.world s.asked.items s.disk.now };
+    ghost reads_nothing = { λ s. reads_nothing D.tells D.world s.overlay s.asked.items s.disk.now };
 
-    ghost reads_further = { λ a b c f g. reads_further D.tells D.world a.asked.items b.asked.items c.asked.items a.disk.now b.disk.now c.disk.now f g };
+    ghost reads_further = { λ a b c f g. reads_further D.tells D.world a.overlay b.overlay c.overlay a.asked.items b.asked.items c.asked.items a.disk.now b.disk.now c.disk.now f g };
 
     fn counted(&self) -> u32 {
         self.current.counted

@@ -146,5 +146,6 @@ abbrev pub where_or_end : Option (Token × List ℕ) → Result (Option Expr) Li
 where_or_end None = Ok None
 where_or_end (Some found) = if is_word (codes "where") found.0 then condition found.1 else Err Extra
 
+-- the filter that a query ends with, where it has one
 unfoldable pub filter_of : List ℕ → Result (Option Expr) LineFault
 filter_of text = where_or_end (token_of text)

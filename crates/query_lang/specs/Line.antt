@@ -144,6 +144,7 @@ remove_line = do
   key ← part (key_of true)
   at_end (lines.Do (updates.Remove key))
 
+-- KEY
 abbrev pub show_line : List ℕ → Result Line LineFault
 show_line = do
   key ← part (key_of true)

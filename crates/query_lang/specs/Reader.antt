@@ -14,8 +14,8 @@ abbrev pub and_then : {A B : Type 0} → (A → List ℕ → Result B LineFault)
 and_then go (Ok read) = go read.0 read.1
 and_then go (Err fault) = Err fault
 
--- a part, and then what follows it
 infixl 10 ◌>>=◌
+-- a part, and then what follows it
 abbrev pub ◌>>=◌ : {A B : Type 0} → Reader A → (A → List ℕ → Result B LineFault) → List ℕ → Result B LineFault
 (read >>= go) text = and_then go (read text)
 

@@ -21,10 +21,11 @@ pub record Holds (r : Bounds) (p : Position) : Type 0 where
   pub south : r.south ≤ℤ p.y
   pub north : p.y ≤ℤ r.north
 
--- the same as a test
+-- a number within a range, as a test
 abbrev pub is_in_range : ℤ → ℤ → ℤ → Bool
 is_in_range low high a = int_le low a && int_le a high
 
+-- the rectangle holds the point, as a test
 abbrev pub holds_point : Bounds → Position → Bool
 holds_point r p = is_in_range r.west r.east p.x && is_in_range r.south r.north p.y
 

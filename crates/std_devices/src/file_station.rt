@@ -1,5 +1,5 @@
 //! A disk over the files of a store, and standard output.
-ghost use Rattle.std.specs.Prelude.{◌≡◌, ◌≤◌, ◌<◌, ◌^◌, ◌+◌, false, length, IfOk, None, IsErr, IsSome, IsTrue};
+ghost use Rattle.std.specs.Prelude.{◌≡◌, ◌≤◌, ◌<◌, ◌^◌, ◌+◌, ◌++◌, false, length, codes, string_bytes, IfOk, OnOk, None, IsErr, IsSome, IsTrue};
 ghost use Rattle.disk_model.specs.World.{HasRead, HasWritten, HasSynced, HasSaid, HasDiskCause, HasSinkCause};
 ghost use Rattle.std.specs.Io.KnownBytes.{WriteAppends};
 ghost use Rattle.std.proofs.Common.{rules};
@@ -44,7 +44,12 @@ impl<'a, R: Files<File = File>, W: Write + Drop> FileStation<'a, R, W> {
         store: &str,
         output: W,
     ) -> Result<FileStation<'a, R, W>, Memory>
-        ensures { IfOk result (λ station. station.trouble ≡ None) }
+        ensures pages { IfOk result (λ station. string_bytes station.files.pages ≡ store.now) }
+        ensures journal { IfOk result (λ station. string_bytes station.files.journal ≡ store.now ++ codes ".journal") }
+        ensures output { IfOk result (λ station. station.output ≡ output) }
+        ensures faults { IfOk result (λ station. station.faults ≡ 0) }
+        ensures sink_faults { IfOk result (λ station. station.sink_faults ≡ 0) }
+        ensures trouble { IfOk result (λ station. station.trouble ≡ None) }
     {
         Ok(FileStation {
             files: StoreFiles::new(alloc, rt, store)?,
@@ -66,6 +71,8 @@ impl<'a, R: Files<File = File>, W: Write + Drop> FileStation<'a, R, W> {
     fn counted(&mut self, outcome: Result<(), FileTrouble>) -> Result<(), Failed>
         ensures cause { HasDiskCause (untold self.old.faults self.old.sink_faults) (untold self.new.faults self.new.sink_faults) result }
         ensures trouble { IsErr result → IsSome self.new.trouble }
+        ensures kept { OnOk result (self.new.trouble ≡ self.old.trouble) }
+        ensures output { self.new.output ≡ self.old.output }
     {
         match outcome {
             Ok(()) => Ok(()),
@@ -100,6 +107,8 @@ impl<'a, R: Files<File = File>, W: Write + Drop> Disk for FileStation<'a, R, W> 
         ensures told { IsTrue false → HasRead area at buf.new (untold self.old.faults self.old.sink_faults) (untold self.new.faults self.new.sink_faults) result }
         ensures cause { HasDiskCause (untold self.old.faults self.old.sink_faults) (untold self.new.faults self.new.sink_faults) result }
         ensures trouble { IsErr result → IsSome self.new.trouble }
+        ensures kept { OnOk result (self.new.trouble ≡ self.old.trouble) }
+        ensures output { self.new.output ≡ self.old.output }
     {
         let outcome = self.files.read(area, at, buf);
         self.counted(outcome)
@@ -110,6 +119,8 @@ impl<'a, R: Files<File = File>, W: Write + Drop> Disk for FileStation<'a, R, W> 
         ensures told { IsTrue false → HasWritten area at bytes.now (untold self.old.faults self.old.sink_faults) (untold self.new.faults self.new.sink_faults) result }
         ensures cause { HasDiskCause (untold self.old.faults self.old.sink_faults) (untold self.new.faults self.new.sink_faults) result }
         ensures trouble { IsErr result → IsSome self.new.trouble }
+        ensures kept { OnOk result (self.new.trouble ≡ self.old.trouble) }
+        ensures output { self.new.output ≡ self.old.output }
     {
         let outcome = self.files.write(area, at, bytes);
         self.counted(outcome)
@@ -119,6 +130,8 @@ impl<'a, R: Files<File = File>, W: Write + Drop> Disk for FileStation<'a, R, W> 
         ensures told { IsTrue false → HasSynced area (untold self.old.faults self.old.sink_faults) (untold self.new.faults self.new.sink_faults) result }
         ensures cause { HasDiskCause (untold self.old.faults self.old.sink_faults) (untold self.new.faults self.new.sink_faults) result }
         ensures trouble { IsErr result → IsSome self.new.trouble }
+        ensures kept { OnOk result (self.new.trouble ≡ self.old.trouble) }
+        ensures output { self.new.output ≡ self.old.output }
     {
         let outcome = self.files.sync(area);
         self.counted(outcome)
@@ -132,6 +145,7 @@ impl<'a, R: Files<File = File>, W: Write + Drop> Station for FileStation<'a, R, 
         ensures told { IsTrue false → HasSaid bytes.now (untold self.old.faults self.old.sink_faults) (untold self.new.faults self.new.sink_faults) result }
         ensures cause { HasSinkCause (untold self.old.faults self.old.sink_faults) (untold self.new.faults self.new.sink_faults) result }
         ensures bytes { WriteAppends (W.contents self.old.output) (W.contents self.new.output) result bytes.now }
+        ensures trouble { self.new.trouble ≡ self.old.trouble }
     {
         match write_some(&mut self.output, bytes) {
             Some(n) => Ok(n),

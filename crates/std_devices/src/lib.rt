@@ -2,7 +2,8 @@
 //! and one over memory that ends with the run.
 //!
 //! None tells its content: that the system's streams and files behave as the traits say is the premise of the program.
-//! Of each device its counts of faults are proved, and one test shows the bytes.
+//! Of each device its counts of faults are proved, of the one over memory also what its areas hold, and one test shows
+//! the bytes.
 #![tactic(auto)]
 
 mod file_station;

@@ -1,6 +1,7 @@
 //! A disk in memory that ends with the run, and standard output.
-ghost use Rattle.std.specs.Prelude.{◌≤◌, ◌<◌, ◌^◌, ◌+◌, false, length, IfOk};
-ghost use Rattle.disk_model.specs.World.{HasDiskCause, HasSinkCause};
+ghost use Rattle.std.specs.Prelude.{◌≡◌, ◌≤◌, ◌<◌, ◌^◌, ◌+◌, ℕ, false, [], length, slice_index, IfOk, OnOk, OnErr, IsOk};
+ghost use Rattle.disk_model.specs.World.{Reads, Torn, Written, HasDiskCause, HasSinkCause};
+ghost use Rattle.disk_model.specs.Stored.{Put, stored};
 ghost use Rattle.std.specs.Io.KnownBytes.{WriteAppends};
 ghost use Rattle.std.proofs.Common.{rules};
 ghost use Rattle.std_devices.specs.Untold.{untold};
@@ -14,8 +15,9 @@ use std::rt::Stdout;
 /// The number of pages that the area Pages may have.
 const ROOM: u32 = 262_144;
 
-/// Both areas in memory, and standard output as the sink. It tells no content; each call that fails raises the count of
-/// its kind, and so does a growth that finds no memory.
+/// Both areas in memory, and standard output as the sink. It tells no content, since its sink doesn't, but what its areas
+/// hold is proved of each call. A read and a sync never fail, a write where it finds no memory; each call that fails
+/// raises the count of its kind.
 #[derive(Drop)]
 pub struct ScratchStation<W: Write + Drop = Stdout> {
     pages: Vec<u8>,
@@ -27,7 +29,13 @@ pub struct ScratchStation<W: Write + Drop = Stdout> {
 
 impl<W: Write + Drop> ScratchStation<W> {
     /// Empty areas, and the sink.
-    pub fn new(alloc: Global, output: W) -> ScratchStation<W> {
+    pub fn new(alloc: Global, output: W) -> ScratchStation<W>
+        ensures pages { result.pages.items ≡ [] }
+        ensures journal { result.journal.items ≡ [] }
+        ensures output { result.output ≡ output }
+        ensures faults { result.faults ≡ 0 }
+        ensures sink_faults { result.sink_faults ≡ 0 }
+    {
         ScratchStation {
             pages: Vec::new(alloc),
             journal: Vec::new(alloc),
@@ -39,7 +47,9 @@ impl<W: Write + Drop> ScratchStation<W> {
 }
 
 // The bytes from a place on, zeros past the end.
-fn copy_out(kept: &[u8], at: usize, buf: &mut [u8]) {
+fn copy_out(kept: &[u8], at: usize, buf: &mut [u8])
+    ensures { (i j : ℕ) → i < length buf.new → at + i ≡ j → slice_index buf.new i ≡ slice_index kept.now j }
+{
     buf.fill(0);
     if at < kept.len() {
         let len = buf.len().min(kept.len() - at);
@@ -47,15 +57,33 @@ fn copy_out(kept: &[u8], at: usize, buf: &mut [u8]) {
     }
 }
 
+// Zeros up to a length, which change nothing that is read.
+fn grow(kept: &mut Vec<u8>, len: usize) -> Result<(), AllocError>
+    ensures len { OnOk result (len ≤ length kept.new.items) }
+    ensures same { (i : ℕ) → slice_index kept.new.items i ≡ slice_index kept.old.items i }
+{
+    if kept.len() < len {
+        kept.resize(len, 0)?;
+    }
+    Ok(())
+}
+
+// Puts the bytes at a place within what is kept.
+fn put(kept: &mut Vec<u8>, at: usize, bytes: &[u8])
+    requires { at + length bytes.now ≤ length kept.old.items }
+    ensures { Put at bytes.now kept.old.items kept.new.items }
+{
+    kept[at..at + bytes.len()].copy_from_slice(bytes);
+}
+
 // Puts the bytes at a place, behind zeros where the area ends before it.
 fn copy_in(kept: &mut Vec<u8>, at: usize, bytes: &[u8]) -> Result<(), AllocError>
     requires { at + length bytes.now < 2 ^ 48 }
+    ensures written { OnOk result (Put at bytes.now kept.old.items kept.new.items) }
+    ensures same { OnErr result ((i : ℕ) → slice_index kept.new.items i ≡ slice_index kept.old.items i) }
 {
-    let end = at + bytes.len();
-    if kept.len() < end {
-        kept.resize(end, 0)?;
-    }
-    kept[at..end].copy_from_slice(bytes);
+    grow(kept, at + bytes.len())?;
+    put(kept, at, bytes);
     Ok(())
 }
 
@@ -79,6 +107,9 @@ impl<W: Write + Drop> Disk for ScratchStation<W> {
     fn read(&mut self, area: Area, at: u64, buf: &mut [u8]) -> Result<(), Failed>
         requires { at + length buf.old < 2 ^ 48 }
         ensures cause { HasDiskCause (untold self.old.faults self.old.sink_faults) (untold self.new.faults self.new.sink_faults) result }
+        ensures done { IsOk result }
+        ensures gives { Reads area at buf.new (stored self.old.pages.items self.old.journal.items) }
+        ensures kept { self.new ≡ self.old }
     {
         match area {
             Area::Pages => copy_out(&self.pages, at as usize, buf),
@@ -90,6 +121,9 @@ impl<W: Write + Drop> Disk for ScratchStation<W> {
     fn write(&mut self, area: Area, at: u64, bytes: &[u8]) -> Result<(), Failed>
         requires { at + length bytes.now < 2 ^ 48 }
         ensures cause { HasDiskCause (untold self.old.faults self.old.sink_faults) (untold self.new.faults self.new.sink_faults) result }
+        ensures written { OnOk result (Written area at bytes.now (stored self.old.pages.items self.old.journal.items) (stored self.new.pages.items self.new.journal.items)) }
+        ensures torn { Torn area at (length bytes.now) (stored self.old.pages.items self.old.journal.items) (stored self.new.pages.items self.new.journal.items) }
+        ensures output { self.new.output ≡ self.old.output }
     {
         let written = match area {
             Area::Pages => copy_in(&mut self.pages, at as usize, bytes),
@@ -105,7 +139,10 @@ impl<W: Write + Drop> Disk for ScratchStation<W> {
     }
 
     // It ends with the run, so nothing is to be made safe.
-    fn sync(&mut self, _area: Area) -> Result<(), Failed> {
+    fn sync(&mut self, _area: Area) -> Result<(), Failed>
+        ensures done { IsOk result }
+        ensures kept { self.new ≡ self.old }
+    {
         Ok(())
     }
 }
@@ -116,6 +153,8 @@ impl<W: Write + Drop> Station for ScratchStation<W> {
         ensures count { IfOk result (λ n. (0 < n) × (n ≤ length bytes.now)) }
         ensures cause { HasSinkCause (untold self.old.faults self.old.sink_faults) (untold self.new.faults self.new.sink_faults) result }
         ensures bytes { WriteAppends (W.contents self.old.output) (W.contents self.new.output) result bytes.now }
+        ensures pages { self.new.pages ≡ self.old.pages }
+        ensures journal { self.new.journal ≡ self.old.journal }
     {
         match write_some(&mut self.output, bytes) {
             Some(n) => Ok(n),

@@ -16,7 +16,10 @@ pub struct StdSource<R: Read + Drop = Stdin> {
 
 impl<R: Read + Drop> StdSource<R> {
     /// The reader, with no fault counted.
-    pub fn new(input: R) -> StdSource<R> {
+    pub fn new(input: R) -> StdSource<R>
+        ensures input { result.input ≡ input }
+        ensures faults { result.faults ≡ 0 }
+    {
         StdSource { input, faults: 0 }
     }
 }

@@ -1,5 +1,5 @@
 //! The two files of a store, opened at first use.
-ghost use Rattle.std.specs.Prelude.{◌<◌, ◌^◌, ◌+◌, length};
+ghost use Rattle.std.specs.Prelude.{◌≡◌, ◌<◌, ◌^◌, ◌+◌, ◌++◌, length, codes, string_bytes, IfOk};
 
 use disk_model::Area;
 use spatial_base::Memory;
@@ -111,7 +111,10 @@ pub(crate) struct StoreFiles<'a, R: Files<File = File>> {
 
 impl<'a, R: Files<File = File>> StoreFiles<'a, R> {
     // Files that no call has opened.
-    pub(crate) fn new(alloc: Global, rt: &'a R, store: &str) -> Result<StoreFiles<'a, R>, Memory> {
+    pub(crate) fn new(alloc: Global, rt: &'a R, store: &str) -> Result<StoreFiles<'a, R>, Memory>
+        ensures pages { IfOk result (λ files. string_bytes files.pages ≡ store.now) }
+        ensures journal { IfOk result (λ files. string_bytes files.journal ≡ store.now ++ codes ".journal") }
+    {
         let mut journal = String::from_str(alloc, store).map_err(|_| Memory)?;
         journal.push_str(".journal").map_err(|_| Memory)?;
         Ok(StoreFiles {

@@ -45,6 +45,7 @@ impl Tables {
         ensures formed { IsMap places_form (P.pages pages.old) self.now.places
             → IfOk result (λ found. (lookup (key_code key.now) (map_rows places_form (P.pages pages.old) self.now.places) ≡ option_map place_value found)
             × IfSome found IsPlaceValue) }
+        ensures of_form { IfOk result (λ found. IfSome found IsPlaceValue) }
         ensures honest { (entries : Entries) → Holds (P.pages pages.old) self.now entries
             → AreTold (P.pages pages.old) (P.count pages.old) → AreCounted (table_uses (P.pages pages.old) self.now) (P.count pages.old)
             → (damage : Damage) → ¬ IsErrOf result (PageFault.Damaged damage) }
@@ -215,6 +216,7 @@ impl Tables {
         ensures formed { IsMap places_form (P.pages pages.old) self.now.places
             → IfOk result (λ found. (first_from (next_code (option_copied after.entry)) (map_rows places_form (P.pages pages.old) self.now.places) ≡ option_map place_row found)
             × IfSome found IsPlaceEntry) }
+        ensures of_form { IfOk result (λ found. IfSome found IsPlaceEntry) }
         ensures honest { (entries : Entries) → Holds (P.pages pages.old) self.now entries
             → AreTold (P.pages pages.old) (P.count pages.old) → AreCounted (table_uses (P.pages pages.old) self.now) (P.count pages.old)
             → (damage : Damage) → ¬ IsErrOf result (PageFault.Damaged damage) }

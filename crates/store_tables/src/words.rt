@@ -161,6 +161,7 @@ impl Tables {
         ensures own { (entries : Entries) (free : List ℕ) → Holds (P.pages pages.old) self.old entries → IsApart (view (P.pages pages.old) (P.count pages.old) (P.first pages.old) free) self.old
             → AreTold (P.pages pages.old) (P.count pages.old)
             → AsksOnly (word_uses (P.pages pages.old) self.old) (P.asked pages.old) (P.asked pages.new) }
+        ensures rises { OnOk result (self.new.next_word ≤ self.old.next_word + 1) }
         ensures others { self.new.places ≡ self.old.places }
         ensures kept { OnErr result (self.new ≡ self.old) }
         ensures disk { IsErrOf result PageFault.Disk → Rose (P.faults pages.old) (P.faults pages.new) }

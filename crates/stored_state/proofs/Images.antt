@@ -25,7 +25,7 @@ pages-one block pages s t is also =
     is.is ∙ ap (λ (e : Entries). state_in e block.head.serial block.head.number) (holds-same pages (tables_in block.head) is.entries also.entries is.holds also.holds) ∙ sym also.is
 
 -- an image stands for one area of pages
-area-one : (image : Image) (a b : ℕ → ℕ) → StandsFor image a → StandsFor image b → a ≡ b
+pub area-one : (image : Image) (a b : ℕ → ℕ) → StandsFor image a → StandsFor image b → a ≡ b
 area-one image a b = ⊎_elim
     (λ left. ⊎_elim (λ right. left.1 ∙ sym right.1) (λ right. absurd (right.0 left.0)))
     (λ left. ⊎_elim (λ right. absurd (left.0 right.0)) (λ right. left.2 ∙ sym right.2))

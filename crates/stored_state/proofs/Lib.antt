@@ -9,3 +9,4 @@ pub mod Places
 pub mod Puts
 pub mod Releases
 pub mod Removes
+pub mod Chances

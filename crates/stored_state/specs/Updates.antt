@@ -1,5 +1,5 @@
 -- What an update does to the entries of the tables.
-use Rattle.std.specs.Prelude.{ℕ, ◌-◌, ◌==◌, Bool, if◌then◌else◌, List, [], ◌∷◌, ◌++◌, length, replicate, fold, Option, Some, None}
+use Rattle.std.specs.Prelude.{◌≡◌, ℕ, ◌-◌, ◌==◌, Bool, true, false, if◌then◌else◌, List, [], ◌∷◌, ◌++◌, length, replicate, fold, Option, Some, None}
 use Rattle.std.specs.BTreeMap.{insert_entry}
 use Rattle.std.specs.List.{list_any}
 use Rattle.std.specs.Ordering.{nat_cmp}
@@ -9,7 +9,7 @@ use Rattle.store_rows.specs.declared.stored.Stored.{Stored}
 use Rattle.store_rows.specs.Pairs.{Pair}
 use Rattle.store_rows.specs.Stored.{held_pairs}
 use Rattle.store_tables.specs.Entries.{Entries, place_of_key, with_place, without_place, number_of_word}
-use Rattle.store_tables.specs.Words.{number_for, next_after, with_hold, without_hold}
+use Rattle.store_tables.specs.Words.{CanHold, number_for, next_after, with_hold, without_hold}
 
 -- whether a number is among the pairs
 abbrev pub has_pair : ℕ → List Pair → Bool
@@ -39,6 +39,14 @@ numbered old (term ∷ words) next_word entries =
     (if has_pair number old
     then numbered old words next_word entries
     else numbered old words (next_after (number_of_word term.0 entries.texts) next_word) (with_hold term.0 next_word entries))
+
+-- In its turn each word that the old place doesn't hold can be held once more.
+abbrev pub CanNumber : List Pair → List (List ℕ × ℕ) → ℕ → Entries → Type 0
+CanNumber old [] next_word entries = Unit {0}
+CanNumber old (term ∷ words) next_word entries =
+    (has_pair (number_for term.0 next_word entries.texts) old ≡ true → CanNumber old words next_word entries)
+    × (has_pair (number_for term.0 next_word entries.texts) old ≡ false
+    → CanHold term.0 next_word entries × CanNumber old words (next_after (number_of_word term.0 entries.texts) next_word) (with_hold term.0 next_word entries))
 
 -- One place less holds each word of the old pairs whose number isn't among the new ones.
 abbrev pub released_all : List Pair → List Pair → Entries → Entries

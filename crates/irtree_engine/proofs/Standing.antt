@@ -1,0 +1,85 @@
+-- What the pages of a store that is committed stand for.
+use Rattle.std.proofs.Common.{◌≡◌, ℕ, ◌+◌, ◌<◌, ◌≤◌, Bool, true, false, List, [], ◌∷◌, length, IsSome, eq-eqb, ◌||◌, inl, refl, sym, ap, subst, ◌∙◌, arith, nat_lt, ◌==◌}
+use Rattle.std.proofs.lemmas.Bool.{ne_eqb, lt-ltb}
+use Rattle.std.specs.List.{AllByRecursion}
+use Rattle.disk_model.specs.World.{World}
+use Rattle.disk_model.specs.declared.disk.Area.TheVariants.{Pages}
+use Rattle.page_store.specs.declared.superblock.Superblock.{Superblock}
+use Rattle.page_store.specs.Contents.{Contents, Overlay, IsCommitted, contents_in, contents_of, counted_pages, page_bytes, shown}
+use Rattle.page_store.proofs.Bytes.{length-page_bytes}
+use Rattle.page_store.proofs.Overlays.{cleared_contents}
+use Rattle.page_face.specs.FreeList.{PageMap}
+use Rattle.page_face.specs.declared.fault.Damage.{Damage}
+use Rattle.page_face.specs.declared.fault.PageFault.{PageFault}
+use Rattle.page_face.specs.declared.fault.PageFault.TheVariants as pages
+use Rattle.map_nodes.specs.Damages.{AreTold}
+use Rattle.map_nodes.specs.Supply.{view}
+use Rattle.paged_map.specs.Maps.{AreCounted}
+use Rattle.spatial_base.specs.Key.{Name}
+use Rattle.store_rows.specs.declared.counted.Counted.{Counted}
+use Rattle.store_rows.specs.declared.stored.Stored.{Stored}
+use Rattle.store_rows.specs.Pairs.{Pair}
+use Rattle.store_rows.specs.Stored.{held_pairs}
+use Rattle.store_tables.specs.Entries.{word_of_number}
+use Rattle.store_tables.specs.Holding.{table_uses}
+use Rattle.store_tables.proofs.ToldLemmas.{apart-counted}
+use Rattle.stored_state.specs.Updates.{has_pair}
+use Rattle.stored_state.proofs.Places.{known-each}
+use Rattle.stored_places.specs.Known.{AreKnown, AreAllKnown}
+use Rattle.irtree_engine.specs.declared.fault.EngineFault.TheVariants.{Damaged}
+use Rattle.irtree_engine.specs.Faults.{fault_of_pages}
+use Rattle.place_map.specs.State as states
+use Rattle.stored_state.specs.Stands.{PagesStand, Stands, tables_in}
+use Rattle.stored_state.proofs.Images.{area-one}
+
+-- where nothing waits to be committed, the pages stand for what the image stands for
+pub committed-stand : (tells : Bool) (world : World) (overlay : Overlay) (current last : Superblock) (state : states.Contents) → tells ≡ true → overlay.entries ≡ [] → current ≡ last → IsCommitted last world → Stands world.seen state
+    → PagesStand current (counted_pages current.counted (shown tells (world.seen Pages) overlay)) state
+committed-stand tells world overlay current last state told none settled committed stands =
+    let area = area-one world.seen stands.holds.area (world.seen Pages) stands.holds.stands (inl (committed.closed, refl)) in
+    let is : stands.contents ≡ contents_of (world.seen Pages) overlay last =
+    sym stands.holds.holds ∙ ap contents_in area ∙ sym (cleared_contents overlay (world.seen Pages) last none committed.head) in
+    subst (λ (b : Superblock). PagesStand b (counted_pages b.counted (shown tells (world.seen Pages) overlay)) state) (sym settled)
+    (subst (λ (b : Bool). PagesStand last (counted_pages last.counted (shown b (world.seen Pages) overlay)) state) (sym told)
+    (subst (λ (c : Contents). PagesStand c.block c.pages state) is stands.stand))
+
+-- and each counted page is told
+pub committed-told : (tells : Bool) (area : ℕ → ℕ) (overlay : Overlay) (count : ℕ) → tells ≡ true → overlay.entries ≡ [] → AreTold (counted_pages count (shown tells area overlay)) count
+committed-told tells area overlay count told none n some lt =
+    let not_0 : (n == 0) ≡ false = ne_eqb n 0 (λ e. omega arith) in
+    let counted : nat_lt n count ≡ true = lt-ltb n count lt in
+    let size : length (counted_pages count (shown tells area overlay) n) ≡ 4096 = rw (not_0, counted, told, none) (length-page_bytes area n) in
+    omega (arith, size)
+
+-- each page that the tables use is counted
+pub stand-counted : {block : Superblock} {pages : PageMap} {state : states.Contents} → (stand : PagesStand block pages state) → AreCounted (table_uses pages (tables_in block.head)) block.counted
+stand-counted {block} {pages} stand = apart-counted (view pages block.counted block.first_free stand.free) (tables_in block.head) stand.apart
+
+-- each number of each place has a word
+pub stand-known : {block : Superblock} {pages : PageMap} {state : states.Contents} → (stand : PagesStand block pages state) → AreAllKnown stand.entries.numbers stand.entries.places
+stand-known {block} stand = all stand.entries.places (known-each stand.entries block.head.next_word stand.sound.words)
+  where
+    one : (numbers : List (ℕ × Counted)) (pairs : List Pair) → ((n : ℕ) → has_pair n pairs ≡ true → IsSome (word_of_number n numbers)) → AreKnown numbers pairs
+    one numbers [] known = tt
+    one numbers (p ∷ pairs) known =
+        let here : has_pair p.0 (p ∷ pairs) ≡ true = rw (eq-eqb p.0 p.0 refl) refl in
+        (known p.0 here, one numbers pairs (λ n among. known n (later n among)))
+      where
+        later : (n : ℕ) → has_pair n pairs ≡ true → has_pair n (p ∷ pairs) ≡ true
+        later n among = either (p.0 == n) among
+          where
+            either : (b : Bool) → has_pair n pairs ≡ true → (b || has_pair n pairs) ≡ true
+            either true among = refl
+            either false among = among
+
+    all : (places : List (Name × Stored)) → AllByRecursion (λ (e : Name × Stored). (n : ℕ) → has_pair n (held_pairs e.1) ≡ true → IsSome (word_of_number n stand.entries.numbers)) places → AreAllKnown stand.entries.numbers places
+    all [] known = tt
+    all (e ∷ places) known = (one stand.entries.numbers (held_pairs e.1) known.0, all places known.1)
+
+-- a fault of the engine that is damage was one of the pages
+pub damaged-from : (fault : PageFault) (damage : Damage) → fault_of_pages fault ≡ Damaged damage → fault ≡ pages.Damaged damage
+damaged-from pages.Disk damage e = absurd (cc)
+damaged-from pages.NoRoom damage e = absurd (cc)
+damaged-from pages.Stopped damage e = absurd (cc)
+damaged-from pages.Memory damage e = absurd (cc)
+damaged-from (pages.Damaged d) damage e = cc

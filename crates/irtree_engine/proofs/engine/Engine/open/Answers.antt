@@ -1,0 +1,24 @@
+use Rattle.std.proofs.Common.{IsErrOf, sym, subst}
+use Rattle.disk_model.specs.World.{LeavesOnly}
+use Rattle.irtree_engine.specs.Holding.{LeavesState}
+use Rattle.irtree_engine.specs.declared.fault.EngineFault.TheVariants.{BadJournal, Damaged, NotAStore}
+use Rattle.irtree_engine.proofs.engine.Engine.open.Goals as goal
+
+pub returns-in-Ok-clause-any_moment : goal.returns-in-Ok-clause-any_moment
+returns-in-Ok-clause-any_moment g c = λ t state holds.
+    subst (λ disk. LeavesOnly (g.D.Disk.world c.args.disk.now) (g.D.Disk.world disk) (LeavesState state (g.D.Disk.world c.args.disk.now))) (sym c.over.ensures.disk) (c.look.ensures.any_moment t state holds)
+
+pub returns-in-Err-clause-not_a_store : goal.returns-in-Err-clause-not_a_store
+returns-in-Err-clause-not_a_store g c = λ t is.
+    let named : IsErrOf c.look.result NotAStore = cc in
+    c.look.ensures.not_a_store t named
+
+pub returns-in-Err-clause-bad : goal.returns-in-Err-clause-bad
+returns-in-Err-clause-bad g c = λ t at is.
+    let named : IsErrOf c.look.result (BadJournal at) = cc in
+    c.look.ensures.bad t at named
+
+pub returns-in-Err-clause-damaged : goal.returns-in-Err-clause-damaged
+returns-in-Err-clause-damaged g c = λ damage is.
+    let named : IsErrOf c.look.result (Damaged damage) = cc in
+    c.look.ensures.damaged damage named

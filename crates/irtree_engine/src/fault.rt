@@ -1,0 +1,42 @@
+//! Why a call of the engine was refused.
+use page_face::{Damage, PageFault};
+
+/// Why a call of the engine was refused.
+#[derive(Clone, Copy, Debug, PartialEq, Eq)]
+pub enum EngineFault {
+    /// The disk failed, and its count of faults rose.
+    Disk,
+    /// Page 0 of the recovered store is neither all zero nor begins with the magic.
+    NotAStore,
+    /// An open gate stands before bytes that are no record: the offset of the field that breaks its form.
+    BadJournal(u64),
+    /// A page breaks a rule, so the image is no well-formed store.
+    Damaged(Damage),
+    /// 200,000 or more places live, and the key is new.
+    Full,
+    /// The update number is 2^40, and the update would change the map.
+    Worn,
+    /// No page is free, and as many are counted as there is room for.
+    NoRoom,
+    /// An earlier commit of this engine failed: the store is to be opened again.
+    Stopped,
+    /// Want of memory.
+    Memory,
+}
+
+impl From<PageFault> for EngineFault {
+    ghost use Rattle.std.specs.Prelude.{◌≡◌};
+    ghost use Rattle.irtree_engine.specs.Faults.{fault_of_pages};
+
+    ghost from_gives = { λ fault engine. engine ≡ fault_of_pages fault };
+
+    fn from(fault: PageFault) -> EngineFault {
+        match fault {
+            PageFault::Disk => EngineFault::Disk,
+            PageFault::NoRoom => EngineFault::NoRoom,
+            PageFault::Stopped => EngineFault::Stopped,
+            PageFault::Damaged(damage) => EngineFault::Damaged(damage),
+            PageFault::Memory => EngineFault::Memory,
+        }
+    }
+}
