@@ -21,7 +21,7 @@ module _ (claims : ℕ → ℕ) (old : List Pair) (before : Entries) (next_word 
         λ fresh. (
           numbering-room claims old before next_word done state is term rest sorted fresh (room number fresh),
           can-number rest (done ++ term ∷ [])
-          (record { entries = with_hold term.0 state.next_word state.entries; next_word = next_after (number_of_word term.0 state.entries.texts) state.next_word; pairs = state.pairs ++ (number, term.1) ∷ [] })
-          (numbering-hold claims old before next_word done state is term rest sorted fresh (room number fresh)) left
-        )
+              (record { entries = with_hold term.0 state.next_word state.entries; next_word = next_after (number_of_word term.0 state.entries.texts) state.next_word; pairs = state.pairs ++ (number, term.1) ∷ [] })
+              (numbering-hold claims old before next_word done state is term rest sorted fresh (room number fresh)) left,
+        ),
       )
