@@ -1,12 +1,4 @@
-pub mod Walks
 pub mod Rows
-pub mod Leaves
-pub mod PutLeaf
-pub mod Inners
-pub mod Links
-pub mod Roots
 pub mod Maps
-pub mod Climbs
-pub mod Readings
-pub mod Grows
+pub mod Located
 pub mod Removes

@@ -15,7 +15,7 @@ use Rattle.map_nodes.specs.Tree.{IsTree, IsFan, IsMap, total, rows_at, uses, map
 use Rattle.map_nodes.specs.Damages.{IsDamaged}
 use Rattle.map_nodes.proofs.Harms.{tree-undamaged}
 use Rattle.paged_map.specs.Maps.{IsMapDamaged, AreCounted, IsKept, HasBecome}
-use Rattle.paged_map.proofs.Inners.{number-zeros}
+use Rattle.map_insertion.proofs.Inners.{number-zeros}
 
 -- what is said of a page by other names is said of it
 pub enter : (Claim : Form → PageMap → ℕ → ℕ → ℕ → ℕ → Type 0) (form form' : Form) (pages pages' : PageMap) (count count' level level' least least' low low' : ℕ) → form' ≡ form → pages' ≡ pages → count' ≡ count

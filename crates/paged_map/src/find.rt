@@ -1,5 +1,5 @@
 //! The row at a key.
-ghost use Rattle.std.specs.Prelude.{◌≡◌, ◌≢◌, ℕ, ◌+◌, ◌*◌, ◌<◌, ◌≤◌, List, ◌∷◌, [], ◌++◌, length, IfOk, IsTrue, IsErrOf};
+ghost use Rattle.std.specs.Prelude.{◌≡◌, ◌≢◌, ℕ, ◌+◌, ◌<◌, ◌≤◌, List, ◌∷◌, [], ◌++◌, length, IfOk, IsTrue, IsErrOf};
 ghost use Rattle.page_face.specs.Causes.{Rose};
 ghost use Rattle.page_cells.specs.Number.{number};
 ghost use Rattle.map_nodes.specs.Rows.{lookup};
@@ -9,7 +9,8 @@ ghost use Rattle.map_nodes.specs.Bounds.{upper_of};
 ghost use Rattle.map_nodes.specs.Damages.{IsDamaged, AreTold, AskedSince, AsksOnly};
 ghost use Rattle.paged_map.specs.Answers.{HoldsRow, Locates};
 
-use crate::node::{damaged, find_place, find_row};
+use crate::node::find_row;
+use map_insertion::{damaged, find_place};
 use map_nodes::{Form, child_at, least_at, lower, upper};
 use page_face::{Damage, Page, PageFault, Pages};
 

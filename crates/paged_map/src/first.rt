@@ -9,7 +9,8 @@ ghost use Rattle.map_nodes.specs.Bounds.{upper_of, child_of};
 ghost use Rattle.map_nodes.specs.Damages.{IsDamaged, AreTold, AskedSince, AsksOnly};
 ghost use Rattle.paged_map.specs.Answers.{HoldsRow, Locates};
 
-use crate::node::{Found, damaged, find_place, first_row};
+use crate::node::first_row;
+use map_insertion::{Found, damaged, find_place};
 use map_nodes::{Form, child_at, least_at, lower, upper};
 use page_face::{Damage, Page, PageFault, Pages};
 

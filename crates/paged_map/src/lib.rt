@@ -9,15 +9,11 @@
 
 mod find;
 mod first;
-mod inner;
 mod layout;
-mod leaf;
 mod map;
 mod node;
-mod put;
 mod putting;
 mod removing;
-mod root;
 
 pub use layout::Layout;
 pub use map::PagedMap;

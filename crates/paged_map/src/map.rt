@@ -14,7 +14,7 @@ use crate::first::first_in;
 use crate::layout::{Layout, form_of, least_key};
 use crate::putting::put_below;
 use crate::removing::remove_below;
-use crate::root::first_leaf;
+use map_insertion::first_leaf;
 use map_nodes::{level, root_least};
 use page_face::{Damage, PageFault, Pages};
 use std::marker::PhantomData;

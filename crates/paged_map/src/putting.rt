@@ -9,8 +9,7 @@ ghost use Rattle.map_nodes.specs.Damages.{IsRefusedTake, AreTold, AskedSince, As
 ghost use Rattle.paged_map.specs.Maps.{IsKept, HasBecome, IsMapDamaged};
 
 use crate::layout::least_key;
-use crate::put::put_in;
-use crate::root::grow_root;
+use map_insertion::{grow_root, put_in};
 use map_nodes::{Form, level, root_least};
 use page_face::{Damage, PageFault, Pages};
 

@@ -12,7 +12,8 @@ use Rattle.map_nodes.specs.Damages.{IsDamaged, AreTold, AskedSince, AsksOnly}
 use Rattle.map_nodes.proofs.Trees.{tree-size}
 use Rattle.map_nodes.proofs.Harms.{asked-here, asked-sooner, asks-here, asks-further, asks-more}
 use Rattle.paged_map.specs.Answers.{HoldsRow, Locates}
-use Rattle.paged_map.proofs.Walks.{named-page, same-fault, named-read, told-read, uses-self, asks-read, damage-link, found-here, uses-below, tree-below, damage-below, lookup-below, found-below}
+use Rattle.map_insertion.proofs.Walks.{same-fault, named-read, told-read, uses-self, asks-read, damage-link, uses-below, tree-below, damage-below, lookup-below}
+use Rattle.paged_map.proofs.Located.{named-page, found-here, found-below}
 use Rattle.paged_map.proofs.find.+find_in.Goals as goal
 
 pub returns-in-Ok-clause-found : goal.returns-in-Ok-clause-found

@@ -11,8 +11,9 @@ use Rattle.map_nodes.specs.Tree.{IsMap, map_rows, map_uses}
 use Rattle.map_nodes.specs.Damages.{IsRefusedTake, AskedSince, AsksOnly}
 use Rattle.map_nodes.specs.Store.{IsGrown}
 use Rattle.map_nodes.proofs.Harms.{asks-nothing}
-use Rattle.paged_map.specs.Maps.{IsKept, HasBecome, IsMapDamaged, no_page}
-use Rattle.paged_map.proofs.Walks.{same-fault}
+use Rattle.map_insertion.specs.Starts.{no_page}
+use Rattle.paged_map.specs.Maps.{IsKept, HasBecome, IsMapDamaged}
+use Rattle.map_insertion.proofs.Walks.{same-fault}
 use Rattle.paged_map.proofs.Maps.{map-none, unused, becomes}
 use Rattle.paged_map.proofs.map.PagedMap.put.Goals as goal
 

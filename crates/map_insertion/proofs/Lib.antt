@@ -1,0 +1,9 @@
+pub mod Walks
+pub mod Leaves
+pub mod PutLeaf
+pub mod Inners
+pub mod Links
+pub mod Climbs
+pub mod Readings
+pub mod Grows
+pub mod Roots

@@ -1,5 +1,0 @@
-use Rattle.std.proofs.Common.{arith}
-use Rattle.paged_map.proofs.put.room_for.Goals as goal
-
-pub returns-clause-small : goal.returns-clause-small
-returns-clause-small c = omega arith
