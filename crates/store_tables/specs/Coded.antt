@@ -31,6 +31,7 @@ IsEntryOf IsKey IsValue e = IsKey e.0 × IsValue e.1
 abbrev pub IsPlaceValue : Stored → Type 0
 IsPlaceValue stored = IsValue stored × IsStored stored
 
+-- a number of 64 bits
 abbrev pub IsU64 : ℕ → Type 0
 IsU64 n = n < 2 ^ 64
 

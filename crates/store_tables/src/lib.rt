@@ -1,11 +1,11 @@
 //! The tables of a store over [`Pages`](page_face::Pages): the places by key, and the words by text and by number.
 //!
 //! Each is a paged B+-tree map of rows of one length, as `store_rows` writes them. [`Tables`] holds their roots. On pages that
-//! hold entries (`specs/Holding.antt`) each call is a look-up in those entries, asks only for pages of its own map and
+//! hold entries (`specs/Holding.antt`) each read is a look-up in those entries, asks only for pages of its own map and
 //! answers no damage. On any other pages it is safe, ends, and names a rule that a page breaks in its place, or the leaf whose
-//! row isn't of its form. [`Tables::put_place`] puts an entry into the place table and leaves the other two. [`Tables::hold`]
-//! counts one place more that holds a word, and gives a new word the next number. There is no call yet that releases a word, or
-//! takes a place out.
+//! row isn't of its form. [`Tables::put_place`] puts an entry into the place table, [`Tables::remove_place`] takes one out, and
+//! both leave the other two. [`Tables::hold`] counts one place more that holds a word, and gives a new word the next number.
+//! [`Tables::release`] counts one place less, and takes the word out of both tables with its last place.
 //!
 //! What a place's hold on its words does to the two tables of words is defined in `specs/Words.antt`.
 #![tactic(auto)]
@@ -14,7 +14,9 @@ mod entry;
 mod layouts;
 mod maps;
 mod reading;
+mod releasing;
 mod tables;
+mod taking;
 #[cfg(test)]
 mod tests;
 mod words;

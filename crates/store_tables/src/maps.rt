@@ -2,7 +2,7 @@
 ghost use Rattle.std.specs.Prelude.{◌≡◌, ◌≢◌, ◌⊎◌, ℕ, ◌≤◌, ◌+◌, List, length, IfOk, IsTrue, IsErrOf, is_some};
 ghost use Rattle.page_face.specs.Causes.{Rose};
 ghost use Rattle.page_cells.specs.Number.{number};
-ghost use Rattle.map_nodes.specs.Rows.{lookup, first_from, put};
+ghost use Rattle.map_nodes.specs.Rows.{lookup, first_from, put, without};
 ghost use Rattle.map_nodes.specs.Supply.{view};
 ghost use Rattle.map_nodes.specs.Tree.{IsMap, map_rows, map_uses};
 ghost use Rattle.map_nodes.specs.Damages.{AreTold, AskedSince, AsksOnly, IsRefusedTake};
@@ -12,9 +12,9 @@ ghost use Rattle.paged_map.specs.Maps.{AreCounted, HasBecome, IsKept, IsMapDamag
 use page_face::{Damage, PageFault, Pages};
 use paged_map::{Layout, PagedMap};
 
-/// A map after a row was put: whether the key was there, and the map's root.
+/// A map after a row was put or taken out: whether the key was there, and the map's root.
 #[derive(Clone, Copy)]
-pub(crate) struct Put {
+pub(crate) struct Changed {
     pub was: bool,
     pub root: u32,
 }
@@ -105,7 +105,7 @@ pub(crate) fn put_row<L: Layout, P: Pages>(
     root: u32,
     key: &[u8],
     value: &[u8],
-) -> Result<Put, PageFault>
+) -> Result<Changed, PageFault>
     requires key { length key.now ≡ L.KEY }
     requires value { length value.now ≡ L.VALUE }
     ensures put { (free : List ℕ) → IsKept L.form (view (P.pages pages.old) (P.count pages.old) (P.first pages.old) free) root
@@ -132,7 +132,43 @@ pub(crate) fn put_row<L: Layout, P: Pages>(
 {
     let mut map = PagedMap::<L>::at(root);
     let was = map.put(pages, key, value)?;
-    Ok(Put {
+    Ok(Changed {
+        was,
+        root: map.root(),
+    })
+}
+
+/// Takes the row at a key out.
+pub(crate) fn remove_row<L: Layout, P: Pages>(
+    pages: &mut P,
+    root: u32,
+    key: &[u8],
+) -> Result<Changed, PageFault>
+    requires key { length key.now ≡ L.KEY }
+    ensures removed { (free : List ℕ) → IsKept L.form (view (P.pages pages.old) (P.count pages.old) (P.first pages.old) free) root
+        → IfOk result (λ now. (now.was ≡ is_some (lookup (number key.now) (map_rows L.form (P.pages pages.old) root)))
+        × HasBecome L.form (view (P.pages pages.old) (P.count pages.old) (P.first pages.old) free) (P.pages pages.new) (P.count pages.new) (P.first pages.new) root now.root
+        (without (number key.now) (map_rows L.form (P.pages pages.old) root))) }
+    ensures honest { (free : List ℕ) → IsKept L.form (view (P.pages pages.old) (P.count pages.old) (P.first pages.old) free) root
+        → (damage : Damage) → ¬ IsErrOf result (PageFault.Damaged damage) }
+    ensures damaged { AreTold (P.pages pages.old) (P.count pages.old)
+        → (damage : Damage) → IsErrOf result (PageFault.Damaged damage)
+        → IsMapDamaged L.form (P.pages pages.old) (P.count pages.old) root damage × AskedSince (P.asked pages.old) (P.asked pages.new) damage.page }
+    ensures own { AreTold (P.pages pages.old) (P.count pages.old)
+        → AsksOnly (map_uses L.form (P.pages pages.old) root) (P.asked pages.old) (P.asked pages.new) }
+    ensures disk { IsErrOf result PageFault.Disk → Rose (P.faults pages.old) (P.faults pages.new) }
+    ensures room_left { result ≢ Err PageFault.NoRoom }
+    ensures stopped { IsErrOf result PageFault.Stopped → IsTrue (P.is_stopped pages.old) }
+
+    ensures room { P.room pages.new ≡ P.room pages.old }
+    ensures faults { P.faults pages.old ≤ P.faults pages.new }
+    ensures refused { P.refused pages.new ≡ P.refused pages.old }
+    ensures goes_on { P.is_stopped pages.new ≡ P.is_stopped pages.old }
+    ensures follows { P.follows_from pages.old pages.new }
+{
+    let mut map = PagedMap::<L>::at(root);
+    let was = map.remove(pages, key)?;
+    Ok(Changed {
         was,
         root: map.root(),
     })

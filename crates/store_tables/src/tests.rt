@@ -119,6 +119,16 @@ fn a_place_that_was_put_is_found(rt: HostRuntime) -> Result<(), Fail> {
 }
 
 #[test]
+fn a_place_that_was_removed_is_gone(rt: HostRuntime) -> Result<(), Fail> {
+    let mut pages = MemoryPages::new(rt.alloc(), 10);
+    let mut tables = tables(&mut pages, &PLACE)?;
+    assert!(rt; !tables.remove_place(&mut pages, &Key::auto(1))?);
+    assert!(rt; tables.remove_place(&mut pages, &key(&rt))?);
+    assert!(rt; tables.place(&mut pages, &key(&rt))?.is_none());
+    Ok(())
+}
+
+#[test]
 fn empty_tables_hold_nothing(rt: HostRuntime) -> Result<(), Fail> {
     let mut pages = MemoryPages::new(rt.alloc(), 10);
     let tables = Tables {
@@ -197,6 +207,23 @@ fn a_word_keeps_the_number_that_it_is_given(rt: HostRuntime) -> Result<(), Fail>
     assert!(rt; tables.word_of(&mut pages, 2)? == word("cake"));
     let counted = tables.counted(&mut pages, 1)?.ok_or("no tea")?;
     assert_eq!(rt; counted.places, 2);
+    Ok(())
+}
+
+#[test]
+fn a_word_goes_with_its_last_place(rt: HostRuntime) -> Result<(), Fail> {
+    let mut pages = MemoryPages::new(rt.alloc(), 10);
+    let mut tables = NO_TABLES;
+    let tea = word("tea").ok_or("no word")?;
+    assert!(rt; hold_all(&mut pages, &mut tables)?);
+    tables.release(&mut pages, 1)?;
+    assert_eq!(rt; tables.number_of(&mut pages, &tea)?, Some(1));
+    tables.release(&mut pages, 1)?;
+    assert_eq!(rt; tables.number_of(&mut pages, &tea)?, None);
+    assert!(rt; tables.word_of(&mut pages, 1)?.is_none());
+    assert!(rt; tables.release(&mut pages, 1) == Err(DISAGREEMENT));
+    assert!(rt; tables.word_of(&mut pages, 3)? == word("art"));
+    assert_eq!(rt; tables.next_word, 4);
     Ok(())
 }
 

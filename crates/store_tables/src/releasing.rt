@@ -1,0 +1,149 @@
+//! Words that one place less holds.
+ghost use Rattle.std.specs.Prelude.{◌≡◌, ◌≢◌, ◌⊎◌, ℕ, ◌≤◌, List, Some, IfOk, OnOk, OnErr, IsTrue, IsErrOf};
+ghost use Rattle.std.specs.BTreeMap.{is_at};
+ghost use Rattle.std.specs.Map.{remove_entry};
+ghost use Rattle.std.specs.Ordering.{nat_cmp};
+ghost use Rattle.page_face.specs.Causes.{Rose};
+ghost use Rattle.map_nodes.specs.Supply.{view};
+ghost use Rattle.map_nodes.specs.Damages.{AreTold, AskedSince, AsksOnly, IsRefusedTake};
+ghost use Rattle.paged_map.specs.Maps.{AreCounted, IsMapDamaged};
+ghost use Rattle.store_tables.specs.Entries.{Entries, word_cmp, word_of_number};
+ghost use Rattle.store_tables.specs.Broken.{words_disagree};
+
+use crate::Tables;
+use crate::words::disagreement;
+use page_face::{Damage, PageFault, Pages};
+use store_rows::Counted;
+use term_impacts::Word;
+
+impl Tables {
+    ghost use Rattle.store_tables.specs.Holding.{Holds, IsApart, IsChanged, numbers_form, table_uses, word_uses};
+    ghost use Rattle.store_tables.specs.Broken.{IsReleaseDamage};
+    ghost use Rattle.store_tables.specs.Words.{CanRelease, without_hold};
+
+    // The row of a number whose word can be released.
+    fn releasable<P: Pages>(&self, pages: &mut P, number: u64) -> Result<Counted, PageFault>
+        ensures found { (entries : Entries) → Holds (P.pages pages.old) self.now entries
+            → IfOk result (λ counted. CanRelease number entries × (word_of_number number entries.numbers ≡ Some counted)) }
+        ensures honest { (entries : Entries) → Holds (P.pages pages.old) self.now entries
+            → AreTold (P.pages pages.old) (P.count pages.old) → AreCounted (table_uses (P.pages pages.old) self.now) (P.count pages.old)
+            → (damage : Damage) → IsErrOf result (PageFault.Damaged damage) → (damage ≡ words_disagree) × (¬ CanRelease number entries) }
+        ensures damaged { AreTold (P.pages pages.old) (P.count pages.old)
+            → (damage : Damage) → IsErrOf result (PageFault.Damaged damage)
+            → IsReleaseDamage (P.pages pages.old) (P.count pages.old) self.now number (P.asked pages.old) (P.asked pages.new) damage }
+        ensures own { AreTold (P.pages pages.old) (P.count pages.old)
+            → AsksOnly (word_uses (P.pages pages.old) self.now) (P.asked pages.old) (P.asked pages.new) }
+        ensures disk { IsErrOf result PageFault.Disk → Rose (P.faults pages.old) (P.faults pages.new) }
+        ensures room_left { result ≢ Err PageFault.NoRoom }
+        ensures stopped { IsErrOf result PageFault.Stopped → IsTrue (P.is_stopped pages.old) }
+
+        ensures pages { P.pages pages.new ≡ P.pages pages.old }
+        ensures count { P.count pages.new ≡ P.count pages.old }
+        ensures first { P.first pages.new ≡ P.first pages.old }
+        ensures room { P.room pages.new ≡ P.room pages.old }
+        ensures faults { P.faults pages.old ≤ P.faults pages.new }
+        ensures refused { P.refused pages.new ≡ P.refused pages.old }
+        ensures goes_on { P.is_stopped pages.new ≡ P.is_stopped pages.old }
+        ensures only_reads { P.only_reads pages.old pages.new }
+        ensures follows { P.follows_from pages.old pages.new }
+    {
+        let Some(counted) = self.counted(pages, number)? else {
+            return Err(disagreement());
+        };
+        if counted.places > 1 {
+            return Ok(counted);
+        }
+        match self.number_of(pages, &counted.word)? {
+            Some(found) if found == number => Ok(counted),
+            _ => Err(disagreement()),
+        }
+    }
+
+    // Takes a word out of both tables.
+    fn remove_word<P: Pages>(
+        &mut self,
+        pages: &mut P,
+        number: u64,
+        word: &Word,
+    ) -> Result<(), PageFault>
+        ensures removed { (entries : Entries) (free : List ℕ) → Holds (P.pages pages.old) self.old entries → IsApart (view (P.pages pages.old) (P.count pages.old) (P.first pages.old) free) self.old
+            → OnOk result (IsChanged (view (P.pages pages.old) (P.count pages.old) (P.first pages.old) free) self.old
+            (P.pages pages.new) (P.count pages.new) (P.first pages.new) self.new
+            (record entries { texts = remove_entry (is_at (word_cmp word.now)) entries.texts; numbers = remove_entry (is_at (nat_cmp number)) entries.numbers })) }
+        ensures honest { (entries : Entries) (free : List ℕ) → Holds (P.pages pages.old) self.old entries → IsApart (view (P.pages pages.old) (P.count pages.old) (P.first pages.old) free) self.old
+            → (damage : Damage) → ¬ IsErrOf result (PageFault.Damaged damage) }
+        ensures damaged { AreTold (P.pages pages.old) (P.count pages.old)
+            → (damage : Damage) → IsErrOf result (PageFault.Damaged damage)
+            → (IsMapDamaged numbers_form (P.pages pages.old) (P.count pages.old) self.old.numbers damage × AskedSince (P.asked pages.old) (P.asked pages.new) damage.page)
+            ⊎ ((entries : Entries) (free : List ℕ) → Holds (P.pages pages.old) self.old entries → ¬ IsApart (view (P.pages pages.old) (P.count pages.old) (P.first pages.old) free) self.old) }
+        ensures own { (entries : Entries) (free : List ℕ) → Holds (P.pages pages.old) self.old entries → IsApart (view (P.pages pages.old) (P.count pages.old) (P.first pages.old) free) self.old
+            → AreTold (P.pages pages.old) (P.count pages.old)
+            → AsksOnly (word_uses (P.pages pages.old) self.old) (P.asked pages.old) (P.asked pages.new) }
+        ensures others { (self.new.places ≡ self.old.places) × (self.new.next_word ≡ self.old.next_word) }
+        ensures kept { OnErr result (self.new ≡ self.old) }
+        ensures disk { IsErrOf result PageFault.Disk → Rose (P.faults pages.old) (P.faults pages.new) }
+        ensures room_left { result ≢ Err PageFault.NoRoom }
+        ensures stopped { IsErrOf result PageFault.Stopped → IsTrue (P.is_stopped pages.old) }
+
+        ensures room { P.room pages.new ≡ P.room pages.old }
+        ensures faults { P.faults pages.old ≤ P.faults pages.new }
+        ensures refused { P.refused pages.new ≡ P.refused pages.old }
+        ensures goes_on { P.is_stopped pages.new ≡ P.is_stopped pages.old }
+        ensures follows { P.follows_from pages.old pages.new }
+    {
+        let mut next = *self;
+        next.remove_number(pages, number)?;
+        next.remove_text(pages, word)?;
+        *self = next;
+        Ok(())
+    }
+
+    /// Counts one place less that holds the word of a number. With its last place the word goes from both tables, and its number
+    /// is never given again.
+    ///
+    /// Refuses as the pages do, and `Damaged` by a rule that a page of the tables of words breaks, or with `Value` at the leaf
+    /// whose row is no word's, or as a take of a page refuses, or with `Words` at page 0 where the number has no word, or where
+    /// its word goes and the words by text have another number of it, or none; that is found before anything is written. After a
+    /// refusal the tables are as before, and pages may have changed.
+    pub fn release<P: Pages>(&mut self, pages: &mut P, number: u64) -> Result<(), PageFault>
+        ensures released { (entries : Entries) (free : List ℕ) → Holds (P.pages pages.old) self.old entries → IsApart (view (P.pages pages.old) (P.count pages.old) (P.first pages.old) free) self.old
+            → OnOk result (CanRelease number entries
+            × IsChanged (view (P.pages pages.old) (P.count pages.old) (P.first pages.old) free) self.old
+            (P.pages pages.new) (P.count pages.new) (P.first pages.new) self.new (without_hold number entries)) }
+        ensures honest { (entries : Entries) (free : List ℕ) → Holds (P.pages pages.old) self.old entries → IsApart (view (P.pages pages.old) (P.count pages.old) (P.first pages.old) free) self.old
+            → AreTold (P.pages pages.old) (P.count pages.old)
+            → (damage : Damage) → IsErrOf result (PageFault.Damaged damage) → (damage ≡ words_disagree) × (¬ CanRelease number entries) }
+
+        // Damage of a last word's second row comes only of pages that held no entries, or were not apart.
+        ensures damaged { AreTold (P.pages pages.old) (P.count pages.old)
+            → (damage : Damage) → IsErrOf result (PageFault.Damaged damage)
+            → IsReleaseDamage (P.pages pages.old) (P.count pages.old) self.old number (P.asked pages.old) (P.asked pages.new) damage
+            ⊎ IsRefusedTake (P.pages pages.new) (P.count pages.new) (P.first pages.new) damage
+            ⊎ ((entries : Entries) (free : List ℕ) → Holds (P.pages pages.old) self.old entries → ¬ IsApart (view (P.pages pages.old) (P.count pages.old) (P.first pages.old) free) self.old) }
+        ensures own { (entries : Entries) (free : List ℕ) → Holds (P.pages pages.old) self.old entries → IsApart (view (P.pages pages.old) (P.count pages.old) (P.first pages.old) free) self.old
+            → AreTold (P.pages pages.old) (P.count pages.old)
+            → AsksOnly (word_uses (P.pages pages.old) self.old) (P.asked pages.old) (P.asked pages.new) }
+        ensures others { (self.new.places ≡ self.old.places) × (self.new.next_word ≡ self.old.next_word) }
+        ensures kept { OnErr result (self.new ≡ self.old) }
+        ensures disk { IsErrOf result PageFault.Disk → Rose (P.faults pages.old) (P.faults pages.new) }
+        ensures no_room { IsErrOf result PageFault.NoRoom → Rose (P.refused pages.old) (P.refused pages.new) }
+        ensures stopped { IsErrOf result PageFault.Stopped → IsTrue (P.is_stopped pages.old) }
+
+        ensures room { P.room pages.new ≡ P.room pages.old }
+        ensures faults { P.faults pages.old ≤ P.faults pages.new }
+        ensures refused { P.refused pages.old ≤ P.refused pages.new }
+        ensures goes_on { P.is_stopped pages.new ≡ P.is_stopped pages.old }
+        ensures follows { P.follows_from pages.old pages.new }
+    {
+        let counted = self.releasable(pages, number)?;
+        if counted.places <= 1 {
+            return self.remove_word(pages, number, &counted.word);
+        }
+        let fewer = Counted {
+            places: counted.places - 1,
+            ..counted
+        };
+        self.put_number(pages, number, &fewer)?;
+        Ok(())
+    }
+}
