@@ -9,11 +9,12 @@ use Rattle.page_face.specs.FreeList.{PageMap}
 use Rattle.page_store.specs.Superblock.{IsInRange}
 use Rattle.page_store.specs.declared.superblock.Superblock.{Superblock}
 use Rattle.map_nodes.specs.Supply.{spare, uncounted, view}
+use Rattle.place_map.specs.Restored.{IsSerialAbove}
 use Rattle.place_map.specs.State as states
 use Rattle.store_rows.specs.declared.stored.Stored.{Stored}
 use Rattle.store_tables.specs.Entries.{Entries, place_of_key, without_place}
 use Rattle.store_tables.specs.Holding.{IsChanged, table_uses}
-use Rattle.stored_state.specs.Stands.{AreSound, IsBelowSerial, PagesStand, place_in, places_in, state_in, tables_in}
+use Rattle.stored_state.specs.Stands.{AreSound, PagesStand, place_in, places_in, state_in, tables_in}
 use Rattle.stored_state.specs.Steps.{AreAscending}
 use Rattle.stored_state.specs.Updates.{after_put, after_remove, by_number, numbered_for, stored_with}
 use Rattle.stored_state.proofs.Maps.{ascending-holds}
@@ -102,20 +103,20 @@ module _ (old : Superblock) (pages : PageMap) (state : states.Contents) (stand :
     -- the next word number keeps its range
     pub next-then : (old.head.next_word ≤ next_then) × (next_then ≤ 64 * (old.head.number + 1 + 1))
     next-then =
-        let next = put-next key point words stand.entries old.head.next_word old.head.serial stand.sound ascending stand.holds.places.each map_of_words room_left numbers_left in
+        let next = put-next key point words stand.entries old.head.next_word stand.sound.words ascending stand.holds.places.each map_of_words room_left numbers_left in
         let few = map_of_words.few in
         let most = stand.range.words in
         (next.0, omega (arith, next.1, few, most))
 
     -- after a put the pages stand for the state with the place at the key
     pub stand-put : (block : Superblock) (after : PageMap) → IsChanged (view pages old.counted old.first_free stand.free) (tables_in old.head) after block.counted block.first_free (tables_in block.head) put
-        → IsInRange block → block.head.rows ≡ 0 → block.head.tree ≡ 0 → block.head.next_word ≡ next_then → old.head.serial ≤ block.head.serial → IsBelowSerial block.head.serial key
+        → IsInRange block → block.head.rows ≡ 0 → block.head.tree ≡ 0 → block.head.next_word ≡ next_then → old.head.serial ≤ block.head.serial → IsSerialAbove block.head.serial key
         → block.head.live + cond (is_some (place_of_key key stand.entries.places)) 1 0 ≡ old.head.live + 1
         → PagesStand block after (record { places = states.with_place key (record { point = point; words = words }) state.places; serial = block.head.serial; number = block.head.number })
     stand-put block after changed range no_rows no_tree next later below live =
-        let sound = put-sound key point words stand.entries old.head.next_word old.head.serial stand.sound ascending stand.holds.places.each map_of_words room_left numbers_left block.head.serial later below in
-        let is = put-places key point words stand.entries old.head.next_word old.head.serial stand.sound ascending stand.holds.places.each map_of_words room_left numbers_left in
-        let long = ap length (put-entries key point words stand.entries old.head.next_word old.head.serial stand.sound ascending stand.holds.places.each map_of_words room_left numbers_left) in
+        let sound = put-sound key point words stand.entries old.head.next_word stand.sound.words ascending stand.holds.places.each map_of_words room_left numbers_left old.head.serial block.head.serial stand.sound.serials later below in
+        let is = put-places key point words stand.entries old.head.next_word stand.sound.words ascending stand.holds.places.each map_of_words room_left numbers_left in
+        let long = ap length (put-entries key point words stand.entries old.head.next_word stand.sound.words ascending stand.holds.places.each map_of_words room_left numbers_left) in
         let was = stand.live in
         subst (λ (ps : states.Places). PagesStand block after (record { places = ps; serial = block.head.serial; number = block.head.number })) (is ∙ ap (states.with_place key (record { point = point; words = words })) (sym places-before))
         (stand-changed block after put changed range no_rows no_tree (subst (λ n. AreSound put n block.head.serial) (sym next) sound)

@@ -10,11 +10,12 @@ use Rattle.page_store.specs.Contents as stores
 use Rattle.page_store.specs.Superblock.{IsInRange, empty_store, fields_of, is_zero, superblock_in}
 use Rattle.page_store.specs.declared.superblock.Superblock.{Superblock}
 use Rattle.map_nodes.specs.Supply.{uncounted}
+use Rattle.place_map.specs.Restored.{IsSerialAbove}
 use Rattle.place_map.specs.State.{Contents, opening}
 use Rattle.store_tables.specs.Entries.{Entries, no_entries}
 use Rattle.store_tables.specs.Holding.{Holds}
 use Rattle.store_tables.specs.Words.{WordsAgree}
-use Rattle.stored_state.specs.Stands.{AreSound, IsBelowSerial, PagesStand, Stands, state_in, tables_in}
+use Rattle.stored_state.specs.Stands.{AreSound, PagesStand, Stands, state_in, tables_in}
 use Rattle.stored_state.proofs.Maps.{holds-same}
 
 -- ---- one state
@@ -57,7 +58,7 @@ empty-agree = record {
 
 -- no entries are sound
 empty-sound : AreSound no_entries 1 1
-empty-sound = record { words = empty-agree; serials = All-nil (λ e. IsBelowSerial 1 e.0) }
+empty-sound = record { words = empty-agree; serials = All-nil (λ e. IsSerialAbove 1 e.0) }
 
 -- no page holds no entries
 empty-holds : (pages : PageMap) → Holds pages (tables_in empty_store.head) no_entries

@@ -1,6 +1,5 @@
 pub mod Changes
 pub mod Images
-pub mod Loops
 pub mod Maps
 pub mod Numbers
 pub mod Ordered

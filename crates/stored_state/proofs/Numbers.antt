@@ -1,5 +1,5 @@
 -- A place's words are numbered one after another.
-use Rattle.std.proofs.Common.{length, suc, take, drop, get_or, take-append-drop, drop-cons, ◌≡◌, length-append, append-nil, append_assoc, ℕ, ◌+◌, ◌<◌, ◌≤◌, ◌^◌, ◌==◌, eqb-true, Bool, true, false, cond, ◌||◌, List, [], ◌∷◌, ◌++◌, Option, Some, None, IsSome, option_map, unwrap_or, refl, sym, ap, subst, subst₂, ◌∙◌, arith}
+use Rattle.std.proofs.Common.{◌≡◌, length-append, append-nil, append_assoc, ℕ, ◌+◌, ◌<◌, ◌≤◌, ◌^◌, ◌==◌, eqb-true, Bool, true, false, cond, ◌||◌, List, [], ◌∷◌, ◌++◌, Option, Some, None, IsSome, option_map, unwrap_or, refl, sym, ap, subst, subst₂, ◌∙◌, arith}
 use Rattle.std.proofs.lemmas.Bool.{ne_eqb}
 use Rattle.std.proofs.lemmas.Cmp.{tied_itself}
 use Rattle.std.proofs.lemmas.Map.Keys.{sorted_head, sorted_tail}
@@ -281,11 +281,6 @@ module _ (claims : ℕ → ℕ) (old : List Pair) (before : Entries) (next_word 
         rises = let le = is.rises in omega arith;
         few = let few = is.few in omega (arith, length-append done (term ∷ []));
       }
-
--- the words up to a place, the one at it and those behind it ascend
-pub ascending-at : (words : List (List ℕ × ℕ)) (i : ℕ) (d : List ℕ × ℕ) → i < length words → IsStrictlySortedBy word_cmp (keys_of words) → IsStrictlySortedBy word_cmp (keys_of (take i words ++ get_or words i d ∷ drop (suc i) words))
-ascending-at words i d inside sorted =
-    subst (λ (ws : List (List ℕ × ℕ)). IsStrictlySortedBy word_cmp (keys_of ws)) (sym (take-append-drop i words) ∙ ap (λ (ws : List (List ℕ × ℕ)). take i words ++ ws) (drop-cons words i d inside)) sorted
 
 -- ---- all of them
 

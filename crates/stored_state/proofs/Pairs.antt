@@ -1,9 +1,8 @@
 -- Pairs in the order of their numbers, as a place has them.
-use Rattle.std.proofs.Common.{drop, ◌≡◌, ℕ, zero, suc, ◌+◌, ◌-◌, ◌<◌, ◌≤◌, ◌^◌, ◌==◌, Bool, true, false, cond, ◌||◌, is_some, List, [], ◌∷◌, ◌++◌, length, replicate, length-append, take_at, drop_at, fold, All, Option, Some, None, option_map, refl, sym, ap, subst, ◌∙◌, true≢false, arith}
+use Rattle.std.proofs.Common.{◌≡◌, ℕ, ◌+◌, ◌-◌, ◌<◌, ◌≤◌, ◌^◌, ◌==◌, Bool, true, false, cond, ◌||◌, is_some, List, [], ◌∷◌, length, replicate, length-append, take_at, drop_at, All, Option, Some, None, option_map, refl, sym, ap, subst, ◌∙◌, true≢false, arith}
 use Rattle.std.proofs.lemmas.Cmp.{nat_cmp_total, tied_itself}
 use Rattle.std.proofs.lemmas.List.{length-replicate}
 use Rattle.std.proofs.lemmas.List.Elements.{All-append, All-head, All-nil, All-replicate, All-tail, All-weaker}
-use Rattle.std.proofs.lemmas.List.Sums.{fold-append}
 use Rattle.std.proofs.lemmas.Map.Keys.{IsStrictlyIncreasing-from_sorted, sorted_head, sorted_tail}
 use Rattle.std.specs.BTreeMap.{insert_entry, is_at}
 use Rattle.std.specs.List.{AllByRecursion}
@@ -20,7 +19,7 @@ use Rattle.store_tables.specs.Entries.{word_cmp, number_of_word, word_of_number}
 use Rattle.store_tables.specs.Words.{WordTablesAgree, with_word, words_of_pairs}
 use Rattle.store_tables.proofs.EntryLemmas.{equal_test, insert-each}
 use Rattle.store_tables.proofs.MapLemmas.{lookup-insert, numbers_are_ordered, same_from_test, test_of_same, words_are_ordered}
-use Rattle.stored_state.specs.Updates.{has_pair, by_number, stored_with}
+use Rattle.stored_state.specs.Updates.{has_pair, by_number, placed, stored_with}
 use Rattle.stored_state.specs.Steps.{word_at, AreNumbered, AreApart}
 use Rattle.stored_state.proofs.Numbers.{no_word, unpaired}
 use Rattle.stored_state.proofs.Ordered.{length-insert, same_from_lookups, sorted-insert}
@@ -57,12 +56,6 @@ apart-numbered numbers (t ∷ words) (p ∷ pairs) named sorted =
         let here : word_cmp t.0 k ≡ Less = less.0 in
         (λ e. (let no : ⊥ = cc (level, here, e, same) in no), others w same ks less.1)
 
--- those behind the first are apart
-pub apart-drop : (n : ℕ) (pairs : List Pair) → AreApart pairs → AreApart (drop n pairs)
-apart-drop zero pairs apart = apart
-apart-drop (suc n) [] apart = apart
-apart-drop (suc n) (p ∷ pairs) apart = apart-drop n pairs apart.1
-
 -- ---- in order
 
 -- a number is among the pairs where it is found there
@@ -89,10 +82,6 @@ or_else_none : (found : Option ℕ) → or_else found None ≡ found
 or_else_none None = refl
 or_else_none (Some x) = refl
 
--- pairs put one after another
-abbrev placed : List Pair → List Pair → List Pair
-placed = fold (λ done pair. insert_entry nat_cmp done pair.0 pair.1)
-
 -- what is found among pairs that were put
 lookup_placed : (n : ℕ) (done pairs : List Pair) → AreApart pairs → lookup (is_at (nat_cmp n)) (placed done pairs) ≡ or_else (lookup (is_at (nat_cmp n)) pairs) (lookup (is_at (nat_cmp n)) done)
 lookup_placed n done [] apart = refl
@@ -113,9 +102,38 @@ lookup_placed n done (p ∷ pairs) apart =
 pub lookup-by_number : (n : ℕ) (pairs : List Pair) → AreApart pairs → lookup (is_at (nat_cmp n)) (by_number pairs) ≡ lookup (is_at (nat_cmp n)) pairs
 lookup-by_number n pairs apart = lookup_placed n [] pairs apart ∙ or_else_none (lookup (is_at (nat_cmp n)) pairs)
 
--- the same numbers are among them
-pub has_pair-by_number : (n : ℕ) (pairs : List Pair) → AreApart pairs → has_pair n (by_number pairs) ≡ has_pair n pairs
-has_pair-by_number n pairs apart = has_pair-lookup n (by_number pairs) ∙ ap is_some (lookup-by_number n pairs apart) ∙ sym (has_pair-lookup n pairs)
+-- a number is among pairs with one put where it is that one's or is among them
+has_pair-insert : (n number impact : ℕ) (pairs : List Pair) → has_pair n (insert_entry nat_cmp pairs number impact) ≡ ((number == n) || has_pair n pairs)
+has_pair-insert n number impact pairs =
+    has_pair-lookup n (insert_entry nat_cmp pairs number impact)
+    ∙ ap is_some (lookup-insert numbers_are_ordered n number impact pairs)
+    ∙ found (is_at (nat_cmp n) number) (lookup (is_at (nat_cmp n)) pairs)
+    ∙ (λ i. sym (equal_test n number) i || sym (has_pair-lookup n pairs) i)
+  where
+    found : (b : Bool) (f : Option ℕ) → is_some (cond b (Some impact) f) ≡ (b || is_some f)
+    found true f = refl
+    found false f = refl
+
+-- and among pairs that were put where it is among those that came or those that were there
+has_pair_placed : (n : ℕ) (done pairs : List Pair) → has_pair n (placed done pairs) ≡ (has_pair n pairs || has_pair n done)
+has_pair_placed n done [] = refl
+has_pair_placed n done (p ∷ pairs) =
+    has_pair_placed n (insert_entry nat_cmp done p.0 p.1) pairs
+    ∙ ap (λ (b : Bool). has_pair n pairs || b) (has_pair-insert n p.0 p.1 done)
+    ∙ moved (p.0 == n) (has_pair n pairs) (has_pair n done)
+  where
+    moved : (a b c : Bool) → (b || (a || c)) ≡ ((a || b) || c)
+    moved true true c = refl
+    moved true false c = refl
+    moved false b c = refl
+
+-- a number is among the pairs in order where it is among the pairs
+pub has_pair-by_number : (n : ℕ) (pairs : List Pair) → has_pair n (by_number pairs) ≡ has_pair n pairs
+has_pair-by_number n pairs = has_pair_placed n [] pairs ∙ or_false (has_pair n pairs)
+  where
+    or_false : (b : Bool) → (b || false) ≡ b
+    or_false true = refl
+    or_false false = refl
 
 -- pairs that were put ascend
 sorted_placed : (done pairs : List Pair) → IsStrictlySortedBy nat_cmp (keys_of done) → IsStrictlySortedBy nat_cmp (keys_of (placed done pairs))
@@ -135,10 +153,6 @@ length_placed done (p ∷ pairs) = let rest = length_placed (insert_entry nat_cm
 -- there are no more of them
 pub length-by_number : (pairs : List Pair) → length (by_number pairs) ≤ length pairs
 length-by_number pairs = let all = length_placed [] pairs in omega arith
-
--- one pair more
-pub by_number-push : (pairs : List Pair) (pair : Pair) → by_number (pairs ++ pair ∷ []) ≡ insert_entry nat_cmp (by_number pairs) pair.0 pair.1
-by_number-push pairs pair = fold-append (λ done p. insert_entry nat_cmp done p.0 p.1) [] pairs (pair ∷ [])
 
 -- what holds of each pair holds of those that were put
 each_placed : (P Q : ℕ → Type 0) (done pairs : List Pair) → All (IsEntryOf P Q) done → All (IsEntryOf P Q) pairs → All (IsEntryOf P Q) (placed done pairs)
@@ -255,18 +269,23 @@ IsNumber n = n < 2 ^ 64
 abbrev pub IsImpact : ℕ → Type 0
 IsImpact i = (1 ≤ i) × (i ≤ 255)
 
--- pairs in order make a place of its form
+-- Pairs that ascend by number, with impacts, make a place of its form.
+pub stored-ascending : (point : Position) (pairs : List Pair) → length pairs ≤ 64 → IsStrictlySortedBy nat_cmp (keys_of pairs) → All HasImpact pairs → IsStored (stored_with point pairs)
+stored-ascending point pairs few sorted impacts =
+    let held = held-stored_with point pairs in
+    record {
+      few = few;
+      ascending = subst (λ (ps : List Pair). IsStrictlyIncreasing (keys_of ps)) (sym held) (IsStrictlyIncreasing-from_sorted (keys_of pairs) sorted);
+      impacts = subst (All HasImpact) (sym held) impacts;
+      spare = subst (All IsSpare) (sym (drop_at pairs (replicate (64 - length pairs) (0, 0)) (length pairs) refl)) (All-replicate IsSpare (64 - length pairs) (0, 0) (refl, refl));
+    }
+
+-- so do pairs in the order of their numbers
 pub stored-by_number : (point : Position) (pairs : List Pair) → length pairs ≤ 64 → All (IsEntryOf IsNumber IsImpact) pairs → IsStored (stored_with point (by_number pairs))
 stored-by_number point pairs few each =
-    let placed = by_number pairs in
     let fewer = length-by_number pairs in
-    let held = held-stored_with point placed in
-    record {
-      few = omega arith;
-      ascending = subst (λ (ps : List Pair). IsStrictlyIncreasing (keys_of ps)) (sym held) (IsStrictlyIncreasing-from_sorted (keys_of placed) (sorted-by_number pairs));
-      impacts = subst (All HasImpact) (sym held) (All-weaker (IsEntryOf IsNumber IsImpact) HasImpact (λ p is. is.1.0) placed (each-by_number IsNumber IsImpact pairs each));
-      spare = subst (All IsSpare) (sym (drop_at placed (replicate (64 - length placed) (0, 0)) (length placed) refl)) (All-replicate IsSpare (64 - length placed) (0, 0) (refl, refl));
-    }
+    stored-ascending point (by_number pairs) (omega arith) (sorted-by_number pairs)
+    (All-weaker (IsEntryOf IsNumber IsImpact) HasImpact (λ p is. is.1.0) (by_number pairs) (each-by_number IsNumber IsImpact pairs each))
 
 -- and one of its types
 pub value-by_number : (point : Position) (pairs : List Pair) → IsOnMap point.x point.y → length pairs ≤ 64 → All (IsEntryOf IsNumber IsImpact) pairs → IsValue (stored_with point (by_number pairs))

@@ -9,17 +9,18 @@ use Rattle.term_impacts.specs.Pairs.{IsWordMap}
 use Rattle.spatial_base.specs.Key.{Name, Text, Auto, key_cmp, key_cmp_total}
 use Rattle.spatial_base.specs.Point.{Position, IsOnMap}
 use Rattle.place_map.specs.declared.place.Place.{Place}
+use Rattle.place_map.specs.Restored.{IsSerialAbove}
 use Rattle.place_map.specs.State as states
 use Rattle.store_rows.specs.declared.stored.Stored.{Stored}
 use Rattle.store_rows.specs.Pairs.{Pair}
 use Rattle.store_rows.specs.Stored.{IsStored, IsValue, held_pairs}
 use Rattle.store_tables.specs.Coded.{IsEntryOf, IsPlaceEntry}
 use Rattle.store_tables.specs.Entries.{Entries, place_of_key, with_place, without_place}
-use Rattle.store_tables.specs.Words.{WordTablesAgree, has_number, holders, words_of_pairs}
+use Rattle.store_tables.specs.Words.{WordTablesAgree, WordsAgree, has_number, holders, words_of_pairs}
 use Rattle.store_tables.proofs.EntryLemmas.{insert-each}
 use Rattle.store_tables.proofs.MapLemmas.{keys_are_ordered, lookup-insert, same_from_test}
 use Rattle.store_tables.proofs.WordLemmas.{holders-with_place}
-use Rattle.stored_state.specs.Stands.{AreSound, IsBelowSerial, place_in, places_in}
+use Rattle.stored_state.specs.Stands.{AreSound, place_in, places_in}
 use Rattle.stored_state.specs.Steps.{word_at, claimed_beside, AreApart, AreAscending, IsNumbering, IsReleasing}
 use Rattle.stored_state.specs.Updates.{Numbered, after_put, by_number, has_pair, numbered_for, pairs_of, stored_with}
 use Rattle.stored_state.proofs.Numbers.{agree-claims, numbering-all}
@@ -28,7 +29,7 @@ use Rattle.stored_state.proofs.Pairs.{IsImpact, IsNumber, apart-numbered, has_pa
 use Rattle.stored_state.proofs.Places.{apart-old, each-numbered, each_paired, held-claimed, known-old, length-numbered, named-claimed, numbered-same, held_by, room-put, agree-released, place-at, place-same, same-released}
 use Rattle.stored_state.proofs.Releases.{releasing-all}
 
-module _ (key : Name) (point : Position) (words : List (List ℕ × ℕ)) (entries : Entries) (next_word serial : ℕ) (sound : AreSound entries next_word serial) (ascend : AreAscending entries) (each : All IsPlaceEntry entries.places)
+module _ (key : Name) (point : Position) (words : List (List ℕ × ℕ)) (entries : Entries) (next_word : ℕ) (agree : WordsAgree entries next_word) (ascend : AreAscending entries) (each : All IsPlaceEntry entries.places)
     (map_of_words : IsWordMap words) (room : length (without_place key entries.places) + 1 < 2 ^ 32) (numbers_left : next_word + length words ≤ 2 ^ 64) where
   -- how many places hold a number
   abbrev claims : ℕ → ℕ
@@ -60,7 +61,7 @@ module _ (key : Name) (point : Position) (words : List (List ℕ × ℕ)) (entri
 
   -- the words are numbered
   pub put-numbered : IsNumbering claims old entries next_word words now
-  put-numbered = numbering-all claims old entries next_word (room-put key entries.places room) words sound.words ascend (known-old key entries next_word sound.words) map_of_words.ascending
+  put-numbered = numbering-all claims old entries next_word (room-put key entries.places room) words agree ascend (known-old key entries next_word agree) map_of_words.ascending
 
   -- the next number rises by at most the words
   pub put-next : (next_word ≤ now.next_word) × (now.next_word ≤ next_word + length words)
@@ -90,7 +91,7 @@ module _ (key : Name) (point : Position) (words : List (List ℕ × ℕ)) (entri
 
   -- it holds the numbers of the words
   pub put-holds : (n : ℕ) → has_number n stored ≡ has_pair n now.pairs
-  put-holds n = ap (has_pair n) (held-stored_with point (by_number now.pairs)) ∙ has_pair-by_number n now.pairs put-apart
+  put-holds n = ap (has_pair n) (held-stored_with point (by_number now.pairs)) ∙ has_pair-by_number n now.pairs
 
   -- what is claimed for the numbered words and the old place is claimed for the new one and the old words that are left
   put-claims : (n : ℕ) → claimed_beside now.pairs old claims n ≡ claimed_beside old now.pairs claims_then n
@@ -124,18 +125,18 @@ module _ (key : Name) (point : Position) (words : List (List ℕ × ℕ)) (entri
   put-entries = put-released.places ∙ ap (with_place key stored) put-numbered.places
 
   -- a key below a serial is below those behind it
-  later : (next : ℕ) → serial ≤ next → (k : Name) → IsBelowSerial serial k → IsBelowSerial next k
-  later next le (Text bytes) below = tt
-  later next le (Auto n) below = omega (arith, le, below)
+  later : (serial next : ℕ) → serial ≤ next → (k : Name) → IsSerialAbove serial k → IsSerialAbove next k
+  later serial next le (Text bytes) below = tt
+  later serial next le (Auto n) below = omega (arith, le, below)
 
   -- the tables are sound
-  pub put-sound : (next : ℕ) → serial ≤ next → IsBelowSerial next key → AreSound after now.next_word next
-  put-sound next le below = record {
+  pub put-sound : (serial next : ℕ) → All (λ (e : Name × Stored). IsSerialAbove serial e.0) entries.places → serial ≤ next → IsSerialAbove next key → AreSound after now.next_word next
+  put-sound serial next serials le below = record {
     words = subst (λ (ps : List (Name × Stored)). WordTablesAgree (λ n. holders n ps) after.texts after.numbers now.next_word) (sym put-entries) (agree-released claims_then now.pairs then now.next_word after put-released);
-    serials = subst (All (λ e. IsBelowSerial next e.0)) (sym put-entries)
-        (All-weaker (IsEntryOf (IsBelowSerial next) (λ s. Unit {0})) (λ e. IsBelowSerial next e.0) (λ e is. is.0) (with_place key stored entries.places)
-        (insert-each key_cmp (IsBelowSerial next) (λ s. Unit {0}) key stored entries.places below tt
-        (All-weaker (λ e. IsBelowSerial serial e.0) (IsEntryOf (IsBelowSerial next) (λ s. Unit {0})) (λ e is. (later next le e.0 is, tt)) entries.places sound.serials)));
+    serials = subst (All (λ e. IsSerialAbove next e.0)) (sym put-entries)
+        (All-weaker (IsEntryOf (IsSerialAbove next) (λ s. Unit {0})) (λ e. IsSerialAbove next e.0) (λ e is. is.0) (with_place key stored entries.places)
+        (insert-each key_cmp (IsSerialAbove next) (λ s. Unit {0}) key stored entries.places below tt
+        (All-weaker (λ e. IsSerialAbove serial e.0) (IsEntryOf (IsSerialAbove next) (λ s. Unit {0})) (λ e is. (later serial next le e.0 is, tt)) entries.places serials)));
   }
 
   -- a number that a place holds has the word that it was numbered with
@@ -146,7 +147,7 @@ module _ (key : Name) (point : Position) (words : List (List ℕ × ℕ)) (entri
   put-kept : (q : Name) (s : Stored) → place_of_key q (with_place key stored entries.places) ≡ Some s → place_of_key q entries.places ≡ Some s → place_in after.numbers s ≡ place_in entries.numbers s
   put-kept q s is was =
       place-same entries.numbers after.numbers s (λ n held.
-      let word = named-claimed claims entries.texts entries.numbers next_word n sound.words (held-claimed n q s entries.places was held) in
+      let word = named-claimed claims entries.texts entries.numbers next_word n agree (held-claimed n q s entries.places was held) in
       put-same q s is n held ∙ put-numbered.keeps n word.0 word.1 ∙ sym word.1)
 
   -- the place has the words

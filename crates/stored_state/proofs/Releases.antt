@@ -147,3 +147,9 @@ releasing-all claims new before next_word (pair ∷ left) entries apart is = spl
         → (b : Bool) → has_pair pair.0 new ≡ b → IsReleasing claims new before next_word [] (cond b (released_all new left entries) (released_all new left (without_hold pair.0 entries)))
     split go true held = go entries (releasing-kept claims new before next_word pair left entries is held)
     split go false fresh = go (without_hold pair.0 entries) (releasing-release claims new before next_word pair left entries is fresh apart.0)
+
+-- what is released is told by the numbers of the new pairs alone
+pub released_all-same : (new other left : List Pair) (entries : Entries) → ((n : ℕ) → has_pair n new ≡ has_pair n other) → released_all new left entries ≡ released_all other left entries
+released_all-same new other [] entries same = refl
+released_all-same new other (pair ∷ left) entries same =
+    λ i. cond (same pair.0 i) (released_all-same new other left entries same i) (released_all-same new other left (without_hold pair.0 entries) same i)

@@ -5,6 +5,7 @@ use Rattle.std.specs.BTreeMap.{is_at}
 use Rattle.std.specs.List.Sorted.{IsStrictlySortedBy}
 use Rattle.std.specs.Map.{keys_of}
 use Rattle.spatial_base.specs.Key.{Name, key_cmp}
+use Rattle.place_map.specs.Restored.{IsSerialAbove}
 use Rattle.place_map.specs.State as states
 use Rattle.store_rows.specs.declared.stored.Stored.{Stored}
 use Rattle.store_tables.specs.Coded.{IsPlaceEntry}
@@ -12,7 +13,7 @@ use Rattle.store_tables.specs.Entries.{Entries, place_of_key, without_place}
 use Rattle.store_tables.specs.Words.{WordTablesAgree, WordsAgree, holders}
 use Rattle.store_tables.proofs.EntryLemmas.{remove-each}
 use Rattle.store_tables.proofs.MapLemmas.{keys_are_ordered, lookup-remove}
-use Rattle.stored_state.specs.Stands.{AreSound, IsBelowSerial, place_in, places_in}
+use Rattle.stored_state.specs.Stands.{AreSound, place_in, places_in}
 use Rattle.stored_state.specs.Steps.{AreAscending, IsReleasing}
 use Rattle.stored_state.specs.Updates.{after_remove, pairs_of}
 use Rattle.stored_state.proofs.Numbers.{agree-claims}
@@ -45,7 +46,7 @@ module _ (key : Name) (entries : Entries) (next_word serial : ℕ) (sound : AreS
   remove-sound = record {
     words = subst (λ (ps : List (Name × Stored)). WordTablesAgree (λ n. holders n ps) (after_remove key entries).texts (after_remove key entries).numbers next_word) (sym remove-entries)
         (agree-released (λ n. holders n (without_place key entries.places)) [] _ next_word (after_remove key entries) remove-released);
-    serials = subst (All (λ e. IsBelowSerial serial e.0)) (sym remove-entries) (remove-each (λ (e : Name × Stored). IsBelowSerial serial e.0) (is_at (key_cmp key)) entries.places sound.serials);
+    serials = subst (All (λ e. IsSerialAbove serial e.0)) (sym remove-entries) (remove-each (λ (e : Name × Stored). IsSerialAbove serial e.0) (is_at (key_cmp key)) entries.places sound.serials);
   }
 
   -- another place keeps its words

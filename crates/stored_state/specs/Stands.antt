@@ -7,8 +7,9 @@ use Rattle.page_store.specs.declared.superblock.Superblock.{Superblock}
 use Rattle.page_store.specs.Superblock.{IsInRange}
 use Rattle.page_store.specs.Contents as stores
 use Rattle.map_nodes.specs.Supply.{view, spare}
-use Rattle.spatial_base.specs.Key.{Name, Text, Auto}
+use Rattle.spatial_base.specs.Key.{Name}
 use Rattle.place_map.specs.declared.place.Place.{Place}
+use Rattle.place_map.specs.Restored.{IsSerialAbove}
 use Rattle.place_map.specs.State.{Contents, Places}
 use Rattle.store_rows.specs.declared.counted.Counted.{Counted}
 use Rattle.store_rows.specs.declared.stored.Stored.{Stored}
@@ -29,15 +30,10 @@ places_in entries = map (λ (e : Name × Stored). (e.0, place_in entries.numbers
 abbrev pub state_in : Entries → ℕ → ℕ → Contents
 state_in entries serial number = record { places = places_in entries; serial = serial; number = number }
 
--- an automatic key is below the next serial
-abbrev pub IsBelowSerial : ℕ → Name → Type 0
-IsBelowSerial serial (Text bytes) = Unit {0}
-IsBelowSerial serial (Auto n) = n < serial
-
 -- The word tables agree with the places, and each live automatic key is below the next serial.
 pub record AreSound (entries : Entries) (next_word serial : ℕ) : Type 0 where
   pub words : WordsAgree entries next_word
-  pub serials : All (λ (e : Name × Stored). IsBelowSerial serial e.0) entries.places
+  pub serials : All (λ (e : Name × Stored). IsSerialAbove serial e.0) entries.places
 
 -- the tables' roots and the next word number, which page 0 has
 abbrev pub tables_in : Head → Tables

@@ -9,7 +9,7 @@ use Rattle.store_rows.specs.declared.stored.Stored.{Stored}
 use Rattle.store_rows.specs.Pairs.{Pair}
 use Rattle.store_rows.specs.Stored.{held_pairs}
 use Rattle.store_tables.specs.Entries.{Entries, place_of_key, with_place, without_place, number_of_word}
-use Rattle.store_tables.specs.Words.{CanHold, number_for, next_after, with_hold, without_hold}
+use Rattle.store_tables.specs.Words.{CanHold, CanRelease, number_for, next_after, with_hold, without_hold}
 
 -- whether a number is among the pairs
 abbrev pub has_pair : ℕ → List Pair → Bool
@@ -54,9 +54,20 @@ released_all new [] entries = entries
 released_all new (pair ∷ old) entries =
     if has_pair pair.0 new then released_all new old entries else released_all new old (without_hold pair.0 entries)
 
+-- In its turn each word of the old pairs can be released whose number isn't among the new ones.
+abbrev pub CanReleaseAll : List Pair → List Pair → Entries → Type 0
+CanReleaseAll new [] entries = Unit {0}
+CanReleaseAll new (pair ∷ old) entries =
+    (has_pair pair.0 new ≡ true → CanReleaseAll new old entries)
+    × (has_pair pair.0 new ≡ false → CanRelease pair.0 entries × CanReleaseAll new old (without_hold pair.0 entries))
+
+-- pairs put in the order of their numbers among others
+abbrev pub placed : List Pair → List Pair → List Pair
+placed = fold (λ done pair. insert_entry nat_cmp done pair.0 pair.1)
+
 -- the pairs in the order of their numbers
 abbrev pub by_number : List Pair → List Pair
-by_number pairs = fold (λ placed pair. insert_entry nat_cmp placed pair.0 pair.1) [] pairs
+by_number = placed []
 
 -- a place with these pairs
 abbrev pub stored_with : Position → List Pair → Stored
