@@ -1,4 +1,4 @@
-use Rattle.std.proofs.Common.{◌≡◌, IsErrOf, inl, rules}
+use Rattle.std.proofs.Common.{IsErrOf, inl, rules}
 use Rattle.std.proofs.lemmas.Result.{err_from_is_err_and}
 use Rattle.page_face.specs.declared.fault.PageFault.TheVariants.{Damaged}
 use Rattle.stored_places.proofs.Known.{known-rest}

@@ -1,4 +1,4 @@
-use Rattle.std.proofs.Common.{◌≡◌, ◌++◌, List}
+use Rattle.std.proofs.Common.{◌≡◌, ◌++◌}
 use Rattle.stored_places.proofs.words.list_words.Given as goal
 
 abbrev pub invariant-loop-word : goal.invariant-loop-word

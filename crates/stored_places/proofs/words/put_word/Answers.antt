@@ -1,4 +1,4 @@
-use Rattle.std.proofs.Common.{◌≡◌, sym, subst, arith}
+use Rattle.std.proofs.Common.{sym, subst, arith}
 use Rattle.term_impacts.specs.Pairs.{IsWordMap}
 use Rattle.term_impacts.proofs.PairsLemmas.{IsWordMap-insert_entry}
 use Rattle.stored_places.proofs.words.put_word.Goals as goal

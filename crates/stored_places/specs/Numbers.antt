@@ -1,0 +1,16 @@
+-- Word numbers with their impacts, as a place holds them.
+use Rattle.std.specs.Prelude.{ℕ, ◌≤◌, List, length, All}
+use Rattle.std.specs.List.Sorted.{IsStrictlySortedBy}
+use Rattle.std.specs.Map.{keys_of}
+use Rattle.std.specs.Ordering.{nat_cmp}
+use Rattle.store_rows.specs.Pairs.{Pair, HasImpact}
+
+-- a word with an impact from 1 to 255
+abbrev pub HasTermImpact : List ℕ × ℕ → Type 0
+HasTermImpact term = (1 ≤ term.1) × (term.1 ≤ 255)
+
+-- The pairs are a map from numbers to impacts that a place can hold: at most 64, each number before the next, each with an impact.
+pub record IsNumberMap (pairs : List Pair) : Type 0 where
+  pub few : length pairs ≤ 64
+  pub ascending : IsStrictlySortedBy nat_cmp (keys_of pairs)
+  pub impacts : All HasImpact pairs
