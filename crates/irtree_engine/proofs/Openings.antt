@@ -1,5 +1,5 @@
 -- What an opening leaves stands for what stood before it.
-use Rattle.std.proofs.Common.{◌≡◌, ℕ, ◌+◌, ◌*◌, List, ⊎_elim, ap, ◌∙◌, arith}
+use Rattle.std.proofs.Common.{◌≡◌, ℕ, ⊎_elim, ap, ◌∙◌, arith}
 use Rattle.disk_model.specs.World.{World, Image, LeavesOnly}
 use Rattle.disk_model.specs.declared.disk.Area.TheVariants.{Journal}
 use Rattle.disk_model.proofs.Moments.{within}

@@ -1,11 +1,11 @@
 -- What the pages of a store that is committed stand for.
-use Rattle.std.proofs.Common.{◌≡◌, ℕ, ◌+◌, ◌<◌, ◌≤◌, Bool, true, false, List, [], ◌∷◌, length, IsSome, eq-eqb, ◌||◌, inl, refl, sym, ap, subst, ◌∙◌, arith, nat_lt, ◌==◌}
+use Rattle.std.proofs.Common.{◌≡◌, ℕ, Bool, true, false, List, [], ◌∷◌, length, Option, Some, None, IsSome, eq-eqb, ◌||◌, inl, refl, sym, ap, subst, ◌∙◌, arith, nat_lt, ◌==◌}
 use Rattle.std.proofs.lemmas.Bool.{ne_eqb, lt-ltb}
 use Rattle.std.specs.List.{AllByRecursion}
 use Rattle.disk_model.specs.World.{World}
 use Rattle.disk_model.specs.declared.disk.Area.TheVariants.{Pages}
 use Rattle.page_store.specs.declared.superblock.Superblock.{Superblock}
-use Rattle.page_store.specs.Contents.{Contents, Overlay, IsCommitted, contents_in, contents_of, counted_pages, page_bytes, shown}
+use Rattle.page_store.specs.Contents.{Contents, Overlay, IsCommitted, IsSized, contents_in, contents_of, counted_pages, first_of, page_bytes, page_in, shown}
 use Rattle.page_store.proofs.Bytes.{length-page_bytes}
 use Rattle.page_store.proofs.Overlays.{cleared_contents}
 use Rattle.page_face.specs.FreeList.{PageMap}
@@ -43,13 +43,17 @@ committed-stand tells world overlay current last state told none settled committ
     (subst (λ (b : Bool). PagesStand last (counted_pages last.counted (shown b (world.seen Pages) overlay)) state) (sym told)
     (subst (λ (c : Contents). PagesStand c.block c.pages state) is stands.stand))
 
--- and each counted page is told
-pub committed-told : (tells : Bool) (area : ℕ → ℕ) (overlay : Overlay) (count : ℕ) → tells ≡ true → overlay.entries ≡ [] → AreTold (counted_pages count (shown tells area overlay)) count
-committed-told tells area overlay count told none n some lt =
+-- each counted page of a store is told
+pub store-told : (tells : Bool) (area : ℕ → ℕ) (overlay : Overlay) (count : ℕ) → tells ≡ true → IsSized overlay → AreTold (counted_pages count (shown tells area overlay)) count
+store-told tells area overlay count told sized n some lt =
     let not_0 : (n == 0) ≡ false = ne_eqb n 0 (λ e. omega arith) in
     let counted : nat_lt n count ≡ true = lt-ltb n count lt in
-    let size : length (counted_pages count (shown tells area overlay) n) ≡ 4096 = rw (not_0, counted, told, none) (length-page_bytes area n) in
+    let size : length (counted_pages count (shown tells area overlay) n) ≡ 4096 = rw (not_0, counted, told) (long (page_in overlay n) refl) in
     omega (arith, size)
+  where
+    long : (page : Option (List ℕ)) → page_in overlay n ≡ page → length (first_of (page_in overlay n) (page_bytes area n)) ≡ 4096
+    long None is = ap (λ (o : Option (List ℕ)). length (first_of o (page_bytes area n))) is ∙ length-page_bytes area n
+    long (Some page) is = ap (λ (o : Option (List ℕ)). length (first_of o (page_bytes area n))) is ∙ sized n page is
 
 -- each page that the tables use is counted
 pub stand-counted : {block : Superblock} {pages : PageMap} {state : states.Contents} → (stand : PagesStand block pages state) → AreCounted (table_uses pages (tables_in block.head)) block.counted

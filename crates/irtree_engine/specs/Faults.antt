@@ -27,3 +27,9 @@ IsReadFault (Damaged damage) = Unit {0}
 IsReadFault Stopped = Unit {0}
 IsReadFault Memory = Unit {0}
 IsReadFault _ = ⊥
+
+-- what an answer over places that were read may be refused for
+abbrev pub IsOwnFault : EngineFault → Type 0
+IsOwnFault (Damaged damage) = Unit {0}
+IsOwnFault Memory = Unit {0}
+IsOwnFault _ = ⊥

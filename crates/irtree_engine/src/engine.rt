@@ -92,7 +92,8 @@ impl<'d, D: Station> Engine<'d, D> {
         self.store.head().live
     }
 
-    /// Passes a piece, which isn't empty, to the station, in one call, and changes nothing else. Answers as the station does.
+    /// Passes a piece, which isn't empty, to the station, in one call, and changes nothing that the store holds. Answers as the
+    /// station does.
     pub fn say(&mut self, bytes: &[u8]) -> Result<usize, Failed>
         requires { 0 < length bytes.now }
         ensures same_loan { self.new.store.disk.ghost_name ≡ self.old.store.disk.ghost_name }
@@ -102,6 +103,8 @@ impl<'d, D: Station> Engine<'d, D> {
         ensures room { D.room_of self.new.store.disk.now ≡ D.room_of self.old.store.disk.now }
         ensures goes_on { self.new.stopped ≡ self.old.stopped }
     {
+        // What was read for this reply is told: a log of all reads would grow with the run.
+        self.store.clear_log();
         self.store.say(bytes)
     }
 

@@ -1,5 +1,7 @@
 //! Why a call of the engine was refused.
-use page_face::{Damage, PageFault};
+ghost use Rattle.std.specs.Prelude.{◌≡◌};
+
+use page_face::{Damage, PageFault, Rule};
 
 /// Why a call of the engine was refused.
 #[derive(Clone, Copy, Debug, PartialEq, Eq)]
@@ -39,4 +41,11 @@ impl From<PageFault> for EngineFault {
             PageFault::Memory => EngineFault::Memory,
         }
     }
+}
+
+/// A rule that page 0's fields break.
+pub(crate) fn broken_by_head(rule: Rule) -> Damage
+    ensures { result ≡ record { page = 0; rule = rule } }
+{
+    Damage { page: 0, rule }
 }

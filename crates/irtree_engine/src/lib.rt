@@ -1,19 +1,28 @@
 //! A store as one object: the map of live places on a disk that may crash.
 //!
 //! An [`Engine`] borrows a station. Where the station tells its bytes, what the engine holds is the state that the station's
-//! image stands for (`stored_state`): [`Engine::show`] and [`Engine::count`] read that state.
-//! [`Engine::open`] recovers the journal; a crash at any moment of it leaves an image of the same state.
+//! image stands for (`stored_state`): [`Engine::show`], [`Engine::count`] and [`Engine::answer`] read that state, and
+//! [`Engine::apply`] and [`Engine::apply_batch`] change it. An update, or a whole batch of them, is stored in one commit. A crash at
+//! any moment of it leaves an image of the state before it or of the one after all of it, and [`Engine::open`], which recovers the
+//! journal, keeps that state.
+//!
+//! After a refusal the map is as before. A commit that fails stops the engine: from then on each call that reads or changes places
+//! answers `Stopped`, and the store is to be opened again.
 //!
 //! A caller that has to know what a refused opening left calls [`look`] and then [`Engine::over`], which together are `open`,
 //! and [`Engine::into_disk`] gives the loan back.
 #![tactic(auto)]
 
+mod answering;
+mod change;
 mod engine;
 mod fault;
 mod opening;
+mod places;
 mod reading;
 #[cfg(test)]
 mod tests;
+mod updating;
 
 pub use engine::Engine;
 pub use fault::EngineFault;

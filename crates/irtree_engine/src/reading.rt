@@ -1,18 +1,17 @@
-//! What lives at a key, and what a query is answered.
-ghost use Rattle.std.specs.Prelude.{◌≡◌, ◌≤◌, IsTrue, IfOk, IfErr, IsErrOf, ◌↔◌, option_map};
+//! What lives at a key.
+ghost use Rattle.std.specs.Prelude.{◌≡◌, ◌≤◌, IsTrue, IfOk, IfErr, IsErrOf, ◌↔◌};
 ghost use Rattle.disk_model.specs.World.{Rose};
 ghost use Rattle.page_store.specs.Store.{Rests};
 ghost use Rattle.place_map.specs.State.{Contents, place_at};
 ghost use Rattle.irtree_engine.specs.Holding.{HoldsState};
-ghost use Rattle.stored_state.specs.Stands.{tables_in};
 ghost use Rattle.irtree_engine.specs.Faults.{IsReadFault};
 
+use crate::change::tables_of;
 use crate::{Engine, EngineFault};
 use disk_model::Station;
 use page_face::Damage;
 use place_map::Place;
 use spatial_base::Key;
-use store_tables::Tables;
 use stored_places::place_at;
 
 impl<'d, D: Station> Engine<'d, D> {
@@ -39,20 +38,7 @@ impl<'d, D: Station> Engine<'d, D> {
         if self.stopped {
             return Err(EngineFault::Stopped);
         }
-        let tables = self.tables();
+        let tables = tables_of(&self.store.head());
         Ok(place_at(self.alloc, &mut self.store, &tables, key)?)
-    }
-
-    // The roots of the tables, and the next word number.
-    pub(crate) fn tables(&self) -> Tables
-        ensures { result ≡ tables_in self.now.store.current.head }
-    {
-        let head = self.store.head();
-        Tables {
-            places: head.places,
-            texts: head.texts,
-            numbers: head.numbers,
-            next_word: head.next_word,
-        }
     }
 }

@@ -1,16 +1,34 @@
-//! Stores that were written below the engine, and what it reads of them.
+//! Stores on a station in memory: what the engine reads where they were written below it, and what stays of its own updates.
+ghost use Rattle.std.specs.Prelude.{◌≡◌, IfOk};
+ghost use Rattle.spatial_base.specs.Key.{Text};
+ghost use Rattle.irtree_engine.specs.Updates.{NamesText};
+
 use crate::{Engine, EngineFault};
 use disk_model::MemoryStation;
 use page_face::Head;
 use page_store::Store;
+use place_map::{Answer, Applied, Query, Update};
 use spatial_base::{Key, Point};
 use std::alloc::Global;
 use std::test::Fail;
 use store_tables::{Stored, Tables};
-use term_impacts::one_word;
+use term_impacts::{impacts, one_word};
 
-fn key(text: &str) -> Result<Key, Fail> {
+fn key(text: &str) -> Result<Key, Fail>
+    ensures { IfOk result (λ key. key ≡ Text text.now) }
+{
     Ok(Key::of_text(text).map_err(|_| "no key")?)
+}
+
+// Puts a place at a text key.
+fn put(alloc: Global, name: &str, words: &str) -> Result<Update, Fail>
+    ensures { IfOk result NamesText }
+{
+    Ok(Update::Put {
+        key: Some(key(name)?),
+        point: Point::new(-1, 2).ok_or("off the map")?,
+        words: impacts(alloc, words)?,
+    })
 }
 
 // Stores one place with one word.
@@ -75,5 +93,39 @@ fn an_area_of_other_bytes_is_no_store(rt: HostRuntime) -> Result<(), Fail> {
     let mut empty = MemoryStation::new(rt.alloc(), 9);
     let opened = Engine::open(rt.alloc(), &mut empty, 0).map(|engine| engine.count());
     assert_eq!(rt; opened, Ok(0));
+    Ok(())
+}
+
+#[test]
+fn what_was_applied_stands_after_reopening(rt: HostRuntime) -> Result<(), Fail> {
+    let mut station = MemoryStation::new(rt.alloc(), 30);
+    let mut engine = Engine::open(rt.alloc(), &mut station, 0)?;
+    let first = put(rt.alloc(), "a", "café")?;
+    assert_eq!(rt; engine.apply(&first), Ok(Applied::New));
+    assert_eq!(rt; engine.apply(&first), Ok(Applied::Replaced));
+    assert_eq!(rt;
+        engine.apply(&Update::Remove { key: key("b")? }),
+        Ok(Applied::Absent)
+    );
+    let batch = [
+        put(rt.alloc(), "b", "bar")?,
+        Update::Remove { key: key("a")? },
+    ];
+    assert_eq!(rt; engine.apply_batch(&batch), Ok(()));
+    let _loan = engine.into_disk();
+    let mut engine = Engine::open(rt.alloc(), &mut station, 0)?;
+    assert_eq!(rt; engine.count(), 1);
+    assert!(rt; engine.show(&key("a")?)?.is_none());
+    let query = Query::Nearest {
+        at: Point::new(0, 0).ok_or("off the map")?,
+        k: 2,
+        filter: None,
+    };
+    assert!(rt; query.is_within_limits());
+    let Answer::Hits(hits) = engine.answer(&query)? else {
+        return Err("no hits".into());
+    };
+    assert_eq!(rt; hits.as_slice().len(), 1);
+    assert_eq!(rt; hits.as_slice()[0].key, key("b")?);
     Ok(())
 }

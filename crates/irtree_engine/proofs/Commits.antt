@@ -1,0 +1,62 @@
+-- What a commit leaves stands for the state before it, or for the one that was committed.
+use Rattle.std.proofs.Common.{◌≡◌, ℕ, Bool, true, ⊎_elim, inl, inr, refl, sym, ap, subst, ◌∙◌}
+use Rattle.disk_model.specs.World.{World, Image, LeavesOnly}
+use Rattle.disk_model.specs.declared.disk.Area.TheVariants.{Pages}
+use Rattle.disk_model.proofs.Moments.{rested, then, within}
+use Rattle.page_store.specs.Contents.{Contents, HoldsContents, HoldsOneOf, IsCommitted, Overlay, contents_in, counted_pages, shown}
+use Rattle.page_store.specs.Store.{Rests}
+use Rattle.page_store.specs.Superblock.{IsInRange}
+use Rattle.page_store.specs.declared.superblock.Superblock.{Superblock}
+use Rattle.place_map.specs.State as states
+use Rattle.stored_state.specs.Stands.{PagesStand, Stands}
+use Rattle.stored_state.proofs.Images.{area-one}
+use Rattle.irtree_engine.specs.Updates.{LeavesOneOf}
+
+-- an image whose contents stand for a state stands for it
+contents-stand : (image : Image) (contents : Contents) (state : states.Contents) → PagesStand contents.block contents.pages state → HoldsContents contents image → Stands image state
+contents-stand image contents state stand holds = record { contents = contents; holds = holds; stand = stand }
+
+-- what a closed gate leaves are the pages as reads give them
+area-contents : (block : Superblock) (world : World) (state : states.Contents) → IsCommitted block world → Stands world.seen state
+    → PagesStand (contents_in (world.seen Pages)).block (contents_in (world.seen Pages)).pages state
+area-contents block world state committed stands =
+    let area = area-one world.seen stands.holds.area (world.seen Pages) stands.holds.stands (inl (committed.closed, refl)) in
+    subst (λ (c : Contents). PagesStand c.block c.pages state) (sym stands.holds.holds ∙ ap contents_in area) stands.stand
+
+-- after a commit the image stands for the state that was committed
+pub commit-stands : (block : Superblock) (world : World) (contents : Contents) (state : states.Contents) → IsCommitted block world → contents_in (world.seen Pages) ≡ contents
+    → PagesStand contents.block contents.pages state → Stands world.seen state
+commit-stands block world contents state committed is stand = record {
+  contents = contents;
+  holds = record {
+    area = world.seen Pages;
+    stands = inl (committed.closed, refl);
+    holds = is;
+    page = λ range. committed.page (subst IsInRange (sym (ap (λ (c : Contents). c.block) is) ∙ committed.head) range);
+  };
+  stand = stand;
+}
+
+-- and a crash at any moment of it leaves the state before it or that one
+pub commit-leaves : (block : Superblock) (old new : World) (contents : Contents) (before after : states.Contents) → IsCommitted block old → Stands old.seen before → PagesStand contents.block contents.pages after
+    → LeavesOnly old new (HoldsOneOf (contents_in (old.seen Pages)) contents old) → LeavesOnly old new (LeavesOneOf before after old)
+commit-leaves block old new contents before after committed stands stand leaves = within leaves (λ image said left. (
+  ⊎_elim
+      (λ is. inl (contents-stand image (contents_in (old.seen Pages)) before (area-contents block old before committed stands) is))
+      (λ is. inr (contents-stand image contents after stand is))
+      left.0,
+  left.1,
+))
+
+-- pages that are told stand for what they stand for
+pub told-stand : (tells : Bool) (area : ℕ → ℕ) (overlay : Overlay) (block : Superblock) (state : states.Contents) → tells ≡ true
+    → PagesStand block (counted_pages block.counted (shown tells area overlay)) state → PagesStand block (counted_pages block.counted (shown true area overlay)) state
+told-stand tells area overlay block state told stand = subst (λ (b : Bool). PagesStand block (counted_pages block.counted (shown b area overlay)) state) told stand
+
+-- what stands for a state does so after calls that only read
+pub rest-stands : (old mid : World) (state : states.Contents) → Rests old mid → Stands old.seen state → Stands mid.seen state
+rest-stands old mid state rests stands = subst (λ (image : Image). Stands image state) (sym rests.seen) stands
+
+-- and a commit after them leaves what it would have left
+pub rest-leaves : (old mid new : World) (before after : states.Contents) → Rests old mid → LeavesOnly mid new (LeavesOneOf before after mid) → LeavesOnly old new (LeavesOneOf before after old)
+rest-leaves old mid new before after rests leaves = then (rested rests.adds) (within leaves (λ image said left. (left.0, left.1 ∙ rests.said)))

@@ -1,0 +1,245 @@
+-- What an update's tables and page 0's fields stand for, and what it answers.
+use Rattle.std.proofs.Common.{◌≡◌, ◌≢◌, ⊎_elim, inr, ℕ, zero, suc, ◌+◌, ◌*◌, ◌==◌, ◌&&◌, ◌<◌, ◌≤◌, ◌^◌, Bool, true, false, cond, not, is_some, is_none, nat_le, List, length, Option, Ok, Err, refl, sym, ap, subst, ◌∙◌, eq-eqb, arith}
+use Rattle.std.proofs.lemmas.Bool.{cases_lt, ne_eqb, le-leb, lt-leb}
+use Rattle.term_impacts.specs.Pairs.{IsWordMap}
+use Rattle.spatial_base.specs.Key.{Name}
+use Rattle.spatial_base.specs.Point.{Position}
+use Rattle.page_face.specs.FreeList.{PageMap}
+use Rattle.page_face.specs.declared.head.Head.{Head}
+use Rattle.page_store.specs.Superblock.{IsInRange}
+use Rattle.page_store.specs.declared.superblock.Superblock.{Superblock}
+use Rattle.map_nodes.specs.declared.form.Form.{Form}
+use Rattle.map_nodes.specs.Supply.{view}
+use Rattle.map_nodes.specs.Tree.{level_of, map_uses, uses}
+use Rattle.map_nodes.proofs.Supplies.{one_at-same}
+use Rattle.place_map.specs.declared.place.Place.{Place}
+use Rattle.place_map.specs.declared.update.Applied.TheVariants.{New, Replaced, Gone, Absent}
+use Rattle.place_map.specs.declared.update.UpdateFault.TheVariants.{Full, Worn}
+use Rattle.place_map.specs.Restored.{IsSerialAbove}
+use Rattle.place_map.specs.State as states
+use Rattle.place_map.specs.Update.{Effect, put_at, refuses, removed_at}
+use Rattle.store_rows.specs.declared.stored.Stored.{Stored}
+use Rattle.store_tables.specs.declared.tables.Tables.{Tables}
+use Rattle.store_tables.specs.Entries.{place_of_key, without_place}
+use Rattle.store_tables.specs.Holding.{IsApart, IsChanged, numbers_form, places_form, table_uses, texts_form}
+use Rattle.store_tables.proofs.ToldLemmas.{apart-counted}
+use Rattle.stored_state.specs.Stands.{PagesStand, tables_in}
+use Rattle.stored_state.specs.Updates.{after_put, after_remove, numbered_for}
+use Rattle.stored_state.proofs.Changes.{lives-before, live-before, next-then, stand-put, stand-remove}
+use Rattle.stored_state.proofs.Places.{length-without_place}
+use Rattle.irtree_engine.specs.Changes.{block_with, head_with}
+
+-- ---- the same pages
+
+-- pages that are the same stand for the same state
+pub stand-same : (head : Head) (p q : PageMap) (m n i j : ℕ) (state : states.Contents) → q ≡ p → n ≡ m → j ≡ i → PagesStand (block_with m i head) p state → PagesStand (block_with n j head) q state
+stand-same head p q m n i j state pages count first stand =
+    subst (λ (k : ℕ). PagesStand (block_with n k head) q state) (sym first)
+    (subst (λ (k : ℕ). PagesStand (block_with k i head) q state) (sym count)
+    (subst (λ (r : PageMap). PagesStand (block_with m i head) r state) (sym pages) stand))
+
+-- ---- roots
+
+-- a tree uses its first page
+top-used : (form : Form) (pages : PageMap) (level page : ℕ) → 1 ≤ uses form pages level page page
+top-used form pages zero page = omega (arith, one_at-same page)
+top-used form pages (suc level) page = omega (arith, one_at-same page)
+
+-- a map uses its root
+root-used : (form : Form) (pages : PageMap) (root : ℕ) → 0 < root → 1 ≤ map_uses form pages root root
+root-used form pages zero some = absurd (omega arith)
+root-used form pages (suc m) some = top-used form pages (level_of (pages (suc m))) (suc m)
+
+-- a page that is used is counted, and so is page 0
+used-counted : (pages : PageMap) (count first : ℕ) (free : List ℕ) (tables : Tables) → IsApart (view pages count first free) tables → (n : ℕ) → (0 < n → 0 < table_uses pages tables n) → n < count
+used-counted pages count first free tables apart zero used = apart.some
+used-counted pages count first free tables apart (suc m) used = ⊎_elim
+    (λ (counted : suc m < count). counted)
+    (λ (past : count ≤ suc m). absurd (apart-counted (view pages count first free) tables apart (suc m) (used (omega arith)) (inr past)))
+    (cases_lt (suc m) count)
+
+-- ---- page 0's fields
+
+module _ (old : Superblock) (range : IsInRange old) (pages : PageMap) (count first : ℕ) (tables : Tables) (live serial : ℕ) where
+  -- after a change page 0's fields are in their ranges
+  after-range : (free : List ℕ) → IsApart (view pages count first free) tables → first < count → old.head.rows ≡ 0 → old.head.tree ≡ 0 → old.head.number < 2 ^ 40
+      → old.head.serial ≤ serial → serial ≤ old.head.number + 2 → old.head.next_word ≤ tables.next_word → tables.next_word ≤ 64 * (old.head.number + 1 + 1)
+      → IsInRange (block_with count first (head_with old.head tables live serial))
+  after-range free apart counted no_rows no_tree number later serials words next =
+      let some = apart.some in
+      let was = range.serial in
+      let first_word = range.next_word in
+      record {
+        counted = omega (arith, some);
+        first_free = counted;
+        places = used-counted pages count first free tables apart tables.places (λ root. (let one = root-used places_form pages tables.places root in omega (arith, one)));
+        texts = used-counted pages count first free tables apart tables.texts (λ root. (let one = root-used texts_form pages tables.texts root in omega (arith, one)));
+        numbers = used-counted pages count first free tables apart tables.numbers (λ root. (let one = root-used numbers_form pages tables.numbers root in omega (arith, one)));
+        rows = omega (arith, some, no_rows);
+        tree = omega (arith, some, no_tree);
+        serial = omega (arith, was, later);
+        serials = omega (arith, serials);
+        number = omega (arith, number);
+        next_word = omega (arith, first_word, words);
+        words = next;
+      }
+
+-- ---- answers
+
+-- what a put does, by whether it finds no room, the last update number, and the key
+put-is : (state : states.Contents) (key : Name) (serial : ℕ) (place : Place) (full worn lived : Bool)
+    → (nat_le 200000 (length state.places) && is_none (states.place_at key state.places)) ≡ full → (state.number == 2 ^ 40) ≡ worn → is_some (states.place_at key state.places) ≡ lived
+    → put_at state key serial place
+    ≡ cond full (refuses state Full) (cond worn (refuses state Worn)
+    (record { state = record { places = states.with_place key place state.places; serial = serial; number = state.number + 1 }; answer = Ok (cond lived Replaced New) }))
+put-is state key serial place full worn lived f w l =
+    λ i. cond (f i) (refuses state Full) (cond (w i) (refuses state Worn)
+    (record { state = record { places = states.with_place key place state.places; serial = serial; number = state.number + 1 }; answer = Ok (cond (l i) Replaced New) }))
+
+-- what a removal does, by whether it finds the key, and the last update number
+remove-is : (state : states.Contents) (key : Name) (lived worn : Bool) → is_some (states.place_at key state.places) ≡ lived → (state.number == 2 ^ 40) ≡ worn
+    → removed_at state key
+    ≡ cond (not lived) (record { state = state; answer = Ok Absent }) (cond worn (refuses state Worn)
+    (record { state = record { places = states.without_place key state.places; serial = state.serial; number = state.number + 1 }; answer = Ok Gone }))
+remove-is state key lived worn l w =
+    λ i. cond (not (l i)) (record { state = state; answer = Ok Absent }) (cond (w i) (refuses state Worn)
+    (record { state = record { places = states.without_place key state.places; serial = state.serial; number = state.number + 1 }; answer = Ok Gone }))
+
+module _ (head : Head) (count first : ℕ) (pages : PageMap) (state : states.Contents) (stand : PagesStand (block_with count first head) pages state) (key : Name) (found : Option Stored) (is_found : found ≡ place_of_key key stand.entries.places) where
+  -- the key lives where it was found
+  lives : is_some (states.place_at key state.places) ≡ is_some found
+  lives = lives-before (block_with count first head) pages state stand key ∙ ap is_some (sym is_found)
+
+  -- the state's number is page 0's
+  number-is : state.number ≡ head.number
+  number-is = ap (λ (s : states.Contents). s.number) stand.is
+
+  -- and so is its serial
+  serial-is : state.serial ≡ head.serial
+  serial-is = ap (λ (s : states.Contents). s.serial) stand.is
+
+  -- page 0 counts the state's places
+  live-is : length state.places ≡ head.live
+  live-is = live-before (block_with count first head) pages state stand
+
+  -- the last update number
+  is-worn : head.number ≡ 2 ^ 40 → (state.number == 2 ^ 40) ≡ true
+  is-worn last = eq-eqb state.number (2 ^ 40) (number-is ∙ last)
+
+  not-worn : head.number ≢ 2 ^ 40 → (state.number == 2 ^ 40) ≡ false
+  not-worn less = ne_eqb state.number (2 ^ 40) (λ e. less (sym number-is ∙ e))
+
+  module _ (serial : ℕ) (place : Place) where
+    -- a new key is full where 200,000 places live
+    pub put-full : is_none found ≡ true → 200000 ≤ head.live → (put_at state key serial place).answer ≡ Err Full
+    put-full new many =
+        let new_place : is_none (states.place_at key state.places) ≡ true = ap not lives ∙ new in
+        let full : nat_le 200000 (length state.places) ≡ true = le-leb 200000 (length state.places) (omega (arith, live-is, many)) in
+        let test : (nat_le 200000 (length state.places) && is_none (states.place_at key state.places)) ≡ true = λ i. full i && new_place i in
+        ap (λ (e : Effect). e.answer) (put-is state key serial place true (state.number == 2 ^ 40) (is_some (states.place_at key state.places)) test refl refl)
+
+    -- where there is room the key is not refused
+    room-test : (is_none found ≡ true → head.live < 200000) → (nat_le 200000 (length state.places) && is_none (states.place_at key state.places)) ≡ false
+    room-test room = split (is_none found) refl
+      where
+        split : (b : Bool) → is_none found ≡ b → (nat_le 200000 (length state.places) && is_none (states.place_at key state.places)) ≡ false
+        split true new =
+            let few : nat_le 200000 (length state.places) ≡ false = lt-leb 200000 (length state.places) (let less = room new in omega (arith, live-is, less)) in
+            rw few refl
+        split false old =
+            let lived : is_none (states.place_at key state.places) ≡ false = ap not lives ∙ old in
+            rw lived (either (nat_le 200000 (length state.places)))
+          where
+            either : (b : Bool) → (b && false) ≡ false
+            either true = refl
+            either false = refl
+
+    -- at the last update number a put is worn
+    pub put-worn : (is_none found ≡ true → head.live < 200000) → head.number ≡ 2 ^ 40 → (put_at state key serial place).answer ≡ Err Worn
+    put-worn room last =
+        ap (λ (e : Effect). e.answer) (put-is state key serial place false true (is_some (states.place_at key state.places)) (room-test room) (is-worn last) refl)
+
+    -- and else it puts the place
+    pub put-done : (is_none found ≡ true → head.live < 200000) → head.number ≢ 2 ^ 40
+        → put_at state key serial place
+        ≡ record { state = record { places = states.with_place key place state.places; serial = serial; number = head.number + 1 }; answer = Ok (cond (is_none found) New Replaced) }
+    put-done room less =
+        put-is state key serial place false false (is_some found) (room-test room) (not-worn less) lives
+        ∙ λ i. record { state = record { places = states.with_place key place state.places; serial = serial; number = number-is i + 1 }; answer = Ok (which (is_some found) i) }
+      where
+        which : (b : Bool) → cond b Replaced New ≡ cond (not b) New Replaced
+        which true = refl
+        which false = refl
+
+  -- an absent key changes nothing
+  pub remove-absent : is_some found ≡ false → removed_at state key ≡ record { state = state; answer = Ok Absent }
+  remove-absent none = remove-is state key false (state.number == 2 ^ 40) (lives ∙ none) refl
+
+  -- at the last update number a removal is worn
+  pub remove-worn : is_some found ≡ true → head.number ≡ 2 ^ 40 → (removed_at state key).answer ≡ Err Worn
+  remove-worn some last = ap (λ (e : Effect). e.answer) (remove-is state key true true (lives ∙ some) (is-worn last))
+
+  -- and else it takes the place out
+  pub remove-done : is_some found ≡ true → head.number ≢ 2 ^ 40
+      → removed_at state key ≡ record { state = record { places = states.without_place key state.places; serial = head.serial; number = head.number + 1 }; answer = Ok Gone }
+  remove-done some less =
+      remove-is state key true false (lives ∙ some) (not-worn less)
+      ∙ λ i. record { state = record { places = states.without_place key state.places; serial = serial-is i; number = number-is i + 1 }; answer = Ok Gone }
+
+  -- ---- pages
+
+  -- what was found counts as the tables have it
+  counted-as : (b : Bool) → is_some found ≡ b → ◌≡◌ {A = ℕ} (cond (is_some (place_of_key key stand.entries.places)) 1 0) (cond b 1 0)
+  counted-as b is = ap (λ (f : Option Stored). cond (is_some f) 1 0) (sym is_found) ∙ ap (λ d. cond d 1 0) is
+
+  -- where a place is put there is room for it
+  pub room-left : (is_none found ≡ true → head.live < 200000) → head.live < 2 ^ 32 → head.live + 1 < 2 ^ 32 + cond (is_some (place_of_key key stand.entries.places)) 1 0
+  room-left room small = at (is_some found) refl
+    where
+      at : (b : Bool) → is_some found ≡ b → head.live + 1 < 2 ^ 32 + cond (is_some (place_of_key key stand.entries.places)) 1 0
+      at true lived = let one = counted-as true lived in omega (arith, one, small)
+      at false new = let less = room (ap not new) in omega (arith, less)
+
+  -- and in the tables beside it
+  pub few-left : (is_none found ≡ true → head.live < 200000) → head.live < 2 ^ 32 → length (without_place key stand.entries.places) + 1 < 2 ^ 32
+  few-left room small = let left = room-left room small in let live = stand.live in omega (arith, left, live, length-without_place key stand.entries.places)
+
+  -- one place more lives where the key was new
+  counts-more : (live : ℕ) → live ≡ cond (is_none found) (head.live + 1) head.live → live + cond (is_some (place_of_key key stand.entries.places)) 1 0 ≡ head.live + 1
+  counts-more live is = at (is_some found) refl
+    where
+      at : (b : Bool) → is_some found ≡ b → live + cond (is_some (place_of_key key stand.entries.places)) 1 0 ≡ head.live + 1
+      at true lived = let one = counted-as true lived in let same : live ≡ head.live = is ∙ ap (λ b. cond (not b) (head.live + 1) head.live) lived in omega (arith, one, same)
+      at false new = let none = counted-as false new in let more : live ≡ head.live + 1 = is ∙ ap (λ b. cond (not b) (head.live + 1) head.live) new in omega (arith, none, more)
+
+  -- below the last update number
+  below-last : head.number ≢ 2 ^ 40 → head.number < 2 ^ 40
+  below-last less = ⊎_elim (λ (below : head.number < 2 ^ 40). below) (λ (above : 2 ^ 40 ≤ head.number). absurd (less (let most = stand.range.number in omega (arith, most, above)))) (cases_lt head.number (2 ^ 40))
+
+  module _ (after : PageMap) (count_after first_after : ℕ) (counted : first_after < count_after) (tables : Tables) where
+    -- after a put page 0's fields and the pages stand for the state with the place
+    pub put-stands : (point : Position) (words : List (List ℕ × ℕ)) (serial live : ℕ) → IsWordMap words → (is_none found ≡ true → head.live < 200000) → head.live < 2 ^ 32 → head.number ≢ 2 ^ 40
+        → head.serial ≤ serial → serial ≤ head.number + 2 → IsSerialAbove serial key → live ≡ cond (is_none found) (head.live + 1) head.live
+        → tables.next_word ≡ (numbered_for key words head.next_word stand.entries).next_word
+        → IsChanged (view pages count first stand.free) (tables_in head) after count_after first_after tables (after_put key point words head.next_word stand.entries)
+        → PagesStand (block_with count_after first_after (head_with head tables live serial)) after (put_at state key serial (record { point = point; words = words })).state
+    put-stands point words serial live map_of_words room small less later serials above lives_then next_is changed =
+        let left = room-left room small in
+        let next = next-then (block_with count first head) pages state stand key point words map_of_words left in
+        let words_then : head.next_word ≤ tables.next_word = omega (arith, next.0, next_is) in
+        let words_most : tables.next_word ≤ 64 * (head.number + 1 + 1) = omega (arith, next.1, next_is) in
+        let range = after-range (block_with count first head) stand.range after count_after first_after tables live serial changed.free changed.apart counted stand.no_rows stand.no_tree (below-last less) later serials words_then words_most in
+        subst (λ (e : Effect). PagesStand (block_with count_after first_after (head_with head tables live serial)) after e.state) (sym (put-done serial (record { point = point; words = words }) room less))
+        (stand-put (block_with count first head) pages state stand key point words map_of_words left (block_with count_after first_after (head_with head tables live serial)) after changed range stand.no_rows stand.no_tree next_is later above (counts-more live lives_then))
+
+    -- after a removal they stand for the state without it
+    pub remove-stands : (live : ℕ) → is_some found ≡ true → head.number ≢ 2 ^ 40 → live + 1 ≡ head.live → tables.next_word ≡ head.next_word
+        → IsChanged (view pages count first stand.free) (tables_in head) after count_after first_after tables (after_remove key stand.entries)
+        → PagesStand (block_with count_after first_after (head_with head tables live head.serial)) after (removed_at state key).state
+    remove-stands live some less lives_then next_is changed =
+        let one = counted-as true some in
+        let most = stand.range.words in
+        let serials = stand.range.serials in
+        let range = after-range (block_with count first head) stand.range after count_after first_after tables live head.serial changed.free changed.apart counted stand.no_rows stand.no_tree (below-last less) (omega arith) (omega (arith, serials)) (omega (arith, next_is)) (omega (arith, next_is, most)) in
+        subst (λ (e : Effect). PagesStand (block_with count_after first_after (head_with head tables live head.serial)) after e.state) (sym (remove-done some less))
+        (stand-remove (block_with count first head) pages state stand key (block_with count_after first_after (head_with head tables live head.serial)) after changed range stand.no_rows stand.no_tree next_is refl (omega (arith, one, lives_then)))

@@ -1,0 +1,179 @@
+use Rattle.std.proofs.Common.{◌≡◌, ◌+◌, ◌<◌, ◌^◌, Bool, true, false, not, cond, Ok, Err, Result, IfErr, is_none, is_some, sym, ap, subst, ◌∙◌, true≢false, arith}
+use Rattle.std.proofs.lemmas.Result.{err_from_is_err_and}
+use Rattle.page_face.specs.FreeList.{PageMap}
+use Rattle.page_face.specs.declared.head.Head.{Head}
+use Rattle.map_nodes.specs.Damages.{AreTold}
+use Rattle.map_nodes.specs.Supply.{view}
+use Rattle.paged_map.specs.Maps.{AreCounted}
+use Rattle.place_map.specs.declared.place.Place.{Place}
+use Rattle.place_map.specs.declared.update.Applied.{Applied}
+use Rattle.place_map.specs.declared.update.Applied.TheVariants.{New, Replaced}
+use Rattle.place_map.specs.Update.{Effect, put_at}
+use Rattle.stored_state.specs.Stands.{PagesStand, tables_in}
+use Rattle.stored_state.specs.Updates.{after_put, numbered_for}
+use Rattle.store_tables.specs.declared.tables.Tables.{Tables}
+use Rattle.store_tables.specs.Entries.{place_of_key}
+use Rattle.store_tables.specs.Holding.{Holds, IsApart, IsChanged, table_uses}
+use Rattle.store_tables.specs.Words.{WordsAgree}
+use Rattle.irtree_engine.specs.declared.fault.EngineFault.{EngineFault}
+use Rattle.irtree_engine.specs.Changes.{block_with}
+use Rattle.irtree_engine.specs.Updates.{IsDueTo}
+use Rattle.irtree_engine.proofs.Dues.{passed-due}
+use Rattle.irtree_engine.proofs.Effects.{few-left, put-done, put-full, put-stands, put-worn, stand-same}
+use Rattle.irtree_engine.proofs.Standing.{stand-counted}
+use Rattle.irtree_engine.proofs.change.put.Goals as goal
+use Rattle.irtree_engine.proofs.change.put.Goals.{else-is_new-via-then-is_new+else-head-ge-PLACES_MAX, else-is_new-via-else-is_new, then-is_new-2, else-is_new-2}
+
+-- a test and its opposite
+flipped : (test there : Bool) → there ≡ not test → test ≡ not there
+flipped true there e = sym (ap not e)
+flipped false there e = sym (ap not e)
+
+-- src/change.rt:180:15
+pub returns-in_err-old-clause-due : goal.returns-in_err-old-clause-due
+returns-in_err-old-clause-due g c = λ state stand told.
+    let outcome = (put_at state c.args.key.now c.args.serial (record { point = c.args.point; words = c.args.words.now })).answer in
+    let tables = c.tables_of-tables.result in
+    let pages : PageMap = g.P.Pages.pages c.args.pages.now in
+    let passed = err_from_is_err_and c.from_residual.result c.from_residual.ensures.1 in
+    let holds : Holds pages tables stand.entries = subst (λ (t : Tables). Holds pages t stand.entries) (sym c.tables_of-tables.ensures) stand.holds in
+    let counted : AreCounted (table_uses pages tables) (g.P.Pages.count c.args.pages.now) = subst (λ (t : Tables). AreCounted (table_uses pages t) (g.P.Pages.count c.args.pages.now)) (sym c.tables_of-tables.ensures) (stand-counted stand) in
+    subst (λ (r : Result Applied EngineFault). IfErr r (IsDueTo outcome)) (sym passed.1)
+    (passed-due outcome c.in_err-old.field-0.0 passed.0 passed.2 (λ damage is. c.place.ensures.honest stand.entries holds told counted damage (c.in_err-old.was ∙ ap Err is)))
+
+-- src/change.rt:183:9
+pub returns-then-head-ge-PLACES_MAX-clause-due : goal.returns-then-head-ge-PLACES_MAX-clause-due
+returns-then-head-ge-PLACES_MAX-clause-due g c = λ state stand told.
+    let head = c.args.head.now in
+    let tables = c.tables_of-tables.result in
+    let tables_are : tables ≡ tables_in head = c.tables_of-tables.ensures in
+    let old = c.args.pages.now in
+    let mid = c.place.new.pages in
+    let there = stand-same head (g.P.Pages.pages old) (g.P.Pages.pages mid) (g.P.Pages.count old) (g.P.Pages.count mid) (g.P.Pages.first old) (g.P.Pages.first mid) state c.place.ensures.pages c.place.ensures.count c.place.ensures.first stand in
+    let holds : Holds (g.P.Pages.pages mid) tables there.entries = subst (λ (t : Tables). Holds (g.P.Pages.pages mid) t there.entries) (sym tables_are) there.holds in
+    let new_is : c.is_none-is_new.result ≡ is_none c.in_ok-old.old = flipped c.is_none-is_new.result (is_some c.in_ok-old.old) c.is_none-is_new.ensures in
+    let is_found : c.in_ok-old.old ≡ place_of_key c.args.key.now there.entries.places = c.in_ok-old.ensures.found there.entries (subst (λ (p : PageMap). Holds p tables there.entries) c.place.ensures.pages holds) in
+    put-full head (g.P.Pages.count mid) (g.P.Pages.first mid) (g.P.Pages.pages mid) state there c.args.key.now c.in_ok-old.old is_found c.args.serial (record { point = c.args.point; words = c.args.words.now })
+    (sym new_is ∙ c.if-is_new.true) (omega arith)
+
+-- src/change.rt:186:9
+pub returns-then-head-eq-NUMBER_MAX-clause-due : goal.returns-then-head-eq-NUMBER_MAX-clause-due
+returns-then-head-eq-NUMBER_MAX-clause-due g c = λ state stand told.
+    let head = c.args.head.now in
+    let tables = c.tables_of-tables.result in
+    let tables_are : tables ≡ tables_in head = c.tables_of-tables.ensures in
+    let old = c.args.pages.now in
+    let mid = c.place.new.pages in
+    let there = stand-same head (g.P.Pages.pages old) (g.P.Pages.pages mid) (g.P.Pages.count old) (g.P.Pages.count mid) (g.P.Pages.first old) (g.P.Pages.first mid) state c.place.ensures.pages c.place.ensures.count c.place.ensures.first stand in
+    let holds : Holds (g.P.Pages.pages mid) tables there.entries = subst (λ (t : Tables). Holds (g.P.Pages.pages mid) t there.entries) (sym tables_are) there.holds in
+    let new_is : c.is_none-is_new.result ≡ is_none c.in_ok-old.old = flipped c.is_none-is_new.result (is_some c.in_ok-old.old) c.is_none-is_new.ensures in
+    let is_found : c.in_ok-old.old ≡ place_of_key c.args.key.now there.entries.places = c.in_ok-old.ensures.found there.entries (subst (λ (p : PageMap). Holds p tables there.entries) c.place.ensures.pages holds) in
+    let room : is_none c.in_ok-old.old ≡ true → head.live < 200000 = λ new. elim c.else-is_new.branch [
+      | else-is_new-via-then-is_new+else-head-ge-PLACES_MAX w ↦ omega arith
+      | else-is_new-via-else-is_new w ↦ absurd (true≢false (sym new ∙ sym new_is ∙ w.if-is_new.false))
+    ] in
+    put-worn head (g.P.Pages.count mid) (g.P.Pages.first mid) (g.P.Pages.pages mid) state there c.args.key.now c.in_ok-old.old is_found c.args.serial (record { point = c.args.point; words = c.args.words.now }) room (omega arith)
+
+-- src/change.rt:188:5
+pub returns-in_err-put_place-clause-due : goal.returns-in_err-put_place-clause-due
+returns-in_err-put_place-clause-due g c = λ state stand told.
+    let head = c.args.head.now in
+    let tables = c.tables_of-tables.result in
+    let tables_are : tables ≡ tables_in head = c.tables_of-tables.ensures in
+    let old = c.args.pages.now in
+    let mid = c.place.new.pages in
+    let there = stand-same head (g.P.Pages.pages old) (g.P.Pages.pages mid) (g.P.Pages.count old) (g.P.Pages.count mid) (g.P.Pages.first old) (g.P.Pages.first mid) state c.place.ensures.pages c.place.ensures.count c.place.ensures.first stand in
+    let holds : Holds (g.P.Pages.pages mid) tables there.entries = subst (λ (t : Tables). Holds (g.P.Pages.pages mid) t there.entries) (sym tables_are) there.holds in
+    let new_is : c.is_none-is_new.result ≡ is_none c.in_ok-old.old = flipped c.is_none-is_new.result (is_some c.in_ok-old.old) c.is_none-is_new.ensures in
+    let is_found : c.in_ok-old.old ≡ place_of_key c.args.key.now there.entries.places = c.in_ok-old.ensures.found there.entries (subst (λ (p : PageMap). Holds p tables there.entries) c.place.ensures.pages holds) in
+    let outcome = (put_at state c.args.key.now c.args.serial (record { point = c.args.point; words = c.args.words.now })).answer in
+    let room : is_none c.in_ok-old.old ≡ true → head.live < 200000 = λ new. elim c.else-is_new.branch [
+      | else-is_new-via-then-is_new+else-head-ge-PLACES_MAX w ↦ omega arith
+      | else-is_new-via-else-is_new w ↦ absurd (true≢false (sym new ∙ sym new_is ∙ w.if-is_new.false))
+    ] in
+    let few = few-left head (g.P.Pages.count mid) (g.P.Pages.first mid) (g.P.Pages.pages mid) state there c.args.key.now c.in_ok-old.old is_found room (omega arith) in
+    let passed = err_from_is_err_and c.from_residual-in_err-put_place.result c.from_residual-in_err-put_place.ensures.1 in
+    let apart : IsApart (view (g.P.Pages.pages mid) (g.P.Pages.count mid) (g.P.Pages.first mid) there.free) tables =
+    subst (λ (t : Tables). IsApart (view (g.P.Pages.pages mid) (g.P.Pages.count mid) (g.P.Pages.first mid) there.free) t) (sym tables_are) there.apart in
+    let agree : WordsAgree there.entries tables.next_word = subst (λ (t : Tables). WordsAgree there.entries t.next_word) (sym tables_are) there.sound.words in
+    let told_there : AreTold (g.P.Pages.pages mid) (g.P.Pages.count mid) =
+    subst (λ (p : PageMap). AreTold p (g.P.Pages.count mid)) (sym c.place.ensures.pages) (subst (λ n. AreTold (g.P.Pages.pages old) n) (sym c.place.ensures.count) told) in
+    subst (λ (r : Result Applied EngineFault). IfErr r (IsDueTo outcome)) (sym passed.1)
+    (passed-due outcome c.in_err-put_place.field-0.0 passed.0 passed.2
+    (λ damage is. c.put_place.ensures.honest there.entries there.free holds apart (c.as_ref.ensures.value ∙ is_found) agree few told_there damage (c.in_err-put_place.was ∙ ap Err is)))
+
+-- src/change.rt:150:1
+pub returns-then-is_new-3-clause-updated : goal.returns-then-is_new-3-clause-updated
+returns-then-is_new-3-clause-updated g c = λ state stand later serials above.
+    let head = c.args.head.now in
+    let tables = c.tables_of-tables.result in
+    let tables_are : tables ≡ tables_in head = c.tables_of-tables.ensures in
+    let old = c.args.pages.now in
+    let mid = c.place.new.pages in
+    let there = stand-same head (g.P.Pages.pages old) (g.P.Pages.pages mid) (g.P.Pages.count old) (g.P.Pages.count mid) (g.P.Pages.first old) (g.P.Pages.first mid) state c.place.ensures.pages c.place.ensures.count c.place.ensures.first stand in
+    let holds : Holds (g.P.Pages.pages mid) tables there.entries = subst (λ (t : Tables). Holds (g.P.Pages.pages mid) t there.entries) (sym tables_are) there.holds in
+    let new_is : c.is_none-is_new.result ≡ is_none c.in_ok-old.old = flipped c.is_none-is_new.result (is_some c.in_ok-old.old) c.is_none-is_new.ensures in
+    let is_found : c.in_ok-old.old ≡ place_of_key c.args.key.now there.entries.places = c.in_ok-old.ensures.found there.entries (subst (λ (p : PageMap). Holds p tables there.entries) c.place.ensures.pages holds) in
+    let place : Place = record { point = c.args.point; words = c.args.words.now } in
+    let room : is_none c.in_ok-old.old ≡ true → head.live < 200000 = λ new. elim c.else-is_new.branch [
+      | else-is_new-via-then-is_new+else-head-ge-PLACES_MAX w ↦ omega arith
+      | else-is_new-via-else-is_new w ↦ absurd (true≢false (sym new ∙ sym new_is ∙ w.if-is_new.false))
+    ] in
+    let less : head.number ≡ 2 ^ 40 → ⊥ = λ e. omega arith in
+    let apart : IsApart (view (g.P.Pages.pages mid) (g.P.Pages.count mid) (g.P.Pages.first mid) there.free) tables =
+    subst (λ (t : Tables). IsApart (view (g.P.Pages.pages mid) (g.P.Pages.count mid) (g.P.Pages.first mid) there.free) t) (sym tables_are) there.apart in
+    let after = c.put_place.new.pages in
+    let now = c.put_place.new.tables in
+    let changed = c.in_ok-put_place.ensures.put there.entries there.free holds apart (c.as_ref.ensures.value ∙ is_found) in
+    let next : now.next_word ≡ (numbered_for c.args.key.now c.args.words.now head.next_word there.entries).next_word =
+    subst (λ (t : Tables). now.next_word ≡ (numbered_for c.args.key.now c.args.words.now t.next_word there.entries).next_word) tables_are changed.0 in
+    let moves : IsChanged (view (g.P.Pages.pages mid) (g.P.Pages.count mid) (g.P.Pages.first mid) there.free) (tables_in head) (g.P.Pages.pages after) (g.P.Pages.count after) (g.P.Pages.first after) now (after_put c.args.key.now c.args.point c.args.words.now head.next_word there.entries) =
+    subst (λ (t : Tables). IsChanged (view (g.P.Pages.pages mid) (g.P.Pages.count mid) (g.P.Pages.first mid) there.free) t (g.P.Pages.pages after) (g.P.Pages.count after) (g.P.Pages.first after) now (after_put c.args.key.now c.args.point c.args.words.now t.next_word there.entries)) tables_are changed.1 in
+    let live : c.if-is_new-2.live ≡ cond (is_none c.in_ok-old.old) (head.live + 1) head.live = elim c.if-is_new-2.branch [
+      | then-is_new-2 w ↦ w.live-is ∙ ap (λ b. cond b (head.live + 1) head.live) (sym (sym new_is ∙ w.if-is_new-2.true))
+      | else-is_new-2 w ↦ w.live-is ∙ ap (λ b. cond b (head.live + 1) head.live) (sym (sym new_is ∙ w.if-is_new-2.false))
+    ] in
+    let done = put-done head (g.P.Pages.count mid) (g.P.Pages.first mid) (g.P.Pages.pages mid) state there c.args.key.now c.in_ok-old.old is_found c.args.serial place room less in (
+      ap (λ (e : Effect). e.answer) done ∙ ap (λ b. Ok (cond b New Replaced)) (sym new_is ∙ c.if-is_new-3.true),
+      subst (λ (h : Head). PagesStand (block_with (g.P.Pages.count after) (g.P.Pages.first after) h) (g.P.Pages.pages after) (put_at state c.args.key.now c.args.serial place).state) (sym c.head_after.ensures)
+          (put-stands head (g.P.Pages.count mid) (g.P.Pages.first mid) (g.P.Pages.pages mid) state there c.args.key.now c.in_ok-old.old is_found (g.P.Pages.pages after) (g.P.Pages.count after) (g.P.Pages.first after) (g.met.P.Pages.first_is_counted after) now
+          c.args.point c.args.words.now c.args.serial c.if-is_new-2.live c.pairs.ensures.valid room (omega arith) less later serials above live next moves),
+    )
+
+-- src/change.rt:150:1
+pub returns-else-is_new-3-clause-updated : goal.returns-else-is_new-3-clause-updated
+returns-else-is_new-3-clause-updated g c = λ state stand later serials above.
+    let head = c.args.head.now in
+    let tables = c.tables_of-tables.result in
+    let tables_are : tables ≡ tables_in head = c.tables_of-tables.ensures in
+    let old = c.args.pages.now in
+    let mid = c.place.new.pages in
+    let there = stand-same head (g.P.Pages.pages old) (g.P.Pages.pages mid) (g.P.Pages.count old) (g.P.Pages.count mid) (g.P.Pages.first old) (g.P.Pages.first mid) state c.place.ensures.pages c.place.ensures.count c.place.ensures.first stand in
+    let holds : Holds (g.P.Pages.pages mid) tables there.entries = subst (λ (t : Tables). Holds (g.P.Pages.pages mid) t there.entries) (sym tables_are) there.holds in
+    let new_is : c.is_none-is_new.result ≡ is_none c.in_ok-old.old = flipped c.is_none-is_new.result (is_some c.in_ok-old.old) c.is_none-is_new.ensures in
+    let is_found : c.in_ok-old.old ≡ place_of_key c.args.key.now there.entries.places = c.in_ok-old.ensures.found there.entries (subst (λ (p : PageMap). Holds p tables there.entries) c.place.ensures.pages holds) in
+    let place : Place = record { point = c.args.point; words = c.args.words.now } in
+    let room : is_none c.in_ok-old.old ≡ true → head.live < 200000 = λ new. elim c.else-is_new.branch [
+      | else-is_new-via-then-is_new+else-head-ge-PLACES_MAX w ↦ omega arith
+      | else-is_new-via-else-is_new w ↦ absurd (true≢false (sym new ∙ sym new_is ∙ w.if-is_new.false))
+    ] in
+    let less : head.number ≡ 2 ^ 40 → ⊥ = λ e. omega arith in
+    let apart : IsApart (view (g.P.Pages.pages mid) (g.P.Pages.count mid) (g.P.Pages.first mid) there.free) tables =
+    subst (λ (t : Tables). IsApart (view (g.P.Pages.pages mid) (g.P.Pages.count mid) (g.P.Pages.first mid) there.free) t) (sym tables_are) there.apart in
+    let after = c.put_place.new.pages in
+    let now = c.put_place.new.tables in
+    let changed = c.in_ok-put_place.ensures.put there.entries there.free holds apart (c.as_ref.ensures.value ∙ is_found) in
+    let next : now.next_word ≡ (numbered_for c.args.key.now c.args.words.now head.next_word there.entries).next_word =
+    subst (λ (t : Tables). now.next_word ≡ (numbered_for c.args.key.now c.args.words.now t.next_word there.entries).next_word) tables_are changed.0 in
+    let moves : IsChanged (view (g.P.Pages.pages mid) (g.P.Pages.count mid) (g.P.Pages.first mid) there.free) (tables_in head) (g.P.Pages.pages after) (g.P.Pages.count after) (g.P.Pages.first after) now (after_put c.args.key.now c.args.point c.args.words.now head.next_word there.entries) =
+    subst (λ (t : Tables). IsChanged (view (g.P.Pages.pages mid) (g.P.Pages.count mid) (g.P.Pages.first mid) there.free) t (g.P.Pages.pages after) (g.P.Pages.count after) (g.P.Pages.first after) now (after_put c.args.key.now c.args.point c.args.words.now t.next_word there.entries)) tables_are changed.1 in
+    let live : c.if-is_new-2.live ≡ cond (is_none c.in_ok-old.old) (head.live + 1) head.live = elim c.if-is_new-2.branch [
+      | then-is_new-2 w ↦ w.live-is ∙ ap (λ b. cond b (head.live + 1) head.live) (sym (sym new_is ∙ w.if-is_new-2.true))
+      | else-is_new-2 w ↦ w.live-is ∙ ap (λ b. cond b (head.live + 1) head.live) (sym (sym new_is ∙ w.if-is_new-2.false))
+    ] in
+    let done = put-done head (g.P.Pages.count mid) (g.P.Pages.first mid) (g.P.Pages.pages mid) state there c.args.key.now c.in_ok-old.old is_found c.args.serial place room less in (
+      ap (λ (e : Effect). e.answer) done ∙ ap (λ b. Ok (cond b New Replaced)) (sym new_is ∙ c.if-is_new-3.false),
+      subst (λ (h : Head). PagesStand (block_with (g.P.Pages.count after) (g.P.Pages.first after) h) (g.P.Pages.pages after) (put_at state c.args.key.now c.args.serial place).state) (sym c.head_after.ensures)
+          (put-stands head (g.P.Pages.count mid) (g.P.Pages.first mid) (g.P.Pages.pages mid) state there c.args.key.now c.in_ok-old.old is_found (g.P.Pages.pages after) (g.P.Pages.count after) (g.P.Pages.first after) (g.met.P.Pages.first_is_counted after) now
+          c.args.point c.args.words.now c.args.serial c.if-is_new-2.live c.pairs.ensures.valid room (omega arith) less later serials above live next moves),
+    )

@@ -1,0 +1,96 @@
+use Rattle.std.proofs.Common.{◌≡◌, ◌-◌, ◌^◌, true, false, Option, Some, None, Err, Result, IfErr, is_some, refl, sym, ap, subst, ◌∙◌, arith}
+use Rattle.std.proofs.lemmas.Result.{err_from_is_err_and}
+use Rattle.page_face.specs.FreeList.{PageMap}
+use Rattle.page_face.specs.declared.head.Head.{Head}
+use Rattle.map_nodes.specs.Supply.{view}
+use Rattle.paged_map.specs.Maps.{AreCounted}
+use Rattle.place_map.specs.declared.update.Applied.{Applied}
+use Rattle.place_map.specs.Update.{Effect, removed_at}
+use Rattle.stored_state.specs.Stands.{PagesStand, tables_in}
+use Rattle.stored_state.specs.Updates.{after_remove}
+use Rattle.store_rows.specs.declared.stored.Stored.{Stored}
+use Rattle.store_tables.specs.declared.tables.Tables.{Tables}
+use Rattle.store_tables.specs.Entries.{place_of_key}
+use Rattle.store_tables.specs.Holding.{Holds, IsApart, IsChanged, table_uses}
+use Rattle.irtree_engine.specs.declared.fault.EngineFault.{EngineFault}
+use Rattle.irtree_engine.specs.Changes.{block_with}
+use Rattle.irtree_engine.specs.Updates.{IsDueTo}
+use Rattle.irtree_engine.proofs.Dues.{passed-due}
+use Rattle.irtree_engine.proofs.Effects.{remove-absent, remove-done, remove-stands, remove-worn, stand-same}
+use Rattle.irtree_engine.proofs.Standing.{stand-counted}
+use Rattle.irtree_engine.proofs.change.remove.Goals as goal
+
+-- no place is found where none is the one
+none_there : (found : Option Stored) → ((stored : Stored) → found ≡ Some stored → ⊥) → is_some found ≡ false
+none_there None none = refl
+none_there (Some stored) none = absurd (none stored refl)
+
+-- src/change.rt:220:21
+pub returns-in_err-old-clause-due : goal.returns-in_err-old-clause-due
+returns-in_err-old-clause-due g c = λ state stand told.
+    let outcome = (removed_at state c.args.key.now).answer in
+    let tables = c.tables_of-tables.result in
+    let pages : PageMap = g.P.Pages.pages c.args.pages.now in
+    let passed = err_from_is_err_and c.from_residual.result c.from_residual.ensures.1 in
+    let holds : Holds pages tables stand.entries = subst (λ (t : Tables). Holds pages t stand.entries) (sym c.tables_of-tables.ensures) stand.holds in
+    let counted : AreCounted (table_uses pages tables) (g.P.Pages.count c.args.pages.now) = subst (λ (t : Tables). AreCounted (table_uses pages t) (g.P.Pages.count c.args.pages.now)) (sym c.tables_of-tables.ensures) (stand-counted stand) in
+    subst (λ (r : Result Applied EngineFault). IfErr r (IsDueTo outcome)) (sym passed.1)
+    (passed-due outcome c.in_err-old.field-0.0 passed.0 passed.2 (λ damage is. c.place.ensures.honest stand.entries holds told counted damage (c.in_err-old.was ∙ ap Err is)))
+
+-- src/change.rt:221:9
+pub returns-in_default-clause-updated : goal.returns-in_default-clause-updated
+returns-in_default-clause-updated g c = λ state stand.
+    let head = c.args.head.now in
+    let tables = c.tables_of-tables.result in
+    let tables_are : tables ≡ tables_in head = c.tables_of-tables.ensures in
+    let old = c.args.pages.now in
+    let mid = c.place.new.pages in
+    let there = stand-same head (g.P.Pages.pages old) (g.P.Pages.pages mid) (g.P.Pages.count old) (g.P.Pages.count mid) (g.P.Pages.first old) (g.P.Pages.first mid) state c.place.ensures.pages c.place.ensures.count c.place.ensures.first stand in
+    let holds : Holds (g.P.Pages.pages mid) tables there.entries = subst (λ (t : Tables). Holds (g.P.Pages.pages mid) t there.entries) (sym tables_are) there.holds in
+    let is_found : c.in_ok-old.field-0 ≡ place_of_key c.args.key.now there.entries.places = c.in_ok-old.ensures.found there.entries (subst (λ (p : PageMap). Holds p tables there.entries) c.place.ensures.pages holds) in
+    let none : is_some c.in_ok-old.field-0 ≡ false = none_there c.in_ok-old.field-0 c.in_default.not-Some in
+    let absent = remove-absent head (g.P.Pages.count mid) (g.P.Pages.first mid) (g.P.Pages.pages mid) state there c.args.key.now c.in_ok-old.field-0 is_found none in (
+      ap (λ (e : Effect). e.answer) absent,
+      subst (λ (e : Effect). PagesStand (block_with (g.P.Pages.count mid) (g.P.Pages.first mid) head) (g.P.Pages.pages mid) e.state) (sym absent) there,
+    )
+
+-- src/change.rt:224:9
+pub returns-then-head-eq-NUMBER_MAX-clause-due : goal.returns-then-head-eq-NUMBER_MAX-clause-due
+returns-then-head-eq-NUMBER_MAX-clause-due g c = λ state stand told.
+    let head = c.args.head.now in
+    let tables = c.tables_of-tables.result in
+    let tables_are : tables ≡ tables_in head = c.tables_of-tables.ensures in
+    let old = c.args.pages.now in
+    let mid = c.place.new.pages in
+    let there = stand-same head (g.P.Pages.pages old) (g.P.Pages.pages mid) (g.P.Pages.count old) (g.P.Pages.count mid) (g.P.Pages.first old) (g.P.Pages.first mid) state c.place.ensures.pages c.place.ensures.count c.place.ensures.first stand in
+    let holds : Holds (g.P.Pages.pages mid) tables there.entries = subst (λ (t : Tables). Holds (g.P.Pages.pages mid) t there.entries) (sym tables_are) there.holds in
+    let is_found : c.in_ok-old.field-0 ≡ place_of_key c.args.key.now there.entries.places = c.in_ok-old.ensures.found there.entries (subst (λ (p : PageMap). Holds p tables there.entries) c.place.ensures.pages holds) in
+    remove-worn head (g.P.Pages.count mid) (g.P.Pages.first mid) (g.P.Pages.pages mid) state there c.args.key.now c.in_ok-old.field-0 is_found (ap is_some c.in-Some.is) (omega arith)
+
+-- src/change.rt:199:1
+pub returns-clause-updated : goal.returns-clause-updated
+returns-clause-updated g c = λ state stand.
+    let head = c.args.head.now in
+    let tables = c.tables_of-tables.result in
+    let tables_are : tables ≡ tables_in head = c.tables_of-tables.ensures in
+    let old = c.args.pages.now in
+    let mid = c.place.new.pages in
+    let there = stand-same head (g.P.Pages.pages old) (g.P.Pages.pages mid) (g.P.Pages.count old) (g.P.Pages.count mid) (g.P.Pages.first old) (g.P.Pages.first mid) state c.place.ensures.pages c.place.ensures.count c.place.ensures.first stand in
+    let holds : Holds (g.P.Pages.pages mid) tables there.entries = subst (λ (t : Tables). Holds (g.P.Pages.pages mid) t there.entries) (sym tables_are) there.holds in
+    let is_found : c.in_ok-old.field-0 ≡ place_of_key c.args.key.now there.entries.places = c.in_ok-old.ensures.found there.entries (subst (λ (p : PageMap). Holds p tables there.entries) c.place.ensures.pages holds) in
+    let some : is_some c.in_ok-old.field-0 ≡ true = ap is_some c.in-Some.is in
+    let less : head.number ≡ 2 ^ 40 → ⊥ = λ e. omega arith in
+    let apart : IsApart (view (g.P.Pages.pages mid) (g.P.Pages.count mid) (g.P.Pages.first mid) there.free) tables =
+    subst (λ (t : Tables). IsApart (view (g.P.Pages.pages mid) (g.P.Pages.count mid) (g.P.Pages.first mid) there.free) t) (sym tables_are) there.apart in
+    let after = c.remove_place.new.pages in
+    let now = c.remove_place.new.tables in
+    let moves : IsChanged (view (g.P.Pages.pages mid) (g.P.Pages.count mid) (g.P.Pages.first mid) there.free) (tables_in head) (g.P.Pages.pages after) (g.P.Pages.count after) (g.P.Pages.first after) now (after_remove c.args.key.now there.entries) =
+    subst (λ (t : Tables). IsChanged (view (g.P.Pages.pages mid) (g.P.Pages.count mid) (g.P.Pages.first mid) there.free) t (g.P.Pages.pages after) (g.P.Pages.count after) (g.P.Pages.first after) now (after_remove c.args.key.now there.entries)) tables_are
+    (c.in_ok-remove_place.ensures.removed there.entries there.free holds apart (sym is_found ∙ c.in-Some.is)) in
+    let next : now.next_word ≡ head.next_word = c.remove_place.ensures.next ∙ ap (λ (t : Tables). t.next_word) tables_are in
+    let done = remove-done head (g.P.Pages.count mid) (g.P.Pages.first mid) (g.P.Pages.pages mid) state there c.args.key.now c.in_ok-old.field-0 is_found some less in (
+      ap (λ (e : Effect). e.answer) done,
+      subst (λ (h : Head). PagesStand (block_with (g.P.Pages.count after) (g.P.Pages.first after) h) (g.P.Pages.pages after) (removed_at state c.args.key.now).state) (sym c.head_after.ensures)
+          (remove-stands head (g.P.Pages.count mid) (g.P.Pages.first mid) (g.P.Pages.pages mid) state there c.args.key.now c.in_ok-old.field-0 is_found (g.P.Pages.pages after) (g.P.Pages.count after) (g.P.Pages.first after) (g.met.P.Pages.first_is_counted after) now
+          (head.live - 1) some less (omega arith) next moves),
+    )

@@ -1,0 +1,49 @@
+use Rattle.std.proofs.Common.{◌≡◌, ◌+◌, ◌∷◌, length, Result, IfErr, sym, ap, subst, ◌∙◌, arith, rules}
+use Rattle.std.proofs.lemmas.Result.{err_from_is_err_and}
+use Rattle.std.specs.List.{AllByRecursion}
+use Rattle.irtree_engine.specs.declared.fault.EngineFault.{EngineFault}
+use Rattle.irtree_engine.specs.Changes.{block_with}
+use Rattle.irtree_engine.specs.Updates.{IsDueTo, NamesText, state_after_all}
+use Rattle.irtree_engine.proofs.Batches.{updated-all, updated-due, updated-more}
+use Rattle.irtree_engine.proofs.change.update_all.Goals as goal
+
+-- src/change.rt:93:9
+pub returns-in_err-update-clause-due : goal.returns-in_err-update-clause-due
+returns-in_err-update-clause-due g c = λ state stand told.
+    let are = c.loop-next.invariant.stand state stand in
+    let is : c.loop-next.left.now ≡ c.in-Some.next.now ∷ c.in-Some.rest.now = search rules in
+    let passed = err_from_is_err_and c.from_residual.result c.from_residual.ensures.1 in
+    let due : IsDueTo (state_after_all state c.args.updates.now) c.in_err-update.field-0.0 =
+    updated-due are c.in-Some.next.now c.in-Some.rest.now is c.in_err-update.field-0.0 (c.in_err-update.ensures.due are.now are.stand (told c.loop-next.pages)) in
+    subst (λ (r : Result (Unit {0}) EngineFault). IfErr r (IsDueTo (state_after_all state c.args.updates.now))) (sym passed.1)
+    (subst (IsDueTo (state_after_all state c.args.updates.now)) (sym passed.2) due)
+
+-- src/change.rt:92:5
+pub loop-next-preserved : goal.loop-next-preserved
+loop-next-preserved g c =
+    let is : c.loop-next.left.now ≡ c.in-Some.next.now ∷ c.in-Some.rest.now = search rules in
+    let long : length c.loop-next.left.now ≡ length c.in-Some.rest.now + 1 = ap length is ∙ omega arith in
+    let invariant = c.loop-next.invariant in
+    let one_more = c.update.ensures.one_more in
+    let more_live = one_more.0 in
+    let more_number = one_more.1 in
+    let lives = invariant.lives in
+    let numbers = invariant.numbers in record {
+      keys = (subst (AllByRecursion NamesText) is invariant.keys).1;
+      stand = λ state stand.
+          let are = invariant.stand state stand in
+          let updated = c.in_ok-update.ensures.updated are.now are.stand in
+          updated-more are c.in-Some.next.now c.in-Some.rest.now is (block_with (g.P.Pages.count c.update.new.pages) (g.P.Pages.first c.update.new.pages) c.update.new.head) (g.P.Pages.pages c.update.new.pages) c.in_ok-update.field-0 updated.0 updated.1;
+      lives = omega (arith, long, more_live, lives);
+      numbers = omega (arith, long, more_number, numbers);
+      room = c.update.ensures.room ∙ invariant.room;
+      faults = omega (arith, c.update.ensures.faults, invariant.faults);
+      refused = omega (arith, c.update.ensures.refused, invariant.refused);
+      goes_on = c.update.ensures.goes_on ∙ invariant.goes_on;
+      follows = g.met.P.Pages.goes_further _ _ _ invariant.follows c.update.ensures.follows;
+    }
+
+-- src/change.rt:68:1
+pub returns-clause-updated : goal.returns-clause-updated
+returns-clause-updated g c = λ state stand.
+    updated-all c.loop-next.left.now (c.loop-next.invariant.stand state stand) c.in_default.ensures.cases

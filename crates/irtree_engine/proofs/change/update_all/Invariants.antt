@@ -1,0 +1,25 @@
+use Rattle.std.proofs.Common.{◌≡◌, ◌+◌, ◌≤◌, length}
+use Rattle.std.specs.List.{AllByRecursion}
+use Rattle.place_map.specs.State.{Contents}
+use Rattle.stored_state.specs.Stands.{PagesStand}
+use Rattle.irtree_engine.specs.Changes.{block_with}
+use Rattle.irtree_engine.specs.Updates.{NamesText}
+use Rattle.irtree_engine.proofs.Batches.{AreUpdated}
+use Rattle.irtree_engine.proofs.change.update_all.Given as goal
+
+abbrev pub invariant-loop-next : goal.invariant-loop-next
+invariant-loop-next g l = record {
+  keys : AllByRecursion NamesText l.left;
+  stand : (state : Contents) → PagesStand (block_with (g.P.Pages.count l.fn.pages) (g.P.Pages.first l.fn.pages) l.fn.head) (g.P.Pages.pages l.fn.pages) state
+      → AreUpdated state l.fn.updates l.left (block_with (g.P.Pages.count l.pages) (g.P.Pages.first l.pages) l.head) (g.P.Pages.pages l.pages);
+  lives : l.head.live + length l.left ≤ l.fn.head.live + length l.fn.updates;
+  numbers : l.head.number + length l.left ≤ l.fn.head.number + length l.fn.updates;
+  room : g.P.Pages.room l.pages ≡ g.P.Pages.room l.fn.pages;
+  faults : g.P.Pages.faults l.fn.pages ≤ g.P.Pages.faults l.pages;
+  refused : g.P.Pages.refused l.fn.pages ≤ g.P.Pages.refused l.pages;
+  goes_on : g.P.Pages.is_stopped l.pages ≡ g.P.Pages.is_stopped l.fn.pages;
+  follows : g.P.Pages.follows_from l.fn.pages l.pages;
+}
+
+abbrev pub decreases-loop-next : goal.decreases-loop-next
+decreases-loop-next g l = length l.left

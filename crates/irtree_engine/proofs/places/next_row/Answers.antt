@@ -1,0 +1,28 @@
+use Rattle.std.proofs.Common.{◌≡◌, IsErrOf, Some, option_copied, sym, ◌∙◌, rules}
+use Rattle.std.proofs.lemmas.Result.{err_from_is_err_and}
+use Rattle.page_face.specs.declared.fault.PageFault.TheVariants.{Damaged}
+use Rattle.store_tables.specs.Entries.{place_after}
+use Rattle.irtree_engine.proofs.Listings.{known-after}
+use Rattle.irtree_engine.proofs.places.next_row.Goals as goal
+
+pub returns-in_err-words-clause-honest : goal.returns-in_err-words-clause-honest
+returns-in_err-words-clause-honest g c = λ entries holds some known told counted damage is.
+    let passed = err_from_is_err_and c.from_residual-in_err-words.result c.from_residual-in_err-words.ensures.1 in
+    let result_is = passed.1 in
+    let same = passed.2 in
+    let was = c.in_err-words.was in
+    let named : IsErrOf c.words_of.result (Damaged damage) = cc in
+    let found : place_after (option_copied c.args.after) entries.places ≡ Some c.in-Some.entry = sym (c.in_ok-entry.ensures.found entries holds) ∙ c.in-Some.is in
+    c.words_of.ensures.honest entries (search rules) (known-after entries.numbers (option_copied c.args.after) c.in-Some.entry entries.places known found) (search rules) (search rules) damage named
+
+pub returns-in_err-words-clause-only_reads : goal.returns-in_err-words-clause-only_reads
+returns-in_err-words-clause-only_reads g c = g.met.P.Pages.reads_further _ _ _ c.next_place.ensures.only_reads c.words_of.ensures.only_reads
+
+pub returns-in_err-words-clause-follows : goal.returns-in_err-words-clause-follows
+returns-in_err-words-clause-follows g c = g.met.P.Pages.goes_further _ _ _ c.next_place.ensures.follows c.words_of.ensures.follows
+
+pub returns-clause-only_reads : goal.returns-clause-only_reads
+returns-clause-only_reads g c = g.met.P.Pages.reads_further _ _ _ c.next_place.ensures.only_reads c.words_of.ensures.only_reads
+
+pub returns-clause-follows : goal.returns-clause-follows
+returns-clause-follows g c = g.met.P.Pages.goes_further _ _ _ c.next_place.ensures.follows c.words_of.ensures.follows

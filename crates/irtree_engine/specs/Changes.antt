@@ -1,0 +1,28 @@
+-- Page 0's fields before and after an update.
+use Rattle.std.specs.Prelude.{ℕ, ◌+◌, ◌*◌, ◌≤◌, ◌^◌}
+use Rattle.page_face.specs.declared.head.Head.{Head}
+use Rattle.page_store.specs.declared.superblock.Superblock.{Superblock}
+use Rattle.store_tables.specs.declared.tables.Tables.{Tables}
+
+-- page 0's fields: the pages counted, the first free page and the head
+abbrev pub block_with : ℕ → ℕ → Head → Superblock
+block_with count first head = record { counted = count; first_free = first; head = head }
+
+-- the head after a change: the tables' roots, the live places, the next serial, and the update number raised by one
+abbrev pub head_with : Head → Tables → ℕ → ℕ → Head
+head_with head tables live serial =
+    record head {
+      places = tables.places;
+      texts = tables.texts;
+      numbers = tables.numbers;
+      live = live;
+      serial = serial;
+      number = head.number + 1;
+      next_word = tables.next_word;
+    }
+
+-- the numbers of page 0 that an update raises are at most what so many updates have made of them
+pub record AreHeadNumbers (head : Head) : Type 0 where
+  pub number : head.number ≤ 2 ^ 40
+  pub serial : head.serial ≤ head.number + 1
+  pub words : head.next_word ≤ 64 * (head.number + 1)

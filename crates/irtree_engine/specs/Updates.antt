@@ -1,0 +1,87 @@
+-- What updates do to the state that an image stands for, and why they are refused.
+use Rattle.std.specs.Prelude.{◌≡◌, ◌⊎◌, ℕ, ◌≤◌, ◌^◌, List, [], ◌∷◌, Some, None, Result, Ok, Err}
+use Rattle.disk_model.specs.World.{World, Image}
+use Rattle.page_face.specs.FreeList.{PageMap}
+use Rattle.page_store.specs.declared.superblock.Superblock.{Superblock}
+use Rattle.spatial_base.specs.Key.{Text, Auto}
+use Rattle.place_map.specs.State.{Contents}
+use Rattle.place_map.specs.Update.{effect_of}
+use Rattle.place_map.specs.declared.update.Applied.{Applied}
+use Rattle.place_map.specs.declared.update.Update.{Update}
+use Rattle.place_map.specs.declared.update.Update.TheVariants.{Put, Remove}
+use Rattle.place_map.specs.declared.update.UpdateFault.{UpdateFault}
+use Rattle.place_map.specs.declared.update.UpdateFault.TheVariants as updates
+use Rattle.stored_state.specs.Stands.{PagesStand, Stands}
+use Rattle.irtree_engine.specs.declared.fault.EngineFault.{EngineFault}
+use Rattle.irtree_engine.specs.declared.fault.EngineFault.TheVariants.{Disk, Damaged, Full, Worn, NoRoom, Stopped, Memory}
+
+-- a key that a Put names is a text key
+abbrev pub NamesText : Update → Type 0
+NamesText (Put (Some (Text bytes)) point words) = Unit {0}
+NamesText (Put (Some (Auto serial)) point words) = ⊥
+NamesText (Put None point words) = Unit {0}
+NamesText (Remove key) = Unit {0}
+
+-- what follows an update that is accepted, or what refuses it
+abbrev pub accepted : Result Applied UpdateFault → Result Contents UpdateFault → Result Contents UpdateFault
+accepted (Ok applied) rest = rest
+accepted (Err fault) rest = Err fault
+
+-- the state after updates that are all accepted, or what the first one that isn't meets
+abbrev pub state_after_all : Contents → List Update → Result Contents UpdateFault
+state_after_all state [] = Ok state
+state_after_all state (update ∷ updates) =
+    accepted (effect_of state update).answer (state_after_all (effect_of state update).state updates)
+
+-- the image stands for the state that came out
+abbrev pub StandsForOutcome : Result Contents UpdateFault → Image → Type 0
+StandsForOutcome (Ok after) image = Stands image after
+StandsForOutcome (Err fault) image = ⊥
+
+-- page 0's fields and the pages stand for the state that came out
+abbrev pub StandForOutcome : Result Contents UpdateFault → Superblock → PageMap → Type 0
+StandForOutcome (Ok after) block pages = PagesStand block pages after
+StandForOutcome (Err fault) block pages = ⊥
+
+-- The image stands for the state before an update or for the one after it, and nothing was said.
+abbrev pub LeavesOneOf : Contents → Contents → World → Image → List ℕ → Type 0
+LeavesOneOf before after old image said = (Stands image before ⊎ Stands image after) × (said ≡ old.said)
+
+-- The image stands for the state before some updates or for the one after all of them, and nothing was said.
+abbrev pub LeavesAllOrNone : Contents → List Update → World → Image → List ℕ → Type 0
+LeavesAllOrNone before updates old image said =
+    (Stands image before ⊎ StandsForOutcome (state_after_all before updates) image) × (said ≡ old.said)
+
+-- what an update may be refused for
+abbrev pub IsUpdateFault : EngineFault → Type 0
+IsUpdateFault Disk = Unit {0}
+IsUpdateFault (Damaged damage) = Unit {0}
+IsUpdateFault Full = Unit {0}
+IsUpdateFault Worn = Unit {0}
+IsUpdateFault NoRoom = Unit {0}
+IsUpdateFault Stopped = Unit {0}
+IsUpdateFault Memory = Unit {0}
+IsUpdateFault _ = ⊥
+
+-- what a commit may be refused for
+abbrev pub IsCommitFault : EngineFault → Type 0
+IsCommitFault Disk = Unit {0}
+IsCommitFault Memory = Unit {0}
+IsCommitFault _ = ⊥
+
+-- A state comes from another by updates: the update number rose where anything changed.
+abbrev pub IsLater : Contents → Contents → Type 0
+IsLater before after = after.number ≡ before.number → after ≡ before
+
+-- On an image that stands for a state Full and Worn come by what the updates meet in it, and damage never does.
+abbrev pub IsDueTo : {T : Type 0} → Result T UpdateFault → EngineFault → Type 0
+IsDueTo outcome Full = outcome ≡ Err updates.Full
+IsDueTo outcome Worn = outcome ≡ Err updates.Worn
+IsDueTo outcome (Damaged damage) = ⊥
+IsDueTo outcome _ = Unit {0}
+
+-- And on any image by the numbers of page 0: how many places live, and the update number, each with what so many updates add.
+abbrev pub IsAtLimit : ℕ → ℕ → EngineFault → Type 0
+IsAtLimit live number Full = 200000 ≤ live
+IsAtLimit live number Worn = 2 ^ 40 ≤ number
+IsAtLimit live number _ = Unit {0}

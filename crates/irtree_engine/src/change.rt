@@ -1,0 +1,235 @@
+//! One update of the tables and of page 0's fields, over any pages.
+ghost use Rattle.std.specs.Prelude.{◌≡◌, ℕ, ◌≤◌, ◌<◌, ◌+◌, ◌^◌, ◌↔◌, Ok, IsTrue, IfOk, IfErr, OnOk, IsErrOf, length};
+ghost use Rattle.std.specs.List.{AllByRecursion};
+ghost use Rattle.page_face.specs.Causes.{Rose};
+ghost use Rattle.map_nodes.specs.Damages.{AreTold};
+ghost use Rattle.place_map.specs.Restored.{IsSerialAbove};
+ghost use Rattle.place_map.specs.State.{Contents};
+ghost use Rattle.place_map.specs.Update.{effect_of, key_for, put_at, removed_at, serial_after};
+ghost use Rattle.stored_state.specs.Stands.{PagesStand, tables_in};
+ghost use Rattle.irtree_engine.specs.Updates.{NamesText, IsUpdateFault, IsDueTo, IsAtLimit, StandForOutcome, state_after_all};
+ghost use Rattle.irtree_engine.specs.Changes.{block_with, head_with, AreHeadNumbers};
+
+use crate::EngineFault;
+use crate::fault::broken_by_head;
+use page_face::{Head, Pages, Rule};
+use place_map::{Applied, NUMBER_MAX, PLACES_MAX, Update};
+use spatial_base::{Key, Point};
+use std::alloc::Global;
+use store_rows::PAIRS_MAX;
+use store_tables::Tables;
+use stored_places::{put_place, remove_place};
+use term_impacts::Words;
+
+/// Changes the tables and page 0's fields by one update. A key that a Put names is a text key.
+///
+/// Refuses `Full`, `Worn` and what the tables refuse, and `Damaged` where a number of page 0 is out of its range. After a refusal
+/// the fields are as before, and pages may have changed.
+pub(crate) fn update<P: Pages>(
+    alloc: Global,
+    pages: &mut P,
+    head: &mut Head,
+    update: &Update,
+) -> Result<Applied, EngineFault>
+    requires { NamesText update.now }
+    ensures updated { (state : Contents) → PagesStand (block_with (P.count pages.old) (P.first pages.old) head.old) (P.pages pages.old) state
+        → IfOk result (λ applied. ((effect_of state update.now).answer ≡ Ok applied)
+        × PagesStand (block_with (P.count pages.new) (P.first pages.new) head.new) (P.pages pages.new) (effect_of state update.now).state) }
+    ensures due { (state : Contents) → PagesStand (block_with (P.count pages.old) (P.first pages.old) head.old) (P.pages pages.old) state
+        → AreTold (P.pages pages.old) (P.count pages.old) → IfErr result (IsDueTo (effect_of state update.now).answer) }
+    ensures limits { IfErr result (IsAtLimit head.old.live head.old.number) }
+    ensures causes { IfErr result IsUpdateFault }
+    ensures one_more { (head.new.live ≤ head.old.live + 1) × (head.new.number ≤ head.old.number + 1) }
+    ensures disk { IsErrOf result EngineFault.Disk → Rose (P.faults pages.old) (P.faults pages.new) }
+    ensures no_room { IsErrOf result EngineFault.NoRoom → Rose (P.refused pages.old) (P.refused pages.new) }
+    ensures stopped { IsErrOf result EngineFault.Stopped → IsTrue (P.is_stopped pages.old) }
+
+    ensures room { P.room pages.new ≡ P.room pages.old }
+    ensures faults { P.faults pages.old ≤ P.faults pages.new }
+    ensures refused { P.refused pages.old ≤ P.refused pages.new }
+    ensures goes_on { P.is_stopped pages.new ≡ P.is_stopped pages.old }
+    ensures follows { P.follows_from pages.old pages.new }
+{
+    if !are_in_range(head) {
+        return Err(EngineFault::Damaged(broken_by_head(Rule::Head)));
+    }
+    match update {
+        Update::Put { key, point, words } => {
+            let (key, serial) = named(head, key);
+            put(alloc, pages, head, &key, serial, *point, words)
+        }
+        Update::Remove { key } => remove(pages, head, key),
+    }
+}
+
+/// Changes the tables and page 0's fields by all updates, one after another. A key that a Put names is a text key.
+///
+/// Refuses as [`update`], for the first one that is refused.
+pub(crate) fn update_all<P: Pages>(
+    alloc: Global,
+    pages: &mut P,
+    head: &mut Head,
+    updates: &[Update],
+) -> Result<(), EngineFault>
+    requires { AllByRecursion NamesText updates.now }
+    ensures updated { (state : Contents) → PagesStand (block_with (P.count pages.old) (P.first pages.old) head.old) (P.pages pages.old) state
+        → OnOk result (StandForOutcome (state_after_all state updates.now) (block_with (P.count pages.new) (P.first pages.new) head.new) (P.pages pages.new)) }
+    ensures due { (state : Contents) → PagesStand (block_with (P.count pages.old) (P.first pages.old) head.old) (P.pages pages.old) state
+        → ((p : P) → AreTold (P.pages p) (P.count p)) → IfErr result (IsDueTo (state_after_all state updates.now)) }
+    ensures limits { IfErr result (IsAtLimit (head.old.live + length updates.now) (head.old.number + length updates.now)) }
+    ensures causes { IfErr result IsUpdateFault }
+    ensures disk { IsErrOf result EngineFault.Disk → Rose (P.faults pages.old) (P.faults pages.new) }
+    ensures no_room { IsErrOf result EngineFault.NoRoom → Rose (P.refused pages.old) (P.refused pages.new) }
+    ensures stopped { IsErrOf result EngineFault.Stopped → IsTrue (P.is_stopped pages.old) }
+
+    ensures room { P.room pages.new ≡ P.room pages.old }
+    ensures faults { P.faults pages.old ≤ P.faults pages.new }
+    ensures refused { P.refused pages.old ≤ P.refused pages.new }
+    ensures goes_on { P.is_stopped pages.new ≡ P.is_stopped pages.old }
+    ensures follows { P.follows_from pages.old pages.new }
+{
+    let mut left = updates;
+    while let Some((next, rest)) = left.split_first() {
+        update(alloc, pages, head, next)?;
+        left = rest;
+    }
+    Ok(())
+}
+
+// Whether the serial, the update number and the next word number are in their ranges. A store refuses others as it opens.
+fn are_in_range(head: &Head) -> bool
+    ensures { IsTrue result ↔ AreHeadNumbers head.now }
+{
+    head.number <= NUMBER_MAX
+        && head.serial <= head.number + 1
+        && head.next_word <= 64 * (head.number + 1)
+}
+
+// The key under which a place is put, and the next serial then.
+fn named(head: &Head, key: &Option<Key>) -> (Key, u64)
+    requires { AreHeadNumbers head.now }
+    ensures key { (state : Contents) → state.serial ≡ head.now.serial → result.0 ≡ key_for state key.now }
+    ensures serial { (state : Contents) → state.serial ≡ head.now.serial → result.1 ≡ serial_after state key.now }
+{
+    match key {
+        Some(key) => (*key, head.serial),
+        None => (Key::auto(head.serial), head.serial + 1),
+    }
+}
+
+// The tables that page 0 names.
+pub(crate) fn tables_of(head: &Head) -> Tables
+    ensures { result ≡ tables_in head.now }
+{
+    Tables {
+        places: head.places,
+        texts: head.texts,
+        numbers: head.numbers,
+        next_word: head.next_word,
+    }
+}
+
+// Page 0's fields after a change of the tables.
+fn head_after(head: &Head, tables: &Tables, live: u32, serial: u64) -> Head
+    requires { head.now.number ≤ 2 ^ 40 }
+    ensures { result ≡ head_with head.now tables.now live serial }
+{
+    Head {
+        places: tables.places,
+        texts: tables.texts,
+        numbers: tables.numbers,
+        rows: head.rows,
+        tree: head.tree,
+        live,
+        serial,
+        number: head.number + 1,
+        next_word: tables.next_word,
+    }
+}
+
+// Puts a place at a key, and leaves this next serial.
+fn put<P: Pages>(
+    alloc: Global,
+    pages: &mut P,
+    head: &mut Head,
+    key: &Key,
+    serial: u64,
+    point: Point,
+    words: &Words,
+) -> Result<Applied, EngineFault>
+    requires range { AreHeadNumbers head.old }
+    ensures updated { (state : Contents) → PagesStand (block_with (P.count pages.old) (P.first pages.old) head.old) (P.pages pages.old) state
+        → head.old.serial ≤ serial → serial ≤ head.old.number + 2 → IsSerialAbove serial key.now
+        → IfOk result (λ applied. ((put_at state key.now serial (record { point = point; words = words.now })).answer ≡ Ok applied)
+        × PagesStand (block_with (P.count pages.new) (P.first pages.new) head.new) (P.pages pages.new) (put_at state key.now serial (record { point = point; words = words.now })).state) }
+    ensures due { (state : Contents) → PagesStand (block_with (P.count pages.old) (P.first pages.old) head.old) (P.pages pages.old) state
+        → AreTold (P.pages pages.old) (P.count pages.old) → IfErr result (IsDueTo (put_at state key.now serial (record { point = point; words = words.now })).answer) }
+    ensures limits { IfErr result (IsAtLimit head.old.live head.old.number) }
+    ensures causes { IfErr result IsUpdateFault }
+    ensures one_more { (head.new.live ≤ head.old.live + 1) × (head.new.number ≤ head.old.number + 1) }
+    ensures disk { IsErrOf result EngineFault.Disk → Rose (P.faults pages.old) (P.faults pages.new) }
+    ensures no_room { IsErrOf result EngineFault.NoRoom → Rose (P.refused pages.old) (P.refused pages.new) }
+    ensures stopped { IsErrOf result EngineFault.Stopped → IsTrue (P.is_stopped pages.old) }
+
+    ensures room { P.room pages.new ≡ P.room pages.old }
+    ensures faults { P.faults pages.old ≤ P.faults pages.new }
+    ensures refused { P.refused pages.old ≤ P.refused pages.new }
+    ensures goes_on { P.is_stopped pages.new ≡ P.is_stopped pages.old }
+    ensures follows { P.follows_from pages.old pages.new }
+{
+    let mut tables = tables_of(head);
+    let old = tables.place(pages, key)?;
+    let is_new = old.is_none();
+    if is_new && head.live as usize >= PLACES_MAX {
+        return Err(EngineFault::Full);
+    }
+    if head.number == NUMBER_MAX {
+        return Err(EngineFault::Worn);
+    }
+    // So the next word number keeps its range.
+    prove!(words.pairs().len() <= PAIRS_MAX);
+    put_place(alloc, pages, &mut tables, key, old.as_ref(), point, words)?;
+    let live = if is_new { head.live + 1 } else { head.live };
+    *head = head_after(head, &tables, live, serial);
+    Ok(if is_new {
+        Applied::New
+    } else {
+        Applied::Replaced
+    })
+}
+
+// Takes a key out.
+fn remove<P: Pages>(pages: &mut P, head: &mut Head, key: &Key) -> Result<Applied, EngineFault>
+    requires range { AreHeadNumbers head.old }
+    ensures updated { (state : Contents) → PagesStand (block_with (P.count pages.old) (P.first pages.old) head.old) (P.pages pages.old) state
+        → IfOk result (λ applied. ((removed_at state key.now).answer ≡ Ok applied)
+        × PagesStand (block_with (P.count pages.new) (P.first pages.new) head.new) (P.pages pages.new) (removed_at state key.now).state) }
+    ensures due { (state : Contents) → PagesStand (block_with (P.count pages.old) (P.first pages.old) head.old) (P.pages pages.old) state
+        → AreTold (P.pages pages.old) (P.count pages.old) → IfErr result (IsDueTo (removed_at state key.now).answer) }
+    ensures limits { IfErr result (IsAtLimit head.old.live head.old.number) }
+    ensures causes { IfErr result IsUpdateFault }
+    ensures one_more { (head.new.live ≤ head.old.live + 1) × (head.new.number ≤ head.old.number + 1) }
+    ensures disk { IsErrOf result EngineFault.Disk → Rose (P.faults pages.old) (P.faults pages.new) }
+    ensures no_room { IsErrOf result EngineFault.NoRoom → Rose (P.refused pages.old) (P.refused pages.new) }
+    ensures stopped { IsErrOf result EngineFault.Stopped → IsTrue (P.is_stopped pages.old) }
+
+    ensures room { P.room pages.new ≡ P.room pages.old }
+    ensures faults { P.faults pages.old ≤ P.faults pages.new }
+    ensures refused { P.refused pages.old ≤ P.refused pages.new }
+    ensures goes_on { P.is_stopped pages.new ≡ P.is_stopped pages.old }
+    ensures follows { P.follows_from pages.old pages.new }
+{
+    let mut tables = tables_of(head);
+    let Some(old) = tables.place(pages, key)? else {
+        return Ok(Applied::Absent);
+    };
+    if head.number == NUMBER_MAX {
+        return Err(EngineFault::Worn);
+    }
+    if head.live == 0 {
+        return Err(EngineFault::Damaged(broken_by_head(Rule::Counts)));
+    }
+    remove_place(pages, &mut tables, key, &old)?;
+    *head = head_after(head, &tables, head.live - 1, head.serial);
+    Ok(Applied::Gone)
+}

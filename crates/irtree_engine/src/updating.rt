@@ -1,0 +1,162 @@
+//! Updates, each in one commit.
+ghost use Rattle.std.specs.Prelude.{◌≡◌, ◌≢◌, ◌↔◌, ◌≤◌, ◌+◌, Ok, IsTrue, true, false, [], IfOk, IfErr, OnOk, OnErr, IsErrOf, length};
+ghost use Rattle.std.specs.List.{AllByRecursion};
+ghost use Rattle.disk_model.specs.World.{LeavesOnly};
+ghost use Rattle.disk_model.specs.World as worlds;
+ghost use Rattle.page_face.specs.Causes.{Rose};
+ghost use Rattle.page_store.specs.Store.{Rests};
+ghost use Rattle.place_map.specs.State.{Contents};
+ghost use Rattle.place_map.specs.Update.{effect_of};
+ghost use Rattle.stored_state.specs.Stands.{PagesStand};
+ghost use Rattle.irtree_engine.specs.Changes.{block_with};
+ghost use Rattle.irtree_engine.specs.Holding.{HoldsState};
+ghost use Rattle.irtree_engine.specs.Updates.{NamesText, LeavesOneOf, LeavesAllOrNone, StandsForOutcome, IsUpdateFault, IsCommitFault, IsDueTo, IsAtLimit, IsLater, state_after_all};
+
+use crate::{Engine, EngineFault, change};
+use disk_model::Station;
+use page_face::{Head, PageFault, Pages};
+use page_store::Store;
+use place_map::{Applied, Update};
+
+impl<'d, D: Station> Engine<'d, D> {
+    /// Stores one update in one commit. An update that changes nothing makes none. A key that a Put names is a text key.
+    ///
+    /// Refuses `Stopped` exactly where an earlier commit of this engine failed, before all else; `Full` exactly where 200,000 or
+    /// more places live and a Put's key is new; `Worn` exactly where the update number is 2^40 and the update would change the
+    /// map; `NoRoom`, where no page is left for it; `Disk`; `Damaged`, never where the image stands for a state; `Memory`. After
+    /// `Disk` in the commit the engine is stopped, and the store is to be opened again. After every other refusal the map is as
+    /// before.
+    ///
+    /// Costs a look-up of the key, a put or a removal in the place table, for each word that the update changes a look-up and a
+    /// put in the tables of words, and one commit of the pages that changed: four syncs.
+    pub fn apply(&mut self, update: &Update) -> Result<Applied, EngineFault>
+        requires { NamesText update.now }
+        ensures same_loan { self.new.store.disk.ghost_name ≡ self.old.store.disk.ghost_name }
+        ensures applied { IsTrue D.tells → (state : Contents) → HoldsState (D.world self.old.store.disk.now) state
+            → IfOk result (λ applied. ((effect_of state update.now).answer ≡ Ok applied) × HoldsState (D.world self.new.store.disk.now) (effect_of state update.now).state) }
+
+        // A crash at any moment leaves the state before the update or the one after it.
+        ensures any_moment { IsTrue D.tells → (state : Contents) → HoldsState (D.world self.old.store.disk.now) state
+            → LeavesOnly (D.world self.old.store.disk.now) (D.world self.new.store.disk.now) (LeavesOneOf state (effect_of state update.now).state (D.world self.old.store.disk.now)) }
+
+        ensures due { IsTrue D.tells → (state : Contents) → HoldsState (D.world self.old.store.disk.now) state → IfErr result (IsDueTo (effect_of state update.now).answer) }
+        ensures limits { IfErr result (IsAtLimit self.old.store.current.head.live self.old.store.current.head.number) }
+        ensures stopped { IsErrOf result EngineFault.Stopped ↔ IsTrue self.old.stopped }
+        ensures causes { IfErr result IsUpdateFault }
+        ensures disk { IsErrOf result EngineFault.Disk → worlds.Rose (D.world self.old.store.disk.now).faults (D.world self.new.store.disk.now).faults }
+        ensures no_room { IsErrOf result EngineFault.NoRoom → Rose self.old.store.refused self.new.store.refused }
+
+        // After a refusal that doesn't stop the engine the image is as before.
+        ensures rests { IsTrue D.tells → OnErr result (self.new.stopped ≡ self.old.stopped → Rests (D.world self.old.store.disk.now) (D.world self.new.store.disk.now)) }
+        ensures goes_on { result ≢ Err EngineFault.Disk → self.new.stopped ≡ self.old.stopped }
+        ensures silent { IsTrue D.tells → (D.world self.new.store.disk.now).said ≡ (D.world self.old.store.disk.now).said }
+        ensures later { (D.world self.old.store.disk.now).faults ≤ (D.world self.new.store.disk.now).faults }
+        ensures sink { (D.world self.new.store.disk.now).sink_faults ≡ (D.world self.old.store.disk.now).sink_faults }
+        ensures refused { self.old.store.refused ≤ self.new.store.refused }
+        ensures room { D.room_of self.new.store.disk.now ≡ D.room_of self.old.store.disk.now }
+    {
+        if self.stopped {
+            return Err(EngineFault::Stopped);
+        }
+        let mut head = self.store.head();
+        let applied = match change::update(self.alloc, &mut self.store, &mut head, update) {
+            Ok(applied) => applied,
+            Err(fault) => {
+                self.store.abandon();
+                return Err(fault);
+            }
+        };
+        match commit(&mut self.store, &mut self.stopped, &head) {
+            Ok(()) => Ok(applied),
+            Err(fault) => Err(fault),
+        }
+    }
+
+    /// Stores all updates in one commit, or none. There are 1 to 10,000, and a key that a Put names is a text key.
+    ///
+    /// Refuses as [`Engine::apply`], for the first update that meets a cause; then none is stored. Costs as much as each update by
+    /// itself, with one commit of the pages that changed.
+    pub fn apply_batch(&mut self, updates: &[Update]) -> Result<(), EngineFault>
+        requires few { length updates.now ≤ 10000 }
+        requires keys { AllByRecursion NamesText updates.now }
+        ensures same_loan { self.new.store.disk.ghost_name ≡ self.old.store.disk.ghost_name }
+        ensures applied { IsTrue D.tells → (state : Contents) → HoldsState (D.world self.old.store.disk.now) state
+            → OnOk result (StandsForOutcome (state_after_all state updates.now) (D.world self.new.store.disk.now).seen) }
+
+        // A crash at any moment leaves the state before the updates or the one after all of them.
+        ensures any_moment { IsTrue D.tells → (state : Contents) → HoldsState (D.world self.old.store.disk.now) state
+            → LeavesOnly (D.world self.old.store.disk.now) (D.world self.new.store.disk.now) (LeavesAllOrNone state updates.now (D.world self.old.store.disk.now)) }
+
+        ensures due { IsTrue D.tells → (state : Contents) → HoldsState (D.world self.old.store.disk.now) state → IfErr result (IsDueTo (state_after_all state updates.now)) }
+        ensures limits { IfErr result (IsAtLimit (self.old.store.current.head.live + length updates.now) (self.old.store.current.head.number + length updates.now)) }
+        ensures stopped { IsErrOf result EngineFault.Stopped ↔ IsTrue self.old.stopped }
+        ensures causes { IfErr result IsUpdateFault }
+        ensures disk { IsErrOf result EngineFault.Disk → worlds.Rose (D.world self.old.store.disk.now).faults (D.world self.new.store.disk.now).faults }
+        ensures no_room { IsErrOf result EngineFault.NoRoom → Rose self.old.store.refused self.new.store.refused }
+
+        // After a refusal that doesn't stop the engine the image is as before.
+        ensures rests { IsTrue D.tells → OnErr result (self.new.stopped ≡ self.old.stopped → Rests (D.world self.old.store.disk.now) (D.world self.new.store.disk.now)) }
+        ensures goes_on { result ≢ Err EngineFault.Disk → self.new.stopped ≡ self.old.stopped }
+        ensures silent { IsTrue D.tells → (D.world self.new.store.disk.now).said ≡ (D.world self.old.store.disk.now).said }
+        ensures later { (D.world self.old.store.disk.now).faults ≤ (D.world self.new.store.disk.now).faults }
+        ensures sink { (D.world self.new.store.disk.now).sink_faults ≡ (D.world self.old.store.disk.now).sink_faults }
+        ensures refused { self.old.store.refused ≤ self.new.store.refused }
+        ensures room { D.room_of self.new.store.disk.now ≡ D.room_of self.old.store.disk.now }
+    {
+        if self.stopped {
+            return Err(EngineFault::Stopped);
+        }
+        let mut head = self.store.head();
+        if let Err(fault) = change::update_all(self.alloc, &mut self.store, &mut head, updates) {
+            self.store.abandon();
+            return Err(fault);
+        }
+        commit(&mut self.store, &mut self.stopped, &head)
+    }
+}
+
+// Makes what changed safe in one commit, with this head. Where the update number hasn't risen there is nothing to commit. After a
+// refusal what changed is dropped. After `Disk` the store is stopped, and so is the engine.
+fn commit<'d, D: Station>(
+    store: &mut Store<'d, D>,
+    stopped: &mut bool,
+    head: &Head,
+) -> Result<(), EngineFault>
+    requires on { store.old.stopped ≡ false }
+    requires going { stopped.old ≡ false }
+    requires head { store.old.current.head ≡ store.old.last.head }
+    ensures same_loan { store.new.disk.ghost_name ≡ store.old.disk.ghost_name }
+    ensures stored { IsTrue D.tells → (before after : Contents) → HoldsState (D.world store.old.disk.now) before
+        → PagesStand (block_with store.old.current.counted store.old.current.first_free head.now) (⟦<Store<'d, D> as Pages>⟧.pages store.old) after → IsLater before after
+        → OnOk result (HoldsState (D.world store.new.disk.now) after) }
+    ensures any_moment { IsTrue D.tells → (before after : Contents) → HoldsState (D.world store.old.disk.now) before
+        → PagesStand (block_with store.old.current.counted store.old.current.first_free head.now) (⟦<Store<'d, D> as Pages>⟧.pages store.old) after
+        → LeavesOnly (D.world store.old.disk.now) (D.world store.new.disk.now) (LeavesOneOf before after (D.world store.old.disk.now)) }
+    ensures clean { store.new.overlay.entries ≡ [] }
+    ensures settled { store.new.current ≡ store.new.last }
+    ensures causes { IfErr result IsCommitFault }
+    ensures disk { IsErrOf result EngineFault.Disk → worlds.Rose (D.world store.old.disk.now).faults (D.world store.new.disk.now).faults }
+    ensures stops { IsErrOf result EngineFault.Disk → stopped.new ≡ true }
+    ensures as_the_store { stopped.new ≡ store.new.stopped }
+    ensures goes_on { result ≢ Err EngineFault.Disk → store.new.stopped ≡ false }
+    ensures untouched { result ≢ Err EngineFault.Disk → OnErr result (store.new.disk ≡ store.old.disk) }
+    ensures silent { IsTrue D.tells → (D.world store.new.disk.now).said ≡ (D.world store.old.disk.now).said }
+    ensures later { (D.world store.old.disk.now).faults ≤ (D.world store.new.disk.now).faults }
+    ensures sink { (D.world store.new.disk.now).sink_faults ≡ (D.world store.old.disk.now).sink_faults }
+    ensures refused { store.new.refused ≡ store.old.refused }
+    ensures room { D.room_of store.new.disk.now ≡ D.room_of store.old.disk.now }
+{
+    if head.number == store.head().number {
+        store.abandon();
+        return Ok(());
+    }
+    store.set_head(head);
+    match store.commit_all() {
+        Ok(()) => Ok(()),
+        Err(fault) => {
+            *stopped = fault == PageFault::Disk;
+            store.abandon();
+            Err(EngineFault::from(fault))
+        }
+    }
+}
