@@ -1,0 +1,34 @@
+use Rattle.std.proofs.Common.{sym, refl, ap, subst}
+use Rattle.std.specs.Prelude.{Ok}
+use Rattle.query_lang.specs.declared.line.Line.{Line}
+use Rattle.query_lang.specs.declared.line.Line.TheVariants as lines
+use Rattle.query_lang.specs.Reply.{reply_of}
+use Rattle.query_replies.specs.declared.reply.Reply.TheVariants as replies
+use Rattle.query_replies.specs.Reply.{text_of_reply}
+use Rattle.script_run.specs.Lines.{RepliesTo}
+use Rattle.script_run.proofs.Replies.{rests-still, read-replies}
+use Rattle.script_run.proofs.line.answer.Goals as goal
+
+pub returns-in-Nothing-clause-told : goal.returns-in-Nothing-clause-told
+unfolding reply_of
+returns-in-Nothing-clause-told g c = λ told state holds.
+    subst (λ (l : Line). RepliesTo state (Ok l) (g.T.Disk.world c.args.engine.now.store.disk.now) (g.T.Disk.world c.args.engine.now.store.disk.now) (Ok replies.Nothing)) (sym c.in-Nothing.is)
+    (read-replies state (Ok lines.Nothing) _ _ replies.Nothing (rests-still _) holds refl refl)
+
+pub returns-in-Do-clause-told : goal.returns-in-Do-clause-told
+returns-in-Do-clause-told g c = λ told state holds.
+    subst (λ (l : Line). RepliesTo state (Ok l) (g.T.Disk.world c.args.engine.now.store.disk.now) (g.T.Disk.world c.update.new.engine.store.disk.now) c.update.result) (sym c.in-Do.is) (c.update.ensures.told told state holds)
+
+pub returns-in-Ask-clause-told : goal.returns-in-Ask-clause-told
+returns-in-Ask-clause-told g c = λ told state holds.
+    subst (λ (l : Line). RepliesTo state (Ok l) (g.T.Disk.world c.args.engine.now.store.disk.now) (g.T.Disk.world c.ask.new.engine.store.disk.now) c.ask.result) (sym c.in-Ask.is) (c.ask.ensures.told told state holds)
+
+pub returns-in-Show-clause-told : goal.returns-in-Show-clause-told
+returns-in-Show-clause-told g c = λ told state holds.
+    subst (λ (l : Line). RepliesTo state (Ok l) (g.T.Disk.world c.args.engine.now.store.disk.now) (g.T.Disk.world c.show.new.engine.store.disk.now) c.show.result) (sym c.in-Show.is) (c.show.ensures.told told state holds)
+
+pub returns-in-Count-clause-told : goal.returns-in-Count-clause-told
+unfolding reply_of
+returns-in-Count-clause-told g c = λ told state holds.
+    subst (λ (l : Line). RepliesTo state (Ok l) (g.T.Disk.world c.args.engine.now.store.disk.now) (g.T.Disk.world c.args.engine.now.store.disk.now) (Ok (replies.Count c.count.result))) (sym c.in-Count.is)
+    (read-replies state (Ok lines.Count) _ _ (replies.Count c.count.result) (rests-still _) holds refl (ap (λ n. text_of_reply (replies.Count n)) (c.count.ensures told c.requires.on state holds)))

@@ -1,0 +1,46 @@
+use Rattle.std.proofs.Common.{◌≡◌, true, false, refl, sym, ap, subst, ◌∙◌}
+use Rattle.std.specs.Prelude.{Ok, Err}
+use Rattle.query_lang.specs.declared.line.Line.TheVariants as lines
+use Rattle.query_lang.specs.Reply.{reply_of}
+use Rattle.query_replies.specs.declared.reply.Reply.{Reply}
+use Rattle.query_replies.specs.declared.reply.Reply.TheVariants as replies
+use Rattle.query_replies.specs.Reply.{text_of_reply}
+use Rattle.run_ends.specs.Causes.{HasEngineEnd}
+use Rattle.run_ends.specs.declared.ended.Ended.{Ended}
+use Rattle.script_run.specs.Lines.{RepliesTo}
+use Rattle.script_run.proofs.Replies.{RefusedRead, read-replies, refused-read, refused-read-cause}
+use Rattle.script_run.proofs.line.ask.Goals as goal
+
+pub returns-in-Ok-clause-told : goal.returns-in-Ok-clause-told
+unfolding reply_of
+returns-in-Ok-clause-told g c = λ told state holds.
+    read-replies state (Ok (lines.Ask c.args.query c.args.explain)) _ _ (replies.Found c.in-Ok.answer c.args.query c.args.explain) (c.in-Ok.ensures.rests told) holds refl
+    (ap (λ a. text_of_reply (replies.Found a c.args.query c.args.explain)) (c.in-Ok.ensures.answered told state holds))
+
+pub returns-in-Err-clause-told : goal.returns-in-Err-clause-told
+returns-in-Err-clause-told g c =
+    let refused : RefusedRead g.T.Disk.tells (g.T.Disk.world c.args.engine.now.store.disk.now) (g.T.Disk.world c.answer.new.self.store.disk.now) c.in-Err.fault = record {
+      causes = c.in-Err.ensures.causes;
+      faults = c.in-Err.ensures.later;
+      sink = c.in-Err.ensures.sink;
+      on = λ e. let stopped : true ≡ false = sym (c.in-Err.ensures.stopped.0 (ap Err e)) ∙ c.requires.on in cc;
+      disk = λ e. c.in-Err.ensures.disk (ap Err e);
+      honest = λ told state holds damage e. c.in-Err.ensures.honest told state holds damage (ap Err e);
+      rests = c.in-Err.ensures.rests;
+    } in
+    λ told state holds. subst (λ (e : Ended). RepliesTo state (Ok (lines.Ask c.args.query c.args.explain)) (g.T.Disk.world c.args.engine.now.store.disk.now) (g.T.Disk.world c.answer.new.self.store.disk.now) (Err e)) (sym c.ended_by.ensures)
+    (refused-read _ _ _ c.in-Err.fault state (Ok (lines.Ask c.args.query c.args.explain)) refused told holds)
+
+pub returns-in-Err-clause-cause : goal.returns-in-Err-clause-cause
+returns-in-Err-clause-cause g c =
+    let refused : RefusedRead g.T.Disk.tells (g.T.Disk.world c.args.engine.now.store.disk.now) (g.T.Disk.world c.answer.new.self.store.disk.now) c.in-Err.fault = record {
+      causes = c.in-Err.ensures.causes;
+      faults = c.in-Err.ensures.later;
+      sink = c.in-Err.ensures.sink;
+      on = λ e. let stopped : true ≡ false = sym (c.in-Err.ensures.stopped.0 (ap Err e)) ∙ c.requires.on in cc;
+      disk = λ e. c.in-Err.ensures.disk (ap Err e);
+      honest = λ told state holds damage e. c.in-Err.ensures.honest told state holds damage (ap Err e);
+      rests = c.in-Err.ensures.rests;
+    } in
+    subst (λ (e : Ended). HasEngineEnd {T = Reply} g.T.Disk.tells (g.T.Disk.world c.args.engine.now.store.disk.now) (g.T.Disk.world c.answer.new.self.store.disk.now) (Err e)) (sym c.ended_by.ensures)
+    (refused-read-cause _ _ _ Reply c.in-Err.fault refused)

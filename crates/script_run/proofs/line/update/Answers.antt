@@ -1,0 +1,63 @@
+use Rattle.std.proofs.Common.{◌≡◌, true, false, sym, ap, subst, ◌∙◌}
+use Rattle.std.specs.Prelude.{Result, Ok, Err}
+use Rattle.query_lang.specs.declared.line.Line.TheVariants as lines
+use Rattle.query_replies.specs.declared.reply.Reply.{Reply}
+use Rattle.run_ends.specs.Causes.{HasEngineEnd}
+use Rattle.run_ends.specs.declared.ended.Ended.{Ended}
+use Rattle.script_run.specs.Lines.{RepliesTo}
+use Rattle.script_run.proofs.Replies.{AcceptedUpdate, RefusedUpdate, accepted-replies, accepted-goes_on, refused-replies, refused-cause}
+use Rattle.script_run.proofs.line.update.Goals as goal
+
+pub returns-in-Ok-clause-told : goal.returns-in-Ok-clause-told
+returns-in-Ok-clause-told g c =
+    let accepted : AcceptedUpdate g.T.Disk.tells c.args.update.now (g.T.Disk.world c.args.engine.now.store.disk.now) (g.T.Disk.world c.apply.new.self.store.disk.now) c.in-Ok.applied = record {
+      faults = c.in-Ok.ensures.later;
+      sink = c.in-Ok.ensures.sink;
+      said = c.in-Ok.ensures.silent;
+      stands = c.in-Ok.ensures.applied;
+      left_by = c.in-Ok.ensures.any_moment;
+    } in
+    accepted-replies _ _ _ _ _ accepted c.accepted.result c.accepted.ensures.reply
+
+pub returns-in-Ok-clause-cause : goal.returns-in-Ok-clause-cause
+returns-in-Ok-clause-cause g c =
+    let accepted : AcceptedUpdate g.T.Disk.tells c.args.update.now (g.T.Disk.world c.args.engine.now.store.disk.now) (g.T.Disk.world c.apply.new.self.store.disk.now) c.in-Ok.applied = record {
+      faults = c.in-Ok.ensures.later;
+      sink = c.in-Ok.ensures.sink;
+      said = c.in-Ok.ensures.silent;
+      stands = c.in-Ok.ensures.applied;
+      left_by = c.in-Ok.ensures.any_moment;
+    } in
+    accepted-goes_on _ _ _ _ _ accepted c.accepted.result
+
+pub returns-in-Err-clause-told : goal.returns-in-Err-clause-told
+returns-in-Err-clause-told g c =
+    let refused : RefusedUpdate g.T.Disk.tells c.args.update.now (g.T.Disk.world c.args.engine.now.store.disk.now) (g.T.Disk.world c.apply.new.self.store.disk.now) c.in-Err.fault = record {
+      causes = c.in-Err.ensures.causes;
+      faults = c.in-Err.ensures.later;
+      sink = c.in-Err.ensures.sink;
+      on = λ e. let stopped : true ≡ false = sym (c.in-Err.ensures.stopped.0 (ap Err e)) ∙ c.requires.on in cc;
+      disk = λ e. c.in-Err.ensures.disk (ap Err e);
+      said = c.in-Err.ensures.silent;
+      due = c.in-Err.ensures.due;
+      rests = λ told apart. c.in-Err.ensures.rests told (c.in-Err.ensures.goes_on (λ e. apart (cc)));
+      left_by = c.in-Err.ensures.any_moment;
+    } in
+    λ told state holds. subst (λ (r : Result Reply Ended). RepliesTo state (Ok (lines.Do c.args.update.now)) (g.T.Disk.world c.args.engine.now.store.disk.now) (g.T.Disk.world c.apply.new.self.store.disk.now) r) (sym c.refused.ensures.reply)
+    (refused-replies _ _ _ _ c.in-Err.fault refused told state holds)
+
+pub returns-in-Err-clause-cause : goal.returns-in-Err-clause-cause
+returns-in-Err-clause-cause g c =
+    let refused : RefusedUpdate g.T.Disk.tells c.args.update.now (g.T.Disk.world c.args.engine.now.store.disk.now) (g.T.Disk.world c.apply.new.self.store.disk.now) c.in-Err.fault = record {
+      causes = c.in-Err.ensures.causes;
+      faults = c.in-Err.ensures.later;
+      sink = c.in-Err.ensures.sink;
+      on = λ e. let stopped : true ≡ false = sym (c.in-Err.ensures.stopped.0 (ap Err e)) ∙ c.requires.on in cc;
+      disk = λ e. c.in-Err.ensures.disk (ap Err e);
+      said = c.in-Err.ensures.silent;
+      due = c.in-Err.ensures.due;
+      rests = λ told apart. c.in-Err.ensures.rests told (c.in-Err.ensures.goes_on (λ e. apart (cc)));
+      left_by = c.in-Err.ensures.any_moment;
+    } in
+    subst (λ (r : Result Reply Ended). HasEngineEnd g.T.Disk.tells (g.T.Disk.world c.args.engine.now.store.disk.now) (g.T.Disk.world c.apply.new.self.store.disk.now) r) (sym c.refused.ensures.reply)
+    (refused-cause _ _ _ _ c.in-Err.fault refused)

@@ -1,0 +1,143 @@
+use Rattle.std.proofs.Common.{◌≡◌, ℕ, ◌++◌, [], length, drop, refl, sym, ap, ◌∙◌, arith}
+use Rattle.disk_model.proofs.Moments.{started}
+use Rattle.run_ends.specs.Script.{cut, script}
+use Rattle.script_run.proofs.Causes.{job-still, job-by-engine, job-then, job-failed, job-valued}
+use Rattle.script_run.proofs.Fronts.{piece-came, none-behind}
+use Rattle.script_run.proofs.Lines.{rest-EndsNoLine}
+use Rattle.script_run.proofs.Standing.{input_max-is, ends-lost, stops-ends, standing-start, standing-fed, standing-left, standing-failed, standing-ends, standing-ends_left, piece-ends, piece-left}
+use Rattle.script_run.proofs.run.run_script.Goals as goal
+
+pub returns-in-Err-clause-same_loan : goal.returns-in-Err-clause-same_loan
+returns-in-Err-clause-same_loan g c = refl
+
+pub returns-in-Err-clause-told : goal.returns-in-Err-clause-told
+returns-in-Err-clause-told g c = λ tells told state holds. ends-lost (Unit {0}) state (g.S.Source.left c.args.source.now) (g.T.Disk.world c.args.engine.now.store.disk.now)
+
+pub returns-in-Err-clause-any_moment : goal.returns-in-Err-clause-any_moment
+returns-in-Err-clause-any_moment g c = λ tells told state holds. started (g.T.Disk.world c.args.engine.now.store.disk.now)
+
+pub returns-in-Err-clause-cause : goal.returns-in-Err-clause-cause
+returns-in-Err-clause-cause g c = record { source = omega arith; faults = omega arith; sink = omega arith; stands = λ told. tt; cause = tt }
+
+pub pieces-init : goal.pieces-init
+pieces-init g c = record {
+  on = c.requires.on;
+  loan = refl;
+  taken = omega arith;
+  room = c.in-Ok.ensures.len;
+  short = omega (arith, ap length c.new-script.ensures);
+  standing = λ tells told state holds. standing-start state (g.S.Source.left c.args.source.now) _ (g.T.Disk.world c.args.engine.now.store.disk.now) c.new-script.ensures holds;
+  cause = job-still _ _ _ _;
+}
+
+pub read-requires : goal.read-requires
+read-requires g c = omega (arith, c.pieces.invariant.room, c.deref_mut.ensures.len)
+
+pub returns-in-Err-read-clause-same_loan : goal.returns-in-Err-read-clause-same_loan
+returns-in-Err-read-clause-same_loan g c = c.pieces.invariant.loan
+
+pub returns-in-Err-read-clause-told : goal.returns-in-Err-read-clause-told
+returns-in-Err-read-clause-told g c = λ tells told state holds.
+    let s = c.pieces.invariant.standing tells told state holds in
+    standing-failed state (g.S.Source.left c.args.source.now) (g.S.Source.left c.pieces.source) (g.T.Disk.world c.args.engine.now.store.disk.now) (g.T.Disk.world c.pieces.engine.store.disk.now) c.pieces.script.line.items c.pieces.taken s (g.S.Source.left c.read.new.self) ((c.in-Err-read.ensures.told tells).failed) (omega (arith, c.pieces.invariant.taken, input_max-is))
+
+pub returns-in-Err-read-clause-any_moment : goal.returns-in-Err-read-clause-any_moment
+returns-in-Err-read-clause-any_moment g c = λ tells told state holds.
+    let s = c.pieces.invariant.standing tells told state holds in
+    standing-left state (g.S.Source.left c.args.source.now) (g.S.Source.left c.pieces.source) (g.T.Disk.world c.args.engine.now.store.disk.now) (g.T.Disk.world c.pieces.engine.store.disk.now) c.pieces.script.line.items c.pieces.taken s (omega (arith, c.pieces.invariant.taken, input_max-is))
+
+pub returns-in-Err-read-clause-cause : goal.returns-in-Err-read-clause-cause
+returns-in-Err-read-clause-cause g c = record {
+  source = omega (arith, c.in-Err-read.ensures.cause.later, c.pieces.invariant.cause.source);
+  faults = c.pieces.invariant.cause.faults;
+  sink = c.pieces.invariant.cause.sink;
+  stands = λ told. tt;
+  cause = omega (arith, c.in-Err-read.ensures.cause.rose, c.pieces.invariant.cause.source);
+}
+
+pub end-requires : goal.end-requires
+end-requires g c = record { on = c.pieces.invariant.on }
+
+pub returns-then-n-eq0-clause-same_loan : goal.returns-then-n-eq0-clause-same_loan
+returns-then-n-eq0-clause-same_loan g c = c.end.ensures.same_loan ∙ c.pieces.invariant.loan
+
+pub returns-then-n-eq0-clause-told : goal.returns-then-n-eq0-clause-told
+returns-then-n-eq0-clause-told g c = λ tells told state holds.
+    let s = c.pieces.invariant.standing tells told state holds in
+    let given = c.in-Ok-read.ensures.told tells in
+    let none : g.S.Source.left c.pieces.source ≡ [] = given.ends c.if-n-eq0.true in
+    standing-ends state (g.S.Source.left c.args.source.now) (g.S.Source.left c.pieces.source) (g.T.Disk.world c.args.engine.now.store.disk.now) (g.T.Disk.world c.pieces.engine.store.disk.now) c.pieces.script.line.items c.pieces.taken s (g.S.Source.left c.read.new.self) (g.T.Disk.world c.end.new.engine.store.disk.now) c.end.result (omega (arith, c.pieces.invariant.taken, input_max-is)) none (none-behind _ (g.S.Source.left c.read.new.self) (sym given.given ∙ none))
+    (c.end.ensures.told (cut s.read).rest s.keeps told (script state (cut s.read).lines).state s.holds)
+
+pub returns-then-n-eq0-clause-any_moment : goal.returns-then-n-eq0-clause-any_moment
+returns-then-n-eq0-clause-any_moment g c = λ tells told state holds.
+    let s = c.pieces.invariant.standing tells told state holds in
+    let given = c.in-Ok-read.ensures.told tells in
+    let none : g.S.Source.left c.pieces.source ≡ [] = given.ends c.if-n-eq0.true in
+    standing-ends_left state (g.S.Source.left c.args.source.now) (g.S.Source.left c.pieces.source) (g.T.Disk.world c.args.engine.now.store.disk.now) (g.T.Disk.world c.pieces.engine.store.disk.now) c.pieces.script.line.items c.pieces.taken s (g.T.Disk.world c.end.new.engine.store.disk.now) c.end.result (omega (arith, c.pieces.invariant.taken, input_max-is)) none
+    (c.end.ensures.told (cut s.read).rest s.keeps told (script state (cut s.read).lines).state s.holds)
+
+pub returns-then-n-eq0-clause-cause : goal.returns-then-n-eq0-clause-cause
+returns-then-n-eq0-clause-cause g c =
+    job-then _ (g.S.Source.faults c.args.source.now) (g.S.Source.faults c.pieces.source) (g.S.Source.faults c.read.new.self) (g.T.Disk.world c.args.engine.now.store.disk.now) (g.T.Disk.world c.pieces.engine.store.disk.now) (g.T.Disk.world c.end.new.engine.store.disk.now) tt c.pieces.invariant.cause c.in-Ok-read.ensures.cause.later c.end.result
+    (job-by-engine _ 0 0 _ _ c.end.result (omega arith) c.end.ensures.cause)
+
+pub split_at-requires : goal.split_at-requires
+split_at-requires g c = omega (arith, c.in-Ok-read.ensures.count, c.as_slice.ensures.len)
+
+pub take-requires-clause-on : goal.take-requires-clause-on
+take-requires-clause-on g c = c.pieces.invariant.on
+
+pub take-requires-clause-few : goal.take-requires-clause-few
+take-requires-clause-few g c = c.pieces.invariant.taken
+
+pub take-requires-clause-short : goal.take-requires-clause-short
+take-requires-clause-short g c = c.pieces.invariant.short
+
+pub returns-in-Err-take-clause-same_loan : goal.returns-in-Err-take-clause-same_loan
+returns-in-Err-take-clause-same_loan g c = c.in-Err-take.ensures.same_loan ∙ c.pieces.invariant.loan
+
+pub returns-in-Err-take-clause-told : goal.returns-in-Err-take-clause-told
+returns-in-Err-take-clause-told g c = λ tells told state holds.
+    let s = c.pieces.invariant.standing tells told state holds in
+    let came : g.S.Source.left c.pieces.source ≡ c.split_at.result.0.now ++ g.S.Source.left c.read.new.self =
+    piece-came c.in-Ok-read.n c.pieces.piece.len c.read.new.buf (drop (length c.read.new.buf) c.pieces.piece.items) _ c.split_at.result.0.now _ _ c.in-Ok-read.ensures.count
+    (omega (arith, c.read.auto.buf, c.deref_mut.ensures.len, c.pieces.invariant.room)) c.as_slice.ensures.value c.split_at.ensures.front (c.in-Ok-read.ensures.told tells).given in
+    stops-ends (Unit {0}) state (g.S.Source.left c.args.source.now) (g.S.Source.left c.read.new.self) (g.T.Disk.world c.args.engine.now.store.disk.now) (g.T.Disk.world c.take.new.engine.store.disk.now) c.in-Err-take.end
+    (piece-ends state (g.S.Source.left c.args.source.now) (g.S.Source.left c.pieces.source) (g.T.Disk.world c.args.engine.now.store.disk.now) (g.T.Disk.world c.pieces.engine.store.disk.now) c.pieces.script.line.items c.pieces.taken s c.split_at.result.0.now (g.S.Source.left c.read.new.self) (g.T.Disk.world c.take.new.engine.store.disk.now) came c.pieces.invariant.taken c.in-Err-take.end
+    (c.in-Err-take.ensures.told (cut s.read).rest (rest-EndsNoLine s.read) s.keeps told (script state (cut s.read).lines).state s.holds))
+
+pub returns-in-Err-take-clause-any_moment : goal.returns-in-Err-take-clause-any_moment
+returns-in-Err-take-clause-any_moment g c = λ tells told state holds.
+    let s = c.pieces.invariant.standing tells told state holds in
+    let came : g.S.Source.left c.pieces.source ≡ c.split_at.result.0.now ++ g.S.Source.left c.read.new.self =
+    piece-came c.in-Ok-read.n c.pieces.piece.len c.read.new.buf (drop (length c.read.new.buf) c.pieces.piece.items) _ c.split_at.result.0.now _ _ c.in-Ok-read.ensures.count
+    (omega (arith, c.read.auto.buf, c.deref_mut.ensures.len, c.pieces.invariant.room)) c.as_slice.ensures.value c.split_at.ensures.front (c.in-Ok-read.ensures.told tells).given in
+    piece-left state (g.S.Source.left c.args.source.now) (g.S.Source.left c.pieces.source) (g.T.Disk.world c.args.engine.now.store.disk.now) (g.T.Disk.world c.pieces.engine.store.disk.now) c.pieces.script.line.items c.pieces.taken s c.split_at.result.0.now (g.S.Source.left c.read.new.self) (g.T.Disk.world c.take.new.engine.store.disk.now) came c.pieces.invariant.taken c.in-Err-take.end
+    (c.in-Err-take.ensures.told (cut s.read).rest (rest-EndsNoLine s.read) s.keeps told (script state (cut s.read).lines).state s.holds)
+
+pub returns-in-Err-take-clause-cause : goal.returns-in-Err-take-clause-cause
+returns-in-Err-take-clause-cause g c =
+    job-failed ℕ (Unit {0}) _ _ _ _ _ c.in-Err-take.end
+    (job-then _ (g.S.Source.faults c.args.source.now) (g.S.Source.faults c.pieces.source) (g.S.Source.faults c.read.new.self) (g.T.Disk.world c.args.engine.now.store.disk.now) (g.T.Disk.world c.pieces.engine.store.disk.now) (g.T.Disk.world c.take.new.engine.store.disk.now) tt c.pieces.invariant.cause c.in-Ok-read.ensures.cause.later _ c.in-Err-take.ensures.cause)
+
+pub pieces-smaller : goal.pieces-smaller
+pieces-smaller g c = omega (arith, c.in-Ok-take.ensures.few.0, c.in-Ok-take.ensures.few.1, c.split_at.ensures.front_len, c.if-n-eq0.false)
+
+pub pieces-preserved : goal.pieces-preserved
+pieces-preserved g c = record {
+  on = c.in-Ok-take.ensures.on;
+  loan = c.in-Ok-take.ensures.same_loan ∙ c.pieces.invariant.loan;
+  taken = c.in-Ok-take.ensures.few.0;
+  room = c.pieces.invariant.room;
+  short = c.in-Ok-take.ensures.short;
+  standing = λ tells told state holds.
+      let s = c.pieces.invariant.standing tells told state holds in
+      let came : g.S.Source.left c.pieces.source ≡ c.split_at.result.0.now ++ g.S.Source.left c.read.new.self =
+      piece-came c.in-Ok-read.n c.pieces.piece.len c.read.new.buf (drop (length c.read.new.buf) c.pieces.piece.items) _ c.split_at.result.0.now _ _ c.in-Ok-read.ensures.count
+      (omega (arith, c.read.auto.buf, c.deref_mut.ensures.len, c.pieces.invariant.room)) c.as_slice.ensures.value c.split_at.ensures.front (c.in-Ok-read.ensures.told tells).given in
+      standing-fed state (g.S.Source.left c.args.source.now) (g.S.Source.left c.pieces.source) (g.T.Disk.world c.args.engine.now.store.disk.now) (g.T.Disk.world c.pieces.engine.store.disk.now) c.pieces.script.line.items c.pieces.taken s c.split_at.result.0.now (g.S.Source.left c.read.new.self) _ (g.T.Disk.world c.take.new.engine.store.disk.now) _ came
+      (c.in-Ok-take.ensures.line (cut s.read).rest (rest-EndsNoLine s.read) s.keeps) c.in-Ok-take.ensures.few.0 c.in-Ok-take.ensures.few.1
+      (c.in-Ok-take.ensures.told (cut s.read).rest (rest-EndsNoLine s.read) s.keeps told (script state (cut s.read).lines).state s.holds);
+  cause = job-valued _ _ _ _ _ _ tt (job-then _ (g.S.Source.faults c.args.source.now) (g.S.Source.faults c.pieces.source) (g.S.Source.faults c.read.new.self) (g.T.Disk.world c.args.engine.now.store.disk.now) (g.T.Disk.world c.pieces.engine.store.disk.now) (g.T.Disk.world c.take.new.engine.store.disk.now) tt c.pieces.invariant.cause c.in-Ok-read.ensures.cause.later _ c.in-Ok-take.ensures.cause);
+}

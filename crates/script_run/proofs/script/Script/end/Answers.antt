@@ -1,0 +1,15 @@
+use Rattle.std.proofs.Common.{◌≡◌, [], arith}
+use Rattle.script_run.proofs.Lines.{none-left, some-left}
+use Rattle.script_run.proofs.Feeding.{last-none, last-some}
+use Rattle.script_run.proofs.script.Script.end.Goals as goal
+
+pub returns-then-is_empty-clause-told : goal.returns-then-is_empty-clause-told
+returns-then-is_empty-clause-told g c = λ front is told state holds.
+    let none : c.args.self.now.line.items ≡ [] = none-left _ _ _ (omega arith) c.is_empty.ensures c.if-is_empty.true in
+    last-none state c.args.self.now.line.items front (g.T.Disk.world c.args.engine.now.store.disk.now) none is holds
+
+pub returns-clause-told : goal.returns-clause-told
+returns-clause-told g c = λ front is told state holds.
+    let some : c.args.self.now.line.items ≡ [] → ⊥ = some-left _ _ _ (omega arith) c.is_empty.ensures c.if-is_empty.false in
+    last-some state c.args.self.now.line.items front (g.T.Disk.world c.args.engine.now.store.disk.now) (g.T.Disk.world c.act.new.engine.store.disk.now) c.act.result some is
+    (rw (← c.deref.ensures.value) (c.act.ensures.told told state holds))

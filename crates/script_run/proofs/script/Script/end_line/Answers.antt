@@ -1,0 +1,24 @@
+use Rattle.std.proofs.Common.{◌≡◌, List, ℕ, [], ◌∷◌, ◌++◌, subst, arith, ◌∙◌}
+use Rattle.std.specs.Prelude.{Err}
+use Rattle.std.proofs.lemmas.Result.{err_from_is_err_and}
+use Rattle.script_run.specs.Lines.{RunsLines}
+use Rattle.script_run.proofs.Lines.{line-fresh, line-ended, none-left}
+use Rattle.script_run.proofs.Runs.{runs-alike}
+use Rattle.script_run.proofs.script.Script.end_line.Goals as goal
+
+pub returns-then-is_empty-clause-told : goal.returns-then-is_empty-clause-told
+returns-then-is_empty-clause-told g c = λ front is told state holds.
+    let none : c.args.self.now.line.items ≡ [] = none-left _ _ _ (omega arith) c.is_empty.ensures c.if-is_empty.true in
+    subst (λ (line : List ℕ). RunsLines state (line ∷ []) (g.T.Disk.world c.args.engine.now.store.disk.now) (g.T.Disk.world c.act.new.engine.store.disk.now) c.act.result)
+    (line-fresh c.args.self.now.line.items front c.args.part.now none is) (c.act.ensures.told told state holds)
+
+pub returns-in_err-act-clause-told : goal.returns-in_err-act-clause-told
+returns-in_err-act-clause-told g c = λ front is told state holds.
+    let passed = err_from_is_err_and c.from_residual-in_err-act.result c.from_residual-in_err-act.ensures.1 in
+    let same : c.from_residual-in_err-act.result ≡ Err c.in_err-act.field-0.0 = cc (passed.1, passed.2) in
+    rw same
+    (runs-alike state c.deref.result.now (front ++ c.args.part.now) _ _ _ (line-ended c.args.self.now.line.items _ front _ (c.deref.ensures.value ∙ c.in_ok-extend.ensures.ok) is) (c.in_err-act.ensures.told told state holds))
+
+pub returns-clause-told : goal.returns-clause-told
+returns-clause-told g c = λ front is told state holds.
+    runs-alike state c.deref.result.now (front ++ c.args.part.now) _ _ _ (line-ended c.args.self.now.line.items _ front _ (c.deref.ensures.value ∙ c.in_ok-extend.ensures.ok) is) (c.in_ok-act.ensures.told told state holds)

@@ -1,0 +1,178 @@
+// One line of a script, acted on, and its reply.
+ghost use Rattle.std.specs.Prelude.{◌≡◌, ◌++◌, ◌∷◌, [], false, IsTrue, IfOk, OnOk, Ok};
+ghost use Rattle.place_map.specs.State.{Contents};
+ghost use Rattle.query_lang.specs.Line.{line_of};
+ghost use Rattle.query_lang.specs.Plain.{IsSound};
+ghost use Rattle.query_lang.specs.Reply.{update_reply};
+ghost use Rattle.query_lang.specs.declared.line.Line.TheVariants as lines;
+ghost use Rattle.query_replies.specs.Reply.{HasReason};
+ghost use Rattle.place_map.specs.Query.{IsWithinLimits};
+ghost use Rattle.irtree_engine.specs.Holding.{HoldsState};
+ghost use Rattle.irtree_engine.specs.Updates.{NamesText};
+ghost use Rattle.run_ends.specs.Causes.{HasEngineEnd};
+ghost use Rattle.script_run.specs.Lines.{refused_by, RepliesTo, RunsLines};
+
+use disk_model::Station;
+use irtree_engine::{Engine, EngineFault};
+use place_map::{Applied, Query, Update};
+use query_lang::{Line, LineFault, Reply, UpdateDone, read_line, reply_text};
+use run_ends::{Ended, ended_by, say_all};
+use spatial_base::{Key, Memory};
+use std::alloc::Global;
+
+// The reply to an update that was accepted.
+fn accepted(applied: Applied) -> Reply
+    ensures reply { result ≡ update_reply (Ok applied) }
+    ensures reason { HasReason result }
+{
+    match applied {
+        Applied::New | Applied::Gone => Reply::Applied(UpdateDone::Ok),
+        Applied::Replaced => Reply::Applied(UpdateDone::Replaced),
+        Applied::Absent => Reply::Applied(UpdateDone::Absent),
+    }
+}
+
+// The reply to an update that was refused for a limit of the map, or how the run ends.
+fn refused(fault: EngineFault) -> Result<Reply, Ended>
+    ensures reply { result ≡ refused_by fault }
+    ensures reason { IfOk result HasReason }
+{
+    match fault {
+        EngineFault::Full => Ok(Reply::Full),
+        EngineFault::Worn => Ok(Reply::Worn),
+        fault => Err(ended_by(fault)),
+    }
+}
+
+// The reply to an update, which is made.
+fn update<'d, T: Station>(engine: &mut Engine<'d, T>, update: &Update) -> Result<Reply, Ended>
+    requires on { engine.old.stopped ≡ false }
+    requires names { NamesText update.now }
+    ensures same_loan { engine.new.store.disk.ghost_name ≡ engine.old.store.disk.ghost_name }
+    ensures told { IsTrue T.tells → (state : Contents) → HoldsState (T.world engine.old.store.disk.now) state
+        → RepliesTo state (Ok (lines.Do update.now)) (T.world engine.old.store.disk.now) (T.world engine.new.store.disk.now) result }
+    ensures reason { IfOk result HasReason }
+    ensures on { OnOk result (engine.new.stopped ≡ false) }
+    ensures cause { HasEngineEnd T.tells (T.world engine.old.store.disk.now) (T.world engine.new.store.disk.now) result }
+{
+    match engine.apply(update) {
+        Ok(applied) => Ok(accepted(applied)),
+        Err(fault) => refused(fault),
+    }
+}
+
+// The reply to a query.
+fn ask<'d, T: Station>(
+    engine: &mut Engine<'d, T>,
+    query: Query,
+    explain: bool,
+) -> Result<Reply, Ended>
+    requires on { engine.old.stopped ≡ false }
+    requires limits { IsWithinLimits query }
+    ensures same_loan { engine.new.store.disk.ghost_name ≡ engine.old.store.disk.ghost_name }
+    ensures told { IsTrue T.tells → (state : Contents) → HoldsState (T.world engine.old.store.disk.now) state
+        → RepliesTo state (Ok (lines.Ask query explain)) (T.world engine.old.store.disk.now) (T.world engine.new.store.disk.now) result }
+    ensures reason { IfOk result HasReason }
+    ensures on { OnOk result (engine.new.stopped ≡ false) }
+    ensures cause { HasEngineEnd T.tells (T.world engine.old.store.disk.now) (T.world engine.new.store.disk.now) result }
+{
+    match engine.answer(&query) {
+        Ok(answer) => Ok(Reply::Found {
+            answer,
+            query,
+            explain,
+        }),
+        Err(fault) => Err(ended_by(fault)),
+    }
+}
+
+// The reply that shows what is kept at a key.
+fn show<'d, T: Station>(engine: &mut Engine<'d, T>, key: Key) -> Result<Reply, Ended>
+    requires on { engine.old.stopped ≡ false }
+    ensures same_loan { engine.new.store.disk.ghost_name ≡ engine.old.store.disk.ghost_name }
+    ensures told { IsTrue T.tells → (state : Contents) → HoldsState (T.world engine.old.store.disk.now) state
+        → RepliesTo state (Ok (lines.Show key)) (T.world engine.old.store.disk.now) (T.world engine.new.store.disk.now) result }
+    ensures reason { IfOk result HasReason }
+    ensures on { OnOk result (engine.new.stopped ≡ false) }
+    ensures cause { HasEngineEnd T.tells (T.world engine.old.store.disk.now) (T.world engine.new.store.disk.now) result }
+{
+    match engine.show(&key) {
+        Ok(Some(place)) => Ok(Reply::Place {
+            key,
+            point: place.point,
+            words: place.words,
+        }),
+        Ok(None) => Ok(Reply::Absent),
+        Err(fault) => Err(ended_by(fault)),
+    }
+}
+
+// The reply to a line, which is acted on.
+fn answer<'d, T: Station>(engine: &mut Engine<'d, T>, line: Line) -> Result<Reply, Ended>
+    requires on { engine.old.stopped ≡ false }
+    requires sound { IsSound line }
+    ensures same_loan { engine.new.store.disk.ghost_name ≡ engine.old.store.disk.ghost_name }
+    ensures told { IsTrue T.tells → (state : Contents) → HoldsState (T.world engine.old.store.disk.now) state
+        → RepliesTo state (Ok line) (T.world engine.old.store.disk.now) (T.world engine.new.store.disk.now) result }
+    ensures reason { IfOk result HasReason }
+    ensures on { OnOk result (engine.new.stopped ≡ false) }
+    ensures cause { HasEngineEnd T.tells (T.world engine.old.store.disk.now) (T.world engine.new.store.disk.now) result }
+{
+    match line {
+        Line::Nothing => Ok(Reply::Nothing),
+        Line::Do(change) => update(engine, &change),
+        Line::Ask { query, explain } => ask(engine, query, explain),
+        Line::Show(key) => show(engine, key),
+        Line::Count => Ok(Reply::Count(engine.count())),
+    }
+}
+
+// The reply to what a line's bytes stand for, which is acted on.
+fn reply_to<'d, T: Station>(
+    alloc: Global,
+    engine: &mut Engine<'d, T>,
+    line: &[u8],
+) -> Result<Reply, Ended>
+    requires on { engine.old.stopped ≡ false }
+    ensures same_loan { engine.new.store.disk.ghost_name ≡ engine.old.store.disk.ghost_name }
+    ensures told { IsTrue T.tells → (state : Contents) → HoldsState (T.world engine.old.store.disk.now) state
+        → RepliesTo state (line_of line.now) (T.world engine.old.store.disk.now) (T.world engine.new.store.disk.now) result }
+    ensures reason { IfOk result HasReason }
+    ensures on { OnOk result (engine.new.stopped ≡ false) }
+    ensures cause { HasEngineEnd T.tells (T.world engine.old.store.disk.now) (T.world engine.new.store.disk.now) result }
+{
+    match read_line(alloc, line) {
+        Ok(line) => answer(engine, line),
+        Err(LineFault::Memory) => Err(Ended::Memory),
+        Err(fault) => Ok(Reply::Bad(fault)),
+    }
+}
+
+// Acts on a line and says its reply whole.
+pub(crate) fn act<'d, T: Station>(
+    alloc: Global,
+    engine: &mut Engine<'d, T>,
+    reply: &mut Vec<u8>,
+    line: &[u8],
+) -> Result<(), Ended>
+    requires on { engine.old.stopped ≡ false }
+    ensures same_loan { engine.new.store.disk.ghost_name ≡ engine.old.store.disk.ghost_name }
+    ensures told { IsTrue T.tells → (state : Contents) → HoldsState (T.world engine.old.store.disk.now) state
+        → RunsLines state (line.now ∷ []) (T.world engine.old.store.disk.now) (T.world engine.new.store.disk.now) result }
+    ensures on { OnOk result (engine.new.stopped ≡ false) }
+    ensures cause { HasEngineEnd T.tells (T.world engine.old.store.disk.now) (T.world engine.new.store.disk.now) result }
+{
+    reply.clear();
+    let found = match reply_to(alloc, engine, line) {
+        Ok(found) => found,
+        Err(end) => return Err(end),
+    };
+    match reply_text(alloc, &found, reply) {
+        Ok(()) => {}
+        Err(Memory) => return Err(Ended::Memory),
+    }
+    match say_all(engine, &*reply) {
+        Ok(()) => Ok(()),
+        Err(_) => Err(Ended::Sink),
+    }
+}
