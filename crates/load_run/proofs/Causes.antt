@@ -1,0 +1,64 @@
+-- Why a load ends, over several calls.
+use Rattle.std.proofs.Common.{◌≡◌, ℕ, ◌≤◌, Bool, sym, subst, arith, refl}
+use Rattle.std.specs.Prelude.{Result, Ok, Err}
+use Rattle.disk_model.specs.World.{World, Image}
+use Rattle.stored_state.specs.Stands.{Stands}
+use Rattle.run_ends.specs.declared.ended.Ended.{Ended}
+use Rattle.run_ends.specs.declared.ended.Ended.TheVariants as ends
+use Rattle.run_ends.specs.Causes.{StandsStill, IsEngineEnd, HasEngineEnd, IsJobEnd, HasJobEnd}
+
+-- where reads give the same, the image stands for what it stood for
+pub still-same : (old new : World) → new.seen ≡ old.seen → StandsStill old new
+still-same old new same state holds = (state, subst (λ (i : Image). Stands i state) (sym same) holds)
+
+-- no call was made
+pub engine-none : (tells : Bool) (now : World) (T : Type 0) (done : T) → HasEngineEnd tells now now (Ok done)
+engine-none tells now T done = record { faults = omega arith; sink = omega arith; stands = λ told. still-same now now refl; cause = tt }
+
+-- memory was wanted before a call was made
+pub engine-lacks : (tells : Bool) (now : World) (T : Type 0) → HasEngineEnd {T = T} tells now now (Err ends.Memory)
+engine-lacks tells now T = record { faults = omega arith; sink = omega arith; stands = λ told. tt; cause = tt }
+
+module _ {tells : Bool} {u v : World} {T : Type 0} {done : T} (first : HasEngineEnd tells u v (Ok done)) where
+  -- an end behind them
+  end-then : (w : World) (end : Ended) → v.faults ≤ w.faults → v.sink_faults ≤ w.sink_faults → IsEngineEnd tells v w end → IsEngineEnd tells u w end
+  end-then w ends.Memory faults sink cause = tt
+  end-then w ends.Disk faults sink cause = omega (arith, cause, first.faults)
+  end-then w ends.Sink faults sink cause = omega (arith, cause, first.sink)
+  end-then w (ends.Store fault) faults sink cause = λ told state holds. let mid = first.stands told state holds in cause told mid.0 mid.1
+  end-then w (ends.Limit fault) faults sink cause = tt
+  end-then w (ends.Input fault) faults sink cause = cause
+  end-then w ends.Source faults sink cause = cause
+  end-then w ends.Done faults sink cause = cause
+  end-then w ends.Words faults sink cause = cause
+
+  -- a call behind others that ended well
+  pub engine-then : {U : Type 0} {w : World} (result : Result U Ended) → HasEngineEnd tells v w result → HasEngineEnd tells u w result
+  engine-then {w = w} (Ok more) next = record {
+    faults = omega (arith, first.faults, next.faults);
+    sink = omega (arith, first.sink, next.sink);
+    stands = λ told state holds. let mid = first.stands told state holds in next.stands told mid.0 mid.1;
+    cause = tt;
+  }
+  engine-then {w = w} (Err end) next = record {
+    faults = omega (arith, first.faults, next.faults);
+    sink = omega (arith, first.sink, next.sink);
+    stands = λ told. tt;
+    cause = end-then w end next.faults next.sink next.cause;
+  }
+
+-- a call over an engine in a job, behind the reading of its source
+pub job-of-engine : (tells : Bool) (source_old source_new : ℕ) (old new : World) {T : Type 0} (result : Result T Ended) → source_old ≤ source_new → HasEngineEnd tells old new result → HasJobEnd tells source_old source_new old new result
+job-of-engine tells source_old source_new old new (Ok done) later ended = record { source = later; faults = ended.faults; sink = ended.sink; stands = ended.stands; cause = tt }
+job-of-engine tells source_old source_new old new (Err end) later ended = record { source = later; faults = ended.faults; sink = ended.sink; stands = λ told. tt; cause = by_end end ended.cause }
+  where
+    by_end : (end : Ended) → IsEngineEnd tells old new end → IsJobEnd tells source_old source_new old new end
+    by_end ends.Memory cause = tt
+    by_end ends.Disk cause = cause
+    by_end ends.Sink cause = cause
+    by_end (ends.Store fault) cause = cause
+    by_end (ends.Limit fault) cause = tt
+    by_end (ends.Input fault) cause = absurd cause
+    by_end ends.Source cause = absurd cause
+    by_end ends.Done cause = absurd cause
+    by_end ends.Words cause = absurd cause

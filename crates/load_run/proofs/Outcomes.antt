@@ -1,0 +1,129 @@
+-- How a load ends, from what its text gives.
+use Rattle.std.proofs.Common.{◌≡◌, ◌≢◌, ℕ, ◌+◌, ◌<◌, ◌≤◌, inl, inr, ⊎_elim, List, [], ◌∷◌, ◌++◌, length, take, refl, sym, ap, subst, ◌∙◌, arith, append_assoc, length-append, length-take}
+use Rattle.std.specs.Prelude.{None, Result, Ok, Err}
+use Rattle.std.proofs.lemmas.List.{append-nil, take-take, take-append-le}
+use Rattle.disk_model.specs.World.{World, LeavesOnly}
+use Rattle.disk_model.proofs.Moments.{within}
+use Rattle.place_map.specs.State.{Contents}
+use Rattle.json_spelled.specs.declared.tree.JsonFault.TheVariants as json
+use Rattle.geojson_points.specs.Takes.{Item, Takes}
+use Rattle.geojson_points.specs.declared.fault.LoadFault.{LoadFault}
+use Rattle.geojson_points.specs.declared.fault.LoadFault.TheVariants as loads
+use Rattle.stored_state.specs.Stands.{Stands}
+use Rattle.irtree_engine.specs.Holding.{HoldsState}
+use Rattle.run_ends.specs.declared.ended.Ended.{Ended}
+use Rattle.run_ends.specs.declared.ended.Ended.TheVariants as ends
+use Rattle.run_ends.specs.declared.ended.InputFault.{InputFault}
+use Rattle.run_ends.specs.declared.ended.InputFault.TheVariants as inputs
+use Rattle.run_ends.specs.declared.ended.LimitFault.TheVariants as limits
+use Rattle.run_ends.specs.Left.{LeftBySteps, LeftByLoad, StopsAtBatch}
+use Rattle.run_ends.specs.Load.{load_max, IsTaken, load_transcript, steps}
+use Rattle.run_ends.specs.Said.{EndsAs, SaysFrontOf}
+use Rattle.run_ends.specs.Turn.{End}
+use Rattle.load_run.specs.Loading.{IsUnread, RefusesSo, EndsLoad, IsConcluded, Reaches, LeftFrom, stage_at_start}
+use Rattle.load_run.proofs.Fronts.{front-empty}
+
+-- the greatest number of bytes, as a numeral
+pub load_max-is : load_max ≡ 67108864
+unfolding load_max
+load_max-is = refl
+
+-- ---- how it ends
+
+-- the input wasn't read to its end, or is too long
+pub unread-ends : (T : Type 0) (batch : ℕ) (state : Contents) (input left : List ℕ) (now : World) (end : Ended) → HoldsState now state → IsUnread input end → EndsLoad {T = T} batch state input left now now (Err end)
+unread-ends T batch state input left now ends.Memory holds has = inl ((refl, holds), refl)
+unread-ends T batch state input left now ends.Source holds has = (refl, holds)
+unread-ends T batch state input left now (ends.Input inputs.Long) holds has = (has, (refl, holds))
+unread-ends T batch state input left now (ends.Input (inputs.NotUtf8 at)) holds has = absurd has
+unread-ends T batch state input left now (ends.Input (inputs.Syntax at)) holds has = absurd has
+unread-ends T batch state input left now (ends.Input (inputs.TooDeep at)) holds has = absurd has
+unread-ends T batch state input left now (ends.Input inputs.NotFeatures) holds has = absurd has
+unread-ends T batch state input left now (ends.Limit fault) holds has = absurd has
+unread-ends T batch state input left now (ends.Store fault) holds has = absurd has
+unread-ends T batch state input left now ends.Disk holds has = absurd has
+unread-ends T batch state input left now ends.Sink holds has = absurd has
+unread-ends T batch state input left now ends.Done holds has = absurd has
+unread-ends T batch state input left now ends.Words holds has = absurd has
+
+-- the text gives no items
+pub refused-ends : (T : Type 0) (batch : ℕ) (state : Contents) (input left bytes : List ℕ) (now : World) (fault : LoadFault) (end : Ended) → HoldsState now state → bytes ≡ input → length bytes ≤ load_max → (fault ≢ loads.Memory → Takes bytes None (Err fault)) → RefusesSo fault end
+    → EndsLoad {T = T} batch state input left now now (Err end)
+refused-ends T batch state input left bytes now fault end holds same short takes so =
+    subst (λ (b : List ℕ). EndsLoad {T = T} batch state b left now now (Err end)) same (by_fault fault takes so)
+  where
+    says : (refused : InputFault) → IsTaken bytes (Err refused) → end ≡ ends.Input refused → EndsLoad {T = T} batch state bytes left now now (Err end)
+    says refused is so = subst (λ (e : Ended). EndsLoad {T = T} batch state bytes left now now (Err e)) (sym so) (is, (refl, holds))
+
+    lacks : end ≡ ends.Memory → EndsLoad {T = T} batch state bytes left now now (Err end)
+    lacks so = subst (λ (e : Ended). EndsLoad {T = T} batch state bytes left now now (Err e)) (sym so) (inl ((refl, holds), refl))
+
+    by_fault : (fault : LoadFault) → (fault ≢ loads.Memory → Takes bytes None (Err fault)) → RefusesSo fault end → EndsLoad {T = T} batch state bytes left now now (Err end)
+    by_fault (loads.Json (json.NotUtf8 at)) takes so = says (inputs.NotUtf8 at) (short, takes (λ e. absurd (cc))) so
+    by_fault (loads.Json (json.Syntax at)) takes so = says (inputs.Syntax at) (short, takes (λ e. absurd (cc))) so
+    by_fault (loads.Json (json.TooDeep at)) takes so = says (inputs.TooDeep at) (short, takes (λ e. absurd (cc))) so
+    by_fault (loads.Json json.Memory) takes so = lacks so
+    by_fault loads.NotFeatures takes so = says inputs.NotFeatures (short, takes (λ e. absurd (cc))) so
+    by_fault loads.Memory takes so = lacks so
+
+-- all of the text of a load was said
+reaches-ends : (wanted : End) (batch : ℕ) (state : Contents) (items : List Item) (old new : World) → Reaches wanted (stage_at_start batch state items) old new → EndsAs wanted (load_transcript batch state (Ok items)) old new
+reaches-ends wanted batch state items old new reaches = record { end = reaches.end; said = reaches.said; holds = reaches.holds }
+
+-- the text gives items, which were acted on
+pub taken-ends : (T : Type 0) (batch : ℕ) (state : Contents) (input left bytes : List ℕ) (items : List Item) (old new : World) (result : Result T Ended) → bytes ≡ input → left ≡ [] → length bytes ≤ load_max → Takes bytes None (Ok items)
+    → IsConcluded (stage_at_start batch state items) old new result → EndsLoad batch state input left old new result
+taken-ends T batch state input left bytes items old new result same none short takes concluded =
+    subst (λ (b : List ℕ). EndsLoad batch state b left old new result) same (by_result result concluded)
+  where
+    is : IsTaken bytes (Ok items)
+    is = (short, takes)
+
+    by_result : (result : Result T Ended) → IsConcluded (stage_at_start batch state items) old new result → EndsLoad batch state bytes left old new result
+    by_result (Ok done) ended = ((items, is, reaches-ends _ batch state items old new ended), none)
+    by_result (Err ends.Memory) ended = inr (items, is, ended)
+    by_result (Err ends.Disk) ended = inr (items, is, ended)
+    by_result (Err ends.Sink) ended = inr (items, is, ended)
+    by_result (Err (ends.Limit limits.Full)) ended = inr (items, is, reaches-ends _ batch state items old new ended)
+    by_result (Err (ends.Limit limits.Worn)) ended = inr (items, is, reaches-ends _ batch state items old new ended)
+    by_result (Err (ends.Limit limits.NoRoom)) ended = inr (items, is, subst (λ b. StopsAtBatch state 0 0 (steps batch [] items) b new) (append-nil old.said) ended)
+    by_result (Err ends.Source) ended = absurd ended
+    by_result (Err (ends.Input fault)) ended = absurd ended
+    by_result (Err (ends.Store fault)) ended = absurd ended
+    by_result (Err ends.Done) ended = absurd ended
+    by_result (Err ends.Words) ended = absurd ended
+
+-- and what a crash left meanwhile
+pub taken-left : (batch : ℕ) (state : Contents) (input bytes : List ℕ) (items : List Item) (old new : World) → bytes ≡ input → length bytes ≤ load_max → Takes bytes None (Ok items)
+    → LeavesOnly old new (LeftFrom (stage_at_start batch state items) old.said) → LeavesOnly old new (LeftByLoad batch state input old.said)
+taken-left batch state input bytes items old new same short takes left = within left (λ image said may. ⊎_elim
+    (λ (h : Stands image state × SaysFrontOf [] old.said said). inl (h.0, front-empty old.said said h.1))
+    (λ (h : LeftBySteps state 0 0 (steps batch [] items) (old.said ++ []) image said).
+    inr (items, subst (λ (b : List ℕ). IsTaken b (Ok items)) same (short, takes), subst (λ b. LeftBySteps state 0 0 (steps batch [] items) b image said) (append-nil old.said) h))
+    may)
+
+-- ---- reading the whole input
+
+-- nothing is behind no bytes
+none-behind : (front back : List ℕ) → front ++ back ≡ [] → back ≡ []
+none-behind [] back is = is
+none-behind (byte ∷ front) back is = absurd (omega (arith, ap length is))
+
+-- the end of the input was read
+pub read-whole : (input text left next part : List ℕ) → input ≡ text ++ left → left ≡ part ++ next → left ≡ [] → (text ≡ input) × (next ≡ [])
+read-whole input text left next part came given none =
+    (sym (came ∙ ap (λ l. text ++ l) none ∙ append-nil text), none-behind part next (sym given ∙ none))
+
+-- more was read
+pub read-more : (input text left next part longer : List ℕ) → input ≡ text ++ left → left ≡ part ++ next → longer ≡ text ++ part → input ≡ longer ++ next
+read-more input text left next part longer came given is =
+    came ∙ ap (λ l. text ++ l) given ∙ sym (append_assoc text part next) ∙ ap (λ t. t ++ next) (sym is)
+
+-- more than a load may have
+pub read-long : (input text left next buf : List ℕ) (n : ℕ) → input ≡ text ++ left → left ≡ take n buf ++ next → n ≤ length buf → 67108864 < length text + n → load_max < length input
+read-long input text left next buf n came given few more =
+    omega (arith, load_max-is, ap length came, length-append text left, ap length given, length-append (take n buf) next, length-take n buf)
+
+-- a front of what was written over the front of a buffer
+pub take-over : (n len : ℕ) (over rest : List ℕ) → n ≤ length over → length over ≤ len → take n (take len (over ++ rest)) ≡ take n over
+take-over n len over rest few room = take-take n len (over ++ rest) (omega (arith, few, room)) ∙ take-append-le n over rest few

@@ -1,0 +1,12 @@
+use Rattle.load_run.specs.Loading.{stage}
+use Rattle.load_run.proofs.Stages.{lacks-memory}
+use Rattle.load_run.proofs.Moves.{concludes-said}
+use Rattle.load_run.proofs.load.Load.conclude.Goals as goal
+
+pub returns-in-Ok-clause-told : goal.returns-in-Ok-clause-told
+returns-in-Ok-clause-told g c = λ told state holds.
+    let s = c.args.self.now in
+    concludes-said state s.stored s.skipped s.text.items _ (g.T.Disk.world c.args.engine.now.store.disk.now) (g.T.Disk.world c.say_text.new.engine.store.disk.now) c.in-Ok.ensures holds c.say_text.result (c.say_text.ensures.said told) c.say_text.ensures.ends
+
+pub returns-in-Err-clause-told : goal.returns-in-Err-clause-told
+returns-in-Err-clause-told g c = λ told state holds. lacks-memory (stage c.args.self.now state _) (g.T.Disk.world c.args.engine.now.store.disk.now) (Unit {0})

@@ -1,0 +1,40 @@
+use Rattle.std.proofs.Common.{◌≢◌, sym, ◌∙◌, arith}
+use Rattle.std.proofs.lemmas.Bool.{false≢true}
+use Rattle.irtree_engine.specs.declared.fault.EngineFault.TheVariants as engine
+use Rattle.load_run.proofs.Batches.{failed, outcome-holds, not-stored, not-stored-cause}
+use Rattle.load_run.proofs.load.store_batch.Goals as goal
+
+pub returns-in-Ok-clause-told : goal.returns-in-Ok-clause-told
+returns-in-Ok-clause-told g c = λ told state holds. record {
+  said = c.in-Ok.ensures.silent told;
+  left = c.in-Ok.ensures.any_moment told state holds;
+  stored = c.in-Ok.ensures.applied told state holds;
+  unstored = tt;
+}
+
+pub returns-in-Ok-clause-cause : goal.returns-in-Ok-clause-cause
+returns-in-Ok-clause-cause g c = record {
+  faults = c.in-Ok.ensures.later;
+  sink = omega (arith, c.in-Ok.ensures.sink);
+  stands = λ told state holds. let came = outcome-holds _ _ (c.in-Ok.ensures.applied told state holds) in (came.0, came.2);
+  cause = tt;
+}
+
+pub returns-in-Err-clause-told : goal.returns-in-Err-clause-told
+returns-in-Err-clause-told g c = λ told state holds.
+    let was = c.in-Err.ensures in
+    let on : failed c.in-Err.fault ≢ failed engine.Stopped = λ e. false≢true (sym c.requires.on ∙ was.stopped.0 e) in
+    record {
+      said = was.silent told;
+      left = was.any_moment told state holds;
+      stored = tt;
+      unstored = rw c.ended_by.ensures (not-stored state c.args.updates.now (g.T.Disk.world c.args.engine.now.store.disk.now) (g.T.Disk.world c.apply_batch.new.self.store.disk.now) c.in-Err.fault was.causes on
+          (was.due told state holds) (λ other. was.rests told (was.goes_on other)) holds);
+    }
+
+pub returns-in-Err-clause-cause : goal.returns-in-Err-clause-cause
+returns-in-Err-clause-cause g c =
+    let was = c.in-Err.ensures in
+    let on : failed c.in-Err.fault ≢ failed engine.Stopped = λ e. false≢true (sym c.requires.on ∙ was.stopped.0 e) in
+    rw c.ended_by.ensures (not-stored-cause g.T.Disk.tells c.args.updates.now (g.T.Disk.world c.args.engine.now.store.disk.now) (g.T.Disk.world c.apply_batch.new.self.store.disk.now) c.in-Err.fault (Unit {0}) was.causes on
+    was.disk was.due was.later was.sink)

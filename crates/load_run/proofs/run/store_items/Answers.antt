@@ -1,0 +1,70 @@
+use Rattle.std.proofs.Common.{List, length, map, refl, sym, subst, ap, ◌∙◌, arith}
+use Rattle.std.specs.List.{All}
+use Rattle.std.specs.Vec.Iter.{into_iter_items}
+use Rattle.std.proofs.lemmas.List.Elements.{All-tail}
+use Rattle.geojson_points.specs.Takes.{HasTextKey, item_of}
+use Rattle.geojson_points.specs.declared.taken.Taken.{Taken}
+use Rattle.load_run.specs.Loading.{stage_at_start}
+use Rattle.load_run.proofs.Causes.{engine-none, engine-then}
+use Rattle.load_run.proofs.Stages.{goes-as, goes-concludes, goes-then}
+use Rattle.load_run.proofs.Lists.{empty-list}
+use Rattle.load_run.proofs.Moves.{goes-items}
+use Rattle.load_run.proofs.run.store_items.Goals as goal
+
+pub loop-item-init : goal.loop-item-init
+loop-item-init g c =
+    let gives = c.into_iter-item-iterator.ensures.into_iter_gives in
+    let old = g.T.Disk.world c.args.engine.now.store.disk.now in
+    record {
+      can = tt;
+      finite = tt;
+      count = omega (arith, gives.1, ap length gives.0);
+      few = omega (arith, gives.1, c.requires.count, c.new-load.ensures.none);
+      on = c.requires.on;
+      loan = refl;
+      waits = c.new-load.ensures.waits;
+      keys = subst (λ (xs : List Taken). All (λ item. HasTextKey (item_of item)) xs) (sym gives.0) c.requires.keys;
+      told = λ told state holds.
+          let same = c.new-load.ensures.stage state _ ∙ ap (λ (xs : List Taken). stage_at_start c.args.batch state (map item_of xs)) gives.0 in
+          (state, goes-as _ _ old (sym same) holds);
+      cause = engine-none g.T.Disk.tells old (Unit {0}) tt;
+    }
+
+pub loop-item-preserved : goal.loop-item-preserved
+loop-item-preserved g c =
+    let keys = subst (λ (xs : List Taken). All (λ item. HasTextKey (item_of item)) xs) c.in-Some.ensures.steps.0 c.loop-item.invariant.keys in
+    record {
+      can = tt;
+      finite = tt;
+      count = omega (arith, c.loop-item.invariant.count, c.in-Some.ensures.steps.1, ap length c.in-Some.ensures.steps.0);
+      few = omega (arith, c.loop-item.invariant.few, c.in-Some.ensures.steps.1, c.in-Ok.ensures.count);
+      on = c.in-Ok.ensures.on;
+      loan = c.in-Ok.ensures.same_loan ∙ c.loop-item.invariant.loan;
+      waits = c.in-Ok.ensures.waits;
+      keys = All-tail (λ (item : Taken). HasTextKey (item_of item)) _ _ keys;
+      told = λ told state holds.
+          let sofar = c.loop-item.invariant.told told state holds in
+          let here = goes-items _ c.loop-item.load sofar.0 _ _ _ _ c.in-Some.ensures.steps.0 sofar.1 in
+          let next = c.in-Ok.ensures.told told sofar.0 (map item_of (into_iter_items c.next.new.self)) here.holds in
+          (next.0, goes-then here next.1);
+      cause = engine-then c.loop-item.invariant.cause _ c.in-Ok.ensures.cause;
+    }
+
+pub returns-in-Err-clause-told : goal.returns-in-Err-clause-told
+returns-in-Err-clause-told g c = λ told state holds.
+    let sofar = c.loop-item.invariant.told told state holds in
+    let here = goes-items _ c.loop-item.load sofar.0 _ _ _ _ c.in-Some.ensures.steps.0 sofar.1 in
+    goes-concludes here (c.in-Err.ensures.told told sofar.0 (map item_of (into_iter_items c.next.new.self)) here.holds)
+
+pub returns-in-Err-clause-cause : goal.returns-in-Err-clause-cause
+returns-in-Err-clause-cause g c = engine-then c.loop-item.invariant.cause _ c.in-Err.ensures.cause
+
+pub returns-clause-told : goal.returns-clause-told
+returns-clause-told g c = λ told state holds.
+    let sofar = c.loop-item.invariant.told told state holds in
+    let none = empty-list (into_iter_items c.loop-item.item-iterator) _ c.loop-item.invariant.count c.in-None.ensures.steps.0 in
+    let here = goes-items _ c.loop-item.load sofar.0 _ _ _ _ none sofar.1 in
+    goes-concludes here (c.end.ensures.told told sofar.0 here.holds)
+
+pub returns-clause-cause : goal.returns-clause-cause
+returns-clause-cause g c = engine-then c.loop-item.invariant.cause _ c.end.ensures.cause

@@ -1,0 +1,26 @@
+use Rattle.std.proofs.Common.{◌≡◌, ◌+◌, ◌^◌, ◌<◌, false, length, map}
+use Rattle.std.specs.List.{All}
+use Rattle.std.specs.Prelude.{IsTrue, Ok}
+use Rattle.std.specs.Vec.Iter.{into_iter_items, into_iter_len}
+use Rattle.place_map.specs.State.{Contents}
+use Rattle.geojson_points.specs.Takes.{HasTextKey, item_of}
+use Rattle.irtree_engine.specs.Holding.{HoldsState}
+use Rattle.run_ends.specs.Causes.{HasEngineEnd}
+use Rattle.load_run.specs.Loading.{CanWait, Goes, acted_on, stage_at_start, stage_before}
+use Rattle.load_run.proofs.run.store_items.Given as goal
+
+abbrev pub invariant-loop-item : goal.invariant-loop-item
+invariant-loop-item g l = record {
+  can : (goal.iterator-loop-item g).can_next l.item-iterator;
+  finite : (goal.iterator-loop-item g).is_finite l.item-iterator;
+  count : into_iter_len l.item-iterator ≡ length (into_iter_items l.item-iterator);
+  few : acted_on l.load + into_iter_len l.item-iterator < 2 ^ 32;
+  on : l.engine.stopped ≡ false;
+  loan : l.engine.store.disk.ghost_name ≡ l.fn.engine.store.disk.ghost_name;
+  waits : CanWait l.load;
+  keys : All (λ item. HasTextKey (item_of item)) (into_iter_items l.item-iterator);
+  told : IsTrue g.T.Disk.tells → (state : Contents) → HoldsState (g.T.Disk.world l.fn.engine.store.disk.now) state
+      → (now : Contents) × Goes (stage_at_start l.fn.batch state (map item_of l.fn.items.items)) (stage_before l.load now (map item_of (into_iter_items l.item-iterator)))
+      (g.T.Disk.world l.fn.engine.store.disk.now) (g.T.Disk.world l.engine.store.disk.now);
+  cause : HasEngineEnd {T = Unit {0}} g.T.Disk.tells (g.T.Disk.world l.fn.engine.store.disk.now) (g.T.Disk.world l.engine.store.disk.now) (Ok tt);
+}

@@ -1,0 +1,263 @@
+// A load, item by item, over an engine.
+ghost use Rattle.std.specs.Prelude.{◌≡◌, ◌≤◌, ◌<◌, ◌+◌, ◌^◌, ◌∷◌, [], List, length, false, IsTrue, IfOk, IfErr, OnOk};
+ghost use Rattle.std.specs.List.{AllByRecursion};
+ghost use Rattle.place_map.specs.State.{Contents};
+ghost use Rattle.place_map.specs.declared.update.Update.{Update};
+ghost use Rattle.geojson_points.specs.Takes.{Item, Placed, Skipped, HasTextKey, item_of, place_of};
+ghost use Rattle.irtree_engine.specs.Holding.{HoldsState};
+ghost use Rattle.irtree_engine.specs.Updates.{NamesText};
+ghost use Rattle.run_ends.specs.Causes.{HasEngineEnd};
+ghost use Rattle.run_ends.specs.Load.{Step, Store, put_of};
+ghost use Rattle.run_ends.specs.Said.{SaysAll};
+ghost use Rattle.load_run.specs.Loading.{CanWait, Concludes, HasStored, Moves, StoresAll, acted_on, stage, stage_at_start, stage_before};
+
+use crate::lines::{write_loaded, write_skip, write_stored};
+use disk_model::Station;
+use geojson_points::{Draft, SkipReason, Taken};
+use irtree_engine::Engine;
+use place_map::Update;
+use run_ends::{Ended, ended_by, say_all};
+use std::alloc::Global;
+use std::mem;
+use term_impacts::impacts;
+
+/// How many bytes of skips wait to be said at most, but for the last line.
+const TEXT_KEPT: usize = 65_536;
+
+/// The places that wait for a full batch, how many items were acted on, and the text that waits to be said.
+#[derive(Drop)]
+pub(crate) struct Load {
+    alloc: Global,
+    batch: u32,
+    waiting: Vec<Update>,
+    stored: u64,
+    skipped: u64,
+    text: Vec<u8>,
+}
+
+// Says what waits to be said.
+fn say_text<'d, T: Station>(text: &mut Vec<u8>, engine: &mut Engine<'d, T>) -> Result<(), Ended>
+    requires on { engine.old.stopped ≡ false }
+    ensures same_loan { engine.new.store.disk.ghost_name ≡ engine.old.store.disk.ghost_name }
+    ensures none { OnOk result (text.new.items ≡ []) }
+    ensures said { IsTrue T.tells → SaysAll text.old.items (T.world engine.old.store.disk.now) (T.world engine.new.store.disk.now) result }
+    ensures on { engine.new.stopped ≡ false }
+    ensures ends { IfErr result (λ end. end ≡ Ended.Sink) }
+    ensures cause { HasEngineEnd T.tells (T.world engine.old.store.disk.now) (T.world engine.new.store.disk.now) result }
+{
+    match say_all(engine, &*text) {
+        Ok(()) => {
+            text.clear();
+            Ok(())
+        }
+        Err(_) => Err(Ended::Sink),
+    }
+}
+
+// Stores updates in one commit.
+fn store_batch<'d, T: Station>(engine: &mut Engine<'d, T>, updates: &[Update]) -> Result<(), Ended>
+    requires on { engine.old.stopped ≡ false }
+    requires few { length updates.now ≤ 10000 }
+    requires keys { AllByRecursion NamesText updates.now }
+    ensures same_loan { engine.new.store.disk.ghost_name ≡ engine.old.store.disk.ghost_name }
+    ensures told { IsTrue T.tells → (state : Contents) → HoldsState (T.world engine.old.store.disk.now) state
+        → StoresAll state updates.now (T.world engine.old.store.disk.now) (T.world engine.new.store.disk.now) result }
+    ensures on { OnOk result (engine.new.stopped ≡ false) }
+    ensures cause { HasEngineEnd T.tells (T.world engine.old.store.disk.now) (T.world engine.new.store.disk.now) result }
+{
+    match engine.apply_batch(updates) {
+        Ok(()) => Ok(()),
+        Err(fault) => Err(ended_by(fault)),
+    }
+}
+
+// The update that stores a place.
+fn update_of(alloc: Global, draft: Draft) -> Result<Update, Ended>
+    ensures ok { IfOk result (λ update. update ≡ put_of (place_of draft)) }
+    ensures err { IfErr result (λ end. end ≡ Ended.Memory) }
+{
+    match impacts(alloc, draft.text.as_str()) {
+        Ok(words) => Ok(Update::Put {
+            key: draft.id,
+            point: draft.point,
+            words,
+        }),
+        Err(_) => Err(Ended::Memory),
+    }
+}
+
+impl Load {
+    /// A load that has acted on no item.
+    pub(crate) fn new(alloc: Global, batch: u32) -> Load
+        requires { batch ≤ 10000 }
+        ensures stage { (state : Contents) (items : List Item) → stage_before result state items ≡ stage_at_start batch state items }
+        ensures none { acted_on result ≡ 0 }
+        ensures waits { CanWait result }
+    {
+        Load {
+            alloc,
+            batch,
+            waiting: Vec::new(alloc),
+            stored: 0,
+            skipped: 0,
+            text: Vec::new(alloc),
+        }
+    }
+
+    /// Acts on an item: says that it is passed over, or stores its place as soon as a batch is full.
+    pub(crate) fn take_item<'d, T: Station>(
+        &mut self,
+        engine: &mut Engine<'d, T>,
+        item: Taken,
+    ) -> Result<(), Ended>
+        requires on { engine.old.stopped ≡ false }
+        requires count { acted_on self.old < 2 ^ 32 }
+        requires waits { CanWait self.old }
+        requires key { HasTextKey (item_of item) }
+        ensures same_loan { engine.new.store.disk.ghost_name ≡ engine.old.store.disk.ghost_name }
+        ensures told { IsTrue T.tells → (state : Contents) (items : List Item) → HoldsState (T.world engine.old.store.disk.now) state
+            → Moves (stage_before self.old state (item_of item ∷ items)) (λ after. stage_before self.new after items)
+            (T.world engine.old.store.disk.now) (T.world engine.new.store.disk.now) result }
+        ensures on { OnOk result (engine.new.stopped ≡ false) }
+        ensures count { OnOk result (acted_on self.new ≡ acted_on self.old + 1) }
+        ensures waits { OnOk result (CanWait self.new) }
+        ensures cause { HasEngineEnd T.tells (T.world engine.old.store.disk.now) (T.world engine.new.store.disk.now) result }
+    {
+        match item {
+            Taken::Place(draft) => self.place(engine, draft),
+            Taken::Skipped(index, reason) => self.skip(engine, index, reason),
+        }
+    }
+
+    // Says that an item is passed over, or keeps that to be said with what comes next.
+    fn skip<'d, T: Station>(
+        &mut self,
+        engine: &mut Engine<'d, T>,
+        index: u32,
+        reason: SkipReason,
+    ) -> Result<(), Ended>
+        requires on { engine.old.stopped ≡ false }
+        requires count { acted_on self.old < 2 ^ 32 }
+        requires waits { CanWait self.old }
+        ensures same_loan { engine.new.store.disk.ghost_name ≡ engine.old.store.disk.ghost_name }
+        ensures told { IsTrue T.tells → (state : Contents) (items : List Item) → HoldsState (T.world engine.old.store.disk.now) state
+            → Moves (stage_before self.old state (Skipped index reason ∷ items)) (λ after. stage_before self.new after items)
+            (T.world engine.old.store.disk.now) (T.world engine.new.store.disk.now) result }
+        ensures on { OnOk result (engine.new.stopped ≡ false) }
+        ensures count { OnOk result (acted_on self.new ≡ acted_on self.old + 1) }
+        ensures waits { OnOk result (CanWait self.new) }
+        ensures cause { HasEngineEnd T.tells (T.world engine.old.store.disk.now) (T.world engine.new.store.disk.now) result }
+    {
+        match write_skip(index, reason, &mut self.text) {
+            Ok(()) => {}
+            Err(_) => return Err(Ended::Memory),
+        }
+        self.skipped += 1;
+        if self.text.len() < TEXT_KEPT {
+            return Ok(());
+        }
+        say_text(&mut self.text, engine)
+    }
+
+    // Lets a place wait, and stores all that wait where they are a batch.
+    fn place<'d, T: Station>(
+        &mut self,
+        engine: &mut Engine<'d, T>,
+        draft: Draft,
+    ) -> Result<(), Ended>
+        requires on { engine.old.stopped ≡ false }
+        requires count { acted_on self.old < 2 ^ 32 }
+        requires waits { CanWait self.old }
+        requires key { HasTextKey (Placed (place_of draft)) }
+        ensures same_loan { engine.new.store.disk.ghost_name ≡ engine.old.store.disk.ghost_name }
+        ensures told { IsTrue T.tells → (state : Contents) (items : List Item) → HoldsState (T.world engine.old.store.disk.now) state
+            → Moves (stage_before self.old state (Placed (place_of draft) ∷ items)) (λ after. stage_before self.new after items)
+            (T.world engine.old.store.disk.now) (T.world engine.new.store.disk.now) result }
+        ensures on { OnOk result (engine.new.stopped ≡ false) }
+        ensures count { OnOk result (acted_on self.new ≡ acted_on self.old + 1) }
+        ensures waits { OnOk result (CanWait self.new) }
+        ensures cause { HasEngineEnd T.tells (T.world engine.old.store.disk.now) (T.world engine.new.store.disk.now) result }
+    {
+        let update = match update_of(self.alloc, draft) {
+            Ok(update) => update,
+            Err(end) => return Err(end),
+        };
+        let mut updates = mem::replace(&mut self.waiting, Vec::new(self.alloc));
+        match updates.push(update) {
+            Ok(()) => {}
+            Err(_) => return Err(Ended::Memory),
+        }
+        if updates.len() < self.batch as usize {
+            self.waiting = updates;
+            return Ok(());
+        }
+        self.store(engine, &updates)
+    }
+
+    // Says what waits to be said, stores the places, and says so.
+    fn store<'d, T: Station>(
+        &mut self,
+        engine: &mut Engine<'d, T>,
+        updates: &[Update],
+    ) -> Result<(), Ended>
+        requires on { engine.old.stopped ≡ false }
+        requires count { self.old.stored < 2 ^ 33 }
+        requires few { length updates.now ≤ 10000 }
+        requires keys { AllByRecursion NamesText updates.now }
+        ensures same_loan { engine.new.store.disk.ghost_name ≡ engine.old.store.disk.ghost_name }
+        ensures told { IsTrue T.tells → (state : Contents) (rest : List Step) → HoldsState (T.world engine.old.store.disk.now) state
+            → Moves (stage self.old state (Store updates.now ∷ rest)) (λ after. stage self.new after rest)
+            (T.world engine.old.store.disk.now) (T.world engine.new.store.disk.now) result }
+        ensures on { OnOk result (engine.new.stopped ≡ false) }
+        ensures counts { OnOk result (HasStored (length updates.now) self.old self.new) }
+        ensures cause { HasEngineEnd T.tells (T.world engine.old.store.disk.now) (T.world engine.new.store.disk.now) result }
+    {
+        match say_text(&mut self.text, &mut *engine) {
+            Ok(()) => {}
+            Err(end) => return Err(end),
+        }
+        match store_batch(&mut *engine, updates) {
+            Ok(()) => {}
+            Err(end) => return Err(end),
+        }
+        self.stored += updates.len() as u64;
+        match write_stored(self.stored, &mut self.text) {
+            Ok(()) => say_text(&mut self.text, engine),
+            Err(_) => Err(Ended::Memory),
+        }
+    }
+
+    /// Stores the places that are left over, and says how many were stored and passed over.
+    pub(crate) fn end<'d, T: Station>(&mut self, engine: &mut Engine<'d, T>) -> Result<(), Ended>
+        requires on { engine.old.stopped ≡ false }
+        requires count { acted_on self.old < 2 ^ 33 }
+        requires waits { CanWait self.old }
+        ensures same_loan { engine.new.store.disk.ghost_name ≡ engine.old.store.disk.ghost_name }
+        ensures told { IsTrue T.tells → (state : Contents) → HoldsState (T.world engine.old.store.disk.now) state
+            → Concludes (stage_before self.old state []) (T.world engine.old.store.disk.now) (T.world engine.new.store.disk.now) result }
+        ensures cause { HasEngineEnd T.tells (T.world engine.old.store.disk.now) (T.world engine.new.store.disk.now) result }
+    {
+        let updates = mem::replace(&mut self.waiting, Vec::new(self.alloc));
+        if updates.is_empty() {
+            return self.conclude(engine);
+        }
+        match self.store(&mut *engine, &updates) {
+            Ok(()) => self.conclude(engine),
+            Err(end) => Err(end),
+        }
+    }
+
+    // Says how many places were stored and how many items were passed over.
+    fn conclude<'d, T: Station>(&mut self, engine: &mut Engine<'d, T>) -> Result<(), Ended>
+        requires on { engine.old.stopped ≡ false }
+        ensures same_loan { engine.new.store.disk.ghost_name ≡ engine.old.store.disk.ghost_name }
+        ensures told { IsTrue T.tells → (state : Contents) → HoldsState (T.world engine.old.store.disk.now) state
+            → Concludes (stage self.old state []) (T.world engine.old.store.disk.now) (T.world engine.new.store.disk.now) result }
+        ensures cause { HasEngineEnd T.tells (T.world engine.old.store.disk.now) (T.world engine.new.store.disk.now) result }
+    {
+        match write_loaded(self.stored, self.skipped, &mut self.text) {
+            Ok(()) => say_text(&mut self.text, engine),
+            Err(_) => Err(Ended::Memory),
+        }
+    }
+}
