@@ -1,0 +1,4 @@
+pub mod Cuts
+pub mod Loads
+pub mod Replies
+pub mod Scripts
