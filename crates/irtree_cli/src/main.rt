@@ -1,15 +1,16 @@
-//! The program `irtree`: the words of the command line, standard input and standard output for `irtree_top::run`.
+//! The program `irtree`: the words of the command line, standard input, standard output and the files of a store for
+//! `irtree_top::run`.
 //!
-//! Its exit status is that of the end, whose line goes to standard error. That the system's streams meet the traits
-//! of a source and a station is the premise of the program; what is read and said is `run`'s to prove.
+//! Its exit status is that of the end, whose line goes to standard error. That the system's streams and files meet the traits
+//! of a source and a station is the premise of the program; what is read, kept and said is `run`'s to prove.
 #![tactic(auto)]
 
-use irtree_top::{Ended, run};
+use irtree_top::{Ended, WordsFault, read_words, run};
 use spatial_base::Memory;
 use std::alloc::Global;
 use std::io::{ErrorKind, Write};
 use std::process::ExitCode;
-use std_devices::{ScratchStation, StdSource};
+use std_devices::{FileStation, ScratchStation, StdSource};
 
 // The words behind the program's own name. Words that are no UTF-8 are refused, as words that are no command are.
 fn words(rt: &HostRuntime) -> Result<Vec<String>, Ended> {
@@ -24,15 +25,47 @@ fn words(rt: &HostRuntime) -> Result<Vec<String>, Ended> {
     Ok(words)
 }
 
-// Runs on the words given, over the standard streams.
+// The store that words name, where it is one of files: they are accepted, and it isn't `-`.
+fn store_of(alloc: Global, words: &[String]) -> Result<Option<String>, Memory> {
+    match read_words(alloc, words) {
+        Ok(job) if job.store.as_str() != "-" => Ok(Some(job.store)),
+        Ok(_) | Err(WordsFault::Line) => Ok(None),
+        Err(WordsFault::Memory) => Err(Memory),
+    }
+}
+
+// Runs over the files of a store, and says on standard error why a call on them failed.
+fn run_on_files(rt: &HostRuntime, words: &[String], store: &str) -> Result<Ended, Memory> {
+    let mut source = StdSource::new(rt.stdin());
+    let mut station = FileStation::new(rt.alloc(), rt, store, rt.stdout())?;
+    let end = run(rt.alloc(), words, &mut source, &mut station);
+    if end == Ended::Disk {
+        if let Some(trouble) = station.trouble() {
+            // Where standard error takes nothing, the status alone tells.
+            let _ = eprintln!(rt; "irtree: {}", trouble.text());
+        }
+    }
+    Ok(end)
+}
+
+// Runs over a store in memory, which ends with the run.
+fn run_in_memory(rt: &HostRuntime, words: &[String]) -> Ended {
+    let mut source = StdSource::new(rt.stdin());
+    let mut station = ScratchStation::new(rt.alloc(), rt.stdout());
+    run(rt.alloc(), words, &mut source, &mut station)
+}
+
+// Runs on the words given, over the standard streams and the store that they name.
 fn run_words(rt: &HostRuntime) -> Ended {
     let words = match words(rt) {
         Ok(words) => words,
         Err(end) => return end,
     };
-    let mut source = StdSource::new(rt.stdin());
-    let mut station = ScratchStation::new(rt.alloc(), rt.stdout());
-    run(rt.alloc(), &words, &mut source, &mut station)
+    match store_of(rt.alloc(), &words) {
+        Ok(Some(store)) => run_on_files(rt, &words, &store).unwrap_or(Ended::Memory),
+        Ok(None) => run_in_memory(rt, &words),
+        Err(Memory) => Ended::Memory,
+    }
 }
 
 // The end's line, on standard error.

@@ -1,18 +1,64 @@
--- Fronts of a text that is said piece by piece.
-use Rattle.std.proofs.Common.{◌≡◌, ℕ, zero, suc, ◌+◌, List, [], ◌∷◌, ◌++◌, take, drop, sym, ap, ◌∙◌, arith, append_assoc, zero-add}
-use native.Mathlib.Numerals.{unary_clauses}
+-- Fronts of what a run says.
+use Rattle.std.proofs.Common.{◌≡◌, ℕ, suc, ◌+◌, ⊎_elim, List, [], ◌∷◌, ◌++◌, length, take, sym, ap, ◌∙◌, arith, append_assoc, zero-add}
+use Rattle.std.specs.Prelude.{Result, Ok, Err}
+use Rattle.std.proofs.lemmas.List.{append-nil, take_all}
+use Rattle.disk_model.specs.World.{World}
+use Rattle.place_map.specs.State.{Contents}
+use Rattle.place_map.specs.declared.update.UpdateFault.{UpdateFault}
+use Rattle.irtree_engine.specs.Updates.{state_after_all}
+use Rattle.run_ends.specs.Left.{StopsAtBatch, StopsAtLine, StopsBehind}
+use Rattle.run_ends.specs.Load.{Step, Skip, Store, load, skip_line, stored_line, stores}
+use Rattle.run_ends.specs.Said.{EndsAs, SaysFrontOf}
+use Rattle.run_ends.specs.Script.{script, turn}
+use Rattle.run_ends.specs.Turn.{Transcript, End}
 
--- a front, and a front of what is behind it
-pub take-take-drop : {X : Type 0} (m n : ℕ) (xs : List X) → take m xs ++ take n (drop m xs) ≡ take (m + n) xs
-take-take-drop zero n xs = ap (λ k. take k xs) (sym (zero-add n))
-take-take-drop (suc m) zero [] = simp unary_clauses
-take-take-drop (suc m) (suc n) [] = simp unary_clauses
-take-take-drop (suc m) n (x ∷ xs) =
-    let one_more : suc (m + n) ≡ suc m + n = omega arith in
-    ap (λ l. x ∷ l) (take-take-drop m n xs) ∙ ap (λ k. take k (x ∷ xs)) one_more
+-- nothing is a front
+pub none-said : (text before : List ℕ) (now : List ℕ) → now ≡ before → SaysFrontOf text before now
+none-said text before now is = (0, is ∙ sym (append-nil before))
 
--- a longer front was said
-pub front-more : (bytes rest old now new : List ℕ) (at n : ℕ) → rest ≡ drop at bytes → now ≡ old ++ take at bytes → new ≡ now ++ take n rest → new ≡ old ++ take (at + n) bytes
-front-more bytes rest old now new at n behind was is =
-    is ∙ ap (λ s. s ++ take n rest) was ∙ append_assoc old (take at bytes) (take n rest)
-    ∙ ap (λ s. old ++ (take at bytes ++ take n s)) behind ∙ ap (λ s. old ++ s) (take-take-drop at n bytes)
+-- the whole is one
+pub whole-said : (wanted : End) (whole : Transcript) (old new : World) → EndsAs wanted whole old new → SaysFrontOf whole.turn.text old.said new.said
+whole-said wanted whole old new ends =
+    let text = whole.turn.text in
+    (length text, ends.said ∙ ap (λ t. old.said ++ t) (sym (take_all (length text) text (omega arith))))
+
+-- a front of what is behind some bytes
+take-behind : (xs ys : List ℕ) (k : ℕ) → take (length xs + k) (xs ++ ys) ≡ xs ++ take k ys
+take-behind [] ys k = ap (λ n. take n ys) (zero-add k)
+take-behind (x ∷ xs) ys k =
+    let one_more : suc (length xs) + k ≡ suc (length xs + k) = omega arith in
+    ap (λ n. take n (x ∷ xs ++ ys)) one_more ∙ ap (λ l. x ∷ l) (take-behind xs ys k)
+
+-- what was said and a front of what follows is a front of both
+pub front-behind : (text rest before now : List ℕ) → SaysFrontOf rest (before ++ text) now → SaysFrontOf (text ++ rest) before now
+front-behind text rest before now says =
+    (length text + says.0, says.1 ∙ append_assoc before text (take says.0 rest) ∙ ap (λ t. before ++ t) (sym (take-behind text rest says.0)))
+
+-- where a script stops for want of room, a front of its text was said
+pub line-front : (state : Contents) (lines : List (List ℕ)) (before : List ℕ) (now : World) → StopsAtLine state lines before now → SaysFrontOf (script state lines).text before now.said
+unfolding script
+line-front state [] before now stops = absurd stops
+line-front state (line ∷ lines) before now stops = ⊎_elim
+    (λ here. none-said _ before now.said here.1)
+    (λ behind. front-behind (turn state line).text (script (turn state line).state lines).text before now.said (line-front (turn state line).state lines (before ++ (turn state line).text) now behind))
+    stops
+
+-- and so it is with a load
+pub batch-front : (state : Contents) (stored skipped : ℕ) (steps : List Step) (before : List ℕ) (now : World) → StopsAtBatch state stored skipped steps before now → SaysFrontOf (load state stored skipped steps).turn.text before now.said
+unfolding load
+batch-front state stored skipped [] before now stops = absurd stops
+batch-front state stored skipped (Skip index reason ∷ rest) before now stops =
+    front-behind (skip_line index reason) (load state stored (skipped + 1) rest).turn.text before now.said (batch-front state stored (skipped + 1) rest (before ++ skip_line index reason) now stops)
+batch-front state stored skipped (Store updates ∷ rest) before now stops = ⊎_elim
+    (λ here. none-said _ before now.said here.0)
+    (behind (λ after next. batch-front after (stored + length updates) skipped rest (before ++ stored_line (stored + length updates)) now next) (state_after_all state updates))
+    stops
+  where
+    line : List ℕ
+    line = stored_line (stored + length updates)
+
+    behind : ((after : Contents) → StopsAtBatch after (stored + length updates) skipped rest (before ++ line) now → SaysFrontOf (load after (stored + length updates) skipped rest).turn.text (before ++ line) now.said)
+        → (outcome : Result Contents UpdateFault) → StopsBehind outcome (λ after. StopsAtBatch after (stored + length updates) skipped rest (before ++ line) now)
+        → SaysFrontOf (stores state updates line outcome (λ after. load after (stored + length updates) skipped rest)).turn.text before now.said
+    behind rests (Ok after) next = front-behind line (load after (stored + length updates) skipped rest).turn.text before now.said (rests after next)
+    behind rests (Err fault) next = absurd next

@@ -1,78 +1,169 @@
--- How a job ends.
-use Rattle.std.proofs.Common.{◌≡◌, ℕ, List, refl, sym, subst, ◌∙◌}
+-- How a job ends, and what a crash leaves of it.
+use Rattle.std.proofs.Common.{◌≡◌, ℕ, ⊎_elim, List, [], ◌++◌, take, refl, sym, ap, subst, ◌∙◌}
 use Rattle.std.specs.Prelude.{Result, Ok, Err}
-use Rattle.place_map.specs.State.{opening}
-use Rattle.irtree_top.specs.declared.ended.Ended.{Ended}
-use Rattle.irtree_top.specs.declared.ended.Ended.TheVariants as ends
+use Rattle.std.proofs.lemmas.List.{append-nil}
+use Rattle.disk_model.specs.World.{World}
+use Rattle.place_map.specs.State.{Contents}
+use Rattle.geojson_points.specs.Takes.{Item}
+use Rattle.load_run.specs.Loading.{EndsLoad, StopsItems}
+use Rattle.run_ends.specs.Left.{StopsAtBatch, StopsAtLine}
+use Rattle.run_ends.specs.Load.{IsTaken, load_transcript, steps}
+use Rattle.run_ends.specs.Said.{EndsAs, SaysFrontOf}
+use Rattle.run_ends.specs.Script.{cut, script, script_lines, script_transcript}
+use Rattle.run_ends.specs.Turn.{Transcript, End}
+use Rattle.run_ends.specs.declared.ended.Ended.{Ended}
+use Rattle.run_ends.specs.declared.ended.Ended.TheVariants as ends
+use Rattle.run_ends.specs.declared.ended.InputFault.{InputFault}
+use Rattle.run_ends.specs.declared.ended.LimitFault.{LimitFault}
+use Rattle.run_ends.specs.declared.ended.LimitFault.TheVariants as limits
+use Rattle.script_run.specs.Standing.{EndsScript}
 use Rattle.irtree_top.specs.declared.words.Action.{Action}
 use Rattle.irtree_top.specs.declared.words.Action.TheVariants.{Run, Load}
-use Rattle.irtree_top.specs.declared.words.Job.{Job}
-use Rattle.irtree_top.specs.Turn.{Transcript, End}
-use Rattle.irtree_top.specs.Script.{script_transcript}
-use Rattle.irtree_top.specs.Run.{SaysFrontOf, SaysFront, EndsBy, SaysWhatWasRead}
-use Rattle.irtree_top.specs.Standing.{EndsAs, EndsScript, EndsJob}
-use Rattle.irtree_top.specs.Transcript.{IsTranscriptBy, IsTranscript}
-use Rattle.irtree_top.proofs.Endings.{whole-front}
-use Rattle.irtree_top.proofs.Outcomes.{OutcomeIsOne, OutcomeIsSome, load-one, load-some}
+use Rattle.irtree_top.specs.Run.{EndsBy, EndsJob, SaysFront, SaysWhatWasRead, StopsAtLimit, StopsForRoom}
+use Rattle.irtree_top.specs.Transcript.{IsTranscript, IsTranscriptBy}
+use Rattle.irtree_top.specs.Words.{Asked}
+use Rattle.irtree_top.proofs.Fronts.{batch-front, line-front, none-said, whole-said}
+use Rattle.irtree_top.proofs.Transcripts.{OutcomeIsOne, taken-one}
 
-module _ (job : Job) (input left old new : List ℕ) (runs : job.action ≡ Run) where
-  script-is : IsTranscript opening job input (script_transcript opening input)
-  script-is = subst (λ a. IsTranscriptBy a job.batch opening input (script_transcript opening input)) (sym runs) refl
+-- ---- a script
 
-  script-front : SaysFrontOf (script_transcript opening input).turn.text old new → SaysFront job input old new
-  script-front says whole is =
-      let same : whole ≡ script_transcript opening input = subst (λ a. IsTranscriptBy a job.batch opening input whole) runs is in
-      subst (λ (t : Transcript). SaysFrontOf t.turn.text old new) (sym same) says
+module _ (asked : Asked) (state : Contents) (input : List ℕ) (runs : asked.action ≡ Run) where
+  -- its transcript
+  script-is : IsTranscript state asked input (script_transcript state input)
+  script-is = subst (λ a. IsTranscriptBy a asked.batch state input (script_transcript state input)) (sym runs) refl
 
-  script-by : (wanted : End) → EndsAs wanted (script_transcript opening input) old new → EndsBy wanted job input old new
-  script-by wanted says = record { whole = script_transcript opening input; is = script-is; end = says.end; said = says.said }
+  -- and no other
+  pub script-only : (whole : Transcript) → IsTranscript state asked input whole → whole ≡ script_transcript state input
+  script-only whole is = subst (λ a. IsTranscriptBy a asked.batch state input whole) runs is
+
+  script-front : (old new : World) → SaysFrontOf (script_transcript state input).turn.text old.said new.said → SaysFront asked state input old new
+  script-front old new says whole is = subst (λ (t : Transcript). SaysFrontOf t.turn.text old.said new.said) (sym (script-only whole is)) says
+
+  script-by : (wanted : End) (old new : World) → EndsAs wanted (script_transcript state input) old new → EndsBy wanted asked state input old new
+  script-by wanted old new ends = record { whole = script_transcript state input; is = script-is; ends = ends }
 
   -- a script ends as a job that runs one
-  pub script-ends : {T : Type 0} (result : Result T Ended) → EndsScript input left old new result → EndsJob job input left old new result
-  script-ends (Ok done) says = (script-by _ says.0, says.1)
-  script-ends (Err ends.Memory) says = script-front says
-  script-ends (Err ends.Sink) says = script-front says
-  script-ends (Err ends.Source) says = (subst (λ a. SaysWhatWasRead a input left old new) (sym runs) says.0, script-front says.1)
-  script-ends (Err (ends.Input fault)) says = script-by _ says
-  script-ends (Err (ends.Limit fault)) says = script-by _ says
-  script-ends (Err ends.Done) says = absurd says
-  script-ends (Err ends.Words) says = absurd says
+  pub script-ends : {T : Type 0} (left : List ℕ) (old new : World) (result : Result T Ended) → EndsScript state input left old new result → EndsJob asked state input left old new result
+  script-ends left old new (Ok done) says = (script-by _ old new says.0, says.1)
+  script-ends left old new (Err ends.Memory) says = script-front old new says
+  script-ends left old new (Err ends.Disk) says = script-front old new says
+  script-ends left old new (Err ends.Sink) says = script-front old new says
+  script-ends left old new (Err ends.Source) says = (subst (λ a. SaysWhatWasRead a state input left old new) (sym runs) says.0, script-front old new says.1)
+  script-ends left old new (Err (ends.Input fault)) says = script-by _ old new says
+  script-ends left old new (Err (ends.Limit limits.Full)) says = absurd says
+  script-ends left old new (Err (ends.Limit limits.Worn)) says = absurd says
+  script-ends left old new (Err (ends.Limit limits.NoRoom)) says =
+      (subst (λ a. StopsForRoom a asked.batch state input old new) (sym runs) says, script-front old new (line-front state (script_lines input) old.said new says))
+  script-ends left old new (Err (ends.Store fault)) says = absurd says
+  script-ends left old new (Err ends.Done) says = absurd says
+  script-ends left old new (Err ends.Words) says = absurd says
 
--- the same job under its action's name
-pub job-ends : {T : Type 0} (job : Job) (action : Action) (input left old new : List ℕ) (result : Result T Ended) → job.action ≡ action → EndsJob (record { action = action; batch = job.batch }) input left old new result → EndsJob job input left old new result
-job-ends job action input left old new result is says = subst (λ a. EndsJob (record { action = a; batch = job.batch }) input left old new result) (sym is) says
+-- ---- a load
 
--- ---- one transcript
+module _ (law : OutcomeIsOne) (asked : Asked) (state : Contents) (input : List ℕ) (loads : asked.action ≡ Load) where
+  -- its transcript, by what its text gives
+  load-is : (taken : Result (List Item) InputFault) → IsTaken input taken → IsTranscript state asked input (load_transcript asked.batch state taken)
+  load-is taken is = subst (λ a. IsTranscriptBy a asked.batch state input (load_transcript asked.batch state taken)) (sym loads) (taken, is, refl)
 
-one-by : OutcomeIsOne → (action : Action) (batch : ℕ) (input : List ℕ) (one other : Transcript) → IsTranscriptBy action batch opening input one → IsTranscriptBy action batch opening input other → one ≡ other
-one-by law Run batch input one other is also = is ∙ sym also
-one-by law Load batch input one other is also = load-one law batch input one other is also
+  -- and no other
+  pub load-only : (taken : Result (List Item) InputFault) → IsTaken input taken → (whole : Transcript) → IsTranscript state asked input whole → whole ≡ load_transcript asked.batch state taken
+  load-only taken is whole also =
+      let given : IsTranscriptBy Load asked.batch state input whole = subst (λ a. IsTranscriptBy a asked.batch state input whole) loads also in
+      given.2 ∙ ap (load_transcript asked.batch state) (taken-one law input given.0 taken given.1 is)
 
--- a job has one transcript on an input
-pub transcript-one : OutcomeIsOne → (job : Job) (input : List ℕ) (one other : Transcript) → IsTranscript opening job input one → IsTranscript opening job input other → one ≡ other
-transcript-one law job input one other is also = one-by law job.action job.batch input one other is also
+  load-front : (taken : Result (List Item) InputFault) → IsTaken input taken → (old new : World) → SaysFrontOf (load_transcript asked.batch state taken).turn.text old.said new.said → SaysFront asked state input old new
+  load-front taken is old new says whole also = subst (λ (t : Transcript). SaysFrontOf t.turn.text old.said new.said) (sym (load-only taken is whole also)) says
 
--- and it has one at least
-some-by : OutcomeIsSome → (action : Action) (batch : ℕ) (input : List ℕ) → (whole : Transcript) × IsTranscriptBy action batch opening input whole
-some-by law Run batch input = (script_transcript opening input, refl)
-some-by law Load batch input = load-some law batch input
+  load-by : (taken : Result (List Item) InputFault) → IsTaken input taken → (wanted : End) (old new : World) → EndsAs wanted (load_transcript asked.batch state taken) old new → EndsBy wanted asked state input old new
+  load-by taken is wanted old new says = record { whole = load_transcript asked.batch state taken; is = load-is taken is; ends = says }
 
-pub transcript-some : OutcomeIsSome → (job : Job) (input : List ℕ) → (whole : Transcript) × IsTranscript opening job input whole
-transcript-some law job input = some-by law job.action job.batch input
+  no-front : (old new : World) → new.said ≡ old.said → SaysFront asked state input old new
+  no-front old new none whole is = none-said whole.turn.text old.said new.said none
 
-module _ (one : (job : Job) (input : List ℕ) (one other : Transcript) → IsTranscript opening job input one → IsTranscript opening job input other → one ≡ other) where
+  -- where its items stop
+  items-stop : (T : Type 0) (items : List Item) → IsTaken input (Ok items) → (left : List ℕ) (old new : World) (end : Ended) → StopsItems asked.batch state items old new end → EndsJob {T = T} asked state input left old new (Err end)
+  items-stop T items is left old new ends.Memory says = load-front (Ok items) is old new says
+  items-stop T items is left old new ends.Disk says = load-front (Ok items) is old new says
+  items-stop T items is left old new ends.Sink says = load-front (Ok items) is old new says
+  items-stop T items is left old new (ends.Limit limits.Full) says = load-by (Ok items) is _ old new says
+  items-stop T items is left old new (ends.Limit limits.Worn) says = load-by (Ok items) is _ old new says
+  items-stop T items is left old new (ends.Limit limits.NoRoom) says =
+      (subst (λ a. StopsForRoom a asked.batch state input old new) (sym loads) (items, is, says), load-front (Ok items) is old new (batch-front state 0 0 (steps asked.batch [] items) old.said new says))
+  items-stop T items is left old new (ends.Input fault) says = absurd says
+  items-stop T items is left old new (ends.Store fault) says = absurd says
+  items-stop T items is left old new ends.Source says = absurd says
+  items-stop T items is left old new ends.Done says = absurd says
+  items-stop T items is left old new ends.Words says = absurd says
+
+  -- a load ends as a job that is one
+  pub load-ends : (T : Type 0) (left : List ℕ) (old new : World) (result : Result T Ended) → EndsLoad asked.batch state input left old new result → EndsJob asked state input left old new result
+  load-ends T left old new (Ok done) says = (load-by (Ok says.0.0) says.0.1 _ old new says.0.2, says.1)
+  load-ends T left old new (Err ends.Source) says = (subst (λ a. SaysWhatWasRead a state input left old new) (sym loads) says, no-front old new says.0)
+  load-ends T left old new (Err (ends.Input fault)) says =
+      load-by (Err fault) says.0 _ old new (record { end = refl; said = says.1.0 ∙ sym (append-nil old.said); holds = says.1.1 })
+  load-ends T left old new (Err ends.Memory) says = ⊎_elim (λ none. no-front old new none.0.0) (λ some. items-stop T some.0 some.1 left old new ends.Memory some.2) says
+  load-ends T left old new (Err ends.Disk) says = ⊎_elim (λ none. absurd (cc (none.1))) (λ some. items-stop T some.0 some.1 left old new ends.Disk some.2) says
+  load-ends T left old new (Err ends.Sink) says = ⊎_elim (λ none. absurd (cc (none.1))) (λ some. items-stop T some.0 some.1 left old new ends.Sink some.2) says
+  load-ends T left old new (Err (ends.Limit fault)) says = ⊎_elim (λ none. absurd (cc (none.1))) (λ some. items-stop T some.0 some.1 left old new (ends.Limit fault) some.2) says
+  load-ends T left old new (Err (ends.Store fault)) says = absurd says
+  load-ends T left old new (Err ends.Done) says = absurd says
+  load-ends T left old new (Err ends.Words) says = absurd says
+
+-- ---- what was said before
+
+-- an end, from where as much was said
+pub ends-from : (wanted : End) (whole : Transcript) (old was new : World) → was.said ≡ old.said → EndsAs wanted whole was new → EndsAs wanted whole old new
+ends-from wanted whole old was new same ends = record { end = ends.end; said = ends.said ∙ ap (λ s. s ++ whole.turn.text) same; holds = ends.holds }
+
+module _ (asked : Asked) (state : Contents) (input : List ℕ) (old was new : World) (same : was.said ≡ old.said) where
+  front-from : SaysFront asked state input was new → SaysFront asked state input old new
+  front-from says whole is = (let front = says whole is in (front.0, front.1 ∙ ap (λ s. s ++ take front.0 whole.turn.text) same))
+
+  by-from : (wanted : End) → EndsBy wanted asked state input was new → EndsBy wanted asked state input old new
+  by-from wanted says = record { whole = says.whole; is = says.is; ends = ends-from wanted says.whole old was new same says.ends }
+
+  read-from : (action : Action) (left : List ℕ) → SaysWhatWasRead action state input left was new → SaysWhatWasRead action state input left old new
+  read-from Run left says = record { read = says.read; came = says.came; said = says.said ∙ ap (λ s. s ++ (script state (cut says.read).lines).text) same; holds = says.holds }
+  read-from Load left says = (says.0 ∙ same, says.1)
+
+  room-from : (action : Action) (batch : ℕ) → StopsForRoom action batch state input was new → StopsForRoom action batch state input old new
+  room-from Run batch stops = subst (λ s. StopsAtLine state (script_lines input) s new) same stops
+  room-from Load batch stops = (stops.0, stops.1, subst (λ s. StopsAtBatch state 0 0 (steps batch [] stops.0) s new) same stops.2)
+
+  -- how a job ended, from where as much was said
+  pub job-from : (T : Type 0) (left : List ℕ) (result : Result T Ended) → EndsJob asked state input left was new result → EndsJob asked state input left old new result
+  job-from T left (Ok done) says = (by-from _ says.0, says.1)
+  job-from T left (Err ends.Source) says = (read-from asked.action left says.0, front-from says.1)
+  job-from T left (Err ends.Memory) says = front-from says
+  job-from T left (Err ends.Disk) says = front-from says
+  job-from T left (Err ends.Sink) says = front-from says
+  job-from T left (Err (ends.Input fault)) says = by-from _ says
+  job-from T left (Err (ends.Limit limits.Full)) says = by-from _ says
+  job-from T left (Err (ends.Limit limits.Worn)) says = by-from _ says
+  job-from T left (Err (ends.Limit limits.NoRoom)) says = (room-from asked.action asked.batch says.0, front-from says.1)
+  job-from T left (Err (ends.Store fault)) says = absurd says
+  job-from T left (Err ends.Done) says = absurd says
+  job-from T left (Err ends.Words) says = absurd says
+
+module _ (one : (state : Contents) (asked : Asked) (input : List ℕ) (one other : Transcript) → IsTranscript state asked input one → IsTranscript state asked input other → one ≡ other) where
   -- the whole text is a front of the transcript's
-  pub decided-front : (wanted : End) (job : Job) (input old new : List ℕ) → EndsBy wanted job input old new → SaysFront job input old new
-  decided-front wanted job input old new says whole is =
-      subst (λ (t : Transcript). SaysFrontOf t.turn.text old new) (one job input says.whole whole says.is is)
-      (whole-front wanted says.whole old new (record { end = says.end; said = says.said }))
+  pub decided-front : (wanted : End) (asked : Asked) (state : Contents) (input : List ℕ) (old new : World) → EndsBy wanted asked state input old new → SaysFront asked state input old new
+  decided-front wanted asked state input old new says whole is =
+      subst (λ (t : Transcript). SaysFrontOf t.turn.text old.said new.said) (one state asked input says.whole whole says.is is) (whole-said wanted says.whole old new says.ends)
+
+  limit-front : (fault : LimitFault) (asked : Asked) (state : Contents) (input : List ℕ) (old new : World) → StopsAtLimit fault asked state input old new → SaysFront asked state input old new
+  limit-front limits.Full asked state input old new says = decided-front _ asked state input old new says
+  limit-front limits.Worn asked state input old new says = decided-front _ asked state input old new says
+  limit-front limits.NoRoom asked state input old new says = says.1
 
   -- however a job ends, a front of the transcript's text was said
-  pub job-front : (T : Type 0) (job : Job) (input left old new : List ℕ) (end : Ended) → EndsJob {T = T} job input left old new (Err end) → SaysFront job input old new
-  job-front T job input left old new ends.Memory says = says
-  job-front T job input left old new ends.Sink says = says
-  job-front T job input left old new ends.Source says = says.1
-  job-front T job input left old new (ends.Input fault) says = decided-front _ job input old new says
-  job-front T job input left old new (ends.Limit fault) says = decided-front _ job input old new says
-  job-front T job input left old new ends.Done says = absurd says
-  job-front T job input left old new ends.Words says = absurd says
+  pub job-front : (T : Type 0) (asked : Asked) (state : Contents) (input left : List ℕ) (old new : World) (end : Ended) → EndsJob {T = T} asked state input left old new (Err end) → SaysFront asked state input old new
+  job-front T asked state input left old new ends.Memory says = says
+  job-front T asked state input left old new ends.Disk says = says
+  job-front T asked state input left old new ends.Sink says = says
+  job-front T asked state input left old new ends.Source says = says.1
+  job-front T asked state input left old new (ends.Input fault) says = decided-front _ asked state input old new says
+  job-front T asked state input left old new (ends.Limit fault) says = limit-front fault asked state input old new says
+  job-front T asked state input left old new (ends.Store fault) says = absurd says
+  job-front T asked state input left old new ends.Done says = absurd says
+  job-front T asked state input left old new ends.Words says = absurd says

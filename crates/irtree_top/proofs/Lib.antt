@@ -1,9 +1,5 @@
-pub mod Endings
-pub mod Feeding
+pub mod Crashes
 pub mod Fronts
 pub mod Jobs
-pub mod Lines
-pub mod Outcomes
-pub mod Progress
-pub mod Replies
-pub mod Standing
+pub mod Openings
+pub mod Transcripts

@@ -1,11 +1,3 @@
-pub mod Ended
-pub mod Feed
-pub mod Load
-pub mod Loading
 pub mod Run
-pub mod Script
-pub mod Standing
 pub mod Transcript
-pub mod Turn
 pub mod Words
-pub mod Written

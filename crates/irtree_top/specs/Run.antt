@@ -1,47 +1,91 @@
 -- What a run of the program promises.
-use Rattle.std.specs.Prelude.{◌≡◌, ℕ, List, ◌++◌, take}
-use Rattle.place_map.specs.State.{opening}
-use Rattle.irtree_top.specs.declared.ended.Ended.{Ended}
-use Rattle.irtree_top.specs.declared.ended.Ended.TheVariants as ends
+use Rattle.std.specs.Prelude.{◌≡◌, ℕ, List, [], Ok, Err, Result}
+use Rattle.disk_model.specs.World.{World, Image}
+use Rattle.place_map.specs.State.{Contents}
+use Rattle.geojson_points.specs.Takes.{Item}
+use Rattle.crash_prefix.specs.Acked.{acked_by_script, acked_by_load}
+use Rattle.crash_prefix.specs.Prefix.{HoldsAcked, IsNearInScript, IsNearInLoad}
+use Rattle.load_run.specs.Loading.{SaysNothingYet}
+use Rattle.run_ends.specs.Left.{StopsAtBatch, StopsAtLine}
+use Rattle.run_ends.specs.Load.{IsTaken, steps}
+use Rattle.run_ends.specs.Said.{EndsAs, SaysFrontOf}
+use Rattle.run_ends.specs.Script.{script_lines}
+use Rattle.run_ends.specs.Turn.{Transcript, End, Done, Input, Limit}
+use Rattle.run_ends.specs.declared.ended.Ended.{Ended}
+use Rattle.run_ends.specs.declared.ended.Ended.TheVariants as ends
+use Rattle.run_ends.specs.declared.ended.LimitFault.{LimitFault}
+use Rattle.run_ends.specs.declared.ended.LimitFault.TheVariants as limits
+use Rattle.script_run.specs.Standing.{SaysRepliesOf}
 use Rattle.irtree_top.specs.declared.words.Action.{Action}
 use Rattle.irtree_top.specs.declared.words.Action.TheVariants.{Run, Load}
-use Rattle.irtree_top.specs.declared.words.Job.{Job}
-use Rattle.irtree_top.specs.Turn.{Transcript, End}
-use Rattle.irtree_top.specs.Script.{script, cut}
 use Rattle.irtree_top.specs.Transcript.{IsTranscript}
+use Rattle.irtree_top.specs.Words.{Asked}
 
--- a front of the text was said in this call
-abbrev pub SaysFrontOf : List ℕ → List ℕ → List ℕ → Type 0
-SaysFrontOf text old new = (n : ℕ) × (new ≡ old ++ take n text)
+-- a front of the text of the transcript was said
+abbrev pub SaysFront : Asked → Contents → List ℕ → World → World → Type 0
+SaysFront asked state input old new = (whole : Transcript) → IsTranscript state asked input whole → SaysFrontOf whole.turn.text old.said new.said
 
--- a front of the text of the transcript was said; the store `-` holds nothing at first
-abbrev pub SaysFront : Job → List ℕ → List ℕ → List ℕ → Type 0
-SaysFront job input old new = (whole : Transcript) → IsTranscript opening job input whole → SaysFrontOf whole.turn.text old new
-
--- the transcript ends so, and its whole text was said
-pub record EndsBy (wanted : End) (job : Job) (input old new : List ℕ) : Type 0 where
+-- The transcript ends so, its whole text was said, and the image stands for its last state.
+pub record EndsBy (wanted : End) (asked : Asked) (state : Contents) (input : List ℕ) (old new : World) : Type 0 where
   pub whole : Transcript
-  pub is : IsTranscript opening job input whole
-  pub end : whole.end ≡ wanted
-  pub said : new ≡ old ++ whole.turn.text
+  pub is : IsTranscript state asked input whole
+  pub ends : EndsAs wanted whole old new
 
--- some bytes were read, and the replies of all lines whose LF was among them were said whole, and nothing else
-pub record SaysRepliesOf (input left old new : List ℕ) : Type 0 where
-  pub read : List ℕ
-  pub came : input ≡ read ++ left
-  pub said : new ≡ old ++ (script opening (cut read).lines).text
+-- What was said where the source failed, and what the image stands for: in a script the replies of what was read, and the state after
+-- these lines; in a load nothing, and the state at the start.
+abbrev pub SaysWhatWasRead : Action → Contents → List ℕ → List ℕ → World → World → Type 0
+SaysWhatWasRead Run state input left old new = SaysRepliesOf state input left old new
+SaysWhatWasRead Load state input left old new = SaysNothingYet state old new
 
--- what was said where the source failed: in a script the replies of what was read, and in a load nothing
-abbrev pub SaysWhatWasRead : Action → List ℕ → List ℕ → List ℕ → List ℕ → Type 0
-SaysWhatWasRead Run input left old new = SaysRepliesOf input left old new
-SaysWhatWasRead Load input left old new = new ≡ old
+-- Where no page was left: what comes before the reply to an update, or before a batch's line, was said whole and nothing else, and the
+-- image stands for the state before it.
+abbrev pub StopsForRoom : Action → ℕ → Contents → List ℕ → World → World → Type 0
+StopsForRoom Run batch state input old new = StopsAtLine state (script_lines input) old.said new
+StopsForRoom Load batch state input old new = (items : List Item) × IsTaken input (Ok items) × StopsAtBatch state 0 0 (steps batch [] items) old.said new
 
--- an end that no fault of source or sink causes
+-- how a run stops at a limit
+abbrev pub StopsAtLimit : LimitFault → Asked → Contents → List ℕ → World → World → Type 0
+StopsAtLimit limits.Full asked state input old new = EndsBy (Limit limits.Full) asked state input old new
+StopsAtLimit limits.Worn asked state input old new = EndsBy (Limit limits.Worn) asked state input old new
+StopsAtLimit limits.NoRoom asked state input old new = StopsForRoom asked.action asked.batch state input old new × SaysFront asked state input old new
+
+-- how many updates the bytes said acknowledge
+abbrev pub acked : Action → List ℕ → ℕ
+acked Run spoken = acked_by_script spoken
+acked Load spoken = acked_by_load spoken
+
+-- how many updates more may be held than are acknowledged
+abbrev pub IsNear : Action → ℕ → ℕ → ℕ → ℕ → Type 0
+IsNear Run batch some acked all = IsNearInScript some acked all
+IsNear Load batch some acked all = IsNearInLoad batch some acked all
+
+-- The image stands for the state after a prefix of the transcript's updates that holds every acknowledged one.
+abbrev pub HoldsPrefix : Asked → Contents → List ℕ → World → Image → List ℕ → Type 0
+HoldsPrefix asked state input old image said =
+    (whole : Transcript) → IsTranscript state asked input whole
+    → HoldsAcked (acked asked.action) (IsNear asked.action asked.batch) state whole.turn.changes old.said image said
+
+-- how a job ended: what it had said, and what the image stands for
+abbrev pub EndsJob : {T : Type 0} → Asked → Contents → List ℕ → List ℕ → World → World → Result T Ended → Type 0
+EndsJob asked state input left old new (Ok done) = EndsBy Done asked state input old new × (left ≡ [])
+EndsJob asked state input left old new (Err ends.Source) = SaysWhatWasRead asked.action state input left old new × SaysFront asked state input old new
+EndsJob asked state input left old new (Err ends.Memory) = SaysFront asked state input old new
+EndsJob asked state input left old new (Err ends.Disk) = SaysFront asked state input old new
+EndsJob asked state input left old new (Err ends.Sink) = SaysFront asked state input old new
+EndsJob asked state input left old new (Err (ends.Input fault)) = EndsBy (Input fault) asked state input old new
+EndsJob asked state input left old new (Err (ends.Limit fault)) = StopsAtLimit fault asked state input old new
+EndsJob asked state input left old new (Err (ends.Store fault)) = ⊥
+EndsJob asked state input left old new (Err ends.Done) = ⊥
+EndsJob asked state input left old new (Err ends.Words) = ⊥
+
+-- an end that no fault of source, disk or sink causes
 abbrev pub IsSettled : Ended → Type 0
 IsSettled ends.Done = Unit {0}
 IsSettled ends.Memory = Unit {0}
 IsSettled ends.Words = Unit {0}
+IsSettled ends.Disk = ⊥
 IsSettled ends.Source = ⊥
 IsSettled ends.Sink = ⊥
 IsSettled (ends.Input fault) = Unit {0}
+IsSettled (ends.Store fault) = Unit {0}
 IsSettled (ends.Limit fault) = Unit {0}

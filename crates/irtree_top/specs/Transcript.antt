@@ -2,13 +2,13 @@
 use Rattle.std.specs.Prelude.{◌≡◌, ℕ, List, Result}
 use Rattle.place_map.specs.State.{Contents}
 use Rattle.geojson_points.specs.Takes.{Item}
-use Rattle.irtree_top.specs.declared.ended.InputFault.{InputFault}
+use Rattle.run_ends.specs.declared.ended.InputFault.{InputFault}
+use Rattle.run_ends.specs.Turn.{Transcript}
+use Rattle.run_ends.specs.Script.{script_transcript}
+use Rattle.run_ends.specs.Load.{IsTaken, load_transcript}
 use Rattle.irtree_top.specs.declared.words.Action.{Action}
 use Rattle.irtree_top.specs.declared.words.Action.TheVariants.{Run, Load}
-use Rattle.irtree_top.specs.declared.words.Job.{Job}
-use Rattle.irtree_top.specs.Turn.{Transcript}
-use Rattle.irtree_top.specs.Script.{script_transcript}
-use Rattle.irtree_top.specs.Load.{IsTaken, load_transcript}
+use Rattle.irtree_top.specs.Words.{Asked}
 
 -- the transcript of an action, with so many places in a batch
 abbrev pub IsTranscriptBy : Action → ℕ → Contents → List ℕ → Transcript → Type 0
@@ -16,6 +16,6 @@ IsTranscriptBy Run batch state input whole = whole ≡ script_transcript state i
 IsTranscriptBy Load batch state input whole =
     (taken : Result (List Item) InputFault) × IsTaken input taken × (whole ≡ load_transcript batch state taken)
 
--- the transcript of a job
-abbrev pub IsTranscript : Contents → Job → List ℕ → Transcript → Type 0
-IsTranscript state job input whole = IsTranscriptBy job.action job.batch state input whole
+-- the transcript of what is asked for
+abbrev pub IsTranscript : Contents → Asked → List ℕ → Transcript → Type 0
+IsTranscript state asked input whole = IsTranscriptBy asked.action asked.batch state input whole

@@ -1,4 +1,4 @@
-use Rattle.irtree_top.proofs.Jobs.{transcript-one}
+use Rattle.irtree_top.proofs.Transcripts.{transcript-one}
 use Rattle.irtree_top.proofs.top.transcript_is_one.Goals as goal
 
 pub returns : goal.returns

@@ -1,4 +1,4 @@
-use Rattle.irtree_top.proofs.Jobs.{transcript-some}
+use Rattle.irtree_top.proofs.Transcripts.{transcript-some}
 use Rattle.irtree_top.proofs.top.transcript_is_some.Goals as goal
 
 pub returns : goal.returns

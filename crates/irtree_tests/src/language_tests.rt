@@ -1,0 +1,121 @@
+//! What each line is answered.
+use crate::runs::said;
+use irtree_top::Ended;
+use std::alloc::Global;
+use std::test::Fail;
+
+// A script, and what is said of it.
+static SCRIPTS: [(&[u8], &[u8]); 8] = [
+    // A place is shown with its words in their order.
+    (
+        b"add k 0 0 Caf\xc3\xa9 caf\xc3\xa9 bar\nshow k\nshow z\n",
+        b"ok\nplace \"k\" 0.0000000 0.0000000 2\n\"bar\" 85\n\"caf\xc3\xa9\" 170\nabsent\n",
+    ),
+    // The cost of a top query, with and without its reasons.
+    (
+        b"add p 0 0.5 cafe\nadd q 0 0 cafe bar\ntop 0 0 2 500 1 words cafe\nexplain top 0 0 1 500 1 words cafe\n",
+        b"ok\nok\n= 2\n1 \"q\" 635000000000\n2 \"p\" 637500000000\n= 1\n1 \"q\" 635000000000 at 0.0000000 0.0000000 dist 0.0000000 text 128 of 255\n",
+    ),
+    // A place is replaced and taken out.
+    (
+        b"add a 0 0 x\nadd a 1 1 y\nrange 0 0 180 where x\nremove a\nremove a\n",
+        b"ok\nok replaced\n= 0\nok\nabsent\n",
+    ),
+    // A group of least cost, which is not that of the nearest places.
+    (
+        b"add a1 1 0 a\nadd b1 -1 0 b\nadd c1 0 -1 c\nadd b2 1.2 0 b\nadd c2 1.1 0 c\ngroup 0 0 words a b c\n",
+        b"ok\nok\nok\nok\nok\n= 3 1.4000000\n1 \"a\" \"a1\" 1.0000000\n2 \"b\" \"b2\" 1.2000000\n3 \"c\" \"c2\" 1.1000000\n",
+    ),
+    // A place that serves two words, a word that no place has, and a word that is named twice.
+    (
+        b"add m 0 1 a b\ngroup 0 0 words a b\ngroup 0 0 words a z\ngroup 0 0 words a A\n",
+        b"ok\n= 2 1.0000000\n1 \"a\" \"m\" 1.0000000\n2 \"b\" \"m\" 1.0000000\nnone\nbad word\n",
+    ),
+    // Filters, a reserved word in quotes, and the border of a box.
+    (
+        b"add u 0 0 a\nadd v 0 1 a b\nadd w 0 2 a and\nrange 0 0 5 where a and not (b or c)\nrange 0 0 5 where \"and\"\nrange 0 0 5 where a b\nbox -1 -1 1 1\nbox 1 0 -1 0\n",
+        b"ok\nok\nok\n= 2\n1 \"u\" 0.0000000\n2 \"w\" 2.0000000\n= 1\n1 \"w\" 2.0000000\nbad extra\n= 2\n1 \"u\"\n2 \"v\"\nbad range\n",
+    ),
+    // Each reason why a line is refused, the first from the left.
+    (
+        b"fly\nadd\nadd #1 0 0\nadd \"\" 0 0\nadd a x 0\nadd a 181 0\nrange 0 0 5 where (a\nrange 0 0 5 where and\nremove a b\ntop 0 0 1 500 1 words a*21\n",
+        b"bad command\nbad missing\nbad key\nbad key\nbad number\nbad range\nbad missing\nbad expression\nbad extra\nbad range\n",
+    ),
+    // A key that holds a tab.
+    (
+        b"add \"x\\ty\" 0 0 q\nnearest 0 0 1\n",
+        b"ok\n= 1\n1 \"x\\ty\" 0.0000000\n",
+    ),
+];
+
+#[test]
+fn each_line_is_answered(rt: HostRuntime) -> Result<(), Fail> {
+    for (input, replies) in &SCRIPTS {
+        let (ended, text) = said(rt.alloc(), input, 1_000)?;
+        assert!(rt; ended == Ended::Done);
+        assert!(rt; text.as_slice() == *replies);
+    }
+    Ok(())
+}
+
+// Appends the two digits of a number below 100.
+fn push_digits(text: &mut Vec<u8>, n: u8) -> Result<(), Fail> {
+    text.push(b'0' + n / 10 % 10)?;
+    text.push(b'0' + n % 10)?;
+    Ok(())
+}
+
+// Forty places at one point: the lines that add them, and then this one.
+fn forty(alloc: Global, last: &[u8]) -> Result<Vec<u8>, Fail> {
+    let mut script = Vec::new(alloc);
+    for n in 0..40 {
+        script.extend_from_slice(b"add k")?;
+        push_digits(&mut script, n)?;
+        script.extend_from_slice(b" 1 1 x\n")?;
+    }
+    script.extend_from_slice(last)?;
+    Ok(script)
+}
+
+#[test]
+fn a_tie_goes_to_the_lesser_keys(rt: HostRuntime) -> Result<(), Fail> {
+    let script = forty(rt.alloc(), b"top 0 0 5 500 1 words x\n")?;
+    let mut replies = Vec::new(rt.alloc());
+    for _ in 0..40 {
+        replies.extend_from_slice(b"ok\n")?;
+    }
+    replies.extend_from_slice(
+        b"= 5\n1 \"k00\" 1803122212500\n2 \"k01\" 1803122212500\n3 \"k02\" 1803122212500\n4 \"k03\" 1803122212500\n5 \"k04\" 1803122212500\n",
+    )?;
+    assert!(rt; said(rt.alloc(), &script, 1_000)?.1 == replies);
+    Ok(())
+}
+
+#[test]
+fn what_is_left_is_found_after_many_are_taken_out(rt: HostRuntime) -> Result<(), Fail> {
+    let mut script = Vec::new(rt.alloc());
+    let mut replies = Vec::new(rt.alloc());
+    for n in 0..33 {
+        script.extend_from_slice(b"add t")?;
+        push_digits(&mut script, n)?;
+        script.push(b' ')?;
+        if n >= 10 {
+            script.push(b'0' + n / 10 % 10)?;
+        }
+        script.push(b'0' + n % 10)?;
+        script.extend_from_slice(b" 0\n")?;
+        replies.extend_from_slice(b"ok\n")?;
+    }
+    for n in 0..22 {
+        script.extend_from_slice(b"remove t")?;
+        push_digits(&mut script, n)?;
+        script.push(b'\n')?;
+        replies.extend_from_slice(b"ok\n")?;
+    }
+    script.extend_from_slice(b"count\nnearest 0 0 3\n")?;
+    replies.extend_from_slice(
+        b"count 11\n= 3\n1 \"t22\" 22.0000000\n2 \"t23\" 23.0000000\n3 \"t24\" 24.0000000\n",
+    )?;
+    assert!(rt; said(rt.alloc(), &script, 1_000)?.1 == replies);
+    Ok(())
+}

@@ -1,0 +1,15 @@
+//! Tests of the whole library: what scripts and loads say from bytes to bytes, and what a store keeps over runs, faults and crashes.
+#![tactic(auto)]
+
+#[cfg(test)]
+mod crash_tests;
+#[cfg(test)]
+mod language_tests;
+#[cfg(test)]
+mod load_tests;
+#[cfg(test)]
+mod runs;
+#[cfg(test)]
+mod script_tests;
+#[cfg(test)]
+mod store_tests;

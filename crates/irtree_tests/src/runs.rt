@@ -1,0 +1,88 @@
+//! Runs over stations in memory.
+use disk_model::{CallKind, Fail as Planned, MemorySource, MemoryStation, Source, Station};
+use irtree_engine::Engine;
+use irtree_top::{Ended, run};
+use load_run::run_load;
+use run_ends::ended_by;
+use std::alloc::Global;
+use std::test::Fail;
+
+/// The words of a script.
+pub(crate) static RUN: [&str; 2] = ["-", "run"];
+
+/// The words of a load.
+pub(crate) static LOAD: [&str; 2] = ["-", "load"];
+
+/// The pages that a station has room for.
+pub(crate) const ROOM: u32 = 100_000;
+
+/// Words as the top call takes them.
+pub(crate) fn words(alloc: Global, given: &[&str]) -> Result<Vec<String>, Fail> {
+    let mut words = Vec::new(alloc);
+    for word in given {
+        words.push(word.to_string(alloc)?)?;
+    }
+    Ok(words)
+}
+
+/// How a run on these words over a station ends, with an input that comes in such pieces.
+pub(crate) fn run_on(
+    alloc: Global,
+    given: &[&str],
+    input: &[u8],
+    piece: usize,
+    station: &mut MemoryStation,
+) -> Result<Ended, Fail> {
+    let mut source = MemorySource::new(alloc, input, piece.max(1), &[]).map_err(|_| "memory")?;
+    Ok(run(alloc, &words(alloc, given)?, &mut source, station))
+}
+
+/// How a run on these words ends over an empty store, and what it says.
+pub(crate) fn run_over(
+    alloc: Global,
+    given: &[&str],
+    source: &mut impl Source,
+) -> Result<(Ended, Vec<u8>), Fail> {
+    let mut station = MemoryStation::new(alloc, ROOM);
+    let ended = run(alloc, &words(alloc, given)?, source, &mut station);
+    Ok((ended, station.said().to_vec(alloc)?))
+}
+
+/// What a script says over an empty store that comes in such pieces.
+pub(crate) fn said(alloc: Global, input: &[u8], piece: usize) -> Result<(Ended, Vec<u8>), Fail> {
+    let mut source = MemorySource::new(alloc, input, piece.max(1), &[]).map_err(|_| "memory")?;
+    run_over(alloc, &RUN, &mut source)
+}
+
+/// How a load with such batches ends over a station.
+pub(crate) fn load_on(
+    alloc: Global,
+    batch: u32,
+    text: &[u8],
+    station: &mut MemoryStation,
+) -> Result<Result<(), Ended>, Fail> {
+    let mut source = MemorySource::new(alloc, text, 100, &[]).map_err(|_| "memory")?;
+    match Engine::open(alloc, station, 0) {
+        Ok(mut engine) => Ok(run_load(alloc, batch.min(10_000), &mut source, &mut engine)),
+        Err(fault) => Ok(Err(ended_by(fault))),
+    }
+}
+
+/// Lets the nth call of a kind fail.
+pub(crate) fn plan(station: &mut MemoryStation, kind: CallKind, nth: u64) -> Result<(), Fail> {
+    station
+        .fail_at(&[Planned { kind, nth }])
+        .map_err(|_| "memory")?;
+    Ok(())
+}
+
+/// How a run on these words ends over any station.
+pub(crate) fn run_with<T: Station>(
+    alloc: Global,
+    given: &[&str],
+    input: &[u8],
+    station: &mut T,
+) -> Result<Ended, Fail> {
+    let mut source = MemorySource::new(alloc, input, 65_536, &[]).map_err(|_| "memory")?;
+    Ok(run(alloc, &words(alloc, given)?, &mut source, station))
+}

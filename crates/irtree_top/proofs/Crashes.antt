@@ -1,0 +1,68 @@
+-- What a crash leaves of a job, in the words of its user.
+use Rattle.std.proofs.Common.{◌≡◌, ℕ, ◌≤◌, ⊎_elim, inl, List, [], sym, subst, ◌∙◌, arith}
+use Rattle.std.specs.Prelude.{Ok}
+use Rattle.std.proofs.lemmas.List.{append-nil}
+use Rattle.disk_model.specs.World.{World, Image, LeavesOnly}
+use Rattle.disk_model.proofs.Moments.{within}
+use Rattle.place_map.specs.State.{Contents}
+use Rattle.place_map.specs.declared.update.Update.{Update}
+use Rattle.stored_state.specs.Stands.{Stands}
+use Rattle.crash_prefix.specs.Prefix.{HoldsAcked}
+use Rattle.run_ends.specs.Left.{LeftByLines, LeftByLoad}
+use Rattle.run_ends.specs.Load.{load_transcript}
+use Rattle.run_ends.specs.Script.{script_lines, script_transcript}
+use Rattle.run_ends.specs.Turn.{Transcript}
+use Rattle.irtree_top.specs.declared.words.Action.{Action}
+use Rattle.irtree_top.specs.declared.words.Action.TheVariants.{Run, Load}
+use Rattle.irtree_top.specs.Run.{HoldsPrefix, IsNear, acked}
+use Rattle.irtree_top.specs.Words.{Asked}
+use Rattle.irtree_top.proofs.Jobs.{script-only, load-only}
+use Rattle.crash_prefix.proofs.Loads.{load-prefix}
+use Rattle.crash_prefix.proofs.Scripts.{script-prefix}
+use Rattle.irtree_top.proofs.Transcripts.{OutcomeIsOne}
+
+-- nothing acknowledges nothing
+acked-none : (action : Action) → acked action [] ≤ 0
+acked-none Run = omega arith
+acked-none Load = omega arith
+
+-- and no update is as many as are acknowledged
+near-none : (action : Action) (batch all : ℕ) → 1 ≤ batch → IsNear action batch 0 (acked action []) all
+near-none Run batch all some = omega arith
+near-none Load batch all some = (omega arith, inl (omega arith))
+
+-- Where nothing was said, and the image stands for the state at the start, it holds every acknowledged update: none.
+pub none-held : (action : Action) (batch : ℕ) → 1 ≤ batch → (state : Contents) (changes : List Update) (before : List ℕ) (image : Image) (said : List ℕ) → Stands image state → said ≡ before
+    → HoldsAcked (acked action) (IsNear action batch) state changes before image said
+none-held action batch some state changes before image said stands is = record {
+  spoken = [];
+  is = is ∙ sym (append-nil before);
+  some = 0;
+  most = omega arith;
+  stands = stands;
+  acknowledged = acked-none action;
+  near = near-none action batch _ some;
+}
+
+module _ (asked : Asked) (state : Contents) (input : List ℕ) (some : 1 ≤ asked.batch) where
+  -- a crash leaves of a script a prefix that holds every acknowledged update
+  pub script-left : asked.action ≡ Run → (old new : World) → LeavesOnly old new (LeftByLines state (script_lines input) old.said) → LeavesOnly old new (HoldsPrefix asked state input old)
+  script-left runs old new leaves = within leaves (λ image said left whole is.
+      subst (λ (t : Transcript). HoldsAcked (acked asked.action) (IsNear asked.action asked.batch) state t.turn.changes old.said image said) (sym (script-only asked state input runs whole is))
+      (subst (λ a. HoldsAcked (acked a) (IsNear a asked.batch) state (script_transcript state input).turn.changes old.said image said) (sym runs)
+      (script-prefix state (script_lines input) old.said image said left)))
+
+  -- and so it does of a load
+  pub load-left : OutcomeIsOne → asked.action ≡ Load → (old new : World) → LeavesOnly old new (LeftByLoad asked.batch state input old.said) → LeavesOnly old new (HoldsPrefix asked state input old)
+  load-left law loads old new leaves = within leaves (λ image said left whole is. ⊎_elim
+      (λ none. none-held asked.action asked.batch some state whole.turn.changes old.said image said none.0 none.1)
+      (λ items.
+      subst (λ (t : Transcript). HoldsAcked (acked asked.action) (IsNear asked.action asked.batch) state t.turn.changes old.said image said) (sym (load-only law asked state input loads (Ok items.0) items.1 whole is))
+      (subst (λ a. HoldsAcked (acked a) (IsNear a asked.batch) state (load_transcript asked.batch state (Ok items.0)).turn.changes old.said image said) (sym loads)
+      (load-prefix asked.batch some state items.0 old.said image said items.2)))
+      left)
+
+  -- from where as much was said
+  pub left-from : (old was : World) → was.said ≡ old.said → (image : Image) (said : List ℕ) → HoldsPrefix asked state input was image said → HoldsPrefix asked state input old image said
+  left-from old was same image said held whole is =
+      subst (λ s. HoldsAcked (acked asked.action) (IsNear asked.action asked.batch) state whole.turn.changes s image said) same (held whole is)

@@ -1,0 +1,76 @@
+use Rattle.std.proofs.Common.{◌≡◌, ◌≤◌, rules, sym, ap, subst, ◌∙◌, arith}
+use Rattle.std.specs.Prelude.{IsErrOf}
+use Rattle.irtree_engine.specs.declared.fault.EngineFault.TheVariants as engine
+use Rattle.disk_model.specs.World.{LeavesOnly}
+use Rattle.disk_model.proofs.Moments.{then, within}
+use Rattle.irtree_engine.specs.Holding.{HoldsState}
+use Rattle.run_ends.specs.Causes.{HasJobEnd}
+use Rattle.irtree_top.specs.Run.{EndsJob, HoldsPrefix}
+use Rattle.irtree_top.proofs.Crashes.{left-from, none-held}
+use Rattle.irtree_top.proofs.Jobs.{job-from}
+use Rattle.irtree_top.proofs.Openings.{Refuses, given-back, job-cause, none-by, refused-cause, refused-job}
+use Rattle.irtree_top.proofs.serve.run_job.Given as given
+use Rattle.irtree_top.proofs.serve.run_job.Goals as goal
+
+-- what the refused opening says of the image
+refuses : (g : given.Over) (c : goal.After-ended_by g) → Refuses g.T.Disk.tells (g.T.Disk.world c.args.station.now) (g.T.Disk.world c.look.new.disk) c.in-Err.fault
+refuses g c = record {
+  disk = λ is. let named : IsErrOf c.look.result engine.Disk = cc in c.look.ensures.disk named;
+  none = λ told other. none-by c.in-Err.fault c.in-Err.ensures.causes other
+      (λ is. let named : IsErrOf c.look.result engine.NotAStore = cc in c.look.ensures.not_a_store told named)
+      (λ at is. let named : IsErrOf c.look.result (engine.BadJournal at) = cc in (c.look.ensures.bad told at named).1)
+      (λ damage is. let named : IsErrOf c.look.result (engine.Damaged damage) = cc in (c.look.ensures.damaged damage named).1 told);
+}
+
+pub returns-in-Err-clause-told : goal.returns-in-Err-clause-told
+returns-in-Err-clause-told g c = λ tells told asked action batch state holds.
+    let input = g.S.Source.left c.args.source.now in
+    rw c.ended_by.ensures
+    (refused-job (Unit {0}) g.T.Disk.tells told asked state input input (g.T.Disk.world c.args.station.now) (g.T.Disk.world c.look.new.disk) holds (c.look.ensures.quiet told).said c.in-Err.fault c.in-Err.ensures.causes (refuses g c))
+
+pub returns-in-Err-clause-any_moment : goal.returns-in-Err-clause-any_moment
+returns-in-Err-clause-any_moment g c = λ tells told asked action batch state holds.
+    let some : 1 ≤ asked.batch = omega (arith, batch, c.requires.some) in
+    within (c.in-Err.ensures.any_moment told state holds) (λ image said left whole is. none-held asked.action asked.batch some state whole.turn.changes _ image said left.0 left.1)
+
+pub returns-in-Err-clause-cause : goal.returns-in-Err-clause-cause
+returns-in-Err-clause-cause g c = record {
+  source = omega arith;
+  faults = c.look.ensures.later;
+  sink = omega (arith, c.look.ensures.sink);
+  stands = λ t. tt;
+  cause = rw c.ended_by.ensures (refused-cause g.T.Disk.tells (g.S.Source.faults c.args.source.now) (g.T.Disk.world c.args.station.now) (g.T.Disk.world c.look.new.disk) c.in-Err.fault c.in-Err.ensures.causes (refuses g c));
+}
+
+pub returns-clause-told : goal.returns-clause-told
+returns-clause-told g c = λ tells told asked action batch state holds.
+    let world = g.T.Disk.world in
+    let input = g.S.Source.left c.args.source.now in
+    let left = g.S.Source.left c.serve-end.new.source in
+    let mid = subst (λ disk. HoldsState (world disk) state) (sym c.over-engine.ensures.disk) (c.in-Ok.ensures.holds told state holds) in
+    let same = ap (λ disk. (world disk).said) c.over-engine.ensures.disk ∙ (c.in-Ok.ensures.quiet told).said in
+    given-back (λ disk. EndsJob asked state input left (world c.args.station.now) (world disk) c.serve-end.result) c.serve-end.new.engine.store.disk.now _ (search rules)
+    (job-from asked state input (world c.args.station.now) (world c.over-engine.result.store.disk.now) (world c.serve-end.new.engine.store.disk.now) same _ left c.serve-end.result
+    (c.serve-end.ensures.told tells told asked action batch state mid))
+
+pub returns-clause-any_moment : goal.returns-clause-any_moment
+returns-clause-any_moment g c = λ tells told asked action batch state holds.
+    let world = g.T.Disk.world in
+    let input = g.S.Source.left c.args.source.now in
+    let some : 1 ≤ asked.batch = omega (arith, batch, c.requires.some) in
+    let opened = within (c.in-Ok.ensures.any_moment told state holds) (λ image said left whole is. none-held asked.action asked.batch some state whole.turn.changes (world c.args.station.now).said image said left.0 left.1) in
+    let mid = subst (λ disk. HoldsState (world disk) state) (sym c.over-engine.ensures.disk) (c.in-Ok.ensures.holds told state holds) in
+    let same = ap (λ disk. (world disk).said) c.over-engine.ensures.disk ∙ (c.in-Ok.ensures.quiet told).said in
+    let served = within (c.serve-end.ensures.any_moment tells told asked action batch state mid) (left-from asked state input some (world c.args.station.now) (world c.over-engine.result.store.disk.now) same) in
+    let whole = then (subst (λ disk. LeavesOnly (world c.args.station.now) (world disk) (HoldsPrefix asked state input (world c.args.station.now))) (sym c.over-engine.ensures.disk) opened) served in
+    given-back (λ disk. LeavesOnly (world c.args.station.now) (world disk) (HoldsPrefix asked state input (world c.args.station.now))) c.serve-end.new.engine.store.disk.now _ (search rules) whole
+
+pub returns-clause-cause : goal.returns-clause-cause
+returns-clause-cause g c =
+    let world = g.T.Disk.world in
+    let source = g.S.Source.faults in
+    let over : c.over-engine.result.store.disk.now ≡ c.look.new.disk = c.over-engine.ensures.disk in
+    given-back (λ disk. HasJobEnd g.T.Disk.tells (source c.args.source.now) (source c.serve-end.new.source) (world c.args.station.now) (world disk) c.serve-end.result) c.serve-end.new.engine.store.disk.now _ (search rules)
+    (job-cause g.T.Disk.tells (world c.args.station.now) (world c.look.new.disk) (world c.serve-end.new.engine.store.disk.now) c.look.ensures.later c.look.ensures.sink (λ told state holds. c.in-Ok.ensures.holds told state holds) (Unit {0})
+    (source c.args.source.now) (source c.serve-end.new.source) c.serve-end.result
+    (subst (λ disk. HasJobEnd g.T.Disk.tells (source c.args.source.now) (source c.serve-end.new.source) (world disk) (world c.serve-end.new.engine.store.disk.now) c.serve-end.result) over c.serve-end.ensures.cause))
