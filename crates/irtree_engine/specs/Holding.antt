@@ -1,6 +1,9 @@
 -- What a disk stands for, and what opening it leaves.
-use Rattle.std.specs.Prelude.{◌≡◌, ℕ, List}
+use Rattle.std.specs.Prelude.{◌≡◌, ℕ, List, false}
 use Rattle.disk_model.specs.World.{World, Image}
+use Rattle.page_journal.specs.Record.{StandsFor}
+use Rattle.page_store.specs.Contents.{page_bytes}
+use Rattle.page_store.specs.Superblock.{is_zero, HasMagic, KeepsHead}
 use Rattle.place_map.specs.State.{Contents}
 use Rattle.stored_state.specs.Stands.{Stands}
 
@@ -15,3 +18,17 @@ LeavesState state old image said = Stands image state × (said ≡ old.said)
 -- The image stands for no state.
 abbrev pub StandsForNone : Image → Type 0
 StandsForNone image = (state : Contents) → Stands image state → ⊥
+
+-- The image stands for pages whose page 0 is no store's: it is not zeros, and doesn't begin with the magic.
+pub record IsForeign (image : Image) : Type 0 where
+  pub area : ℕ → ℕ
+  pub stands : StandsFor image area
+  pub filled : is_zero (page_bytes area 0) ≡ false
+  pub other : HasMagic (page_bytes area 0) → ⊥
+
+-- The image stands for pages whose page 0 begins with the magic and breaks the rule Head.
+pub record HasBrokenHead (image : Image) : Type 0 where
+  pub area : ℕ → ℕ
+  pub stands : StandsFor image area
+  pub magic : HasMagic (page_bytes area 0)
+  pub broken : KeepsHead (page_bytes area 0) → ⊥

@@ -5,7 +5,7 @@ ghost use Rattle.page_journal.specs.Record.{IsBad};
 ghost use Rattle.page_store.specs.Contents.{IsCommitted};
 ghost use Rattle.page_store.specs.Opening.{SaysNothingReadsHead, head_damage};
 ghost use Rattle.place_map.specs.State.{Contents};
-ghost use Rattle.irtree_engine.specs.Holding.{HoldsState, LeavesState, StandsForNone};
+ghost use Rattle.irtree_engine.specs.Holding.{HasBrokenHead, HoldsState, IsForeign, LeavesState, StandsForNone};
 ghost use Rattle.irtree_engine.specs.Faults.{IsOpenFault};
 
 use crate::{EngineFault, look};
@@ -43,6 +43,8 @@ impl<'d, D: Station> Engine<'d, D> {
         ensures bad { IsTrue D.tells → (at : ℕ) → IsErrOf result (EngineFault.BadJournal at) → IsBad (D.world disk.old).seen at × StandsForNone (D.world disk.old).seen }
         ensures damaged { (damage : Damage) → IsErrOf result (EngineFault.Damaged damage)
             → (damage ≡ head_damage) × (IsTrue D.tells → StandsForNone (D.world disk.old).seen) }
+        ensures foreign { IsTrue D.tells → IsErrOf result EngineFault.NotAStore → IsForeign (D.world disk.old).seen }
+        ensures broken_head { IsTrue D.tells → (damage : Damage) → IsErrOf result (EngineFault.Damaged damage) → HasBrokenHead (D.world disk.old).seen }
         ensures causes { IfErr result IsOpenFault }
 
         ensures quiet { IsTrue D.tells → IfOk result (λ engine. SaysNothingReadsHead (D.world disk.old) (D.world engine.store.disk.now)) }

@@ -4,7 +4,7 @@ ghost use Rattle.disk_model.specs.World.{LeavesOnly, Rose};
 ghost use Rattle.page_journal.specs.Record.{StandsAlike, IsBad};
 ghost use Rattle.page_store.specs.Opening.{IsOpened, SaysNothingReadsHead, HasOpenCause, head_damage};
 ghost use Rattle.place_map.specs.State.{Contents};
-ghost use Rattle.irtree_engine.specs.Holding.{HoldsState, LeavesState, StandsForNone};
+ghost use Rattle.irtree_engine.specs.Holding.{HasBrokenHead, HoldsState, IsForeign, LeavesState, StandsForNone};
 ghost use Rattle.irtree_engine.specs.Faults.{IsOpenFault};
 
 use crate::EngineFault;
@@ -24,11 +24,13 @@ pub fn look<D: Disk>(disk: &mut D) -> Result<Superblock, EngineFault>
         → LeavesOnly (D.world disk.old) (D.world disk.new) (LeavesState state (D.world disk.old)) }
     ensures in_range { IfOk result (λ block. block.first_free < block.counted) }
 
-    // Every refusal but Disk says that the image stands for no state.
+    // Every refusal but Disk says that the image stands for no state, and which rule it breaks.
     ensures not_a_store { IsTrue D.tells → IsErrOf result EngineFault.NotAStore → StandsForNone (D.world disk.old).seen }
     ensures bad { IsTrue D.tells → (at : ℕ) → IsErrOf result (EngineFault.BadJournal at) → IsBad (D.world disk.old).seen at × StandsForNone (D.world disk.old).seen }
     ensures damaged { (damage : Damage) → IsErrOf result (EngineFault.Damaged damage)
         → (damage ≡ head_damage) × (IsTrue D.tells → StandsForNone (D.world disk.old).seen) }
+    ensures foreign { IsTrue D.tells → IsErrOf result EngineFault.NotAStore → IsForeign (D.world disk.old).seen }
+    ensures broken_head { IsTrue D.tells → (damage : Damage) → IsErrOf result (EngineFault.Damaged damage) → HasBrokenHead (D.world disk.old).seen }
     ensures causes { IfErr result IsOpenFault }
 
     ensures quiet { IsTrue D.tells → SaysNothingReadsHead (D.world disk.old) (D.world disk.new) }

@@ -1,5 +1,6 @@
 use Rattle.std.proofs.Common.{IsErrOf}
-use Rattle.page_store.specs.declared.opening.OpenFault.TheVariants.{BadJournal}
+use Rattle.disk_model.specs.declared.disk.Area.TheVariants.{Pages}
+use Rattle.page_store.specs.declared.opening.OpenFault.TheVariants.{BadJournal, Damaged, NotAStore}
 use Rattle.irtree_engine.proofs.Openings.{bad-none, opening-leaves}
 use Rattle.irtree_engine.proofs.opening.look.Goals as goal
 
@@ -14,3 +15,15 @@ returns-in-Err-BadJournal-clause-bad g c = λ t at is.
     let named : IsErrOf c.look.result (BadJournal at) = cc in
     let bad = c.look.ensures.bad t at named in
     (bad, bad-none _ at bad)
+
+pub returns-in-Err-NotAStore-clause-foreign : goal.returns-in-Err-NotAStore-clause-foreign
+returns-in-Err-NotAStore-clause-foreign g c = λ t is.
+    let named : IsErrOf c.look.result NotAStore = cc in
+    let refused = c.look.ensures.not_a_store t named in
+    record { area = (g.D.Disk.world c.look.new.disk).seen Pages; stands = refused.stands; filled = refused.page.0; other = refused.page.1 }
+
+pub returns-in-Err-Damaged-clause-broken_head : goal.returns-in-Err-Damaged-clause-broken_head
+returns-in-Err-Damaged-clause-broken_head g c = λ t damage is.
+    let named : IsErrOf c.look.result (Damaged damage) = cc in
+    let refused = (c.look.ensures.damaged damage named).1 t in
+    record { area = (g.D.Disk.world c.look.new.disk).seen Pages; stands = refused.stands; magic = refused.page.0; broken = refused.page.1 }

@@ -22,3 +22,13 @@ pub returns-in-Err-clause-damaged : goal.returns-in-Err-clause-damaged
 returns-in-Err-clause-damaged g c = λ damage is.
     let named : IsErrOf c.look.result (Damaged damage) = cc in
     c.look.ensures.damaged damage named
+
+pub returns-in-Err-clause-foreign : goal.returns-in-Err-clause-foreign
+returns-in-Err-clause-foreign g c = λ t is.
+    let named : IsErrOf c.look.result NotAStore = cc in
+    c.look.ensures.foreign t named
+
+pub returns-in-Err-clause-broken_head : goal.returns-in-Err-clause-broken_head
+returns-in-Err-clause-broken_head g c = λ t damage is.
+    let named : IsErrOf c.look.result (Damaged damage) = cc in
+    c.look.ensures.broken_head t damage named
