@@ -5,13 +5,16 @@ use Rattle.disk_model.specs.World.{World, Image, Rose}
 use Rattle.page_face.specs.declared.fault.Damage.{Damage}
 use Rattle.place_map.specs.State.{Contents}
 use Rattle.irtree_engine.specs.Faults.{IsOpenFault}
-use Rattle.irtree_engine.specs.Holding.{HoldsState, StandsForNone}
+use Rattle.irtree_engine.specs.Holding.{HoldsState, IsForeign, StandsForNone}
 use Rattle.irtree_engine.specs.declared.fault.EngineFault.{EngineFault}
 use Rattle.irtree_engine.specs.declared.fault.EngineFault.TheVariants as engine
-use Rattle.run_ends.specs.Causes.{end_of_engine, HasJobEnd, IsJobEnd}
+use Rattle.run_ends.specs.Causes.{end_of_engine, HasJobEnd, IsJobEnd, IsStoreEnd}
+use Rattle.run_ends.specs.declared.ended.StoreFault.{StoreFault}
+use Rattle.run_ends.specs.declared.ended.StoreFault.TheVariants as stores
+use Rattle.page_journal.specs.Record.{IsBad}
 use Rattle.run_ends.specs.declared.ended.Ended.{Ended}
 use Rattle.run_ends.specs.declared.ended.Ended.TheVariants as ends
-use Rattle.irtree_top.specs.Run.{EndsJob}
+use Rattle.irtree_top.specs.Run.{EndsJob, HasRunEnd, IsBroken, IsRunEnd}
 use Rattle.irtree_top.specs.Words.{Asked}
 use Rattle.irtree_top.proofs.Fronts.{none-said}
 
@@ -19,6 +22,8 @@ use Rattle.irtree_top.proofs.Fronts.{none-said}
 pub record Refuses (tells : Bool) (old new : World) (fault : EngineFault) : Type 0 where
   pub disk : fault ≡ engine.Disk → Rose old.faults new.faults
   pub none : IsTrue tells → (fault ≡ engine.Disk → ⊥) → StandsForNone old.seen
+  pub foreign : IsTrue tells → fault ≡ engine.NotAStore → IsForeign old.seen
+  pub bad : IsTrue tells → (at : ℕ) → fault ≡ engine.BadJournal at → IsBad old.seen at
 
 -- an opening that is refused for another cause than a fault of the disk says that the image stands for none
 pub none-by : {image : Image} (fault : EngineFault) → IsOpenFault fault → (fault ≡ engine.Disk → ⊥)
@@ -34,10 +39,10 @@ none-by engine.Stopped opens other none bad damaged = absurd opens
 none-by engine.Memory opens other none bad damaged = absurd opens
 
 -- the cause of a refused opening
-pub refused-cause : (tells : Bool) (source : ℕ) (old new : World) (fault : EngineFault) → IsOpenFault fault → Refuses tells old new fault → IsJobEnd tells source source old new (end_of_engine fault)
+pub refused-cause : (tells : Bool) (source : ℕ) (old new : World) (fault : EngineFault) → IsOpenFault fault → Refuses tells old new fault → IsRunEnd tells source source old new (end_of_engine fault)
 refused-cause tells source old new engine.Disk opens refuses = refuses.disk refl
-refused-cause tells source old new engine.NotAStore opens refuses = λ t. refuses.none t (λ e. cc)
-refused-cause tells source old new (engine.BadJournal at) opens refuses = λ t. refuses.none t (λ e. cc)
+refused-cause tells source old new engine.NotAStore opens refuses = λ t. (refuses.none t (λ e. cc), refuses.foreign t refl)
+refused-cause tells source old new (engine.BadJournal at) opens refuses = λ t. (refuses.none t (λ e. cc), refuses.bad t at refl)
 refused-cause tells source old new (engine.Damaged damage) opens refuses = λ t. refuses.none t (λ e. cc)
 refused-cause tells source old new engine.Full opens refuses = absurd opens
 refused-cause tells source old new engine.Worn opens refuses = absurd opens
@@ -59,31 +64,35 @@ refused-job T tells t asked state input left old new holds none engine.Stopped o
 refused-job T tells t asked state input left old new holds none engine.Memory opens refuses = absurd opens
 
 module _ (tells : Bool) (old was new : World) (faults : old.faults ≤ was.faults) (sink : was.sink_faults ≡ old.sink_faults) (stands : IsTrue tells → (state : Contents) → HoldsState old state → HoldsState was state) where
-  cause-from : (source_old source_new : ℕ) (end : Ended) → IsJobEnd tells source_old source_new was new end → IsJobEnd tells source_old source_new old new end
+  -- damage that was met behind the opening
+  broken-from : (fault : StoreFault) → IsStoreEnd tells was fault → IsTrue tells → IsBroken fault old.seen
+  broken-from (stores.Damaged damage) cause t = λ state holds. cause t state (stands t state holds)
+  broken-from stores.NotAStore cause t = absurd cause
+  broken-from (stores.BadJournal at) cause t = absurd cause
+
+  cause-from : (source_old source_new : ℕ) (end : Ended) → IsJobEnd tells source_old source_new was new end → IsRunEnd tells source_old source_new old new end
   cause-from source_old source_new ends.Memory cause = tt
   cause-from source_old source_new ends.Disk cause = omega (arith, cause, faults)
   cause-from source_old source_new ends.Source cause = cause
   cause-from source_old source_new ends.Sink cause = omega (arith, cause, sink)
   cause-from source_old source_new (ends.Input fault) cause = tt
-  cause-from source_old source_new (ends.Store fault) cause = λ t state holds. cause t state (stands t state holds)
+  cause-from source_old source_new (ends.Store fault) cause = broken-from fault cause
   cause-from source_old source_new (ends.Limit fault) cause = tt
   cause-from source_old source_new ends.Done cause = absurd cause
   cause-from source_old source_new ends.Words cause = absurd cause
 
   -- a job's cause, behind the opening
-  pub job-cause : (T : Type 0) (source_old source_new : ℕ) (result : Result T Ended) → HasJobEnd tells source_old source_new was new result → HasJobEnd tells source_old source_new old new result
+  pub job-cause : (T : Type 0) (source_old source_new : ℕ) (result : Result T Ended) → HasJobEnd tells source_old source_new was new result → HasRunEnd tells source_old source_new old new result
   job-cause T source_old source_new (Ok done) cause = record {
     source = cause.source;
     faults = omega (arith, cause.faults, faults);
     sink = omega (arith, cause.sink, sink);
-    stands = λ t state holds. cause.stands t state (stands t state holds);
     cause = tt;
   }
   job-cause T source_old source_new (Err end) cause = record {
     source = cause.source;
     faults = omega (arith, cause.faults, faults);
     sink = omega (arith, cause.sink, sink);
-    stands = λ t. tt;
     cause = cause-from source_old source_new end cause.cause;
   }
 

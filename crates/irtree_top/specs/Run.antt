@@ -1,6 +1,8 @@
 -- What a run of the program promises.
-use Rattle.std.specs.Prelude.{◌≡◌, ℕ, List, [], Ok, Err, Result}
-use Rattle.disk_model.specs.World.{World, Image}
+use Rattle.std.specs.Prelude.{◌≡◌, ◌≤◌, ℕ, List, [], Bool, IsTrue, IfErr, Ok, Err, Result}
+use Rattle.disk_model.specs.World.{World, Image, Rose}
+use Rattle.irtree_engine.specs.Holding.{IsForeign, StandsForNone}
+use Rattle.page_journal.specs.Record.{IsBad}
 use Rattle.place_map.specs.State.{Contents}
 use Rattle.geojson_points.specs.Takes.{Item}
 use Rattle.crash_prefix.specs.Acked.{acked_by_script, acked_by_load}
@@ -15,6 +17,8 @@ use Rattle.run_ends.specs.declared.ended.Ended.{Ended}
 use Rattle.run_ends.specs.declared.ended.Ended.TheVariants as ends
 use Rattle.run_ends.specs.declared.ended.LimitFault.{LimitFault}
 use Rattle.run_ends.specs.declared.ended.LimitFault.TheVariants as limits
+use Rattle.run_ends.specs.declared.ended.StoreFault.{StoreFault}
+use Rattle.run_ends.specs.declared.ended.StoreFault.TheVariants as stores
 use Rattle.script_run.specs.Standing.{SaysRepliesOf}
 use Rattle.irtree_top.specs.declared.words.Action.{Action}
 use Rattle.irtree_top.specs.declared.words.Action.TheVariants.{Run, Load}
@@ -77,6 +81,32 @@ EndsJob asked state input left old new (Err (ends.Limit fault)) = StopsAtLimit f
 EndsJob asked state input left old new (Err (ends.Store fault)) = ⊥
 EndsJob asked state input left old new (Err ends.Done) = ⊥
 EndsJob asked state input left old new (Err ends.Words) = ⊥
+
+-- What a store's fault says of the image: that it stands for no state; where it is called no store, that page 0 is foreign; where the
+-- journal is named, that its first fault is at that byte.
+abbrev pub IsBroken : StoreFault → Image → Type 0
+IsBroken stores.NotAStore image = StandsForNone image × IsForeign image
+IsBroken (stores.BadJournal at) image = StandsForNone image × IsBad image at
+IsBroken (stores.Damaged damage) image = StandsForNone image
+
+-- What may end a job whose store is opened first: want of memory, a count that rose, the input, an image that is broken so, or a limit.
+abbrev pub IsRunEnd : Bool → ℕ → ℕ → World → World → Ended → Type 0
+IsRunEnd tells source_old source_new old new ends.Memory = Unit {0}
+IsRunEnd tells source_old source_new old new ends.Disk = Rose old.faults new.faults
+IsRunEnd tells source_old source_new old new ends.Source = Rose source_old source_new
+IsRunEnd tells source_old source_new old new ends.Sink = Rose old.sink_faults new.sink_faults
+IsRunEnd tells source_old source_new old new (ends.Input fault) = Unit {0}
+IsRunEnd tells source_old source_new old new (ends.Store fault) = IsTrue tells → IsBroken fault old.seen
+IsRunEnd tells source_old source_new old new (ends.Limit fault) = Unit {0}
+IsRunEnd tells source_old source_new old new ends.Done = ⊥
+IsRunEnd tells source_old source_new old new ends.Words = ⊥
+
+-- such an end has its cause, and no count falls
+pub record HasRunEnd {T : Type 0} (tells : Bool) (source_old source_new : ℕ) (old new : World) (result : Result T Ended) : Type 0 where
+  pub source : source_old ≤ source_new
+  pub faults : old.faults ≤ new.faults
+  pub sink : old.sink_faults ≤ new.sink_faults
+  pub cause : IfErr result (IsRunEnd tells source_old source_new old new)
 
 -- an end that no fault of source, disk or sink causes
 abbrev pub IsSettled : Ended → Type 0

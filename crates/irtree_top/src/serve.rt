@@ -4,7 +4,7 @@ ghost use Rattle.disk_model.specs.World.{LeavesOnly};
 ghost use Rattle.place_map.specs.State.{Contents};
 ghost use Rattle.irtree_engine.specs.Holding.{HoldsState};
 ghost use Rattle.run_ends.specs.Causes.{HasJobEnd};
-ghost use Rattle.irtree_top.specs.Run.{EndsJob, HoldsPrefix};
+ghost use Rattle.irtree_top.specs.Run.{EndsJob, HasRunEnd, HoldsPrefix};
 ghost use Rattle.irtree_top.specs.Words.{Asked};
 
 use crate::Action;
@@ -61,7 +61,7 @@ pub(crate) fn run_job<S: Source, T: Station>(
     ensures any_moment { IsTrue S.tells → IsTrue T.tells → (asked : Asked) → asked.action ≡ action → asked.batch ≡ batch
         → (state : Contents) → HoldsState (T.world station.old) state
         → LeavesOnly (T.world station.old) (T.world station.new) (HoldsPrefix asked state (S.left source.old) (T.world station.old)) }
-    ensures cause { HasJobEnd T.tells (S.faults source.old) (S.faults source.new) (T.world station.old) (T.world station.new) result }
+    ensures cause { HasRunEnd T.tells (S.faults source.old) (S.faults source.new) (T.world station.old) (T.world station.new) result }
 {
     let block = match look(&mut *station) {
         Ok(block) => block,

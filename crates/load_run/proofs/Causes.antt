@@ -5,6 +5,7 @@ use Rattle.disk_model.specs.World.{World, Image}
 use Rattle.stored_state.specs.Stands.{Stands}
 use Rattle.run_ends.specs.declared.ended.Ended.{Ended}
 use Rattle.run_ends.specs.declared.ended.Ended.TheVariants as ends
+use Rattle.run_ends.specs.declared.ended.StoreFault.TheVariants as stores
 use Rattle.run_ends.specs.Causes.{StandsStill, IsEngineEnd, HasEngineEnd, IsJobEnd, HasJobEnd}
 
 -- where reads give the same, the image stands for what it stood for
@@ -25,7 +26,9 @@ module _ {tells : Bool} {u v : World} {T : Type 0} {done : T} (first : HasEngine
   end-then w ends.Memory faults sink cause = tt
   end-then w ends.Disk faults sink cause = omega (arith, cause, first.faults)
   end-then w ends.Sink faults sink cause = omega (arith, cause, first.sink)
-  end-then w (ends.Store fault) faults sink cause = λ told state holds. let mid = first.stands told state holds in cause told mid.0 mid.1
+  end-then w (ends.Store (stores.Damaged damage)) faults sink cause = λ told state holds. let mid = first.stands told state holds in cause told mid.0 mid.1
+  end-then w (ends.Store stores.NotAStore) faults sink cause = cause
+  end-then w (ends.Store (stores.BadJournal at)) faults sink cause = cause
   end-then w (ends.Limit fault) faults sink cause = tt
   end-then w (ends.Input fault) faults sink cause = cause
   end-then w ends.Source faults sink cause = cause

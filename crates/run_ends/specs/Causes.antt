@@ -7,6 +7,7 @@ use Rattle.irtree_engine.specs.declared.fault.EngineFault.{EngineFault}
 use Rattle.irtree_engine.specs.declared.fault.EngineFault.TheVariants as engine
 use Rattle.run_ends.specs.declared.ended.Ended.{Ended}
 use Rattle.run_ends.specs.declared.ended.Ended.TheVariants.{Done, Memory, Words, Disk, Source, Sink, Input, Store, Limit}
+use Rattle.run_ends.specs.declared.ended.StoreFault.{StoreFault}
 use Rattle.run_ends.specs.declared.ended.StoreFault.TheVariants as stores
 use Rattle.run_ends.specs.declared.ended.LimitFault.TheVariants as limits
 
@@ -26,12 +27,18 @@ end_of_engine engine.Memory = Memory
 abbrev pub StandsStill : World → World → Type 0
 StandsStill old new = (state : Contents) → HoldsState old state → (after : Contents) × HoldsState new after
 
--- What may end a call over an engine: want of memory, a disk or a sink whose count rose, a store whose image stands for none, or a limit.
+-- What a call over an open store may end by: damage, where the image stands for none. That it is a store was seen before.
+abbrev pub IsStoreEnd : Bool → World → StoreFault → Type 0
+IsStoreEnd tells old (stores.Damaged damage) = IsTrue tells → StandsForNone old.seen
+IsStoreEnd tells old stores.NotAStore = ⊥
+IsStoreEnd tells old (stores.BadJournal at) = ⊥
+
+-- What may end a call over an engine: want of memory, a disk or a sink whose count rose, damage, or a limit.
 abbrev pub IsEngineEnd : Bool → World → World → Ended → Type 0
 IsEngineEnd tells old new Memory = Unit {0}
 IsEngineEnd tells old new Disk = Rose old.faults new.faults
 IsEngineEnd tells old new Sink = Rose old.sink_faults new.sink_faults
-IsEngineEnd tells old new (Store fault) = IsTrue tells → StandsForNone old.seen
+IsEngineEnd tells old new (Store fault) = IsStoreEnd tells old fault
 IsEngineEnd tells old new (Limit fault) = Unit {0}
 IsEngineEnd tells old new (Input fault) = ⊥
 IsEngineEnd tells old new Source = ⊥
@@ -52,7 +59,7 @@ IsJobEnd tells source_old source_new old new Disk = Rose old.faults new.faults
 IsJobEnd tells source_old source_new old new Source = Rose source_old source_new
 IsJobEnd tells source_old source_new old new Sink = Rose old.sink_faults new.sink_faults
 IsJobEnd tells source_old source_new old new (Input fault) = Unit {0}
-IsJobEnd tells source_old source_new old new (Store fault) = IsTrue tells → StandsForNone old.seen
+IsJobEnd tells source_old source_new old new (Store fault) = IsStoreEnd tells old fault
 IsJobEnd tells source_old source_new old new (Limit fault) = Unit {0}
 IsJobEnd tells source_old source_new old new Done = ⊥
 IsJobEnd tells source_old source_new old new Words = ⊥

@@ -3,10 +3,12 @@ use Rattle.std.proofs.Common.{◌≡◌, ℕ, ◌≤◌, Bool, arith, subst, sym
 use Rattle.std.specs.Prelude.{Result, Ok, Err, IfErr, IsTrue}
 use Rattle.disk_model.specs.World.{World}
 use Rattle.irtree_engine.specs.Holding.{StandsForNone}
-use Rattle.run_ends.specs.Causes.{StandsStill, IsEngineEnd, HasEngineEnd, IsJobEnd, HasJobEnd}
+use Rattle.run_ends.specs.Causes.{StandsStill, IsStoreEnd, IsEngineEnd, HasEngineEnd, IsJobEnd, HasJobEnd}
 use Rattle.run_ends.specs.declared.ended.Ended.{Ended}
 use Rattle.run_ends.specs.declared.ended.InputFault.{InputFault}
 use Rattle.run_ends.specs.declared.ended.Ended.TheVariants as ends
+use Rattle.run_ends.specs.declared.ended.StoreFault.{StoreFault}
+use Rattle.run_ends.specs.declared.ended.StoreFault.TheVariants as stores
 
 -- a state that the image stood for at first, it stands for still after one call and another
 pub stands-then : (old now new : World) → StandsStill old now → StandsStill now new → StandsStill old new
@@ -15,6 +17,12 @@ stands-then old now new first next = λ state holds. let here = first state hold
 -- and an image that stands for none now stood for none at first
 none-then : (old now : World) → StandsStill old now → StandsForNone now.seen → StandsForNone old.seen
 none-then old now first none = λ state holds. let here = first state holds in none here.0 here.1
+
+-- so damage that was met later was met in it
+damage-then : (tells : Bool) (old now : World) (fault : StoreFault) → (IsTrue tells → StandsStill old now) → IsStoreEnd tells now fault → IsStoreEnd tells old fault
+damage-then tells old now (stores.Damaged damage) stands cause = λ told. none-then old now (stands told) (cause told)
+damage-then tells old now stores.NotAStore stands cause = absurd cause
+damage-then tells old now (stores.BadJournal at) stands cause = absurd cause
 
 -- ---- over an engine
 
@@ -31,7 +39,7 @@ engine-later : (tells : Bool) (old now new : World) (end : Ended) → old.faults
 engine-later tells old now new ends.Memory faults sink stands cause = tt
 engine-later tells old now new ends.Disk faults sink stands cause = omega (arith, cause, faults)
 engine-later tells old now new ends.Sink faults sink stands cause = omega (arith, cause, sink)
-engine-later tells old now new (ends.Store fault) faults sink stands cause = λ told. none-then old now (stands told) (cause told)
+engine-later tells old now new (ends.Store fault) faults sink stands cause = damage-then tells old now fault stands cause
 engine-later tells old now new (ends.Limit fault) faults sink stands cause = tt
 engine-later tells old now new (ends.Input fault) faults sink stands cause = absurd cause
 engine-later tells old now new ends.Source faults sink stands cause = absurd cause
@@ -104,7 +112,7 @@ piece-later : (tells : Bool) (source_old source_new : ℕ) (old now new : World)
 piece-later tells source_old source_new old now new ends.Memory faults sink stands cause = tt
 piece-later tells source_old source_new old now new ends.Disk faults sink stands cause = omega (arith, cause, faults)
 piece-later tells source_old source_new old now new ends.Sink faults sink stands cause = omega (arith, cause, sink)
-piece-later tells source_old source_new old now new (ends.Store fault) faults sink stands cause = λ told. none-then old now (stands told) (cause told)
+piece-later tells source_old source_new old now new (ends.Store fault) faults sink stands cause = damage-then tells old now fault stands cause
 piece-later tells source_old source_new old now new (ends.Limit fault) faults sink stands cause = tt
 piece-later tells source_old source_new old now new (ends.Input fault) faults sink stands cause = tt
 piece-later tells source_old source_new old now new ends.Source faults sink stands cause = absurd (omega (arith, cause))

@@ -5,7 +5,7 @@ use Rattle.disk_model.specs.World.{LeavesOnly}
 use Rattle.disk_model.proofs.Moments.{then, within}
 use Rattle.irtree_engine.specs.Holding.{HoldsState}
 use Rattle.run_ends.specs.Causes.{HasJobEnd}
-use Rattle.irtree_top.specs.Run.{EndsJob, HoldsPrefix}
+use Rattle.irtree_top.specs.Run.{EndsJob, HasRunEnd, HoldsPrefix}
 use Rattle.irtree_top.proofs.Crashes.{left-from, none-held}
 use Rattle.irtree_top.proofs.Jobs.{job-from}
 use Rattle.irtree_top.proofs.Openings.{Refuses, given-back, job-cause, none-by, refused-cause, refused-job}
@@ -20,6 +20,8 @@ refuses g c = record {
       (λ is. let named : IsErrOf c.look.result engine.NotAStore = cc in c.look.ensures.not_a_store told named)
       (λ at is. let named : IsErrOf c.look.result (engine.BadJournal at) = cc in (c.look.ensures.bad told at named).1)
       (λ damage is. let named : IsErrOf c.look.result (engine.Damaged damage) = cc in (c.look.ensures.damaged damage named).1 told);
+  foreign = λ told is. let named : IsErrOf c.look.result engine.NotAStore = cc in c.look.ensures.foreign told named;
+  bad = λ told at is. let named : IsErrOf c.look.result (engine.BadJournal at) = cc in (c.look.ensures.bad told at named).0;
 }
 
 pub returns-in-Err-clause-told : goal.returns-in-Err-clause-told
@@ -38,7 +40,6 @@ returns-in-Err-clause-cause g c = record {
   source = omega arith;
   faults = c.look.ensures.later;
   sink = omega (arith, c.look.ensures.sink);
-  stands = λ t. tt;
   cause = rw c.ended_by.ensures (refused-cause g.T.Disk.tells (g.S.Source.faults c.args.source.now) (g.T.Disk.world c.args.station.now) (g.T.Disk.world c.look.new.disk) c.in-Err.fault c.in-Err.ensures.causes (refuses g c));
 }
 
@@ -70,7 +71,7 @@ returns-clause-cause g c =
     let world = g.T.Disk.world in
     let source = g.S.Source.faults in
     let over : c.over-engine.result.store.disk.now ≡ c.look.new.disk = c.over-engine.ensures.disk in
-    given-back (λ disk. HasJobEnd g.T.Disk.tells (source c.args.source.now) (source c.serve-end.new.source) (world c.args.station.now) (world disk) c.serve-end.result) c.serve-end.new.engine.store.disk.now _ (search rules)
+    given-back (λ disk. HasRunEnd g.T.Disk.tells (source c.args.source.now) (source c.serve-end.new.source) (world c.args.station.now) (world disk) c.serve-end.result) c.serve-end.new.engine.store.disk.now _ (search rules)
     (job-cause g.T.Disk.tells (world c.args.station.now) (world c.look.new.disk) (world c.serve-end.new.engine.store.disk.now) c.look.ensures.later c.look.ensures.sink (λ told state holds. c.in-Ok.ensures.holds told state holds) (Unit {0})
     (source c.args.source.now) (source c.serve-end.new.source) c.serve-end.result
     (subst (λ disk. HasJobEnd g.T.Disk.tells (source c.args.source.now) (source c.serve-end.new.source) (world disk) (world c.serve-end.new.engine.store.disk.now) c.serve-end.result) over c.serve-end.ensures.cause))
