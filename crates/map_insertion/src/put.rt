@@ -218,20 +218,23 @@ pub fn put_in<P: Pages>(
         Err(rule) => return Err(damaged(page, rule)),
     };
     let child = child_at(bytes, form, found.at);
-    let below = pages.read(child)?;
-    let grown = put_in(
-        pages,
-        form,
-        least_at(form, level - 1),
-        child,
-        &below,
-        level - 1,
-        lower(bytes, form, found.at, low),
-        upper(bytes, form, found.count, found.at, high),
-        key,
-        value,
-        middle,
-    )?;
+    // The child's bytes are used where `read` leaves them: taken out of its answer they would be copied.
+    let grown = match pages.read(child) {
+        Ok(below) => put_in(
+            pages,
+            form,
+            least_at(form, level - 1),
+            child,
+            &below,
+            level - 1,
+            lower(bytes, form, found.at, low),
+            upper(bytes, form, found.count, found.at, high),
+            key,
+            value,
+            middle,
+        )?,
+        Err(fault) => return Err(fault),
+    };
     let right = grown.right;
     if right == 0 {
         return Ok(grown);

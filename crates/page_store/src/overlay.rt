@@ -35,6 +35,11 @@ pub(crate) fn put(
     ensures ordered { IsOrdered nat_cmp overlay.new }
     ensures memory { IfErr result (λ fault. fault ≡ PageFault.Memory) }
 {
+    // A page that is there already is written in place: no page is allocated and none is freed.
+    if let Some(page) = overlay.get_mut(&number) {
+        **page = *bytes;
+        return Ok(());
+    }
     if overlay.len() >= u32::MAX as usize - 1 {
         return Err(PageFault::Memory);
     }

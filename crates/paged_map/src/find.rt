@@ -72,17 +72,19 @@ pub fn find_in<P: Pages>(
         Err(rule) => return Err(damaged(page, rule)),
     };
     let child = child_at(bytes, form, found.at);
-    let below = pages.read(child)?;
-    find_in(
-        pages,
-        form,
-        least_at(form, level - 1),
-        child,
-        &below,
-        level - 1,
-        lower(bytes, form, found.at, low),
-        upper(bytes, form, found.count, found.at, high),
-        key,
-        value,
-    )
+    match pages.read(child) {
+        Ok(below) => find_in(
+            pages,
+            form,
+            least_at(form, level - 1),
+            child,
+            &below,
+            level - 1,
+            lower(bytes, form, found.at, low),
+            upper(bytes, form, found.count, found.at, high),
+            key,
+            value,
+        ),
+        Err(fault) => Err(fault),
+    }
 }

@@ -66,20 +66,22 @@ fn first_below<P: Pages>(
     ensures follows { P.follows_from pages.old pages.new }
 {
     let child = child_at(bytes, form, place.at);
-    let below = pages.read(child)?;
-    first_in(
-        pages,
-        form,
-        least_at(form, level - 1),
-        child,
-        &below,
-        level - 1,
-        lower(bytes, form, place.at, low),
-        upper(bytes, form, place.count, place.at, high),
-        key,
-        found,
-        value,
-    )
+    match pages.read(child) {
+        Ok(below) => first_in(
+            pages,
+            form,
+            least_at(form, level - 1),
+            child,
+            &below,
+            level - 1,
+            lower(bytes, form, place.at, low),
+            upper(bytes, form, place.count, place.at, high),
+            key,
+            found,
+            value,
+        ),
+        Err(fault) => Err(fault),
+    }
 }
 
 /// The leaf below a page that holds the first row whose key isn't less. The row's key is left in `found` and its value

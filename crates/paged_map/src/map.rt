@@ -92,21 +92,24 @@ impl<L: Layout> PagedMap<L> {
             return Ok(None);
         }
         let form = form_of::<L>();
-        let bytes = pages.read(self.root)?;
-        let level = level(&bytes);
-        let low = least_key(form);
-        find_in(
-            pages,
-            form,
-            root_least(level),
-            self.root,
-            &bytes,
-            level,
-            low,
-            &[],
-            key,
-            value,
-        )
+        match pages.read(self.root) {
+            Ok(bytes) => {
+                let level = level(&bytes);
+                find_in(
+                    pages,
+                    form,
+                    root_least(level),
+                    self.root,
+                    &bytes,
+                    level,
+                    least_key(form),
+                    &[],
+                    key,
+                    value,
+                )
+            }
+            Err(fault) => Err(fault),
+        }
     }
 
     /// The page of the leaf that holds the first row whose key isn't less; the row's key is then left in `found` and
@@ -154,22 +157,25 @@ impl<L: Layout> PagedMap<L> {
             return Ok(None);
         }
         let form = form_of::<L>();
-        let bytes = pages.read(self.root)?;
-        let level = level(&bytes);
-        let low = least_key(form);
-        first_in(
-            pages,
-            form,
-            root_least(level),
-            self.root,
-            &bytes,
-            level,
-            low,
-            &[],
-            key,
-            found,
-            value,
-        )
+        match pages.read(self.root) {
+            Ok(bytes) => {
+                let level = level(&bytes);
+                first_in(
+                    pages,
+                    form,
+                    root_least(level),
+                    self.root,
+                    &bytes,
+                    level,
+                    least_key(form),
+                    &[],
+                    key,
+                    found,
+                    value,
+                )
+            }
+            Err(fault) => Err(fault),
+        }
     }
 
     /// Puts a row: the value at the key is this one from now on. Answers whether the key was there.

@@ -61,21 +61,26 @@ pub fn put_below<P: Pages>(
     ensures goes_on { P.is_stopped pages.new ≡ P.is_stopped pages.old }
     ensures follows { P.follows_from pages.old pages.new }
 {
-    let bytes = pages.read(root)?;
-    let level = level(&bytes);
-    let grown = put_in(
-        pages,
-        form,
-        root_least(level),
-        root,
-        &bytes,
-        level,
-        least_key(form),
-        &[],
-        key,
-        value,
-        middle,
-    )?;
+    let (level, grown) = match pages.read(root) {
+        Ok(bytes) => {
+            let level = level(&bytes);
+            let grown = put_in(
+                pages,
+                form,
+                root_least(level),
+                root,
+                &bytes,
+                level,
+                least_key(form),
+                &[],
+                key,
+                value,
+                middle,
+            )?;
+            (level, grown)
+        }
+        Err(fault) => return Err(fault),
+    };
     let right = grown.right;
     if right == 0 {
         return Ok(Rooted {

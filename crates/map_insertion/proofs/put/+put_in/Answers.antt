@@ -72,9 +72,8 @@ returns-in-Err-clause-damaged g t c = λ before asked told is damage e.
 pub returns-in-Err-clause-own : goal.returns-in-Err-clause-own
 returns-in-Err-clause-own g t c = λ before asked told is. asks-here (uses c.args.form (g.P.Pages.pages c.args.pages.now) c.args.level c.args.page) before _ c.args.page (uses-self c.args.form (g.P.Pages.pages c.args.pages.now) c.args.level c.args.page) asked
 
-pub returns-in_err-below-clause-supplied : goal.returns-in_err-below-clause-supplied
-returns-in_err-below-clause-supplied g t c =
-    let passed = err_from_is_err_and c.from_residual.result c.from_residual.ensures.1 in
+pub returns-in-Err-read-clause-supplied : goal.returns-in-Err-read-clause-supplied
+returns-in-Err-read-clause-supplied g t c =
     let form : Form = c.args.form in
     let old : PageMap = g.P.Pages.pages c.args.pages.now in
     let count : ℕ = g.P.Pages.count c.args.pages.now in
@@ -87,14 +86,13 @@ returns-in_err-below-clause-supplied g t c =
     let low : ℕ = number c.args.low.now in
     let high : ℕ = upper_of c.args.form.key c.args.high.now in
     let child : ℕ = c.child_at-child.result in
-    rw (passed.1, passed.2) (λ free is tree supplied once damage e.
-    let d = c.read.ensures.damaged damage (c.in_err-below.was ∙ ap Err (same-fault {T = Grown} _ _ e)) in
+    (λ free is tree supplied once damage e.
+    let d = c.read.ensures.damaged damage (c.in-Err-read.is ∙ ap Err (same-fault {T = Grown} _ _ e)) in
     damage-below form old c.args.bytes.now c.args.level l c.args.page at up is small count damage c.args.least _ low high _ _ child refl refl refl c.child_at-child.ensures
     (damage-link form old count damage _ l child _ _ d.0 d.1))
 
-pub returns-in_err-below-clause-damaged : goal.returns-in_err-below-clause-damaged
-returns-in_err-below-clause-damaged g t c =
-    let passed = err_from_is_err_and c.from_residual.result c.from_residual.ensures.1 in
+pub returns-in-Err-read-clause-damaged : goal.returns-in-Err-read-clause-damaged
+returns-in-Err-read-clause-damaged g t c =
     let form : Form = c.args.form in
     let old : PageMap = g.P.Pages.pages c.args.pages.now in
     let count : ℕ = g.P.Pages.count c.args.pages.now in
@@ -107,8 +105,8 @@ returns-in_err-below-clause-damaged g t c =
     let low : ℕ = number c.args.low.now in
     let high : ℕ = upper_of c.args.form.key c.args.high.now in
     let child : ℕ = c.child_at-child.result in
-    rw (passed.1, passed.2) (λ before asked told is damage e.
-    let was = c.in_err-below.was ∙ ap Err (same-fault {T = Grown} _ _ e) in
+    (λ before asked told is damage e.
+    let was = c.in-Err-read.is ∙ ap Err (same-fault {T = Grown} _ _ e) in
     let d = c.read.ensures.damaged damage was in
     inl (
       damage-below form old c.args.bytes.now c.args.level l c.args.page at up is small count damage c.args.least _ low high _ _ child refl refl refl c.child_at-child.ensures
@@ -116,8 +114,8 @@ returns-in_err-below-clause-damaged g t c =
       named-read before (g.P.Pages.asked c.args.pages.now) (g.P.Pages.asked c.read.new.self) c.args.page child c.read.result damage asked c.read.ensures.asked was (ap (λ (d : Damage). d.page) d.0),
     ))
 
-pub returns-in_err-below-clause-own : goal.returns-in_err-below-clause-own
-returns-in_err-below-clause-own g t c = λ before asked told is.
+pub returns-in-Err-read-clause-own : goal.returns-in-Err-read-clause-own
+returns-in-Err-read-clause-own g t c = λ before asked told is.
     let form : Form = c.args.form in
     let old : PageMap = g.P.Pages.pages c.args.pages.now in
     let count : ℕ = g.P.Pages.count c.args.pages.now in
@@ -152,7 +150,7 @@ put_in-requires g t c = λ κs within. (
               c.lower.ensures.from (number c.args.key.now) c.in-Ok.ensures.place c.requires.from,
               (
                 c.upper.ensures.to (number c.args.key.now) c.in-Ok.ensures.place c.requires.to,
-                (c.requires.value, (c.requires.middle, λ u. let f = c.in_ok-below.ensures.uncounted (subst (λ (n : ℕ). IsUncounted n c.child_at-child.result) c.in_ok-below.ensures.count u) in cc)),
+                (c.requires.value, (c.requires.middle, λ u. let f = c.in-Ok-read.ensures.uncounted (subst (λ (n : ℕ). IsUncounted n c.child_at-child.result) c.in-Ok-read.ensures.count u) in cc)),
               ),
             ),
           ),
@@ -162,9 +160,9 @@ put_in-requires g t c = λ κs within. (
   ),
 )
 
-pub returns-in_err-grown-clause-supplied : goal.returns-in_err-grown-clause-supplied
-returns-in_err-grown-clause-supplied g t c =
-    let passed = err_from_is_err_and c.from_residual-in_err-grown.result c.from_residual-in_err-grown.ensures.1 in
+pub returns-in_err-grown-in-Ok-read-clause-supplied : goal.returns-in_err-grown-in-Ok-read-clause-supplied
+returns-in_err-grown-in-Ok-read-clause-supplied g t c =
+    let passed = err_from_is_err_and c.from_residual.result c.from_residual.ensures.1 in
     let form : Form = c.args.form in
     let old : PageMap = g.P.Pages.pages c.args.pages.now in
     let count : ℕ = g.P.Pages.count c.args.pages.now in
@@ -178,18 +176,18 @@ returns-in_err-grown-clause-supplied g t c =
     let high : ℕ = upper_of c.args.form.key c.args.high.now in
     let child : ℕ = c.child_at-child.result in
     let mid : PageMap = g.P.Pages.pages c.read.new.self in
-    let read = c.in_ok-below.ensures in
+    let read = c.in-Ok-read.ensures in
     let lo : ℕ = number c.lower.result.now in
     let hi : ℕ = upper_of c.args.form.key c.upper.result.now in
     rw (passed.1, passed.2) (λ free is tree supplied once damage e.
-    let d = c.put_in.ensures.supplied free (mid-bytes form c.args.least old mid count (g.P.Pages.count c.read.new.self) (g.P.Pages.first c.args.pages.now) (g.P.Pages.first c.read.new.self) c.args.level l c.args.page at key child c.least_at.result lo hi low high c.args.value.now c.in_ok-below.below c.args.bytes.now up is small c.in-Ok.ensures.place c.requires.from c.requires.to c.child_at-child.ensures c.least_at.ensures.is c.lower.ensures.is c.upper.ensures.is read.pages read.count read.first read.gives tree) (mid-tree form c.args.least old mid count (g.P.Pages.count c.read.new.self) (g.P.Pages.first c.args.pages.now) (g.P.Pages.first c.read.new.self) c.args.level l c.args.page at key child c.least_at.result lo hi low high c.args.value.now c.in_ok-below.below c.args.bytes.now up is small c.in-Ok.ensures.place c.requires.from c.requires.to c.child_at-child.ensures c.least_at.ensures.is c.lower.ensures.is c.upper.ensures.is read.pages read.count read.first read.gives tree) (mid-supplied form c.args.least old mid count (g.P.Pages.count c.read.new.self) (g.P.Pages.first c.args.pages.now) (g.P.Pages.first c.read.new.self) c.args.level l c.args.page at key child c.least_at.result lo hi low high c.args.value.now c.in_ok-below.below c.args.bytes.now up is small c.in-Ok.ensures.place c.requires.from c.requires.to c.child_at-child.ensures c.least_at.ensures.is c.lower.ensures.is c.upper.ensures.is read.pages read.count read.first read.gives free supplied) (mid-once form c.args.least old mid count (g.P.Pages.count c.read.new.self) (g.P.Pages.first c.args.pages.now) (g.P.Pages.first c.read.new.self) c.args.level l c.args.page at key child c.least_at.result lo hi low high c.args.value.now c.in_ok-below.below c.args.bytes.now up is small c.in-Ok.ensures.place c.requires.from c.requires.to c.child_at-child.ensures c.least_at.ensures.is c.lower.ensures.is c.upper.ensures.is read.pages read.count read.first read.gives free once) damage (c.in_err-grown.was ∙ e) in
+    let d = c.put_in.ensures.supplied free (mid-bytes form c.args.least old mid count (g.P.Pages.count c.read.new.self) (g.P.Pages.first c.args.pages.now) (g.P.Pages.first c.read.new.self) c.args.level l c.args.page at key child c.least_at.result lo hi low high c.args.value.now c.in-Ok-read.below c.args.bytes.now up is small c.in-Ok.ensures.place c.requires.from c.requires.to c.child_at-child.ensures c.least_at.ensures.is c.lower.ensures.is c.upper.ensures.is read.pages read.count read.first read.gives tree) (mid-tree form c.args.least old mid count (g.P.Pages.count c.read.new.self) (g.P.Pages.first c.args.pages.now) (g.P.Pages.first c.read.new.self) c.args.level l c.args.page at key child c.least_at.result lo hi low high c.args.value.now c.in-Ok-read.below c.args.bytes.now up is small c.in-Ok.ensures.place c.requires.from c.requires.to c.child_at-child.ensures c.least_at.ensures.is c.lower.ensures.is c.upper.ensures.is read.pages read.count read.first read.gives tree) (mid-supplied form c.args.least old mid count (g.P.Pages.count c.read.new.self) (g.P.Pages.first c.args.pages.now) (g.P.Pages.first c.read.new.self) c.args.level l c.args.page at key child c.least_at.result lo hi low high c.args.value.now c.in-Ok-read.below c.args.bytes.now up is small c.in-Ok.ensures.place c.requires.from c.requires.to c.child_at-child.ensures c.least_at.ensures.is c.lower.ensures.is c.upper.ensures.is read.pages read.count read.first read.gives free supplied) (mid-once form c.args.least old mid count (g.P.Pages.count c.read.new.self) (g.P.Pages.first c.args.pages.now) (g.P.Pages.first c.read.new.self) c.args.level l c.args.page at key child c.least_at.result lo hi low high c.args.value.now c.in-Ok-read.below c.args.bytes.now up is small c.in-Ok.ensures.place c.requires.from c.requires.to c.child_at-child.ensures c.least_at.ensures.is c.lower.ensures.is c.upper.ensures.is read.pages read.count read.first read.gives free once) damage (c.in_err-grown-in-Ok-read.was ∙ e) in
     let d' = subst (λ (n : ℕ). IsDamaged form old n damage c.least_at.result l child lo hi) read.count
     (subst (λ (p : PageMap). IsDamaged form p (g.P.Pages.count c.read.new.self) damage c.least_at.result l child lo hi) read.pages d) in
     damage-below form old c.args.bytes.now c.args.level l c.args.page at up is small count damage c.args.least c.least_at.result low high lo hi child c.least_at.ensures.is c.lower.ensures.is c.upper.ensures.is c.child_at-child.ensures d')
 
-pub returns-in_err-grown-clause-damaged : goal.returns-in_err-grown-clause-damaged
-returns-in_err-grown-clause-damaged g t c =
-    let passed = err_from_is_err_and c.from_residual-in_err-grown.result c.from_residual-in_err-grown.ensures.1 in
+pub returns-in_err-grown-in-Ok-read-clause-damaged : goal.returns-in_err-grown-in-Ok-read-clause-damaged
+returns-in_err-grown-in-Ok-read-clause-damaged g t c =
+    let passed = err_from_is_err_and c.from_residual.result c.from_residual.ensures.1 in
     let form : Form = c.args.form in
     let old : PageMap = g.P.Pages.pages c.args.pages.now in
     let count : ℕ = g.P.Pages.count c.args.pages.now in
@@ -203,14 +201,14 @@ returns-in_err-grown-clause-damaged g t c =
     let high : ℕ = upper_of c.args.form.key c.args.high.now in
     let child : ℕ = c.child_at-child.result in
     let mid : PageMap = g.P.Pages.pages c.read.new.self in
-    let read = c.in_ok-below.ensures in
+    let read = c.in-Ok-read.ensures in
     let lo : ℕ = number c.lower.result.now in
     let hi : ℕ = upper_of c.args.form.key c.upper.result.now in
     rw (passed.1, passed.2) (λ before asked told is damage e.
     let bytes = read.gives (told-read old count child told (λ u. let f = read.uncounted u in cc)) in
-    let claim = subst (λ (n : ℕ). AreTold old n → c.in_ok-below.below ≡ old child → (IsDamaged form old n damage c.least_at.result l child lo hi × AskedSince (g.P.Pages.asked c.args.pages.now) (g.P.Pages.asked c.put_in.new.pages) damage.page) ⊎ IsRefusedTake (g.P.Pages.pages c.put_in.new.pages) (g.P.Pages.count c.put_in.new.pages) (g.P.Pages.first c.put_in.new.pages) damage) read.count
-    (subst (λ (p : PageMap). AreTold p (g.P.Pages.count c.read.new.self) → c.in_ok-below.below ≡ p child → (IsDamaged form p (g.P.Pages.count c.read.new.self) damage c.least_at.result l child lo hi × AskedSince (g.P.Pages.asked c.args.pages.now) (g.P.Pages.asked c.put_in.new.pages) damage.page) ⊎ IsRefusedTake (g.P.Pages.pages c.put_in.new.pages) (g.P.Pages.count c.put_in.new.pages) (g.P.Pages.first c.put_in.new.pages) damage) read.pages
-    (λ a b. c.put_in.ensures.damaged (g.P.Pages.asked c.args.pages.now) read.asked a b damage (c.in_err-grown.was ∙ e))) in
+    let claim = subst (λ (n : ℕ). AreTold old n → c.in-Ok-read.below ≡ old child → (IsDamaged form old n damage c.least_at.result l child lo hi × AskedSince (g.P.Pages.asked c.args.pages.now) (g.P.Pages.asked c.put_in.new.pages) damage.page) ⊎ IsRefusedTake (g.P.Pages.pages c.put_in.new.pages) (g.P.Pages.count c.put_in.new.pages) (g.P.Pages.first c.put_in.new.pages) damage) read.count
+    (subst (λ (p : PageMap). AreTold p (g.P.Pages.count c.read.new.self) → c.in-Ok-read.below ≡ p child → (IsDamaged form p (g.P.Pages.count c.read.new.self) damage c.least_at.result l child lo hi × AskedSince (g.P.Pages.asked c.args.pages.now) (g.P.Pages.asked c.put_in.new.pages) damage.page) ⊎ IsRefusedTake (g.P.Pages.pages c.put_in.new.pages) (g.P.Pages.count c.put_in.new.pages) (g.P.Pages.first c.put_in.new.pages) damage) read.pages
+    (λ a b. c.put_in.ensures.damaged (g.P.Pages.asked c.args.pages.now) read.asked a b damage (c.in_err-grown-in-Ok-read.was ∙ e))) in
     ⊎_elim
     (λ d. inl (
       damage-below form old c.args.bytes.now c.args.level l c.args.page at up is small count damage c.args.least c.least_at.result low high lo hi child c.least_at.ensures.is c.lower.ensures.is c.upper.ensures.is c.child_at-child.ensures d.0,
@@ -233,11 +231,11 @@ returns-then-right-eq0-clause-grown g t c = λ free is tree supplied once.
     let high : ℕ = upper_of c.args.form.key c.args.high.now in
     let child : ℕ = c.child_at-child.result in
     let mid : PageMap = g.P.Pages.pages c.read.new.self in
-    let read = c.in_ok-below.ensures in
+    let read = c.in-Ok-read.ensures in
     let lo : ℕ = number c.lower.result.now in
     let hi : ℕ = upper_of c.args.form.key c.upper.result.now in
-    let grew = c.in_ok-grown.ensures.grown free (mid-bytes form c.args.least old mid count (g.P.Pages.count c.read.new.self) (g.P.Pages.first c.args.pages.now) (g.P.Pages.first c.read.new.self) c.args.level l c.args.page at key child c.least_at.result lo hi low high c.args.value.now c.in_ok-below.below c.args.bytes.now up is small c.in-Ok.ensures.place c.requires.from c.requires.to c.child_at-child.ensures c.least_at.ensures.is c.lower.ensures.is c.upper.ensures.is read.pages read.count read.first read.gives tree) (mid-tree form c.args.least old mid count (g.P.Pages.count c.read.new.self) (g.P.Pages.first c.args.pages.now) (g.P.Pages.first c.read.new.self) c.args.level l c.args.page at key child c.least_at.result lo hi low high c.args.value.now c.in_ok-below.below c.args.bytes.now up is small c.in-Ok.ensures.place c.requires.from c.requires.to c.child_at-child.ensures c.least_at.ensures.is c.lower.ensures.is c.upper.ensures.is read.pages read.count read.first read.gives tree) (mid-supplied form c.args.least old mid count (g.P.Pages.count c.read.new.self) (g.P.Pages.first c.args.pages.now) (g.P.Pages.first c.read.new.self) c.args.level l c.args.page at key child c.least_at.result lo hi low high c.args.value.now c.in_ok-below.below c.args.bytes.now up is small c.in-Ok.ensures.place c.requires.from c.requires.to c.child_at-child.ensures c.least_at.ensures.is c.lower.ensures.is c.upper.ensures.is read.pages read.count read.first read.gives free supplied) (mid-once form c.args.least old mid count (g.P.Pages.count c.read.new.self) (g.P.Pages.first c.args.pages.now) (g.P.Pages.first c.read.new.self) c.args.level l c.args.page at key child c.least_at.result lo hi low high c.args.value.now c.in_ok-below.below c.args.bytes.now up is small c.in-Ok.ensures.place c.requires.from c.requires.to c.child_at-child.ensures c.least_at.ensures.is c.lower.ensures.is c.upper.ensures.is read.pages read.count read.first read.gives free once) in
-    whole form c.args.least old mid count (g.P.Pages.count c.read.new.self) (g.P.Pages.first c.args.pages.now) (g.P.Pages.first c.read.new.self) c.args.level l c.args.page at key child c.least_at.result lo hi low high c.args.value.now c.in_ok-below.below c.args.bytes.now up is small c.in-Ok.ensures.place c.requires.from c.requires.to c.child_at-child.ensures c.least_at.ensures.is c.lower.ensures.is c.upper.ensures.is read.pages read.count read.first read.gives free tree once (g.P.Pages.pages c.put_in.new.pages) (g.P.Pages.count c.put_in.new.pages) (g.P.Pages.first c.put_in.new.pages) c.in_ok-grown.grown.right (number c.put_in.new.middle) grew c.if-right-eq0.true
+    let grew = c.in_ok-grown-in-Ok-read.ensures.grown free (mid-bytes form c.args.least old mid count (g.P.Pages.count c.read.new.self) (g.P.Pages.first c.args.pages.now) (g.P.Pages.first c.read.new.self) c.args.level l c.args.page at key child c.least_at.result lo hi low high c.args.value.now c.in-Ok-read.below c.args.bytes.now up is small c.in-Ok.ensures.place c.requires.from c.requires.to c.child_at-child.ensures c.least_at.ensures.is c.lower.ensures.is c.upper.ensures.is read.pages read.count read.first read.gives tree) (mid-tree form c.args.least old mid count (g.P.Pages.count c.read.new.self) (g.P.Pages.first c.args.pages.now) (g.P.Pages.first c.read.new.self) c.args.level l c.args.page at key child c.least_at.result lo hi low high c.args.value.now c.in-Ok-read.below c.args.bytes.now up is small c.in-Ok.ensures.place c.requires.from c.requires.to c.child_at-child.ensures c.least_at.ensures.is c.lower.ensures.is c.upper.ensures.is read.pages read.count read.first read.gives tree) (mid-supplied form c.args.least old mid count (g.P.Pages.count c.read.new.self) (g.P.Pages.first c.args.pages.now) (g.P.Pages.first c.read.new.self) c.args.level l c.args.page at key child c.least_at.result lo hi low high c.args.value.now c.in-Ok-read.below c.args.bytes.now up is small c.in-Ok.ensures.place c.requires.from c.requires.to c.child_at-child.ensures c.least_at.ensures.is c.lower.ensures.is c.upper.ensures.is read.pages read.count read.first read.gives free supplied) (mid-once form c.args.least old mid count (g.P.Pages.count c.read.new.self) (g.P.Pages.first c.args.pages.now) (g.P.Pages.first c.read.new.self) c.args.level l c.args.page at key child c.least_at.result lo hi low high c.args.value.now c.in-Ok-read.below c.args.bytes.now up is small c.in-Ok.ensures.place c.requires.from c.requires.to c.child_at-child.ensures c.least_at.ensures.is c.lower.ensures.is c.upper.ensures.is read.pages read.count read.first read.gives free once) in
+    whole form c.args.least old mid count (g.P.Pages.count c.read.new.self) (g.P.Pages.first c.args.pages.now) (g.P.Pages.first c.read.new.self) c.args.level l c.args.page at key child c.least_at.result lo hi low high c.args.value.now c.in-Ok-read.below c.args.bytes.now up is small c.in-Ok.ensures.place c.requires.from c.requires.to c.child_at-child.ensures c.least_at.ensures.is c.lower.ensures.is c.upper.ensures.is read.pages read.count read.first read.gives free tree once (g.P.Pages.pages c.put_in.new.pages) (g.P.Pages.count c.put_in.new.pages) (g.P.Pages.first c.put_in.new.pages) c.in_ok-grown-in-Ok-read.grown.right (number c.put_in.new.middle) grew c.if-right-eq0.true
 
 pub returns-then-right-eq0-clause-had : goal.returns-then-right-eq0-clause-had
 returns-then-right-eq0-clause-had g t c = λ is tree.
@@ -254,10 +252,10 @@ returns-then-right-eq0-clause-had g t c = λ is tree.
     let high : ℕ = upper_of c.args.form.key c.args.high.now in
     let child : ℕ = c.child_at-child.result in
     let mid : PageMap = g.P.Pages.pages c.read.new.self in
-    let read = c.in_ok-below.ensures in
+    let read = c.in-Ok-read.ensures in
     let lo : ℕ = number c.lower.result.now in
     let hi : ℕ = upper_of c.args.form.key c.upper.result.now in
-    let h = c.in_ok-grown.ensures.had (mid-bytes form c.args.least old mid count (g.P.Pages.count c.read.new.self) (g.P.Pages.first c.args.pages.now) (g.P.Pages.first c.read.new.self) c.args.level l c.args.page at key child c.least_at.result lo hi low high c.args.value.now c.in_ok-below.below c.args.bytes.now up is small c.in-Ok.ensures.place c.requires.from c.requires.to c.child_at-child.ensures c.least_at.ensures.is c.lower.ensures.is c.upper.ensures.is read.pages read.count read.first read.gives tree) (mid-tree form c.args.least old mid count (g.P.Pages.count c.read.new.self) (g.P.Pages.first c.args.pages.now) (g.P.Pages.first c.read.new.self) c.args.level l c.args.page at key child c.least_at.result lo hi low high c.args.value.now c.in_ok-below.below c.args.bytes.now up is small c.in-Ok.ensures.place c.requires.from c.requires.to c.child_at-child.ensures c.least_at.ensures.is c.lower.ensures.is c.upper.ensures.is read.pages read.count read.first read.gives tree) in
+    let h = c.in_ok-grown-in-Ok-read.ensures.had (mid-bytes form c.args.least old mid count (g.P.Pages.count c.read.new.self) (g.P.Pages.first c.args.pages.now) (g.P.Pages.first c.read.new.self) c.args.level l c.args.page at key child c.least_at.result lo hi low high c.args.value.now c.in-Ok-read.below c.args.bytes.now up is small c.in-Ok.ensures.place c.requires.from c.requires.to c.child_at-child.ensures c.least_at.ensures.is c.lower.ensures.is c.upper.ensures.is read.pages read.count read.first read.gives tree) (mid-tree form c.args.least old mid count (g.P.Pages.count c.read.new.self) (g.P.Pages.first c.args.pages.now) (g.P.Pages.first c.read.new.self) c.args.level l c.args.page at key child c.least_at.result lo hi low high c.args.value.now c.in-Ok-read.below c.args.bytes.now up is small c.in-Ok.ensures.place c.requires.from c.requires.to c.child_at-child.ensures c.least_at.ensures.is c.lower.ensures.is c.upper.ensures.is read.pages read.count read.first read.gives tree) in
     h ∙ ap (λ (p : PageMap). is_some (lookup key (rows_at form p l child))) read.pages
     ∙ ap is_some (sym (lookup-below form old c.args.bytes.now c.args.level l c.args.page at up is small c.args.least low high key child c.child_at-child.ensures c.in-Ok.ensures.place c.requires.from c.requires.to tree))
 
@@ -276,10 +274,10 @@ returns-clause-had g t c = λ is tree.
     let high : ℕ = upper_of c.args.form.key c.args.high.now in
     let child : ℕ = c.child_at-child.result in
     let mid : PageMap = g.P.Pages.pages c.read.new.self in
-    let read = c.in_ok-below.ensures in
+    let read = c.in-Ok-read.ensures in
     let lo : ℕ = number c.lower.result.now in
     let hi : ℕ = upper_of c.args.form.key c.upper.result.now in
-    let h = c.in_ok-grown.ensures.had (mid-bytes form c.args.least old mid count (g.P.Pages.count c.read.new.self) (g.P.Pages.first c.args.pages.now) (g.P.Pages.first c.read.new.self) c.args.level l c.args.page at key child c.least_at.result lo hi low high c.args.value.now c.in_ok-below.below c.args.bytes.now up is small c.in-Ok.ensures.place c.requires.from c.requires.to c.child_at-child.ensures c.least_at.ensures.is c.lower.ensures.is c.upper.ensures.is read.pages read.count read.first read.gives tree) (mid-tree form c.args.least old mid count (g.P.Pages.count c.read.new.self) (g.P.Pages.first c.args.pages.now) (g.P.Pages.first c.read.new.self) c.args.level l c.args.page at key child c.least_at.result lo hi low high c.args.value.now c.in_ok-below.below c.args.bytes.now up is small c.in-Ok.ensures.place c.requires.from c.requires.to c.child_at-child.ensures c.least_at.ensures.is c.lower.ensures.is c.upper.ensures.is read.pages read.count read.first read.gives tree) in
+    let h = c.in_ok-grown-in-Ok-read.ensures.had (mid-bytes form c.args.least old mid count (g.P.Pages.count c.read.new.self) (g.P.Pages.first c.args.pages.now) (g.P.Pages.first c.read.new.self) c.args.level l c.args.page at key child c.least_at.result lo hi low high c.args.value.now c.in-Ok-read.below c.args.bytes.now up is small c.in-Ok.ensures.place c.requires.from c.requires.to c.child_at-child.ensures c.least_at.ensures.is c.lower.ensures.is c.upper.ensures.is read.pages read.count read.first read.gives tree) (mid-tree form c.args.least old mid count (g.P.Pages.count c.read.new.self) (g.P.Pages.first c.args.pages.now) (g.P.Pages.first c.read.new.self) c.args.level l c.args.page at key child c.least_at.result lo hi low high c.args.value.now c.in-Ok-read.below c.args.bytes.now up is small c.in-Ok.ensures.place c.requires.from c.requires.to c.child_at-child.ensures c.least_at.ensures.is c.lower.ensures.is c.upper.ensures.is read.pages read.count read.first read.gives tree) in
     h ∙ ap (λ (p : PageMap). is_some (lookup key (rows_at form p l child))) read.pages
     ∙ ap is_some (sym (lookup-below form old c.args.bytes.now c.args.level l c.args.page at up is small c.args.least low high key child c.child_at-child.ensures c.in-Ok.ensures.place c.requires.from c.requires.to tree))
 
@@ -299,12 +297,12 @@ returns-in_err-more-clause-supplied g t c =
     let high : ℕ = upper_of c.args.form.key c.args.high.now in
     let child : ℕ = c.child_at-child.result in
     let mid : PageMap = g.P.Pages.pages c.read.new.self in
-    let read = c.in_ok-below.ensures in
+    let read = c.in-Ok-read.ensures in
     let lo : ℕ = number c.lower.result.now in
     let hi : ℕ = upper_of c.args.form.key c.upper.result.now in
     rw (passed.1, passed.2) (λ free is tree supplied once damage e.
-    let grew = c.in_ok-grown.ensures.grown free (mid-bytes form c.args.least old mid count (g.P.Pages.count c.read.new.self) (g.P.Pages.first c.args.pages.now) (g.P.Pages.first c.read.new.self) c.args.level l c.args.page at key child c.least_at.result lo hi low high c.args.value.now c.in_ok-below.below c.args.bytes.now up is small c.in-Ok.ensures.place c.requires.from c.requires.to c.child_at-child.ensures c.least_at.ensures.is c.lower.ensures.is c.upper.ensures.is read.pages read.count read.first read.gives tree) (mid-tree form c.args.least old mid count (g.P.Pages.count c.read.new.self) (g.P.Pages.first c.args.pages.now) (g.P.Pages.first c.read.new.self) c.args.level l c.args.page at key child c.least_at.result lo hi low high c.args.value.now c.in_ok-below.below c.args.bytes.now up is small c.in-Ok.ensures.place c.requires.from c.requires.to c.child_at-child.ensures c.least_at.ensures.is c.lower.ensures.is c.upper.ensures.is read.pages read.count read.first read.gives tree) (mid-supplied form c.args.least old mid count (g.P.Pages.count c.read.new.self) (g.P.Pages.first c.args.pages.now) (g.P.Pages.first c.read.new.self) c.args.level l c.args.page at key child c.least_at.result lo hi low high c.args.value.now c.in_ok-below.below c.args.bytes.now up is small c.in-Ok.ensures.place c.requires.from c.requires.to c.child_at-child.ensures c.least_at.ensures.is c.lower.ensures.is c.upper.ensures.is read.pages read.count read.first read.gives free supplied) (mid-once form c.args.least old mid count (g.P.Pages.count c.read.new.self) (g.P.Pages.first c.args.pages.now) (g.P.Pages.first c.read.new.self) c.args.level l c.args.page at key child c.least_at.result lo hi low high c.args.value.now c.in_ok-below.below c.args.bytes.now up is small c.in-Ok.ensures.place c.requires.from c.requires.to c.child_at-child.ensures c.least_at.ensures.is c.lower.ensures.is c.upper.ensures.is read.pages read.count read.first read.gives free once) in
-    let k = to-be-linked form c.args.least old mid count (g.P.Pages.count c.read.new.self) (g.P.Pages.first c.args.pages.now) (g.P.Pages.first c.read.new.self) c.args.level l c.args.page at key child c.least_at.result lo hi low high c.args.value.now c.in_ok-below.below c.args.bytes.now up is small c.in-Ok.ensures.place c.requires.from c.requires.to c.child_at-child.ensures c.least_at.ensures.is c.lower.ensures.is c.upper.ensures.is read.pages read.count read.first read.gives free tree once (g.P.Pages.pages c.put_in.new.pages) (g.P.Pages.count c.put_in.new.pages) (g.P.Pages.first c.put_in.new.pages) c.in_ok-grown.grown.right (number c.put_in.new.middle) grew (omega arith) in
+    let grew = c.in_ok-grown-in-Ok-read.ensures.grown free (mid-bytes form c.args.least old mid count (g.P.Pages.count c.read.new.self) (g.P.Pages.first c.args.pages.now) (g.P.Pages.first c.read.new.self) c.args.level l c.args.page at key child c.least_at.result lo hi low high c.args.value.now c.in-Ok-read.below c.args.bytes.now up is small c.in-Ok.ensures.place c.requires.from c.requires.to c.child_at-child.ensures c.least_at.ensures.is c.lower.ensures.is c.upper.ensures.is read.pages read.count read.first read.gives tree) (mid-tree form c.args.least old mid count (g.P.Pages.count c.read.new.self) (g.P.Pages.first c.args.pages.now) (g.P.Pages.first c.read.new.self) c.args.level l c.args.page at key child c.least_at.result lo hi low high c.args.value.now c.in-Ok-read.below c.args.bytes.now up is small c.in-Ok.ensures.place c.requires.from c.requires.to c.child_at-child.ensures c.least_at.ensures.is c.lower.ensures.is c.upper.ensures.is read.pages read.count read.first read.gives tree) (mid-supplied form c.args.least old mid count (g.P.Pages.count c.read.new.self) (g.P.Pages.first c.args.pages.now) (g.P.Pages.first c.read.new.self) c.args.level l c.args.page at key child c.least_at.result lo hi low high c.args.value.now c.in-Ok-read.below c.args.bytes.now up is small c.in-Ok.ensures.place c.requires.from c.requires.to c.child_at-child.ensures c.least_at.ensures.is c.lower.ensures.is c.upper.ensures.is read.pages read.count read.first read.gives free supplied) (mid-once form c.args.least old mid count (g.P.Pages.count c.read.new.self) (g.P.Pages.first c.args.pages.now) (g.P.Pages.first c.read.new.self) c.args.level l c.args.page at key child c.least_at.result lo hi low high c.args.value.now c.in-Ok-read.below c.args.bytes.now up is small c.in-Ok.ensures.place c.requires.from c.requires.to c.child_at-child.ensures c.least_at.ensures.is c.lower.ensures.is c.upper.ensures.is read.pages read.count read.first read.gives free once) in
+    let k = to-be-linked form c.args.least old mid count (g.P.Pages.count c.read.new.self) (g.P.Pages.first c.args.pages.now) (g.P.Pages.first c.read.new.self) c.args.level l c.args.page at key child c.least_at.result lo hi low high c.args.value.now c.in-Ok-read.below c.args.bytes.now up is small c.in-Ok.ensures.place c.requires.from c.requires.to c.child_at-child.ensures c.least_at.ensures.is c.lower.ensures.is c.upper.ensures.is read.pages read.count read.first read.gives free tree once (g.P.Pages.pages c.put_in.new.pages) (g.P.Pages.count c.put_in.new.pages) (g.P.Pages.first c.put_in.new.pages) c.in_ok-grown-in-Ok-read.grown.right (number c.put_in.new.middle) grew (omega arith) in
     absurd (c.link.ensures.honest k.free_now k.supplied damage (c.in_err-more.was ∙ ap Err (same-fault {T = Grown} _ _ e))))
 
 pub returns-in_err-more-clause-damaged : goal.returns-in_err-more-clause-damaged
@@ -327,19 +325,19 @@ returns-clause-grown g t c = λ free is tree supplied once.
     let high : ℕ = upper_of c.args.form.key c.args.high.now in
     let child : ℕ = c.child_at-child.result in
     let mid : PageMap = g.P.Pages.pages c.read.new.self in
-    let read = c.in_ok-below.ensures in
+    let read = c.in-Ok-read.ensures in
     let lo : ℕ = number c.lower.result.now in
     let hi : ℕ = upper_of c.args.form.key c.upper.result.now in
-    let grew = c.in_ok-grown.ensures.grown free (mid-bytes form c.args.least old mid count (g.P.Pages.count c.read.new.self) (g.P.Pages.first c.args.pages.now) (g.P.Pages.first c.read.new.self) c.args.level l c.args.page at key child c.least_at.result lo hi low high c.args.value.now c.in_ok-below.below c.args.bytes.now up is small c.in-Ok.ensures.place c.requires.from c.requires.to c.child_at-child.ensures c.least_at.ensures.is c.lower.ensures.is c.upper.ensures.is read.pages read.count read.first read.gives tree) (mid-tree form c.args.least old mid count (g.P.Pages.count c.read.new.self) (g.P.Pages.first c.args.pages.now) (g.P.Pages.first c.read.new.self) c.args.level l c.args.page at key child c.least_at.result lo hi low high c.args.value.now c.in_ok-below.below c.args.bytes.now up is small c.in-Ok.ensures.place c.requires.from c.requires.to c.child_at-child.ensures c.least_at.ensures.is c.lower.ensures.is c.upper.ensures.is read.pages read.count read.first read.gives tree) (mid-supplied form c.args.least old mid count (g.P.Pages.count c.read.new.self) (g.P.Pages.first c.args.pages.now) (g.P.Pages.first c.read.new.self) c.args.level l c.args.page at key child c.least_at.result lo hi low high c.args.value.now c.in_ok-below.below c.args.bytes.now up is small c.in-Ok.ensures.place c.requires.from c.requires.to c.child_at-child.ensures c.least_at.ensures.is c.lower.ensures.is c.upper.ensures.is read.pages read.count read.first read.gives free supplied) (mid-once form c.args.least old mid count (g.P.Pages.count c.read.new.self) (g.P.Pages.first c.args.pages.now) (g.P.Pages.first c.read.new.self) c.args.level l c.args.page at key child c.least_at.result lo hi low high c.args.value.now c.in_ok-below.below c.args.bytes.now up is small c.in-Ok.ensures.place c.requires.from c.requires.to c.child_at-child.ensures c.least_at.ensures.is c.lower.ensures.is c.upper.ensures.is read.pages read.count read.first read.gives free once) in
-    let k = to-be-linked form c.args.least old mid count (g.P.Pages.count c.read.new.self) (g.P.Pages.first c.args.pages.now) (g.P.Pages.first c.read.new.self) c.args.level l c.args.page at key child c.least_at.result lo hi low high c.args.value.now c.in_ok-below.below c.args.bytes.now up is small c.in-Ok.ensures.place c.requires.from c.requires.to c.child_at-child.ensures c.least_at.ensures.is c.lower.ensures.is c.upper.ensures.is read.pages read.count read.first read.gives free tree once (g.P.Pages.pages c.put_in.new.pages) (g.P.Pages.count c.put_in.new.pages) (g.P.Pages.first c.put_in.new.pages) c.in_ok-grown.grown.right (number c.put_in.new.middle) grew (omega arith) in
+    let grew = c.in_ok-grown-in-Ok-read.ensures.grown free (mid-bytes form c.args.least old mid count (g.P.Pages.count c.read.new.self) (g.P.Pages.first c.args.pages.now) (g.P.Pages.first c.read.new.self) c.args.level l c.args.page at key child c.least_at.result lo hi low high c.args.value.now c.in-Ok-read.below c.args.bytes.now up is small c.in-Ok.ensures.place c.requires.from c.requires.to c.child_at-child.ensures c.least_at.ensures.is c.lower.ensures.is c.upper.ensures.is read.pages read.count read.first read.gives tree) (mid-tree form c.args.least old mid count (g.P.Pages.count c.read.new.self) (g.P.Pages.first c.args.pages.now) (g.P.Pages.first c.read.new.self) c.args.level l c.args.page at key child c.least_at.result lo hi low high c.args.value.now c.in-Ok-read.below c.args.bytes.now up is small c.in-Ok.ensures.place c.requires.from c.requires.to c.child_at-child.ensures c.least_at.ensures.is c.lower.ensures.is c.upper.ensures.is read.pages read.count read.first read.gives tree) (mid-supplied form c.args.least old mid count (g.P.Pages.count c.read.new.self) (g.P.Pages.first c.args.pages.now) (g.P.Pages.first c.read.new.self) c.args.level l c.args.page at key child c.least_at.result lo hi low high c.args.value.now c.in-Ok-read.below c.args.bytes.now up is small c.in-Ok.ensures.place c.requires.from c.requires.to c.child_at-child.ensures c.least_at.ensures.is c.lower.ensures.is c.upper.ensures.is read.pages read.count read.first read.gives free supplied) (mid-once form c.args.least old mid count (g.P.Pages.count c.read.new.self) (g.P.Pages.first c.args.pages.now) (g.P.Pages.first c.read.new.self) c.args.level l c.args.page at key child c.least_at.result lo hi low high c.args.value.now c.in-Ok-read.below c.args.bytes.now up is small c.in-Ok.ensures.place c.requires.from c.requires.to c.child_at-child.ensures c.least_at.ensures.is c.lower.ensures.is c.upper.ensures.is read.pages read.count read.first read.gives free once) in
+    let k = to-be-linked form c.args.least old mid count (g.P.Pages.count c.read.new.self) (g.P.Pages.first c.args.pages.now) (g.P.Pages.first c.read.new.self) c.args.level l c.args.page at key child c.least_at.result lo hi low high c.args.value.now c.in-Ok-read.below c.args.bytes.now up is small c.in-Ok.ensures.place c.requires.from c.requires.to c.child_at-child.ensures c.least_at.ensures.is c.lower.ensures.is c.upper.ensures.is read.pages read.count read.first read.gives free tree once (g.P.Pages.pages c.put_in.new.pages) (g.P.Pages.count c.put_in.new.pages) (g.P.Pages.first c.put_in.new.pages) c.in_ok-grown-in-Ok-read.grown.right (number c.put_in.new.middle) grew (omega arith) in
     let last : PageMap = g.P.Pages.pages c.link.new.pages in
-    let claim = subst (LinkClaim form c.args.least (g.P.Pages.pages c.put_in.new.pages) (g.P.Pages.count c.put_in.new.pages) (g.P.Pages.first c.put_in.new.pages) k.free_now l c.args.page low high at c.in_ok-grown.grown.right (number c.put_in.new.middle) last (g.P.Pages.count c.link.new.pages) (g.P.Pages.first c.link.new.pages) (number c.link.new.middle) (Ok c.in_ok-more.more))
+    let claim = subst (LinkClaim form c.args.least (g.P.Pages.pages c.put_in.new.pages) (g.P.Pages.count c.put_in.new.pages) (g.P.Pages.first c.put_in.new.pages) k.free_now l c.args.page low high at c.in_ok-grown-in-Ok-read.grown.right (number c.put_in.new.middle) last (g.P.Pages.count c.link.new.pages) (g.P.Pages.first c.link.new.pages) (number c.link.new.middle) (Ok c.in_ok-more.more))
     is (c.in_ok-more.ensures.grown low high k.free_now) in
     let made = k.then_grown last (g.P.Pages.count c.link.new.pages) (g.P.Pages.first c.link.new.pages) c.in_ok-more.more (number c.link.new.middle) (claim k.inner k.fan k.supplied k.once_more) in
     subst (λ (x : ℕ). IsGrown form c.args.least (view old count (g.P.Pages.first c.args.pages.now) free) (uses form old x c.args.page) last (g.P.Pages.count c.link.new.pages) (g.P.Pages.first c.link.new.pages) x c.args.page low high (put key c.args.value.now (rows_at form old x c.args.page)) c.in_ok-more.more (number c.link.new.middle)) (sym up) made
 
-pub returns-in_err-grown-clause-own : goal.returns-in_err-grown-clause-own
-returns-in_err-grown-clause-own g t c = λ before asked told is.
+pub returns-in_err-grown-in-Ok-read-clause-own : goal.returns-in_err-grown-in-Ok-read-clause-own
+returns-in_err-grown-in-Ok-read-clause-own g t c = λ before asked told is.
     let form : Form = c.args.form in
     let old : PageMap = g.P.Pages.pages c.args.pages.now in
     let count : ℕ = g.P.Pages.count c.args.pages.now in
@@ -353,14 +351,14 @@ returns-in_err-grown-clause-own g t c = λ before asked told is.
     let high : ℕ = upper_of c.args.form.key c.args.high.now in
     let child : ℕ = c.child_at-child.result in
     let mid : PageMap = g.P.Pages.pages c.read.new.self in
-    let read = c.in_ok-below.ensures in
+    let read = c.in-Ok-read.ensures in
     let lo : ℕ = number c.lower.result.now in
     let hi : ℕ = upper_of c.args.form.key c.upper.result.now in
     let mine : ℕ → ℕ = uses form old c.args.level c.args.page in
     let last : List ℕ = g.P.Pages.asked c.put_in.new.pages in
     let bytes = read.gives (told-read old count child told (λ u. let f = read.uncounted u in cc)) in
-    let claim = subst (λ (n : ℕ). AreTold old n → c.in_ok-below.below ≡ old child → AsksOnly (uses form old l child) (g.P.Pages.asked c.args.pages.now) last) read.count
-    (subst (λ (p : PageMap). AreTold p (g.P.Pages.count c.read.new.self) → c.in_ok-below.below ≡ p child → AsksOnly (uses form p l child) (g.P.Pages.asked c.args.pages.now) last) read.pages
+    let claim = subst (λ (n : ℕ). AreTold old n → c.in-Ok-read.below ≡ old child → AsksOnly (uses form old l child) (g.P.Pages.asked c.args.pages.now) last) read.count
+    (subst (λ (p : PageMap). AreTold p (g.P.Pages.count c.read.new.self) → c.in-Ok-read.below ≡ p child → AsksOnly (uses form p l child) (g.P.Pages.asked c.args.pages.now) last) read.pages
     (c.put_in.ensures.own (g.P.Pages.asked c.args.pages.now) read.asked)) in
     let here = asks-here mine before (g.P.Pages.asked c.args.pages.now) c.args.page (uses-self form old c.args.level c.args.page) asked in
     (asks-further mine before (g.P.Pages.asked c.args.pages.now) last here
@@ -382,14 +380,14 @@ returns-then-right-eq0-clause-own g t c = λ before asked told is.
     let high : ℕ = upper_of c.args.form.key c.args.high.now in
     let child : ℕ = c.child_at-child.result in
     let mid : PageMap = g.P.Pages.pages c.read.new.self in
-    let read = c.in_ok-below.ensures in
+    let read = c.in-Ok-read.ensures in
     let lo : ℕ = number c.lower.result.now in
     let hi : ℕ = upper_of c.args.form.key c.upper.result.now in
     let mine : ℕ → ℕ = uses form old c.args.level c.args.page in
     let last : List ℕ = g.P.Pages.asked c.put_in.new.pages in
     let bytes = read.gives (told-read old count child told (λ u. let f = read.uncounted u in cc)) in
-    let claim = subst (λ (n : ℕ). AreTold old n → c.in_ok-below.below ≡ old child → AsksOnly (uses form old l child) (g.P.Pages.asked c.args.pages.now) last) read.count
-    (subst (λ (p : PageMap). AreTold p (g.P.Pages.count c.read.new.self) → c.in_ok-below.below ≡ p child → AsksOnly (uses form p l child) (g.P.Pages.asked c.args.pages.now) last) read.pages
+    let claim = subst (λ (n : ℕ). AreTold old n → c.in-Ok-read.below ≡ old child → AsksOnly (uses form old l child) (g.P.Pages.asked c.args.pages.now) last) read.count
+    (subst (λ (p : PageMap). AreTold p (g.P.Pages.count c.read.new.self) → c.in-Ok-read.below ≡ p child → AsksOnly (uses form p l child) (g.P.Pages.asked c.args.pages.now) last) read.pages
     (c.put_in.ensures.own (g.P.Pages.asked c.args.pages.now) read.asked)) in
     let here = asks-here mine before (g.P.Pages.asked c.args.pages.now) c.args.page (uses-self form old c.args.level c.args.page) asked in
     (asks-further mine before (g.P.Pages.asked c.args.pages.now) last here
@@ -411,14 +409,14 @@ returns-in_err-more-clause-own g t c = λ before asked told is.
     let high : ℕ = upper_of c.args.form.key c.args.high.now in
     let child : ℕ = c.child_at-child.result in
     let mid : PageMap = g.P.Pages.pages c.read.new.self in
-    let read = c.in_ok-below.ensures in
+    let read = c.in-Ok-read.ensures in
     let lo : ℕ = number c.lower.result.now in
     let hi : ℕ = upper_of c.args.form.key c.upper.result.now in
     let mine : ℕ → ℕ = uses form old c.args.level c.args.page in
     let last : List ℕ = g.P.Pages.asked c.put_in.new.pages in
     let bytes = read.gives (told-read old count child told (λ u. let f = read.uncounted u in cc)) in
-    let claim = subst (λ (n : ℕ). AreTold old n → c.in_ok-below.below ≡ old child → AsksOnly (uses form old l child) (g.P.Pages.asked c.args.pages.now) last) read.count
-    (subst (λ (p : PageMap). AreTold p (g.P.Pages.count c.read.new.self) → c.in_ok-below.below ≡ p child → AsksOnly (uses form p l child) (g.P.Pages.asked c.args.pages.now) last) read.pages
+    let claim = subst (λ (n : ℕ). AreTold old n → c.in-Ok-read.below ≡ old child → AsksOnly (uses form old l child) (g.P.Pages.asked c.args.pages.now) last) read.count
+    (subst (λ (p : PageMap). AreTold p (g.P.Pages.count c.read.new.self) → c.in-Ok-read.below ≡ p child → AsksOnly (uses form p l child) (g.P.Pages.asked c.args.pages.now) last) read.pages
     (c.put_in.ensures.own (g.P.Pages.asked c.args.pages.now) read.asked)) in
     let here = asks-here mine before (g.P.Pages.asked c.args.pages.now) c.args.page (uses-self form old c.args.level c.args.page) asked in
     subst (λ (x : List ℕ). AsksOnly mine before x) (sym c.link.ensures.asked) (asks-further mine before (g.P.Pages.asked c.args.pages.now) last here
@@ -440,14 +438,14 @@ returns-clause-own g t c = λ before asked told is.
     let high : ℕ = upper_of c.args.form.key c.args.high.now in
     let child : ℕ = c.child_at-child.result in
     let mid : PageMap = g.P.Pages.pages c.read.new.self in
-    let read = c.in_ok-below.ensures in
+    let read = c.in-Ok-read.ensures in
     let lo : ℕ = number c.lower.result.now in
     let hi : ℕ = upper_of c.args.form.key c.upper.result.now in
     let mine : ℕ → ℕ = uses form old c.args.level c.args.page in
     let last : List ℕ = g.P.Pages.asked c.put_in.new.pages in
     let bytes = read.gives (told-read old count child told (λ u. let f = read.uncounted u in cc)) in
-    let claim = subst (λ (n : ℕ). AreTold old n → c.in_ok-below.below ≡ old child → AsksOnly (uses form old l child) (g.P.Pages.asked c.args.pages.now) last) read.count
-    (subst (λ (p : PageMap). AreTold p (g.P.Pages.count c.read.new.self) → c.in_ok-below.below ≡ p child → AsksOnly (uses form p l child) (g.P.Pages.asked c.args.pages.now) last) read.pages
+    let claim = subst (λ (n : ℕ). AreTold old n → c.in-Ok-read.below ≡ old child → AsksOnly (uses form old l child) (g.P.Pages.asked c.args.pages.now) last) read.count
+    (subst (λ (p : PageMap). AreTold p (g.P.Pages.count c.read.new.self) → c.in-Ok-read.below ≡ p child → AsksOnly (uses form p l child) (g.P.Pages.asked c.args.pages.now) last) read.pages
     (c.put_in.ensures.own (g.P.Pages.asked c.args.pages.now) read.asked)) in
     let here = asks-here mine before (g.P.Pages.asked c.args.pages.now) c.args.page (uses-self form old c.args.level c.args.page) asked in
     subst (λ (x : List ℕ). AsksOnly mine before x) (sym c.link.ensures.asked) (asks-further mine before (g.P.Pages.asked c.args.pages.now) last here

@@ -42,28 +42,26 @@ returns-in-Err-find_place-clause-named g t c = λ before asked damage e.
     let same : damage.page ≡ c.args.page = named-page _ c.damaged-in-Err-find_place.result c.args.page _ damage refl c.damaged-in-Err-find_place.ensures e in
     asked-here before _ damage.page (asked ∙ ap (λ (p : ℕ). before ++ p ∷ []) (sym same))
 
-pub returns-in_err-below-clause-damaged : goal.returns-in_err-below-clause-damaged
-returns-in_err-below-clause-damaged g t c =
-    let passed = err_from_is_err_and c.from_residual.result c.from_residual.ensures.1 in
+pub returns-in-Err-read-clause-damaged : goal.returns-in-Err-read-clause-damaged
+returns-in-Err-read-clause-damaged g t c =
     let old : PageMap = g.P.Pages.pages c.args.pages.now in
     let at : ℕ = c.in-Ok-find_place.found.at in
     let w = c.in-Ok-find_place.ensures.within in
-    rw (passed.1, passed.2) (λ told is damage e.
-    let d = c.read.ensures.damaged damage (c.in_err-below.was ∙ ap Err (same-fault {T = Option ℕ} _ _ e)) in
+    (λ told is damage e.
+    let d = c.read.ensures.damaged damage (c.in-Err-read.is ∙ ap Err (same-fault {T = Option ℕ} _ _ e)) in
     damage-below c.args.form old c.args.bytes.now c.args.level (c.args.level - 1) c.args.page at (omega arith) is (omega arith) (g.P.Pages.count c.args.pages.now) damage c.args.least _ (number c.args.low.now) (upper_of c.args.form.key c.args.high.now) _ _ c.child_at-child.result
     refl refl refl c.child_at-child.ensures
     (damage-link c.args.form old (g.P.Pages.count c.args.pages.now) damage _ (c.args.level - 1) c.child_at-child.result _ _ d.0 d.1))
 
-pub returns-in_err-below-clause-named : goal.returns-in_err-below-clause-named
-returns-in_err-below-clause-named g t c =
-    let passed = err_from_is_err_and c.from_residual.result c.from_residual.ensures.1 in
-    rw (passed.1, passed.2) (λ before asked damage e.
-    let was = c.in_err-below.was ∙ ap Err (same-fault {T = Option ℕ} _ _ e) in
+pub returns-in-Err-read-clause-named : goal.returns-in-Err-read-clause-named
+returns-in-Err-read-clause-named g t c =
+    (λ before asked damage e.
+    let was = c.in-Err-read.is ∙ ap Err (same-fault {T = Option ℕ} _ _ e) in
     named-read before (g.P.Pages.asked c.args.pages.now) (g.P.Pages.asked c.read.new.self) c.args.page c.child_at-child.result c.read.result damage asked c.read.ensures.asked was
     (ap (λ (d : Damage). d.page) (c.read.ensures.damaged damage was).0))
 
-pub returns-in_err-below-clause-own : goal.returns-in_err-below-clause-own
-returns-in_err-below-clause-own g t c = λ before asked told is.
+pub returns-in-Err-read-clause-own : goal.returns-in-Err-read-clause-own
+returns-in-Err-read-clause-own g t c = λ before asked told is.
     let old : PageMap = g.P.Pages.pages c.args.pages.now in
     let mine : ℕ → ℕ = uses c.args.form old c.args.level c.args.page in
     let at : ℕ = c.in-Ok-find_place.found.at in
@@ -72,21 +70,21 @@ returns-in_err-below-clause-own g t c = λ before asked told is.
     let child = uses-below c.args.form old c.args.bytes.now c.args.level (c.args.level - 1) c.args.page at (omega arith) is (omega arith) c.child_at-child.result c.child_at-child.result c.child_at-child.ensures (uses-self c.args.form old (c.args.level - 1) c.child_at-child.result) in
     subst (λ (x : List ℕ). AsksOnly mine before x) (sym c.read.ensures.asked) (asks-read mine before _ c.child_at-child.result c.read.result first child)
 
-pub returns-clause-found : goal.returns-clause-found
-returns-clause-found g t c = λ is tree.
+pub returns-in-Ok-read-clause-found : goal.returns-in-Ok-read-clause-found
+returns-in-Ok-read-clause-found g t c = λ is tree.
     let old : PageMap = g.P.Pages.pages c.args.pages.now in
     let l : ℕ = c.args.level - 1 in
     let up : c.args.level ≡ suc l = omega arith in
     let at : ℕ = c.in-Ok-find_place.found.at in
     let w = c.in-Ok-find_place.ensures.within in
     let small : at < count_of c.args.bytes.now = omega arith in
-    let read = c.in_ok-below.ensures in
+    let read = c.in-Ok-read.ensures in
     let child : ℕ = c.child_at-child.result in
     let key : ℕ = number c.args.key.now in
     let below_tree = tree-below c.args.form old c.args.bytes.now c.args.level l c.args.page at up is small c.args.least c.least_at.result (number c.args.low.now) (upper_of c.args.form.key c.args.high.now)
     (number c.lower.result.now) (upper_of c.args.form.key c.upper.result.now) child c.least_at.ensures.is c.lower.ensures.is c.upper.ensures.is c.child_at-child.ensures tree in
     let told = read.gives (tree-size c.args.form c.least_at.result old l child (number c.lower.result.now) (upper_of c.args.form.key c.upper.result.now) below_tree) in
-    let claim = subst (λ (p : PageMap). c.in_ok-below.below ≡ p child → IsTree c.args.form c.least_at.result p l child (number c.lower.result.now) (upper_of c.args.form.key c.upper.result.now)
+    let claim = subst (λ (p : PageMap). c.in-Ok-read.below ≡ p child → IsTree c.args.form c.least_at.result p l child (number c.lower.result.now) (upper_of c.args.form.key c.upper.result.now)
     → IfOk c.find_in.result (Locates (lookup key (rows_at c.args.form p l child)) c.find_in.new.value (HoldsRow c.args.form p (uses c.args.form p l child) (key, c.find_in.new.value)))) read.pages c.find_in.ensures.found in
     found-below c.args.form old c.args.bytes.now c.args.level l c.args.page at up is small key child c.find_in.new.value c.find_in.result c.child_at-child.ensures
     (lookup-below c.args.form old c.args.bytes.now c.args.level l c.args.page at up is small c.args.least (number c.args.low.now) (upper_of c.args.form.key c.args.high.now) key child c.child_at-child.ensures c.in-Ok-find_place.ensures.place c.requires.from c.requires.to tree)
@@ -116,43 +114,43 @@ find_in-requires g t c = λ κs within. (
   ),
 )
 
-pub returns-clause-damaged : goal.returns-clause-damaged
-returns-clause-damaged g t c = λ told is damage e.
+pub returns-in-Ok-read-clause-damaged : goal.returns-in-Ok-read-clause-damaged
+returns-in-Ok-read-clause-damaged g t c = λ told is damage e.
     let old : PageMap = g.P.Pages.pages c.args.pages.now in
     let count : ℕ = g.P.Pages.count c.args.pages.now in
     let l : ℕ = c.args.level - 1 in
     let at : ℕ = c.in-Ok-find_place.found.at in
     let w = c.in-Ok-find_place.ensures.within in
-    let read = c.in_ok-below.ensures in
+    let read = c.in-Ok-read.ensures in
     let child : ℕ = c.child_at-child.result in
     let lo : ℕ = number c.lower.result.now in
     let hi : ℕ = upper_of c.args.form.key c.upper.result.now in
     let bytes = read.gives (told-read old count child told (λ u. let f = read.uncounted u in cc)) in
-    let claim = subst (λ (n : ℕ). AreTold old n → c.in_ok-below.below ≡ old child → IsDamaged c.args.form old n damage c.least_at.result l child lo hi) read.count
-    (subst (λ (p : PageMap). AreTold p (g.P.Pages.count c.read.new.self) → c.in_ok-below.below ≡ p child → IsDamaged c.args.form p (g.P.Pages.count c.read.new.self) damage c.least_at.result l child lo hi) read.pages
+    let claim = subst (λ (n : ℕ). AreTold old n → c.in-Ok-read.below ≡ old child → IsDamaged c.args.form old n damage c.least_at.result l child lo hi) read.count
+    (subst (λ (p : PageMap). AreTold p (g.P.Pages.count c.read.new.self) → c.in-Ok-read.below ≡ p child → IsDamaged c.args.form p (g.P.Pages.count c.read.new.self) damage c.least_at.result l child lo hi) read.pages
     (λ a b. c.find_in.ensures.damaged a b damage e)) in
     damage-below c.args.form old c.args.bytes.now c.args.level l c.args.page at (omega arith) is (omega arith) count damage c.args.least c.least_at.result (number c.args.low.now) (upper_of c.args.form.key c.args.high.now) lo hi child
     c.least_at.ensures.is c.lower.ensures.is c.upper.ensures.is c.child_at-child.ensures (claim told bytes)
 
-pub returns-clause-named : goal.returns-clause-named
-returns-clause-named g t c = λ before asked damage e.
+pub returns-in-Ok-read-clause-named : goal.returns-in-Ok-read-clause-named
+returns-in-Ok-read-clause-named g t c = λ before asked damage e.
     asked-sooner before _ c.args.page damage.page
-    (subst (λ (x : List ℕ). AskedSince x (g.P.Pages.asked c.find_in.new.pages) damage.page) asked (c.find_in.ensures.named (g.P.Pages.asked c.args.pages.now) c.in_ok-below.ensures.asked damage e))
+    (subst (λ (x : List ℕ). AskedSince x (g.P.Pages.asked c.find_in.new.pages) damage.page) asked (c.find_in.ensures.named (g.P.Pages.asked c.args.pages.now) c.in-Ok-read.ensures.asked damage e))
 
-pub returns-clause-own : goal.returns-clause-own
-returns-clause-own g t c = λ before asked told is.
+pub returns-in-Ok-read-clause-own : goal.returns-in-Ok-read-clause-own
+returns-in-Ok-read-clause-own g t c = λ before asked told is.
     let old : PageMap = g.P.Pages.pages c.args.pages.now in
     let count : ℕ = g.P.Pages.count c.args.pages.now in
     let l : ℕ = c.args.level - 1 in
     let at : ℕ = c.in-Ok-find_place.found.at in
     let w = c.in-Ok-find_place.ensures.within in
-    let read = c.in_ok-below.ensures in
+    let read = c.in-Ok-read.ensures in
     let child : ℕ = c.child_at-child.result in
     let mine : ℕ → ℕ = uses c.args.form old c.args.level c.args.page in
     let last : List ℕ = g.P.Pages.asked c.find_in.new.pages in
     let bytes = read.gives (told-read old count child told (λ u. let f = read.uncounted u in cc)) in
-    let claim = subst (λ (n : ℕ). AreTold old n → c.in_ok-below.below ≡ old child → AsksOnly (uses c.args.form old l child) (g.P.Pages.asked c.args.pages.now) last) read.count
-    (subst (λ (p : PageMap). AreTold p (g.P.Pages.count c.read.new.self) → c.in_ok-below.below ≡ p child → AsksOnly (uses c.args.form p l child) (g.P.Pages.asked c.args.pages.now) last) read.pages
+    let claim = subst (λ (n : ℕ). AreTold old n → c.in-Ok-read.below ≡ old child → AsksOnly (uses c.args.form old l child) (g.P.Pages.asked c.args.pages.now) last) read.count
+    (subst (λ (p : PageMap). AreTold p (g.P.Pages.count c.read.new.self) → c.in-Ok-read.below ≡ p child → AsksOnly (uses c.args.form p l child) (g.P.Pages.asked c.args.pages.now) last) read.pages
     (c.find_in.ensures.own (g.P.Pages.asked c.args.pages.now) read.asked)) in
     let here = asks-here mine before (g.P.Pages.asked c.args.pages.now) c.args.page (uses-self c.args.form old c.args.level c.args.page) asked in
     asks-further mine before (g.P.Pages.asked c.args.pages.now) last here

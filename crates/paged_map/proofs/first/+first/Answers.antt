@@ -17,27 +17,25 @@ use Rattle.paged_map.proofs.Located.{named-page}
 use Rattle.paged_map.proofs.Rows.{first-here, located-as, named-first, below-child, below-last, below-next}
 use Rattle.paged_map.proofs.first.+first.Goals as goal
 
-pub first_below-returns-in_err-below-clause-damaged : goal.first_below-returns-in_err-below-clause-damaged
-first_below-returns-in_err-below-clause-damaged g t c =
-    let passed = err_from_is_err_and c.from_residual.result c.from_residual.ensures.1 in
+pub first_below-returns-in-Err-clause-damaged : goal.first_below-returns-in-Err-clause-damaged
+first_below-returns-in-Err-clause-damaged g t c =
     let old : PageMap = g.P.Pages.pages c.args.pages.now in
     let r = c.requires.at in
-    rw (passed.1, passed.2) (λ least told is damage e.
-    let d = c.read.ensures.damaged damage (c.in_err-below.was ∙ ap Err (same-fault {T = Option ℕ} _ _ e)) in
+    (λ least told is damage e.
+    let d = c.read.ensures.damaged damage (c.in-Err.is ∙ ap Err (same-fault {T = Option ℕ} _ _ e)) in
     damage-below c.args.form old c.args.bytes.now c.args.level (c.args.level - 1) c.args.page c.args.place.at (omega arith) is (omega arith) (g.P.Pages.count c.args.pages.now) damage least _ (number c.args.low.now) (upper_of c.args.form.key c.args.high.now) _ _ c.child_at-child.result
     refl refl refl c.child_at-child.ensures
     (damage-link c.args.form old (g.P.Pages.count c.args.pages.now) damage _ (c.args.level - 1) c.child_at-child.result _ _ d.0 d.1))
 
-pub first_below-returns-in_err-below-clause-named : goal.first_below-returns-in_err-below-clause-named
-first_below-returns-in_err-below-clause-named g t c =
-    let passed = err_from_is_err_and c.from_residual.result c.from_residual.ensures.1 in
-    rw (passed.1, passed.2) (λ told is damage e.
-    let was = c.in_err-below.was ∙ ap Err (same-fault {T = Option ℕ} _ _ e) in
+pub first_below-returns-in-Err-clause-named : goal.first_below-returns-in-Err-clause-named
+first_below-returns-in-Err-clause-named g t c =
+    (λ told is damage e.
+    let was = c.in-Err.is ∙ ap Err (same-fault {T = Option ℕ} _ _ e) in
     named-first (g.P.Pages.asked c.args.pages.now) (g.P.Pages.asked c.read.new.self) c.child_at-child.result c.read.result damage c.read.ensures.asked was
     (ap (λ (d : Damage). d.page) (c.read.ensures.damaged damage was).0))
 
-pub first_below-returns-in_err-below-clause-own : goal.first_below-returns-in_err-below-clause-own
-first_below-returns-in_err-below-clause-own g t c = λ told is.
+pub first_below-returns-in-Err-clause-own : goal.first_below-returns-in-Err-clause-own
+first_below-returns-in-Err-clause-own g t c = λ told is.
     let old : PageMap = g.P.Pages.pages c.args.pages.now in
     let asked : List ℕ = g.P.Pages.asked c.args.pages.now in
     let mine : ℕ → ℕ = uses c.args.form old c.args.level c.args.page in
@@ -45,69 +43,69 @@ first_below-returns-in_err-below-clause-own g t c = λ told is.
     let child = uses-below c.args.form old c.args.bytes.now c.args.level (c.args.level - 1) c.args.page c.args.place.at (omega arith) is (omega arith) c.child_at-child.result c.child_at-child.result c.child_at-child.ensures (uses-self c.args.form old (c.args.level - 1) c.child_at-child.result) in
     subst (λ (x : List ℕ). AsksOnly mine asked x) (sym c.read.ensures.asked) (asks-read mine asked asked c.child_at-child.result c.read.result (asks-nothing mine asked asked refl) child)
 
-pub first_below-returns-clause-found : goal.first_below-returns-clause-found
-first_below-returns-clause-found g t c = λ least is tree.
+pub first_below-returns-in-Ok-clause-found : goal.first_below-returns-in-Ok-clause-found
+first_below-returns-in-Ok-clause-found g t c = λ least is tree.
     let old : PageMap = g.P.Pages.pages c.args.pages.now in
     let l : ℕ = c.args.level - 1 in
     let up : c.args.level ≡ suc l = omega arith in
     let r = c.requires.at in
     let small : c.args.place.at < count_of c.args.bytes.now = omega arith in
-    let read = c.in_ok-below.ensures in
+    let read = c.in-Ok.ensures in
     let child : ℕ = c.child_at-child.result in
     let key : ℕ = number c.args.key.now in
     let row : Row = (number c.first_in.new.found, c.first_in.new.value) in
     let below_tree = tree-below c.args.form old c.args.bytes.now c.args.level l c.args.page c.args.place.at up is small least c.least_at.result (number c.args.low.now) (upper_of c.args.form.key c.args.high.now)
     (number c.lower.result.now) (upper_of c.args.form.key c.upper.result.now) child c.least_at.ensures.is c.lower.ensures.is c.upper.ensures.is c.child_at-child.ensures tree in
     let told = read.gives (tree-size c.args.form c.least_at.result old l child (number c.lower.result.now) (upper_of c.args.form.key c.upper.result.now) below_tree) in
-    let claim = subst (λ (p : PageMap). c.in_ok-below.below ≡ p child → IsTree c.args.form c.least_at.result p l child (number c.lower.result.now) (upper_of c.args.form.key c.upper.result.now)
+    let claim = subst (λ (p : PageMap). c.in-Ok.below ≡ p child → IsTree c.args.form c.least_at.result p l child (number c.lower.result.now) (upper_of c.args.form.key c.upper.result.now)
     → IfOk c.first_in.result (Locates (first_from key (rows_at c.args.form p l child)) row (HoldsRow c.args.form p (uses c.args.form p l child) row))) read.pages c.first_in.ensures.found in
     located-as c.args.form old (uses c.args.form old l child) (uses c.args.form old c.args.level c.args.page) (first_from key (rows_at c.args.form old l child)) (first_from key (rows_at c.args.form old l (child_of c.args.form c.args.bytes.now c.args.place.at))) row c.first_in.result
     (ap (λ (n : ℕ). first_from key (rows_at c.args.form old l n)) (sym c.child_at-child.ensures))
     (λ n h. uses-below c.args.form old c.args.bytes.now c.args.level l c.args.page c.args.place.at up is small child n c.child_at-child.ensures h)
     (claim told below_tree)
 
-pub first_below-returns-clause-damaged : goal.first_below-returns-clause-damaged
-first_below-returns-clause-damaged g t c = λ least told is damage e.
+pub first_below-returns-in-Ok-clause-damaged : goal.first_below-returns-in-Ok-clause-damaged
+first_below-returns-in-Ok-clause-damaged g t c = λ least told is damage e.
     let old : PageMap = g.P.Pages.pages c.args.pages.now in
     let count : ℕ = g.P.Pages.count c.args.pages.now in
     let l : ℕ = c.args.level - 1 in
     let r = c.requires.at in
-    let read = c.in_ok-below.ensures in
+    let read = c.in-Ok.ensures in
     let child : ℕ = c.child_at-child.result in
     let lo : ℕ = number c.lower.result.now in
     let hi : ℕ = upper_of c.args.form.key c.upper.result.now in
     let bytes = read.gives (told-read old count child told (λ u. let f = read.uncounted u in cc)) in
-    let claim = subst (λ (n : ℕ). AreTold old n → c.in_ok-below.below ≡ old child → IsDamaged c.args.form old n damage c.least_at.result l child lo hi) read.count
-    (subst (λ (p : PageMap). AreTold p (g.P.Pages.count c.read.new.self) → c.in_ok-below.below ≡ p child → IsDamaged c.args.form p (g.P.Pages.count c.read.new.self) damage c.least_at.result l child lo hi) read.pages
+    let claim = subst (λ (n : ℕ). AreTold old n → c.in-Ok.below ≡ old child → IsDamaged c.args.form old n damage c.least_at.result l child lo hi) read.count
+    (subst (λ (p : PageMap). AreTold p (g.P.Pages.count c.read.new.self) → c.in-Ok.below ≡ p child → IsDamaged c.args.form p (g.P.Pages.count c.read.new.self) damage c.least_at.result l child lo hi) read.pages
     (λ a b. c.first_in.ensures.damaged a b damage e)) in
     damage-below c.args.form old c.args.bytes.now c.args.level l c.args.page c.args.place.at (omega arith) is (omega arith) count damage least c.least_at.result (number c.args.low.now) (upper_of c.args.form.key c.args.high.now) lo hi child
     c.least_at.ensures.is c.lower.ensures.is c.upper.ensures.is c.child_at-child.ensures (claim told bytes)
 
-pub first_below-returns-clause-named : goal.first_below-returns-clause-named
-first_below-returns-clause-named g t c = λ told is damage e.
+pub first_below-returns-in-Ok-clause-named : goal.first_below-returns-in-Ok-clause-named
+first_below-returns-in-Ok-clause-named g t c = λ told is damage e.
     let old : PageMap = g.P.Pages.pages c.args.pages.now in
     let count : ℕ = g.P.Pages.count c.args.pages.now in
-    let read = c.in_ok-below.ensures in
+    let read = c.in-Ok.ensures in
     let child : ℕ = c.child_at-child.result in
     let bytes = read.gives (told-read old count child told (λ u. let f = read.uncounted u in cc)) in
-    let claim = subst (λ (n : ℕ). AreTold old n → c.in_ok-below.below ≡ old child → AskedSince (g.P.Pages.asked c.args.pages.now) (g.P.Pages.asked c.first_in.new.pages) damage.page) read.count
-    (subst (λ (p : PageMap). AreTold p (g.P.Pages.count c.read.new.self) → c.in_ok-below.below ≡ p child → AskedSince (g.P.Pages.asked c.args.pages.now) (g.P.Pages.asked c.first_in.new.pages) damage.page) read.pages
+    let claim = subst (λ (n : ℕ). AreTold old n → c.in-Ok.below ≡ old child → AskedSince (g.P.Pages.asked c.args.pages.now) (g.P.Pages.asked c.first_in.new.pages) damage.page) read.count
+    (subst (λ (p : PageMap). AreTold p (g.P.Pages.count c.read.new.self) → c.in-Ok.below ≡ p child → AskedSince (g.P.Pages.asked c.args.pages.now) (g.P.Pages.asked c.first_in.new.pages) damage.page) read.pages
     (λ a b. c.first_in.ensures.named (g.P.Pages.asked c.args.pages.now) read.asked a b damage e)) in
     claim told bytes
 
-pub first_below-returns-clause-own : goal.first_below-returns-clause-own
-first_below-returns-clause-own g t c = λ told is.
+pub first_below-returns-in-Ok-clause-own : goal.first_below-returns-in-Ok-clause-own
+first_below-returns-in-Ok-clause-own g t c = λ told is.
     let old : PageMap = g.P.Pages.pages c.args.pages.now in
     let count : ℕ = g.P.Pages.count c.args.pages.now in
     let l : ℕ = c.args.level - 1 in
     let r = c.requires.at in
-    let read = c.in_ok-below.ensures in
+    let read = c.in-Ok.ensures in
     let child : ℕ = c.child_at-child.result in
     let mine : ℕ → ℕ = uses c.args.form old c.args.level c.args.page in
     let last : List ℕ = g.P.Pages.asked c.first_in.new.pages in
     let bytes = read.gives (told-read old count child told (λ u. let f = read.uncounted u in cc)) in
-    let claim = subst (λ (n : ℕ). AreTold old n → c.in_ok-below.below ≡ old child → AsksOnly (uses c.args.form old l child) (g.P.Pages.asked c.args.pages.now) last) read.count
-    (subst (λ (p : PageMap). AreTold p (g.P.Pages.count c.read.new.self) → c.in_ok-below.below ≡ p child → AsksOnly (uses c.args.form p l child) (g.P.Pages.asked c.args.pages.now) last) read.pages
+    let claim = subst (λ (n : ℕ). AreTold old n → c.in-Ok.below ≡ old child → AsksOnly (uses c.args.form old l child) (g.P.Pages.asked c.args.pages.now) last) read.count
+    (subst (λ (p : PageMap). AreTold p (g.P.Pages.count c.read.new.self) → c.in-Ok.below ≡ p child → AsksOnly (uses c.args.form p l child) (g.P.Pages.asked c.args.pages.now) last) read.pages
     (c.first_in.ensures.own (g.P.Pages.asked c.args.pages.now) read.asked)) in
     asks-more (uses c.args.form old l child) mine (g.P.Pages.asked c.args.pages.now) last
     (λ n h. uses-below c.args.form old c.args.bytes.now c.args.level l c.args.page c.args.place.at (omega arith) is (omega arith) child n c.child_at-child.ensures h) (claim told bytes)
