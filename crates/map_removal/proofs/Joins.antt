@@ -1,7 +1,7 @@
 -- Two neighbouring pages that share their cells.
 use Rattle.std.proofs.Common.{◌≡◌, ℕ, zero, suc, ◌+◌, ◌-◌, ◌*◌, ◌/◌, ◌^◌, ◌<◌, ◌≤◌, List, [], ◌∷◌, ◌++◌, length, take, drop, replicate, arith, refl, sym, ap, ◌∙◌, subst, append-nil, ⊎_elim}
 use Rattle.std.proofs.lemmas.Bool.{cases_lt}
-use Rattle.std.proofs.lemmas.List.{length-drop, length-append, length-replicate, length-take-le, drop-drop, drop_at, take_rest}
+use Rattle.std.proofs.lemmas.List.{length-drop, length-append, length-replicate, length-take-le, take_rest}
 use Rattle.std.proofs.Math.Nat.{mul-le-mul_left, mul-le-mul_right, mul-div-le}
 use Rattle.page_face.specs.FreeList.{PageMap}
 use Rattle.page_cells.specs.Number.{number}
@@ -95,15 +95,6 @@ halved-becomes form before new count' first' level left right low high half rest
       gives = ap (λ (x : List Row). rows_at form new level left ++ x) (append-nil (rows_at form new level right) ∙ second.gives) ∙ ap (λ (x : List Row). x ++ body_rows form new level (suc rest) b) first.gives
           ∙ sym cut.rows ∙ s.rows;
     }
-
-pub cleared-back : (cells zeros new : List ℕ) (at key : ℕ) → at ≤ length cells → zeros ≡ replicate key 0 → new ≡ take at cells ++ (zeros ++ drop (at + length zeros) cells)
-    → drop at new ≡ replicate key 0 ++ drop key (drop at cells)
-cleared-back cells zeros new at key h z e =
-    let long : length zeros ≡ key = ap length z ∙ length-replicate key 0 in
-    ap (drop at) e ∙ drop_at (take at cells) (zeros ++ drop (at + length zeros) cells) at (length-take-le at cells h)
-    ∙ ap (λ (x : List ℕ). x ++ drop (at + length zeros) cells) z
-    ∙ ap (λ (n : ℕ). replicate key 0 ++ drop (at + n) cells) long
-    ∙ ap (λ (x : List ℕ). replicate key 0 ++ x) (sym (drop-drop key at cells))
 
 image-as : (a a' b b' d d' n : ℕ) (x : List ℕ) → a ≡ a' → b ≡ b' → d ≡ d' → image a b d n x ≡ image a' b' d' n x
 image-as a a' b b' d d' n x p q r = cc

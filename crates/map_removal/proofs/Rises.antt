@@ -21,7 +21,7 @@ use Rattle.map_removal.specs.Removal.{IsOut, HasRemoved}
 use Rattle.map_removal.proofs.Bodies.{fan-split}
 use Rattle.map_removal.proofs.Holds.{becomes-as}
 use Rattle.map_removal.proofs.Settles.{node-fewer}
-use Rattle.map_removal.proofs.Walks.{uses-self}
+use Rattle.map_nodes.proofs.Walks.{uses-self}
 use Rattle.map_removal.proofs.Among.{front-same, back-same, among-moves, among-rows}
 
 -- two places' pages are used beside each other

@@ -9,9 +9,9 @@ ghost use Rattle.map_nodes.specs.Damages.{IsDamaged, AreTold, AskedSince, AsksOn
 ghost use Rattle.map_removal.specs.Mended.{IsBeside};
 ghost use Rattle.map_removal.specs.Looks.{HasLooked, TellsBeside};
 
-use crate::node::{Found, check_child, count_in, damaged};
+use crate::node::{check_child, count_in};
 use crate::settling::Beside;
-use map_nodes::{Form, child_at, least_at, lower, upper};
+use map_nodes::{Form, Found, child_at, damaged, least_at, lower, upper};
 use page_face::{Damage, Page, PageFault, Pages};
 
 // The place next to this one: the one behind it, or before it where it is the last one.

@@ -4,17 +4,8 @@ ghost use Rattle.page_cells.specs.Build.{image};
 ghost use Rattle.map_removal.specs.Body.{headed, cells_in, without_cell, with_key};
 
 use map_nodes::{Form, Shape};
-use page_cells::{build, splice};
+use page_cells::{body, build, splice};
 use page_face::Page;
-
-/// The cells of a page.
-pub fn body(bytes: &Page, width: usize, count: usize) -> &[u8]
-    requires { 16 + width * count ≤ 4096 }
-    ensures is { result.now ≡ cells_in width count bytes.now }
-    ensures length { length result.now ≡ width * count }
-{
-    &bytes[16..16 + width * count]
-}
 
 // The key of the first of a page's cells behind those of another page: in an inner page it is what parted the two.
 fn first_key<'a>(form: Form, level: u8, cells: &'a [u8], parting: &'a [u8]) -> &'a [u8]

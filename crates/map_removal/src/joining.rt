@@ -8,9 +8,10 @@ ghost use Rattle.map_nodes.specs.Tree.{IsTree, rows_at, uses};
 ghost use Rattle.map_removal.specs.Body.{IsBody, body_rows, body_uses};
 ghost use Rattle.map_removal.specs.Mended.{Becomes, joined};
 
-use crate::cells::{body, gather};
+use crate::cells::gather;
 use crate::sharing::{shape_at, share};
 use map_nodes::Form;
+use page_cells::body;
 use page_face::{Damage, Page, PageFault, Pages};
 
 // Gathers the cells of two neighbours in `cells` and shares them.

@@ -11,8 +11,8 @@ ghost use Rattle.map_nodes.specs.Bounds.{upper_of};
 ghost use Rattle.map_nodes.specs.Damages.{BreaksLeaf};
 
 use crate::cells::without;
-use crate::node::{damaged, has_key};
-use map_nodes::{Form, check_leaf};
+use crate::node::has_key;
+use map_nodes::{Form, check_leaf, damaged};
 use page_cells::place;
 use page_face::{Damage, Page, PageFault, Pages};
 

@@ -21,7 +21,6 @@ pub use beside::{look_beside, look_if_low};
 pub use joining::join;
 pub use leaf::{remove_leaf, take_out};
 pub use mending::mend;
-pub use node::{Found, find_place};
 pub use pair::{halve, merge};
 pub use remove::remove_in;
 pub use root::lower_root;

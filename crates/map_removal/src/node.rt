@@ -13,50 +13,6 @@ use page_cells::{compare, key_of, place};
 use page_face::{Damage, Page, PageFault, Rule};
 use std::cmp::Ordering;
 
-/// The place of the entry that a key belongs to, among so many.
-#[derive(Clone, Copy, Debug, PartialEq, Eq)]
-pub struct Found {
-    /// The entry's place.
-    pub at: usize,
-    /// How many entries there are.
-    pub count: usize,
-}
-
-/// A broken rule at a page.
-pub fn damaged(page: u32, rule: Rule) -> PageFault
-    ensures { result ≡ PageFault.Damaged (record { page = page; rule = rule }) }
-{
-    PageFault::Damaged(Damage { page, rule })
-}
-
-/// The place of the entry that a key belongs to.
-///
-/// Refuses the rule that the page breaks between these bounds.
-#[tactic(auto, using(map_nodes::proofs::Spots::fits_at))]
-pub fn find_place(
-    page: &Page,
-    form: Form,
-    least: usize,
-    level: u8,
-    low: &[u8],
-    high: &[u8],
-    key: &[u8],
-) -> Result<Found, Rule>
-    requires least { 2 ≤ least }
-    requires low { length low.now ≡ form.key }
-    requires high { 0 < length high.now → length high.now ≡ form.key }
-    requires key { length key.now ≡ form.key }
-    ensures place { IfOk result (λ found. IsPlaceFor (entries_in form page.now) (number key.now) found.at) }
-    ensures within { IfOk result (λ found. (found.at < found.count) × (found.count ≡ count_of page.now) × (16 + (form.key + 4) * found.count ≤ 4096) × (2 ≤ found.count)) }
-    ensures sound { IfOk result (λ found. IsInner form least level page.now) }
-    ensures breaks { IfErr result (λ rule. BreaksInner rule form least level (number low.now) (upper_of form.key high.now) page.now) }
-{
-    let width = form.key + 4;
-    let count = check_inner(page, form, least, level, low, high)?;
-    let at = place(page, key, true, width, count);
-    Ok(Found { at: at - 1, count })
-}
-
 /// Whether the row at this place of a leaf has the key.
 #[tactic(auto, using(map_nodes::proofs::Spots::fits_at))]
 pub fn has_key(page: &Page, form: Form, count: usize, at: usize, key: &[u8]) -> bool

@@ -11,9 +11,8 @@ ghost use Rattle.map_removal.specs.Removal.{HasRemoved, Lessens, IsSame};
 
 use crate::beside::look_if_low;
 use crate::leaf::remove_leaf;
-use crate::node::{damaged, find_place};
 use crate::settling::settle_if_low;
-use map_nodes::{Form, child_at, least_at, lower, upper};
+use map_nodes::{Form, child_at, damaged, find_place, least_at, lower, upper};
 use page_face::{Damage, Page, PageFault, Pages};
 
 /// Takes the row at a key out of the tree below a page, which was read.

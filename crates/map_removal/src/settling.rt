@@ -10,8 +10,7 @@ ghost use Rattle.map_removal.specs.Mended.{Becomes, HasLow, IsBeside};
 ghost use Rattle.map_removal.specs.Looks.{HasLooked, HasBeside};
 
 use crate::mending::mend;
-use crate::node::Found;
-use map_nodes::{Form, least_at};
+use map_nodes::{Form, Found, least_at};
 use page_face::{Damage, Page, PageFault, Pages};
 
 /// A neighbour of a child: its place among the entries, its count and its bytes.

@@ -9,7 +9,7 @@ ghost use Rattle.map_removal.specs.Mended.{Becomes, joined};
 
 use crate::pair::{halve, merge};
 use map_nodes::{Form, Shape};
-use page_cells::write_at;
+use page_cells::{clear_key, copy_key};
 use page_face::{Damage, PageFault, Pages};
 
 /// The shape of a page of this level.
@@ -23,25 +23,6 @@ pub fn shape_at(form: Form, level: u8) -> Shape
         return form.leaf();
     }
     form.inner(level)
-}
-
-// Copies the bytes at a place.
-fn copy_key(cells: &[u8], at: usize, out: &mut [u8])
-    requires { at + length out.old ≤ length cells.now }
-    ensures { out.new ≡ take (length out.old) (drop at cells.now) }
-{
-    out.copy_from_slice(&cells[at..at + out.len()]);
-}
-
-// Writes zeros at a place.
-fn clear_key(cells: &mut [u8], at: usize, key: usize)
-    requires short { key ≤ 255 }
-    requires fits { at + key ≤ length cells.old }
-    ensures front { take at cells.new ≡ take at cells.old }
-    ensures back { drop at cells.new ≡ replicate key 0 ++ drop key (drop at cells.old) }
-{
-    let zeros = [0; 255];
-    write_at(cells, at, &zeros[..key]);
 }
 
 // Makes the cells from this place on the first ones of a page: in an inner page the first key is zeros.

@@ -9,6 +9,6 @@ mod key;
 mod order;
 mod writing;
 
-pub use key::{compare, key_of, place};
+pub use key::{body, compare, key_of, place};
 pub use order::ascends;
-pub use writing::{build, splice, write_at};
+pub use writing::{build, clear_key, copy_key, splice, write_at};

@@ -13,7 +13,7 @@ use Rattle.map_nodes.specs.Rows.{lookup}
 use Rattle.map_nodes.specs.Nodes.{count_of, rows_in, IsLeaf}
 use Rattle.map_nodes.specs.Tree.{rows_at, uses}
 use Rattle.map_nodes.specs.Bounds.{child_of}
-use Rattle.map_insertion.proofs.Walks.{uses-self, uses-below}
+use Rattle.map_nodes.proofs.Walks.{uses-self, uses-below}
 use Rattle.paged_map.specs.Answers.{HoldsRow, Locates}
 
 -- the page that a refusal names

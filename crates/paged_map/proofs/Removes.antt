@@ -12,7 +12,7 @@ use Rattle.map_removal.specs.Mended.{Becomes}
 use Rattle.map_removal.specs.Removal.{IsEmptied}
 use Rattle.map_removal.proofs.Settles.{tree-fewer, half_some}
 use Rattle.paged_map.specs.Maps.{IsKept, HasBecome}
-use Rattle.map_insertion.proofs.Walks.{uses-self}
+use Rattle.map_nodes.proofs.Walks.{uses-self}
 use Rattle.paged_map.proofs.Maps.{becomes, spare-away}
 
 -- a root with too few cells, but with some, is an inner page with one entry

@@ -11,7 +11,7 @@ use Rattle.page_face.specs.declared.fault.PageFault.TheVariants.{Damaged}
 use Rattle.map_nodes.specs.Damages.{AskedSince}
 use Rattle.map_nodes.proofs.Harms.{asked-here}
 use Rattle.paged_map.specs.Answers.{HoldsRow, Locates}
-use Rattle.map_insertion.proofs.Walks.{uses-self}
+use Rattle.map_nodes.proofs.Walks.{uses-self}
 use Rattle.paged_map.proofs.Located.{locates-below}
 use Rattle.std.proofs.lemmas.Bool.Decides.{nat_tests}
 use Rattle.std.proofs.lemmas.List.{drop_more, drop_all}

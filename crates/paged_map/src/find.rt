@@ -10,8 +10,7 @@ ghost use Rattle.map_nodes.specs.Damages.{IsDamaged, AreTold, AskedSince, AsksOn
 ghost use Rattle.paged_map.specs.Answers.{HoldsRow, Locates};
 
 use crate::node::find_row;
-use map_insertion::{damaged, find_place};
-use map_nodes::{Form, child_at, least_at, lower, upper};
+use map_nodes::{Form, child_at, damaged, find_place, least_at, lower, upper};
 use page_face::{Damage, Page, PageFault, Pages};
 
 /// The leaf below a page that holds the row at a key, whose value is then left in `value`. The page was read last.

@@ -10,8 +10,7 @@ ghost use Rattle.map_nodes.specs.Damages.{IsDamaged, AreTold, AskedSince, AsksOn
 ghost use Rattle.paged_map.specs.Answers.{HoldsRow, Locates};
 
 use crate::node::first_row;
-use map_insertion::{Found, damaged, find_place};
-use map_nodes::{Form, child_at, least_at, lower, upper};
+use map_nodes::{Form, Found, child_at, damaged, find_place, least_at, lower, upper};
 use page_face::{Damage, Page, PageFault, Pages};
 
 /// The leaf below the child at a place of an inner page that holds the child's first row whose key isn't less. The

@@ -9,7 +9,8 @@ use Rattle.map_nodes.specs.Damages.{AsksOnly}
 use Rattle.map_nodes.proofs.Trees.{tree-size}
 use Rattle.map_nodes.proofs.Harms.{asked-here, asks-here, asks-nothing}
 use Rattle.map_removal.specs.declared.settling.Beside.{Beside}
-use Rattle.map_removal.proofs.Walks.{named-refused, named-page, same-fault, told-read, uses-self, asks-read, damage-link, damage-rule, uses-below, tree-below, damage-below}
+use Rattle.map_nodes.proofs.Walks.{same-fault, told-read, uses-self, asks-read, damage-link, uses-below, tree-below, damage-below}
+use Rattle.map_removal.proofs.Walks.{named-refused, named-page, damage-rule}
 use Rattle.map_removal.proofs.beside.look_beside.Goals as goal
 
 pub returns-in_err-page-clause-damaged : goal.returns-in_err-page-clause-damaged

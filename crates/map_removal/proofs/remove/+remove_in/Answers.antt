@@ -17,7 +17,8 @@ use Rattle.map_removal.specs.Removal.{HasRemoved, Lessens, IsOut, IsLess}
 use Rattle.map_removal.specs.Mended.{IsBeside}
 use Rattle.map_removal.proofs.Settles.{half_some}
 use Rattle.map_removal.proofs.Rises.{rise, child-claim}
-use Rattle.map_removal.proofs.Walks.{uses-most, same-fault, named-refused, told-read, uses-self, asks-read, damage-link, uses-below, tree-below, damage-below, lookup-below, asked-later, asked-from, asked-child, beside-is, own-looked, own-below, damage-looked, damage-in_tree}
+use Rattle.map_nodes.proofs.Walks.{same-fault, told-read, uses-self, asks-read, damage-link, uses-below, tree-below, damage-below, lookup-below}
+use Rattle.map_removal.proofs.Walks.{uses-most, named-refused, asked-later, asked-from, asked-child, beside-is, own-looked, own-below, damage-looked, damage-in_tree}
 use Rattle.map_removal.proofs.remove.+remove_in.Goals as goal
 
 pub returns-then-level-eq0-clause-named : goal.returns-then-level-eq0-clause-named

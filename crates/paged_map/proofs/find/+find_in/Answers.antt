@@ -1,6 +1,5 @@
 use Rattle.std.proofs.Common.{arith, ◌≡◌, ◌-◌, ◌<◌, ℕ, ◌∙◌, sym, ap, List, subst, Option, refl, suc, ◌++◌, ◌∷◌, [], Err}
 use Rattle.std.specs.Result.{IfOk}
-use Rattle.std.proofs.lemmas.Result.{err_from_is_err_and}
 use Rattle.page_face.specs.FreeList.{PageMap}
 use Rattle.page_face.specs.declared.fault.Damage.{Damage}
 use Rattle.page_cells.specs.Number.{number}
@@ -12,7 +11,7 @@ use Rattle.map_nodes.specs.Damages.{IsDamaged, AreTold, AskedSince, AsksOnly}
 use Rattle.map_nodes.proofs.Trees.{tree-size}
 use Rattle.map_nodes.proofs.Harms.{asked-here, asked-sooner, asks-here, asks-further, asks-more}
 use Rattle.paged_map.specs.Answers.{HoldsRow, Locates}
-use Rattle.map_insertion.proofs.Walks.{same-fault, named-read, told-read, uses-self, asks-read, damage-link, uses-below, tree-below, damage-below, lookup-below}
+use Rattle.map_nodes.proofs.Walks.{same-fault, named-read, told-read, uses-self, asks-read, damage-link, uses-below, tree-below, damage-below, lookup-below}
 use Rattle.paged_map.proofs.Located.{named-page, found-here, found-below}
 use Rattle.paged_map.proofs.find.+find_in.Goals as goal
 

@@ -12,7 +12,7 @@ use Rattle.map_nodes.specs.Damages.{IsDamaged, AreTold, AskedSince, AsksOnly}
 use Rattle.map_nodes.proofs.Trees.{tree-size}
 use Rattle.map_nodes.proofs.Harms.{asked-here, asked-sooner, asked-before, asks-here, asks-further, asks-more, asks-nothing}
 use Rattle.paged_map.specs.Answers.{HoldsRow, Locates}
-use Rattle.map_insertion.proofs.Walks.{same-fault, told-read, uses-self, asks-read, damage-link, uses-below, tree-below, damage-below}
+use Rattle.map_nodes.proofs.Walks.{same-fault, told-read, uses-self, asks-read, damage-link, uses-below, tree-below, damage-below}
 use Rattle.paged_map.proofs.Located.{named-page}
 use Rattle.paged_map.proofs.Rows.{first-here, located-as, named-first, below-child, below-last, below-next}
 use Rattle.paged_map.proofs.first.+first.Goals as goal

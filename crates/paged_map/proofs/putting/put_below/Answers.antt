@@ -17,7 +17,7 @@ use Rattle.map_nodes.proofs.Trees.{tree-size}
 use Rattle.map_nodes.proofs.Harms.{asks-more, asks-nothing}
 use Rattle.paged_map.specs.declared.putting.Rooted.{Rooted}
 use Rattle.paged_map.specs.Maps.{HasBecome}
-use Rattle.map_insertion.proofs.Walks.{same-fault, told-read, uses-self, asks-read, damage-link}
+use Rattle.map_nodes.proofs.Walks.{same-fault, told-read, uses-self, asks-read, damage-link}
 use Rattle.paged_map.proofs.Rows.{named-first}
 use Rattle.map_insertion.proofs.Roots.{to-root, rooted}
 use Rattle.paged_map.proofs.Maps.{enter, map-tree, map-rows, map-uses, map-damage, map-undamaged, kept-counted, becomes}

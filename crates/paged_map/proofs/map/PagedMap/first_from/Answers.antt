@@ -1,6 +1,5 @@
 use Rattle.std.proofs.Common.{arith, ◌≡◌, ◌^◌, ℕ, ◌∙◌, sym, ap, List, subst, Option, refl, Err}
 use Rattle.std.specs.Result.{IfOk}
-use Rattle.std.proofs.lemmas.Result.{err_from_is_err_and}
 use Rattle.page_face.specs.FreeList.{PageMap}
 use Rattle.page_face.specs.declared.fault.Damage.{Damage}
 use Rattle.page_cells.specs.Number.{number}
@@ -12,7 +11,7 @@ use Rattle.map_nodes.specs.Damages.{IsDamaged, AreTold, AsksOnly}
 use Rattle.map_nodes.proofs.Trees.{tree-size}
 use Rattle.map_nodes.proofs.Harms.{asks-more, asks-nothing}
 use Rattle.paged_map.specs.Answers.{HoldsRow, Locates}
-use Rattle.map_insertion.proofs.Walks.{same-fault, told-read, uses-self, asks-read, damage-link}
+use Rattle.map_nodes.proofs.Walks.{same-fault, told-read, uses-self, asks-read, damage-link}
 use Rattle.paged_map.proofs.Rows.{located-as, named-first}
 use Rattle.paged_map.proofs.Maps.{enter, map-tree, map-rows, map-uses, map-damage, map-undamaged}
 use Rattle.paged_map.proofs.map.PagedMap.first_from.Goals as goal

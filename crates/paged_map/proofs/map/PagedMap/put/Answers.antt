@@ -13,7 +13,7 @@ use Rattle.map_nodes.specs.Store.{IsGrown}
 use Rattle.map_nodes.proofs.Harms.{asks-nothing}
 use Rattle.map_insertion.specs.Starts.{no_page}
 use Rattle.paged_map.specs.Maps.{IsKept, HasBecome, IsMapDamaged}
-use Rattle.map_insertion.proofs.Walks.{same-fault}
+use Rattle.map_nodes.proofs.Walks.{same-fault}
 use Rattle.paged_map.proofs.Maps.{map-none, unused, becomes}
 use Rattle.paged_map.proofs.map.PagedMap.put.Goals as goal
 

@@ -10,7 +10,7 @@ use Rattle.map_nodes.specs.Tree.{map_rows, map_uses}
 use Rattle.map_nodes.specs.Damages.{AskedSince, AsksOnly}
 use Rattle.map_nodes.proofs.Harms.{asks-nothing}
 use Rattle.paged_map.specs.Maps.{IsKept, HasBecome, IsMapDamaged}
-use Rattle.map_insertion.proofs.Walks.{same-fault}
+use Rattle.map_nodes.proofs.Walks.{same-fault}
 use Rattle.paged_map.proofs.Maps.{map-none}
 use Rattle.paged_map.proofs.Removes.{stays}
 use Rattle.paged_map.proofs.map.PagedMap.remove.Goals as goal
