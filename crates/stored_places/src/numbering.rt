@@ -42,6 +42,10 @@ fn take_hold<P: Pages>(
     ensures goes_on { P.is_stopped pages.new ≡ P.is_stopped pages.old }
     ensures follows { P.follows_from pages.old pages.new }
 {
+    // A place that was not there held no word: then the number need not be known before.
+    if old.is_empty() {
+        return tables.hold(pages, word);
+    }
     let number = tables.number_of(pages, word)?.unwrap_or(tables.next_word);
     if has_pair(number, old) {
         return Ok(number);
