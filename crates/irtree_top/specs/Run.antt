@@ -1,8 +1,12 @@
 -- What a run of the program promises.
-use Rattle.std.specs.Prelude.{◌≡◌, ◌≤◌, ℕ, List, [], Bool, IsTrue, IfErr, Ok, Err, Result}
+use Rattle.std.specs.Prelude.{◌≡◌, ◌⊎◌, ◌≤◌, ℕ, List, [], Bool, IsTrue, IfErr, OnOk, Ok, Err, Result}
 use Rattle.disk_model.specs.World.{World, Image, Rose}
-use Rattle.irtree_engine.specs.Holding.{IsForeign, StandsForNone}
-use Rattle.page_journal.specs.Record.{IsBad}
+use Rattle.irtree_engine.specs.Holding.{HasBrokenHead, IsForeign, StandsForNone}
+use Rattle.page_journal.specs.Record.{IsBad, StandsFor}
+use Rattle.page_store.specs.Contents.{page_bytes}
+use Rattle.page_store.specs.Opening.{head_damage}
+use Rattle.page_store.specs.Superblock.{IsStorePage}
+use Rattle.page_face.specs.declared.fault.Damage.{Damage}
 use Rattle.place_map.specs.State.{Contents}
 use Rattle.geojson_points.specs.Takes.{Item}
 use Rattle.crash_prefix.specs.Acked.{acked_by_script, acked_by_load}
@@ -82,22 +86,33 @@ EndsJob asked state input left old new (Err (ends.Store fault)) = ⊥
 EndsJob asked state input left old new (Err ends.Done) = ⊥
 EndsJob asked state input left old new (Err ends.Words) = ⊥
 
+-- The image is opened: it stands for pages whose page 0 is zeros, or begins with the magic and keeps the rule Head.
+pub record IsOpenable (image : Image) : Type 0 where
+  pub area : ℕ → ℕ
+  pub stands : StandsFor image area
+  pub page : IsStorePage (page_bytes area 0)
+
+-- Where damage is met: at page 0 as it is opened, or behind the opening.
+abbrev pub IsDamagedAt : Damage → Image → Type 0
+IsDamagedAt damage image = ((damage ≡ head_damage) × HasBrokenHead image) ⊎ IsOpenable image
+
 -- What a store's fault says of the image: that it stands for no state; where it is called no store, that page 0 is foreign; where the
--- journal is named, that its first fault is at that byte.
+-- journal is named, that its first fault is at that byte; where a page is named, that page 0 breaks the rule Head or is opened.
 abbrev pub IsBroken : StoreFault → Image → Type 0
 IsBroken stores.NotAStore image = StandsForNone image × IsForeign image
 IsBroken (stores.BadJournal at) image = StandsForNone image × IsBad image at
-IsBroken (stores.Damaged damage) image = StandsForNone image
+IsBroken (stores.Damaged damage) image = StandsForNone image × IsDamagedAt damage image
 
--- What may end a job whose store is opened first: want of memory, a count that rose, the input, an image that is broken so, or a limit.
+-- What may end a job whose store is opened first: want of memory, a count that rose, an image that is broken so, or, over an image that
+-- is opened, the input or a limit.
 abbrev pub IsRunEnd : Bool → ℕ → ℕ → World → World → Ended → Type 0
 IsRunEnd tells source_old source_new old new ends.Memory = Unit {0}
 IsRunEnd tells source_old source_new old new ends.Disk = Rose old.faults new.faults
-IsRunEnd tells source_old source_new old new ends.Source = Rose source_old source_new
-IsRunEnd tells source_old source_new old new ends.Sink = Rose old.sink_faults new.sink_faults
-IsRunEnd tells source_old source_new old new (ends.Input fault) = Unit {0}
+IsRunEnd tells source_old source_new old new ends.Source = Rose source_old source_new × (IsTrue tells → IsOpenable old.seen)
+IsRunEnd tells source_old source_new old new ends.Sink = Rose old.sink_faults new.sink_faults × (IsTrue tells → IsOpenable old.seen)
+IsRunEnd tells source_old source_new old new (ends.Input fault) = IsTrue tells → IsOpenable old.seen
 IsRunEnd tells source_old source_new old new (ends.Store fault) = IsTrue tells → IsBroken fault old.seen
-IsRunEnd tells source_old source_new old new (ends.Limit fault) = Unit {0}
+IsRunEnd tells source_old source_new old new (ends.Limit fault) = IsTrue tells → IsOpenable old.seen
 IsRunEnd tells source_old source_new old new ends.Done = ⊥
 IsRunEnd tells source_old source_new old new ends.Words = ⊥
 
@@ -106,7 +121,20 @@ pub record HasRunEnd {T : Type 0} (tells : Bool) (source_old source_new : ℕ) (
   pub source : source_old ≤ source_new
   pub faults : old.faults ≤ new.faults
   pub sink : old.sink_faults ≤ new.sink_faults
+  pub opened : IsTrue tells → OnOk result (IsOpenable old.seen)
   pub cause : IfErr result (IsRunEnd tells source_old source_new old new)
+
+-- an end that comes only behind the opening of the store
+abbrev pub IsBehindOpening : Ended → Type 0
+IsBehindOpening ends.Done = Unit {0}
+IsBehindOpening ends.Memory = ⊥
+IsBehindOpening ends.Words = ⊥
+IsBehindOpening ends.Disk = ⊥
+IsBehindOpening ends.Source = Unit {0}
+IsBehindOpening ends.Sink = Unit {0}
+IsBehindOpening (ends.Input fault) = Unit {0}
+IsBehindOpening (ends.Store fault) = ⊥
+IsBehindOpening (ends.Limit fault) = Unit {0}
 
 -- an end that no fault of source, disk or sink causes
 abbrev pub IsSettled : Ended → Type 0

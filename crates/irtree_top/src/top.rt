@@ -4,7 +4,7 @@ ghost use Rattle.disk_model.specs.World.{LeavesOnly, Rose};
 ghost use Rattle.place_map.specs.State.{Contents};
 ghost use Rattle.irtree_engine.specs.Holding.{HoldsState};
 ghost use Rattle.run_ends.specs.Turn.{Transcript, Done, Input};
-ghost use Rattle.irtree_top.specs.Run.{EndsBy, HoldsPrefix, IsBroken, IsSettled, SaysFront, SaysWhatWasRead, StopsAtLimit};
+ghost use Rattle.irtree_top.specs.Run.{EndsBy, HoldsPrefix, IsBehindOpening, IsBroken, IsOpenable, IsSettled, SaysFront, SaysWhatWasRead, StopsAtLimit};
 ghost use Rattle.irtree_top.specs.Transcript.{IsTranscript};
 ghost use Rattle.irtree_top.specs.Words.{Asked, AskFor, AreAccepted};
 
@@ -23,7 +23,9 @@ use std::alloc::Global;
 /// `Input`, `Limit(Full)` and `Limit(Worn)` come by the transcript's end, whose whole text was said. On every other end a front of the
 /// transcript was said: where no page was left (`Limit(NoRoom)`), all that comes before the refused update or batch; where the source
 /// failed, the replies of all lines that were read, and in a load nothing. `Store` comes only where the image at the start is no
-/// well-formed store: `NotAStore` where its page 0 is foreign, `BadJournal` names the first byte of its journal that breaks a rule.
+/// well-formed store: `NotAStore` where its page 0 is foreign, `BadJournal` names the first byte of its journal that breaks a rule,
+/// `Damaged` names the rule Head at page 0, or comes where a page behind it was read. All ends but `Store`, `Disk`, `Words` and
+/// `Memory` come only where page 0 of the recovered store is zeros, or begins with the magic and keeps that rule.
 ///
 /// An update is safe before its line is said: a crash at any moment leaves an image that stands for the state after a prefix of the
 /// transcript's updates that holds every acknowledged one, or one that a crash could have left before the call.
@@ -70,6 +72,7 @@ pub fn run<S: Source, T: Station>(
 
     // Each end has its cause, and no count falls.
     ensures store { (fault : StoreFault) → result ≡ Ended.Store fault → IsTrue T.tells → IsBroken fault (T.world station.old).seen }
+    ensures opened { IsBehindOpening result → IsTrue T.tells → IsOpenable (T.world station.old).seen }
     ensures disk_cause { result ≡ Ended.Disk → Rose (T.world station.old).faults (T.world station.new).faults }
     ensures source_cause { result ≡ Ended.Source → Rose (S.faults source.old) (S.faults source.new) }
     ensures sink_cause { result ≡ Ended.Sink → Rose (T.world station.old).sink_faults (T.world station.new).sink_faults }

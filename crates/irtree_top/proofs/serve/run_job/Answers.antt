@@ -2,6 +2,7 @@ use Rattle.std.proofs.Common.{◌≡◌, ◌≤◌, rules, sym, ap, subst, ◌�
 use Rattle.std.specs.Prelude.{IsErrOf}
 use Rattle.irtree_engine.specs.declared.fault.EngineFault.TheVariants as engine
 use Rattle.disk_model.specs.World.{LeavesOnly}
+use Rattle.disk_model.specs.declared.disk.Area.TheVariants.{Pages}
 use Rattle.disk_model.proofs.Moments.{then, within}
 use Rattle.irtree_engine.specs.Holding.{HoldsState}
 use Rattle.run_ends.specs.Causes.{HasJobEnd}
@@ -22,6 +23,7 @@ refuses g c = record {
       (λ damage is. let named : IsErrOf c.look.result (engine.Damaged damage) = cc in (c.look.ensures.damaged damage named).1 told);
   foreign = λ told is. let named : IsErrOf c.look.result engine.NotAStore = cc in c.look.ensures.foreign told named;
   bad = λ told at is. let named : IsErrOf c.look.result (engine.BadJournal at) = cc in (c.look.ensures.bad told at named).0;
+  head = λ told damage is. let named : IsErrOf c.look.result (engine.Damaged damage) = cc in ((c.look.ensures.damaged damage named).0, c.look.ensures.broken_head told damage named);
 }
 
 pub returns-in-Err-clause-told : goal.returns-in-Err-clause-told
@@ -40,6 +42,7 @@ returns-in-Err-clause-cause g c = record {
   source = omega arith;
   faults = c.look.ensures.later;
   sink = omega (arith, c.look.ensures.sink);
+  opened = λ told. tt;
   cause = rw c.ended_by.ensures (refused-cause g.T.Disk.tells (g.S.Source.faults c.args.source.now) (g.T.Disk.world c.args.station.now) (g.T.Disk.world c.look.new.disk) c.in-Err.fault c.in-Err.ensures.causes (refuses g c));
 }
 
@@ -72,6 +75,8 @@ returns-clause-cause g c =
     let source = g.S.Source.faults in
     let over : c.over-engine.result.store.disk.now ≡ c.look.new.disk = c.over-engine.ensures.disk in
     given-back (λ disk. HasRunEnd g.T.Disk.tells (source c.args.source.now) (source c.serve-end.new.source) (world c.args.station.now) (world disk) c.serve-end.result) c.serve-end.new.engine.store.disk.now _ (search rules)
-    (job-cause g.T.Disk.tells (world c.args.station.now) (world c.look.new.disk) (world c.serve-end.new.engine.store.disk.now) c.look.ensures.later c.look.ensures.sink (λ told state holds. c.in-Ok.ensures.holds told state holds) (Unit {0})
+    (job-cause g.T.Disk.tells (world c.args.station.now) (world c.look.new.disk) (world c.serve-end.new.engine.store.disk.now) c.look.ensures.later c.look.ensures.sink
+    (λ told. let o = c.in-Ok.ensures.opened told in record { area = (world c.look.new.disk).seen Pages; stands = o.stands; page = o.page })
+    (λ told state holds. c.in-Ok.ensures.holds told state holds) (Unit {0})
     (source c.args.source.now) (source c.serve-end.new.source) c.serve-end.result
     (subst (λ disk. HasJobEnd g.T.Disk.tells (source c.args.source.now) (source c.serve-end.new.source) (world disk) (world c.serve-end.new.engine.store.disk.now) c.serve-end.result) over c.serve-end.ensures.cause))

@@ -5,6 +5,7 @@ use Rattle.irtree_top.specs.Run.{EndsJob}
 use Rattle.run_ends.specs.Turn.{Done}
 use Rattle.irtree_top.specs.Words.{Asked, asked_of}
 use Rattle.irtree_top.proofs.Jobs.{decided-front, job-front}
+use Rattle.irtree_top.proofs.Openings.{behind-opening}
 use Rattle.irtree_top.proofs.top.run.Goals as goal
 
 pub returns-in-Ok-run_job-clause-done : goal.returns-in-Ok-run_job-clause-done
@@ -51,3 +52,10 @@ pub returns-in-Ok-clause-crash : goal.returns-in-Ok-clause-crash
 returns-in-Ok-clause-crash g c = λ asked wants tells told state holds.
     let same : asked_of c.in-Ok.job ≡ asked = cc (c.in-Ok.ensures.asked) in
     c.run_job.ensures.any_moment tells told asked (sym (ap (λ (a : Asked). a.action) same)) (sym (ap (λ (a : Asked). a.batch) same)) state holds
+
+pub returns-in-Ok-run_job-clause-opened : goal.returns-in-Ok-run_job-clause-opened
+returns-in-Ok-run_job-clause-opened g c = λ behind tells. c.in-Ok-run_job.ensures.cause.opened tells
+
+pub returns-in-Ok-clause-opened : goal.returns-in-Ok-clause-opened
+returns-in-Ok-clause-opened g c = λ behind tells.
+    behind-opening g.T.Disk.tells (g.S.Source.faults c.args.source.now) (g.S.Source.faults c.run_job.new.source) (g.T.Disk.world c.args.station.now) (g.T.Disk.world c.run_job.new.station) c.in-Err.end c.in-Err.ensures.cause.cause behind tells
