@@ -9,6 +9,7 @@ use disk_model::{Area, Disk, Failed};
 use page_face::Page;
 
 // Reads a page from the disk.
+#[inline(never)]
 pub(crate) fn read_page<D: Disk>(disk: &mut D, number: u32) -> Result<Page, Failed>
     ensures gives { IsTrue D.tells → IfOk result (λ page. page ≡ page_bytes ((D.world disk.old).seen areas.Pages) number) }
     ensures reads { IsTrue D.tells → ReadsPage number (D.world disk.old) (D.world disk.new) }

@@ -90,6 +90,8 @@ impl<'d, D: Disk> Pages for Store<'d, D> {
         self.current.first_free
     }
 
+    // Inlined, so that a page of the overlay is copied once, to where the caller looks at it.
+    #[inline(always)]
     fn read(&mut self, page: u32) -> Result<Page, PageFault> {
         if self.stopped {
             return Err(PageFault::Stopped);
