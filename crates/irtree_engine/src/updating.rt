@@ -72,7 +72,7 @@ impl<'d, D: Station> Engine<'d, D> {
         }
     }
 
-    /// Stores all updates in one commit, or none. There are 1 to 10,000, and a key that a Put names is a text key.
+    /// Stores all updates in one commit, or none. There are at most 10,000, and a key that a Put names is a text key; of none nothing is stored.
     ///
     /// Refuses as [`Engine::apply`], for the first update that meets a cause; then none is stored. Costs as much as each update by
     /// itself, with one commit of the pages that changed.
