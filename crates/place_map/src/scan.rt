@@ -15,6 +15,7 @@ use std::collections::BTreeMap;
 use term_impacts::Word;
 
 // The hit of a place whose cost is its distance.
+#[inline(always)]
 fn hit_at(at: &Point, key: &Key, place: &Place) -> Hit
     ensures { result ≡ near_hit at.now (key.now, place.now) }
 {
@@ -29,6 +30,7 @@ fn hit_at(at: &Point, key: &Key, place: &Place) -> Hit
 }
 
 // The hit of a place that passes a nearest query's filter.
+#[inline(always)]
 fn hit_near(at: &Point, filter: &Option<Expr>, key: &Key, place: &Place) -> Option<Hit>
     ensures { listed result ≡ near_hits at.now filter.now (key.now, place.now) }
 {
@@ -40,6 +42,7 @@ fn hit_near(at: &Point, filter: &Option<Expr>, key: &Key, place: &Place) -> Opti
 }
 
 // The same where the place is at most so far away.
+#[inline(always)]
 fn hit_in_range(
     at: &Point,
     radius: u64,
@@ -57,6 +60,7 @@ fn hit_in_range(
 }
 
 // The hit of a place in a rectangle that passes a filter.
+#[inline(always)]
 fn hit_in_box(rect: &Rect, filter: &Option<Expr>, key: &Key, place: &Place) -> Option<Hit>
     ensures { listed result ≡ box_hits rect.now filter.now (key.now, place.now) }
 {
@@ -74,6 +78,7 @@ fn hit_in_box(rect: &Rect, filter: &Option<Expr>, key: &Key, place: &Place) -> O
 }
 
 // The hit of a place that holds one of a top query's words.
+#[inline(always)]
 fn hit_of_top(
     at: &Point,
     alpha: u16,
@@ -101,6 +106,7 @@ fn hit_of_top(
 }
 
 // The hit that a place gives to a query.
+#[inline(always)]
 fn hit_of(query: &Query, key: &Key, place: &Place) -> Option<Hit>
     requires { IsWithinLimits query.now }
     ensures { listed result ≡ hits_of query.now (key.now, place.now) }

@@ -3,6 +3,7 @@ ghost use Rattle.std.specs.Prelude.{◌≡◌, ◌≢◌, ℕ, ◌≤◌, List, 
 ghost use Rattle.std.specs.Cmp.Lexicographic.{slice_cmp, nat_list_cmp_total, texts_ties, texts_po, nat_list_eq_equiv};
 ghost use Rattle.std.specs.Cmp as Cmp;
 ghost use Rattle.std.specs.Hash as fed;
+ghost use Rattle.std.specs.Int.{from_be_bytes, w64};
 ghost use Rattle.std.specs.Ordering.{nat_cmp};
 ghost use Rattle.std.specs.Str.{bytes_eq};
 ghost use Rattle.std.proofs.Common.{rules};
@@ -105,13 +106,24 @@ impl Word {
     }
 }
 
+// The first eight bytes of a form, as a number.
+#[inline(always)]
+fn front(form: &[u8; 33]) -> u64
+    ensures { result ≡ from_be_bytes w64 (take 8 form.now) }
+{
+    let [a, b, c, d, e, f, g, h, ..] = form;
+    u64::from_be_bytes([*a, *b, *c, *d, *e, *f, *g, *h])
+}
+
 impl PartialEq for Word {
     ghost eq = { bytes_eq };
 
     ghost laws = { Cmp.partial_equiv_from_equiv nat_list_eq_equiv };
 
+    // Most words are told apart by their first eight bytes.
+    #[inline(always)]
     fn eq(&self, other: &Word) -> bool {
-        self.text() == other.text()
+        front(&self.form) == front(&other.form) && self.form == other.form
     }
 }
 
