@@ -24,8 +24,8 @@ use std::alloc::Global;
 /// transcript was said: where no page was left (`Limit(NoRoom)`), all that comes before the refused update or batch; where the source
 /// failed, the replies of all lines that were read, and in a load nothing. `Store` comes only where the image at the start is no
 /// well-formed store: `NotAStore` where its page 0 is foreign, `BadJournal` names the first byte of its journal that breaks a rule,
-/// `Damaged` names the rule Head at page 0, or comes where a page behind it was read. All ends but `Store`, `Disk`, `Words` and
-/// `Memory` come only where page 0 of the recovered store is zeros, or begins with the magic and keeps that rule.
+/// `Damaged` names the rule Head at page 0 where that breaks it, or comes behind the opening. All ends but `Store`, `Disk`, `Words`
+/// and `Memory` come only where page 0 of the recovered store is zeros, or begins with the magic and keeps that rule.
 ///
 /// An update is safe before its line is said: a crash at any moment leaves an image that stands for the state after a prefix of the
 /// transcript's updates that holds every acknowledged one, or one that a crash could have left before the call.
