@@ -14,7 +14,7 @@ use Rattle.place_map.specs.declared.update.UpdateFault.{UpdateFault}
 use Rattle.place_map.specs.declared.update.UpdateFault.TheVariants as faults
 use Rattle.place_map.specs.State.{Contents, place_at, with_place, without_place}
 use Rattle.place_map.specs.Update.{Effect, effect_of, key_for, put_at, refuses, removed_at, serial_after}
-use Rattle.stored_state.specs.Stands.{PagesStand, Stands}
+use Rattle.store_meaning.specs.Stands.{PagesStand, Stands}
 use Rattle.irtree_engine.specs.declared.fault.EngineFault.{EngineFault}
 use Rattle.irtree_engine.specs.declared.fault.EngineFault.TheVariants.{Disk, NotAStore, BadJournal, Damaged, Full, Worn, NoRoom, Stopped, Memory}
 use Rattle.irtree_engine.specs.Updates.{IsDueTo, IsLater, LeavesAllOrNone, LeavesOneOf, StandForOutcome, StandsForOutcome, accepted, state_after_all}

@@ -8,8 +8,8 @@ use Rattle.page_store.specs.Store.{Rests}
 use Rattle.page_store.specs.Superblock.{IsInRange}
 use Rattle.page_store.specs.declared.superblock.Superblock.{Superblock}
 use Rattle.place_map.specs.State as states
-use Rattle.stored_state.specs.Stands.{PagesStand, Stands}
-use Rattle.stored_state.proofs.Images.{area-one}
+use Rattle.store_meaning.specs.Stands.{PagesStand, Stands}
+use Rattle.store_meaning.proofs.Images.{area-one}
 use Rattle.irtree_engine.specs.Updates.{LeavesOneOf}
 
 -- an image whose contents stand for a state stands for it

@@ -23,10 +23,10 @@ use Rattle.store_tables.specs.declared.tables.Tables.{Tables}
 use Rattle.store_tables.specs.Entries.{place_of_key, without_place}
 use Rattle.store_tables.specs.Holding.{IsApart, IsChanged, numbers_form, places_form, table_uses, texts_form}
 use Rattle.store_tables.proofs.ToldLemmas.{apart-counted}
-use Rattle.stored_state.specs.Stands.{PagesStand, tables_in}
-use Rattle.stored_state.specs.Updates.{after_put, after_remove, numbered_for}
-use Rattle.stored_state.proofs.Changes.{lives-before, live-before, next-then, stand-put, stand-remove}
-use Rattle.stored_state.proofs.Places.{length-without_place}
+use Rattle.store_meaning.specs.Stands.{PagesStand, tables_in}
+use Rattle.store_meaning.specs.Updates.{after_put, after_remove, numbered_for}
+use Rattle.store_meaning.proofs.Changes.{lives-before, live-before, next-then, stand-put, stand-remove}
+use Rattle.store_meaning.proofs.Places.{length-without_place}
 use Rattle.irtree_engine.specs.Changes.{block_with, head_with}
 
 -- ---- the same pages

@@ -17,8 +17,8 @@ use Rattle.store_rows.specs.declared.counted.Counted.{Counted}
 use Rattle.store_rows.specs.declared.stored.Stored.{Stored}
 use Rattle.store_rows.specs.Stored.{held_pairs}
 use Rattle.store_tables.specs.Entries.{place_after}
-use Rattle.stored_state.specs.Stands.{place_in}
-use Rattle.stored_places.specs.Known.{AreAllKnown, AreKnown}
+use Rattle.store_meaning.specs.Stands.{place_in}
+use Rattle.place_updates.specs.Known.{AreAllKnown, AreKnown}
 use Rattle.irtree_engine.specs.Listing.{row_of, rows_of}
 
 -- the first of some places

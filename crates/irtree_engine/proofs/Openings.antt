@@ -5,7 +5,7 @@ use Rattle.disk_model.specs.declared.disk.Area.TheVariants.{Journal}
 use Rattle.disk_model.proofs.Moments.{within}
 use Rattle.page_journal.specs.Record.{StandsFor, StandsAlike, IsBad, batch_in}
 use Rattle.place_map.specs.State.{Contents}
-use Rattle.stored_state.specs.Stands.{Stands}
+use Rattle.store_meaning.specs.Stands.{Stands}
 use Rattle.irtree_engine.specs.Holding.{HoldsState, LeavesState, StandsForNone}
 
 -- an image of the same pages stands for the same state

@@ -23,14 +23,14 @@ use Rattle.store_rows.specs.Stored.{held_pairs}
 use Rattle.store_tables.specs.Entries.{word_of_number}
 use Rattle.store_tables.specs.Holding.{table_uses}
 use Rattle.store_tables.proofs.ToldLemmas.{apart-counted}
-use Rattle.stored_state.specs.Updates.{has_pair}
-use Rattle.stored_state.proofs.Places.{known-each}
-use Rattle.stored_places.specs.Known.{AreKnown, AreAllKnown}
+use Rattle.store_meaning.specs.Updates.{has_pair}
+use Rattle.store_meaning.proofs.Places.{known-each}
+use Rattle.place_updates.specs.Known.{AreKnown, AreAllKnown}
 use Rattle.irtree_engine.specs.declared.fault.EngineFault.TheVariants.{Damaged}
 use Rattle.irtree_engine.specs.Faults.{fault_of_pages}
 use Rattle.place_map.specs.State as states
-use Rattle.stored_state.specs.Stands.{PagesStand, Stands, tables_in}
-use Rattle.stored_state.proofs.Images.{area-one}
+use Rattle.store_meaning.specs.Stands.{PagesStand, Stands, tables_in}
+use Rattle.store_meaning.proofs.Images.{area-one}
 
 -- where nothing waits to be committed, the pages stand for what the image stands for
 pub committed-stand : (tells : Bool) (world : World) (overlay : Overlay) (current last : Superblock) (state : states.Contents) → tells ≡ true → overlay.entries ≡ [] → current ≡ last → IsCommitted last world → Stands world.seen state

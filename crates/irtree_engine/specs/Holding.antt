@@ -5,7 +5,7 @@ use Rattle.page_journal.specs.Record.{StandsFor}
 use Rattle.page_store.specs.Contents.{page_bytes}
 use Rattle.page_store.specs.Superblock.{is_zero, HasMagic, KeepsHead}
 use Rattle.place_map.specs.State.{Contents}
-use Rattle.stored_state.specs.Stands.{Stands}
+use Rattle.store_meaning.specs.Stands.{Stands}
 
 -- What reads give stands for a state.
 abbrev pub HoldsState : World → Contents → Type 0

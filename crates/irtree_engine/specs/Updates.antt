@@ -11,7 +11,7 @@ use Rattle.place_map.specs.declared.update.Update.{Update}
 use Rattle.place_map.specs.declared.update.Update.TheVariants.{Put, Remove}
 use Rattle.place_map.specs.declared.update.UpdateFault.{UpdateFault}
 use Rattle.place_map.specs.declared.update.UpdateFault.TheVariants as updates
-use Rattle.stored_state.specs.Stands.{PagesStand, Stands}
+use Rattle.store_meaning.specs.Stands.{PagesStand, Stands}
 use Rattle.irtree_engine.specs.declared.fault.EngineFault.{EngineFault}
 use Rattle.irtree_engine.specs.declared.fault.EngineFault.TheVariants.{Disk, Damaged, Full, Worn, NoRoom, Stopped, Memory}
 

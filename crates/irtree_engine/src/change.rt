@@ -6,7 +6,7 @@ ghost use Rattle.map_nodes.specs.Damages.{AreTold};
 ghost use Rattle.place_map.specs.Restored.{IsSerialAbove};
 ghost use Rattle.place_map.specs.State.{Contents};
 ghost use Rattle.place_map.specs.Update.{effect_of, key_for, put_at, removed_at, serial_after};
-ghost use Rattle.stored_state.specs.Stands.{PagesStand, tables_in};
+ghost use Rattle.store_meaning.specs.Stands.{PagesStand, tables_in};
 ghost use Rattle.irtree_engine.specs.Updates.{NamesText, IsUpdateFault, IsDueTo, IsAtLimit, StandForOutcome, state_after_all};
 ghost use Rattle.irtree_engine.specs.Changes.{block_with, head_with, AreHeadNumbers};
 
@@ -18,7 +18,7 @@ use spatial_base::{Key, Point};
 use std::alloc::Global;
 use store_rows::PAIRS_MAX;
 use store_tables::Tables;
-use stored_places::{put_place, remove_place};
+use place_updates::{put_place, remove_place};
 use term_impacts::Words;
 
 /// Changes the tables and page 0's fields by one update. A key that a Put names is a text key.

@@ -8,7 +8,7 @@ ghost use Rattle.place_map.specs.State.{Contents};
 ghost use Rattle.irtree_engine.specs.Holding.{HasBrokenHead, HoldsState, IsForeign, LeavesState, StandsForNone};
 ghost use Rattle.irtree_engine.specs.Faults.{IsOpenFault};
 
-use crate::{EngineFault, look};
+use crate::{EngineFault, recover_superblock};
 use disk_model::{Failed, Station};
 use page_face::Damage;
 use page_store::{Store, Superblock};
@@ -31,7 +31,7 @@ pub struct Engine<'d, D: Station> {
 impl<'d, D: Station> Engine<'d, D> {
     /// Recovers the journal and reads page 0. `cache` is the number of pages that a cache may hold; there is none yet.
     ///
-    /// Refuses as [`look`] does, and costs as much. After a refusal the image stands for the same state as before, where it stood
+    /// Refuses as [`recover_superblock`] does, and costs as much. After a refusal the image stands for the same state as before, where it stood
     /// for one.
     pub fn open(alloc: Global, disk: &'d mut D, _cache: u32) -> Result<Engine<'d, D>, EngineFault>
         ensures same_loan { IfOk result (λ engine. engine.store.disk.ghost_name ≡ disk.entry.ghost_name) }
@@ -52,13 +52,13 @@ impl<'d, D: Station> Engine<'d, D> {
         ensures sink { IfOk result (λ engine. (D.world engine.store.disk.now).sink_faults ≡ (D.world disk.old).sink_faults) }
         ensures room { IfOk result (λ engine. D.room_of engine.store.disk.now ≡ D.room_of disk.old) }
     {
-        match look(&mut *disk) {
+        match recover_superblock(&mut *disk) {
             Ok(block) => Ok(Engine::over(alloc, disk, block)),
             Err(fault) => Err(fault),
         }
     }
 
-    /// The engine over a disk that [`look`] has answered this superblock of. Makes no call of the disk.
+    /// The engine over a disk that [`recover_superblock`] has answered this superblock of. Makes no call of the disk.
     pub fn over(alloc: Global, disk: &'d mut D, block: Superblock) -> Engine<'d, D>
         requires in_range { block.first_free < block.counted }
         requires committed { IsTrue D.tells → IsCommitted block (D.world disk.old) }

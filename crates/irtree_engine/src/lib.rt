@@ -1,7 +1,7 @@
 //! A store as one object: the map of live places on a disk that may crash.
 //!
 //! An [`Engine`] borrows a station. Where the station tells its bytes, what the engine holds is the state that the station's
-//! image stands for (`stored_state`): [`Engine::show`], [`Engine::count`] and [`Engine::answer`] read that state, and
+//! image stands for (`store_meaning`): [`Engine::show`], [`Engine::count`] and [`Engine::answer`] read that state, and
 //! [`Engine::apply`] and [`Engine::apply_batch`] change it. An update, or a whole batch of them, is stored in one commit. A crash at
 //! any moment of it leaves an image of the state before it or of the one after all of it, and [`Engine::open`], which recovers the
 //! journal, keeps that state.
@@ -9,7 +9,7 @@
 //! After a refusal the map is as before. A commit that fails stops the engine: from then on each call that reads or changes places
 //! answers `Stopped`, and the store is to be opened again.
 //!
-//! A caller that has to know what a refused opening left calls [`look`] and then [`Engine::over`], which together are `open`,
+//! A caller that has to know what a refused opening left calls [`recover_superblock`] and then [`Engine::over`], which together are `open`,
 //! and [`Engine::into_disk`] gives the loan back.
 #![tactic(auto)]
 
@@ -26,4 +26,4 @@ mod updating;
 
 pub use engine::Engine;
 pub use fault::EngineFault;
-pub use opening::look;
+pub use opening::recover_superblock;

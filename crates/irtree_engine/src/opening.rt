@@ -16,7 +16,7 @@ use page_store::{OpenFault, Superblock};
 ///
 /// Refuses `Disk`; `BadJournal`, then nothing was written; `NotAStore`; `Damaged` with the rule Head at page 0. Takes no
 /// memory. Costs a recovery, and one page read.
-pub fn look<D: Disk>(disk: &mut D) -> Result<Superblock, EngineFault>
+pub fn recover_superblock<D: Disk>(disk: &mut D) -> Result<Superblock, EngineFault>
     // The image that reads gave stands for what reads give now, and so does every image of a crash meanwhile.
     ensures opened { IsTrue D.tells → IfOk result (λ block. IsOpened block (D.world disk.old) (D.world disk.new)) }
     ensures holds { IsTrue D.tells → (state : Contents) → HoldsState (D.world disk.old) state → IfOk result (λ _. HoldsState (D.world disk.new) state) }
@@ -39,7 +39,7 @@ pub fn look<D: Disk>(disk: &mut D) -> Result<Superblock, EngineFault>
     ensures disk { IsErrOf result EngineFault.Disk → Rose (D.world disk.old).faults (D.world disk.new).faults }
     ensures room { D.room_of disk.new ≡ D.room_of disk.old }
 {
-    match page_store::look(disk) {
+    match page_store::recover_superblock(disk) {
         Ok(block) => Ok(block),
         Err(OpenFault::Disk) => Err(EngineFault::Disk),
         Err(OpenFault::NotAStore) => Err(EngineFault::NotAStore),

@@ -6,7 +6,7 @@ ghost use Rattle.map_nodes.specs.Damages.{AreTold};
 ghost use Rattle.paged_map.specs.Maps.{AreCounted};
 ghost use Rattle.store_tables.specs.Entries.{Entries, place_after};
 ghost use Rattle.store_tables.specs.Holding.{Holds, table_uses};
-ghost use Rattle.stored_places.specs.Known.{AreAllKnown};
+ghost use Rattle.place_updates.specs.Known.{AreAllKnown};
 ghost use Rattle.irtree_engine.specs.Listing.{row_of, rows_of};
 
 use crate::fault::broken_by_head;
@@ -14,7 +14,7 @@ use page_face::{Damage, PageFault, Pages, Rule};
 use spatial_base::{Key, Point};
 use std::alloc::Global;
 use store_tables::Tables;
-use stored_places::words_of;
+use place_updates::words_of;
 use term_impacts::Words;
 
 // The fault of a number of live places that isn't that of the place table.

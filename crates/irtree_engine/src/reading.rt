@@ -12,7 +12,7 @@ use disk_model::Station;
 use page_face::Damage;
 use place_map::Place;
 use spatial_base::Key;
-use stored_places::place_at;
+use place_updates::place_at;
 
 impl<'d, D: Station> Engine<'d, D> {
     /// The place at a key, and `None` where none lives there.

@@ -7,7 +7,7 @@ ghost use Rattle.page_face.specs.Causes.{Rose};
 ghost use Rattle.page_store.specs.Store.{Rests};
 ghost use Rattle.place_map.specs.State.{Contents};
 ghost use Rattle.place_map.specs.Update.{effect_of};
-ghost use Rattle.stored_state.specs.Stands.{PagesStand};
+ghost use Rattle.store_meaning.specs.Stands.{PagesStand};
 ghost use Rattle.irtree_engine.specs.Changes.{block_with};
 ghost use Rattle.irtree_engine.specs.Holding.{HoldsState};
 ghost use Rattle.irtree_engine.specs.Updates.{NamesText, LeavesOneOf, LeavesAllOrNone, StandsForOutcome, IsUpdateFault, IsCommitFault, IsDueTo, IsAtLimit, IsLater, state_after_all};

@@ -3,7 +3,7 @@ use disk_model::{CallKind, Fail as Planned, MemorySource, MemoryStation, Source,
 use irtree_engine::Engine;
 use irtree_top::{Ended, run};
 use load_run::run_load;
-use run_ends::ended_by;
+use run_protocol::ended_by;
 use std::alloc::Global;
 use std::test::Fail;
 

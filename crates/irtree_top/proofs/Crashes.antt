@@ -6,19 +6,19 @@ use Rattle.disk_model.specs.World.{World, Image, LeavesOnly}
 use Rattle.disk_model.proofs.Moments.{within}
 use Rattle.place_map.specs.State.{Contents}
 use Rattle.place_map.specs.declared.update.Update.{Update}
-use Rattle.stored_state.specs.Stands.{Stands}
-use Rattle.crash_prefix.specs.Prefix.{HoldsAcked}
-use Rattle.run_ends.specs.Left.{LeftByLines, LeftByLoad}
-use Rattle.run_ends.specs.Load.{load_transcript}
-use Rattle.run_ends.specs.Script.{script_lines, script_transcript}
-use Rattle.run_ends.specs.Turn.{Transcript}
+use Rattle.store_meaning.specs.Stands.{Stands}
+use Rattle.irtree_top.specs.Prefix.{HoldsAcked}
+use Rattle.run_protocol.specs.Left.{LeftByLines, LeftByLoad}
+use Rattle.run_protocol.specs.Load.{load_transcript}
+use Rattle.run_protocol.specs.Script.{script_lines, script_transcript}
+use Rattle.run_protocol.specs.Turn.{Transcript}
 use Rattle.irtree_top.specs.declared.words.Action.{Action}
 use Rattle.irtree_top.specs.declared.words.Action.TheVariants.{Run, Load}
 use Rattle.irtree_top.specs.Run.{HoldsPrefix, IsNear, acked}
 use Rattle.irtree_top.specs.Words.{Asked}
 use Rattle.irtree_top.proofs.Jobs.{script-only, load-only}
-use Rattle.crash_prefix.proofs.Loads.{load-prefix}
-use Rattle.crash_prefix.proofs.Scripts.{script-prefix}
+use Rattle.irtree_top.proofs.Loads.{load-prefix}
+use Rattle.irtree_top.proofs.Scripts.{script-prefix}
 use Rattle.irtree_top.proofs.Transcripts.{OutcomeIsOne}
 
 -- nothing acknowledges nothing

@@ -6,11 +6,11 @@ use Rattle.disk_model.specs.World.{World}
 use Rattle.place_map.specs.State.{Contents}
 use Rattle.place_map.specs.declared.update.UpdateFault.{UpdateFault}
 use Rattle.irtree_engine.specs.Updates.{state_after_all}
-use Rattle.run_ends.specs.Left.{StopsAtBatch, StopsAtLine, StopsBehind}
-use Rattle.run_ends.specs.Load.{Step, Skip, Store, load, skip_line, stored_line, stores}
-use Rattle.run_ends.specs.Said.{EndsAs, SaysFrontOf}
-use Rattle.run_ends.specs.Script.{script, turn}
-use Rattle.run_ends.specs.Turn.{Transcript, End}
+use Rattle.run_protocol.specs.Left.{StopsAtBatch, StopsAtLine, StopsBehind}
+use Rattle.run_protocol.specs.Load.{Step, Skip, Store, load, skip_line, stored_line, stores}
+use Rattle.run_protocol.specs.Said.{EndsAs, SaysFrontOf}
+use Rattle.run_protocol.specs.Script.{script, turn}
+use Rattle.run_protocol.specs.Turn.{Transcript, End}
 
 -- nothing is a front
 pub none-said : (text before : List ℕ) (now : List ℕ) → now ≡ before → SaysFrontOf text before now

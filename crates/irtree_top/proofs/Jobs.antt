@@ -6,16 +6,16 @@ use Rattle.disk_model.specs.World.{World}
 use Rattle.place_map.specs.State.{Contents}
 use Rattle.geojson_points.specs.Takes.{Item}
 use Rattle.load_run.specs.Loading.{EndsLoad, StopsItems}
-use Rattle.run_ends.specs.Left.{StopsAtBatch, StopsAtLine}
-use Rattle.run_ends.specs.Load.{IsTaken, load_transcript, steps}
-use Rattle.run_ends.specs.Said.{EndsAs, SaysFrontOf}
-use Rattle.run_ends.specs.Script.{cut, script, script_lines, script_transcript}
-use Rattle.run_ends.specs.Turn.{Transcript, End}
-use Rattle.run_ends.specs.declared.ended.Ended.{Ended}
-use Rattle.run_ends.specs.declared.ended.Ended.TheVariants as ends
-use Rattle.run_ends.specs.declared.ended.InputFault.{InputFault}
-use Rattle.run_ends.specs.declared.ended.LimitFault.{LimitFault}
-use Rattle.run_ends.specs.declared.ended.LimitFault.TheVariants as limits
+use Rattle.run_protocol.specs.Left.{StopsAtBatch, StopsAtLine}
+use Rattle.run_protocol.specs.Load.{IsTaken, load_transcript, steps}
+use Rattle.run_protocol.specs.Said.{EndsAs, SaysFrontOf}
+use Rattle.run_protocol.specs.Script.{cut, script, script_lines, script_transcript}
+use Rattle.run_protocol.specs.Turn.{Transcript, End}
+use Rattle.run_protocol.specs.declared.ended.Ended.{Ended}
+use Rattle.run_protocol.specs.declared.ended.Ended.TheVariants as ends
+use Rattle.run_protocol.specs.declared.ended.InputFault.{InputFault}
+use Rattle.run_protocol.specs.declared.ended.LimitFault.{LimitFault}
+use Rattle.run_protocol.specs.declared.ended.LimitFault.TheVariants as limits
 use Rattle.script_run.specs.Standing.{EndsScript}
 use Rattle.irtree_top.specs.declared.words.Action.{Action}
 use Rattle.irtree_top.specs.declared.words.Action.TheVariants.{Run, Load}

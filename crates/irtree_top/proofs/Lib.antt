@@ -1,5 +1,9 @@
 pub mod Crashes
+pub mod Cuts
 pub mod Fronts
 pub mod Jobs
+pub mod Loads
 pub mod Openings
+pub mod Replies
+pub mod Scripts
 pub mod Transcripts

@@ -8,12 +8,12 @@ use Rattle.irtree_engine.specs.Faults.{IsOpenFault}
 use Rattle.irtree_engine.specs.Holding.{HasBrokenHead, HoldsState, IsForeign, StandsForNone}
 use Rattle.irtree_engine.specs.declared.fault.EngineFault.{EngineFault}
 use Rattle.irtree_engine.specs.declared.fault.EngineFault.TheVariants as engine
-use Rattle.run_ends.specs.Causes.{end_of_engine, HasJobEnd, IsJobEnd, IsStoreEnd}
-use Rattle.run_ends.specs.declared.ended.StoreFault.{StoreFault}
-use Rattle.run_ends.specs.declared.ended.StoreFault.TheVariants as stores
+use Rattle.run_protocol.specs.Causes.{end_of_engine, HasJobEnd, IsJobEnd, IsStoreEnd}
+use Rattle.run_protocol.specs.declared.ended.StoreFault.{StoreFault}
+use Rattle.run_protocol.specs.declared.ended.StoreFault.TheVariants as stores
 use Rattle.page_journal.specs.Record.{IsBad}
-use Rattle.run_ends.specs.declared.ended.Ended.{Ended}
-use Rattle.run_ends.specs.declared.ended.Ended.TheVariants as ends
+use Rattle.run_protocol.specs.declared.ended.Ended.{Ended}
+use Rattle.run_protocol.specs.declared.ended.Ended.TheVariants as ends
 use Rattle.page_store.specs.Opening.{head_damage}
 use Rattle.irtree_top.specs.Run.{EndsJob, HasRunEnd, IsBehindOpening, IsBroken, IsOpenable, IsRunEnd}
 use Rattle.irtree_top.specs.Words.{Asked}

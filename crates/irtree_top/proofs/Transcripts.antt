@@ -7,11 +7,11 @@ use Rattle.json_spelled.specs.declared.tree.JsonFault.TheVariants as json
 use Rattle.geojson_points.specs.Takes.{Item, Takes}
 use Rattle.geojson_points.specs.declared.fault.LoadFault.{LoadFault}
 use Rattle.geojson_points.specs.declared.fault.LoadFault.TheVariants as loads
-use Rattle.run_ends.specs.declared.ended.InputFault.{InputFault}
-use Rattle.run_ends.specs.declared.ended.InputFault.TheVariants as inputs
-use Rattle.run_ends.specs.Turn.{Transcript}
-use Rattle.run_ends.specs.Load.{load_max, IsTaken, load_transcript}
-use Rattle.run_ends.specs.Script.{script_transcript}
+use Rattle.run_protocol.specs.declared.ended.InputFault.{InputFault}
+use Rattle.run_protocol.specs.declared.ended.InputFault.TheVariants as inputs
+use Rattle.run_protocol.specs.Turn.{Transcript}
+use Rattle.run_protocol.specs.Load.{load_max, IsTaken, load_transcript}
+use Rattle.run_protocol.specs.Script.{script_transcript}
 use Rattle.irtree_top.specs.declared.words.Action.{Action}
 use Rattle.irtree_top.specs.declared.words.Action.TheVariants.{Run, Load}
 use Rattle.irtree_top.specs.Transcript.{IsTranscriptBy, IsTranscript}

@@ -1,3 +1,5 @@
+pub mod Acked
+pub mod Prefix
 pub mod Run
 pub mod Transcript
 pub mod Words

@@ -9,20 +9,20 @@ use Rattle.page_store.specs.Superblock.{IsStorePage}
 use Rattle.page_face.specs.declared.fault.Damage.{Damage}
 use Rattle.place_map.specs.State.{Contents}
 use Rattle.geojson_points.specs.Takes.{Item}
-use Rattle.crash_prefix.specs.Acked.{acked_by_script, acked_by_load}
-use Rattle.crash_prefix.specs.Prefix.{HoldsAcked, IsNearInScript, IsNearInLoad}
+use Rattle.irtree_top.specs.Acked.{acked_by_script, acked_by_load}
+use Rattle.irtree_top.specs.Prefix.{HoldsAcked, IsNearInScript, IsNearInLoad}
 use Rattle.load_run.specs.Loading.{SaysNothingYet}
-use Rattle.run_ends.specs.Left.{StopsAtBatch, StopsAtLine}
-use Rattle.run_ends.specs.Load.{IsTaken, steps}
-use Rattle.run_ends.specs.Said.{EndsAs, SaysFrontOf}
-use Rattle.run_ends.specs.Script.{script_lines}
-use Rattle.run_ends.specs.Turn.{Transcript, End, Done, Input, Limit}
-use Rattle.run_ends.specs.declared.ended.Ended.{Ended}
-use Rattle.run_ends.specs.declared.ended.Ended.TheVariants as ends
-use Rattle.run_ends.specs.declared.ended.LimitFault.{LimitFault}
-use Rattle.run_ends.specs.declared.ended.LimitFault.TheVariants as limits
-use Rattle.run_ends.specs.declared.ended.StoreFault.{StoreFault}
-use Rattle.run_ends.specs.declared.ended.StoreFault.TheVariants as stores
+use Rattle.run_protocol.specs.Left.{StopsAtBatch, StopsAtLine}
+use Rattle.run_protocol.specs.Load.{IsTaken, steps}
+use Rattle.run_protocol.specs.Said.{EndsAs, SaysFrontOf}
+use Rattle.run_protocol.specs.Script.{script_lines}
+use Rattle.run_protocol.specs.Turn.{Transcript, End, Done, Input, Limit}
+use Rattle.run_protocol.specs.declared.ended.Ended.{Ended}
+use Rattle.run_protocol.specs.declared.ended.Ended.TheVariants as ends
+use Rattle.run_protocol.specs.declared.ended.LimitFault.{LimitFault}
+use Rattle.run_protocol.specs.declared.ended.LimitFault.TheVariants as limits
+use Rattle.run_protocol.specs.declared.ended.StoreFault.{StoreFault}
+use Rattle.run_protocol.specs.declared.ended.StoreFault.TheVariants as stores
 use Rattle.script_run.specs.Standing.{SaysRepliesOf}
 use Rattle.irtree_top.specs.declared.words.Action.{Action}
 use Rattle.irtree_top.specs.declared.words.Action.TheVariants.{Run, Load}

@@ -2,10 +2,10 @@
 use Rattle.std.specs.Prelude.{◌≡◌, ℕ, List, Result}
 use Rattle.place_map.specs.State.{Contents}
 use Rattle.geojson_points.specs.Takes.{Item}
-use Rattle.run_ends.specs.declared.ended.InputFault.{InputFault}
-use Rattle.run_ends.specs.Turn.{Transcript}
-use Rattle.run_ends.specs.Script.{script_transcript}
-use Rattle.run_ends.specs.Load.{IsTaken, load_transcript}
+use Rattle.run_protocol.specs.declared.ended.InputFault.{InputFault}
+use Rattle.run_protocol.specs.Turn.{Transcript}
+use Rattle.run_protocol.specs.Script.{script_transcript}
+use Rattle.run_protocol.specs.Load.{IsTaken, load_transcript}
 use Rattle.irtree_top.specs.declared.words.Action.{Action}
 use Rattle.irtree_top.specs.declared.words.Action.TheVariants.{Run, Load}
 use Rattle.irtree_top.specs.Words.{Asked}

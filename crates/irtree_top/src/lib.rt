@@ -12,7 +12,7 @@ mod top;
 mod words;
 
 pub use load_run::LOAD_MAX;
-pub use run_ends::{Ended, InputFault, LimitFault, StoreFault};
+pub use run_protocol::{Ended, InputFault, LimitFault, StoreFault};
 pub use script_run::INPUT_MAX;
 pub use top::{run, transcript_is_one, transcript_is_some};
 pub use words::{Action, Job, WordsFault, read_words};

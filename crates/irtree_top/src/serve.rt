@@ -3,16 +3,16 @@ ghost use Rattle.std.specs.Prelude.{◌≡◌, ◌≤◌, false, IsTrue};
 ghost use Rattle.disk_model.specs.World.{LeavesOnly};
 ghost use Rattle.place_map.specs.State.{Contents};
 ghost use Rattle.irtree_engine.specs.Holding.{HoldsState};
-ghost use Rattle.run_ends.specs.Causes.{HasJobEnd};
+ghost use Rattle.run_protocol.specs.Causes.{HasJobEnd};
 ghost use Rattle.irtree_top.specs.Run.{EndsJob, HasRunEnd, HoldsPrefix};
 ghost use Rattle.irtree_top.specs.Words.{Asked};
 
 use crate::Action;
 use disk_model::{Source, Station};
 use geojson_points::outcome_is_one;
-use irtree_engine::{Engine, look};
+use irtree_engine::{Engine, recover_superblock};
 use load_run::run_load;
-use run_ends::{Ended, ended_by};
+use run_protocol::{Ended, ended_by};
 use script_run::run_script;
 use std::alloc::Global;
 
@@ -63,7 +63,7 @@ pub(crate) fn run_job<S: Source, T: Station>(
         → LeavesOnly (T.world station.old) (T.world station.new) (HoldsPrefix asked state (S.left source.old) (T.world station.old)) }
     ensures cause { HasRunEnd T.tells (S.faults source.old) (S.faults source.new) (T.world station.old) (T.world station.new) result }
 {
-    let block = match look(&mut *station) {
+    let block = match recover_superblock(&mut *station) {
         Ok(block) => block,
         Err(fault) => return Err(ended_by(fault)),
     };

@@ -3,7 +3,7 @@ ghost use Rattle.std.specs.Prelude.{◌≡◌, ◌≤◌, [], ℕ, List, map, st
 ghost use Rattle.disk_model.specs.World.{LeavesOnly, Rose};
 ghost use Rattle.place_map.specs.State.{Contents};
 ghost use Rattle.irtree_engine.specs.Holding.{HoldsState};
-ghost use Rattle.run_ends.specs.Turn.{Transcript, Done, Input};
+ghost use Rattle.run_protocol.specs.Turn.{Transcript, Done, Input};
 ghost use Rattle.irtree_top.specs.Run.{EndsBy, HoldsPrefix, IsBehindOpening, IsBroken, IsOpenable, IsSettled, SaysFront, SaysWhatWasRead, StopsAtLimit};
 ghost use Rattle.irtree_top.specs.Transcript.{IsTranscript};
 ghost use Rattle.irtree_top.specs.Words.{Asked, AskFor, AreAccepted};

@@ -6,12 +6,12 @@ use Rattle.page_store.specs.Store.{Rests}
 use Rattle.place_map.specs.State.{Contents}
 use Rattle.place_map.specs.declared.update.Update.{Update}
 use Rattle.place_map.specs.declared.update.UpdateFault.{UpdateFault}
-use Rattle.stored_state.specs.Stands.{Stands}
+use Rattle.store_meaning.specs.Stands.{Stands}
 use Rattle.irtree_engine.specs.Holding.{HoldsState}
 use Rattle.irtree_engine.specs.Updates.{StandsForOutcome, IsUpdateFault, IsDueTo, state_after_all}
 use Rattle.irtree_engine.specs.declared.fault.EngineFault.{EngineFault}
 use Rattle.irtree_engine.specs.declared.fault.EngineFault.TheVariants as engine
-use Rattle.run_ends.specs.Causes.{IsEngineEnd, HasEngineEnd, end_of_engine}
+use Rattle.run_protocol.specs.Causes.{IsEngineEnd, HasEngineEnd, end_of_engine}
 use Rattle.load_run.specs.Loading.{IsUnstored}
 
 -- a call of the engine that was refused

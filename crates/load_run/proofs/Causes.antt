@@ -2,11 +2,11 @@
 use Rattle.std.proofs.Common.{◌≡◌, ℕ, ◌≤◌, Bool, sym, subst, arith, refl}
 use Rattle.std.specs.Prelude.{Result, Ok, Err}
 use Rattle.disk_model.specs.World.{World, Image}
-use Rattle.stored_state.specs.Stands.{Stands}
-use Rattle.run_ends.specs.declared.ended.Ended.{Ended}
-use Rattle.run_ends.specs.declared.ended.Ended.TheVariants as ends
-use Rattle.run_ends.specs.declared.ended.StoreFault.TheVariants as stores
-use Rattle.run_ends.specs.Causes.{StandsStill, IsEngineEnd, HasEngineEnd, IsJobEnd, HasJobEnd}
+use Rattle.store_meaning.specs.Stands.{Stands}
+use Rattle.run_protocol.specs.declared.ended.Ended.{Ended}
+use Rattle.run_protocol.specs.declared.ended.Ended.TheVariants as ends
+use Rattle.run_protocol.specs.declared.ended.StoreFault.TheVariants as stores
+use Rattle.run_protocol.specs.Causes.{StandsStill, IsEngineEnd, HasEngineEnd, IsJobEnd, HasJobEnd}
 
 -- where reads give the same, the image stands for what it stood for
 pub still-same : (old new : World) → new.seen ≡ old.seen → StandsStill old new

@@ -9,17 +9,17 @@ use Rattle.json_spelled.specs.declared.tree.JsonFault.TheVariants as json
 use Rattle.geojson_points.specs.Takes.{Item, Takes}
 use Rattle.geojson_points.specs.declared.fault.LoadFault.{LoadFault}
 use Rattle.geojson_points.specs.declared.fault.LoadFault.TheVariants as loads
-use Rattle.stored_state.specs.Stands.{Stands}
+use Rattle.store_meaning.specs.Stands.{Stands}
 use Rattle.irtree_engine.specs.Holding.{HoldsState}
-use Rattle.run_ends.specs.declared.ended.Ended.{Ended}
-use Rattle.run_ends.specs.declared.ended.Ended.TheVariants as ends
-use Rattle.run_ends.specs.declared.ended.InputFault.{InputFault}
-use Rattle.run_ends.specs.declared.ended.InputFault.TheVariants as inputs
-use Rattle.run_ends.specs.declared.ended.LimitFault.TheVariants as limits
-use Rattle.run_ends.specs.Left.{LeftBySteps, LeftByLoad, StopsAtBatch}
-use Rattle.run_ends.specs.Load.{load_max, IsTaken, load_transcript, steps}
-use Rattle.run_ends.specs.Said.{EndsAs, SaysFrontOf}
-use Rattle.run_ends.specs.Turn.{End}
+use Rattle.run_protocol.specs.declared.ended.Ended.{Ended}
+use Rattle.run_protocol.specs.declared.ended.Ended.TheVariants as ends
+use Rattle.run_protocol.specs.declared.ended.InputFault.{InputFault}
+use Rattle.run_protocol.specs.declared.ended.InputFault.TheVariants as inputs
+use Rattle.run_protocol.specs.declared.ended.LimitFault.TheVariants as limits
+use Rattle.run_protocol.specs.Left.{LeftBySteps, LeftByLoad, StopsAtBatch}
+use Rattle.run_protocol.specs.Load.{load_max, IsTaken, load_transcript, steps}
+use Rattle.run_protocol.specs.Said.{EndsAs, SaysFrontOf}
+use Rattle.run_protocol.specs.Turn.{End}
 use Rattle.load_run.specs.Loading.{IsUnread, RefusesSo, EndsLoad, IsConcluded, Reaches, LeftFrom, stage_at_start}
 use Rattle.load_run.proofs.Fronts.{front-empty}
 

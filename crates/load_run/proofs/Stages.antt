@@ -6,16 +6,16 @@ use Rattle.disk_model.specs.World.{World, Image}
 use Rattle.disk_model.proofs.Moments.{started, then, within}
 use Rattle.place_map.specs.State.{Contents}
 use Rattle.place_map.specs.declared.update.UpdateFault.{UpdateFault}
-use Rattle.stored_state.specs.Stands.{Stands}
+use Rattle.store_meaning.specs.Stands.{Stands}
 use Rattle.irtree_engine.specs.Holding.{HoldsState}
 use Rattle.irtree_engine.specs.Updates.{state_after_all}
-use Rattle.run_ends.specs.declared.ended.Ended.{Ended}
-use Rattle.run_ends.specs.declared.ended.Ended.TheVariants as ends
-use Rattle.run_ends.specs.declared.ended.LimitFault.TheVariants as limits
-use Rattle.run_ends.specs.Load.{Step, Skip, Store, skip_line, stored_line}
-use Rattle.run_ends.specs.Left.{StopsAtBatch, StopsBehind}
-use Rattle.run_ends.specs.Said.{SaysFrontOf}
-use Rattle.run_ends.specs.Turn.{End}
+use Rattle.run_protocol.specs.declared.ended.Ended.{Ended}
+use Rattle.run_protocol.specs.declared.ended.Ended.TheVariants as ends
+use Rattle.run_protocol.specs.declared.ended.LimitFault.TheVariants as limits
+use Rattle.run_protocol.specs.Load.{Step, Skip, Store, skip_line, stored_line}
+use Rattle.run_protocol.specs.Left.{StopsAtBatch, StopsBehind}
+use Rattle.run_protocol.specs.Said.{SaysFrontOf}
+use Rattle.run_protocol.specs.Turn.{End}
 use Rattle.load_run.proofs.Fronts.{front-behind, front-none}
 use Rattle.load_run.specs.Loading.{Stage, text_to_say, StopsFrom, moment_of, Goes, Reaches, IsConcluded, Concludes, Moves}
 

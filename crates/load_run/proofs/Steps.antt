@@ -9,9 +9,9 @@ use Rattle.geojson_points.specs.Feature.{Place}
 use Rattle.geojson_points.specs.Takes.{Item, Placed, Skipped}
 use Rattle.geojson_points.specs.declared.taken.SkipReason.{SkipReason}
 use Rattle.irtree_engine.specs.Updates.{state_after_all}
-use Rattle.run_ends.specs.Turn.{continued, Done, Limit}
-use Rattle.run_ends.specs.Load.{Step, Skip, Store, steps, load, stores, ends_at, put_of, limit_of, skip_line, stored_line, loaded_line}
-use Rattle.run_ends.specs.Left.{batch_turn}
+use Rattle.run_protocol.specs.Turn.{continued, Done, Limit}
+use Rattle.run_protocol.specs.Load.{Step, Skip, Store, steps, load, stores, ends_at, put_of, limit_of, skip_line, stored_line, loaded_line}
+use Rattle.run_protocol.specs.Left.{batch_turn}
 
 -- an item is passed over
 pub steps-skip : (batch : ℕ) (waiting : List Update) (index : ℕ) (reason : SkipReason) (items : List Item) → steps batch waiting (Skipped index reason ∷ items) ≡ Skip index reason ∷ steps batch waiting items

@@ -9,17 +9,17 @@ use Rattle.place_map.specs.declared.update.UpdateFault.TheVariants as faults
 use Rattle.geojson_points.specs.Takes.{Item}
 use Rattle.geojson_points.specs.declared.fault.LoadFault.{LoadFault}
 use Rattle.geojson_points.specs.declared.fault.LoadFault.TheVariants as loads
-use Rattle.stored_state.specs.Stands.{Stands}
+use Rattle.store_meaning.specs.Stands.{Stands}
 use Rattle.irtree_engine.specs.Holding.{HoldsState}
 use Rattle.irtree_engine.specs.Updates.{NamesText, LeavesAllOrNone, StandsForOutcome, state_after_all}
-use Rattle.run_ends.specs.Left.{LeftBySteps, StopsAtBatch}
-use Rattle.run_ends.specs.Load.{IsTaken, Step, load, load_max, load_transcript, steps}
-use Rattle.run_ends.specs.Said.{EndsAs, SaysFrontOf}
-use Rattle.run_ends.specs.Turn.{Transcript, End, Done, Limit}
-use Rattle.run_ends.specs.declared.ended.Ended.{Ended}
-use Rattle.run_ends.specs.declared.ended.Ended.TheVariants as ends
-use Rattle.run_ends.specs.declared.ended.InputFault.TheVariants as inputs
-use Rattle.run_ends.specs.declared.ended.LimitFault.TheVariants as limits
+use Rattle.run_protocol.specs.Left.{LeftBySteps, StopsAtBatch}
+use Rattle.run_protocol.specs.Load.{IsTaken, Step, load, load_max, load_transcript, steps}
+use Rattle.run_protocol.specs.Said.{EndsAs, SaysFrontOf}
+use Rattle.run_protocol.specs.Turn.{Transcript, End, Done, Limit}
+use Rattle.run_protocol.specs.declared.ended.Ended.{Ended}
+use Rattle.run_protocol.specs.declared.ended.Ended.TheVariants as ends
+use Rattle.run_protocol.specs.declared.ended.InputFault.TheVariants as inputs
+use Rattle.run_protocol.specs.declared.ended.LimitFault.TheVariants as limits
 use Rattle.load_run.specs.declared.load.Load.{Load}
 
 -- the input wasn't read to its end, or is too long

@@ -2,7 +2,7 @@
 //!
 //! [`run_load`] reads the whole text from its source before anything is stored. A batch is one commit; what comes before its line
 //! is said before it, and the line after it. What a load says and does is defined by what its text gives
-//! (`run_ends/specs/Load.antt`), and what a crash leaves of one by `run_ends/specs/Left.antt`.
+//! (`run_protocol/specs/Load.antt`), and what a crash leaves of one by `run_protocol/specs/Left.antt`.
 #![tactic(auto)]
 
 mod lines;

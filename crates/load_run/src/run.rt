@@ -5,8 +5,8 @@ ghost use Rattle.disk_model.specs.World.{LeavesOnly};
 ghost use Rattle.place_map.specs.State.{Contents};
 ghost use Rattle.geojson_points.specs.Takes.{HasTextKey, item_of};
 ghost use Rattle.irtree_engine.specs.Holding.{HoldsState};
-ghost use Rattle.run_ends.specs.Causes.{HasEngineEnd, HasJobEnd};
-ghost use Rattle.run_ends.specs.Left.{LeftByLoad};
+ghost use Rattle.run_protocol.specs.Causes.{HasEngineEnd, HasJobEnd};
+ghost use Rattle.run_protocol.specs.Left.{LeftByLoad};
 ghost use Rattle.load_run.specs.Loading.{Concludes, EndsLoad, HasReadEnd, HasText, RefusesSo, stage_at_start};
 
 use crate::load::Load;
@@ -14,7 +14,7 @@ use disk_model::{Source, Station};
 use geojson_points::{LoadFault, Taken, take};
 use irtree_engine::Engine;
 use json_spelled::JsonFault;
-use run_ends::{Ended, InputFault};
+use run_protocol::{Ended, InputFault};
 use std::alloc::Global;
 
 /// The greatest number of bytes of the text of a load.

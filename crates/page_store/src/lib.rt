@@ -6,7 +6,7 @@
 //! under way. A commit that fails stops the store.
 //!
 //! The store borrows its disk. [`Store::into_disk`] gives the loan back, and a caller that has to know what a
-//! refused opening left calls [`look`] and then [`Store::over`], which together are `open`.
+//! refused opening left calls [`recover_superblock`] and then [`Store::over`], which together are `open`.
 #![tactic(auto)]
 
 mod committing;
@@ -19,6 +19,6 @@ mod superblock;
 #[cfg(test)]
 mod tests;
 
-pub use opening::{OpenFault, look};
+pub use opening::{OpenFault, recover_superblock};
 pub use store::Store;
 pub use superblock::Superblock;

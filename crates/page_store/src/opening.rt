@@ -32,7 +32,7 @@ pub enum OpenFault {
 ///
 /// Refuses `Disk`; `BadJournal`, then nothing was written; `NotAStore`; `Damaged` with the rule Head at page 0. Takes
 /// no memory. Costs a recovery, and one page read.
-pub fn look<D: Disk>(disk: &mut D) -> Result<Superblock, OpenFault>
+pub fn recover_superblock<D: Disk>(disk: &mut D) -> Result<Superblock, OpenFault>
     // A crash at any moment leaves what a crash could leave as the call began, or what stands for the same pages.
     ensures any_moment { IsTrue D.tells → LeavesOnly (D.world disk.old) (D.world disk.new) (StandsAlike (D.world disk.old)) }
 

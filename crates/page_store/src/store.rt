@@ -6,7 +6,7 @@ ghost use Rattle.page_store.specs.declared.superblock.HeadFault.TheVariants as h
 ghost use Rattle.page_store.specs.Contents.{IsCommitted, IsSized};
 ghost use Rattle.page_store.specs.Opening.{IsOpened, IsNoStore, SaysNothingReadsHead, head_damage};
 
-use crate::opening::{OpenFault, look};
+use crate::opening::{OpenFault, recover_superblock};
 use crate::superblock::Superblock;
 use disk_model::{Disk, Failed, Station};
 use page_face::{Damage, Head, Page};
@@ -44,7 +44,7 @@ pub struct Store<'d, D: Disk> {
 impl<'d, D: Disk> Store<'d, D> {
     /// Recovers the journal and reads page 0. `cache` is the number of pages that a cache may hold; there is none yet.
     ///
-    /// Refuses as [`look`] does, and costs as much.
+    /// Refuses as [`recover_superblock`] does, and costs as much.
     pub fn open(alloc: Global, disk: &'d mut D, _cache: u32) -> Result<Store<'d, D>, OpenFault>
         ensures same_loan { IfOk result (λ store. store.disk.ghost_name ≡ disk.entry.ghost_name) }
 
@@ -64,11 +64,11 @@ impl<'d, D: Disk> Store<'d, D> {
         ensures bad { IsTrue D.tells → (at : ℕ) → IsErrOf result (OpenFault.BadJournal at) → IsBad (D.world disk.old).seen at }
         ensures memory { result ≢ Err OpenFault.Memory }
     {
-        let block = look(&mut *disk)?;
+        let block = recover_superblock(&mut *disk)?;
         Ok(Store::over(alloc, disk, block))
     }
 
-    /// The store over a disk that [`look`] has answered this superblock of. Makes no call of the disk.
+    /// The store over a disk that [`recover_superblock`] has answered this superblock of. Makes no call of the disk.
     pub fn over(alloc: Global, disk: &'d mut D, block: Superblock) -> Store<'d, D>
         requires in_range { block.first_free < block.counted }
         requires committed { IsTrue D.tells → IsCommitted block (D.world disk.old) }

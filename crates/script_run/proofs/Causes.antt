@@ -3,12 +3,12 @@ use Rattle.std.proofs.Common.{◌≡◌, ℕ, ◌≤◌, Bool, arith, subst, sym
 use Rattle.std.specs.Prelude.{Result, Ok, Err, IfErr, IsTrue}
 use Rattle.disk_model.specs.World.{World}
 use Rattle.irtree_engine.specs.Holding.{StandsForNone}
-use Rattle.run_ends.specs.Causes.{StandsStill, IsStoreEnd, IsEngineEnd, HasEngineEnd, IsJobEnd, HasJobEnd}
-use Rattle.run_ends.specs.declared.ended.Ended.{Ended}
-use Rattle.run_ends.specs.declared.ended.InputFault.{InputFault}
-use Rattle.run_ends.specs.declared.ended.Ended.TheVariants as ends
-use Rattle.run_ends.specs.declared.ended.StoreFault.{StoreFault}
-use Rattle.run_ends.specs.declared.ended.StoreFault.TheVariants as stores
+use Rattle.run_protocol.specs.Causes.{StandsStill, IsStoreEnd, IsEngineEnd, HasEngineEnd, IsJobEnd, HasJobEnd}
+use Rattle.run_protocol.specs.declared.ended.Ended.{Ended}
+use Rattle.run_protocol.specs.declared.ended.InputFault.{InputFault}
+use Rattle.run_protocol.specs.declared.ended.Ended.TheVariants as ends
+use Rattle.run_protocol.specs.declared.ended.StoreFault.{StoreFault}
+use Rattle.run_protocol.specs.declared.ended.StoreFault.TheVariants as stores
 
 -- a state that the image stood for at first, it stands for still after one call and another
 pub stands-then : (old now new : World) → StandsStill old now → StandsStill now new → StandsStill old new

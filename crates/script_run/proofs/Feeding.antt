@@ -6,9 +6,9 @@ use Rattle.disk_model.specs.World.{World}
 use Rattle.place_map.specs.State.{Contents}
 use Rattle.query_lang.specs.Line.{line_of}
 use Rattle.irtree_engine.specs.Holding.{HoldsState}
-use Rattle.run_ends.specs.Script.{Cut, cut, script, last_line}
-use Rattle.run_ends.specs.declared.ended.Ended.{Ended}
-use Rattle.run_ends.specs.declared.ended.Ended.TheVariants as ends
+use Rattle.run_protocol.specs.Script.{Cut, cut, script, last_line}
+use Rattle.run_protocol.specs.declared.ended.Ended.{Ended}
+use Rattle.run_protocol.specs.declared.ended.Ended.TheVariants as ends
 use Rattle.script_run.specs.Feed.{kept, EndsNoLine}
 use Rattle.script_run.specs.Lines.{RunsLines}
 use Rattle.script_run.proofs.Lines.{cut-none, cut-ended, kept-append, kept-none, kept-nil, line-kept}

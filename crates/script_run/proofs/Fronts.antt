@@ -1,7 +1,7 @@
 -- Fronts of bytes.
 use Rattle.std.proofs.Common.{◌≡◌, ℕ, zero, suc, ◌+◌, ◌≤◌, List, [], ◌∷◌, ◌++◌, length, take, drop, min, sym, ap, ◌∙◌, arith, append_assoc, zero-add}
 use Rattle.std.proofs.lemmas.List.{take_all, take_min, take-take, take-append-le, take-append-drop}
-use Rattle.run_ends.specs.Said.{SaysFrontOf}
+use Rattle.run_protocol.specs.Said.{SaysFrontOf}
 
 -- a front is no longer than that
 pub length-take_most : (n : ℕ) (xs : List ℕ) → length (take n xs) ≤ n

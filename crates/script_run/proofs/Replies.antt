@@ -22,17 +22,17 @@ use Rattle.query_replies.specs.declared.fault.LineFault.{LineFault}
 use Rattle.query_replies.specs.declared.reply.Reply.{Reply}
 use Rattle.query_replies.specs.declared.reply.Reply.TheVariants as replies
 use Rattle.query_replies.specs.Reply.{text_of_reply}
-use Rattle.stored_state.specs.Stands.{Stands}
+use Rattle.store_meaning.specs.Stands.{Stands}
 use Rattle.irtree_engine.specs.declared.fault.EngineFault.{EngineFault}
 use Rattle.irtree_engine.specs.declared.fault.EngineFault.TheVariants as engine
 use Rattle.irtree_engine.specs.Faults.{IsReadFault}
 use Rattle.irtree_engine.specs.Holding.{HoldsState}
 use Rattle.irtree_engine.specs.Updates.{LeavesOneOf, IsUpdateFault, IsDueTo}
-use Rattle.run_ends.specs.Causes.{HasEngineEnd, end_of_engine}
-use Rattle.run_ends.specs.Script.{state_after}
-use Rattle.run_ends.specs.declared.ended.Ended.{Ended}
-use Rattle.run_ends.specs.declared.ended.Ended.TheVariants as ends
-use Rattle.run_ends.specs.declared.ended.LimitFault.TheVariants as limits
+use Rattle.run_protocol.specs.Causes.{HasEngineEnd, end_of_engine}
+use Rattle.run_protocol.specs.Script.{state_after}
+use Rattle.run_protocol.specs.declared.ended.Ended.{Ended}
+use Rattle.run_protocol.specs.declared.ended.Ended.TheVariants as ends
+use Rattle.run_protocol.specs.declared.ended.LimitFault.TheVariants as limits
 use Rattle.script_run.specs.Lines.{refused_by, StopsBeforeReply, RepliesTo}
 
 -- an image that is as it was stands for the same state

@@ -6,15 +6,15 @@ use Rattle.disk_model.specs.World.{World, Image, LeavesOnly}
 use Rattle.disk_model.proofs.Moments.{started, then, within}
 use Rattle.place_map.specs.State.{Contents}
 use Rattle.query_lang.specs.Line.{line_of}
-use Rattle.stored_state.specs.Stands.{Stands}
+use Rattle.store_meaning.specs.Stands.{Stands}
 use Rattle.irtree_engine.specs.Holding.{HoldsState}
-use Rattle.run_ends.specs.Left.{LeftByLines, IsUpdateLine, StopsAtLine}
-use Rattle.run_ends.specs.Said.{SaysFrontOf, LeftByTurn}
-use Rattle.run_ends.specs.Script.{turn, turn_of, script}
-use Rattle.run_ends.specs.Turn.{Turn, followed}
-use Rattle.run_ends.specs.declared.ended.Ended.{Ended}
-use Rattle.run_ends.specs.declared.ended.Ended.TheVariants as ends
-use Rattle.run_ends.specs.declared.ended.LimitFault.TheVariants as limits
+use Rattle.run_protocol.specs.Left.{LeftByLines, IsUpdateLine, StopsAtLine}
+use Rattle.run_protocol.specs.Said.{SaysFrontOf, LeftByTurn}
+use Rattle.run_protocol.specs.Script.{turn, turn_of, script}
+use Rattle.run_protocol.specs.Turn.{Turn, followed}
+use Rattle.run_protocol.specs.declared.ended.Ended.{Ended}
+use Rattle.run_protocol.specs.declared.ended.Ended.TheVariants as ends
+use Rattle.run_protocol.specs.declared.ended.LimitFault.TheVariants as limits
 use Rattle.script_run.specs.Lines.{StopsAmong, RunsLines}
 use Rattle.script_run.proofs.Fronts.{front-whole, front-goes_on, front-behind}
 use Rattle.script_run.proofs.Lines.{script-none, script-append}

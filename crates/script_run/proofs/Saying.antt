@@ -10,16 +10,16 @@ use Rattle.query_lang.specs.Line.{line_of}
 use Rattle.query_lang.specs.Reply.{reply_of}
 use Rattle.query_replies.specs.declared.reply.Reply.{Reply}
 use Rattle.query_replies.specs.Reply.{text_of_reply}
-use Rattle.stored_state.specs.Stands.{Stands}
+use Rattle.store_meaning.specs.Stands.{Stands}
 use Rattle.irtree_engine.specs.Holding.{HoldsState}
 use Rattle.irtree_engine.specs.Updates.{LeavesOneOf}
-use Rattle.run_ends.specs.Causes.{HasEngineEnd}
-use Rattle.run_ends.specs.Left.{LeftByLines}
-use Rattle.run_ends.specs.Said.{SaysAll, SaysFrontOf}
-use Rattle.run_ends.specs.Script.{turn, script, state_after}
-use Rattle.run_ends.specs.declared.ended.Ended.{Ended}
-use Rattle.run_ends.specs.declared.ended.Ended.TheVariants as ends
-use Rattle.run_ends.specs.declared.ended.LimitFault.TheVariants as limits
+use Rattle.run_protocol.specs.Causes.{HasEngineEnd}
+use Rattle.run_protocol.specs.Left.{LeftByLines}
+use Rattle.run_protocol.specs.Said.{SaysAll, SaysFrontOf}
+use Rattle.run_protocol.specs.Script.{turn, script, state_after}
+use Rattle.run_protocol.specs.declared.ended.Ended.{Ended}
+use Rattle.run_protocol.specs.declared.ended.Ended.TheVariants as ends
+use Rattle.run_protocol.specs.declared.ended.LimitFault.TheVariants as limits
 use Rattle.script_run.specs.Lines.{StopsBeforeReply, RepliesTo, StopsAmong, RunsLines}
 use Rattle.script_run.proofs.Replies.{holds-same}
 

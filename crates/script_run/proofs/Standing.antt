@@ -7,14 +7,14 @@ use Rattle.disk_model.specs.World.{World, LeavesOnly}
 use Rattle.disk_model.proofs.Moments.{started, within}
 use Rattle.place_map.specs.State.{Contents}
 use Rattle.irtree_engine.specs.Holding.{HoldsState}
-use Rattle.run_ends.specs.Left.{LeftByLines}
-use Rattle.run_ends.specs.Said.{SaysFrontOf}
-use Rattle.run_ends.specs.Script.{Cut, cut, script, last_line, input_max, script_lines, script_transcript}
-use Rattle.run_ends.specs.Turn.{Turn, Done, Input}
-use Rattle.run_ends.specs.declared.ended.Ended.{Ended}
-use Rattle.run_ends.specs.declared.ended.Ended.TheVariants as ends
-use Rattle.run_ends.specs.declared.ended.InputFault.TheVariants.{Long}
-use Rattle.run_ends.specs.declared.ended.LimitFault.TheVariants as limits
+use Rattle.run_protocol.specs.Left.{LeftByLines}
+use Rattle.run_protocol.specs.Said.{SaysFrontOf}
+use Rattle.run_protocol.specs.Script.{Cut, cut, script, last_line, input_max, script_lines, script_transcript}
+use Rattle.run_protocol.specs.Turn.{Turn, Done, Input}
+use Rattle.run_protocol.specs.declared.ended.Ended.{Ended}
+use Rattle.run_protocol.specs.declared.ended.Ended.TheVariants as ends
+use Rattle.run_protocol.specs.declared.ended.InputFault.TheVariants.{Long}
+use Rattle.run_protocol.specs.declared.ended.LimitFault.TheVariants as limits
 use Rattle.script_run.specs.Feed.{kept}
 use Rattle.script_run.specs.Lines.{StopsAmong, RunsLines, RunsPiece}
 use Rattle.script_run.specs.Standing.{Standing, SaysRepliesOf, Stops, EndsScript}

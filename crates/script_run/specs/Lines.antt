@@ -14,14 +14,14 @@ use Rattle.irtree_engine.specs.Holding.{HoldsState}
 use Rattle.irtree_engine.specs.Updates.{LeavesOneOf}
 use Rattle.irtree_engine.specs.declared.fault.EngineFault.{EngineFault}
 use Rattle.irtree_engine.specs.declared.fault.EngineFault.TheVariants as engine
-use Rattle.run_ends.specs.Causes.{end_of_engine}
-use Rattle.run_ends.specs.Left.{LeftByLines, StopsAtLine}
-use Rattle.run_ends.specs.Said.{SaysFrontOf}
-use Rattle.run_ends.specs.Script.{script, state_after}
-use Rattle.run_ends.specs.declared.ended.Ended.{Ended}
-use Rattle.run_ends.specs.declared.ended.Ended.TheVariants as ends
-use Rattle.run_ends.specs.declared.ended.InputFault.TheVariants.{Long}
-use Rattle.run_ends.specs.declared.ended.LimitFault.TheVariants as limits
+use Rattle.run_protocol.specs.Causes.{end_of_engine}
+use Rattle.run_protocol.specs.Left.{LeftByLines, StopsAtLine}
+use Rattle.run_protocol.specs.Said.{SaysFrontOf}
+use Rattle.run_protocol.specs.Script.{script, state_after}
+use Rattle.run_protocol.specs.declared.ended.Ended.{Ended}
+use Rattle.run_protocol.specs.declared.ended.Ended.TheVariants as ends
+use Rattle.run_protocol.specs.declared.ended.InputFault.TheVariants.{Long}
+use Rattle.run_protocol.specs.declared.ended.LimitFault.TheVariants as limits
 
 -- ---- one line, before its reply is said
 

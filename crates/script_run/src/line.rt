@@ -9,14 +9,14 @@ ghost use Rattle.query_replies.specs.Reply.{HasReason};
 ghost use Rattle.place_map.specs.Query.{IsWithinLimits};
 ghost use Rattle.irtree_engine.specs.Holding.{HoldsState};
 ghost use Rattle.irtree_engine.specs.Updates.{NamesText};
-ghost use Rattle.run_ends.specs.Causes.{HasEngineEnd};
+ghost use Rattle.run_protocol.specs.Causes.{HasEngineEnd};
 ghost use Rattle.script_run.specs.Lines.{refused_by, RepliesTo, RunsLines};
 
 use disk_model::Station;
 use irtree_engine::{Engine, EngineFault};
 use place_map::{Applied, Query, Update};
 use query_lang::{Line, LineFault, Reply, UpdateDone, read_line, reply_text};
-use run_ends::{Ended, ended_by, say_all};
+use run_protocol::{Ended, ended_by, say_all};
 use spatial_base::{Key, Memory};
 use std::alloc::Global;
 

@@ -3,9 +3,9 @@ ghost use Rattle.std.specs.Prelude.{◌≡◌, ◌≤◌, ◌-◌, ◌+◌, ◌+
 ghost use Rattle.disk_model.specs.World.{LeavesOnly};
 ghost use Rattle.place_map.specs.State.{Contents};
 ghost use Rattle.irtree_engine.specs.Holding.{HoldsState};
-ghost use Rattle.run_ends.specs.Causes.{HasJobEnd};
-ghost use Rattle.run_ends.specs.Left.{LeftByLines};
-ghost use Rattle.run_ends.specs.Script.{cut, script_lines};
+ghost use Rattle.run_protocol.specs.Causes.{HasJobEnd};
+ghost use Rattle.run_protocol.specs.Left.{LeftByLines};
+ghost use Rattle.run_protocol.specs.Script.{cut, script_lines};
 ghost use Rattle.script_run.specs.Feed.{kept, EndsNoLine};
 ghost use Rattle.script_run.specs.Lines.{RunsPiece};
 ghost use Rattle.script_run.specs.Standing.{EndsScript};
@@ -13,7 +13,7 @@ ghost use Rattle.script_run.specs.Standing.{EndsScript};
 use crate::script::Script;
 use disk_model::{Source, Station};
 use irtree_engine::Engine;
-use run_ends::{Ended, InputFault};
+use run_protocol::{Ended, InputFault};
 use std::alloc::Global;
 
 /// The greatest number of bytes of a script.

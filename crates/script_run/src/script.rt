@@ -2,8 +2,8 @@
 ghost use Rattle.std.specs.Prelude.{◌≡◌, ◌≤◌, ◌<◌, ◌++◌, ◌∷◌, [], ℕ, List, false, length, take, slice_index, IsTrue, IfOk, OnOk, IfNone, IfSome, IfErr};
 ghost use Rattle.place_map.specs.State.{Contents};
 ghost use Rattle.irtree_engine.specs.Holding.{HoldsState};
-ghost use Rattle.run_ends.specs.Causes.{HasEngineEnd};
-ghost use Rattle.run_ends.specs.Script.{cut, last_line};
+ghost use Rattle.run_protocol.specs.Causes.{HasEngineEnd};
+ghost use Rattle.run_protocol.specs.Script.{cut, last_line};
 ghost use Rattle.script_run.specs.Feed.{kept, EndsNoLine};
 ghost use Rattle.script_run.specs.Lines.{RunsLines};
 
@@ -11,7 +11,7 @@ use crate::line::act;
 use disk_model::Station;
 use irtree_engine::Engine;
 use query_lang::LINE_MAX;
-use run_ends::Ended;
+use run_protocol::Ended;
 use std::alloc::Global;
 
 /// How many bytes of a line are kept: a longer line is refused whatever its other bytes are.

@@ -9,8 +9,8 @@ use Rattle.place_map.specs.declared.place.Place.{Place}
 use Rattle.place_map.specs.declared.update.Applied.{Applied}
 use Rattle.place_map.specs.declared.update.Applied.TheVariants.{New, Replaced}
 use Rattle.place_map.specs.Update.{Effect, put_at}
-use Rattle.stored_state.specs.Stands.{PagesStand, tables_in}
-use Rattle.stored_state.specs.Updates.{after_put, numbered_for}
+use Rattle.store_meaning.specs.Stands.{PagesStand, tables_in}
+use Rattle.store_meaning.specs.Updates.{after_put, numbered_for}
 use Rattle.store_tables.specs.declared.tables.Tables.{Tables}
 use Rattle.store_tables.specs.Entries.{place_of_key}
 use Rattle.store_tables.specs.Holding.{Holds, IsApart, IsChanged, table_uses}

@@ -6,8 +6,8 @@ use Rattle.map_nodes.specs.Supply.{view}
 use Rattle.paged_map.specs.Maps.{AreCounted}
 use Rattle.place_map.specs.declared.update.Applied.{Applied}
 use Rattle.place_map.specs.Update.{Effect, removed_at}
-use Rattle.stored_state.specs.Stands.{PagesStand, tables_in}
-use Rattle.stored_state.specs.Updates.{after_remove}
+use Rattle.store_meaning.specs.Stands.{PagesStand, tables_in}
+use Rattle.store_meaning.specs.Updates.{after_remove}
 use Rattle.store_rows.specs.declared.stored.Stored.{Stored}
 use Rattle.store_tables.specs.declared.tables.Tables.{Tables}
 use Rattle.store_tables.specs.Entries.{place_of_key}

@@ -5,7 +5,7 @@ use Rattle.place_map.specs.declared.update.Update.TheVariants.{Put}
 use Rattle.place_map.specs.Restored.{IsSerialAbove}
 use Rattle.place_map.specs.State.{Contents}
 use Rattle.place_map.specs.Update.{Effect, effect_of, key_for, serial_after}
-use Rattle.stored_state.specs.Stands.{PagesStand}
+use Rattle.store_meaning.specs.Stands.{PagesStand}
 use Rattle.irtree_engine.specs.Changes.{block_with}
 use Rattle.irtree_engine.specs.Updates.{IsDueTo, NamesText}
 use Rattle.irtree_engine.proofs.Named.{named-above, put-effect, serial-rises}

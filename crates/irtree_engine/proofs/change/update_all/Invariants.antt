@@ -1,7 +1,7 @@
 use Rattle.std.proofs.Common.{◌≡◌, ◌+◌, ◌≤◌, length}
 use Rattle.std.specs.List.{AllByRecursion}
 use Rattle.place_map.specs.State.{Contents}
-use Rattle.stored_state.specs.Stands.{PagesStand}
+use Rattle.store_meaning.specs.Stands.{PagesStand}
 use Rattle.irtree_engine.specs.Changes.{block_with}
 use Rattle.irtree_engine.specs.Updates.{NamesText}
 use Rattle.irtree_engine.proofs.Batches.{AreUpdated}

@@ -8,7 +8,7 @@ use Rattle.place_map.specs.Restored.{Rows}
 use Rattle.spatial_base.specs.Key.{Name}
 use Rattle.store_tables.specs.Entries.{place_after}
 use Rattle.store_tables.specs.Holding.{Holds, table_uses}
-use Rattle.stored_state.proofs.Maps.{ascending-holds}
+use Rattle.store_meaning.proofs.Maps.{ascending-holds}
 use Rattle.irtree_engine.specs.Listing.{row_of}
 use Rattle.irtree_engine.proofs.Listings.{AreListed, listed-last, listed-more, listed-next}
 use Rattle.irtree_engine.proofs.places.list_places.Goals as goal

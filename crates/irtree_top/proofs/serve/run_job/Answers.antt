@@ -5,7 +5,7 @@ use Rattle.disk_model.specs.World.{LeavesOnly}
 use Rattle.disk_model.specs.declared.disk.Area.TheVariants.{Pages}
 use Rattle.disk_model.proofs.Moments.{then, within}
 use Rattle.irtree_engine.specs.Holding.{HoldsState}
-use Rattle.run_ends.specs.Causes.{HasJobEnd}
+use Rattle.run_protocol.specs.Causes.{HasJobEnd}
 use Rattle.irtree_top.specs.Run.{EndsJob, HasRunEnd, HoldsPrefix}
 use Rattle.irtree_top.proofs.Crashes.{left-from, none-held}
 use Rattle.irtree_top.proofs.Jobs.{job-from}
@@ -14,23 +14,23 @@ use Rattle.irtree_top.proofs.serve.run_job.Given as given
 use Rattle.irtree_top.proofs.serve.run_job.Goals as goal
 
 -- what the refused opening says of the image
-refuses : (g : given.Over) (c : goal.After-ended_by g) → Refuses g.T.Disk.tells (g.T.Disk.world c.args.station.now) (g.T.Disk.world c.look.new.disk) c.in-Err.fault
+refuses : (g : given.Over) (c : goal.After-ended_by g) → Refuses g.T.Disk.tells (g.T.Disk.world c.args.station.now) (g.T.Disk.world c.recover_superblock.new.disk) c.in-Err.fault
 refuses g c = record {
-  disk = λ is. let named : IsErrOf c.look.result engine.Disk = cc in c.look.ensures.disk named;
+  disk = λ is. let named : IsErrOf c.recover_superblock.result engine.Disk = cc in c.recover_superblock.ensures.disk named;
   none = λ told other. none-by c.in-Err.fault c.in-Err.ensures.causes other
-      (λ is. let named : IsErrOf c.look.result engine.NotAStore = cc in c.look.ensures.not_a_store told named)
-      (λ at is. let named : IsErrOf c.look.result (engine.BadJournal at) = cc in (c.look.ensures.bad told at named).1)
-      (λ damage is. let named : IsErrOf c.look.result (engine.Damaged damage) = cc in (c.look.ensures.damaged damage named).1 told);
-  foreign = λ told is. let named : IsErrOf c.look.result engine.NotAStore = cc in c.look.ensures.foreign told named;
-  bad = λ told at is. let named : IsErrOf c.look.result (engine.BadJournal at) = cc in (c.look.ensures.bad told at named).0;
-  head = λ told damage is. let named : IsErrOf c.look.result (engine.Damaged damage) = cc in ((c.look.ensures.damaged damage named).0, c.look.ensures.broken_head told damage named);
+      (λ is. let named : IsErrOf c.recover_superblock.result engine.NotAStore = cc in c.recover_superblock.ensures.not_a_store told named)
+      (λ at is. let named : IsErrOf c.recover_superblock.result (engine.BadJournal at) = cc in (c.recover_superblock.ensures.bad told at named).1)
+      (λ damage is. let named : IsErrOf c.recover_superblock.result (engine.Damaged damage) = cc in (c.recover_superblock.ensures.damaged damage named).1 told);
+  foreign = λ told is. let named : IsErrOf c.recover_superblock.result engine.NotAStore = cc in c.recover_superblock.ensures.foreign told named;
+  bad = λ told at is. let named : IsErrOf c.recover_superblock.result (engine.BadJournal at) = cc in (c.recover_superblock.ensures.bad told at named).0;
+  head = λ told damage is. let named : IsErrOf c.recover_superblock.result (engine.Damaged damage) = cc in ((c.recover_superblock.ensures.damaged damage named).0, c.recover_superblock.ensures.broken_head told damage named);
 }
 
 pub returns-in-Err-clause-told : goal.returns-in-Err-clause-told
 returns-in-Err-clause-told g c = λ tells told asked action batch state holds.
     let input = g.S.Source.left c.args.source.now in
     rw c.ended_by.ensures
-    (refused-job (Unit {0}) g.T.Disk.tells told asked state input input (g.T.Disk.world c.args.station.now) (g.T.Disk.world c.look.new.disk) holds (c.look.ensures.quiet told).said c.in-Err.fault c.in-Err.ensures.causes (refuses g c))
+    (refused-job (Unit {0}) g.T.Disk.tells told asked state input input (g.T.Disk.world c.args.station.now) (g.T.Disk.world c.recover_superblock.new.disk) holds (c.recover_superblock.ensures.quiet told).said c.in-Err.fault c.in-Err.ensures.causes (refuses g c))
 
 pub returns-in-Err-clause-any_moment : goal.returns-in-Err-clause-any_moment
 returns-in-Err-clause-any_moment g c = λ tells told asked action batch state holds.
@@ -40,10 +40,10 @@ returns-in-Err-clause-any_moment g c = λ tells told asked action batch state ho
 pub returns-in-Err-clause-cause : goal.returns-in-Err-clause-cause
 returns-in-Err-clause-cause g c = record {
   source = omega arith;
-  faults = c.look.ensures.later;
-  sink = omega (arith, c.look.ensures.sink);
+  faults = c.recover_superblock.ensures.later;
+  sink = omega (arith, c.recover_superblock.ensures.sink);
   opened = λ told. tt;
-  cause = rw c.ended_by.ensures (refused-cause g.T.Disk.tells (g.S.Source.faults c.args.source.now) (g.T.Disk.world c.args.station.now) (g.T.Disk.world c.look.new.disk) c.in-Err.fault c.in-Err.ensures.causes (refuses g c));
+  cause = rw c.ended_by.ensures (refused-cause g.T.Disk.tells (g.S.Source.faults c.args.source.now) (g.T.Disk.world c.args.station.now) (g.T.Disk.world c.recover_superblock.new.disk) c.in-Err.fault c.in-Err.ensures.causes (refuses g c));
 }
 
 pub returns-clause-told : goal.returns-clause-told
@@ -73,10 +73,10 @@ pub returns-clause-cause : goal.returns-clause-cause
 returns-clause-cause g c =
     let world = g.T.Disk.world in
     let source = g.S.Source.faults in
-    let over : c.over-engine.result.store.disk.now ≡ c.look.new.disk = c.over-engine.ensures.disk in
+    let over : c.over-engine.result.store.disk.now ≡ c.recover_superblock.new.disk = c.over-engine.ensures.disk in
     given-back (λ disk. HasRunEnd g.T.Disk.tells (source c.args.source.now) (source c.serve-end.new.source) (world c.args.station.now) (world disk) c.serve-end.result) c.serve-end.new.engine.store.disk.now _ (search rules)
-    (job-cause g.T.Disk.tells (world c.args.station.now) (world c.look.new.disk) (world c.serve-end.new.engine.store.disk.now) c.look.ensures.later c.look.ensures.sink
-    (λ told. let o = c.in-Ok.ensures.opened told in record { area = (world c.look.new.disk).seen Pages; stands = o.stands; page = o.page })
+    (job-cause g.T.Disk.tells (world c.args.station.now) (world c.recover_superblock.new.disk) (world c.serve-end.new.engine.store.disk.now) c.recover_superblock.ensures.later c.recover_superblock.ensures.sink
+    (λ told. let o = c.in-Ok.ensures.opened told in record { area = (world c.recover_superblock.new.disk).seen Pages; stands = o.stands; page = o.page })
     (λ told state holds. c.in-Ok.ensures.holds told state holds) (Unit {0})
     (source c.args.source.now) (source c.serve-end.new.source) c.serve-end.result
     (subst (λ disk. HasJobEnd g.T.Disk.tells (source c.args.source.now) (source c.serve-end.new.source) (world disk) (world c.serve-end.new.engine.store.disk.now) c.serve-end.result) over c.serve-end.ensures.cause))

@@ -1,7 +1,7 @@
 use Rattle.std.proofs.Common.{◌≤◌, sym, subst, ◌∙◌, arith}
 use Rattle.disk_model.specs.World.{LeavesOnly}
 use Rattle.load_run.specs.Loading.{EndsLoad}
-use Rattle.run_ends.specs.Left.{LeftByLoad}
+use Rattle.run_protocol.specs.Left.{LeftByLoad}
 use Rattle.irtree_top.proofs.Crashes.{load-left, script-left}
 use Rattle.irtree_top.proofs.Jobs.{load-ends, script-ends}
 use Rattle.irtree_top.proofs.serve.serve.Goals as goal

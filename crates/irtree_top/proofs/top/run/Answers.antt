@@ -1,8 +1,8 @@
 use Rattle.std.proofs.Common.{◌≡◌, sym, ap, subst}
 use Rattle.std.specs.Prelude.{Err}
-use Rattle.run_ends.specs.declared.ended.Ended.{Ended}
+use Rattle.run_protocol.specs.declared.ended.Ended.{Ended}
 use Rattle.irtree_top.specs.Run.{EndsJob}
-use Rattle.run_ends.specs.Turn.{Done}
+use Rattle.run_protocol.specs.Turn.{Done}
 use Rattle.irtree_top.specs.Words.{Asked, asked_of}
 use Rattle.irtree_top.proofs.Jobs.{decided-front, job-front}
 use Rattle.irtree_top.proofs.Openings.{behind-opening}

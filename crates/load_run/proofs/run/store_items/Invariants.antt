@@ -5,7 +5,7 @@ use Rattle.std.specs.Vec.Iter.{into_iter_items, into_iter_len}
 use Rattle.place_map.specs.State.{Contents}
 use Rattle.geojson_points.specs.Takes.{HasTextKey, item_of}
 use Rattle.irtree_engine.specs.Holding.{HoldsState}
-use Rattle.run_ends.specs.Causes.{HasEngineEnd}
+use Rattle.run_protocol.specs.Causes.{HasEngineEnd}
 use Rattle.load_run.specs.Loading.{CanWait, Goes, acted_on, stage_at_start, stage_before}
 use Rattle.load_run.proofs.run.store_items.Given as goal
 

@@ -5,8 +5,8 @@ use Rattle.query_lang.specs.Reply.{reply_of, show_reply}
 use Rattle.query_replies.specs.declared.reply.Reply.{Reply}
 use Rattle.query_replies.specs.declared.reply.Reply.TheVariants as replies
 use Rattle.query_replies.specs.Reply.{text_of_reply}
-use Rattle.run_ends.specs.Causes.{HasEngineEnd}
-use Rattle.run_ends.specs.declared.ended.Ended.{Ended}
+use Rattle.run_protocol.specs.Causes.{HasEngineEnd}
+use Rattle.run_protocol.specs.declared.ended.Ended.{Ended}
 use Rattle.script_run.specs.Lines.{RepliesTo}
 use Rattle.script_run.proofs.Replies.{RefusedRead, read-replies, refused-read, refused-read-cause}
 use Rattle.script_run.proofs.line.show.Goals as goal

@@ -2,8 +2,8 @@ use Rattle.std.proofs.Common.{◌≡◌, true, false, sym, ap, subst, ◌∙◌}
 use Rattle.std.specs.Prelude.{Result, Ok, Err}
 use Rattle.query_lang.specs.declared.line.Line.TheVariants as lines
 use Rattle.query_replies.specs.declared.reply.Reply.{Reply}
-use Rattle.run_ends.specs.Causes.{HasEngineEnd}
-use Rattle.run_ends.specs.declared.ended.Ended.{Ended}
+use Rattle.run_protocol.specs.Causes.{HasEngineEnd}
+use Rattle.run_protocol.specs.declared.ended.Ended.{Ended}
 use Rattle.script_run.specs.Lines.{RepliesTo}
 use Rattle.script_run.proofs.Replies.{AcceptedUpdate, RefusedUpdate, accepted-replies, accepted-goes_on, refused-replies, refused-cause}
 use Rattle.script_run.proofs.line.update.Goals as goal

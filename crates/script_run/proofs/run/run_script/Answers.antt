@@ -1,6 +1,6 @@
 use Rattle.std.proofs.Common.{◌≡◌, ℕ, ◌++◌, [], length, drop, refl, sym, ap, ◌∙◌, arith}
 use Rattle.disk_model.proofs.Moments.{started}
-use Rattle.run_ends.specs.Script.{cut, script}
+use Rattle.run_protocol.specs.Script.{cut, script}
 use Rattle.script_run.proofs.Causes.{job-still, job-by-engine, job-then, job-failed, job-valued}
 use Rattle.script_run.proofs.Fronts.{piece-came, none-behind}
 use Rattle.script_run.proofs.Lines.{rest-EndsNoLine}

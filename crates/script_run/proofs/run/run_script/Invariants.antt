@@ -2,7 +2,7 @@ use Rattle.std.proofs.Common.{◌≡◌, ◌-◌, ◌≤◌, false, length, Ok}
 use Rattle.std.specs.Prelude.{IsTrue, vec_len}
 use Rattle.place_map.specs.State.{Contents}
 use Rattle.irtree_engine.specs.Holding.{HoldsState}
-use Rattle.run_ends.specs.Causes.{HasJobEnd}
+use Rattle.run_protocol.specs.Causes.{HasJobEnd}
 use Rattle.script_run.specs.Standing.{Standing}
 use Rattle.script_run.proofs.run.run_script.Given as goal
 

@@ -1,8 +1,8 @@
 use Rattle.std.proofs.Common.{◌≡◌, ◌+◌, ◌-◌, ◌++◌, List, ℕ, length, take, refl, sym, subst, arith}
 use Rattle.std.specs.Prelude.{Ok, Err}
 use Rattle.std.proofs.lemmas.List.{take_all}
-use Rattle.run_ends.specs.Script.{cut}
-use Rattle.run_ends.specs.declared.ended.InputFault.TheVariants.{Long}
+use Rattle.run_protocol.specs.Script.{cut}
+use Rattle.run_protocol.specs.declared.ended.InputFault.TheVariants.{Long}
 use Rattle.script_run.specs.Lines.{RunsLines}
 use Rattle.script_run.proofs.Causes.{job-by-failure, job-by-input, job-by-value}
 use Rattle.script_run.proofs.Runs.{runs-valued}

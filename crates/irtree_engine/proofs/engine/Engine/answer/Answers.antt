@@ -10,8 +10,8 @@ use Rattle.place_map.specs.Restored.{AreNumbers, AreStatePlaces, Rows, places_in
 use Rattle.place_map.specs.State.{Contents}
 use Rattle.store_tables.specs.Holding.{Holds, table_uses}
 use Rattle.store_tables.specs.declared.tables.Tables.{Tables}
-use Rattle.stored_state.specs.Stands.{tables_in}
-use Rattle.stored_state.proofs.Maps.{ascending-holds}
+use Rattle.store_meaning.specs.Stands.{tables_in}
+use Rattle.store_meaning.proofs.Maps.{ascending-holds}
 use Rattle.irtree_engine.specs.declared.fault.EngineFault.TheVariants.{Damaged}
 use Rattle.irtree_engine.specs.Faults.{fault_of_pages}
 use Rattle.irtree_engine.specs.Listing.{rows_of}

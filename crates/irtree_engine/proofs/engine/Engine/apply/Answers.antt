@@ -4,7 +4,7 @@ use Rattle.page_face.specs.FreeList.{PageMap}
 use Rattle.page_face.specs.declared.head.Head.{Head}
 use Rattle.page_store.specs.Contents.{counted_pages, shown}
 use Rattle.place_map.specs.Update.{effect_of}
-use Rattle.stored_state.specs.Stands.{PagesStand}
+use Rattle.store_meaning.specs.Stands.{PagesStand}
 use Rattle.irtree_engine.specs.Changes.{block_with}
 use Rattle.irtree_engine.proofs.Batches.{effect-rises}
 use Rattle.irtree_engine.proofs.Commits.{rest-leaves, rest-stands}

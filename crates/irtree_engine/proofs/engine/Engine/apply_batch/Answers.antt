@@ -4,7 +4,7 @@ use Rattle.disk_model.specs.declared.disk.Area.TheVariants.{Pages}
 use Rattle.page_face.specs.FreeList.{PageMap}
 use Rattle.page_face.specs.declared.head.Head.{Head}
 use Rattle.page_store.specs.Contents.{counted_pages, shown}
-use Rattle.stored_state.specs.Stands.{PagesStand}
+use Rattle.store_meaning.specs.Stands.{PagesStand}
 use Rattle.irtree_engine.specs.Changes.{block_with}
 use Rattle.irtree_engine.specs.Updates.{state_after_all}
 use Rattle.irtree_engine.proofs.Batches.{all-rise, leaves-all, outcome-is, outcome-stands}

@@ -7,8 +7,8 @@ use Rattle.page_store.specs.Contents.{Overlay, counted_pages, shown}
 use Rattle.place_map.specs.State.{Contents, place_at}
 use Rattle.store_tables.specs.Holding.{Holds, table_uses}
 use Rattle.store_tables.specs.declared.tables.Tables.{Tables}
-use Rattle.stored_state.specs.Stands.{tables_in}
-use Rattle.stored_state.proofs.Places.{place-at}
+use Rattle.store_meaning.specs.Stands.{tables_in}
+use Rattle.store_meaning.proofs.Places.{place-at}
 use Rattle.irtree_engine.specs.declared.fault.EngineFault.TheVariants.{Damaged}
 use Rattle.irtree_engine.specs.Faults.{fault_of_pages}
 use Rattle.irtree_engine.proofs.Standing.{committed-stand, damaged-from, stand-counted, stand-known, store-told}

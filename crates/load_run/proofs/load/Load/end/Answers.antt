@@ -1,5 +1,5 @@
 use Rattle.std.proofs.Common.{◌≡◌, [], ◌∷◌, sym, ◌∙◌, arith, rules}
-use Rattle.run_ends.specs.Load.{Store, steps}
+use Rattle.run_protocol.specs.Load.{Store, steps}
 use Rattle.load_run.specs.declared.load.Load.{Load}
 use Rattle.load_run.proofs.Causes.{engine-then}
 use Rattle.load_run.proofs.Stages.{goes-concludes}

@@ -1,6 +1,6 @@
 use Rattle.std.proofs.Common.{◌≡◌, ◌≤◌, ◌<◌, List, [], ◌∷◌, ◌++◌, length, ap, ◌∙◌, arith, rules}
 use Rattle.geojson_points.specs.Takes.{Placed, place_of}
-use Rattle.run_ends.specs.Load.{Step, Store, put_of, steps}
+use Rattle.run_protocol.specs.Load.{Step, Store, put_of, steps}
 use Rattle.load_run.specs.declared.load.Load.{Load}
 use Rattle.load_run.specs.Loading.{stage, stage_before}
 use Rattle.load_run.proofs.Stages.{goes-as, lacks-memory}

@@ -1,5 +1,5 @@
 use Rattle.std.proofs.Common.{◌+◌}
-use Rattle.run_ends.specs.Load.{steps}
+use Rattle.run_protocol.specs.Load.{steps}
 use Rattle.load_run.specs.Loading.{Stage, stage_before}
 use Rattle.load_run.proofs.Stages.{lacks-memory, goes-moves}
 use Rattle.load_run.proofs.Moves.{goes-skipped, moves-said}

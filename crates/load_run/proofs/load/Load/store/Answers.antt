@@ -1,5 +1,5 @@
 use Rattle.std.proofs.Common.{◌≡◌, ◌+◌, List, ℕ, [], ◌++◌, length, refl, sym, ap, ◌∙◌}
-use Rattle.run_ends.specs.Load.{stored_line}
+use Rattle.run_protocol.specs.Load.{stored_line}
 use Rattle.load_run.specs.Loading.{Stage, stage}
 use Rattle.load_run.proofs.Causes.{engine-then}
 use Rattle.load_run.proofs.Stages.{goes-then, goes-as, goes-concludes, goes-moves, lacks-memory}

@@ -1,7 +1,7 @@
 use Rattle.std.proofs.Common.{◌∷◌, ap}
 use Rattle.geojson_points.specs.Takes.{item_of}
 use Rattle.geojson_points.specs.declared.taken.Taken.{Taken}
-use Rattle.run_ends.specs.Load.{steps}
+use Rattle.run_protocol.specs.Load.{steps}
 use Rattle.load_run.specs.declared.load.Load.{Load}
 use Rattle.load_run.proofs.Moves.{moves-as}
 use Rattle.load_run.proofs.load.Load.take_item.Goals as goal

@@ -9,5 +9,5 @@ returns-in_err-block-clause-bad g c = λ t at is.
     let fault_is = passed.1 in
     let same = passed.2 in
     let was = c.in_err-block.was in
-    let named : IsErrOf c.look.result (BadJournal at) = cc in
-    c.look.ensures.bad t at named
+    let named : IsErrOf c.recover_superblock.result (BadJournal at) = cc in
+    c.recover_superblock.ensures.bad t at named

@@ -1,8 +1,8 @@
 use Rattle.std.proofs.Common.{◌≡◌, length, refl, sym, ap, subst, ◌∙◌, arith}
 use Rattle.std.specs.Prelude.{Result, Err}
 use Rattle.std.proofs.lemmas.Result.{on_ok_weaker, err_from_is_err_and}
-use Rattle.run_ends.specs.Causes.{HasEngineEnd}
-use Rattle.run_ends.specs.declared.ended.Ended.{Ended}
+use Rattle.run_protocol.specs.Causes.{HasEngineEnd}
+use Rattle.run_protocol.specs.declared.ended.Ended.{Ended}
 use Rattle.script_run.proofs.Causes.{engine-still, engine-then, engine-ends}
 use Rattle.script_run.proofs.Feeding.{feeding-start, feeding-line, feeding-breaks, feeding-ends, feeding-kept}
 use Rattle.script_run.proofs.script.Script.feed.Goals as goal

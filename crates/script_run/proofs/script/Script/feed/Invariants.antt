@@ -1,5 +1,5 @@
 use Rattle.std.proofs.Common.{◌≡◌, ◌≤◌, List, ℕ, false, length, Ok}
-use Rattle.run_ends.specs.Causes.{HasEngineEnd}
+use Rattle.run_protocol.specs.Causes.{HasEngineEnd}
 use Rattle.script_run.specs.Feed.{kept, EndsNoLine}
 use Rattle.script_run.proofs.Feeding.{Feeding}
 use Rattle.script_run.proofs.script.Script.feed.Given as goal

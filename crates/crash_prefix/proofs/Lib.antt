@@ -1,4 +1,0 @@
-pub mod Cuts
-pub mod Loads
-pub mod Replies
-pub mod Scripts

@@ -1,2 +1,0 @@
-pub mod Acked
-pub mod Prefix

@@ -1,0 +1,29 @@
+use Rattle.std.proofs.Common.{IsErrOf}
+use Rattle.disk_model.specs.declared.disk.Area.TheVariants.{Pages}
+use Rattle.page_store.specs.declared.opening.OpenFault.TheVariants.{BadJournal, Damaged, NotAStore}
+use Rattle.irtree_engine.proofs.Openings.{bad-none, opening-leaves}
+use Rattle.irtree_engine.proofs.opening.recover_superblock.Goals as goal
+
+pub returns-in-Ok-clause-any_moment : goal.returns-in-Ok-clause-any_moment
+returns-in-Ok-clause-any_moment g c = λ t state holds. opening-leaves _ _ state holds (c.recover_superblock.ensures.any_moment t)
+
+pub returns-in-Err-Disk-clause-any_moment : goal.returns-in-Err-Disk-clause-any_moment
+returns-in-Err-Disk-clause-any_moment g c = λ t state holds. opening-leaves _ _ state holds (c.recover_superblock.ensures.any_moment t)
+
+pub returns-in-Err-BadJournal-clause-bad : goal.returns-in-Err-BadJournal-clause-bad
+returns-in-Err-BadJournal-clause-bad g c = λ t at is.
+    let named : IsErrOf c.recover_superblock.result (BadJournal at) = cc in
+    let bad = c.recover_superblock.ensures.bad t at named in
+    (bad, bad-none _ at bad)
+
+pub returns-in-Err-NotAStore-clause-foreign : goal.returns-in-Err-NotAStore-clause-foreign
+returns-in-Err-NotAStore-clause-foreign g c = λ t is.
+    let named : IsErrOf c.recover_superblock.result NotAStore = cc in
+    let refused = c.recover_superblock.ensures.not_a_store t named in
+    record { area = (g.D.Disk.world c.recover_superblock.new.disk).seen Pages; stands = refused.stands; filled = refused.page.0; other = refused.page.1 }
+
+pub returns-in-Err-Damaged-clause-broken_head : goal.returns-in-Err-Damaged-clause-broken_head
+returns-in-Err-Damaged-clause-broken_head g c = λ t damage is.
+    let named : IsErrOf c.recover_superblock.result (Damaged damage) = cc in
+    let refused = (c.recover_superblock.ensures.damaged damage named).1 t in
+    record { area = (g.D.Disk.world c.recover_superblock.new.disk).seen Pages; stands = refused.stands; magic = refused.page.0; broken = refused.page.1 }

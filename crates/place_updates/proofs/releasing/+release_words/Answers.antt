@@ -1,0 +1,35 @@
+use Rattle.std.proofs.Common.{◌≡◌, ◌∷◌, false, sym, subst, ◌∙◌, rules}
+use Rattle.std.proofs.lemmas.Result.{on_ok_weaker}
+use Rattle.map_nodes.specs.Supply.{View, view}
+use Rattle.store_rows.specs.Pairs.{Pair}
+use Rattle.store_tables.specs.Entries.{Entries}
+use Rattle.store_tables.specs.Holding.{IsChanged}
+use Rattle.store_tables.specs.Words.{without_hold}
+use Rattle.store_tables.proofs.FrameLemmas.{changed-further}
+use Rattle.store_tables.proofs.ToldLemmas.{told-changed}
+use Rattle.store_meaning.specs.Updates.{has_pair}
+use Rattle.place_updates.proofs.Turns.{can-release-rest, released-first}
+use Rattle.place_updates.proofs.releasing.+release_words.Goals as goal
+
+pub returns-clause-released : goal.returns-clause-released
+returns-clause-released g t c entries free holds apart =
+    let before : View = view (g.P.Pages.pages c.args.pages.now) (g.P.Pages.count c.args.pages.now) (g.P.Pages.first c.args.pages.now) free in
+    let pair : Pair = c.in-Some.field-0-0.now in
+    let is : c.args.old.now ≡ pair ∷ c.in-Some.rest.now = search rules in
+    let fresh : has_pair pair.0 c.args.new.now ≡ false = sym c.has_pair.ensures ∙ c.if-has_pair.false in
+    let first = c.in_ok-release.ensures.released entries free holds apart in
+    on_ok_weaker c.release_words-2.result
+    (λ rest.
+    subst (λ (e : Entries). IsChanged before c.args.tables.now (g.P.Pages.pages c.release_words-2.new.pages) (g.P.Pages.count c.release_words-2.new.pages) (g.P.Pages.first c.release_words-2.new.pages) c.release_words-2.new.tables e)
+    (sym (released-first c.args.new.now c.args.old.now c.in-Some.rest.now pair entries is fresh)) (changed-further first.1 rest))
+    (c.release_words-2.ensures.released (without_hold pair.0 entries) first.1.free first.1.holds first.1.apart)
+
+pub returns-clause-honest : goal.returns-clause-honest
+returns-clause-honest g t c entries free holds apart can told damage =
+    let before : View = view (g.P.Pages.pages c.args.pages.now) (g.P.Pages.count c.args.pages.now) (g.P.Pages.first c.args.pages.now) free in
+    let pair : Pair = c.in-Some.field-0-0.now in
+    let is : c.args.old.now ≡ pair ∷ c.in-Some.rest.now = search rules in
+    let fresh : has_pair pair.0 c.args.new.now ≡ false = sym c.has_pair.ensures ∙ c.if-has_pair.false in
+    let first = c.in_ok-release.ensures.released entries free holds apart in
+    let left = can-release-rest c.args.new.now c.args.old.now c.in-Some.rest.now pair entries is fresh can in
+    c.release_words-2.ensures.honest (without_hold pair.0 entries) first.1.free first.1.holds first.1.apart left (told-changed before c.args.tables.now _ _ _ _ _ first.1 told) damage

@@ -1,0 +1,22 @@
+//! The places that the tables of a store keep, over [`Pages`](page_face::Pages).
+//!
+//! On pages that stand for a state ([`store_meaning`]) each call reads that state or changes it: what lives at a key, and its
+//! words. A place row names its words by number, and each number is read through the words by number. A place that is put
+//! holds each of its words, and a new word is given the next number; a word that no place holds any more goes. What an update
+//! does to the tables is defined in `store_meaning/specs/Updates.antt`. On any other pages a call is safe and ends.
+#![tactic(auto)]
+
+mod numbering;
+mod pairs;
+mod place;
+mod putting;
+mod releasing;
+mod removing;
+#[cfg(test)]
+mod tests;
+mod words;
+
+pub use place::place_at;
+pub use putting::put_place;
+pub use removing::remove_place;
+pub use words::words_of;

@@ -1,0 +1,59 @@
+//! What lives at a key.
+ghost use Rattle.std.specs.Prelude.{◌≡◌, ◌≢◌, ◌⊎◌, ◌≤◌, option_map, IfOk, IsTrue, IsErrOf};
+ghost use Rattle.page_face.specs.Causes.{Rose};
+ghost use Rattle.map_nodes.specs.Damages.{AreTold};
+ghost use Rattle.paged_map.specs.Maps.{AreCounted};
+ghost use Rattle.store_tables.specs.Entries.{Entries, place_of_key};
+ghost use Rattle.store_tables.specs.Holding.{Holds, table_uses};
+ghost use Rattle.store_tables.specs.Broken.{IsPlaceDamage};
+ghost use Rattle.store_meaning.specs.Stands.{place_in};
+ghost use Rattle.place_updates.specs.Known.{AreAllKnown, IsWordsDamage};
+
+use crate::words::words_of;
+use page_face::{Damage, PageFault, Pages};
+use place_map::Place;
+use spatial_base::Key;
+use std::alloc::Global;
+use store_tables::Tables;
+
+/// The place that lives at a key, with its words, and `None` where none does.
+///
+/// Refuses as [`Tables::place`] and as [`words_of`] do. Costs a look-up, and one for each word of the place.
+pub fn place_at<P: Pages>(
+    alloc: Global,
+    pages: &mut P,
+    tables: &Tables,
+    key: &Key,
+) -> Result<Option<Place>, PageFault>
+    ensures found { (entries : Entries) → Holds (P.pages pages.old) tables.now entries
+        → IfOk result (λ found. found ≡ option_map (place_in entries.numbers) (place_of_key key.now entries.places)) }
+    ensures honest { (entries : Entries) → Holds (P.pages pages.old) tables.now entries → AreAllKnown entries.numbers entries.places
+        → AreTold (P.pages pages.old) (P.count pages.old) → AreCounted (table_uses (P.pages pages.old) tables.now) (P.count pages.old)
+        → (damage : Damage) → ¬ IsErrOf result (PageFault.Damaged damage) }
+    ensures damaged { AreTold (P.pages pages.old) (P.count pages.old)
+        → (damage : Damage) → IsErrOf result (PageFault.Damaged damage)
+        → IsPlaceDamage (P.pages pages.old) (P.count pages.old) tables.now.places key.now damage
+        ⊎ IsWordsDamage (P.pages pages.old) (P.count pages.old) tables.now.numbers damage }
+    ensures disk { IsErrOf result PageFault.Disk → Rose (P.faults pages.old) (P.faults pages.new) }
+    ensures room_left { result ≢ Err PageFault.NoRoom }
+    ensures stopped { IsErrOf result PageFault.Stopped → IsTrue (P.is_stopped pages.old) }
+
+    ensures pages { P.pages pages.new ≡ P.pages pages.old }
+    ensures count { P.count pages.new ≡ P.count pages.old }
+    ensures first { P.first pages.new ≡ P.first pages.old }
+    ensures room { P.room pages.new ≡ P.room pages.old }
+    ensures faults { P.faults pages.old ≤ P.faults pages.new }
+    ensures refused { P.refused pages.new ≡ P.refused pages.old }
+    ensures goes_on { P.is_stopped pages.new ≡ P.is_stopped pages.old }
+    ensures only_reads { P.only_reads pages.old pages.new }
+    ensures follows { P.follows_from pages.old pages.new }
+{
+    let Some(stored) = tables.place(pages, key)? else {
+        return Ok(None);
+    };
+    let words = words_of(alloc, pages, tables, &stored)?;
+    Ok(Some(Place {
+        point: stored.point,
+        words,
+    }))
+}

@@ -1,0 +1,71 @@
+//! A place that is put at a key.
+ghost use Rattle.std.specs.Prelude.{◌≡◌, ℕ, ◌≤◌, ◌<◌, ◌+◌, ◌^◌, List, length, IfSome, OnOk, OnErr, IsTrue, IsErrOf};
+ghost use Rattle.std.specs.Option.{option_copied};
+ghost use Rattle.page_face.specs.Causes.{Rose};
+ghost use Rattle.map_nodes.specs.Supply.{view};
+ghost use Rattle.map_nodes.specs.Damages.{AreTold};
+ghost use Rattle.store_rows.specs.Stored.{IsStored};
+ghost use Rattle.store_tables.specs.Entries.{Entries, place_of_key, without_place};
+ghost use Rattle.store_tables.specs.Holding.{Holds, IsApart, IsChanged};
+ghost use Rattle.store_tables.specs.Words.{WordsAgree};
+ghost use Rattle.store_meaning.specs.Updates.{after_put, numbered_for};
+
+use crate::numbering::number_words;
+use crate::pairs::{held_pairs, place_with};
+use crate::releasing::release_words;
+use page_face::{Damage, PageFault, Pages};
+use spatial_base::{Key, Point};
+use std::alloc::Global;
+use std::collections::BTreeMap;
+use store_tables::{Stored, Tables};
+use term_impacts::Words;
+
+/// Puts a place with these words at a key, where `old` is what lives there now. Each of its words that the old place doesn't
+/// hold is held by one place more, and each word of the old place that it hasn't by one less.
+///
+/// Refuses as [`Tables::hold`], [`Tables::put_place`] and [`Tables::release`] do, and `Memory`. After a refusal the tables are as
+/// before, and pages may have changed. Costs a put into the place table; for each word a look-up, and two more and one or two
+/// puts where the old place doesn't hold it; and for each other word of the old place a release.
+pub fn put_place<P: Pages>(
+    alloc: Global,
+    pages: &mut P,
+    tables: &mut Tables,
+    key: &Key,
+    old: Option<&Stored>,
+    point: Point,
+    words: &Words,
+) -> Result<(), PageFault>
+    requires next { tables.old.next_word ≤ 2 ^ 62 }
+    requires form { IfSome (option_copied old) IsStored }
+    ensures put { (entries : Entries) (free : List ℕ) → Holds (P.pages pages.old) tables.old entries → IsApart (view (P.pages pages.old) (P.count pages.old) (P.first pages.old) free) tables.old
+        → option_copied old.entry ≡ place_of_key key.now entries.places
+        → OnOk result ((tables.new.next_word ≡ (numbered_for key.now words.now tables.old.next_word entries).next_word)
+        × IsChanged (view (P.pages pages.old) (P.count pages.old) (P.first pages.old) free) tables.old
+        (P.pages pages.new) (P.count pages.new) (P.first pages.new) tables.new (after_put key.now point words.now tables.old.next_word entries)) }
+
+    // On tables that agree no damage is found, where a word has room for one place more.
+    ensures honest { (entries : Entries) (free : List ℕ) → Holds (P.pages pages.old) tables.old entries → IsApart (view (P.pages pages.old) (P.count pages.old) (P.first pages.old) free) tables.old
+        → option_copied old.entry ≡ place_of_key key.now entries.places
+        → WordsAgree entries tables.old.next_word → length (without_place key.now entries.places) + 1 < 2 ^ 32
+        → AreTold (P.pages pages.old) (P.count pages.old) → (damage : Damage) → ¬ IsErrOf result (PageFault.Damaged damage) }
+    ensures kept { OnErr result (tables.new ≡ tables.old) }
+    ensures disk { IsErrOf result PageFault.Disk → Rose (P.faults pages.old) (P.faults pages.new) }
+    ensures no_room { IsErrOf result PageFault.NoRoom → Rose (P.refused pages.old) (P.refused pages.new) }
+    ensures stopped { IsErrOf result PageFault.Stopped → IsTrue (P.is_stopped pages.old) }
+
+    ensures room { P.room pages.new ≡ P.room pages.old }
+    ensures faults { P.faults pages.old ≤ P.faults pages.new }
+    ensures refused { P.refused pages.old ≤ P.refused pages.new }
+    ensures goes_on { P.is_stopped pages.new ≡ P.is_stopped pages.old }
+    ensures follows { P.follows_from pages.old pages.new }
+{
+    let held = held_pairs(old);
+    let mut next = *tables;
+    let mut numbers = BTreeMap::new(alloc);
+    number_words(pages, &mut next, held, words.pairs(), &mut numbers)?;
+    let stored = place_with(point, &numbers);
+    next.put_place(pages, key, &stored)?;
+    release_words(pages, &mut next, held_pairs(Some(&stored)), held)?;
+    *tables = next;
+    Ok(())
+}

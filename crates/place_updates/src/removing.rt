@@ -1,0 +1,56 @@
+//! A place that is taken out.
+ghost use Rattle.std.specs.Prelude.{◌≡◌, ℕ, ◌≤◌, List, Some, OnOk, OnErr, IsTrue, IsErrOf};
+ghost use Rattle.page_face.specs.Causes.{Rose};
+ghost use Rattle.map_nodes.specs.Supply.{view};
+ghost use Rattle.map_nodes.specs.Damages.{AreTold};
+ghost use Rattle.store_rows.specs.Stored.{IsStored};
+ghost use Rattle.store_tables.specs.Entries.{Entries, place_of_key};
+ghost use Rattle.store_tables.specs.Holding.{Holds, IsApart, IsChanged};
+ghost use Rattle.store_tables.specs.Words.{WordsAgree};
+ghost use Rattle.store_meaning.specs.Updates.{after_remove};
+
+use crate::pairs::held_pairs;
+use crate::releasing::release_words;
+use page_face::{Damage, PageFault, Pages};
+use spatial_base::Key;
+use store_tables::{Stored, Tables};
+
+/// Takes a key's place out, where `old` is that place. One place less holds each of its words.
+///
+/// Refuses as [`Tables::remove_place`] and [`Tables::release`] do. After a refusal the tables are as before, and pages may have
+/// changed. Costs a removal from the place table, and for each word a look-up and a put, or two removals where no place is left
+/// that holds it.
+pub fn remove_place<P: Pages>(
+    pages: &mut P,
+    tables: &mut Tables,
+    key: &Key,
+    old: &Stored,
+) -> Result<(), PageFault>
+    requires form { IsStored old.now }
+    ensures removed { (entries : Entries) (free : List ℕ) → Holds (P.pages pages.old) tables.old entries → IsApart (view (P.pages pages.old) (P.count pages.old) (P.first pages.old) free) tables.old
+        → place_of_key key.now entries.places ≡ Some old.now
+        → OnOk result (IsChanged (view (P.pages pages.old) (P.count pages.old) (P.first pages.old) free) tables.old
+        (P.pages pages.new) (P.count pages.new) (P.first pages.new) tables.new (after_remove key.now entries)) }
+
+    // On tables that agree no damage is found.
+    ensures honest { (entries : Entries) (free : List ℕ) → Holds (P.pages pages.old) tables.old entries → IsApart (view (P.pages pages.old) (P.count pages.old) (P.first pages.old) free) tables.old
+        → place_of_key key.now entries.places ≡ Some old.now → WordsAgree entries tables.old.next_word
+        → AreTold (P.pages pages.old) (P.count pages.old) → (damage : Damage) → ¬ IsErrOf result (PageFault.Damaged damage) }
+    ensures next { tables.new.next_word ≡ tables.old.next_word }
+    ensures kept { OnErr result (tables.new ≡ tables.old) }
+    ensures disk { IsErrOf result PageFault.Disk → Rose (P.faults pages.old) (P.faults pages.new) }
+    ensures no_room { IsErrOf result PageFault.NoRoom → Rose (P.refused pages.old) (P.refused pages.new) }
+    ensures stopped { IsErrOf result PageFault.Stopped → IsTrue (P.is_stopped pages.old) }
+
+    ensures room { P.room pages.new ≡ P.room pages.old }
+    ensures faults { P.faults pages.old ≤ P.faults pages.new }
+    ensures refused { P.refused pages.old ≤ P.refused pages.new }
+    ensures goes_on { P.is_stopped pages.new ≡ P.is_stopped pages.old }
+    ensures follows { P.follows_from pages.old pages.new }
+{
+    let mut next = *tables;
+    next.remove_place(pages, key)?;
+    release_words(pages, &mut next, &[], held_pairs(Some(old)))?;
+    *tables = next;
+    Ok(())
+}

@@ -1,0 +1,73 @@
+-- Why a run ends.
+use Rattle.std.specs.Prelude.{ℕ, ◌≤◌, Bool, IsTrue, Result, OnOk, IfErr}
+use Rattle.disk_model.specs.World.{World, Rose}
+use Rattle.place_map.specs.State.{Contents}
+use Rattle.irtree_engine.specs.Holding.{HoldsState, StandsForNone}
+use Rattle.irtree_engine.specs.declared.fault.EngineFault.{EngineFault}
+use Rattle.irtree_engine.specs.declared.fault.EngineFault.TheVariants as engine
+use Rattle.run_protocol.specs.declared.ended.Ended.{Ended}
+use Rattle.run_protocol.specs.declared.ended.Ended.TheVariants.{Done, Memory, Words, Disk, Source, Sink, Input, Store, Limit}
+use Rattle.run_protocol.specs.declared.ended.StoreFault.{StoreFault}
+use Rattle.run_protocol.specs.declared.ended.StoreFault.TheVariants as stores
+use Rattle.run_protocol.specs.declared.ended.LimitFault.TheVariants as limits
+
+-- how a run ends where the engine refused
+abbrev pub end_of_engine : EngineFault → Ended
+end_of_engine engine.Disk = Disk
+end_of_engine engine.NotAStore = Store stores.NotAStore
+end_of_engine (engine.BadJournal at) = Store (stores.BadJournal at)
+end_of_engine (engine.Damaged damage) = Store (stores.Damaged damage)
+end_of_engine engine.Full = Limit limits.Full
+end_of_engine engine.Worn = Limit limits.Worn
+end_of_engine engine.NoRoom = Limit limits.NoRoom
+end_of_engine engine.Stopped = Disk
+end_of_engine engine.Memory = Memory
+
+-- where the image stood for a state, it stands for one
+abbrev pub StandsStill : World → World → Type 0
+StandsStill old new = (state : Contents) → HoldsState old state → (after : Contents) × HoldsState new after
+
+-- What a call over an open store may end by: damage, where the image stands for none. That it is a store was seen before.
+abbrev pub IsStoreEnd : Bool → World → StoreFault → Type 0
+IsStoreEnd tells old (stores.Damaged damage) = IsTrue tells → StandsForNone old.seen
+IsStoreEnd tells old stores.NotAStore = ⊥
+IsStoreEnd tells old (stores.BadJournal at) = ⊥
+
+-- What may end a call over an engine: want of memory, a disk or a sink whose count rose, damage, or a limit.
+abbrev pub IsEngineEnd : Bool → World → World → Ended → Type 0
+IsEngineEnd tells old new Memory = Unit {0}
+IsEngineEnd tells old new Disk = Rose old.faults new.faults
+IsEngineEnd tells old new Sink = Rose old.sink_faults new.sink_faults
+IsEngineEnd tells old new (Store fault) = IsStoreEnd tells old fault
+IsEngineEnd tells old new (Limit fault) = Unit {0}
+IsEngineEnd tells old new (Input fault) = ⊥
+IsEngineEnd tells old new Source = ⊥
+IsEngineEnd tells old new Done = ⊥
+IsEngineEnd tells old new Words = ⊥
+
+-- such an end has its cause, and no count falls
+pub record HasEngineEnd {T : Type 0} (tells : Bool) (old new : World) (result : Result T Ended) : Type 0 where
+  pub faults : old.faults ≤ new.faults
+  pub sink : old.sink_faults ≤ new.sink_faults
+  pub stands : IsTrue tells → OnOk result (StandsStill old new)
+  pub cause : IfErr result (IsEngineEnd tells old new)
+
+-- What may end a job: what ends a call over its engine, a source whose count rose, or the input.
+abbrev pub IsJobEnd : Bool → ℕ → ℕ → World → World → Ended → Type 0
+IsJobEnd tells source_old source_new old new Memory = Unit {0}
+IsJobEnd tells source_old source_new old new Disk = Rose old.faults new.faults
+IsJobEnd tells source_old source_new old new Source = Rose source_old source_new
+IsJobEnd tells source_old source_new old new Sink = Rose old.sink_faults new.sink_faults
+IsJobEnd tells source_old source_new old new (Input fault) = Unit {0}
+IsJobEnd tells source_old source_new old new (Store fault) = IsStoreEnd tells old fault
+IsJobEnd tells source_old source_new old new (Limit fault) = Unit {0}
+IsJobEnd tells source_old source_new old new Done = ⊥
+IsJobEnd tells source_old source_new old new Words = ⊥
+
+-- each end has its cause, and no count falls
+pub record HasJobEnd {T : Type 0} (tells : Bool) (source_old source_new : ℕ) (old new : World) (result : Result T Ended) : Type 0 where
+  pub source : source_old ≤ source_new
+  pub faults : old.faults ≤ new.faults
+  pub sink : old.sink_faults ≤ new.sink_faults
+  pub stands : IsTrue tells → OnOk result (StandsStill old new)
+  pub cause : IfErr result (IsJobEnd tells source_old source_new old new)

@@ -1,0 +1,125 @@
+-- The state that an image stands for.
+use Rattle.std.proofs.Common.{◌≡◌, ℕ, ◌+◌, ◌≤◌, Bool, true, false, cond, nat_lt, [], Some, None, ⊎_elim, inl, refl, sym, ap, subst, ◌∙◌, true≢false, arith}
+use Rattle.std.proofs.lemmas.List.Elements.{All-nil}
+use Rattle.disk_model.specs.World.{Image}
+use Rattle.disk_model.specs.declared.disk.Area.TheVariants.{Pages, Journal}
+use Rattle.page_face.specs.FreeList.{PageMap}
+use Rattle.page_journal.specs.Record.{StandsFor}
+use Rattle.page_store.specs.Contents.{HoldsContents, contents_in, counted_pages, page_bytes}
+use Rattle.page_store.specs.Contents as stores
+use Rattle.page_store.specs.Superblock.{IsInRange, empty_store, fields_of, is_zero, superblock_in}
+use Rattle.page_store.specs.declared.superblock.Superblock.{Superblock}
+use Rattle.map_nodes.specs.Supply.{uncounted}
+use Rattle.place_map.specs.Restored.{IsSerialAbove}
+use Rattle.place_map.specs.State.{Contents, opening}
+use Rattle.store_tables.specs.Entries.{Entries, no_entries}
+use Rattle.store_tables.specs.Holding.{Holds}
+use Rattle.store_tables.specs.Words.{WordsAgree}
+use Rattle.store_meaning.specs.Stands.{AreSound, PagesStand, Stands, state_in, tables_in}
+use Rattle.store_meaning.proofs.Maps.{holds-same}
+
+-- ---- one state
+
+-- pages stand for at most one state
+pub pages-one : (block : Superblock) (pages : PageMap) (s t : Contents) → PagesStand block pages s → PagesStand block pages t → s ≡ t
+pages-one block pages s t is also =
+    is.is ∙ ap (λ (e : Entries). state_in e block.head.serial block.head.number) (holds-same pages (tables_in block.head) is.entries also.entries is.holds also.holds) ∙ sym also.is
+
+-- an image stands for one area of pages
+pub area-one : (image : Image) (a b : ℕ → ℕ) → StandsFor image a → StandsFor image b → a ≡ b
+area-one image a b = ⊎_elim
+    (λ left. ⊎_elim (λ right. left.1 ∙ sym right.1) (λ right. absurd (right.0 left.0)))
+    (λ left. ⊎_elim (λ right. absurd (left.0 right.0)) (λ right. left.2 ∙ sym right.2))
+
+-- and holds one contents
+contents-one : (image : Image) (c d : stores.Contents) → HoldsContents c image → HoldsContents d image → c ≡ d
+contents-one image c d is also = sym is.holds ∙ ap contents_in (area-one image is.area also.area is.stands also.stands) ∙ also.holds
+
+-- An image stands for at most one state.
+pub stands-one : (image : Image) (s t : Contents) → Stands image s → Stands image t → s ≡ t
+stands-one image s t is also =
+    let one = contents-one image is.contents also.contents is.holds also.holds in
+    pages-one also.contents.block also.contents.pages s t (subst (λ (c : stores.Contents). PagesStand c.block c.pages s) one is.stand) also.stand
+
+-- ---- the empty store
+
+-- no value is found in nothing
+no_some : {X : Type 0} (x : X) → None ≡ Some x → ⊥
+no_some x e = cc
+
+-- the word tables of no entries agree
+empty-agree : WordsAgree no_entries 1
+empty-agree = record {
+  inverse = λ w n. (λ e. absurd (no_some n e), λ e. absurd (no_some w e));
+  counts = λ n. refl;
+  some = λ n. tt;
+  below = λ n there. absurd (true≢false (sym there));
+}
+
+-- no entries are sound
+empty-sound : AreSound no_entries 1 1
+empty-sound = record { words = empty-agree; serials = All-nil (λ e. IsSerialAbove 1 e.0) }
+
+-- no page holds no entries
+empty-holds : (pages : PageMap) → Holds pages (tables_in empty_store.head) no_entries
+empty-holds pages = record {
+  places = record { tree = tt; rows = refl; each = All-nil _ };
+  texts = record { tree = tt; rows = refl; each = All-nil _ };
+  numbers = record { tree = tt; rows = refl; each = All-nil _ };
+}
+
+-- no page is used by no map, and each can be taken at most once
+few_uncounted : (n : ℕ) → 0 + (0 + uncounted 1 n) ≤ 1
+unfolding uncounted
+few_uncounted n = few (nat_lt n 1)
+  where
+    few : (b : Bool) → 0 + (0 + cond b 0 1) ≤ 1
+    few true = omega arith
+    few false = omega arith
+
+-- the fields of the empty store are in their ranges
+empty-range : IsInRange empty_store
+empty-range = record {
+  counted = omega arith;
+  first_free = omega arith;
+  places = omega arith;
+  texts = omega arith;
+  numbers = omega arith;
+  rows = omega arith;
+  tree = omega arith;
+  serial = omega arith;
+  serials = omega arith;
+  number = omega arith;
+  next_word = omega arith;
+  words = omega arith;
+}
+
+-- pages of the empty store stand for the state in which nothing was put
+pub empty-pages : (pages : PageMap) → PagesStand empty_store pages opening
+empty-pages pages = record {
+  range = empty-range;
+  no_rows = refl;
+  no_tree = refl;
+  entries = no_entries;
+  free = [];
+  holds = empty-holds pages;
+  apart = record { supplied = refl; once = λ n. few_uncounted n; away = refl; some = omega arith };
+  every = λ n some counted. absurd (omega (arith, some, counted));
+  sound = empty-sound;
+  live = refl;
+  is = refl;
+}
+
+-- An image that stands for pages whose page 0 is all zeros stands for the state in which nothing was put.
+pub empty-area : (image : Image) (area : ℕ → ℕ) → StandsFor image area → is_zero (page_bytes area 0) ≡ true → Stands image opening
+empty-area image area stands zeros =
+    let block : superblock_in (page_bytes area 0) ≡ empty_store = ap (λ b. cond b empty_store (fields_of (page_bytes area 0))) zeros in
+    record {
+      contents = contents_in area;
+      holds = record { area = area; stands = stands; holds = refl; page = λ range some. absurd (true≢false (sym zeros ∙ some)) };
+      stand = subst (λ (b : Superblock). PagesStand b (counted_pages b.counted (page_bytes area)) opening) (sym block) (empty-pages (counted_pages empty_store.counted (page_bytes area)));
+    }
+
+-- And so does one whose gate is closed and whose page 0 is all zeros.
+pub empty-stands : (image : Image) → image Journal 0 ≡ 0 → is_zero (page_bytes (image Pages) 0) ≡ true → Stands image opening
+empty-stands image closed zeros = empty-area image (image Pages) (inl (closed, refl)) zeros
