@@ -12,6 +12,13 @@ use std::io::{ErrorKind, Write};
 use std::process::ExitCode;
 use std_devices::{FileStation, ScratchStation, StdSource};
 
+// How a run ended, and what else its line on standard error says, or nothing.
+#[derive(Drop)]
+struct Told {
+    end: Ended,
+    why: Option<String>,
+}
+
 // The words behind the program's own name. Words that are no UTF-8 are refused, as words that are no command are.
 fn words(rt: &HostRuntime) -> Result<Vec<String>, Ended> {
     let given = std::env::args(rt).map_err(|error| match error.kind() {
@@ -34,18 +41,17 @@ fn store_of(alloc: Global, words: &[String]) -> Result<Option<String>, Memory> {
     }
 }
 
-// Runs over the files of a store, and says on standard error why a call on them failed.
-fn run_on_files(rt: &HostRuntime, words: &[String], store: &str) -> Result<Ended, Memory> {
+// Runs over the files of a store. Where a call on them failed it says with which one, why, and what to do.
+fn run_on_files(rt: &HostRuntime, words: &[String], store: &str) -> Result<Told, Memory> {
     let mut source = StdSource::new(rt.stdin());
     let mut station = FileStation::new(rt.alloc(), rt, store, rt.stdout())?;
     let end = run(rt.alloc(), words, &mut source, &mut station);
-    if end == Ended::Disk {
-        if let Some(trouble) = station.trouble() {
-            // Where standard error takes nothing, the status alone tells.
-            let _ = eprintln!(rt; "irtree: {}", trouble.text());
-        }
-    }
-    Ok(end)
+    let why = match end {
+        // Where memory is wanting for it, the end's line stands alone.
+        Ended::Disk => station.trouble_line(rt.alloc()).unwrap_or(None),
+        _ => None,
+    };
+    Ok(Told { end, why })
 }
 
 // Runs over a store in memory, which ends with the run.
@@ -55,32 +61,54 @@ fn run_in_memory(rt: &HostRuntime, words: &[String]) -> Ended {
     run(rt.alloc(), words, &mut source, &mut station)
 }
 
+// An end of which its own line says all.
+fn plain(end: Ended) -> Told {
+    Told { end, why: None }
+}
+
+// The end of words that aren't read.
+fn unread(alloc: Global, end: Ended) -> Result<Told, Memory> {
+    let why = match end {
+        Ended::Words => {
+            Some(String::from_str(alloc, "a word that was given isn't UTF-8").map_err(|_| Memory)?)
+        }
+        _ => None,
+    };
+    Ok(Told { end, why })
+}
+
 // Runs on the words given, over the standard streams and the store that they name.
-fn run_words(rt: &HostRuntime) -> Ended {
+fn run_words(rt: &HostRuntime) -> Result<Told, Memory> {
     let words = match words(rt) {
         Ok(words) => words,
-        Err(end) => return end,
+        Err(end) => return unread(rt.alloc(), end),
     };
-    match store_of(rt.alloc(), &words) {
-        Ok(Some(store)) => run_on_files(rt, &words, &store).unwrap_or(Ended::Memory),
-        Ok(None) => run_in_memory(rt, &words),
-        Err(Memory) => Ended::Memory,
+    match store_of(rt.alloc(), &words)? {
+        Some(store) => run_on_files(rt, &words, &store),
+        None => Ok(plain(run_in_memory(rt, &words))),
     }
 }
 
-// The end's line, on standard error.
-fn tell(alloc: Global, end: Ended, err: &mut impl Write) -> Result<(), Memory> {
+// The end's line with what else it says, on standard error: one line.
+fn tell(alloc: Global, told: &Told, err: &mut impl Write) -> Result<(), Memory> {
     let mut line = Vec::new(alloc);
-    end.write_text(&mut line)?;
+    told.end.write_text(&mut line)?;
+    if let Some(why) = &told.why {
+        let _lf = line.pop();
+        line.extend_from_slice(b": ").map_err(|_| Memory)?;
+        line.extend_from_slice(why.as_bytes()).map_err(|_| Memory)?;
+        line.push(b'\n').map_err(|_| Memory)?;
+    }
     // Where standard error takes nothing, the status alone tells.
     let _ = err.write_all(&line);
     Ok(())
 }
 
 fn main(rt: HostRuntime) -> ExitCode {
-    let end = run_words(&rt);
-    match tell(rt.alloc(), end, &mut rt.stderr()) {
-        Ok(()) => ExitCode::from(end.status()),
-        Err(Memory) => ExitCode::from(Ended::Memory.status()),
-    }
+    let told = run_words(&rt).unwrap_or(plain(Ended::Memory));
+    let _ = match tell(rt.alloc(), &told, &mut rt.stderr()) {
+        Ok(()) => Ok(()),
+        Err(Memory) => tell(rt.alloc(), &plain(told.end), &mut rt.stderr()),
+    };
+    ExitCode::from(told.end.status())
 }

@@ -1,12 +1,14 @@
 //! A disk over the files of a store, and standard output.
-ghost use Rattle.std.specs.Prelude.{◌≡◌, ◌≤◌, ◌<◌, ◌^◌, ◌+◌, ◌++◌, false, length, codes, string_bytes, IfOk, OnOk, None, IsErr, IsSome, IsTrue};
+ghost use Rattle.std.specs.Prelude.{◌≡◌, ◌≤◌, ◌<◌, ◌^◌, ◌+◌, false, length, string_bytes, IfOk, OnOk, None, IsErr, IsSome, IsTrue};
 ghost use Rattle.disk_model.specs.World.{HasRead, HasWritten, HasSynced, HasSaid, HasDiskCause, HasSinkCause};
 ghost use Rattle.std.specs.Io.KnownBytes.{WriteAppends};
 ghost use Rattle.std.proofs.Common.{rules};
 ghost use Rattle.std_devices.specs.Untold.{untold};
 
 use crate::output::write_some;
-use crate::store_files::{FileTrouble, StoreFiles};
+use crate::store_file::StoreFile;
+use crate::store_files::StoreFiles;
+use crate::trouble::FileTrouble;
 use disk_model::{Area, Disk, Failed, Station};
 use spatial_base::Memory;
 use std::alloc::Global;
@@ -19,22 +21,25 @@ const ROOM: u32 = 4_194_304;
 
 /// The areas as the files STORE and STORE.journal, and standard output as the sink.
 ///
-/// The first call of the disk opens the files, creates those that aren't there, and locks STORE until the station is
-/// dropped: a second process that asks for the same store gets a fault, where the system can tell. A read gives zeros
-/// past a file's end. A sync makes the file's bytes safe; the folder is made safe as the files are opened.
+/// The first call of the disk opens the files, creates those that aren't there, and locks both until the station is
+/// dropped: a second process that asks for one of them gets a fault, where the file system has locks. A link to STORE is
+/// followed, and the journal stands beside the file itself; a file with more than one hard link is refused. The folder
+/// is made safe before the first byte is read. A read gives zeros past a file's end, and fails where the file had bytes
+/// there before. A sync makes the file's bytes safe.
 ///
 /// The station tells no content; each call that fails raises the count of its kind, and [`FileStation::trouble`] says
-/// why.
+/// why. After a call of the disk that failed each later one fails too, and reaches no file: after a failed sync the
+/// system may have dropped what was written.
 #[derive(Drop)]
-pub struct FileStation<'a, R: Files<File = File>, W: Write + Drop = Stdout> {
-    files: StoreFiles<'a, R>,
+pub struct FileStation<'a, R: Files<File = F>, W: Write + Drop = Stdout, F: StoreFile = File> {
+    files: StoreFiles<'a, R, F>,
     output: W,
     trouble: Option<FileTrouble>,
     faults: u64,
     sink_faults: u64,
 }
 
-impl<'a, R: Files<File = File>, W: Write + Drop> FileStation<'a, R, W> {
+impl<'a, R: Files<File = F>, W: Write + Drop, F: StoreFile> FileStation<'a, R, W, F> {
     /// A station over the store at a path. No file is opened yet.
     ///
     /// Refuses `Memory` alone.
@@ -43,9 +48,8 @@ impl<'a, R: Files<File = File>, W: Write + Drop> FileStation<'a, R, W> {
         rt: &'a R,
         store: &str,
         output: W,
-    ) -> Result<FileStation<'a, R, W>, Memory>
-        ensures pages { IfOk result (λ station. string_bytes station.files.pages ≡ store.now) }
-        ensures journal { IfOk result (λ station. string_bytes station.files.journal ≡ store.now ++ codes ".journal") }
+    ) -> Result<FileStation<'a, R, W, F>, Memory>
+        ensures store { IfOk result (λ station. string_bytes station.files.store ≡ store.now) }
         ensures output { IfOk result (λ station. station.output ≡ output) }
         ensures faults { IfOk result (λ station. station.faults ≡ 0) }
         ensures sink_faults { IfOk result (λ station. station.sink_faults ≡ 0) }
@@ -60,16 +64,40 @@ impl<'a, R: Files<File = File>, W: Write + Drop> FileStation<'a, R, W> {
         })
     }
 
-    /// Why the last call of the disk that failed did so.
+    /// Why the first call of the disk that failed did so.
     pub fn trouble(&self) -> Option<FileTrouble>
         ensures { result ≡ self.now.trouble }
     {
         self.trouble
     }
 
+    /// The line `PATH: WHAT; ADVICE`, without an LF, on why the first call of the disk that failed did so: the file, what
+    /// the system said of it or what it is, and what to do. None where no call failed.
+    ///
+    /// Refuses `Memory` alone.
+    pub fn trouble_line(&self, alloc: Global) -> Result<Option<String>, Memory>
+        ensures { IfOk result (λ line. IsSome line → IsSome self.now.trouble) }
+    {
+        match self.trouble {
+            Some(trouble) => Ok(Some(trouble.line(alloc, self.files.store())?)),
+            None => Ok(None),
+        }
+    }
+
+    // Refuses where a call of the disk failed before, for its cause.
+    fn goes_on(&self) -> Result<(), FileTrouble>
+        ensures { IsSome self.now.trouble → IsErr result }
+    {
+        match self.trouble {
+            Some(trouble) => Err(trouble),
+            None => Ok(()),
+        }
+    }
+
     // Counts a failure, and keeps its cause.
     fn counted(&mut self, outcome: Result<(), FileTrouble>) -> Result<(), Failed>
         ensures cause { HasDiskCause (untold self.old.faults self.old.sink_faults) (untold self.new.faults self.new.sink_faults) result }
+        ensures failed { IsErr outcome → IsErr result }
         ensures trouble { IsErr result → IsSome self.new.trouble }
         ensures kept { OnOk result (self.new.trouble ≡ self.old.trouble) }
         ensures output { self.new.output ≡ self.old.output }
@@ -85,7 +113,7 @@ impl<'a, R: Files<File = File>, W: Write + Drop> FileStation<'a, R, W> {
     }
 }
 
-impl<'a, R: Files<File = File>, W: Write + Drop> Disk for FileStation<'a, R, W> {
+impl<'a, R: Files<File = F>, W: Write + Drop, F: StoreFile> Disk for FileStation<'a, R, W, F> {
     ghost tells = { false };
 
     ghost world = { λ station. untold station.faults station.sink_faults };
@@ -108,9 +136,13 @@ impl<'a, R: Files<File = File>, W: Write + Drop> Disk for FileStation<'a, R, W> 
         ensures cause { HasDiskCause (untold self.old.faults self.old.sink_faults) (untold self.new.faults self.new.sink_faults) result }
         ensures trouble { IsErr result → IsSome self.new.trouble }
         ensures kept { OnOk result (self.new.trouble ≡ self.old.trouble) }
+        ensures stopped { IsSome self.old.trouble → IsErr result }
         ensures output { self.new.output ≡ self.old.output }
     {
-        let outcome = self.files.read(area, at, buf);
+        let outcome = match self.goes_on() {
+            Ok(()) => self.files.read(area, at, buf),
+            Err(trouble) => Err(trouble),
+        };
         self.counted(outcome)
     }
 
@@ -120,9 +152,13 @@ impl<'a, R: Files<File = File>, W: Write + Drop> Disk for FileStation<'a, R, W> 
         ensures cause { HasDiskCause (untold self.old.faults self.old.sink_faults) (untold self.new.faults self.new.sink_faults) result }
         ensures trouble { IsErr result → IsSome self.new.trouble }
         ensures kept { OnOk result (self.new.trouble ≡ self.old.trouble) }
+        ensures stopped { IsSome self.old.trouble → IsErr result }
         ensures output { self.new.output ≡ self.old.output }
     {
-        let outcome = self.files.write(area, at, bytes);
+        let outcome = match self.goes_on() {
+            Ok(()) => self.files.write(area, at, bytes),
+            Err(trouble) => Err(trouble),
+        };
         self.counted(outcome)
     }
 
@@ -131,14 +167,18 @@ impl<'a, R: Files<File = File>, W: Write + Drop> Disk for FileStation<'a, R, W> 
         ensures cause { HasDiskCause (untold self.old.faults self.old.sink_faults) (untold self.new.faults self.new.sink_faults) result }
         ensures trouble { IsErr result → IsSome self.new.trouble }
         ensures kept { OnOk result (self.new.trouble ≡ self.old.trouble) }
+        ensures stopped { IsSome self.old.trouble → IsErr result }
         ensures output { self.new.output ≡ self.old.output }
     {
-        let outcome = self.files.sync(area);
+        let outcome = match self.goes_on() {
+            Ok(()) => self.files.sync(area),
+            Err(trouble) => Err(trouble),
+        };
         self.counted(outcome)
     }
 }
 
-impl<'a, R: Files<File = File>, W: Write + Drop> Station for FileStation<'a, R, W> {
+impl<'a, R: Files<File = F>, W: Write + Drop, F: StoreFile> Station for FileStation<'a, R, W, F> {
     fn say(&mut self, bytes: &[u8]) -> Result<usize, Failed>
         requires { 0 < length bytes.now }
         ensures count { IfOk result (λ n. (0 < n) × (n ≤ length bytes.now)) }

@@ -7,14 +7,22 @@
 #![tactic(auto)]
 
 mod file_station;
+#[cfg(test)]
+mod file_tests;
+mod opening;
 mod output;
 mod scratch_station;
 mod std_source;
+mod store_file;
 mod store_files;
 #[cfg(test)]
 mod tests;
+mod trouble;
+#[cfg(test)]
+mod watched;
 
 pub use file_station::FileStation;
 pub use scratch_station::ScratchStation;
 pub use std_source::StdSource;
-pub use store_files::FileTrouble;
+pub use store_file::StoreFile;
+pub use trouble::{Cause, FileTrouble, journal_of};

@@ -1,157 +1,117 @@
 //! The two files of a store, opened at first use.
-ghost use Rattle.std.specs.Prelude.{◌≡◌, ◌<◌, ◌^◌, ◌+◌, ◌++◌, length, codes, string_bytes, IfOk};
+ghost use Rattle.std.specs.Prelude.{◌≡◌, ◌<◌, ◌^◌, ◌+◌, length, string_bytes, IfOk};
 
+use crate::opening::{named_once, open_journal, open_pages, settle_folder};
+use crate::store_file::{KeptFile, StoreFile};
+use crate::trouble::{Cause, FileTrouble, journal_of};
 use disk_model::Area;
 use spatial_base::Memory;
 use std::alloc::Global;
-use std::fs::{File, TryLockError};
+use std::fs::File;
 use std::io::{self, ErrorKind};
-use std::os::unix::fs::FileExt;
-use std::path::Path;
 use std::rt::Files;
 
-/// Why a call on the files of a store failed.
-#[derive(Clone, Copy, Debug, PartialEq, Eq)]
-pub enum FileTrouble {
-    /// Another process has the store open.
-    InUse,
-    /// A file can't be opened or created, or its folder can't be made safe.
-    NotOpened,
-    /// A file can't be read, written or made safe.
-    NotDone,
-}
-
-impl FileTrouble {
-    /// A plain message.
-    pub fn text(self) -> &'static str {
-        match self {
-            FileTrouble::InUse => "another process has the store open",
-            FileTrouble::NotOpened => "the files of the store can't be opened or created",
-            FileTrouble::NotDone => "the files of the store can't be read, written or made safe",
-        }
-    }
-}
-
-// Both files. STORE is locked until they are dropped.
+// Both files. They are locked until they are dropped.
 #[derive(Drop)]
-struct OpenFiles {
-    pages: File,
-    journal: File,
+struct OpenFiles<F: StoreFile> {
+    pages: KeptFile<F>,
+    journal: KeptFile<F>,
 }
 
-fn open_file<R: Files<File = File>>(rt: &R, path: &str) -> Result<File, FileTrouble> {
-    File::options()
-        .read(true)
-        .write(true)
-        .create(true)
-        .open(rt, path)
-        .map_err(|_| FileTrouble::NotOpened)
-}
-
-// Makes the folder of a file safe. A file that was created is found after a crash only then, and it may have been
-// created by a process that crashed before it came to this: so it is done at each opening.
-fn sync_folder<R: Files<File = File>>(rt: &R, path: &str) -> io::Result<()> {
-    let folder = match Path::new(path).parent() {
-        Some(folder) if !folder.as_str().is_empty() => folder.as_str(),
-        _ => ".",
-    };
-    File::open(rt, folder)?.sync_all()
-}
-
-fn open_files<R: Files<File = File>>(
-    rt: &R,
-    pages: &str,
-    journal: &str,
-) -> Result<OpenFiles, FileTrouble> {
-    let pages_file = open_file(rt, pages)?;
-    match pages_file.try_lock() {
-        Ok(()) => {}
-        Err(TryLockError::WouldBlock) => return Err(FileTrouble::InUse),
-        // A file system without such locks can't tell.
-        Err(TryLockError::Error(_)) => {}
+// The trouble that a cause is with a file.
+fn of_area<T: Drop>(area: Area, outcome: Result<T, Cause>) -> Result<T, FileTrouble> {
+    match outcome {
+        Ok(value) => Ok(value),
+        Err(cause) => Err(FileTrouble { area, cause }),
     }
-    let journal_file = open_file(rt, journal)?;
-    sync_folder(rt, pages).map_err(|_| FileTrouble::NotOpened)?;
-    Ok(OpenFiles {
-        pages: pages_file,
-        journal: journal_file,
-    })
 }
 
-// Reads from a place on, zeros past the end.
-fn read_or_zeros(file: &File, at: u64, buf: &mut [u8]) -> io::Result<()>
-    requires { at + length buf.old < 2 ^ 48 }
-{
-    let mut done = 0;
-    for _ in 0..u64::MAX {
-        if done >= buf.len() {
-            return Ok(());
-        }
-        match file.read_at(&mut buf[done..], at + done as u64) {
-            Ok(0) => {
-                buf[done..].fill(0);
-                return Ok(());
-            }
-            Ok(n) => done += n,
-            Err(error) if error.kind() == ErrorKind::Interrupted => {}
-            Err(error) => return Err(error),
-        }
-    }
-    Err(io::Error::from(ErrorKind::TimedOut))
+fn no_memory() -> Cause {
+    Cause::System(io::Error::from(ErrorKind::OutOfMemory))
 }
 
-// The files STORE and STORE.journal.
+// The files of a store: STORE, and beside what it is, without links, its journal.
 #[derive(Drop)]
-pub(crate) struct StoreFiles<'a, R: Files<File = File>> {
+pub(crate) struct StoreFiles<'a, R: Files<File = F>, F: StoreFile = File> {
+    alloc: Global,
     rt: &'a R,
-    pages: String,
-    journal: String,
-    open: Option<OpenFiles>,
+    // As it was given; once it is open, the path of the file itself.
+    store: String,
+    open: Option<OpenFiles<F>>,
 }
 
-impl<'a, R: Files<File = File>> StoreFiles<'a, R> {
+impl<'a, R: Files<File = F>, F: StoreFile> StoreFiles<'a, R, F> {
     // Files that no call has opened.
-    pub(crate) fn new(alloc: Global, rt: &'a R, store: &str) -> Result<StoreFiles<'a, R>, Memory>
-        ensures pages { IfOk result (λ files. string_bytes files.pages ≡ store.now) }
-        ensures journal { IfOk result (λ files. string_bytes files.journal ≡ store.now ++ codes ".journal") }
+    pub(crate) fn new(alloc: Global, rt: &'a R, store: &str) -> Result<StoreFiles<'a, R, F>, Memory>
+        ensures store { IfOk result (λ files. string_bytes files.store ≡ store.now) }
     {
-        let mut journal = String::from_str(alloc, store).map_err(|_| Memory)?;
-        journal.push_str(".journal").map_err(|_| Memory)?;
         Ok(StoreFiles {
+            alloc,
             rt,
-            pages: String::from_str(alloc, store).map_err(|_| Memory)?,
-            journal,
+            store: String::from_str(alloc, store).map_err(|_| Memory)?,
             open: None,
         })
     }
 
+    // The path of the file of pages.
+    pub(crate) fn store(&self) -> &str
+        ensures { result.now ≡ string_bytes self.now.store }
+    {
+        &self.store
+    }
+
+    // Opens and locks the file of pages, and learns its path without links.
+    fn open_pages(&mut self) -> Result<KeptFile<F>, Cause> {
+        let file = open_pages(self.rt, &self.store)?;
+        let path = self
+            .rt
+            .canonicalize(self.alloc, &self.store)
+            .map_err(|error| Cause::Path(error))?;
+        self.store = path.into_string();
+        named_once(self.rt, &self.store, file)
+    }
+
+    fn open_journal(&self) -> Result<KeptFile<F>, Cause> {
+        let path = journal_of(self.alloc, &self.store).map_err(|_| no_memory())?;
+        let file = open_journal(self.rt, &path)?;
+        named_once(self.rt, &path, file)
+    }
+
+    // Opens and locks both files, and makes their entries in the folder safe.
+    fn open_both(&mut self) -> Result<OpenFiles<F>, FileTrouble> {
+        let pages = of_area(Area::Pages, self.open_pages())?;
+        let journal = of_area(Area::Journal, self.open_journal())?;
+        let is_new = pages.is_empty() || journal.is_empty();
+        of_area(Area::Pages, settle_folder(self.rt, &self.store, is_new))?;
+        Ok(OpenFiles { pages, journal })
+    }
+
     // The file of an area. The first call opens both.
-    fn file(&mut self, area: Area) -> Result<&File, FileTrouble> {
+    fn file(&mut self, area: Area) -> Result<&mut KeptFile<F>, FileTrouble> {
         if self.open.is_none() {
-            self.open = Some(open_files(self.rt, &self.pages, &self.journal)?);
+            self.open = Some(self.open_both()?);
         }
-        match (&self.open, area) {
-            (Some(files), Area::Pages) => Ok(&files.pages),
-            (Some(files), Area::Journal) => Ok(&files.journal),
-            (None, _) => Err(FileTrouble::NotOpened),
+        match (&mut self.open, area) {
+            (Some(files), Area::Pages) => Ok(&mut files.pages),
+            (Some(files), Area::Journal) => Ok(&mut files.journal),
+            (None, _) => of_area(area, Err(no_memory())),
         }
     }
 
     pub(crate) fn read(&mut self, area: Area, at: u64, buf: &mut [u8]) -> Result<(), FileTrouble>
         requires { at + length buf.old < 2 ^ 48 }
     {
-        read_or_zeros(self.file(area)?, at, buf).map_err(|_| FileTrouble::NotDone)
+        let outcome = self.file(area)?.read(at, buf);
+        of_area(area, outcome)
     }
 
     pub(crate) fn write(&mut self, area: Area, at: u64, bytes: &[u8]) -> Result<(), FileTrouble> {
-        let file = self.file(area)?;
-        file.write_all_at(bytes, at)
-            .map_err(|_| FileTrouble::NotDone)
+        let outcome = self.file(area)?.write(at, bytes);
+        of_area(area, outcome)
     }
 
     pub(crate) fn sync(&mut self, area: Area) -> Result<(), FileTrouble> {
-        self.file(area)?
-            .sync_all()
-            .map_err(|_| FileTrouble::NotDone)
+        let outcome = self.file(area)?.sync();
+        of_area(area, outcome)
     }
 }

@@ -1,15 +1,13 @@
-//! What the devices do with real files, and with readers and writers that give and take little at a time.
+//! What the devices do with readers and writers that give and take little at a time.
 ghost use Rattle.std.specs.Prelude.{◌+◌, ◌<◌, ◌^◌};
 
-use crate::{FileStation, FileTrouble, ScratchStation, StdSource};
+use crate::{ScratchStation, StdSource};
 use disk_model::{Area, Disk, Failed, Source, Station};
-use spatial_base::Memory;
-use std::hash::{BuildHasher, RandomState};
 use std::io::{self, ErrorKind, Read, Write};
 use std::test::Fail;
-use std::{env, fs};
 
-// A reader and a writer of at most two bytes a call. A signal interrupts the second call, and the fourth one fails.
+// A reader and a writer of at most two bytes a call. A signal interrupts the second call, the fourth one fails, and the sixth
+// write takes nothing.
 #[derive(Drop)]
 struct Halting {
     bytes: Vec<u8>,
@@ -46,7 +44,7 @@ impl Write for Halting {
         if let Some(kind) = self.fault() {
             return Err(kind.into());
         }
-        let n = buf.len().min(2);
+        let n = if self.calls == 6 { 0 } else { buf.len().min(2) };
         self.bytes.extend_from_slice(&buf[..n])?;
         Ok(n)
     }
@@ -107,49 +105,7 @@ fn a_scratch_station_keeps_its_areas_and_says_pieces(rt: HostRuntime) -> Result<
     assert_eq!(rt; station.say(b"one"), Ok(2));
     assert_eq!(rt; station.say(b"e"), Ok(1));
     assert_eq!(rt; station.say(b"two"), Err(Failed));
-    Ok(())
-}
-
-// The path of a store that no other test has.
-fn store_path(rt: &HostRuntime) -> io::Result<String> {
-    let folder = env::temp_dir(rt)?;
-    let number = RandomState::new(rt)?.hash_one(&0u8);
-    Ok(format!(in rt.alloc(); "{}/irtree_station_{}", folder.as_str(), number)?)
-}
-
-// What a station that is made now meets at its first call.
-fn first_trouble(rt: &HostRuntime, store: &str) -> Result<Option<FileTrouble>, Memory> {
-    let mut station = FileStation::new(rt.alloc(), rt, store, Vec::new(rt.alloc()))?;
-    let _ = station.sync(Area::Journal);
-    Ok(station.trouble())
-}
-
-#[test]
-fn a_file_station_keeps_its_bytes_in_two_files(rt: HostRuntime) -> Result<(), Fail> {
-    let alloc = rt.alloc();
-    let store = store_path(&rt)?;
-    let journal = format!(in alloc; "{}.journal", store.as_str())?;
-    {
-        let mut station = FileStation::new(alloc, &rt, &store, Vec::new(alloc))?;
-        assert_eq!(rt; six(&mut station, Area::Pages, 8192)?, [0; 6]);
-        fill(&mut station)?;
-        assert_eq!(rt; station.say(b"said"), Ok(4));
-        let trouble = first_trouble(&rt, &store)?;
-        assert_eq!(rt; trouble, Some(FileTrouble::InUse));
-    }
-    let mut again = FileStation::new(alloc, &rt, &store, Vec::new(alloc))?;
-    assert_eq!(rt; six(&mut again, Area::Pages, 2)?, *b"\0abc\0\0");
-    assert!(rt; fs::read(&rt, journal.as_str())?.starts_with(b"j"));
-    fs::remove_file(&rt, store.as_str())?;
-    fs::remove_file(&rt, journal.as_str())?;
-    Ok(())
-}
-
-#[test]
-fn a_store_below_a_file_that_is_not_there_is_refused(rt: HostRuntime) -> Result<(), Fail> {
-    let store = store_path(&rt)?;
-    let inside = format!(in rt.alloc(); "{}/none", store.as_str())?;
-    let trouble = first_trouble(&rt, &inside)?;
-    assert_eq!(rt; trouble, Some(FileTrouble::NotOpened));
+    assert_eq!(rt; station.say(b"two"), Ok(2));
+    assert_eq!(rt; station.say(b"o"), Err(Failed));
     Ok(())
 }

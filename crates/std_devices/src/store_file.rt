@@ -1,0 +1,102 @@
+//! One open file of a store.
+ghost use Rattle.std.specs.Prelude.{◌≡◌, ◌<◌, ◌^◌, ◌+◌, length};
+
+use crate::trouble::Cause;
+use std::fs::{File, OpenFile};
+use std::io::{self, ErrorKind};
+use std::os::fd::AsRawFd;
+use std::os::unix::fs::{FileExt, MetadataExt};
+
+/// An open file of the system, or of a test.
+pub trait StoreFile: OpenFile + FileExt + Drop {
+    /// Locks the whole file against other processes. It doesn't wait: where another process has the lock the error's kind is
+    /// `WouldBlock`, and where the file system has no locks `Unsupported`.
+    fn take_lock(&self) -> io::Result<()>;
+
+    /// Whether a standard stream would have the file's descriptor: one that was closed when the program began.
+    fn is_stream(&self) -> bool;
+}
+
+impl StoreFile for File {
+    fn take_lock(&self) -> io::Result<()> {
+        self.try_lock().map_err(|error| io::Error::from(error))
+    }
+
+    fn is_stream(&self) -> bool {
+        self.as_raw_fd() <= 2
+    }
+}
+
+// A file that is open and locked.
+#[derive(Drop)]
+pub(crate) struct KeptFile<F: StoreFile> {
+    file: F,
+    // What the file has at least: its length as it was opened, or the end of a write.
+    len: u64,
+}
+
+impl<F: StoreFile> KeptFile<F> {
+    pub(crate) fn new(file: F, len: u64) -> KeptFile<F>
+        ensures file { result.file ≡ file }
+        ensures len { result.len ≡ len }
+    {
+        KeptFile { file, len }
+    }
+
+    pub(crate) fn is_empty(&self) -> bool {
+        self.len == 0
+    }
+
+    // Reads from a place on, zeros past the end. The end may not lie before what the file had.
+    pub(crate) fn read(&self, at: u64, buf: &mut [u8]) -> Result<(), Cause>
+        requires { at + length buf.old < 2 ^ 48 }
+    {
+        let mut done = 0;
+        for _ in 0..u64::MAX {
+            if done >= buf.len() {
+                return Ok(());
+            }
+            match self.file.read_at(&mut buf[done..], at + done as u64) {
+                Ok(0) if at + (done as u64) < self.len => return Err(Cause::Cut),
+                Ok(0) => {
+                    buf[done..].fill(0);
+                    return Ok(());
+                }
+                Ok(n) => done += n,
+                Err(error) if error.kind() == ErrorKind::Interrupted => {}
+                Err(error) => return Err(Cause::System(error)),
+            }
+        }
+        Err(Cause::System(io::Error::from(ErrorKind::TimedOut)))
+    }
+
+    // Whether the file is there whole, and has a name.
+    fn look(&self) -> Result<(), Cause> {
+        let found = self.file.metadata().map_err(|error| Cause::System(error))?;
+        if found.len() < self.len {
+            return Err(Cause::Cut);
+        }
+        if found.nlink() == 0 {
+            return Err(Cause::Moved);
+        }
+        Ok(())
+    }
+
+    // Writes all of the bytes at a place.
+    pub(crate) fn write(&mut self, at: u64, bytes: &[u8]) -> Result<(), Cause> {
+        self.look()?;
+        match self.file.write_all_at(bytes, at) {
+            Ok(()) => {
+                self.len = self.len.max(at.saturating_add(bytes.len() as u64));
+                Ok(())
+            }
+            Err(error) => Err(Cause::System(error)),
+        }
+    }
+
+    // Makes all of the file safe.
+    pub(crate) fn sync(&self) -> Result<(), Cause> {
+        self.file.sync_all().map_err(|error| Cause::System(error))?;
+        self.look()
+    }
+}
