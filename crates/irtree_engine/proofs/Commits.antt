@@ -1,8 +1,8 @@
 -- What a commit leaves stands for the state before it, or for the one that was committed.
 use Rattle.std.proofs.Common.{◌≡◌, ℕ, Bool, true, ⊎_elim, inl, inr, refl, sym, ap, subst, ◌∙◌}
 use Rattle.disk_model.specs.World.{World, Image, LeavesOnly}
-use Rattle.disk_model.specs.declared.disk.Area.TheVariants.{Pages}
 use Rattle.disk_model.proofs.Moments.{rested, then, within}
+use Rattle.page_journal.specs.Record.{applied}
 use Rattle.page_store.specs.Contents.{Contents, HoldsContents, HoldsOneOf, IsCommitted, Overlay, contents_in, counted_pages, shown}
 use Rattle.page_store.specs.Store.{Rests}
 use Rattle.page_store.specs.Superblock.{IsInRange}
@@ -16,21 +16,21 @@ use Rattle.irtree_engine.specs.Updates.{LeavesOneOf}
 contents-stand : (image : Image) (contents : Contents) (state : states.Contents) → PagesStand contents.block contents.pages state → HoldsContents contents image → Stands image state
 contents-stand image contents state stand holds = record { contents = contents; holds = holds; stand = stand }
 
--- what a closed gate leaves are the pages as reads give them
-area-contents : (block : Superblock) (world : World) (state : states.Contents) → IsCommitted block world → Stands world.seen state
-    → PagesStand (contents_in (world.seen Pages)).block (contents_in (world.seen Pages)).pages state
-area-contents block world state committed stands =
-    let area = area-one world.seen stands.holds.area (world.seen Pages) stands.holds.stands (inl (committed.closed, refl)) in
+-- the pages that a committed disk stands for hold the contents that stand for the state
+area-contents : (block : Superblock) (at : ℕ) (world : World) (state : states.Contents) → IsCommitted block at world → Stands world.seen state
+    → PagesStand (contents_in (applied world.seen)).block (contents_in (applied world.seen)).pages state
+area-contents block at world state committed stands =
+    let area = area-one world.seen stands.holds.area (applied world.seen) stands.holds.stands (committed.ready.journal, refl) in
     subst (λ (c : Contents). PagesStand c.block c.pages state) (sym stands.holds.holds ∙ ap contents_in area) stands.stand
 
 -- after a commit the image stands for the state that was committed
-pub commit-stands : (block : Superblock) (world : World) (contents : Contents) (state : states.Contents) → IsCommitted block world → contents_in (world.seen Pages) ≡ contents
+pub commit-stands : (block : Superblock) (at : ℕ) (world : World) (contents : Contents) (state : states.Contents) → IsCommitted block at world → contents_in (applied world.seen) ≡ contents
     → PagesStand contents.block contents.pages state → Stands world.seen state
-commit-stands block world contents state committed is stand = record {
+commit-stands block at world contents state committed is stand = record {
   contents = contents;
   holds = record {
-    area = world.seen Pages;
-    stands = inl (committed.closed, refl);
+    area = applied world.seen;
+    stands = (committed.ready.journal, refl);
     holds = is;
     page = λ range. committed.page (subst IsInRange (sym (ap (λ (c : Contents). c.block) is) ∙ committed.head) range);
   };
@@ -38,11 +38,11 @@ commit-stands block world contents state committed is stand = record {
 }
 
 -- and a crash at any moment of it leaves the state before it or that one
-pub commit-leaves : (block : Superblock) (old new : World) (contents : Contents) (before after : states.Contents) → IsCommitted block old → Stands old.seen before → PagesStand contents.block contents.pages after
-    → LeavesOnly old new (HoldsOneOf (contents_in (old.seen Pages)) contents old) → LeavesOnly old new (LeavesOneOf before after old)
-commit-leaves block old new contents before after committed stands stand leaves = within leaves (λ image said left. (
+pub commit-leaves : (block : Superblock) (at : ℕ) (old new : World) (contents : Contents) (before after : states.Contents) → IsCommitted block at old → Stands old.seen before → PagesStand contents.block contents.pages after
+    → LeavesOnly old new (HoldsOneOf (contents_in (applied old.seen)) contents old) → LeavesOnly old new (LeavesOneOf before after old)
+commit-leaves block at old new contents before after committed stands stand leaves = within leaves (λ image said left. (
   ⊎_elim
-      (λ is. inl (contents-stand image (contents_in (old.seen Pages)) before (area-contents block old before committed stands) is))
+      (λ is. inl (contents-stand image (contents_in (applied old.seen)) before (area-contents block at old before committed stands) is))
       (λ is. inr (contents-stand image contents after stand is))
       left.0,
   left.1,

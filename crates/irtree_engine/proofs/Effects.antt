@@ -202,7 +202,7 @@ module _ (head : Head) (count first : ℕ) (pages : PageMap) (state : states.Con
 
   -- and in the tables beside it
   pub few-left : (is_none found ≡ true → head.live < 200000) → head.live < 2 ^ 32 → length (without_place key stand.entries.places) + 1 < 2 ^ 32
-  few-left room small = let left = room-left room small in let live = stand.live in omega (arith, left, live, length-without_place key stand.entries.places)
+  few-left room small = let left = room-left room small in let live = stand.tables.live in omega (arith, left, live, length-without_place key stand.entries.places)
 
   -- one place more lives where the key was new
   counts-more : (live : ℕ) → live ≡ cond (is_none found) (head.live + 1) head.live → live + cond (is_some (place_of_key key stand.entries.places)) 1 0 ≡ head.live + 1
@@ -214,32 +214,32 @@ module _ (head : Head) (count first : ℕ) (pages : PageMap) (state : states.Con
 
   -- below the last update number
   below-last : head.number ≢ 2 ^ 40 → head.number < 2 ^ 40
-  below-last less = ⊎_elim (λ (below : head.number < 2 ^ 40). below) (λ (above : 2 ^ 40 ≤ head.number). absurd (less (let most = stand.range.number in omega (arith, most, above)))) (cases_lt head.number (2 ^ 40))
+  below-last less = ⊎_elim (λ (below : head.number < 2 ^ 40). below) (λ (above : 2 ^ 40 ≤ head.number). absurd (less (let most = stand.tables.range.number in omega (arith, most, above)))) (cases_lt head.number (2 ^ 40))
 
   module _ (after : PageMap) (count_after first_after : ℕ) (counted : first_after < count_after) (tables : Tables) where
     -- after a put page 0's fields and the pages stand for the state with the place
     pub put-stands : (point : Position) (words : List (List ℕ × ℕ)) (serial live : ℕ) → IsWordMap words → (is_none found ≡ true → head.live < 200000) → head.live < 2 ^ 32 → head.number ≢ 2 ^ 40
         → head.serial ≤ serial → serial ≤ head.number + 2 → IsSerialAbove serial key → live ≡ cond (is_none found) (head.live + 1) head.live
         → tables.next_word ≡ (numbered_for key words head.next_word stand.entries).next_word
-        → IsChanged (view pages count first stand.free) (tables_in head) after count_after first_after tables (after_put key point words head.next_word stand.entries)
+        → IsChanged (view pages count first stand.tables.free) (tables_in head) after count_after first_after tables (after_put key point words head.next_word stand.entries)
         → PagesStand (block_with count_after first_after (head_with head tables live serial)) after (put_at state key serial (record { point = point; words = words })).state
     put-stands point words serial live map_of_words room small less later serials above lives_then next_is changed =
         let left = room-left room small in
         let next = next-then (block_with count first head) pages state stand key point words map_of_words left in
         let words_then : head.next_word ≤ tables.next_word = omega (arith, next.0, next_is) in
         let words_most : tables.next_word ≤ 64 * (head.number + 1 + 1) = omega (arith, next.1, next_is) in
-        let range = after-range (block_with count first head) stand.range after count_after first_after tables live serial changed.free changed.apart counted stand.no_rows stand.no_tree (below-last less) later serials words_then words_most in
+        let range = after-range (block_with count first head) stand.tables.range after count_after first_after tables live serial changed.free changed.apart counted stand.tree.rows stand.tree.tree (below-last less) later serials words_then words_most in
         subst (λ (e : Effect). PagesStand (block_with count_after first_after (head_with head tables live serial)) after e.state) (sym (put-done serial (record { point = point; words = words }) room less))
-        (stand-put (block_with count first head) pages state stand key point words map_of_words left (block_with count_after first_after (head_with head tables live serial)) after changed range stand.no_rows stand.no_tree next_is later above (counts-more live lives_then))
+        (stand-put (block_with count first head) pages state stand key point words map_of_words left (block_with count_after first_after (head_with head tables live serial)) after changed range refl refl next_is later above (counts-more live lives_then))
 
     -- after a removal they stand for the state without it
     pub remove-stands : (live : ℕ) → is_some found ≡ true → head.number ≢ 2 ^ 40 → live + 1 ≡ head.live → tables.next_word ≡ head.next_word
-        → IsChanged (view pages count first stand.free) (tables_in head) after count_after first_after tables (after_remove key stand.entries)
+        → IsChanged (view pages count first stand.tables.free) (tables_in head) after count_after first_after tables (after_remove key stand.entries)
         → PagesStand (block_with count_after first_after (head_with head tables live head.serial)) after (removed_at state key).state
     remove-stands live some less lives_then next_is changed =
         let one = counted-as true some in
-        let most = stand.range.words in
-        let serials = stand.range.serials in
-        let range = after-range (block_with count first head) stand.range after count_after first_after tables live head.serial changed.free changed.apart counted stand.no_rows stand.no_tree (below-last less) (omega arith) (omega (arith, serials)) (omega (arith, next_is)) (omega (arith, next_is, most)) in
+        let most = stand.tables.range.words in
+        let serials = stand.tables.range.serials in
+        let range = after-range (block_with count first head) stand.tables.range after count_after first_after tables live head.serial changed.free changed.apart counted stand.tree.rows stand.tree.tree (below-last less) (omega arith) (omega (arith, serials)) (omega (arith, next_is)) (omega (arith, next_is, most)) in
         subst (λ (e : Effect). PagesStand (block_with count_after first_after (head_with head tables live head.serial)) after e.state) (sym (remove-done some less))
-        (stand-remove (block_with count first head) pages state stand key (block_with count_after first_after (head_with head tables live head.serial)) after changed range stand.no_rows stand.no_tree next_is refl (omega (arith, one, lives_then)))
+        (stand-remove (block_with count first head) pages state stand key (block_with count_after first_after (head_with head tables live head.serial)) after changed range refl refl next_is refl (omega (arith, one, lives_then)))

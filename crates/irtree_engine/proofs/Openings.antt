@@ -1,9 +1,10 @@
--- What an opening leaves stands for what stood before it.
-use Rattle.std.proofs.Common.{◌≡◌, ℕ, ⊎_elim, ap, ◌∙◌, arith}
+-- What an opening or a checkpoint leaves stands for what stood before it.
+use Rattle.std.proofs.Common.{◌≡◌, ℕ, ◌+◌, ◌<◌, ◌≤◌, ◌^◌, ⊎_elim, ap, ◌∙◌, arith}
+use Rattle.std.proofs.lemmas.Bool.{cases_lt}
 use Rattle.disk_model.specs.World.{World, Image, LeavesOnly}
 use Rattle.disk_model.specs.declared.disk.Area.TheVariants.{Journal}
 use Rattle.disk_model.proofs.Moments.{within}
-use Rattle.page_journal.specs.Record.{StandsFor, StandsAlike, IsBad, batch_in}
+use Rattle.page_journal.specs.Record.{StandsFor, StandsAlike, LeavesPages, IsBad, IsFirstFault, IsJournal, IsRecordAt, applied, batch_at, gate_of, next_gate, record_count}
 use Rattle.place_map.specs.State.{Contents}
 use Rattle.store_meaning.specs.Stands.{Stands}
 use Rattle.irtree_engine.specs.Holding.{HoldsState, LeavesState, StandsForNone}
@@ -25,13 +26,32 @@ alike-stands old image state alike stands = record {
 pub opening-leaves : (old new : World) (state : Contents) → HoldsState old state → LeavesOnly old new (StandsAlike old) → LeavesOnly old new (LeavesState state old)
 opening-leaves old new state holds leaves = within leaves (λ image said alike. (alike-stands old.seen image state alike.0 holds, alike.1))
 
--- an image whose gate is open before no record stands for nothing
+-- an image of the pages that a disk stands for stands for the disk's state
+pub pages-stand : (old image : Image) (state : Contents) → StandsFor image (applied old) → Stands old state → Stands image state
+pages-stand old image state are = alike-stands old image state (λ pages stands. (are.0, stands.1 ∙ are.1))
+
+-- and every image of a checkpoint does
+pub settling-leaves : (old new : World) (state : Contents) → HoldsState old state → LeavesOnly old new (LeavesPages (applied old.seen) old) → LeavesOnly old new (LeavesState state old)
+settling-leaves old new state holds leaves = within leaves (λ image said left. (pages-stand old.seen image state left.0 holds, left.1))
+
+-- a record has no field that breaks its form
+no-fault : (journal : ℕ → ℕ) (at fault : ℕ) → IsRecordAt journal at → IsFirstFault journal at fault → ⊥
+no-fault journal at fault record_at = ⊎_elim
+    (λ count. ⊎_elim
+    (λ (none : (batch_at journal at).count ≡ 0). (let some = record_at.some in omega (arith, some, none)))
+    (λ (past : 2 ^ 48 ≤ next_gate journal at + 1). (let fits = record_at.fits in omega (arith, fits, past)))
+    count.1)
+    (λ falls. (let up = record_at.ascending falls.0 falls.1 in let down = falls.5 in omega (arith, up, down)))
+
+-- an image of a bad journal stands for nothing
 pub bad-none : (image : Image) (at : ℕ) → IsBad image at → StandsForNone image
 bad-none image at bad state stands = ⊎_elim
-    (λ closed. bad.0 closed.0)
-    (λ opened. ⊎_elim
-    (λ (none : (at ≡ 1) × ((batch_in (image Journal)).count ≡ 0)). (let some = opened.1.some in let no = none.1 in omega (arith, some, no)))
-    (⊎_elim
-    (λ falls. (let up = opened.1.ascending falls.0 falls.1 in let down = falls.4 in omega (arith, up, down)))
-    (λ last. last.3 (ap (image Journal) last.1 ∙ opened.1.closed)))
-    bad.1) stands.holds.stands
+    (λ (before : bad.count < record_count (image Journal)). no-fault (image Journal) (gate_of (image Journal) bad.count) at (journal.records bad.count before) bad.first)
+    (λ (behind : record_count (image Journal) ≤ bad.count). ⊎_elim
+    (λ (past : record_count (image Journal) < bad.count). (bad.records (record_count (image Journal)) past).open_gate journal.closed)
+    (λ (most : bad.count ≤ record_count (image Journal)). bad.open_gate (ap (λ n. image Journal (gate_of (image Journal) n)) (omega (arith, behind, most)) ∙ journal.closed))
+    (cases_lt (record_count (image Journal)) bad.count))
+    (cases_lt bad.count (record_count (image Journal)))
+  where
+    journal : IsJournal (image Journal)
+    journal = stands.holds.stands.0

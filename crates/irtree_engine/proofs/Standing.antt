@@ -1,9 +1,9 @@
 -- What the pages of a store that is committed stand for.
-use Rattle.std.proofs.Common.{◌≡◌, ℕ, Bool, true, false, List, [], ◌∷◌, length, Option, Some, None, IsSome, eq-eqb, ◌||◌, inl, refl, sym, ap, subst, ◌∙◌, arith, nat_lt, ◌==◌}
+use Rattle.std.proofs.Common.{◌≡◌, ℕ, Bool, true, false, List, [], ◌∷◌, length, Option, Some, None, IsSome, eq-eqb, ◌||◌, refl, sym, ap, subst, ◌∙◌, arith, nat_lt, ◌==◌}
 use Rattle.std.proofs.lemmas.Bool.{ne_eqb, lt-ltb}
 use Rattle.std.specs.List.{AllByRecursion}
 use Rattle.disk_model.specs.World.{World}
-use Rattle.disk_model.specs.declared.disk.Area.TheVariants.{Pages}
+use Rattle.page_journal.specs.Record.{applied}
 use Rattle.page_store.specs.declared.superblock.Superblock.{Superblock}
 use Rattle.page_store.specs.Contents.{Contents, Overlay, IsCommitted, IsSized, contents_in, contents_of, counted_pages, first_of, page_bytes, page_in, shown}
 use Rattle.page_store.proofs.Bytes.{length-page_bytes}
@@ -33,14 +33,14 @@ use Rattle.store_meaning.specs.Stands.{PagesStand, Stands, tables_in}
 use Rattle.store_meaning.proofs.Images.{area-one}
 
 -- where nothing waits to be committed, the pages stand for what the image stands for
-pub committed-stand : (tells : Bool) (world : World) (overlay : Overlay) (current last : Superblock) (state : states.Contents) → tells ≡ true → overlay.entries ≡ [] → current ≡ last → IsCommitted last world → Stands world.seen state
-    → PagesStand current (counted_pages current.counted (shown tells (world.seen Pages) overlay)) state
-committed-stand tells world overlay current last state told none settled committed stands =
-    let area = area-one world.seen stands.holds.area (world.seen Pages) stands.holds.stands (inl (committed.closed, refl)) in
-    let is : stands.contents ≡ contents_of (world.seen Pages) overlay last =
-    sym stands.holds.holds ∙ ap contents_in area ∙ sym (cleared_contents overlay (world.seen Pages) last none committed.head) in
-    subst (λ (b : Superblock). PagesStand b (counted_pages b.counted (shown tells (world.seen Pages) overlay)) state) (sym settled)
-    (subst (λ (b : Bool). PagesStand last (counted_pages last.counted (shown b (world.seen Pages) overlay)) state) (sym told)
+pub committed-stand : (tells : Bool) (world : World) (overlay : Overlay) (current last : Superblock) (end : ℕ) (state : states.Contents) → tells ≡ true → overlay.entries ≡ [] → current ≡ last → IsCommitted last end world → Stands world.seen state
+    → PagesStand current (counted_pages current.counted (shown tells (applied world.seen) overlay)) state
+committed-stand tells world overlay current last end state told none settled committed stands =
+    let area = area-one world.seen stands.holds.area (applied world.seen) stands.holds.stands (committed.ready.journal, refl) in
+    let is : stands.contents ≡ contents_of (applied world.seen) overlay last =
+    sym stands.holds.holds ∙ ap contents_in area ∙ sym (cleared_contents overlay (applied world.seen) last none committed.head) in
+    subst (λ (b : Superblock). PagesStand b (counted_pages b.counted (shown tells (applied world.seen) overlay)) state) (sym settled)
+    (subst (λ (b : Bool). PagesStand last (counted_pages last.counted (shown b (applied world.seen) overlay)) state) (sym told)
     (subst (λ (c : Contents). PagesStand c.block c.pages state) is stands.stand))
 
 -- each counted page of a store is told
@@ -57,11 +57,11 @@ store-told tells area overlay count told sized n some lt =
 
 -- each page that the tables use is counted
 pub stand-counted : {block : Superblock} {pages : PageMap} {state : states.Contents} → (stand : PagesStand block pages state) → AreCounted (table_uses pages (tables_in block.head)) block.counted
-stand-counted {block} {pages} stand = apart-counted (view pages block.counted block.first_free stand.free) (tables_in block.head) stand.apart
+stand-counted {block} {pages} stand = apart-counted (view pages block.counted block.first_free stand.tables.free) (tables_in block.head) stand.tables.apart
 
 -- each number of each place has a word
 pub stand-known : {block : Superblock} {pages : PageMap} {state : states.Contents} → (stand : PagesStand block pages state) → AreAllKnown stand.entries.numbers stand.entries.places
-stand-known {block} stand = all stand.entries.places (known-each stand.entries block.head.next_word stand.sound.words)
+stand-known {block} stand = all stand.entries.places (known-each stand.entries block.head.next_word stand.tables.sound.words)
   where
     one : (numbers : List (ℕ × Counted)) (pairs : List Pair) → ((n : ℕ) → has_pair n pairs ≡ true → IsSome (word_of_number n numbers)) → AreKnown numbers pairs
     one numbers [] known = tt

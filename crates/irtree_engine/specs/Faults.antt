@@ -33,3 +33,9 @@ abbrev pub IsOwnFault : EngineFault → Type 0
 IsOwnFault (Damaged damage) = Unit {0}
 IsOwnFault Memory = Unit {0}
 IsOwnFault _ = ⊥
+
+-- what settling may be refused for
+abbrev pub IsSettleFault : EngineFault → Type 0
+IsSettleFault Disk = Unit {0}
+IsSettleFault Stopped = Unit {0}
+IsSettleFault _ = ⊥

@@ -1,5 +1,7 @@
 pub mod Changes
+pub mod Damages
 pub mod Faults
 pub mod Holding
 pub mod Listing
+pub mod Opening
 pub mod Updates

@@ -1,11 +1,13 @@
 //! What a query is answered.
-ghost use Rattle.std.specs.Prelude.{◌≡◌, ◌≤◌, ◌<◌, ◌^◌, length, IsTrue, IfOk, IfErr, IsErrOf, ◌↔◌};
+ghost use Rattle.std.specs.Prelude.{◌≡◌, ◌≤◌, ◌<◌, ◌^◌, length, IsTrue, IfOk, IfErr, IsErrOf, ◌↔◌, []};
 ghost use Rattle.disk_model.specs.World.{Rose};
-ghost use Rattle.page_store.specs.Store.{Rests};
+ghost use Rattle.page_store.specs.Store.{Rests, ReadsOnly};
 ghost use Rattle.place_map.specs.Answer.{answer_of};
 ghost use Rattle.place_map.specs.Query.{IsWithinLimits};
 ghost use Rattle.place_map.specs.Restored.{AreStatePlaces, places_in};
 ghost use Rattle.place_map.specs.State.{Contents};
+ghost use Rattle.store_meaning.specs.Stands.{tables_in};
+ghost use Rattle.irtree_engine.specs.Damages.{IsListedDamage, miscount};
 ghost use Rattle.irtree_engine.specs.Holding.{HoldsState};
 ghost use Rattle.irtree_engine.specs.Faults.{IsReadFault, IsOwnFault};
 
@@ -14,7 +16,8 @@ use crate::fault::broken_by_head;
 use crate::places::list_places;
 use crate::{Engine, EngineFault};
 use disk_model::Station;
-use page_face::{Damage, Head, Rule};
+use page_face::{Damage, Head, Pages, Rule};
+use page_store::Store;
 use place_map::{Answer, Query, State};
 use spatial_base::{Key, Point};
 use std::alloc::Global;
@@ -33,6 +36,10 @@ impl<'d, D: Station> Engine<'d, D> {
             → IfOk result (λ answer. answer ≡ answer_of state query.now) }
         ensures honest { IsTrue D.tells → (state : Contents) → HoldsState (D.world self.old.store.disk.now) state
             → (damage : Damage) → ¬ IsErrOf result (EngineFault.Damaged damage) }
+
+        // The table or the words by number break a rule, as reads give them, or page 0 counts other places.
+        ensures damaged { IsTrue D.tells → (damage : Damage) → IsErrOf result (EngineFault.Damaged damage)
+            → IsListedDamage (⟦<Store<'d, D> as Pages>⟧.pages self.old.store) self.old.store.current.counted (tables_in self.old.store.current.head) damage }
         ensures stopped { IsErrOf result EngineFault.Stopped ↔ IsTrue self.old.stopped }
         ensures causes { IfErr result IsReadFault }
         ensures disk { IsErrOf result EngineFault.Disk → Rose (D.world self.old.store.disk.now).faults (D.world self.new.store.disk.now).faults }
@@ -43,7 +50,13 @@ impl<'d, D: Station> Engine<'d, D> {
         ensures refused { self.new.store.refused ≡ self.old.store.refused }
         ensures room { D.room_of self.new.store.disk.now ≡ D.room_of self.old.store.disk.now }
         ensures goes_on { self.new.stopped ≡ self.old.stopped }
+        ensures head { self.new.store.current ≡ self.old.store.current }
+
+        // Each read of the device is of a page in the log.
+        ensures log { IsTrue D.tells → ReadsOnly self.new.store.asked.items (D.world self.old.store.disk.now) (D.world self.new.store.disk.now) }
+        ensures emptied { IsErrOf result EngineFault.Stopped → self.new.store.asked.items ≡ [] }
     {
+        self.store.clear_log();
         if self.stopped {
             return Err(EngineFault::Stopped);
         }
@@ -64,6 +77,7 @@ fn answer_over(
     requires few { length rows.items < 2 ^ 32 }
     ensures answered { IfOk result (λ answer. answer ≡ answer_of (record { places = places_in rows.items; serial = head.now.serial; number = head.now.number }) query.now) }
     ensures honest { AreStatePlaces rows.items head.now.serial head.now.number → (damage : Damage) → ¬ IsErrOf result (EngineFault.Damaged damage) }
+    ensures damaged { (damage : Damage) → IsErrOf result (EngineFault.Damaged damage) → damage ≡ miscount }
     ensures causes { IfErr result IsOwnFault }
 {
     match State::with_places(alloc, head.serial, head.number, rows) {

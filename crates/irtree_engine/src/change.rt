@@ -14,11 +14,11 @@ use crate::EngineFault;
 use crate::fault::broken_by_head;
 use page_face::{Head, Pages, Rule};
 use place_map::{Applied, NUMBER_MAX, PLACES_MAX, Update};
+use place_updates::{put_place, remove_place};
 use spatial_base::{Key, Point};
 use std::alloc::Global;
 use store_rows::PAIRS_MAX;
 use store_tables::Tables;
-use place_updates::{put_place, remove_place};
 use term_impacts::Words;
 
 /// Changes the tables and page 0's fields by one update. A key that a Put names is a text key.
@@ -78,6 +78,7 @@ pub(crate) fn update_all<P: Pages>(
         → ((p : P) → AreTold (P.pages p) (P.count p)) → IfErr result (IsDueTo (state_after_all state updates.now)) }
     ensures limits { IfErr result (IsAtLimit (head.old.live + length updates.now) (head.old.number + length updates.now)) }
     ensures causes { IfErr result IsUpdateFault }
+    ensures one_more_each { (head.new.live ≤ head.old.live + length updates.now) × (head.new.number ≤ head.old.number + length updates.now) }
     ensures disk { IsErrOf result EngineFault.Disk → Rose (P.faults pages.old) (P.faults pages.new) }
     ensures no_room { IsErrOf result EngineFault.NoRoom → Rose (P.refused pages.old) (P.refused pages.new) }
     ensures stopped { IsErrOf result EngineFault.Stopped → IsTrue (P.is_stopped pages.old) }

@@ -1,16 +1,16 @@
 //! The engine, its count, and what it says.
-ghost use Rattle.std.specs.Prelude.{◌≡◌, ◌≤◌, ◌<◌, ◌+◌, false, IsTrue, IfOk, IfErr, IsErrOf, ◌↔◌, ℕ, [], length};
-ghost use Rattle.disk_model.specs.World.{LeavesOnly, HasSaid, HasSinkCause};
+ghost use Rattle.std.specs.Prelude.{◌≡◌, ◌≢◌, ◌≤◌, ◌<◌, ◌+◌, true, false, IsTrue, IfOk, IfErr, OnOk, OnErr, IsErrOf, ◌↔◌, ℕ, [], length};
+ghost use Rattle.disk_model.specs.World.{LeavesOnly, HasSaid, HasSinkCause, Rose};
 ghost use Rattle.page_journal.specs.Record.{IsBad};
 ghost use Rattle.page_store.specs.Contents.{IsCommitted};
 ghost use Rattle.page_store.specs.Opening.{SaysNothingReadsHead, head_damage};
 ghost use Rattle.place_map.specs.State.{Contents};
 ghost use Rattle.irtree_engine.specs.Holding.{HasBrokenHead, HoldsState, IsForeign, LeavesState, StandsForNone};
-ghost use Rattle.irtree_engine.specs.Faults.{IsOpenFault};
+ghost use Rattle.irtree_engine.specs.Faults.{IsOpenFault, IsSettleFault};
 
 use crate::{EngineFault, recover_superblock};
 use disk_model::{Failed, Station};
-use page_face::Damage;
+use page_face::{Damage, PageFault};
 use page_store::{Store, Superblock};
 use std::alloc::Global;
 
@@ -31,8 +31,8 @@ pub struct Engine<'d, D: Station> {
 impl<'d, D: Station> Engine<'d, D> {
     /// Recovers the journal and reads page 0. `cache` is the number of pages that a cache may hold; there is none yet.
     ///
-    /// Refuses as [`recover_superblock`] does, and costs as much. After a refusal the image stands for the same state as before, where it stood
-    /// for one.
+    /// Refuses as [`recover_superblock`] does, and costs as much. The contract of [`recover_superblock`] says what a refusal leaves: a
+    /// journal that is bad is left alone, and a store that is refused is recovered, and nothing else of it is written.
     pub fn open(alloc: Global, disk: &'d mut D, _cache: u32) -> Result<Engine<'d, D>, EngineFault>
         ensures same_loan { IfOk result (λ engine. engine.store.disk.ghost_name ≡ disk.entry.ghost_name) }
         ensures holds { IsTrue D.tells → (state : Contents) → HoldsState (D.world disk.old) state → IfOk result (λ engine. HoldsState (D.world engine.store.disk.now) state) }
@@ -61,7 +61,7 @@ impl<'d, D: Station> Engine<'d, D> {
     /// The engine over a disk that [`recover_superblock`] has answered this superblock of. Makes no call of the disk.
     pub fn over(alloc: Global, disk: &'d mut D, block: Superblock) -> Engine<'d, D>
         requires in_range { block.first_free < block.counted }
-        requires committed { IsTrue D.tells → IsCommitted block (D.world disk.old) }
+        requires committed { IsTrue D.tells → IsCommitted block 0 (D.world disk.old) }
         ensures same_loan { result.store.disk.ghost_name ≡ disk.entry.ghost_name }
         ensures disk { result.store.disk.now ≡ disk.old }
         ensures block { result.store.last ≡ block }
@@ -104,21 +104,63 @@ impl<'d, D: Station> Engine<'d, D> {
         ensures cause { HasSinkCause (D.world self.old.store.disk.now) (D.world self.new.store.disk.now) result }
         ensures room { D.room_of self.new.store.disk.now ≡ D.room_of self.old.store.disk.now }
         ensures goes_on { self.new.stopped ≡ self.old.stopped }
+        ensures log { self.new.store.asked.items ≡ self.old.store.asked.items }
+        ensures head { self.new.store.current ≡ self.old.store.current }
     {
-        // What was read for this reply is told: a log of all reads would grow with the run.
-        self.store.clear_log();
         self.store.say(bytes)
     }
 
-    /// Ends the engine. It refuses `Stopped` exactly where an earlier commit of this engine failed, and makes no call of the disk.
-    pub fn close(self) -> Result<(), EngineFault>
-        ensures stopped { IsErrOf result EngineFault.Stopped ↔ IsTrue self.entry.stopped }
-        ensures causes { IfErr result (λ fault. fault ≡ EngineFault.Stopped) }
+    /// The numbers of the pages that the last answer, show, apply or apply_batch asked for, the last one last. Each read of
+    /// the device that an answer or a show makes is of one of these pages. Makes no call of the disk.
+    pub fn read_log(&self) -> &[u32]
+        ensures { result.now ≡ self.now.store.asked.items }
+    {
+        self.store.read_log()
+    }
+
+    /// Brings what the journal holds to its place, and changes no place.
+    ///
+    /// Refuses `Stopped` exactly where an earlier commit of this engine failed, before all else; `Disk`, and then the engine is
+    /// stopped and the store is to be opened again. The image stands for the same state at any moment. Takes no memory. Costs a
+    /// checkpoint: a write for each page of the journal, one of a byte, and two syncs; and no call of the disk if the journal holds no record.
+    pub fn settle(&mut self) -> Result<(), EngineFault>
+        ensures same_loan { self.new.store.disk.ghost_name ≡ self.old.store.disk.ghost_name }
+        ensures holds { IsTrue D.tells → (state : Contents) → HoldsState (D.world self.old.store.disk.now) state → OnOk result (HoldsState (D.world self.new.store.disk.now) state) }
+        ensures any_moment { IsTrue D.tells → (state : Contents) → HoldsState (D.world self.old.store.disk.now) state
+            → LeavesOnly (D.world self.old.store.disk.now) (D.world self.new.store.disk.now) (LeavesState state (D.world self.old.store.disk.now)) }
+        ensures front { OnOk result (self.new.store.end ≡ 0) }
+        ensures stopped { IsErrOf result EngineFault.Stopped ↔ IsTrue self.old.stopped }
+        ensures causes { IfErr result IsSettleFault }
+        ensures disk { IsErrOf result EngineFault.Disk → Rose (D.world self.old.store.disk.now).faults (D.world self.new.store.disk.now).faults }
+
+        ensures stops { IsErrOf result EngineFault.Disk → self.new.stopped ≡ true }
+        ensures goes_on { result ≢ Err EngineFault.Disk → self.new.stopped ≡ self.old.stopped }
+        ensures untouched { result ≢ Err EngineFault.Disk → OnErr result (self.new.store.disk ≡ self.old.store.disk) }
+        ensures silent { IsTrue D.tells → (D.world self.new.store.disk.now).said ≡ (D.world self.old.store.disk.now).said }
+        ensures later { (D.world self.old.store.disk.now).faults ≤ (D.world self.new.store.disk.now).faults }
+        ensures sink { (D.world self.new.store.disk.now).sink_faults ≡ (D.world self.old.store.disk.now).sink_faults }
+        ensures refused { self.new.store.refused ≡ self.old.store.refused }
+        ensures room { D.room_of self.new.store.disk.now ≡ D.room_of self.old.store.disk.now }
+        ensures log { self.new.store.asked.items ≡ self.old.store.asked.items }
+        ensures head { self.new.store.current ≡ self.old.store.current }
     {
         if self.stopped {
-            Err(EngineFault::Stopped)
-        } else {
-            Ok(())
+            return Err(EngineFault::Stopped);
         }
+        match self.store.settle() {
+            Ok(()) => Ok(()),
+            Err(fault) => {
+                self.stopped = fault == PageFault::Disk;
+                Err(EngineFault::from(fault))
+            }
+        }
+    }
+
+    /// Ends the engine. Refuses as [`Engine::settle`] does, and costs as much.
+    pub fn close(mut self) -> Result<(), EngineFault>
+        ensures stopped { IsErrOf result EngineFault.Stopped ↔ IsTrue self.entry.stopped }
+        ensures causes { IfErr result IsSettleFault }
+    {
+        self.settle()
     }
 }

@@ -4,7 +4,8 @@
 //! image stands for (`store_meaning`): [`Engine::show`], [`Engine::count`] and [`Engine::answer`] read that state, and
 //! [`Engine::apply`] and [`Engine::apply_batch`] change it. An update, or a whole batch of them, is stored in one commit. A crash at
 //! any moment of it leaves an image of the state before it or of the one after all of it, and [`Engine::open`], which recovers the
-//! journal, keeps that state.
+//! journal, keeps that state. [`Engine::settle`] brings what the journal holds to its place, and [`Engine::read_log`] names the pages that
+//! the last call asked for.
 //!
 //! After a refusal the map is as before. A commit that fails stops the engine: from then on each call that reads or changes places
 //! answers `Stopped`, and the store is to be opened again.

@@ -6,6 +6,7 @@ ghost use Rattle.page_store.specs.Opening.{IsOpened, SaysNothingReadsHead, HasOp
 ghost use Rattle.place_map.specs.State.{Contents};
 ghost use Rattle.irtree_engine.specs.Holding.{HasBrokenHead, HoldsState, IsForeign, LeavesState, StandsForNone};
 ghost use Rattle.irtree_engine.specs.Faults.{IsOpenFault};
+ghost use Rattle.irtree_engine.specs.Opening.{LeavesRefused};
 
 use crate::EngineFault;
 use disk_model::Disk;
@@ -14,8 +15,8 @@ use page_store::{OpenFault, Superblock};
 
 /// Recovers the journal and reads page 0.
 ///
-/// Refuses `Disk`; `BadJournal`, then nothing was written; `NotAStore`; `Damaged` with the rule Head at page 0. Takes no
-/// memory. Costs a recovery, and one page read.
+/// Refuses `Disk`; `BadJournal`, and then nothing was written; `NotAStore`, and `Damaged` with the rule Head at page 0, and then the
+/// journal is recovered and nothing else was written. Takes no memory. Costs a recovery, and one page read.
 pub fn recover_superblock<D: Disk>(disk: &mut D) -> Result<Superblock, EngineFault>
     // The image that reads gave stands for what reads give now, and so does every image of a crash meanwhile.
     ensures opened { IsTrue D.tells → IfOk result (λ block. IsOpened block (D.world disk.old) (D.world disk.new)) }
@@ -23,6 +24,10 @@ pub fn recover_superblock<D: Disk>(disk: &mut D) -> Result<Superblock, EngineFau
     ensures any_moment { IsTrue D.tells → (state : Contents) → HoldsState (D.world disk.old) state
         → LeavesOnly (D.world disk.old) (D.world disk.new) (LeavesState state (D.world disk.old)) }
     ensures in_range { IfOk result (λ block. block.first_free < block.counted) }
+
+    // An image that stands for no state is left alone, too: what it stood for it stands for at any moment.
+    ensures alike { IsTrue D.tells → LeavesOnly (D.world disk.old) (D.world disk.new) (StandsAlike (D.world disk.old)) }
+    ensures left { IsTrue D.tells → IfErr result (λ fault. LeavesRefused fault (D.world disk.old) (D.world disk.new)) }
 
     // Every refusal but Disk says that the image stands for no state, and which rule it breaks.
     ensures not_a_store { IsTrue D.tells → IsErrOf result EngineFault.NotAStore → StandsForNone (D.world disk.old).seen }

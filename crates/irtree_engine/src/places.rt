@@ -7,19 +7,20 @@ ghost use Rattle.paged_map.specs.Maps.{AreCounted};
 ghost use Rattle.store_tables.specs.Entries.{Entries, place_after};
 ghost use Rattle.store_tables.specs.Holding.{Holds, table_uses};
 ghost use Rattle.place_updates.specs.Known.{AreAllKnown};
+ghost use Rattle.irtree_engine.specs.Damages.{IsListedDamage, miscount};
 ghost use Rattle.irtree_engine.specs.Listing.{row_of, rows_of};
 
 use crate::fault::broken_by_head;
 use page_face::{Damage, PageFault, Pages, Rule};
+use place_updates::words_of;
 use spatial_base::{Key, Point};
 use std::alloc::Global;
 use store_tables::Tables;
-use place_updates::words_of;
 use term_impacts::Words;
 
 // The fault of a number of live places that isn't that of the place table.
 fn miscounted() -> PageFault
-    ensures { result ≡ PageFault.Damaged (record { page = 0; rule = Rule.Counts }) }
+    ensures { result ≡ PageFault.Damaged miscount }
 {
     PageFault::Damaged(broken_by_head(Rule::Counts))
 }
@@ -37,6 +38,8 @@ fn next_row<P: Pages>(
         → AreAllKnown entries.numbers entries.places
         → AreTold (P.pages pages.old) (P.count pages.old) → AreCounted (table_uses (P.pages pages.old) tables.now) (P.count pages.old)
         → (damage : Damage) → ¬ IsErrOf result (PageFault.Damaged damage) }
+    ensures damaged { AreTold (P.pages pages.old) (P.count pages.old)
+        → (damage : Damage) → IsErrOf result (PageFault.Damaged damage) → IsListedDamage (P.pages pages.old) (P.count pages.old) tables.now damage }
     ensures disk { IsErrOf result PageFault.Disk → Rose (P.faults pages.old) (P.faults pages.new) }
     ensures room_left { result ≢ Err PageFault.NoRoom }
     ensures stopped { IsErrOf result PageFault.Stopped → IsTrue (P.is_stopped pages.old) }
@@ -75,6 +78,8 @@ pub(crate) fn list_places<P: Pages>(
         → AreAllKnown entries.numbers entries.places
         → AreTold (P.pages pages.old) (P.count pages.old) → AreCounted (table_uses (P.pages pages.old) tables.now) (P.count pages.old)
         → (damage : Damage) → ¬ IsErrOf result (PageFault.Damaged damage) }
+    ensures damaged { AreTold (P.pages pages.old) (P.count pages.old)
+        → (damage : Damage) → IsErrOf result (PageFault.Damaged damage) → IsListedDamage (P.pages pages.old) (P.count pages.old) tables.now damage }
     ensures disk { IsErrOf result PageFault.Disk → Rose (P.faults pages.old) (P.faults pages.new) }
     ensures room_left { result ≢ Err PageFault.NoRoom }
     ensures stopped { IsErrOf result PageFault.Stopped → IsTrue (P.is_stopped pages.old) }

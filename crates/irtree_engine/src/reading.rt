@@ -1,18 +1,21 @@
 //! What lives at a key.
-ghost use Rattle.std.specs.Prelude.{◌≡◌, ◌≤◌, IsTrue, IfOk, IfErr, IsErrOf, ◌↔◌};
+ghost use Rattle.std.specs.Prelude.{◌≡◌, ◌≤◌, IsTrue, IfOk, IfErr, IsErrOf, ◌↔◌, []};
 ghost use Rattle.disk_model.specs.World.{Rose};
-ghost use Rattle.page_store.specs.Store.{Rests};
+ghost use Rattle.page_store.specs.Store.{Rests, ReadsOnly};
 ghost use Rattle.place_map.specs.State.{Contents, place_at};
+ghost use Rattle.store_meaning.specs.Stands.{tables_in};
+ghost use Rattle.irtree_engine.specs.Damages.{IsShownDamage};
 ghost use Rattle.irtree_engine.specs.Holding.{HoldsState};
 ghost use Rattle.irtree_engine.specs.Faults.{IsReadFault};
 
 use crate::change::tables_of;
 use crate::{Engine, EngineFault};
 use disk_model::Station;
-use page_face::Damage;
+use page_face::{Damage, Pages};
+use page_store::Store;
 use place_map::Place;
-use spatial_base::Key;
 use place_updates::place_at;
+use spatial_base::Key;
 
 impl<'d, D: Station> Engine<'d, D> {
     /// The place at a key, and `None` where none lives there.
@@ -25,6 +28,10 @@ impl<'d, D: Station> Engine<'d, D> {
             → IfOk result (λ shown. shown ≡ place_at key.now state.places) }
         ensures honest { IsTrue D.tells → (state : Contents) → HoldsState (D.world self.old.store.disk.now) state
             → (damage : Damage) → ¬ IsErrOf result (EngineFault.Damaged damage) }
+
+        // The table or the words by number break a rule there, as reads give them.
+        ensures damaged { IsTrue D.tells → (damage : Damage) → IsErrOf result (EngineFault.Damaged damage)
+            → IsShownDamage (⟦<Store<'d, D> as Pages>⟧.pages self.old.store) self.old.store.current.counted (tables_in self.old.store.current.head) key.now damage }
         ensures stopped { IsErrOf result EngineFault.Stopped ↔ IsTrue self.old.stopped }
         ensures causes { IfErr result IsReadFault }
         ensures disk { IsErrOf result EngineFault.Disk → Rose (D.world self.old.store.disk.now).faults (D.world self.new.store.disk.now).faults }
@@ -34,7 +41,13 @@ impl<'d, D: Station> Engine<'d, D> {
         ensures sink { (D.world self.new.store.disk.now).sink_faults ≡ (D.world self.old.store.disk.now).sink_faults }
         ensures room { D.room_of self.new.store.disk.now ≡ D.room_of self.old.store.disk.now }
         ensures goes_on { self.new.stopped ≡ self.old.stopped }
+        ensures head { self.new.store.current ≡ self.old.store.current }
+
+        // Each read of the device is of a page in the log.
+        ensures log { IsTrue D.tells → ReadsOnly self.new.store.asked.items (D.world self.old.store.disk.now) (D.world self.new.store.disk.now) }
+        ensures emptied { IsErrOf result EngineFault.Stopped → self.new.store.asked.items ≡ [] }
     {
+        self.store.clear_log();
         if self.stopped {
             return Err(EngineFault::Stopped);
         }

@@ -80,7 +80,9 @@ fn a_stored_place_is_shown_with_its_words(rt: HostRuntime) -> Result<(), Fail> {
     assert_eq!(rt; pairs[0].0.text(), "café");
     assert_eq!(rt; pairs[0].1, 9);
     assert!(rt; engine.show(&key("b")?)?.is_none());
+    assert_eq!(rt; engine.read_log().len(), 1);
     assert_eq!(rt; engine.say(b"ok"), Ok(2));
+    assert_eq!(rt; engine.read_log().len(), 1);
     assert_eq!(rt; engine.close(), Ok(()));
     Ok(())
 }
@@ -112,6 +114,7 @@ fn what_was_applied_stands_after_reopening(rt: HostRuntime) -> Result<(), Fail> 
         Update::Remove { key: key("a")? },
     ];
     assert_eq!(rt; engine.apply_batch(&batch), Ok(()));
+    assert_eq!(rt; engine.settle(), Ok(()));
     let _loan = engine.into_disk();
     let mut engine = Engine::open(rt.alloc(), &mut station, 0)?;
     assert_eq!(rt; engine.count(), 1);

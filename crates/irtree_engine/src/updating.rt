@@ -1,5 +1,5 @@
 //! Updates, each in one commit.
-ghost use Rattle.std.specs.Prelude.{◌≡◌, ◌≢◌, ◌↔◌, ◌≤◌, ◌+◌, Ok, IsTrue, true, false, [], IfOk, IfErr, OnOk, OnErr, IsErrOf, length};
+ghost use Rattle.std.specs.Prelude.{◌≡◌, ◌≢◌, ◌⊎◌, ◌↔◌, ◌≤◌, ◌+◌, Ok, IsTrue, true, false, [], IfOk, IfErr, OnOk, OnErr, IsErrOf, length};
 ghost use Rattle.std.specs.List.{AllByRecursion};
 ghost use Rattle.disk_model.specs.World.{LeavesOnly};
 ghost use Rattle.disk_model.specs.World as worlds;
@@ -28,7 +28,8 @@ impl<'d, D: Station> Engine<'d, D> {
     /// before.
     ///
     /// Costs a look-up of the key, a put or a removal in the place table, for each word that the update changes a look-up and a
-    /// put in the tables of words, and one commit of the pages that changed: four syncs.
+    /// put in the tables of words, and one commit of the pages that changed: two writes and two syncs. From time to time a checkpoint comes
+    /// first, which writes each page of the journal to its place, with two syncs more.
     pub fn apply(&mut self, update: &Update) -> Result<Applied, EngineFault>
         requires { NamesText update.now }
         ensures same_loan { self.new.store.disk.ghost_name ≡ self.old.store.disk.ghost_name }
@@ -54,7 +55,10 @@ impl<'d, D: Station> Engine<'d, D> {
         ensures sink { (D.world self.new.store.disk.now).sink_faults ≡ (D.world self.old.store.disk.now).sink_faults }
         ensures refused { self.old.store.refused ≤ self.new.store.refused }
         ensures room { D.room_of self.new.store.disk.now ≡ D.room_of self.old.store.disk.now }
+        ensures rises { (self.new.store.current.head.live ≤ self.old.store.current.head.live + 1) × (self.new.store.current.head.number ≤ self.old.store.current.head.number + 1) }
+        ensures emptied { IsErrOf result EngineFault.Stopped → self.new.store.asked.items ≡ [] }
     {
+        self.store.clear_log();
         if self.stopped {
             return Err(EngineFault::Stopped);
         }
@@ -102,7 +106,10 @@ impl<'d, D: Station> Engine<'d, D> {
         ensures sink { (D.world self.new.store.disk.now).sink_faults ≡ (D.world self.old.store.disk.now).sink_faults }
         ensures refused { self.old.store.refused ≤ self.new.store.refused }
         ensures room { D.room_of self.new.store.disk.now ≡ D.room_of self.old.store.disk.now }
+        ensures rises { (self.new.store.current.head.live ≤ self.old.store.current.head.live + length updates.now) × (self.new.store.current.head.number ≤ self.old.store.current.head.number + length updates.now) }
+        ensures emptied { IsErrOf result EngineFault.Stopped → self.new.store.asked.items ≡ [] }
     {
+        self.store.clear_log();
         if self.stopped {
             return Err(EngineFault::Stopped);
         }
@@ -145,6 +152,7 @@ fn commit<'d, D: Station>(
     ensures sink { (D.world store.new.disk.now).sink_faults ≡ (D.world store.old.disk.now).sink_faults }
     ensures refused { store.new.refused ≡ store.old.refused }
     ensures room { D.room_of store.new.disk.now ≡ D.room_of store.old.disk.now }
+    ensures new_head { (store.new.current.head ≡ head.now) ⊎ (store.new.current.head ≡ store.old.last.head) }
 {
     if head.number == store.head().number {
         store.abandon();

@@ -1,7 +1,7 @@
 //! What is found after a crash.
-use crate::runs::{ROOM, RUN, load_on, plan, run_on};
-use disk_model::{Area, CallKind, Disk, MemoryStation, Tear};
-use irtree_top::Ended;
+use crate::runs::{ROOM, RUN, bytes_of, load_on, plan, run_on};
+use disk_model::{Area, CallKind, MemoryStation, Tear};
+use irtree_top::{Ended, StoreFault};
 use std::alloc::Global;
 use std::test::Fail;
 
@@ -211,18 +211,6 @@ fn a_crash_in_a_load_leaves_whole_batches(rt: HostRuntime) -> Result<(), Fail> {
     Ok(())
 }
 
-// Bytes of an area.
-fn bytes_of(
-    alloc: Global,
-    station: &mut MemoryStation,
-    area: Area,
-    len: u32,
-) -> Result<Vec<u8>, Fail> {
-    let mut bytes = vec![in alloc; 0; len as usize]?;
-    station.read(area, 0, &mut bytes).map_err(|_| "not read")?;
-    Ok(bytes)
-}
-
 #[test]
 fn a_journal_that_is_cut_off_is_applied_or_refused(rt: HostRuntime) -> Result<(), Fail> {
     // The calls until the gate is open and safe: it is open for the first time where the journal's first byte is 1.
@@ -239,11 +227,16 @@ fn a_journal_that_is_cut_off_is_applied_or_refused(rt: HostRuntime) -> Result<()
         for cut in 0..64 {
             let len = (cut * 512).min(journal.len());
             let mut opened = MemoryStation::with_image(rt.alloc(), &pages, &journal[..len], ROOM)?;
+            let cut_off = bytes_of(rt.alloc(), &mut opened, Area::Journal, 32_768)?;
             let ended = run_on(rt.alloc(), &RUN, b"count\n", 100, &mut opened)?;
             let said = opened.said();
             let is_whole = ended == Ended::Done
                 && (said == b"count 1\n".as_slice() || said == b"count 2\n".as_slice());
             assert!(rt; is_whole || ended.status() == 7, "cut at {len}");
+            if let Ended::Store(StoreFault::BadJournal(_)) = ended {
+                assert!(rt; bytes_of(rt.alloc(), &mut opened, Area::Pages, 65_536)? == pages);
+                assert!(rt; bytes_of(rt.alloc(), &mut opened, Area::Journal, 32_768)? == cut_off);
+            }
         }
         return Ok(());
     }

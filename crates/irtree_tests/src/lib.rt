@@ -4,6 +4,8 @@
 #[cfg(test)]
 mod crash_tests;
 #[cfg(test)]
+mod damage_tests;
+#[cfg(test)]
 mod language_tests;
 #[cfg(test)]
 mod load_tests;

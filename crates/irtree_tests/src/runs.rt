@@ -1,5 +1,7 @@
 //! Runs over stations in memory.
-use disk_model::{CallKind, Fail as Planned, MemorySource, MemoryStation, Source, Station};
+use disk_model::{
+    Area, CallKind, Disk, Fail as Planned, MemorySource, MemoryStation, Source, Station,
+};
 use irtree_engine::Engine;
 use irtree_top::{Ended, run};
 use load_run::run_load;
@@ -85,4 +87,16 @@ pub(crate) fn run_with<T: Station>(
 ) -> Result<Ended, Fail> {
     let mut source = MemorySource::new(alloc, input, 65_536, &[]).map_err(|_| "memory")?;
     Ok(run(alloc, &words(alloc, given)?, &mut source, station))
+}
+
+/// The first bytes of an area.
+pub(crate) fn bytes_of(
+    alloc: Global,
+    station: &mut MemoryStation,
+    area: Area,
+    len: u32,
+) -> Result<Vec<u8>, Fail> {
+    let mut bytes = vec![in alloc; 0; len as usize]?;
+    station.read(area, 0, &mut bytes).map_err(|_| "not read")?;
+    Ok(bytes)
 }

@@ -1,6 +1,6 @@
 //! What a store keeps from one run to the next.
 use crate::load_tests::FOUR;
-use crate::runs::{LOAD, ROOM, RUN, plan, run_on};
+use crate::runs::{LOAD, ROOM, RUN, bytes_of, plan, run_on};
 use disk_model::{Area, CallKind, Disk, MemoryStation, Tear};
 use irtree_top::{Ended, LimitFault, StoreFault};
 use std::alloc::Global;
@@ -35,11 +35,17 @@ fn a_script_asks_for_what_a_load_stored(rt: HostRuntime) -> Result<(), Fail> {
 
 #[test]
 fn other_bytes_are_no_store(rt: HostRuntime) -> Result<(), Fail> {
-    let mut station = MemoryStation::with_image(rt.alloc(), &[120; 4096], b"", ROOM)?;
-    let ended = run_on(rt.alloc(), &RUN, b"count\n", 100, &mut station)?;
-    assert!(rt; ended == Ended::Store(StoreFault::NotAStore));
-    assert_eq!(rt; ended.status(), 7);
-    assert!(rt; station.said().is_empty());
+    for given in [&RUN, &LOAD] {
+        let mut station = MemoryStation::with_image(rt.alloc(), &[120; 4096], &[0, 7], ROOM)?;
+        let pages = bytes_of(rt.alloc(), &mut station, Area::Pages, 8192)?;
+        let journal = bytes_of(rt.alloc(), &mut station, Area::Journal, 8192)?;
+        let ended = run_on(rt.alloc(), given, b"count\n", 100, &mut station)?;
+        assert!(rt; ended == Ended::Store(StoreFault::NotAStore));
+        assert_eq!(rt; ended.status(), 7);
+        assert!(rt; station.said().is_empty());
+        assert!(rt; bytes_of(rt.alloc(), &mut station, Area::Pages, 8192)? == pages);
+        assert!(rt; bytes_of(rt.alloc(), &mut station, Area::Journal, 8192)? == journal);
+    }
     Ok(())
 }
 
@@ -179,5 +185,20 @@ fn ten_thousand_places_come_and_go_and_leave_all_pages_free(rt: HostRuntime) -> 
             field(&mut station, 0, 8)?
         );
     }
+    Ok(())
+}
+
+// Twenty lines that put a place each.
+static TWENTY: &[u8] =
+    b"add a 1 1 x\nadd b 1 1 x\nadd c 1 1 x\nadd d 1 1 x\nadd e 1 1 x\nadd f 1 1 x\nadd g 1 1 x\nadd h 1 1 x\nadd i 1 1 x\nadd j 1 1 x\nadd k 1 1 x\nadd l 1 1 x\nadd m 1 1 x\nadd n 1 1 x\nadd o 1 1 x\nadd p 1 1 x\nadd q 1 1 x\nadd r 1 1 x\nadd s 1 1 x\nadd t 1 1 x\n";
+
+// Opening makes two syncs, and settling two.
+#[test]
+fn an_update_makes_two_syncs_at_most(rt: HostRuntime) -> Result<(), Fail> {
+    let mut station = MemoryStation::new(rt.alloc(), ROOM);
+    plan(&mut station, CallKind::Sync, 45)?;
+    let ended = run_on(rt.alloc(), &RUN, TWENTY, 100, &mut station)?;
+    assert!(rt; ended == Ended::Done);
+    assert_eq!(rt; station.faults(), (0, 0));
     Ok(())
 }

@@ -6,4 +6,5 @@ pub mod Loads
 pub mod Openings
 pub mod Replies
 pub mod Scripts
+pub mod Settled
 pub mod Transcripts

@@ -200,7 +200,7 @@ all-after state (update ∷ updates) puts =
 stands-number : (image : Image) (state : Contents) → Stands image state → state.number ≤ 2 ^ 40
 stands-number image state stands =
     let number : state.number ≡ stands.contents.block.head.number = ap (λ (s : Contents). s.number) stands.stand.is in
-    omega (arith, stands.stand.range.number)
+    omega (arith, stands.stand.tables.range.number)
 
 -- ---- step by step
 

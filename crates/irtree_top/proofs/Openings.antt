@@ -1,21 +1,30 @@
 -- A job behind the opening of its store.
-use Rattle.std.proofs.Common.{◌≡◌, ℕ, ◌≤◌, Bool, List, inl, inr, refl, subst, arith}
-use Rattle.std.specs.Prelude.{Result, Ok, Err, IsTrue}
-use Rattle.disk_model.specs.World.{World, Image, Rose}
+use Rattle.std.proofs.Common.{◌≡◌, ℕ, zero, ◌≤◌, ◌==◌, Bool, false, List, [], ◌∷◌, slice_index, inl, inr, refl, sym, ap, subst, arith}
+use Rattle.std.proofs.lemmas.Bool.{and_left, ne_eqb}
+use Rattle.std.specs.Prelude.{Result, Ok, Err, IfErr, IsTrue}
+use Rattle.disk_model.specs.World.{World, Image, LeavesOnly, LeavesOnlySeen, Rose}
 use Rattle.page_face.specs.declared.fault.Damage.{Damage}
 use Rattle.place_map.specs.State.{Contents}
 use Rattle.irtree_engine.specs.Faults.{IsOpenFault}
 use Rattle.irtree_engine.specs.Holding.{HasBrokenHead, HoldsState, IsForeign, StandsForNone}
+use Rattle.irtree_engine.specs.Opening.{LeavesRefused}
 use Rattle.irtree_engine.specs.declared.fault.EngineFault.{EngineFault}
 use Rattle.irtree_engine.specs.declared.fault.EngineFault.TheVariants as engine
 use Rattle.run_protocol.specs.Causes.{end_of_engine, HasJobEnd, IsJobEnd, IsStoreEnd}
+use Rattle.run_protocol.specs.Load.{ReachesLimit}
+use Rattle.run_protocol.specs.declared.ended.LimitFault.{LimitFault}
 use Rattle.run_protocol.specs.declared.ended.StoreFault.{StoreFault}
 use Rattle.run_protocol.specs.declared.ended.StoreFault.TheVariants as stores
-use Rattle.page_journal.specs.Record.{IsBad}
+use Rattle.page_journal.specs.Record.{IsBad, StandsAlike}
 use Rattle.run_protocol.specs.declared.ended.Ended.{Ended}
 use Rattle.run_protocol.specs.declared.ended.Ended.TheVariants as ends
-use Rattle.page_store.specs.Opening.{head_damage}
-use Rattle.irtree_top.specs.Run.{EndsJob, HasRunEnd, IsBehindOpening, IsBroken, IsOpenable, IsRunEnd}
+use Rattle.page_store.specs.Opening.{IsOpened, head_damage}
+use Rattle.page_store.specs.Contents.{page_bytes}
+use Rattle.page_store.specs.Superblock.{HasMagic, IsStorePage, is_zero}
+use Rattle.page_store.specs.declared.superblock.Superblock.{Superblock}
+use Rattle.store_meaning.proofs.Images.{area-one}
+use Rattle.irtree_top.specs.declared.words.Action.{Action}
+use Rattle.irtree_top.specs.Run.{EndsJob, HasRunEnd, IsLimitReached, IsBehindOpening, IsBroken, IsCompleteEnd, IsLimitOf, IsOpenable, IsRunEnd, LeavesAlone}
 use Rattle.irtree_top.specs.Words.{Asked}
 use Rattle.irtree_top.proofs.Fronts.{none-said}
 
@@ -112,6 +121,104 @@ behind-opening tells source_old source_new old new (ends.Store fault) cause behi
 behind-opening tells source_old source_new old new (ends.Limit fault) cause behind = cause
 behind-opening tells source_old source_new old new ends.Done cause behind = absurd cause
 behind-opening tells source_old source_new old new ends.Words cause behind = absurd cause
+
+-- ---- what the opening leaves
+
+-- the image of a store that was opened
+pub opened-image : (block : Superblock) (old new : World) → IsOpened block old new → IsOpenable old.seen
+opened-image block old new opened = record { area = _; stands = opened.stands; page = opened.page }
+
+-- nothing is pending then
+pub opened-quiet : (block : Superblock) (old new : World) → IsOpened block old new → LeavesOnlySeen new
+opened-quiet block old new opened = opened.committed.ready.safe
+
+-- and a limit that is reached from the numbers of its page 0
+pub opened-limit : (block : Superblock) (old new : World) → IsOpened block old new → (fault : LimitFault) (input : List ℕ) → ReachesLimit fault block.head.live block.head.number input → IsLimitReached fault input old.seen
+opened-limit block old new opened fault input reaches = record {
+  area = _;
+  stands = opened.stands;
+  reaches = subst (λ (b : Superblock). ReachesLimit fault b.head.live b.head.number input) (sym opened.committed.head) reaches;
+}
+
+-- how an opening that is refused ends a run
+abbrev pub IsOpeningEnd : Ended → Type 0
+IsOpeningEnd ends.Disk = Unit {0}
+IsOpeningEnd (ends.Store fault) = Unit {0}
+IsOpeningEnd _ = ⊥
+
+pub opening-end : (fault : EngineFault) → IsOpenFault fault → IsOpeningEnd (end_of_engine fault)
+opening-end engine.Disk opens = tt
+opening-end engine.NotAStore opens = tt
+opening-end (engine.BadJournal at) opens = tt
+opening-end (engine.Damaged damage) opens = tt
+opening-end engine.Full opens = absurd opens
+opening-end engine.Worn opens = absurd opens
+opening-end engine.NoRoom opens = absurd opens
+opening-end engine.Stopped opens = absurd opens
+opening-end engine.Memory opens = absurd opens
+
+-- a store that is refused as it is opened is left alone
+pub refused-alone : (old new : World) (fault : EngineFault) → LeavesRefused fault old new → LeavesOnly old new (StandsAlike old) → new.said ≡ old.said → LeavesAlone (end_of_engine fault) old new
+refused-alone old new engine.Disk left alike said = tt
+refused-alone old new engine.NotAStore left alike said = record { recovered = left; alike = alike; said = said }
+refused-alone old new (engine.BadJournal at) left alike said = left
+refused-alone old new (engine.Damaged damage) left alike said = λ is. record { recovered = left; alike = alike; said = said }
+refused-alone old new engine.Full left alike said = tt
+refused-alone old new engine.Worn left alike said = tt
+refused-alone old new engine.NoRoom left alike said = tt
+refused-alone old new engine.Stopped left alike said = tt
+refused-alone old new engine.Memory left alike said = tt
+
+-- a page that begins with the magic isn't all zero
+magic-filled : (page : List ℕ) → HasMagic page → is_zero page ≡ false
+magic-filled [] is = let first : zero ≡ 73 = ap (λ (l : List ℕ). slice_index l 0) is in absurd (omega arith)
+magic-filled (byte ∷ page) is =
+    let first : byte ≡ 73 = ap (λ (l : List ℕ). slice_index l 0) is in
+    and_left (byte == 0) (is_zero page) (ne_eqb byte 0 (λ zeros. omega arith))
+
+-- a store whose page 0 breaks the rule Head isn't opened
+unopened : (image : Image) → HasBrokenHead image → IsOpenable image → ⊥
+unopened image broken opened =
+    let same : opened.area ≡ broken.area = area-one image opened.area broken.area opened.stands broken.stands in
+    let page : IsStorePage (page_bytes broken.area 0) = subst (λ area. IsStorePage (page_bytes area 0)) same opened.page in
+    broken.broken (page (magic-filled (page_bytes broken.area 0) broken.magic)).1
+
+module _ (old new : World) (opened : IsOpenable old.seen) where
+  -- behind the opening no store is refused for its page 0 or its journal
+  end-alone : (tells : Bool) (source_old source_new : ℕ) (was after : World) (end : Ended) → IsJobEnd tells source_old source_new was after end → LeavesAlone end old new
+  end-alone tells source_old source_new was after ends.Memory cause = tt
+  end-alone tells source_old source_new was after ends.Disk cause = tt
+  end-alone tells source_old source_new was after ends.Source cause = tt
+  end-alone tells source_old source_new was after ends.Sink cause = tt
+  end-alone tells source_old source_new was after (ends.Input fault) cause = tt
+  end-alone tells source_old source_new was after (ends.Limit fault) cause = tt
+  end-alone tells source_old source_new was after (ends.Store (stores.Damaged damage)) cause = λ broken. absurd (unopened old.seen broken opened)
+  end-alone tells source_old source_new was after (ends.Store stores.NotAStore) cause = absurd cause
+  end-alone tells source_old source_new was after (ends.Store (stores.BadJournal at)) cause = absurd cause
+  end-alone tells source_old source_new was after ends.Done cause = tt
+  end-alone tells source_old source_new was after ends.Words cause = tt
+
+  pub job-alone : (T : Type 0) (tells : Bool) (source_old source_new : ℕ) (was after : World) (result : Result T Ended) → HasJobEnd tells source_old source_new was after result → IfErr result (λ end. LeavesAlone end old new)
+  job-alone T tells source_old source_new was after (Ok done) cause = tt
+  job-alone T tells source_old source_new was after (Err end) cause = end-alone tells source_old source_new was after end cause.cause
+
+-- ---- an end by the words
+
+-- Where no count rose and the image stands for a state, a run ends by its words.
+pub complete-end : (tells : Bool) (source_old source_new : ℕ) (old new : World) (action : Action) (state : Contents) → IsTrue tells → HoldsState old state
+    → (Rose source_old source_new → ⊥) → (Rose old.faults new.faults → ⊥) → (Rose old.sink_faults new.sink_faults → ⊥)
+    → (end : Ended) → ((fault : LimitFault) → end ≡ ends.Limit fault → IsLimitOf action fault) → IsRunEnd tells source_old source_new old new end → IsCompleteEnd action end
+complete-end tells source_old source_new old new action state t holds source disk sink ends.Memory limit cause = tt
+complete-end tells source_old source_new old new action state t holds source disk sink ends.Disk limit cause = absurd (disk cause)
+complete-end tells source_old source_new old new action state t holds source disk sink ends.Source limit cause = absurd (source cause.0)
+complete-end tells source_old source_new old new action state t holds source disk sink ends.Sink limit cause = absurd (sink cause.0)
+complete-end tells source_old source_new old new action state t holds source disk sink (ends.Input fault) limit cause = tt
+complete-end tells source_old source_new old new action state t holds source disk sink (ends.Limit fault) limit cause = limit fault refl
+complete-end tells source_old source_new old new action state t holds source disk sink (ends.Store stores.NotAStore) limit cause = absurd ((cause t).0 state holds)
+complete-end tells source_old source_new old new action state t holds source disk sink (ends.Store (stores.BadJournal at)) limit cause = absurd ((cause t).0 state holds)
+complete-end tells source_old source_new old new action state t holds source disk sink (ends.Store (stores.Damaged damage)) limit cause = absurd ((cause t).0 state holds)
+complete-end tells source_old source_new old new action state t holds source disk sink ends.Done limit cause = absurd cause
+complete-end tells source_old source_new old new action state t holds source disk sink ends.Words limit cause = absurd cause
 
 -- what is said of a disk is said of the one that was given back
 pub given-back : {D : Type 0} (P : D → Type 0) (was back : D) → was ≡ back → P was → P back

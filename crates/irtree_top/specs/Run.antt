@@ -1,11 +1,12 @@
 -- What a run of the program promises.
 use Rattle.std.specs.Prelude.{◌≡◌, ◌⊎◌, ◌≤◌, ℕ, List, [], Bool, IsTrue, IfErr, OnOk, Ok, Err, Result}
-use Rattle.disk_model.specs.World.{World, Image, Rose}
+use Rattle.disk_model.specs.World.{World, Image, LeavesOnly, Rose, WritesNothing}
 use Rattle.irtree_engine.specs.Holding.{HasBrokenHead, IsForeign, StandsForNone}
-use Rattle.page_journal.specs.Record.{IsBad, StandsFor}
+use Rattle.irtree_engine.specs.Opening.{IsRecovered}
+use Rattle.page_journal.specs.Record.{IsBad, StandsAlike, StandsFor}
 use Rattle.page_store.specs.Contents.{page_bytes}
 use Rattle.page_store.specs.Opening.{head_damage}
-use Rattle.page_store.specs.Superblock.{IsStorePage}
+use Rattle.page_store.specs.Superblock.{IsStorePage, superblock_in}
 use Rattle.page_face.specs.declared.fault.Damage.{Damage}
 use Rattle.place_map.specs.State.{Contents}
 use Rattle.geojson_points.specs.Takes.{Item}
@@ -13,12 +14,13 @@ use Rattle.irtree_top.specs.Acked.{acked_by_script, acked_by_load}
 use Rattle.irtree_top.specs.Prefix.{HoldsAcked, IsNearInScript, IsNearInLoad}
 use Rattle.load_run.specs.Loading.{SaysNothingYet}
 use Rattle.run_protocol.specs.Left.{StopsAtBatch, StopsAtLine}
-use Rattle.run_protocol.specs.Load.{IsTaken, steps}
+use Rattle.run_protocol.specs.Load.{GivesItems, IsTaken, ReachesLimit, steps}
 use Rattle.run_protocol.specs.Said.{EndsAs, SaysFrontOf}
-use Rattle.run_protocol.specs.Script.{script_lines}
+use Rattle.run_protocol.specs.Script.{FitsScript, IsScriptInput, script_lines}
 use Rattle.run_protocol.specs.Turn.{Transcript, End, Done, Input, Limit}
 use Rattle.run_protocol.specs.declared.ended.Ended.{Ended}
 use Rattle.run_protocol.specs.declared.ended.Ended.TheVariants as ends
+use Rattle.run_protocol.specs.declared.ended.InputFault.{InputFault}
 use Rattle.run_protocol.specs.declared.ended.LimitFault.{LimitFault}
 use Rattle.run_protocol.specs.declared.ended.LimitFault.TheVariants as limits
 use Rattle.run_protocol.specs.declared.ended.StoreFault.{StoreFault}
@@ -124,6 +126,31 @@ pub record HasRunEnd {T : Type 0} (tells : Bool) (source_old source_new : ℕ) (
   pub opened : IsTrue tells → OnOk result (IsOpenable old.seen)
   pub cause : IfErr result (IsRunEnd tells source_old source_new old new)
 
+-- ---- what the input says of an end
+
+-- why an input ends an action: that of a script is too long, and that of a load gives no items, for this cause
+abbrev pub IsInputEnd : Action → List ℕ → InputFault → Type 0
+IsInputEnd Run input fault = IsScriptInput input fault
+IsInputEnd Load input fault = IsTaken input (Err fault)
+
+-- an input that an action takes whole: a script is no longer than it may be, and the text of a load gives items
+abbrev pub IsWholeInput : Action → List ℕ → Type 0
+IsWholeInput Run input = FitsScript input
+IsWholeInput Load input = GivesItems input
+
+-- the limits that end an action: a script ends for want of room alone, since it says the limits of the map and goes on
+abbrev pub IsLimitOf : Action → LimitFault → Type 0
+IsLimitOf Run fault = fault ≡ limits.NoRoom
+IsLimitOf Load fault = Unit {0}
+
+-- The image stands for pages whose page 0 has numbers that reach the limit, with the number of places of the input added.
+pub record IsLimitReached (fault : LimitFault) (input : List ℕ) (image : Image) : Type 0 where
+  pub area : ℕ → ℕ
+  pub stands : StandsFor image area
+  pub reaches : ReachesLimit fault (superblock_in (page_bytes area 0)).head.live (superblock_in (page_bytes area 0)).head.number input
+
+-- ---- which ends there are
+
 -- an end that comes only behind the opening of the store
 abbrev pub IsBehindOpening : Ended → Type 0
 IsBehindOpening ends.Done = Unit {0}
@@ -147,3 +174,32 @@ IsSettled ends.Sink = ⊥
 IsSettled (ends.Input fault) = Unit {0}
 IsSettled (ends.Store fault) = Unit {0}
 IsSettled (ends.Limit fault) = Unit {0}
+
+-- how a run ends by its words, where no count rose and the image stands for a state
+abbrev pub IsCompleteEnd : Action → Ended → Type 0
+IsCompleteEnd action ends.Done = Unit {0}
+IsCompleteEnd action ends.Memory = Unit {0}
+IsCompleteEnd action (ends.Input fault) = Unit {0}
+IsCompleteEnd action (ends.Limit fault) = IsLimitOf action fault
+IsCompleteEnd action _ = ⊥
+
+-- ---- a store that is refused
+
+-- Recovery made of the image what it holds now, and nothing else was done: nothing was said, and at every crash meanwhile the image
+-- stands for what it stood for, whatever that was.
+pub record LeavesRecovered (old new : World) : Type 0 where
+  pub recovered : IsRecovered old new
+  pub alike : LeavesOnly old new (StandsAlike old)
+  pub said : new.said ≡ old.said
+
+-- What a store that is refused as it is opened is left as: where its journal is bad, as it was; where its page 0 is foreign or breaks the
+-- rule Head, recovered.
+abbrev pub LeavesStore : StoreFault → World → World → Type 0
+LeavesStore stores.NotAStore old new = LeavesRecovered old new
+LeavesStore (stores.BadJournal at) old new = WritesNothing old new
+LeavesStore (stores.Damaged damage) old new = HasBrokenHead old.seen → LeavesRecovered old new
+
+-- a store that is refused as it is opened is left alone
+abbrev pub LeavesAlone : Ended → World → World → Type 0
+LeavesAlone (ends.Store fault) old new = LeavesStore fault old new
+LeavesAlone _ old new = Unit {0}

@@ -1,23 +1,24 @@
 //! A job, over a store that is opened.
-ghost use Rattle.std.specs.Prelude.{◌≡◌, ◌≤◌, false, IsTrue};
-ghost use Rattle.disk_model.specs.World.{LeavesOnly};
+ghost use Rattle.std.specs.Prelude.{◌≡◌, ◌≤◌, false, [], IfErr, IsErrOf, IsTrue, OnOk};
+ghost use Rattle.disk_model.specs.World.{HasDiskCause, LeavesOnly, LeavesOnlySeen};
 ghost use Rattle.place_map.specs.State.{Contents};
-ghost use Rattle.irtree_engine.specs.Holding.{HoldsState};
+ghost use Rattle.irtree_engine.specs.Holding.{HoldsState, LeavesState};
 ghost use Rattle.run_protocol.specs.Causes.{HasJobEnd};
-ghost use Rattle.irtree_top.specs.Run.{EndsJob, HasRunEnd, HoldsPrefix};
+ghost use Rattle.run_protocol.specs.Load.{ReachesLimit};
+ghost use Rattle.irtree_top.specs.Run.{EndsJob, HasRunEnd, HoldsPrefix, IsLimitReached, IsInputEnd, IsLimitOf, IsWholeInput, LeavesAlone};
 ghost use Rattle.irtree_top.specs.Words.{Asked};
 
-use crate::Action;
-use disk_model::{Source, Station};
+use crate::{Action, transcript_is_one, transcript_is_some};
+use disk_model::{Failed, Source, Station};
 use geojson_points::outcome_is_one;
-use irtree_engine::{Engine, recover_superblock};
+use irtree_engine::{Engine, EngineFault, recover_superblock};
 use load_run::run_load;
-use run_protocol::{Ended, ended_by};
+use run_protocol::{Ended, InputFault, LimitFault, ended_by};
 use script_run::run_script;
 use std::alloc::Global;
 
 // Does a job over an engine.
-fn serve<'d, S: Source, T: Station>(
+fn act<'d, S: Source, T: Station>(
     alloc: Global,
     action: Action,
     batch: u32,
@@ -35,6 +36,11 @@ fn serve<'d, S: Source, T: Station>(
         → (state : Contents) → HoldsState (T.world engine.old.store.disk.now) state
         → LeavesOnly (T.world engine.old.store.disk.now) (T.world engine.new.store.disk.now) (HoldsPrefix asked state (S.left source.old) (T.world engine.old.store.disk.now)) }
     ensures cause { HasJobEnd T.tells (S.faults source.old) (S.faults source.new) (T.world engine.old.store.disk.now) (T.world engine.new.store.disk.now) result }
+    ensures input { IsTrue S.tells → (fault : InputFault) → IsErrOf result (Ended.Input fault) → IsInputEnd action (S.left source.old) fault }
+    ensures whole { IsTrue S.tells → OnOk result ((S.left source.new ≡ []) × IsWholeInput action (S.left source.old)) }
+    ensures limits { (fault : LimitFault) → IsErrOf result (Ended.Limit fault) → IsLimitOf action fault }
+    ensures reached { IsTrue S.tells → (fault : LimitFault) → IsErrOf result (Ended.Limit fault)
+        → ReachesLimit fault engine.old.store.current.head.live engine.old.store.current.head.number (S.left source.old) }
 {
     match action {
         Action::Run => run_script(alloc, source, engine),
@@ -45,7 +51,60 @@ fn serve<'d, S: Source, T: Station>(
     }
 }
 
-/// Opens the store of a station and does a job over it.
+// Brings what the journal holds to its place. Does nothing where an earlier commit failed.
+fn settle<'d, T: Station>(engine: &mut Engine<'d, T>) -> Result<(), Failed>
+    ensures same_loan { engine.new.store.disk.ghost_name ≡ engine.old.store.disk.ghost_name }
+    ensures holds { IsTrue T.tells → (state : Contents) → HoldsState (T.world engine.old.store.disk.now) state → OnOk result (HoldsState (T.world engine.new.store.disk.now) state) }
+    ensures any_moment { IsTrue T.tells → (state : Contents) → HoldsState (T.world engine.old.store.disk.now) state
+        → LeavesOnly (T.world engine.old.store.disk.now) (T.world engine.new.store.disk.now) (LeavesState state (T.world engine.old.store.disk.now)) }
+    ensures silent { IsTrue T.tells → (T.world engine.new.store.disk.now).said ≡ (T.world engine.old.store.disk.now).said }
+    ensures cause { HasDiskCause (T.world engine.old.store.disk.now) (T.world engine.new.store.disk.now) result }
+{
+    match engine.settle() {
+        Ok(()) => Ok(()),
+        Err(EngineFault::Disk) => Err(Failed),
+        Err(_) => Ok(()),
+    }
+}
+
+// Does a job over an engine with nothing pending, and brings what the journal holds then to its place.
+fn serve<'d, S: Source, T: Station>(
+    alloc: Global,
+    action: Action,
+    batch: u32,
+    source: &mut S,
+    engine: &mut Engine<'d, T>,
+) -> Result<(), Ended>
+    requires on { engine.old.stopped ≡ false }
+    requires few { batch ≤ 10000 }
+    requires some { 1 ≤ batch }
+    requires quiet { IsTrue T.tells → LeavesOnlySeen (T.world engine.old.store.disk.now) }
+    ensures same_loan { engine.new.store.disk.ghost_name ≡ engine.old.store.disk.ghost_name }
+    ensures told { IsTrue S.tells → IsTrue T.tells → (asked : Asked) → asked.action ≡ action → asked.batch ≡ batch
+        → (state : Contents) → HoldsState (T.world engine.old.store.disk.now) state
+        → EndsJob asked state (S.left source.old) (S.left source.new) (T.world engine.old.store.disk.now) (T.world engine.new.store.disk.now) result }
+    ensures any_moment { IsTrue S.tells → IsTrue T.tells → (asked : Asked) → asked.action ≡ action → asked.batch ≡ batch
+        → (state : Contents) → HoldsState (T.world engine.old.store.disk.now) state
+        → LeavesOnly (T.world engine.old.store.disk.now) (T.world engine.new.store.disk.now) (HoldsPrefix asked state (S.left source.old) (T.world engine.old.store.disk.now)) }
+    ensures cause { HasJobEnd T.tells (S.faults source.old) (S.faults source.new) (T.world engine.old.store.disk.now) (T.world engine.new.store.disk.now) result }
+    ensures input { IsTrue S.tells → (fault : InputFault) → IsErrOf result (Ended.Input fault) → IsInputEnd action (S.left source.old) fault }
+    ensures whole { IsTrue S.tells → OnOk result ((S.left source.new ≡ []) × IsWholeInput action (S.left source.old)) }
+    ensures limits { (fault : LimitFault) → IsErrOf result (Ended.Limit fault) → IsLimitOf action fault }
+    ensures reached { IsTrue S.tells → (fault : LimitFault) → IsErrOf result (Ended.Limit fault)
+        → ReachesLimit fault engine.old.store.current.head.live engine.old.store.current.head.number (S.left source.old) }
+{
+    transcript_is_one();
+    transcript_is_some();
+    let end = act(alloc, action, batch, source, &mut *engine);
+    match settle(engine) {
+        Ok(()) => end,
+        Err(_) => Err(Ended::Disk),
+    }
+}
+
+/// Opens the store of a station, does a job over it and brings what the journal holds then to its place.
+///
+/// Ends `Disk` where the last of these fails, whatever the job ended with.
 pub(crate) fn run_job<S: Source, T: Station>(
     alloc: Global,
     action: Action,
@@ -62,6 +121,12 @@ pub(crate) fn run_job<S: Source, T: Station>(
         → (state : Contents) → HoldsState (T.world station.old) state
         → LeavesOnly (T.world station.old) (T.world station.new) (HoldsPrefix asked state (S.left source.old) (T.world station.old)) }
     ensures cause { HasRunEnd T.tells (S.faults source.old) (S.faults source.new) (T.world station.old) (T.world station.new) result }
+    ensures left_alone { IsTrue T.tells → IfErr result (λ end. LeavesAlone end (T.world station.old) (T.world station.new)) }
+    ensures input { IsTrue S.tells → (fault : InputFault) → IsErrOf result (Ended.Input fault) → IsInputEnd action (S.left source.old) fault }
+    ensures whole { IsTrue S.tells → OnOk result ((S.left source.new ≡ []) × IsWholeInput action (S.left source.old)) }
+    ensures limits { (fault : LimitFault) → IsErrOf result (Ended.Limit fault) → IsLimitOf action fault }
+    ensures reached { IsTrue S.tells → IsTrue T.tells → (fault : LimitFault) → IsErrOf result (Ended.Limit fault)
+        → IsLimitReached fault (S.left source.old) (T.world station.old).seen }
 {
     let block = match recover_superblock(&mut *station) {
         Ok(block) => block,

@@ -4,7 +4,7 @@ ghost use Rattle.disk_model.specs.World.{LeavesOnly, Rose};
 ghost use Rattle.place_map.specs.State.{Contents};
 ghost use Rattle.irtree_engine.specs.Holding.{HoldsState};
 ghost use Rattle.run_protocol.specs.Turn.{Transcript, Done, Input};
-ghost use Rattle.irtree_top.specs.Run.{EndsBy, HoldsPrefix, IsBehindOpening, IsBroken, IsOpenable, IsSettled, SaysFront, SaysWhatWasRead, StopsAtLimit};
+ghost use Rattle.irtree_top.specs.Run.{EndsBy, HoldsPrefix, IsLimitReached, IsBehindOpening, IsBroken, IsCompleteEnd, IsInputEnd, IsLimitOf, IsOpenable, IsSettled, IsWholeInput, LeavesAlone, SaysFront, SaysWhatWasRead, StopsAtLimit};
 ghost use Rattle.irtree_top.specs.Transcript.{IsTranscript};
 ghost use Rattle.irtree_top.specs.Words.{Asked, AskFor, AreAccepted};
 
@@ -18,20 +18,32 @@ use std::alloc::Global;
 /// places.
 ///
 /// The words accepted are a store and an action; the store is the station's, and its name isn't looked at. `run` is a script, a line
-/// at a time; `load` stores the places of a GeoJSON text, which is read whole before anything is said. Where it ends `Done` the
-/// input was read to its end, exactly its transcript was said, and the station's image stands for the transcript's last state.
-/// `Input`, `Limit(Full)` and `Limit(Worn)` come by the transcript's end, whose whole text was said. On every other end a front of the
-/// transcript was said: where no page was left (`Limit(NoRoom)`), all that comes before the refused update or batch; where the source
-/// failed, the replies of all lines that were read, and in a load nothing. `Store` comes only where the image at the start is no
-/// well-formed store: `NotAStore` where its page 0 is foreign, `BadJournal` names the first byte of its journal that breaks a rule,
-/// `Damaged` names the rule Head at page 0 where that breaks it, or comes behind the opening. All ends but `Store`, `Disk`, `Words`
-/// and `Memory` come only where page 0 of the recovered store is zeros, or begins with the magic and keeps that rule.
+/// at a time. `load` stores the places of a GeoJSON text, which is read whole before anything is said. Returns how it ended:
+///
+/// - `Done` if the input was read to its end, and a script isn't too long or a text gives items. The whole transcript was said, and the
+///   image stands for its last state.
+/// - `Words` if the words are others. Nothing was read, written or said.
+/// - `Input` if a script is too long, or a text gives no items, for its first offence. The whole transcript was said: of a script the
+///   replies to the lines that are whole within the bytes it may have, of a load nothing.
+/// - `Limit(NoRoom)` if no page is left for an update or a batch. All that comes before its reply was said, and the image stands for the
+///   state before it.
+/// - `Limit(Full)` and `Limit(Worn)` in a load alone, if a batch meets that limit. The whole transcript was said; the live places or
+///   the update number of page 0, with the places of the text added, reach the limit.
+/// - `Store` if the image at the start is no well-formed store: `NotAStore` if its page 0 is foreign; `BadJournal` with the first byte of
+///   its journal that breaks a rule; `Damaged` with the rule Head at page 0 if that breaks it, or with what is met behind the opening.
+///   A store that is refused as it is opened is left alone: a bad journal as it was, the others recovered and nothing else.
+/// - `Source` if the source fails, after the replies to all lines that were read, and in a load with nothing said.
+/// - `Disk`, `Sink` and `Memory` if one of them fails, after a prefix of the transcript's text.
+///
+/// All ends but `Store`, `Disk`, `Words` and `Memory` come only if page 0 of the recovered store is zeros, or begins with the magic and
+/// keeps the rule Head.
 ///
 /// An update is safe before its line is said: a crash at any moment leaves an image that stands for the state after a prefix of the
-/// transcript's updates that holds every acknowledged one, or one that a crash could have left before the call.
+/// transcript's updates that holds every acknowledged one, or one that a crash could have left before the call. After the job, what the
+/// journal still holds is brought to its place; if that fails the run ends `Disk`, however the job ended.
 ///
 /// Memory: for a script one line and one reply, for a load its text and what it gives; the pages of one commit; a query reads all live
-/// places. Each reply is said whole before the next line is acted on, in one call where the station takes it at once. Opening costs a
+/// places. Each reply is said whole before the next line is acted on, in one call if the station takes it at once. Opening costs a
 /// recovery and one page read; each update that changes the map one commit.
 pub fn run<S: Source, T: Station>(
     alloc: Global,
@@ -70,6 +82,16 @@ pub fn run<S: Source, T: Station>(
         → (state : Contents) → HoldsState (T.world station.old) state
         → LeavesOnly (T.world station.old) (T.world station.new) (HoldsPrefix asked state (S.left source.old) (T.world station.old)) }
 
+    // The input was read to its end and is taken whole, or it is refused for this cause, whatever the image stands for.
+    ensures whole { (asked : Asked) → AskFor (map string_bytes words.now) asked → IsTrue S.tells → result ≡ Ended.Done
+        → (S.left source.new ≡ []) × IsWholeInput asked.action (S.left source.old) }
+    ensures input_end { (asked : Asked) → AskFor (map string_bytes words.now) asked → IsTrue S.tells → (fault : InputFault) → result ≡ Ended.Input fault
+        → IsInputEnd asked.action (S.left source.old) fault }
+    // So is a limit one that ends the action, and reached by the numbers of page 0.
+    ensures limits { (asked : Asked) → AskFor (map string_bytes words.now) asked → (fault : LimitFault) → result ≡ Ended.Limit fault → IsLimitOf asked.action fault }
+    ensures reached { IsTrue S.tells → IsTrue T.tells → (fault : LimitFault) → result ≡ Ended.Limit fault
+        → IsLimitReached fault (S.left source.old) (T.world station.old).seen }
+
     // Each end has its cause, and no count falls.
     ensures store { (fault : StoreFault) → result ≡ Ended.Store fault → IsTrue T.tells → IsBroken fault (T.world station.old).seen }
     ensures opened { IsBehindOpening result → IsTrue T.tells → IsOpenable (T.world station.old).seen }
@@ -80,8 +102,16 @@ pub fn run<S: Source, T: Station>(
     ensures source_later { S.faults source.old ≤ S.faults source.new }
     ensures sink_later { (T.world station.old).sink_faults ≤ (T.world station.new).sink_faults }
 
-    // Where no count rose it ends by its words, by its transcript, for want of room or memory, or because the image is no store.
-    ensures complete { ¬ Rose (S.faults source.old) (S.faults source.new) → ¬ Rose (T.world station.old).faults (T.world station.new).faults
+    // A store that is refused as it is opened is left alone.
+    ensures left_alone { IsTrue T.tells → LeavesAlone result (T.world station.old) (T.world station.new) }
+
+    // If no count rose, the words are accepted and the image stands for a state, it ends by its transcript, or for want of room or memory.
+    ensures complete { (asked : Asked) → AskFor (map string_bytes words.now) asked → IsTrue T.tells
+        → (state : Contents) → HoldsState (T.world station.old) state
+        → ¬ Rose (S.faults source.old) (S.faults source.new) → ¬ Rose (T.world station.old).faults (T.world station.new).faults
+        → ¬ Rose (T.world station.old).sink_faults (T.world station.new).sink_faults → IsCompleteEnd asked.action result }
+    // On any words and any image it may end by the words, or because the image is no store, too.
+    ensures settled { ¬ Rose (S.faults source.old) (S.faults source.new) → ¬ Rose (T.world station.old).faults (T.world station.new).faults
         → ¬ Rose (T.world station.old).sink_faults (T.world station.new).sink_faults → IsSettled result }
 {
     transcript_is_one();

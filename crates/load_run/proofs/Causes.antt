@@ -27,13 +27,8 @@ module _ {tells : Bool} {u v : World} {T : Type 0} {done : T} (first : HasEngine
   end-then w ends.Disk faults sink cause = omega (arith, cause, first.faults)
   end-then w ends.Sink faults sink cause = omega (arith, cause, first.sink)
   end-then w (ends.Store (stores.Damaged damage)) faults sink cause = λ told state holds. let mid = first.stands told state holds in cause told mid.0 mid.1
-  end-then w (ends.Store stores.NotAStore) faults sink cause = cause
-  end-then w (ends.Store (stores.BadJournal at)) faults sink cause = cause
   end-then w (ends.Limit fault) faults sink cause = tt
-  end-then w (ends.Input fault) faults sink cause = cause
-  end-then w ends.Source faults sink cause = cause
-  end-then w ends.Done faults sink cause = cause
-  end-then w ends.Words faults sink cause = cause
+  end-then w _ faults sink cause = absurd cause
 
   -- a call behind others that ended well
   pub engine-then : {U : Type 0} {w : World} (result : Result U Ended) → HasEngineEnd tells v w result → HasEngineEnd tells u w result
@@ -61,7 +56,4 @@ job-of-engine tells source_old source_new old new (Err end) later ended = record
     by_end ends.Sink cause = cause
     by_end (ends.Store fault) cause = cause
     by_end (ends.Limit fault) cause = tt
-    by_end (ends.Input fault) cause = absurd cause
-    by_end ends.Source cause = absurd cause
-    by_end ends.Done cause = absurd cause
-    by_end ends.Words cause = absurd cause
+    by_end _ cause = absurd cause

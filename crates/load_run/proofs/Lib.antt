@@ -3,6 +3,7 @@ pub mod Causes
 pub mod Fronts
 pub mod Lists
 pub mod Moves
+pub mod Numbers
 pub mod Outcomes
 pub mod Stages
 pub mod Steps

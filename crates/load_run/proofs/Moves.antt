@@ -178,12 +178,7 @@ module _ (state : Contents) (stored skipped : ℕ) (updates : List Update) (rest
       by_end (ends.Limit limits.Full) why = refused-so faults.Full why.0 stores.said why.1
       by_end (ends.Limit limits.Worn) why = refused-so faults.Worn why.0 stores.said why.1
       by_end (ends.Limit limits.NoRoom) why = inl (stores.said ∙ sym (append-nil old.said), why)
-      by_end ends.Sink why = absurd why
-      by_end ends.Source why = absurd why
-      by_end (ends.Input fault) why = absurd why
-      by_end (ends.Store fault) why = absurd why
-      by_end ends.Done why = absurd why
-      by_end ends.Words why = absurd why
+      by_end _ why = absurd why
 
 -- ---- the last line
 

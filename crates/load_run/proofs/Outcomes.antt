@@ -1,6 +1,6 @@
 -- How a load ends, from what its text gives.
 use Rattle.std.proofs.Common.{◌≡◌, ◌≢◌, ℕ, ◌+◌, ◌<◌, ◌≤◌, inl, inr, ⊎_elim, List, [], ◌∷◌, ◌++◌, length, take, refl, sym, ap, subst, ◌∙◌, arith, append_assoc, length-append, length-take}
-use Rattle.std.specs.Prelude.{None, Result, Ok, Err}
+use Rattle.std.specs.Prelude.{None, Result, Ok, Err, OnOk, IfErr, IsErrOf}
 use Rattle.std.proofs.lemmas.List.{append-nil, take-take, take-append-le}
 use Rattle.disk_model.specs.World.{World, LeavesOnly}
 use Rattle.disk_model.proofs.Moments.{within}
@@ -15,6 +15,7 @@ use Rattle.run_protocol.specs.declared.ended.Ended.{Ended}
 use Rattle.run_protocol.specs.declared.ended.Ended.TheVariants as ends
 use Rattle.run_protocol.specs.declared.ended.InputFault.{InputFault}
 use Rattle.run_protocol.specs.declared.ended.InputFault.TheVariants as inputs
+use Rattle.run_protocol.specs.declared.ended.LimitFault.{LimitFault}
 use Rattle.run_protocol.specs.declared.ended.LimitFault.TheVariants as limits
 use Rattle.run_protocol.specs.Left.{LeftBySteps, LeftByLoad, StopsAtBatch}
 use Rattle.run_protocol.specs.Load.{load_max, IsTaken, load_transcript, steps}
@@ -35,16 +36,7 @@ pub unread-ends : (T : Type 0) (batch : ℕ) (state : Contents) (input left : Li
 unread-ends T batch state input left now ends.Memory holds has = inl ((refl, holds), refl)
 unread-ends T batch state input left now ends.Source holds has = (refl, holds)
 unread-ends T batch state input left now (ends.Input inputs.Long) holds has = (has, (refl, holds))
-unread-ends T batch state input left now (ends.Input (inputs.NotUtf8 at)) holds has = absurd has
-unread-ends T batch state input left now (ends.Input (inputs.Syntax at)) holds has = absurd has
-unread-ends T batch state input left now (ends.Input (inputs.TooDeep at)) holds has = absurd has
-unread-ends T batch state input left now (ends.Input inputs.NotFeatures) holds has = absurd has
-unread-ends T batch state input left now (ends.Limit fault) holds has = absurd has
-unread-ends T batch state input left now (ends.Store fault) holds has = absurd has
-unread-ends T batch state input left now ends.Disk holds has = absurd has
-unread-ends T batch state input left now ends.Sink holds has = absurd has
-unread-ends T batch state input left now ends.Done holds has = absurd has
-unread-ends T batch state input left now ends.Words holds has = absurd has
+unread-ends T batch state input left now _ holds has = absurd has
 
 -- the text gives no items
 pub refused-ends : (T : Type 0) (batch : ℕ) (state : Contents) (input left bytes : List ℕ) (now : World) (fault : LoadFault) (end : Ended) → HoldsState now state → bytes ≡ input → length bytes ≤ load_max → (fault ≢ loads.Memory → Takes bytes None (Err fault)) → RefusesSo fault end
@@ -87,11 +79,7 @@ taken-ends T batch state input left bytes items old new result same none short t
     by_result (Err (ends.Limit limits.Full)) ended = inr (items, is, reaches-ends _ batch state items old new ended)
     by_result (Err (ends.Limit limits.Worn)) ended = inr (items, is, reaches-ends _ batch state items old new ended)
     by_result (Err (ends.Limit limits.NoRoom)) ended = inr (items, is, subst (λ b. StopsAtBatch state 0 0 (steps batch [] items) b new) (append-nil old.said) ended)
-    by_result (Err ends.Source) ended = absurd ended
-    by_result (Err (ends.Input fault)) ended = absurd ended
-    by_result (Err (ends.Store fault)) ended = absurd ended
-    by_result (Err ends.Done) ended = absurd ended
-    by_result (Err ends.Words) ended = absurd ended
+    by_result (Err _) ended = absurd ended
 
 -- and what a crash left meanwhile
 pub taken-left : (batch : ℕ) (state : Contents) (input bytes : List ℕ) (items : List Item) (old new : World) → bytes ≡ input → length bytes ≤ load_max → Takes bytes None (Ok items)
@@ -127,3 +115,60 @@ read-long input text left next buf n came given few more =
 -- a front of what was written over the front of a buffer
 pub take-over : (n len : ℕ) (over rest : List ℕ) → n ≤ length over → length over ≤ len → take n (take len (over ++ rest)) ≡ take n over
 take-over n len over rest few room = take-take n len (over ++ rest) (omega (arith, few, room)) ∙ take-append-le n over rest few
+
+-- ---- whatever the image stands for
+
+-- a call that ended so
+abbrev pub stopped : Ended → Result (Unit {0}) Ended
+stopped end = Err end
+
+-- an input that is refused before it was read whole is too long
+pub unread-input : (input : List ℕ) (end : Ended) (fault : InputFault) → IsUnread input end → IsErrOf (stopped end) (ends.Input fault) → IsTaken input (Err fault)
+unread-input input end fault has is = by_fault fault (subst (λ (r : Result (Unit {0}) Ended). IfErr r (IsUnread input)) is has)
+  where
+    by_fault : (fault : InputFault) → IsUnread input (ends.Input fault) → IsTaken input (Err fault)
+    by_fault inputs.Long has = has
+    by_fault _ has = absurd has
+
+-- and no limit ends the reading
+pub unread-limit : (input : List ℕ) (end : Ended) (fault : LimitFault) → IsUnread input end → IsErrOf (stopped end) (ends.Limit fault) → ⊥
+unread-limit input end fault has is = subst (λ (r : Result (Unit {0}) Ended). IfErr r (IsUnread input)) is has
+
+-- the items of a text that was read whole
+pub read-items : (input bytes : List ℕ) (items : List Item) → bytes ≡ input → length bytes ≤ load_max → Takes bytes None (Ok items) → IsTaken input (Ok items)
+read-items input bytes items same short takes = subst (λ (b : List ℕ). IsTaken b (Ok items)) same (short, takes)
+
+-- a text that gives no items is refused for its cause
+pub refused-input : (input bytes : List ℕ) (fault : LoadFault) (end : Ended) (why : InputFault) → bytes ≡ input → length bytes ≤ load_max → (fault ≢ loads.Memory → Takes bytes None (Err fault)) → RefusesSo fault end
+    → IsErrOf (stopped end) (ends.Input why) → IsTaken input (Err why)
+refused-input input bytes fault end why same short takes so is = subst (λ (b : List ℕ). IsTaken b (Err why)) same (by_fault fault takes so (ended-by is))
+  where
+    ended-by : stopped end ≡ Err (ends.Input why) → end ≡ ends.Input why
+    ended-by e = cc
+
+    says : (other : InputFault) → IsTaken bytes (Err other) → end ≡ ends.Input other → end ≡ ends.Input why → IsTaken bytes (Err why)
+    says other taken one two =
+        let alike : other ≡ why = cc in
+        subst (λ (f : InputFault). IsTaken bytes (Err f)) alike taken
+
+    by_fault : (fault : LoadFault) → (fault ≢ loads.Memory → Takes bytes None (Err fault)) → RefusesSo fault end → end ≡ ends.Input why → IsTaken bytes (Err why)
+    by_fault (loads.Json (json.NotUtf8 at)) takes so e = says (inputs.NotUtf8 at) (short, takes (λ e. absurd (cc))) so e
+    by_fault (loads.Json (json.Syntax at)) takes so e = says (inputs.Syntax at) (short, takes (λ e. absurd (cc))) so e
+    by_fault (loads.Json (json.TooDeep at)) takes so e = says (inputs.TooDeep at) (short, takes (λ e. absurd (cc))) so e
+    by_fault (loads.Json json.Memory) takes so e = absurd (cc)
+    by_fault loads.NotFeatures takes so e = says inputs.NotFeatures (short, takes (λ e. absurd (cc))) so e
+    by_fault loads.Memory takes so e = absurd (cc)
+
+-- and it meets no limit
+pub refused-limit : (fault : LoadFault) (end : Ended) (why : LimitFault) → RefusesSo fault end → IsErrOf (stopped end) (ends.Limit why) → ⊥
+refused-limit (loads.Json (json.NotUtf8 at)) end why so is = cc
+refused-limit (loads.Json (json.Syntax at)) end why so is = cc
+refused-limit (loads.Json (json.TooDeep at)) end why so is = cc
+refused-limit (loads.Json json.Memory) end why so is = cc
+refused-limit loads.NotFeatures end why so is = cc
+refused-limit loads.Memory end why so is = cc
+
+-- what holds in any case holds after a success
+pub on_ok-held : {T E P : Type 0} (result : Result T E) → P → OnOk result P
+on_ok-held (Ok value) held = held
+on_ok-held (Err fault) held = tt

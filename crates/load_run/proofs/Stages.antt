@@ -101,11 +101,7 @@ module _ {at mid : Stage} {u v : World} (first : Goes at mid u v) where
   concluded-then w (Err (ends.Limit limits.Full)) ended = reaches-then ended
   concluded-then w (Err (ends.Limit limits.Worn)) ended = reaches-then ended
   concluded-then w (Err (ends.Limit limits.NoRoom)) ended = stops-then w ended
-  concluded-then w (Err ends.Source) ended = ended
-  concluded-then w (Err (ends.Input fault)) ended = ended
-  concluded-then w (Err (ends.Store fault)) ended = ended
-  concluded-then w (Err ends.Done) ended = ended
-  concluded-then w (Err ends.Words) ended = ended
+  concluded-then w (Err _) ended = absurd ended
 
   -- a load that went on came to its end
   pub goes-concludes : {T : Type 0} {w : World} {result : Result T Ended} → Concludes mid v w result → Concludes at u w result

@@ -1,8 +1,9 @@
 -- A load between two of its items, and how it ends.
-use Rattle.std.specs.Prelude.{◌≡◌, ◌⊎◌, ℕ, ◌+◌, ◌<◌, ◌≤◌, List, [], ◌++◌, length, Vec, Result, Ok, Err, OnOk, IfErr}
+use Rattle.std.specs.Prelude.{◌≡◌, ◌⊎◌, ℕ, ◌+◌, ◌^◌, ◌<◌, ◌≤◌, List, [], ◌++◌, length, Vec, Result, Ok, Err, OnOk, IfErr}
 use Rattle.std.specs.List.{AllByRecursion}
 use Rattle.disk_model.specs.World.{World, Image, LeavesOnly, Rose}
 use Rattle.json_spelled.specs.declared.tree.JsonFault.TheVariants as json
+use Rattle.page_face.specs.declared.head.Head.{Head}
 use Rattle.place_map.specs.State.{Contents}
 use Rattle.place_map.specs.declared.update.Update.{Update}
 use Rattle.place_map.specs.declared.update.UpdateFault.TheVariants as faults
@@ -132,11 +133,7 @@ IsConcluded at old new (Err ends.Sink) = SaysFrontOf (text_to_say at) old.said n
 IsConcluded at old new (Err (ends.Limit limits.Full)) = Reaches (Limit limits.Full) at old new
 IsConcluded at old new (Err (ends.Limit limits.Worn)) = Reaches (Limit limits.Worn) at old new
 IsConcluded at old new (Err (ends.Limit limits.NoRoom)) = StopsFrom at old.said new
-IsConcluded at old new (Err ends.Source) = ⊥
-IsConcluded at old new (Err (ends.Input fault)) = ⊥
-IsConcluded at old new (Err (ends.Store fault)) = ⊥
-IsConcluded at old new (Err ends.Done) = ⊥
-IsConcluded at old new (Err ends.Words) = ⊥
+IsConcluded at old new (Err _) = ⊥
 
 -- and what a crash left meanwhile
 pub record Concludes {T : Type 0} (at : Stage) (old new : World) (result : Result T Ended) : Type 0 where
@@ -163,6 +160,20 @@ pub record StoresAll {T : Type 0} (state : Contents) (updates : List Update) (ol
   pub left : LeavesOnly old new (LeavesAllOrNone state updates old)
   pub stored : OnOk result (StandsForOutcome (state_after_all state updates) new.seen)
   pub unstored : IfErr result (IsUnstored state updates new)
+
+-- ---- page 0's numbers, on any image
+
+-- a limit of the map that so many live places and this update number reach
+abbrev pub IsLimitAt : ℕ → ℕ → Ended → Type 0
+IsLimitAt live number (ends.Limit limits.Full) = 200000 ≤ live
+IsLimitAt live number (ends.Limit limits.Worn) = 2 ^ 40 ≤ number
+IsLimitAt live number _ = Unit {0}
+
+-- Page 0's numbers, with the places that wait to be stored, rose by at most so many; and a limit is met only where they reach it.
+pub record RisesBy {T : Type 0} (count waits_old waits_new : ℕ) (old new : Head) (result : Result T Ended) : Type 0 where
+  pub live : OnOk result (new.live + waits_new ≤ old.live + (waits_old + count))
+  pub number : OnOk result (new.number + waits_new ≤ old.number + (waits_old + count))
+  pub limit : IfErr result (IsLimitAt (old.live + (waits_old + count)) (old.number + (waits_old + count)))
 
 -- ---- the whole
 

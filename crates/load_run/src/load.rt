@@ -7,9 +7,9 @@ ghost use Rattle.geojson_points.specs.Takes.{Item, Placed, Skipped, HasTextKey, 
 ghost use Rattle.irtree_engine.specs.Holding.{HoldsState};
 ghost use Rattle.irtree_engine.specs.Updates.{NamesText};
 ghost use Rattle.run_protocol.specs.Causes.{HasEngineEnd};
-ghost use Rattle.run_protocol.specs.Load.{Step, Store, put_of};
+ghost use Rattle.run_protocol.specs.Load.{Step, Store, places_among, put_of};
 ghost use Rattle.run_protocol.specs.Said.{SaysAll};
-ghost use Rattle.load_run.specs.Loading.{CanWait, Concludes, HasStored, Moves, StoresAll, acted_on, stage, stage_at_start, stage_before};
+ghost use Rattle.load_run.specs.Loading.{CanWait, Concludes, HasStored, Moves, RisesBy, StoresAll, acted_on, stage, stage_at_start, stage_before};
 
 use crate::lines::{write_loaded, write_skip, write_stored};
 use disk_model::Station;
@@ -43,6 +43,7 @@ fn say_text<'d, T: Station>(text: &mut Vec<u8>, engine: &mut Engine<'d, T>) -> R
     ensures said { IsTrue T.tells → SaysAll text.old.items (T.world engine.old.store.disk.now) (T.world engine.new.store.disk.now) result }
     ensures on { engine.new.stopped ≡ false }
     ensures ends { IfErr result (λ end. end ≡ Ended.Sink) }
+    ensures head { engine.new.store.current ≡ engine.old.store.current }
     ensures cause { HasEngineEnd T.tells (T.world engine.old.store.disk.now) (T.world engine.new.store.disk.now) result }
 {
     match say_all(engine, &*text) {
@@ -64,6 +65,7 @@ fn store_batch<'d, T: Station>(engine: &mut Engine<'d, T>, updates: &[Update]) -
         → StoresAll state updates.now (T.world engine.old.store.disk.now) (T.world engine.new.store.disk.now) result }
     ensures on { OnOk result (engine.new.stopped ≡ false) }
     ensures cause { HasEngineEnd T.tells (T.world engine.old.store.disk.now) (T.world engine.new.store.disk.now) result }
+    ensures rises { RisesBy (length updates.now) 0 0 engine.old.store.current.head engine.new.store.current.head result }
 {
     match engine.apply_batch(updates) {
         Ok(()) => Ok(()),
@@ -122,6 +124,7 @@ impl Load {
         ensures count { OnOk result (acted_on self.new ≡ acted_on self.old + 1) }
         ensures waits { OnOk result (CanWait self.new) }
         ensures cause { HasEngineEnd T.tells (T.world engine.old.store.disk.now) (T.world engine.new.store.disk.now) result }
+        ensures rises { RisesBy (places_among (item_of item ∷ [])) (length self.old.waiting.items) (length self.new.waiting.items) engine.old.store.current.head engine.new.store.current.head result }
     {
         match item {
             Taken::Place(draft) => self.place(engine, draft),
@@ -147,6 +150,7 @@ impl Load {
         ensures count { OnOk result (acted_on self.new ≡ acted_on self.old + 1) }
         ensures waits { OnOk result (CanWait self.new) }
         ensures cause { HasEngineEnd T.tells (T.world engine.old.store.disk.now) (T.world engine.new.store.disk.now) result }
+        ensures rises { RisesBy 0 (length self.old.waiting.items) (length self.new.waiting.items) engine.old.store.current.head engine.new.store.current.head result }
     {
         match write_skip(index, reason, &mut self.text) {
             Ok(()) => {}
@@ -177,6 +181,7 @@ impl Load {
         ensures count { OnOk result (acted_on self.new ≡ acted_on self.old + 1) }
         ensures waits { OnOk result (CanWait self.new) }
         ensures cause { HasEngineEnd T.tells (T.world engine.old.store.disk.now) (T.world engine.new.store.disk.now) result }
+        ensures rises { RisesBy 1 (length self.old.waiting.items) (length self.new.waiting.items) engine.old.store.current.head engine.new.store.current.head result }
     {
         let update = match update_of(self.alloc, draft) {
             Ok(update) => update,
@@ -211,6 +216,7 @@ impl Load {
         ensures on { OnOk result (engine.new.stopped ≡ false) }
         ensures counts { OnOk result (HasStored (length updates.now) self.old self.new) }
         ensures cause { HasEngineEnd T.tells (T.world engine.old.store.disk.now) (T.world engine.new.store.disk.now) result }
+        ensures rises { RisesBy (length updates.now) 0 0 engine.old.store.current.head engine.new.store.current.head result }
     {
         match say_text(&mut self.text, &mut *engine) {
             Ok(()) => {}
@@ -236,6 +242,7 @@ impl Load {
         ensures told { IsTrue T.tells → (state : Contents) → HoldsState (T.world engine.old.store.disk.now) state
             → Concludes (stage_before self.old state []) (T.world engine.old.store.disk.now) (T.world engine.new.store.disk.now) result }
         ensures cause { HasEngineEnd T.tells (T.world engine.old.store.disk.now) (T.world engine.new.store.disk.now) result }
+        ensures rises { RisesBy 0 (length self.old.waiting.items) 0 engine.old.store.current.head engine.new.store.current.head result }
     {
         let updates = mem::replace(&mut self.waiting, Vec::new(self.alloc));
         if updates.is_empty() {
@@ -254,6 +261,7 @@ impl Load {
         ensures told { IsTrue T.tells → (state : Contents) → HoldsState (T.world engine.old.store.disk.now) state
             → Concludes (stage self.old state []) (T.world engine.old.store.disk.now) (T.world engine.new.store.disk.now) result }
         ensures cause { HasEngineEnd T.tells (T.world engine.old.store.disk.now) (T.world engine.new.store.disk.now) result }
+        ensures rises { RisesBy 0 0 0 engine.old.store.current.head engine.new.store.current.head result }
     {
         match write_loaded(self.stored, self.skipped, &mut self.text) {
             Ok(()) => say_text(&mut self.text, engine),

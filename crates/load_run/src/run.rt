@@ -1,5 +1,5 @@
 //! A load, from its source to its end.
-ghost use Rattle.std.specs.Prelude.{◌≡◌, ◌≤◌, ◌<◌, ◌^◌, length, map, false, IfOk, IsTrue};
+ghost use Rattle.std.specs.Prelude.{◌≡◌, ◌≤◌, ◌<◌, ◌^◌, [], length, map, false, Err, IfOk, OnOk, IsErrOf, IsTrue};
 ghost use Rattle.std.specs.List.{All};
 ghost use Rattle.disk_model.specs.World.{LeavesOnly};
 ghost use Rattle.place_map.specs.State.{Contents};
@@ -7,14 +7,15 @@ ghost use Rattle.geojson_points.specs.Takes.{HasTextKey, item_of};
 ghost use Rattle.irtree_engine.specs.Holding.{HoldsState};
 ghost use Rattle.run_protocol.specs.Causes.{HasEngineEnd, HasJobEnd};
 ghost use Rattle.run_protocol.specs.Left.{LeftByLoad};
-ghost use Rattle.load_run.specs.Loading.{Concludes, EndsLoad, HasReadEnd, HasText, RefusesSo, stage_at_start};
+ghost use Rattle.run_protocol.specs.Load.{GivesItems, IsTaken, ReachesLimit, places_among};
+ghost use Rattle.load_run.specs.Loading.{Concludes, EndsLoad, HasReadEnd, HasText, RefusesSo, RisesBy, stage_at_start};
 
 use crate::load::Load;
 use disk_model::{Source, Station};
 use geojson_points::{LoadFault, Taken, take};
 use irtree_engine::Engine;
 use json_spelled::JsonFault;
-use run_protocol::{Ended, InputFault};
+use run_protocol::{Ended, InputFault, LimitFault};
 use std::alloc::Global;
 
 /// The greatest number of bytes of the text of a load.
@@ -68,6 +69,7 @@ fn store_items<'d, T: Station>(
     ensures told { IsTrue T.tells → (state : Contents) → HoldsState (T.world engine.old.store.disk.now) state
         → Concludes (stage_at_start batch state (map item_of items.items)) (T.world engine.old.store.disk.now) (T.world engine.new.store.disk.now) result }
     ensures cause { HasEngineEnd T.tells (T.world engine.old.store.disk.now) (T.world engine.new.store.disk.now) result }
+    ensures rises { RisesBy (places_among (map item_of items.items)) 0 0 engine.old.store.current.head engine.new.store.current.head result }
 {
     let mut load = Load::new(alloc, batch);
     for item in items {
@@ -92,13 +94,17 @@ fn refusal(fault: LoadFault) -> Ended
     }
 }
 
-/// Runs a load to its end, over an engine that isn't stopped: the whole text is read, then its items are acted on in their order, with
-/// so many places in a batch.
+/// Runs a load to its end, over an engine that isn't stopped: reads the whole text, then acts on its items in their order, with
+/// `batch` places in a batch.
 ///
-/// Ends by `Input` where the text is refused, which changes nothing and says nothing; by `Limit(Full)` or `Limit(Worn)` where a batch
-/// meets that limit, and by `Limit(NoRoom)` where no page is left for one: nothing of that batch is stored, and what comes before its
-/// line was said whole; by `Source`, with nothing said; `Disk`, `Sink`, `Memory`; `Store(Damaged)` never where the image stands for a
-/// state.
+/// Returns `Ok` if the text gives items and each of them was acted on; then the source was read to its end. Errors:
+///
+/// - `Input` if the text is refused, for its first offence, or is longer than 67,108,864 bytes. Nothing is stored or said.
+/// - `Limit(Full)` or `Limit(Worn)` if a batch meets that limit; then the text has enough places to reach it. `Limit(NoRoom)` if no
+///   page is left for a batch. Nothing of that batch is stored, and all text before its line was said.
+/// - `Source` if the source fails. Nothing is stored or said.
+/// - `Disk`, `Sink` and `Memory` if one of them fails, after a prefix of the text.
+/// - `Store(Damaged)` if a page breaks a rule; never if the image stands for a state.
 pub fn run_load<'d, S: Source, T: Station>(
     alloc: Global,
     batch: u32,
@@ -114,6 +120,12 @@ pub fn run_load<'d, S: Source, T: Station>(
     ensures any_moment { IsTrue S.tells → IsTrue T.tells → (state : Contents) → HoldsState (T.world engine.old.store.disk.now) state
         → LeavesOnly (T.world engine.old.store.disk.now) (T.world engine.new.store.disk.now) (LeftByLoad batch state (S.left source.old) (T.world engine.old.store.disk.now).said) }
     ensures cause { HasJobEnd T.tells (S.faults source.old) (S.faults source.new) (T.world engine.old.store.disk.now) (T.world engine.new.store.disk.now) result }
+
+    // Whatever the image stands for, the text and a limit end it only for their cause, and else the text was read to its end.
+    ensures input { IsTrue S.tells → (fault : InputFault) → IsErrOf result (Ended.Input fault) → IsTaken (S.left source.old) (Err fault) }
+    ensures whole { IsTrue S.tells → OnOk result ((S.left source.new ≡ []) × GivesItems (S.left source.old)) }
+    ensures limit { IsTrue S.tells → (fault : LimitFault) → IsErrOf result (Ended.Limit fault)
+        → ReachesLimit fault engine.old.store.current.head.live engine.old.store.current.head.number (S.left source.old) }
 {
     let text = match read_text(alloc, source) {
         Ok(text) => text,

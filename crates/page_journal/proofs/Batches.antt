@@ -1,70 +1,16 @@
--- Records of pages, and what images with them stand for.
-use Rattle.std.proofs.Common.{◌≡◌, ◌≢◌, ◌⊎◌, inl, inr, ⊎_elim, ℕ, zero, suc, ◌+◌, ◌*◌, ◌/◌, ◌%◌, ◌^◌, ◌<◌, ◌≤◌, ◌==◌, List, [], ◌∷◌, length, slice_index, drop, get_or, Box, Bool, true, false, eq-eqb, add-one, Result, Ok, Err, OnOk, refl, sym, ◌∙◌, ap, ap₂, subst, arith}
+-- Pages with a batch written.
+use Rattle.std.proofs.Common.{◌≡◌, ◌≢◌, ◌⊎◌, inl, inr, ⊎_elim, ℕ, zero, suc, ◌+◌, ◌*◌, ◌/◌, ◌%◌, ◌<◌, ◌≤◌, ◌==◌, if◌then◌else◌, List, [], ◌∷◌, length, slice_index, drop, get_or, Box, eq-eqb, add-one, Result, Ok, Err, OnOk, refl, sym, ◌∙◌, ap, ap₂, subst, arith}
 use Rattle.std.specs.Map.{keys_of}
 use Rattle.std.specs.List.Sorted.{IsStrictlySortedBy}
 use Rattle.std.specs.Ordering.{nat_cmp}
 use Rattle.std.proofs.lemmas.Map.Keys.{below_from_sorted}
 use mathlib.Core.Path.{fun_ext}
-use Rattle.std.proofs.lemmas.Nat.{from_be_bytes-to_be_bytes_4}
 use Rattle.std.proofs.lemmas.List.{drop_more}
 use Rattle.std.proofs.lemmas.Bool.{cases_lt, cases_eq, ne_eqb, cond-true, cond-false}
-use Rattle.std.specs.Int.{w32, to_be_bytes}
 use Rattle.std.specs.declared.alloc.Global.{Global}
 use Rattle.disk_model.specs.World.{Image, Written}
-use Rattle.disk_model.specs.declared.disk.Area.{Area}
-use Rattle.disk_model.specs.declared.disk.Area.TheVariants.{Pages, Journal}
-use Rattle.page_journal.specs.Record.{Batch, batch_in, given, word, HoldsPages, HoldsRecord, written_up_to, with_batch, IsRecord}
-
-pub word_written : (area : Area) (at n : ℕ) (spelled : List ℕ) (old new : Image) → n < 2 ^ 32 → spelled ≡ to_be_bytes w32 n → Written area at spelled old new → word (new area) at ≡ n
-word_written area at n spelled old new fits is w =
-    let long : length spelled ≡ 4 = ap length is in
-    let e0 = w.inside 0 at (omega arith) (omega arith) ∙ ap (λ (l : List ℕ). slice_index l 0) is in
-    let e1 = w.inside 1 (at + 1) (omega arith) refl ∙ ap (λ (l : List ℕ). slice_index l 1) is in
-    let e2 = w.inside 2 (at + 2) (omega arith) refl ∙ ap (λ (l : List ℕ). slice_index l 2) is in
-    let e3 = w.inside 3 (at + 3) (omega arith) refl ∙ ap (λ (l : List ℕ). slice_index l 3) is in
-    let whole = from_be_bytes-to_be_bytes_4 n fits in
-    omega arith
-
-pub word_kept : (old new : ℕ → ℕ) (at bound : ℕ) → ((i : ℕ) → i < bound → new i ≡ old i) → at + 4 ≤ bound → word new at ≡ word old at
-word_kept old new at bound same le =
-    let e0 = same at (omega arith) in
-    let e1 = same (at + 1) (omega arith) in
-    let e2 = same (at + 2) (omega arith) in
-    let e3 = same (at + 3) (omega arith) in
-    omega arith
-
--- one page more stands there
-pub holds_more : (batch : Batch) (k : ℕ) (old new : ℕ → ℕ) → HoldsPages batch k old → ((i : ℕ) → i < 5 + 4100 * k → new i ≡ old i)
-    → word new (5 + 4100 * k) ≡ batch.number k → ((i : ℕ) → i < 4096 → new (9 + 4100 * k + i) ≡ batch.byte k i) → HoldsPages batch (k + 1) new
-holds_more batch k old new held below number byte = record {
-  number = λ j lt. ⊎_elim
-      (λ (l : j < k).
-      let e0 = below (5 + 4100 * j) (omega arith) in
-      let e1 = below (5 + 4100 * j + 1) (omega arith) in
-      let e2 = below (5 + 4100 * j + 2) (omega arith) in
-      let e3 = below (5 + 4100 * j + 3) (omega arith) in
-      let h = held.number j l in
-      omega arith)
-      (λ (e : k ≤ j). let is : k ≡ j = omega arith in subst (λ (x : ℕ). word new (5 + 4100 * x) ≡ batch.number x) is number)
-      (cases_lt j k);
-  byte = λ j i lt fits. ⊎_elim
-      (λ (l : j < k). below (9 + 4100 * j + i) (omega arith) ∙ held.byte j i l fits)
-      (λ (e : k ≤ j). let is : k ≡ j = omega arith in subst (λ (x : ℕ). new (9 + 4100 * x + i) ≡ batch.byte x i) is (byte i fits))
-      (cases_lt j k);
-}
-
--- the same, from the two writes of an entry
-pub holds_next : (batch : Batch) (k n : ℕ) (spelled b : List ℕ) (s0 s1 s2 : Image) → HoldsPages batch k (s0 Journal) → n < 2 ^ 32 → spelled ≡ to_be_bytes w32 n → Written Journal (5 + 4100 * k) spelled s0 s1
-    → length b ≡ 4096 → Written Journal (9 + 4100 * k) b s1 s2 → n ≡ batch.number k → ((i : ℕ) → slice_index b i ≡ batch.byte k i) → HoldsPages batch (k + 1) (s2 Journal)
-holds_next batch k n spelled b s0 s1 s2 held fits is w1 long w2 number byte =
-    holds_more batch k (s0 Journal) (s2 Journal) held
-    (λ i lt. w2.torn.same Journal i (λ e. inl (omega arith)) ∙ w1.torn.same Journal i (λ e. inl lt))
-    (word_kept (s1 Journal) (s2 Journal) (5 + 4100 * k) (9 + 4100 * k) (λ i lt. w2.torn.same Journal i (λ e. inl (omega arith))) (omega arith) ∙ word_written Journal (5 + 4100 * k) n spelled s0 s1 fits is w1 ∙ number)
-    (λ i lt. w2.inside i (9 + 4100 * k + i) (omega arith) refl ∙ byte i)
-
-pub count_kept : (k : ℕ) (n b : List ℕ) (s0 s1 s2 : Image) → Written Journal (5 + 4100 * k) n s0 s1 → Written Journal (9 + 4100 * k) b s1 s2 → word (s2 Journal) 1 ≡ word (s0 Journal) 1
-count_kept k n b s0 s1 s2 w1 w2 =
-    word_kept (s0 Journal) (s2 Journal) 1 5 (λ i lt. w2.torn.same Journal i (λ e. inl (omega arith)) ∙ w1.torn.same Journal i (λ e. inl (omega arith))) (omega arith)
+use Rattle.disk_model.specs.declared.disk.Area.TheVariants.{Pages}
+use Rattle.page_journal.specs.Record.{Batch, given, batch_of, written_up_to, with_batch}
 
 pub length_given : (entries : List (ℕ × Box (List ℕ) Global)) → length (given entries) ≡ length entries
 length_given [] = refl
@@ -73,25 +19,6 @@ length_given (e ∷ entries) = ap (λ (n : ℕ). suc n) (length_given entries)
 pub on_ok_from : {T E P : Type 0} (r : Result T E) → P → OnOk r P
 on_ok_from (Ok x) p = p
 on_ok_from (Err e) p = tt
-
--- the record is whole
-pub holds_record : (batch : Batch) (k : ℕ) (s0 s1 s2 : Image) → k ≡ batch.count → HoldsPages batch k (s0 Journal) → word (s0 Journal) 1 ≡ batch.count
-    → Written Journal (5 + 4100 * k) (0 ∷ []) s0 s1 → s2 ≡ s1 → HoldsRecord batch (s2 Journal)
-holds_record batch k s0 s1 s2 is held count w same =
-    let below : (i : ℕ) → i < 5 + 4100 * k → s1 Journal i ≡ s0 Journal i = λ i lt. w.torn.same Journal i (λ e. inl lt) in
-    let whole : HoldsRecord batch (s1 Journal) = record {
-      count = word_kept (s0 Journal) (s1 Journal) 1 5 (λ i lt. below i (omega arith)) (omega arith) ∙ count;
-      pages = record {
-        number = λ j lt. word_kept (s0 Journal) (s1 Journal) (5 + 4100 * j) (9 + 4100 * j) (λ i l. below i (omega arith)) (omega arith) ∙ held.number j (omega arith);
-        byte = λ j i lt fits. below (9 + 4100 * j + i) (omega arith) ∙ held.byte j i (omega arith) fits;
-      };
-      closed = w.inside 0 (5 + 4100 * batch.count) (omega arith) (omega arith);
-    } in
-    subst (λ (s : Image). HoldsRecord batch (s Journal)) (sym same) whole
-
-pub some_given : (entries : List (ℕ × Box (List ℕ) Global)) (b : Bool) → (length entries ≡ 0 → b ≡ true) → b ≡ false → 0 < length (given entries)
-some_given [] b none some = let e = none refl in cc
-some_given (e ∷ entries) b none some = omega arith
 
 -- the entry at a place, and those after it
 pub next_entry : (entries rest : List (ℕ × List ℕ)) (e : ℕ × List ℕ) (k : ℕ) → e ∷ rest ≡ drop k entries → k < length entries → (get_or entries k (0, []) ≡ e) × (rest ≡ drop (k + 1) entries)
@@ -148,42 +75,28 @@ page_more b k p at bytes s0 s1 so_far place long is w = fun_ext (λ i. ⊎_elim
     ∙ ap (λ (f : ℕ → ℕ). f i) so_far ∙ sym (passed b k p i ne))
     (cases_eq (i / 4096) (b.number k)))
 
--- ---- what images stand for
+-- ---- the pages of a list, one after another
 
--- the record at the gate's journal, whatever the gate
-pub same_record : (batch : Batch) (old new : ℕ → ℕ) → ((i : ℕ) → 0 < i → new i ≡ old i) → HoldsRecord batch old → HoldsRecord batch new
-same_record batch old new same held = record {
-  count = same_word 1 (omega arith) ∙ held.count;
-  pages = record {
-    number = λ k lt. same_word (5 + 4100 * k) (omega arith) ∙ held.pages.number k lt;
-    byte = λ k i lt fits. same (9 + 4100 * k + i) (omega arith) ∙ held.pages.byte k i lt fits;
-  };
-  closed = same (5 + 4100 * batch.count) (omega arith) ∙ held.closed;
-}
-  where
-    same_word : (at : ℕ) → 0 < at → word new at ≡ word old at
-    same_word at lt =
-        let e0 = same at lt in
-        let e1 = same (at + 1) (omega arith) in
-        let e2 = same (at + 2) (omega arith) in
-        let e3 = same (at + 3) (omega arith) in
-        omega arith
+shift : (e : ℕ × List ℕ) (rest : List (ℕ × List ℕ)) (n i : ℕ) (p : ℕ → ℕ) → written_up_to (batch_of (e ∷ rest)) (suc n) p i ≡ written_up_to (batch_of rest) n (written_up_to (batch_of (e ∷ rest)) 1 p) i
+unfolding written_up_to
+shift e rest zero i p = refl
+shift e rest (suc n) i p = ap (λ (x : ℕ). if i / 4096 == (get_or rest n (0, [])).0 then slice_index (get_or rest n (0, [])).1 (i % 4096) else x) (shift e rest n i p)
 
-pub is_record : (batch : Batch) (journal : ℕ → ℕ) → 0 < batch.count → ((k : ℕ) → k + 1 < batch.count → batch.number k < batch.number (k + 1)) → HoldsRecord batch journal → IsRecord journal
-is_record batch journal some ascending held =
-    let count : (batch_in journal).count ≡ batch.count = held.count in
-    record {
-      some = omega arith;
-      ascending = λ k lt. let a = held.pages.number k (omega arith) in let b = held.pages.number (k + 1) (omega arith) in let o = ascending k (omega arith) in omega arith;
-      closed = ap (λ (n : ℕ). journal (5 + 4100 * n)) count ∙ held.closed;
-    }
+-- the first page, and then the others
+pub with_first : (e : ℕ × List ℕ) (rest : List (ℕ × List ℕ)) (p : ℕ → ℕ) → with_batch (batch_of (e ∷ rest)) p ≡ with_batch (batch_of rest) (written_up_to (batch_of (e ∷ rest)) 1 p)
+with_first e rest p = fun_ext (λ i. shift e rest (length rest) i p)
 
--- the batch's record over pages that agree outside of it
-pub applied : (batch : Batch) (journal p q : ℕ → ℕ) → HoldsRecord batch journal → ((i : ℕ) → ((k : ℕ) → k < batch.count → i / 4096 ≢ batch.number k) → p i ≡ q i)
-    → with_batch (batch_in journal) p ≡ with_batch batch q
-applied batch journal p q held agree = fun_ext (λ i.
-    ap (λ (n : ℕ). written_up_to (batch_in journal) n p i) held.count
-    ∙ same_up_to (batch_in journal) batch batch.count i p q held.pages.number held.pages.byte (agree i))
+-- once the first page is written, the others are left
+pub page_first : (e : ℕ × List ℕ) (rest : List (ℕ × List ℕ)) (at : ℕ) (bytes : List ℕ) (s0 s1 : Image) (target : ℕ → ℕ) → at ≡ 4096 * e.0 → length bytes ≡ 4096 → bytes ≡ e.1
+    → Written Pages at bytes s0 s1 → with_batch (batch_of (e ∷ rest)) (s0 Pages) ≡ target → with_batch (batch_of rest) (s1 Pages) ≡ target
+page_first e rest at bytes s0 s1 target place long is w so_far =
+    ap (λ (p : ℕ → ℕ). with_batch (batch_of rest) p)
+    (page_more (batch_of (e ∷ rest)) 0 (s0 Pages) at bytes s0 s1 (written_none (batch_of (e ∷ rest)) (s0 Pages)) place long (λ i lt. ap (λ (l : List ℕ). slice_index l i) is) w)
+    ∙ sym (with_first e rest (s0 Pages)) ∙ so_far
+
+-- no page is left
+pub with_empty : (p : ℕ → ℕ) → with_batch (batch_of []) p ≡ p
+with_empty p = sym (written_none (batch_of []) p)
 
 -- ---- a map's entries
 

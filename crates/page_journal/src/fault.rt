@@ -1,10 +1,10 @@
-//! Why a call of the journal was refused.
+//! Why a call of the journal failed.
 ghost use Rattle.std.specs.Prelude.{◌≡◌};
 ghost use Rattle.page_journal.specs.declared.fault.JournalFault.TheVariants as faults;
 
 use disk_model::Failed;
 
-/// Why a commit or a recovery was refused.
+/// Why an append, a checkpoint or a recovery failed.
 #[derive(Clone, Copy, Debug, PartialEq, Eq)]
 pub enum JournalFault {
     /// The disk failed, and its count of faults rose.

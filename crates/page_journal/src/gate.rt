@@ -1,20 +1,21 @@
-//! The gate, byte 0 of the journal.
-ghost use Rattle.std.specs.Prelude.{◌≡◌, IsTrue, OnOk};
+//! The gates of the journal.
+ghost use Rattle.std.specs.Prelude.{◌≡◌, ◌<◌, ◌+◌, ◌^◌, IsTrue, OnOk};
 ghost use Rattle.disk_model.specs.World.{Keeps, HasDiskCause, LeavesOnlySeen};
 ghost use Rattle.disk_model.specs.declared.disk.Area.TheVariants as areas;
 ghost use Rattle.page_journal.specs.Record.{AllButGate};
 
 use disk_model::{Area, Disk, Failed};
 
-// Writes the gate alone, and makes it safe.
-pub(crate) fn set_gate<D: Disk>(disk: &mut D, value: u8) -> Result<(), Failed>
-    requires { IsTrue D.tells → LeavesOnlySeen (D.world disk.old) }
-    ensures keeps { IsTrue D.tells → Keeps AllButGate (D.world disk.old) (D.world disk.new) }
-    ensures done { IsTrue D.tells → OnOk result ((D.world disk.new).seen areas.Journal 0 ≡ value) }
+// Writes the gate at a place alone, and makes it safe.
+pub(crate) fn set_gate<D: Disk>(disk: &mut D, at: u64, value: u8) -> Result<(), Failed>
+    requires fits { at + 1 < 2 ^ 48 }
+    requires safe { IsTrue D.tells → LeavesOnlySeen (D.world disk.old) }
+    ensures keeps { IsTrue D.tells → Keeps (AllButGate at) (D.world disk.old) (D.world disk.new) }
+    ensures done { IsTrue D.tells → OnOk result ((D.world disk.new).seen areas.Journal at ≡ value) }
     ensures safe { IsTrue D.tells → OnOk result (LeavesOnlySeen (D.world disk.new)) }
     ensures cause { HasDiskCause (D.world disk.old) (D.world disk.new) result }
     ensures room { D.room_of disk.new ≡ D.room_of disk.old }
 {
-    disk.write(Area::Journal, 0, &[value])?;
+    disk.write(Area::Journal, at, &[value])?;
     disk.sync(Area::Journal)
 }

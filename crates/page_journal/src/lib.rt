@@ -1,22 +1,27 @@
-//! The journal of one record that makes the writing of many pages one step.
+//! The journal of records that makes the writing of many pages one step.
 //!
-//! A record at the front of the journal area is the gate (1 byte), the number n of pages (u32, big-endian, at least 1), n times
-//! a page number (u32) and the page's 4,096 bytes, and a last byte 0. Page numbers ascend. A gate is closed where it
-//! is 0, and open for every other value. [`commit`] writes the record behind a closed gate, opens the gate, writes the
-//! pages in their places and closes the gate, with a sync after each step. [`recover`] does the last two steps again
-//! where a crash left the gate open.
+//! A record in the journal area is its gate (1 byte), the number n of pages (u32, big-endian, at least 1), and n times a page number (u32)
+//! and the page's 4,096 bytes; page numbers ascend. The gate of the next record follows. A gate is closed where it is 0, and open
+//! for every other value. An image stands for its pages with all records before the first closed gate written, in order.
 //!
-//! At every moment an image that a crash may leave stands for the pages as they were, or for those with all given
-//! pages written. No call takes memory.
+//! [`append`] writes a record behind a closed gate, the next gate closed at its end, and then opens its gate, with a sync after each step.
+//! [`checkpoint`] writes the last images of all pages of the journal in their places, and closes the gate at its front. [`recover`]
+//! does so after a crash, from the journal itself.
+//!
+//! At every moment an image that a crash may leave stands for the pages as they were, or for those with all pages of the record under way.
 #![tactic(auto)]
 
-mod committing;
+mod appending;
+mod checkpointing;
 mod fault;
 mod gate;
+mod records;
 mod recovery;
 #[cfg(test)]
 mod tests;
 
-pub use committing::commit;
+pub use appending::append;
+pub use checkpointing::checkpoint;
 pub use fault::JournalFault;
+pub use records::Record;
 pub use recovery::recover;

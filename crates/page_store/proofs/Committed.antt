@@ -1,17 +1,37 @@
 -- A commit stays while no area changes.
-use Rattle.std.proofs.Common.{sym, ap, subst, ◌∙◌}
+use Rattle.std.proofs.Common.{◌≡◌, sym, ap, subst, ◌∙◌, ℕ}
 use Rattle.disk_model.specs.World.{World, Image}
-use Rattle.disk_model.specs.declared.disk.Area.TheVariants.{Pages, Journal}
+use Rattle.disk_model.specs.declared.disk.Area.TheVariants.{Journal}
+use Rattle.page_journal.specs.Record.{IsJournal, IsReady, applied, Batch, AreLastImages, journal_end}
 use Rattle.page_store.specs.declared.superblock.Superblock.{Superblock}
 use Rattle.page_store.specs.Superblock.{superblock_in, IsStorePage}
 use Rattle.page_store.specs.Contents.{page_bytes, IsCommitted}
 use Rattle.page_store.specs.Store.{Rests}
 
+-- calls that change no area leave the journal ready
+pub ready_rests : {at : ℕ} {old new : World} → IsReady at old → Rests old new → IsReady at new
+ready_rests ready rests = record {
+  safe = λ image may. ready.safe image (rests.crash image may) ∙ sym rests.seen;
+  journal = subst (λ (m : Image). IsJournal (m Journal)) (sym rests.seen) ready.journal;
+  end = ap (λ (m : Image). journal_end (m Journal)) rests.seen ∙ ready.end;
+}
+
 -- calls that change no area leave the disk as the last commit left it
-pub committed_rests : {block : Superblock} {old new : World} → IsCommitted block old → Rests old new → IsCommitted block new
+pub committed_rests : {block : Superblock} {at : ℕ} {old new : World} → IsCommitted block at old → Rests old new → IsCommitted block at new
 committed_rests committed rests = record {
-  closed = ap (λ (m : Image). m Journal 0) rests.seen ∙ committed.closed;
-  safe = λ image may. committed.safe image (rests.crash image may) ∙ sym rests.seen;
-  head = ap (λ (m : Image). superblock_in (page_bytes (m Pages) 0)) rests.seen ∙ committed.head;
-  page = λ range. subst (λ (m : Image). IsStorePage (page_bytes (m Pages) 0)) (sym rests.seen) (committed.page range);
+  ready = ready_rests committed.ready rests;
+  head = ap (λ (m : Image). superblock_in (page_bytes (applied m) 0)) rests.seen ∙ committed.head;
+  page = λ range. subst (λ (m : Image). IsStorePage (page_bytes (applied m) 0)) (sym rests.seen) (committed.page range);
+}
+
+-- and the pages that are kept are still the last images
+pub images_rest : {batch : Batch} {old new : World} → AreLastImages batch old.seen → Rests old new → AreLastImages batch new.seen
+images_rest {batch = batch} images rests = subst (λ (m : Image). AreLastImages batch m) (sym rests.seen) images
+
+-- and so they do once the disk stands for the same pages from another record on
+pub committed_later : {block : Superblock} {at next : ℕ} {old new : World} → IsCommitted block at old → IsReady next new → applied new.seen ≡ applied old.seen → IsCommitted block next new
+committed_later committed ready same = record {
+  ready = ready;
+  head = ap (λ (p : ℕ → ℕ). superblock_in (page_bytes p 0)) same ∙ committed.head;
+  page = λ range. subst (λ (p : ℕ → ℕ). IsStorePage (page_bytes p 0)) (sym same) (committed.page range);
 }

@@ -1,5 +1,6 @@
 pub mod Bytes
-mod Committed
+pub mod Committed
 mod Headers
+pub mod Kept
 mod OpeningReads
 pub mod Overlays

@@ -1,5 +1,5 @@
 -- What a commit of an overlay leaves.
-use Rattle.std.proofs.Common.{◌≡◌, ◌≢◌, ◌⊎◌, inl, inr, ⊎_elim, ℕ, zero, suc, ◌+◌, ◌*◌, ◌<◌, ◌≤◌, Bool, true, false, List, [], ◌∷◌, length, get_or, slice_index, nat_lt, ◌==◌, if◌then◌else◌, Option, Some, None, option_map, Box, refl, sym, ◌∙◌, ap, subst, arith}
+use Rattle.std.proofs.Common.{◌≡◌, ◌≢◌, ◌⊎◌, inl, inr, ⊎_elim, ℕ, zero, suc, ◌+◌, ◌*◌, ◌<◌, ◌≤◌, Bool, true, false, List, [], ◌∷◌, length, get_or, slice_index, nat_lt, ◌==◌, if◌then◌else◌, Option, Some, None, is_some, option_map, Box, refl, sym, ◌∙◌, ap, subst, arith}
 use Rattle.std.specs.Map.{keys_of, lookup}
 use Rattle.std.specs.BTreeMap.{is_at, IsOrdered}
 use Rattle.std.specs.List.Sorted.{IsStrictlySortedBy}
@@ -8,13 +8,12 @@ use Rattle.std.specs.declared.cmp.Ordering.TheVariants.{Less, Equal, Greater}
 use Rattle.std.specs.Cmp.{nat_cmp_is}
 use Rattle.std.specs.declared.alloc.Global.{Global}
 use Rattle.std.proofs.lemmas.Map.Keys.{below_from_sorted}
-use Rattle.std.proofs.lemmas.Bool.{cases_lt, cases_eq, cond-true, cond-false}
+use Rattle.std.proofs.lemmas.Bool.{cases_lt, cases_eq, cond-true, cond-false, false≢true}
 use mathlib.Core.Path.{fun_ext}
 use Rattle.disk_model.specs.World.{World, LeavesOnly}
-use Rattle.disk_model.specs.declared.disk.Area.TheVariants.{Pages}
-use Rattle.disk_model.proofs.Moments.{within}
+use Rattle.disk_model.proofs.Moments.{then, within}
 use Rattle.page_face.specs.FreeList.{PageMap}
-use Rattle.page_journal.specs.Record.{batch_of, given, with_batch, IsBeforeOrAfter}
+use Rattle.page_journal.specs.Record.{IsAscending, applied, batch_of, given, with_batch, IsBeforeOrAfter, IsReady, LeavesPages, StandsFor}
 use Rattle.page_journal.proofs.Batches.{page_here, page_elsewhere, length_given}
 use Rattle.page_store.specs.declared.superblock.Superblock.{Superblock}
 use Rattle.page_store.specs.Superblock.{superblock_in, IsInRange, IsStorePage}
@@ -23,35 +22,35 @@ use Rattle.page_store.specs.Contents.{IsCommitted}
 use Rattle.page_store.proofs.Bytes.{page_bytes-read, page_bytes-same}
 
 -- the test of a look-up answers whether the keys are equal
-same_key : (n k : ℕ) → n ≡ k → is_at (nat_cmp n) k ≡ true
+pub same_key : (n k : ℕ) → n ≡ k → is_at (nat_cmp n) k ≡ true
 same_key n k e = ap is_eq (sym (nat_cmp_is n k Equal e))
 
-other_key : (n k : ℕ) → (n ≡ k → ⊥) → is_at (nat_cmp n) k ≡ false
+pub other_key : (n k : ℕ) → (n ≡ k → ⊥) → is_at (nat_cmp n) k ≡ false
 other_key n k ne = ⊎_elim
     (λ (l : n < k). ap is_eq (sym (nat_cmp_is n k Less l)))
     (λ (g : k ≤ n). let above : k < n = omega arith in ap is_eq (sym (nat_cmp_is n k Greater above)))
     (cases_lt n k)
 
 -- the place of a page among the entries
-record Found (entries : List (ℕ × Box (List ℕ) Global)) (n : ℕ) : Type 0 where
-  place : ℕ
-  page : Box (List ℕ) Global
-  lt : place < length entries
-  number : (get_or (given entries) place (0, [])).0 ≡ n
-  bytes : (get_or (given entries) place (0, [])).1 ≡ page.value
-  at : lookup (is_at (nat_cmp n)) entries ≡ Some page
+pub record Found (entries : List (ℕ × Box (List ℕ) Global)) (n : ℕ) : Type 0 where
+  pub place : ℕ
+  pub page : Box (List ℕ) Global
+  pub lt : place < length entries
+  pub number : (get_or (given entries) place (0, [])).0 ≡ n
+  pub bytes : (get_or (given entries) place (0, [])).1 ≡ page.value
+  pub at : lookup (is_at (nat_cmp n)) entries ≡ Some page
 
 -- no entry has this page
-record Missing (entries : List (ℕ × Box (List ℕ) Global)) (n : ℕ) : Type 0 where
-  apart : (k : ℕ) → k < length entries → (get_or (given entries) k (0, [])).0 ≢ n
-  at : lookup (is_at (nat_cmp n)) entries ≡ None
+pub record Missing (entries : List (ℕ × Box (List ℕ) Global)) (n : ℕ) : Type 0 where
+  pub apart : (k : ℕ) → k < length entries → (get_or (given entries) k (0, [])).0 ≢ n
+  pub at : lookup (is_at (nat_cmp n)) entries ≡ None
 
 apart_more : (e : ℕ × Box (List ℕ) Global) (entries : List (ℕ × Box (List ℕ) Global)) (n : ℕ) → (n ≡ e.0 → ⊥) → ((k : ℕ) → k < length entries → (get_or (given entries) k (0, [])).0 ≢ n)
     → (k : ℕ) → k < length (e ∷ entries) → (get_or (given (e ∷ entries)) k (0, [])).0 ≢ n
 apart_more e entries n ne rest zero lt is = ne (sym is)
 apart_more e entries n ne rest (suc k) lt is = rest k (omega arith) is
 
-found_or_missing : (entries : List (ℕ × Box (List ℕ) Global)) (n : ℕ) → Found entries n ⊎ Missing entries n
+pub found_or_missing : (entries : List (ℕ × Box (List ℕ) Global)) (n : ℕ) → Found entries n ⊎ Missing entries n
 found_or_missing [] n = inr record { apart = λ k lt. absurd (omega arith); at = refl }
 found_or_missing (e ∷ entries) n = ⊎_elim
     (λ (same : n ≡ e.0). inl record { place = 0; page = e.1; lt = omega arith; number = sym same; bytes = refl; at = cond-true _ _ _ (same_key n e.0 same) })
@@ -79,32 +78,46 @@ later_apart entries sorted k m lt within is =
     let o = below_from_sorted (keys_of entries) k m 0 sorted lt (omega (arith, length_keys entries)) in
     omega arith
 
--- after a commit a page is the overlay's, and else the one from before
-pub page_bytes-with_batch : (overlay : Overlay) (area : ℕ → ℕ) (n : ℕ) → IsOrdered nat_cmp overlay → IsSized overlay
-    → page_bytes (with_batch (batch_of (given overlay.entries)) area) n ≡ first_of (page_in overlay n) (page_bytes area n)
-page_bytes-with_batch overlay area n ordered sized =
-    let entries = overlay.entries in
+-- the numbers of a map's entries ascend
+pub ascending_entries : (entries : List (ℕ × Box (List ℕ) Global)) → IsStrictlySortedBy nat_cmp (keys_of entries) → IsAscending (batch_of (given entries))
+ascending_entries entries sorted k lt =
+    let a = number_given entries k in
+    let b = number_given entries (k + 1) in
+    let o = below_from_sorted (keys_of entries) k (k + 1) 0 sorted (omega arith) (omega (arith, lt, length_keys entries, length_given entries)) in
+    omega arith
+
+-- with a map's entries written a page is the map's, and else the one from before
+pub page_bytes-with_entries : (entries : List (ℕ × Box (List ℕ) Global)) (area : ℕ → ℕ) (n : ℕ) → IsStrictlySortedBy nat_cmp (keys_of entries)
+    → ((page : Box (List ℕ) Global) → lookup (is_at (nat_cmp n)) entries ≡ Some page → length page.value ≡ 4096)
+    → page_bytes (with_batch (batch_of (given entries)) area) n ≡ first_of (option_map (λ (p : Box (List ℕ) Global). p.value) (lookup (is_at (nat_cmp n)) entries)) (page_bytes area n)
+page_bytes-with_entries entries area n sorted sized =
     let b = batch_of (given entries) in
     let after = with_batch b area in
     let count = length_given entries in
     ⊎_elim
     (λ (f : Found entries n).
-    let in_overlay : page_in overlay n ≡ Some f.page.value = ap (λ o. option_map (λ (p : Box (List ℕ) Global). p.value) o) f.at in
-    let long : length f.page.value ≡ 4096 = sized n f.page.value in_overlay in
+    let long : length f.page.value ≡ 4096 = sized f.page f.at in
     let stands : (i j : ℕ) → i < length f.page.value → 4096 * n + i ≡ j → slice_index f.page.value i ≡ after j = λ i j lt is.
     let small : i < 4096 = omega arith in
     let place : 4096 * b.number f.place + i ≡ j = ap (λ (m : ℕ). 4096 * m + i) f.number ∙ is in
-    let here : after (4096 * b.number f.place + i) ≡ b.byte f.place i = page_here b (length (given entries)) f.place i area (omega (arith, f.lt)) (λ m low high. later_apart entries ordered f.place m low (omega arith)) small in
+    let here : after (4096 * b.number f.place + i) ≡ b.byte f.place i = page_here b (length (given entries)) f.place i area (omega (arith, f.lt)) (λ m low high. later_apart entries sorted f.place m low (omega arith)) small in
     ap (λ (l : List ℕ). slice_index l i) (sym f.bytes) ∙ sym here ∙ ap after place in
-    sym (page_bytes-read after n f.page.value long stands) ∙ sym (ap (λ (o : Option (List ℕ)). first_of o (page_bytes area n)) in_overlay))
+    sym (page_bytes-read after n f.page.value long stands) ∙ sym (ap (λ (o : Option (Box (List ℕ) Global)). first_of (option_map (λ (p : Box (List ℕ) Global). p.value) o) (page_bytes area n)) f.at))
     (λ (m : Missing entries n).
-    let none : page_in overlay n ≡ None = ap (λ o. option_map (λ (p : Box (List ℕ) Global). p.value) o) m.at in
-    elsewhere m.apart count ∙ sym (ap (λ (o : Option (List ℕ)). first_of o (page_bytes area n)) none))
+    page_bytes-same _ area n (λ j lt. page_elsewhere b n j area (λ k within is. m.apart k (omega arith) (sym is)) lt)
+    ∙ sym (ap (λ (o : Option (Box (List ℕ) Global)). first_of (option_map (λ (p : Box (List ℕ) Global). p.value) o) (page_bytes area n)) m.at))
     (found_or_missing entries n)
-  where
-    elsewhere : ((k : ℕ) → k < length overlay.entries → (get_or (given overlay.entries) k (0, [])).0 ≢ n) → length (given overlay.entries) ≡ length overlay.entries
-        → page_bytes (with_batch (batch_of (given overlay.entries)) area) n ≡ page_bytes area n
-    elsewhere apart count = page_bytes-same _ area n (λ j lt. page_elsewhere (batch_of (given overlay.entries)) n j area (λ k within is. apart k (omega arith) (sym is)) lt)
+
+-- after a commit a page is the overlay's, and else the one from before
+pub page_bytes-with_batch : (overlay : Overlay) (area : ℕ → ℕ) (n : ℕ) → IsOrdered nat_cmp overlay → IsSized overlay
+    → page_bytes (with_batch (batch_of (given overlay.entries)) area) n ≡ first_of (page_in overlay n) (page_bytes area n)
+page_bytes-with_batch overlay area n ordered sized =
+    page_bytes-with_entries overlay.entries area n ordered (λ page is. sized n page.value (ap (λ (o : Option (Box (List ℕ) Global)). option_map (λ (p : Box (List ℕ) Global). p.value) o) is))
+
+-- a map that has a page has an entry
+pub has_entries : (entries : List (ℕ × Box (List ℕ) Global)) (n : ℕ) (page : List ℕ) → option_map (λ (p : Box (List ℕ) Global). p.value) (lookup (is_at (nat_cmp n)) entries) ≡ Some page → 0 < length entries
+has_entries [] n page is = absurd (false≢true (ap is_some is))
+has_entries (e ∷ entries) n page is = omega arith
 
 -- a commit of an overlay with page 0 leaves the contents that the overlay and page 0's fields hold
 pub committed_contents : (overlay whole : Overlay) (area : ℕ → ℕ) (block : Superblock) (head : List ℕ) → IsOrdered nat_cmp whole → IsSized whole → page_in whole 0 ≡ Some head → superblock_in head ≡ block
@@ -152,18 +165,49 @@ cleared_contents cleared area block none head =
 pub page_0 : (whole : Overlay) (area : ℕ → ℕ) (head : List ℕ) → IsOrdered nat_cmp whole → IsSized whole → page_in whole 0 ≡ Some head → page_bytes (with_batch (batch_of (given whole.entries)) area) 0 ≡ head
 page_0 whole area head ordered sized at_0 = page_bytes-with_batch whole area 0 ordered sized ∙ ap (λ (o : Option (List ℕ)). first_of o (page_bytes area 0)) at_0
 
--- while a commit runs a crash leaves the contents from before, or those of the overlay
-pub commit_leaves : (overlay whole : Overlay) (block last : Superblock) (head : List ℕ) (old new : World) → IsOrdered nat_cmp whole → IsSized whole → page_in whole 0 ≡ Some head → superblock_in head ≡ block
-    → ((n : ℕ) → n ≢ 0 → page_in whole n ≡ page_in overlay n) → (IsInRange block → IsStorePage head)
-    → IsCommitted last old → LeavesOnly old new (IsBeforeOrAfter (batch_of (given whole.entries)) old)
-    → LeavesOnly old new (HoldsOneOf (contents_in (old.seen Pages)) (contents_of (old.seen Pages) overlay block) old)
-commit_leaves overlay whole block last head old new ordered sized at_0 law others store committed leaves = within leaves (λ image said d. (
-  ⊎_elim
-      (λ s. inl record { area = old.seen Pages; stands = s; holds = refl; page = λ range. committed.page (subst IsInRange committed.head range) })
-      (λ s. inr record { area = with_batch (batch_of (given whole.entries)) (old.seen Pages); stands = s; holds = committed_contents overlay whole (old.seen Pages) block head ordered sized at_0 law others; page = λ range. subst IsStorePage (sym (page_0 whole (old.seen Pages) head ordered sized at_0)) (store range) })
-      d.0,
+-- once the overlay's record is written the disk is as a commit leaves it
+pub committed_by : (whole : Overlay) (area : ℕ → ℕ) (block : Superblock) (head : List ℕ) (at : ℕ) (new : World) → IsOrdered nat_cmp whole → IsSized whole → page_in whole 0 ≡ Some head → superblock_in head ≡ block
+    → (IsInRange block → IsStorePage head) → IsReady at new → applied new.seen ≡ with_batch (batch_of (given whole.entries)) area → IsCommitted block at new
+committed_by whole area block head at new ordered sized at_0 law store ready written =
+    let page : page_bytes (applied new.seen) 0 ≡ head = ap (λ (p : ℕ → ℕ). page_bytes p 0) written ∙ page_0 whole area head ordered sized at_0 in
+    record {
+      ready = ready;
+      head = ap superblock_in page ∙ law;
+      page = λ range. subst IsStorePage (sym page) (store range);
+    }
+
+-- while room is made a crash leaves the contents from before
+pub room_leaves : (block last : Superblock) (at : ℕ) (overlay : Overlay) (old new : World) → IsCommitted last at old → LeavesOnly old new (LeavesPages (applied old.seen) old)
+    → LeavesOnly old new (HoldsOneOf (contents_in (applied old.seen)) (contents_of (applied old.seen) overlay block) old)
+room_leaves block last at overlay old new committed leaves = within leaves (λ image said d. (
+  inl record { area = applied old.seen; stands = d.0; holds = refl; page = λ range. committed.page (subst IsInRange committed.head range) },
   d.1,
 ))
+
+-- and then, while the record is written, those from before or those of the overlay
+pub commit_leaves : (overlay whole : Overlay) (block last : Superblock) (head : List ℕ) (at : ℕ) (old mid new : World) → IsOrdered nat_cmp whole → IsSized whole → page_in whole 0 ≡ Some head → superblock_in head ≡ block
+    → ((n : ℕ) → n ≢ 0 → page_in whole n ≡ page_in overlay n) → (IsInRange block → IsStorePage head)
+    → IsCommitted last at old → LeavesOnly old mid (LeavesPages (applied old.seen) old) → applied mid.seen ≡ applied old.seen → mid.said ≡ old.said → LeavesOnly mid new (IsBeforeOrAfter (batch_of (given whole.entries)) mid)
+    → LeavesOnly old new (HoldsOneOf (contents_in (applied old.seen)) (contents_of (applied old.seen) overlay block) old)
+commit_leaves overlay whole block last head at old mid new ordered sized at_0 law others store committed room same quiet leaves =
+    let batch = batch_of (given whole.entries) in
+    (then) (room_leaves block last at overlay old mid committed room) (within leaves (λ image said d. (
+      ⊎_elim
+          (λ (s : StandsFor image (applied mid.seen)). inl record {
+            area = applied old.seen;
+            stands = subst (λ (p : ℕ → ℕ). StandsFor image p) same s;
+            holds = refl;
+            page = λ range. committed.page (subst IsInRange committed.head range);
+          })
+          (λ (s : StandsFor image (with_batch batch (applied mid.seen))). inr record {
+            area = with_batch batch (applied old.seen);
+            stands = subst (λ (p : ℕ → ℕ). StandsFor image (with_batch batch p)) same s;
+            holds = committed_contents overlay whole (applied old.seen) block head ordered sized at_0 law others;
+            page = λ range. subst IsStorePage (sym (page_0 whole (applied old.seen) head ordered sized at_0)) (store range);
+          })
+          d.0,
+      d.1 ∙ quiet,
+    )))
 
 -- an overlay without a page holds none of another length
 pub cleared_sized : (overlay : Overlay) → overlay.entries ≡ [] → IsSized overlay

@@ -3,7 +3,7 @@ use Rattle.std.specs.Prelude.{◌≡◌, ◌⊎◌, ℕ, ◌+◌, ◌≤◌, Lis
 use Rattle.std.specs.List.{AllByRecursion}
 use Rattle.disk_model.specs.World.{World, Image, Range, Rose}
 use Rattle.disk_model.specs.declared.disk.Area.TheVariants.{Pages, Journal}
-use Rattle.page_journal.specs.Record.{StandsFor}
+use Rattle.page_journal.specs.Record.{StandsFor, IsReady, applied}
 use Rattle.page_face.specs.declared.fault.Damage.{Damage}
 use Rattle.page_face.specs.declared.fault.Rule.TheVariants.{Head}
 use Rattle.page_store.specs.declared.superblock.Superblock.{Superblock}
@@ -24,16 +24,18 @@ pub record SaysNothingReadsHead (old new : World) : Type 0 where
   pub reads : new.reads ≡ old.reads ++ more
   pub each : AllByRecursion IsOpeningRead more
 
--- The store is open: the image that reads gave stands for the pages that they give now, and page 0 of them for this.
+-- The store is open: the disk stands for the pages that it stood for before, and page 0 of them for this.
 pub record IsOpened (block : Superblock) (old new : World) : Type 0 where
-  pub stands : StandsFor old.seen (new.seen Pages)
-  pub page : IsStorePage (page_bytes (new.seen Pages) 0)
-  pub committed : IsCommitted block new
+  pub stands : StandsFor old.seen (applied new.seen)
+  pub page : IsStorePage (page_bytes (applied new.seen) 0)
+  pub committed : IsCommitted block 0 new
 
--- Page 0 of the recovered store is none of a store, for this cause.
+-- The journal was recovered and nothing else was written: nothing is pending, the journal is at its front, and the disk stands for the pages
+-- that it stood for before. Page 0 of them is none of a store, for this cause.
 pub record IsRefused (fault : HeadFault) (old new : World) : Type 0 where
-  pub stands : StandsFor old.seen (new.seen Pages)
-  pub page : IsHeadFault fault (page_bytes (new.seen Pages) 0)
+  pub ready : IsReady 0 new
+  pub stands : StandsFor old.seen (applied new.seen)
+  pub page : IsHeadFault fault (page_bytes (applied new.seen) 0)
 
 -- the rule Head, broken at page 0
 abbrev pub head_damage : Damage

@@ -1,31 +1,39 @@
-//! Making the overlay safe, or dropping it.
-ghost use Rattle.std.specs.Prelude.{◌≡◌, ◌≢◌, ◌↔◌, ◌≤◌, IsTrue, true, false, [], OnOk, OnErr, IfErr, IsErrOf, ◌⊎◌};
+//! Making the overlay safe, or dropping it, and bringing the journal's pages to their places.
+ghost use Rattle.std.specs.Prelude.{◌≡◌, ◌≢◌, ◌↔◌, ◌≤◌, ◌^◌, ℕ, IsTrue, false, true, [], OnOk, OnErr, IfErr, IsErrOf, ◌⊎◌};
 ghost use Rattle.disk_model.specs.World.{LeavesOnly, Rose};
-ghost use Rattle.disk_model.specs.declared.disk.Area.TheVariants as areas;
-ghost use Rattle.page_journal.specs.Record.{SaysNothing};
-ghost use Rattle.page_store.specs.Contents.{contents_in, contents_of, IsCommitted, HoldsOneOf};
+ghost use Rattle.page_journal.specs.Record.{SaysNothing, LeavesPages, applied};
+ghost use Rattle.page_store.specs.Contents.{contents_in, contents_of, HasRoomFor, HoldsOneOf, page_in};
 
-use crate::overlay;
 use crate::store::Store;
+use crate::{journaled, overlay};
 use disk_model::Disk;
 use page_face::{PageFault, Pages};
-use page_journal::commit;
+use page_journal::{Record, append, checkpoint};
+use std::collections::BTreeMap;
+
+/// The length of the journal, in bytes, behind which a commit makes a checkpoint first: so many that a checkpoint's two syncs are shared by
+/// many commits, and so few that recovery after a crash and the pages kept in memory stay small.
+pub const JOURNAL_MAX: u64 = 16_777_216;
 
 impl<'d, D: Disk> Store<'d, D> {
-    /// Makes the overlay and the head safe in one commit.
+    /// Makes the overlay and the head safe in one commit, a record of the journal.
     ///
-    /// Refuses `Stopped`; `Memory`, and then all is as before; `Disk`, and then the store is stopped. The memory is
-    /// taken before the commit begins. A commit of n pages writes n + 1 pages, each twice, and makes four syncs.
+    /// Returns `Stopped` if an earlier commit or checkpoint failed; `Memory` if it runs out of memory, and then all is as before; `Disk` if
+    /// a call of the disk fails, and then the store is stopped. The memory is taken before the first write. Where the journal has grown
+    /// past [`JOURNAL_MAX`] a checkpoint comes first.
+    ///
+    /// Costs two writes, one of n + 1 pages where n are in the overlay and one of a byte, and two syncs; and from time to time a
+    /// checkpoint, which writes each page of the journal once, with two syncs more.
     pub fn commit_all(&mut self) -> Result<(), PageFault>
         ensures same_loan { self.new.disk.ghost_name ≡ self.old.disk.ghost_name }
 
         // A crash at any moment leaves the contents of the last commit, or all that stood in the overlay.
         ensures any_moment { IsTrue D.tells → LeavesOnly (D.world self.old.disk.now) (D.world self.new.disk.now)
-            (HoldsOneOf (contents_in ((D.world self.old.disk.now).seen areas.Pages))
-            (contents_of ((D.world self.old.disk.now).seen areas.Pages) self.old.overlay self.old.current) (D.world self.old.disk.now)) }
+            (HoldsOneOf (contents_in (applied (D.world self.old.disk.now).seen))
+            (contents_of (applied (D.world self.old.disk.now).seen) self.old.overlay self.old.current) (D.world self.old.disk.now)) }
 
-        ensures committed { IsTrue D.tells → OnOk result (contents_in ((D.world self.new.disk.now).seen areas.Pages)
-            ≡ contents_of ((D.world self.old.disk.now).seen areas.Pages) self.old.overlay self.old.current) }
+        ensures committed { IsTrue D.tells → OnOk result (contents_in (applied (D.world self.new.disk.now).seen)
+            ≡ contents_of (applied (D.world self.old.disk.now).seen) self.old.overlay self.old.current) }
         ensures clean { OnOk result ((self.new.overlay.entries ≡ []) × (self.new.last ≡ self.old.current)) }
         ensures current { self.new.current ≡ self.old.current }
         ensures pages { IsTrue D.tells → result ≢ Err PageFault.Disk → ⟦<Store<'d, D> as Pages>⟧.pages self.new ≡ ⟦<Store<'d, D> as Pages>⟧.pages self.old }
@@ -34,7 +42,8 @@ impl<'d, D: Disk> Store<'d, D> {
         ensures stops { IsErrOf result PageFault.Disk → self.new.stopped ≡ true }
         ensures goes_on { result ≢ Err PageFault.Disk → self.new.stopped ≡ self.old.stopped }
         ensures kept { OnErr result (self.new.last ≡ self.old.last) }
-        ensures untouched { result ≢ Err PageFault.Disk → OnErr result ((self.new.disk ≡ self.old.disk) × (self.new.overlay.entries ≡ self.old.overlay.entries)) }
+        ensures untouched { result ≢ Err PageFault.Disk → OnErr result (self.new.disk ≡ self.old.disk) }
+        ensures waiting { result ≢ Err PageFault.Disk → OnErr result ((n : ℕ) → n ≢ 0 → page_in self.new.overlay n ≡ page_in self.old.overlay n) }
         ensures causes { IfErr result (λ fault. (fault ≡ PageFault.Stopped) ⊎ (fault ≡ PageFault.Memory) ⊎ (fault ≡ PageFault.Disk)) }
         ensures cause { IsErrOf result PageFault.Disk → Rose (D.world self.old.disk.now).faults (D.world self.new.disk.now).faults }
         ensures faults { (D.world self.old.disk.now).faults ≤ (D.world self.new.disk.now).faults }
@@ -49,13 +58,106 @@ impl<'d, D: Disk> Store<'d, D> {
             return Err(PageFault::Stopped);
         }
         overlay::put(self.alloc, &mut self.overlay, 0, &self.current.encode())?;
+        let Ok(gathered) = Record::gather(self.alloc, &self.overlay) else {
+            return Err(PageFault::Memory);
+        };
+        self.make_room()?;
         // Until the commit has succeeded the store is stopped.
         self.stopped = true;
-        let Ok(()) = commit(&mut *self.disk, &self.overlay) else {
+        let Ok(end) = append(&mut *self.disk, self.end, &gathered) else {
             return Err(PageFault::Disk);
         };
-        self.overlay.clear();
+        journaled::keep(&mut self.journal, &mut self.overlay);
+        self.end = end;
         self.last = self.current;
+        self.stopped = false;
+        Ok(())
+    }
+
+    // Takes the memory for the overlay's pages among those of the journal. Makes a checkpoint where the journal has grown past its limit.
+    fn make_room(&mut self) -> Result<(), PageFault>
+        requires { self.old.stopped ≡ false }
+        ensures same_loan { self.new.disk.ghost_name ≡ self.old.disk.ghost_name }
+        ensures any_moment { IsTrue D.tells → LeavesOnly (D.world self.old.disk.now) (D.world self.new.disk.now)
+            (LeavesPages (applied (D.world self.old.disk.now).seen) (D.world self.old.disk.now)) }
+        ensures same { IsTrue D.tells → OnOk result (applied (D.world self.new.disk.now).seen ≡ applied (D.world self.old.disk.now).seen) }
+        ensures has_room { OnOk result (HasRoomFor self.new.overlay self.new.journal) }
+        ensures short { OnOk result (self.new.end ≤ 2 ^ 24) }
+        ensures on { OnOk result (self.new.stopped ≡ false) }
+
+        ensures stops { IsErrOf result PageFault.Disk → self.new.stopped ≡ true }
+        ensures goes_on { result ≢ Err PageFault.Disk → self.new.stopped ≡ false }
+        ensures causes { IfErr result (λ fault. (fault ≡ PageFault.Memory) ⊎ (fault ≡ PageFault.Disk)) }
+        ensures cause { IsErrOf result PageFault.Disk → Rose (D.world self.old.disk.now).faults (D.world self.new.disk.now).faults }
+        ensures faults { (D.world self.old.disk.now).faults ≤ (D.world self.new.disk.now).faults }
+        ensures sink { (D.world self.new.disk.now).sink_faults ≡ (D.world self.old.disk.now).sink_faults }
+        ensures untouched { result ≢ Err PageFault.Disk → OnErr result (self.new.disk ≡ self.old.disk) }
+
+        ensures overlay { self.new.overlay ≡ self.old.overlay }
+        ensures current { self.new.current ≡ self.old.current }
+        ensures last { self.new.last ≡ self.old.last }
+        ensures quiet { IsTrue D.tells → SaysNothing (D.world self.old.disk.now) (D.world self.new.disk.now) }
+        ensures room { D.room_of self.new.disk.now ≡ D.room_of self.old.disk.now }
+        ensures asked { self.new.asked.items ≡ self.old.asked.items }
+        ensures refused { self.new.refused ≡ self.old.refused }
+    {
+        if self.end <= JOURNAL_MAX {
+            return journaled::make_room(&mut self.journal, &self.overlay);
+        }
+        let mut fresh = BTreeMap::new(self.alloc);
+        journaled::make_room(&mut fresh, &self.overlay)?;
+        match self.settle() {
+            Ok(()) => {
+                self.journal = fresh;
+                Ok(())
+            }
+            Err(fault) => Err(fault),
+        }
+    }
+
+    /// Brings the pages of the journal to their places, so that the next record begins at its front. Leaves the overlay and the head.
+    ///
+    /// Returns `Stopped` if an earlier commit or checkpoint failed, and `Disk` if a call of the disk fails; then the store is stopped. At
+    /// every moment an image that a crash may leave stands for the same pages. Takes no memory. Costs a write for each page of the journal,
+    /// one of a byte, and two syncs; and no call of the disk where the journal holds no record.
+    pub fn settle(&mut self) -> Result<(), PageFault>
+        ensures same_loan { self.new.disk.ghost_name ≡ self.old.disk.ghost_name }
+        ensures any_moment { IsTrue D.tells → self.old.stopped ≡ false → LeavesOnly (D.world self.old.disk.now) (D.world self.new.disk.now)
+            (LeavesPages (applied (D.world self.old.disk.now).seen) (D.world self.old.disk.now)) }
+        ensures same { IsTrue D.tells → OnOk result (applied (D.world self.new.disk.now).seen ≡ applied (D.world self.old.disk.now).seen) }
+        ensures front { OnOk result (self.new.end ≡ 0) }
+        ensures at_rest { self.old.end ≡ 0 → self.new.disk ≡ self.old.disk }
+
+        ensures stopped { IsErrOf result PageFault.Stopped ↔ IsTrue self.old.stopped }
+        ensures stops { IsErrOf result PageFault.Disk → self.new.stopped ≡ true }
+        ensures goes_on { result ≢ Err PageFault.Disk → self.new.stopped ≡ self.old.stopped }
+        ensures causes { IfErr result (λ fault. (fault ≡ PageFault.Stopped) ⊎ (fault ≡ PageFault.Disk)) }
+        ensures cause { IsErrOf result PageFault.Disk → Rose (D.world self.old.disk.now).faults (D.world self.new.disk.now).faults }
+        ensures faults { (D.world self.old.disk.now).faults ≤ (D.world self.new.disk.now).faults }
+        ensures sink { (D.world self.new.disk.now).sink_faults ≡ (D.world self.old.disk.now).sink_faults }
+        ensures untouched { result ≢ Err PageFault.Disk → OnErr result (self.new.disk ≡ self.old.disk) }
+
+        ensures overlay { self.new.overlay ≡ self.old.overlay }
+        ensures current { self.new.current ≡ self.old.current }
+        ensures last { self.new.last ≡ self.old.last }
+        ensures quiet { IsTrue D.tells → SaysNothing (D.world self.old.disk.now) (D.world self.new.disk.now) }
+        ensures room { D.room_of self.new.disk.now ≡ D.room_of self.old.disk.now }
+        ensures asked { self.new.asked.items ≡ self.old.asked.items }
+        ensures refused { self.new.refused ≡ self.old.refused }
+    {
+        if self.stopped {
+            return Err(PageFault::Stopped);
+        }
+        if self.end == 0 {
+            return Ok(());
+        }
+        // Until the checkpoint has succeeded the store is stopped.
+        self.stopped = true;
+        let Ok(()) = checkpoint(&mut *self.disk, &self.journal) else {
+            return Err(PageFault::Disk);
+        };
+        self.journal.clear();
+        self.end = 0;
         self.stopped = false;
         Ok(())
     }
@@ -67,9 +169,9 @@ impl<'d, D: Disk> Store<'d, D> {
         ensures current { self.new.current ≡ self.old.last }
         ensures last { self.new.last ≡ self.old.last }
 
-        // What stands now is what the disk holds.
+        // What stands now is what the disk stands for.
         ensures committed { IsTrue D.tells → self.old.stopped ≡ false
-            → contents_of ((D.world self.new.disk.now).seen areas.Pages) self.new.overlay self.new.current ≡ contents_in ((D.world self.new.disk.now).seen areas.Pages) }
+            → contents_of (applied (D.world self.new.disk.now).seen) self.new.overlay self.new.current ≡ contents_in (applied (D.world self.new.disk.now).seen) }
 
         ensures stopped { self.new.stopped ≡ self.old.stopped }
         ensures asked { self.new.asked.items ≡ self.old.asked.items }

@@ -1,14 +1,14 @@
 //! The pages of a store.
 ghost use Rattle.std.specs.Prelude.{◌≡◌, ◌≢◌, ◌↔◌, ◌<◌, ◌≤◌, ◌+◌, ℕ, IsTrue, IfOk, IfErr, OnErr, IsErrOf, length};
 ghost use Rattle.disk_model.specs.World.{HasDiskCause};
-ghost use Rattle.disk_model.specs.declared.disk.Area.TheVariants as areas;
+ghost use Rattle.page_journal.specs.Record.{AreLastImages, applied, batch_of, kept};
 ghost use Rattle.page_face.specs.Causes.{IsUncounted, Rose, unlinked as link};
-ghost use Rattle.page_store.specs.Contents.{shown};
+ghost use Rattle.page_store.specs.Contents.{AreKept, shown};
 ghost use Rattle.page_store.specs.Store.{ReadsPage, kept_of};
 
-use crate::overlay;
 use crate::page::read_page;
 use crate::store::Store;
+use crate::{journaled, overlay};
 use disk_model::{Disk, Failed};
 use page_face::{Damage, Page, PageFault, Pages, Rule, free_next, free_page};
 use std::collections::BTreeMap;
@@ -28,19 +28,25 @@ fn is_uncounted(counted: u32, page: u32) -> bool
     page == 0 || page >= counted
 }
 
-// The page of the overlay, or else that of the disk.
+// The page of the overlay, or else of the journal, or else that of the disk.
 fn shown_page<D: Disk>(
     disk: &mut D,
     overlay: &BTreeMap<u32, Box<Page>>,
+    journal: &BTreeMap<u32, Option<Box<Page>>>,
     number: u32,
 ) -> Result<Page, Failed>
-    ensures gives { IfOk result (λ page. 0 < length (shown D.tells ((D.world disk.old).seen areas.Pages) overlay.now number)
-        → page ≡ shown D.tells ((D.world disk.old).seen areas.Pages) overlay.now number) }
+    requires kept { AreKept journal.now }
+    requires images { IsTrue D.tells → AreLastImages (batch_of (kept journal.now.entries)) (D.world disk.old).seen }
+    ensures gives { IfOk result (λ page. 0 < length (shown D.tells (applied (D.world disk.old).seen) overlay.now number)
+        → page ≡ shown D.tells (applied (D.world disk.old).seen) overlay.now number) }
     ensures reads { IsTrue D.tells → ReadsPage number (D.world disk.old) (D.world disk.new) }
     ensures cause { HasDiskCause (D.world disk.old) (D.world disk.new) result }
     ensures room { D.room_of disk.new ≡ D.room_of disk.old }
 {
-    match overlay::page_of(overlay, number) {
+    if let Some(page) = overlay::page_of(overlay, number) {
+        return Ok(*page);
+    }
+    match journaled::page_of(journal, number) {
         Some(page) => Ok(*page),
         None => read_page(disk, number),
     }
@@ -48,11 +54,11 @@ fn shown_page<D: Disk>(
 
 impl<'d, D: Disk> Pages for Store<'d, D> {
     ghost use Rattle.std.specs.Prelude.{◌≡◌, ◌≤◌, refl};
-    ghost use Rattle.disk_model.specs.declared.disk.Area.TheVariants.{Pages as pages_area};
+    ghost use Rattle.page_journal.specs.Record.{applied};
     ghost use Rattle.page_store.specs.Contents.{shown, counted_pages};
     ghost use Rattle.page_store.specs.Store.{GoesOn, OnlyReads, goes_nowhere, goes_further, reads_nothing, reads_further};
 
-    ghost pages = { λ s. counted_pages s.current.counted (shown D.tells ((D.world s.disk.now).seen pages_area) s.overlay) };
+    ghost pages = { λ s. counted_pages s.current.counted (shown D.tells (applied (D.world s.disk.now).seen) s.overlay) };
 
     ghost count = { λ s. s.current.counted };
 
@@ -90,7 +96,7 @@ impl<'d, D: Disk> Pages for Store<'d, D> {
         self.current.first_free
     }
 
-    // Inlined, so that a page of the overlay is copied once, to where the caller looks at it.
+    // Inlined, so that a page in memory is copied once, to where the caller looks at it.
     #[inline(always)]
     fn read(&mut self, page: u32) -> Result<Page, PageFault> {
         if self.stopped {
@@ -104,6 +110,9 @@ impl<'d, D: Disk> Pages for Store<'d, D> {
         }
         // Not through `shown_page`, whose answer of another type would copy the page once more.
         if let Some(held) = overlay::page_of(&self.overlay, page) {
+            return Ok(*held);
+        }
+        if let Some(held) = journaled::page_of(&self.journal, page) {
             return Ok(*held);
         }
         match read_page(&mut *self.disk, page) {
@@ -130,7 +139,7 @@ impl<'d, D: Disk> Pages for Store<'d, D> {
             return self.count_one();
         }
         let page = self.current.first_free;
-        let Ok(bytes) = shown_page(&mut *self.disk, &self.overlay, page) else {
+        let Ok(bytes) = shown_page(&mut *self.disk, &self.overlay, &self.journal, page) else {
             return Err(PageFault::Disk);
         };
         match free_next(&bytes) {
@@ -178,6 +187,7 @@ impl<'d, D: Disk> Store<'d, D> {
         ensures head { kept_of self.new.current self.new.last ≡ kept_of self.old.current self.old.last }
         ensures disk { self.new.disk ≡ self.old.disk }
         ensures overlay { self.new.overlay ≡ self.old.overlay }
+        ensures journal { self.new.journal ≡ self.old.journal }
         ensures asked { self.new.asked ≡ self.old.asked }
         ensures stopped { self.new.stopped ≡ self.old.stopped }
     {

@@ -1,9 +1,10 @@
 //! The store as one object.
 ghost use Rattle.std.specs.Prelude.{◌≡◌, ◌≢◌, ℕ, IsErrOf, ◌<◌, ◌≤◌, ◌-◌, ◌^◌, IsTrue, false, [], IfOk, length};
+ghost use Rattle.std.proofs.Props.{props};
 ghost use Rattle.disk_model.specs.World.{LeavesOnly, HasSaid, HasSinkCause};
-ghost use Rattle.page_journal.specs.Record.{IsBad, StandsAlike};
+ghost use Rattle.page_journal.specs.Record.{AreLastImages, IsBad, StandsAlike, batch_of, kept};
 ghost use Rattle.page_store.specs.declared.superblock.HeadFault.TheVariants as heads;
-ghost use Rattle.page_store.specs.Contents.{IsCommitted, IsSized};
+ghost use Rattle.page_store.specs.Contents.{AreKept, IsCommitted, IsSized};
 ghost use Rattle.page_store.specs.Opening.{IsOpened, IsNoStore, SaysNothingReadsHead, head_damage};
 
 use crate::opening::{OpenFault, recover_superblock};
@@ -15,19 +16,24 @@ use std::collections::BTreeMap;
 
 /// Pages on a disk that it borrows, committed whole or dropped.
 ///
-/// What is written stands in an overlay until [`Store::commit_all`] makes it safe in one commit or
-/// [`Store::abandon`] drops it. A commit that fails stops the store: from then on every call of the pages answers
-/// `Stopped`, and the store is to be opened again. No call of the pages changes the head.
+/// What is written stands in an overlay until [`Store::commit_all`] makes it safe in one commit, a record of the journal, or
+/// [`Store::abandon`] drops it. The last image of each page of the journal is kept in memory until a checkpoint brings it to its place. A
+/// commit or a checkpoint that fails stops the store: from then on every call of the pages returns `Stopped`, and the store is to be
+/// opened again. No call of the pages changes the head.
 ///
-/// Cost: `read` is one look-up in the overlay, and one page read from the disk where it isn't there; so is a `take` of a
-/// free page. `write` and `give_back` put one page into the overlay and make no call of the disk. The overlay holds each
-/// page written since the last commit once.
+/// Cost: `read` is one look-up in the overlay and one among the journal's pages, and one page read from the disk if it is in neither; so
+/// is a `take` of a free page. `write` and `give_back` put one page into the overlay and make no call of the disk. The overlay holds each
+/// page written since the last commit once, and the journal's pages take some 16 MiB at most beside those of one commit.
 #[derive(Drop)]
 pub struct Store<'d, D: Disk> {
     pub(crate) alloc: Global,
     pub(crate) disk: &'d mut D,
     // pages written since the last commit
     pub(crate) overlay: BTreeMap<u32, Box<Page>>,
+    // the last image of each page of the journal
+    pub(crate) journal: BTreeMap<u32, Option<Box<Page>>>,
+    // where the next record of the journal begins
+    pub(crate) end: u64,
     // page 0 as it stands, and as it was committed last
     pub(crate) current: Superblock,
     pub(crate) last: Superblock,
@@ -38,7 +44,9 @@ pub struct Store<'d, D: Disk> {
     ghost last_first: { last.first_free < last.counted },
     ghost few: { length overlay.entries < 2 ^ 32 - 1 },
     ghost sized: { IsSized overlay },
-    ghost ready: { IsTrue D.tells → stopped ≡ false → IsCommitted last (D.world disk.now) },
+    ghost in_order: { AreKept journal } by { Prim.hlevel props },
+    ghost ready: { IsTrue D.tells → stopped ≡ false → IsCommitted last end (D.world disk.now) },
+    ghost images: { IsTrue D.tells → stopped ≡ false → AreLastImages (batch_of (kept journal.entries)) (D.world disk.now).seen },
 }
 
 impl<'d, D: Disk> Store<'d, D> {
@@ -71,7 +79,7 @@ impl<'d, D: Disk> Store<'d, D> {
     /// The store over a disk that [`recover_superblock`] has answered this superblock of. Makes no call of the disk.
     pub fn over(alloc: Global, disk: &'d mut D, block: Superblock) -> Store<'d, D>
         requires in_range { block.first_free < block.counted }
-        requires committed { IsTrue D.tells → IsCommitted block (D.world disk.old) }
+        requires committed { IsTrue D.tells → IsCommitted block 0 (D.world disk.old) }
         ensures same_loan { result.disk.ghost_name ≡ disk.entry.ghost_name }
         ensures disk { result.disk.now ≡ disk.old }
         ensures block { result.last ≡ block }
@@ -82,6 +90,8 @@ impl<'d, D: Disk> Store<'d, D> {
             alloc,
             disk,
             overlay: BTreeMap::new(alloc),
+            journal: BTreeMap::new(alloc),
+            end: 0,
             current: block,
             last: block,
             asked: Vec::new(alloc),
@@ -99,6 +109,8 @@ impl<'d, D: Disk> Store<'d, D> {
             alloc: _,
             disk,
             overlay: _,
+            journal: _,
+            end: _,
             current: _,
             last: _,
             asked: _,
@@ -120,6 +132,7 @@ impl<'d, D: Disk> Store<'d, D> {
         ensures current { self.new.current ≡ record self.old.current { head = head.now } }
         ensures last { self.new.last ≡ self.old.last }
         ensures overlay { self.new.overlay ≡ self.old.overlay }
+        ensures journal { self.new.journal ≡ self.old.journal }
         ensures disk { self.new.disk ≡ self.old.disk }
         ensures log { self.new.asked.items ≡ self.old.asked.items }
         ensures refused { self.new.refused ≡ self.old.refused }
@@ -141,6 +154,7 @@ impl<'d, D: Disk> Store<'d, D> {
         ensures current { self.new.current ≡ self.old.current }
         ensures last { self.new.last ≡ self.old.last }
         ensures overlay { self.new.overlay ≡ self.old.overlay }
+        ensures journal { self.new.journal ≡ self.old.journal }
         ensures disk { self.new.disk ≡ self.old.disk }
         ensures refused { self.new.refused ≡ self.old.refused }
         ensures stopped { self.new.stopped ≡ self.old.stopped }

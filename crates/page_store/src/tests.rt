@@ -183,3 +183,55 @@ fn what_is_abandoned_is_as_committed(rt: HostRuntime) -> Result<(), Failure> {
     }
     Ok(())
 }
+
+#[test]
+fn a_page_is_read_as_committed_last_from_the_journal_and_from_its_place(
+    rt: HostRuntime,
+) -> Result<(), Failure> {
+    let mut station = MemoryStation::new(rt.alloc(), 9);
+    match Store::open(rt.alloc(), &mut station, 0) {
+        Ok(mut store) => {
+            assert_eq!(rt; store.take(), Ok(1));
+            assert_eq!(rt; store.write(1, &[6; 4096]), Ok(()));
+            assert_eq!(rt; store.commit_all(), Ok(()));
+            assert_eq!(rt; store.read(1).map(|page| page[0]), Ok(6));
+            assert_eq!(rt; store.write(1, &[7; 4096]), Ok(()));
+            assert_eq!(rt; store.commit_all(), Ok(()));
+            assert_eq!(rt; store.read(1).map(|page| page[0]), Ok(7));
+            assert_eq!(rt; store.settle(), Ok(()));
+            assert_eq!(rt; store.read(1).map(|page| page[0]), Ok(7));
+            assert_eq!(rt; store.settle(), Ok(()));
+            assert_eq!(rt; store.write(1, &[8; 4096]), Ok(()));
+            assert_eq!(rt; store.commit_all(), Ok(()));
+        }
+        Err(_) => assert!(rt; false),
+    }
+    let mut crashed = station.crashed(Tear::Lost)?;
+    assert_eq!(rt; held(rt.alloc(), &mut crashed), Ok((2, 0, 8)));
+    Ok(())
+}
+
+// Opening makes two syncs, a commit two and a checkpoint two.
+#[test]
+fn a_checkpoint_that_fails_stops_the_store(rt: HostRuntime) -> Result<(), Failure> {
+    let mut station = MemoryStation::new(rt.alloc(), 9);
+    station.fail_at(&[Fail {
+        kind: CallKind::Sync,
+        nth: 7,
+    }])?;
+    match Store::open(rt.alloc(), &mut station, 0) {
+        Ok(mut store) => {
+            assert_eq!(rt; store.take(), Ok(1));
+            assert_eq!(rt; store.write(1, &[7; 4096]), Ok(()));
+            assert_eq!(rt; store.commit_all(), Ok(()));
+            assert_eq!(rt; store.commit_all(), Ok(()));
+            assert_eq!(rt; store.settle(), Err(PageFault::Disk));
+            assert_eq!(rt; store.settle(), Err(PageFault::Stopped));
+            assert_eq!(rt; store.commit_all(), Err(PageFault::Stopped));
+            assert_eq!(rt; store.read(1), Err(PageFault::Stopped));
+        }
+        Err(_) => assert!(rt; false),
+    }
+    assert_eq!(rt; held(rt.alloc(), &mut station), Ok((2, 0, 7)));
+    Ok(())
+}

@@ -30,8 +30,7 @@ StandsStill old new = (state : Contents) → HoldsState old state → (after : C
 -- What a call over an open store may end by: damage, where the image stands for none. That it is a store was seen before.
 abbrev pub IsStoreEnd : Bool → World → StoreFault → Type 0
 IsStoreEnd tells old (stores.Damaged damage) = IsTrue tells → StandsForNone old.seen
-IsStoreEnd tells old stores.NotAStore = ⊥
-IsStoreEnd tells old (stores.BadJournal at) = ⊥
+IsStoreEnd tells old _ = ⊥
 
 -- What may end a call over an engine: want of memory, a disk or a sink whose count rose, damage, or a limit.
 abbrev pub IsEngineEnd : Bool → World → World → Ended → Type 0
@@ -40,10 +39,7 @@ IsEngineEnd tells old new Disk = Rose old.faults new.faults
 IsEngineEnd tells old new Sink = Rose old.sink_faults new.sink_faults
 IsEngineEnd tells old new (Store fault) = IsStoreEnd tells old fault
 IsEngineEnd tells old new (Limit fault) = Unit {0}
-IsEngineEnd tells old new (Input fault) = ⊥
-IsEngineEnd tells old new Source = ⊥
-IsEngineEnd tells old new Done = ⊥
-IsEngineEnd tells old new Words = ⊥
+IsEngineEnd tells old new _ = ⊥
 
 -- such an end has its cause, and no count falls
 pub record HasEngineEnd {T : Type 0} (tells : Bool) (old new : World) (result : Result T Ended) : Type 0 where
@@ -61,8 +57,7 @@ IsJobEnd tells source_old source_new old new Sink = Rose old.sink_faults new.sin
 IsJobEnd tells source_old source_new old new (Input fault) = Unit {0}
 IsJobEnd tells source_old source_new old new (Store fault) = IsStoreEnd tells old fault
 IsJobEnd tells source_old source_new old new (Limit fault) = Unit {0}
-IsJobEnd tells source_old source_new old new Done = ⊥
-IsJobEnd tells source_old source_new old new Words = ⊥
+IsJobEnd tells source_old source_new old new _ = ⊥
 
 -- each end has its cause, and no count falls
 pub record HasJobEnd {T : Type 0} (tells : Bool) (source_old source_new : ℕ) (old new : World) (result : Result T Ended) : Type 0 where

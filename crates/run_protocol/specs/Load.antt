@@ -1,5 +1,5 @@
 -- What a load says and does, as a function of what its text gives.
-use Rattle.std.specs.Prelude.{ℕ, ◌+◌, ◌<◌, ◌≤◌, nat_le, if◌then◌else◌, List, [], ◌∷◌, ◌++◌, length, None, Result, Ok, Err, codes, decimal}
+use Rattle.std.specs.Prelude.{ℕ, ◌+◌, ◌^◌, ◌<◌, ◌≤◌, nat_le, if◌then◌else◌, List, [], ◌∷◌, ◌++◌, length, None, Result, Ok, Err, codes, decimal}
 use Rattle.term_impacts.specs.Impacts.{word_impacts}
 use Rattle.place_map.specs.declared.update.Update.{Update}
 use Rattle.place_map.specs.declared.update.Update.TheVariants.{Put}
@@ -16,7 +16,7 @@ use Rattle.geojson_points.specs.declared.taken.SkipReason.TheVariants.{NotFeatur
 use Rattle.run_protocol.specs.declared.ended.InputFault.{InputFault}
 use Rattle.run_protocol.specs.declared.ended.InputFault.TheVariants as inputs
 use Rattle.run_protocol.specs.declared.ended.LimitFault.{LimitFault}
-use Rattle.run_protocol.specs.declared.ended.LimitFault.TheVariants.{Full, Worn}
+use Rattle.run_protocol.specs.declared.ended.LimitFault.TheVariants.{Full, Worn, NoRoom}
 use Rattle.run_protocol.specs.Turn.{Transcript, End, continued, Done, Input, Limit}
 
 -- ---- the lines
@@ -102,6 +102,22 @@ IsTaken input (Err (inputs.Syntax at)) = (length input ≤ load_max) × Takes in
 IsTaken input (Err (inputs.TooDeep at)) = (length input ≤ load_max) × Takes input None (Err (loads.Json (json.TooDeep at)))
 IsTaken input (Err inputs.NotFeatures) = (length input ≤ load_max) × Takes input None (Err loads.NotFeatures)
 IsTaken input (Err inputs.Long) = load_max < length input
+
+-- the text of a load gives items
+abbrev pub GivesItems : List ℕ → Type 0
+GivesItems input = (items : List Item) × IsTaken input (Ok items)
+
+-- how many of the items are places
+abbrev pub places_among : List Item → ℕ
+places_among [] = 0
+places_among (Placed place ∷ items) = places_among items + 1
+places_among (Skipped index reason ∷ items) = places_among items
+
+-- The text of a load gives items whose places reach this limit, from so many live places and this update number on.
+abbrev pub ReachesLimit : LimitFault → ℕ → ℕ → List ℕ → Type 0
+ReachesLimit Full live number input = (items : List Item) × IsTaken input (Ok items) × (200000 ≤ live + places_among items)
+ReachesLimit Worn live number input = (items : List Item) × IsTaken input (Ok items) × (2 ^ 40 ≤ number + places_among items)
+ReachesLimit NoRoom live number input = Unit {0}
 
 -- all that a load says and does
 abbrev pub load_transcript : ℕ → Contents → Result (List Item) InputFault → Transcript

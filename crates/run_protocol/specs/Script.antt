@@ -1,11 +1,12 @@
 -- What a script says and does, as a function of the state at its start and of its bytes.
-use Rattle.std.specs.Prelude.{ℕ, ◌==◌, nat_lt, if◌then◌else◌, List, [], ◌∷◌, ◌++◌, length, take, Result, Ok, Err}
+use Rattle.std.specs.Prelude.{◌≡◌, ℕ, ◌<◌, ◌≤◌, ◌==◌, nat_lt, if◌then◌else◌, List, [], ◌∷◌, ◌++◌, length, take, Result, Ok, Err}
 use Rattle.place_map.specs.declared.update.Update.{Update}
 use Rattle.place_map.specs.declared.update.Applied.{Applied}
 use Rattle.place_map.specs.declared.update.Applied.TheVariants.{New, Replaced, Gone, Absent}
 use Rattle.place_map.specs.declared.update.UpdateFault.{UpdateFault}
 use Rattle.place_map.specs.State.{Contents}
 use Rattle.place_map.specs.Update.{effect_of}
+use Rattle.run_protocol.specs.declared.ended.InputFault.{InputFault}
 use Rattle.run_protocol.specs.declared.ended.InputFault.TheVariants.{Long}
 use Rattle.query_lang.specs.declared.line.Line.{Line}
 use Rattle.query_lang.specs.declared.line.Line.TheVariants.{Nothing, Do, Ask, Show, Count}
@@ -85,6 +86,14 @@ input_max = 268435456
 abbrev pub script_lines : List ℕ → List (List ℕ)
 script_lines input =
     if nat_lt input_max (length input) then (cut (take input_max input)).lines else (cut input).lines ++ last_line (cut input).rest
+
+-- why the input of a script ends it
+abbrev pub IsScriptInput : List ℕ → InputFault → Type 0
+IsScriptInput input fault = (fault ≡ Long) × (input_max < length input)
+
+-- the input is no longer than that of a script may be
+abbrev pub FitsScript : List ℕ → Type 0
+FitsScript input = length input ≤ input_max
 
 -- all that a script says and does
 abbrev pub script_transcript : Contents → List ℕ → Transcript

@@ -15,6 +15,7 @@ pub fn say_all<'d, T: Station>(engine: &mut Engine<'d, T>, bytes: &[u8]) -> Resu
     ensures cause { HasSinkCause (T.world engine.old.store.disk.now) (T.world engine.new.store.disk.now) result }
     ensures room { T.room_of engine.new.store.disk.now ≡ T.room_of engine.old.store.disk.now }
     ensures on { engine.new.stopped ≡ false }
+    ensures head { engine.new.store.current ≡ engine.old.store.current }
 {
     let mut at = 0;
     while at < bytes.len() {

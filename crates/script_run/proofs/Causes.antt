@@ -21,8 +21,7 @@ none-then old now first none = λ state holds. let here = first state holds in n
 -- so damage that was met later was met in it
 damage-then : (tells : Bool) (old now : World) (fault : StoreFault) → (IsTrue tells → StandsStill old now) → IsStoreEnd tells now fault → IsStoreEnd tells old fault
 damage-then tells old now (stores.Damaged damage) stands cause = λ told. none-then old now (stands told) (cause told)
-damage-then tells old now stores.NotAStore stands cause = absurd cause
-damage-then tells old now (stores.BadJournal at) stands cause = absurd cause
+damage-then tells old now _ stands cause = absurd cause
 
 -- ---- over an engine
 
@@ -41,10 +40,7 @@ engine-later tells old now new ends.Disk faults sink stands cause = omega (arith
 engine-later tells old now new ends.Sink faults sink stands cause = omega (arith, cause, sink)
 engine-later tells old now new (ends.Store fault) faults sink stands cause = damage-then tells old now fault stands cause
 engine-later tells old now new (ends.Limit fault) faults sink stands cause = tt
-engine-later tells old now new (ends.Input fault) faults sink stands cause = absurd cause
-engine-later tells old now new ends.Source faults sink stands cause = absurd cause
-engine-later tells old now new ends.Done faults sink stands cause = absurd cause
-engine-later tells old now new ends.Words faults sink stands cause = absurd cause
+engine-later tells old now new _ faults sink stands cause = absurd cause
 
 module _ {A : Type 0} (tells : Bool) (old now new : World) (value : A) (first : HasEngineEnd tells old now (Ok value)) where
   -- one call behind another
@@ -82,10 +78,7 @@ job-of-engine tells source_old source_new old new ends.Disk cause = cause
 job-of-engine tells source_old source_new old new ends.Sink cause = cause
 job-of-engine tells source_old source_new old new (ends.Store fault) cause = cause
 job-of-engine tells source_old source_new old new (ends.Limit fault) cause = tt
-job-of-engine tells source_old source_new old new (ends.Input fault) cause = tt
-job-of-engine tells source_old source_new old new ends.Source cause = absurd cause
-job-of-engine tells source_old source_new old new ends.Done cause = absurd cause
-job-of-engine tells source_old source_new old new ends.Words cause = absurd cause
+job-of-engine tells source_old source_new old new _ cause = absurd cause
 
 -- a job of one call over the engine, with reads of the source
 pub job-by-engine : {T : Type 0} (tells : Bool) (source_old source_new : ℕ) (old new : World) (result : Result T Ended) → source_old ≤ source_new → HasEngineEnd tells old new result → HasJobEnd tells source_old source_new old new result
@@ -116,8 +109,7 @@ piece-later tells source_old source_new old now new (ends.Store fault) faults si
 piece-later tells source_old source_new old now new (ends.Limit fault) faults sink stands cause = tt
 piece-later tells source_old source_new old now new (ends.Input fault) faults sink stands cause = tt
 piece-later tells source_old source_new old now new ends.Source faults sink stands cause = absurd (omega (arith, cause))
-piece-later tells source_old source_new old now new ends.Done faults sink stands cause = absurd cause
-piece-later tells source_old source_new old now new ends.Words faults sink stands cause = absurd cause
+piece-later tells source_old source_new old now new _ faults sink stands cause = absurd cause
 
 module _ {A : Type 0} (tells : Bool) (source_old source_now source_new : ℕ) (old now new : World) (value : A) (first : HasJobEnd tells source_old source_now old now (Ok value)) (source : source_now ≤ source_new) where
   -- a piece that was read is acted on

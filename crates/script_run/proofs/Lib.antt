@@ -1,4 +1,5 @@
 mod Causes
+mod Ends
 mod Feeding
 mod Fronts
 mod Lines

@@ -250,14 +250,7 @@ plain-stops state line read new ends.Disk says stops = tt
 plain-stops state line read new (ends.Limit limits.NoRoom) says stops =
     let is : line ≡ lines.Do stops.0.0 = cc in
     ((stops.0.0, says ∙ ap (λ (l : Line). Ok (plain_line l)) is), stops.1)
-plain-stops state line read new (ends.Limit limits.Full) says stops = absurd stops
-plain-stops state line read new (ends.Limit limits.Worn) says stops = absurd stops
-plain-stops state line read new (ends.Store fault) says stops = absurd stops
-plain-stops state line read new (ends.Input fault) says stops = absurd stops
-plain-stops state line read new ends.Sink says stops = absurd stops
-plain-stops state line read new ends.Source says stops = absurd stops
-plain-stops state line read new ends.Done says stops = absurd stops
-plain-stops state line read new ends.Words says stops = absurd stops
+plain-stops state line read new _ says stops = absurd stops
 
 module _ (state : Contents) (line : Line) (read : Result Line LineFault) (old new : World) (says : read ≡ Ok (plain_line line)) where
   -- the state after the line is that after its bytes

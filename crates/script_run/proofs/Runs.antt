@@ -62,13 +62,7 @@ stops-goes_on state lines more before now ends.Memory stops = front-goes_on _ _ 
 stops-goes_on state lines more before now ends.Disk stops = front-goes_on _ _ _ before now.said (text-append state lines more) stops
 stops-goes_on state lines more before now ends.Sink stops = front-goes_on _ _ _ before now.said (text-append state lines more) stops
 stops-goes_on state lines more before now (ends.Limit limits.NoRoom) stops = no_room-goes_on state lines more before now stops
-stops-goes_on state lines more before now (ends.Limit limits.Full) stops = absurd stops
-stops-goes_on state lines more before now (ends.Limit limits.Worn) stops = absurd stops
-stops-goes_on state lines more before now (ends.Store fault) stops = absurd stops
-stops-goes_on state lines more before now (ends.Input fault) stops = absurd stops
-stops-goes_on state lines more before now ends.Source stops = absurd stops
-stops-goes_on state lines more before now ends.Done stops = absurd stops
-stops-goes_on state lines more before now ends.Words stops = absurd stops
+stops-goes_on state lines more before now _ stops = absurd stops
 
 -- any end behind lines that were acted on
 stops-behind : (state : Contents) (first next : List (List ℕ)) (before : List ℕ) (now : World) (end : Ended) → StopsAmong (script state first).state next (before ++ (script state first).text) now end → StopsAmong state (first ++ next) before now end
@@ -76,13 +70,7 @@ stops-behind state first next before now ends.Memory stops = front-behind _ _ _ 
 stops-behind state first next before now ends.Disk stops = front-behind _ _ _ before now.said (text-append state first next) stops
 stops-behind state first next before now ends.Sink stops = front-behind _ _ _ before now.said (text-append state first next) stops
 stops-behind state first next before now (ends.Limit limits.NoRoom) stops = no_room-behind state first next before now stops
-stops-behind state first next before now (ends.Limit limits.Full) stops = absurd stops
-stops-behind state first next before now (ends.Limit limits.Worn) stops = absurd stops
-stops-behind state first next before now (ends.Store fault) stops = absurd stops
-stops-behind state first next before now (ends.Input fault) stops = absurd stops
-stops-behind state first next before now ends.Source stops = absurd stops
-stops-behind state first next before now ends.Done stops = absurd stops
-stops-behind state first next before now ends.Words stops = absurd stops
+stops-behind state first next before now _ stops = absurd stops
 
 -- ---- runs
 
@@ -162,13 +150,7 @@ stops-alike state line other before now ends.Disk same stops = subst (λ (u : Tu
 stops-alike state line other before now ends.Sink same stops = subst (λ (u : Turn). SaysFrontOf u.text before now.said) (script-alike state line other same) stops
 stops-alike state line other before now (ends.Limit limits.NoRoom) same stops =
     ⊎_elim (λ (here : IsUpdateLine line × (now.said ≡ before) × HoldsState now state). inl ((here.0.0, sym same ∙ here.0.1), here.1, here.2)) (λ behind. absurd behind) stops
-stops-alike state line other before now (ends.Limit limits.Full) same stops = absurd stops
-stops-alike state line other before now (ends.Limit limits.Worn) same stops = absurd stops
-stops-alike state line other before now (ends.Store fault) same stops = absurd stops
-stops-alike state line other before now (ends.Input fault) same stops = absurd stops
-stops-alike state line other before now ends.Source same stops = absurd stops
-stops-alike state line other before now ends.Done same stops = absurd stops
-stops-alike state line other before now ends.Words same stops = absurd stops
+stops-alike state line other before now _ same stops = absurd stops
 
 -- and a crash leaves the same of both
 left-alike : (state : Contents) (line other : List ℕ) (old new : World) → line_of line ≡ line_of other → LeavesOnly old new (LeftByLines state (line ∷ []) old.said) → LeavesOnly old new (LeftByLines state (other ∷ []) old.said)

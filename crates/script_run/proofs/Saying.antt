@@ -60,14 +60,7 @@ stops-before : (state : Contents) (line : List ℕ) (old new : World) (end : End
 stops-before state line old new ends.Memory said stops = (0, said ∙ sym (append-nil old.said))
 stops-before state line old new ends.Disk said stops = (0, said ∙ sym (append-nil old.said))
 stops-before state line old new (ends.Limit limits.NoRoom) said stops = inl (stops.0, said, stops.1)
-stops-before state line old new (ends.Limit limits.Full) said stops = absurd stops
-stops-before state line old new (ends.Limit limits.Worn) said stops = absurd stops
-stops-before state line old new (ends.Store fault) said stops = absurd stops
-stops-before state line old new (ends.Input fault) said stops = absurd stops
-stops-before state line old new ends.Sink said stops = absurd stops
-stops-before state line old new ends.Source said stops = absurd stops
-stops-before state line old new ends.Done said stops = absurd stops
-stops-before state line old new ends.Words said stops = absurd stops
+stops-before state line old new _ said stops = absurd stops
 
 module _ (state : Contents) (line : List ℕ) (old now : World) where
   -- a line that was stopped

@@ -72,13 +72,7 @@ stops-script start input first new ends.Memory stops = stops
 stops-script start input first new ends.Disk stops = stops
 stops-script start input first new ends.Sink stops = stops
 stops-script start input first new (ends.Limit limits.NoRoom) stops = stops
-stops-script start input first new (ends.Limit limits.Full) stops = absurd stops
-stops-script start input first new (ends.Limit limits.Worn) stops = absurd stops
-stops-script start input first new (ends.Store fault) stops = absurd stops
-stops-script start input first new (ends.Input fault) stops = absurd stops
-stops-script start input first new ends.Source stops = absurd stops
-stops-script start input first new ends.Done stops = absurd stops
-stops-script start input first new ends.Words stops = absurd stops
+stops-script start input first new _ stops = absurd stops
 
 -- a script that stopped has ended
 pub stops-ends : (T : Type 0) (start : Contents) (input left : List ℕ) (first new : World) (end : Ended) → Stops start input first new end → EndsScript {T = T} start input left first new (Err end)
@@ -87,10 +81,7 @@ stops-ends T start input left first new ends.Disk stops = stops
 stops-ends T start input left first new ends.Sink stops = stops
 stops-ends T start input left first new (ends.Input fault) stops = stops
 stops-ends T start input left first new (ends.Limit fault) stops = stops
-stops-ends T start input left first new (ends.Store fault) stops = absurd stops
-stops-ends T start input left first new ends.Source stops = absurd stops
-stops-ends T start input left first new ends.Done stops = absurd stops
-stops-ends T start input left first new ends.Words stops = absurd stops
+stops-ends T start input left first new _ stops = absurd stops
 
 -- a script that was run whole has ended
 runs-ends : {T : Type 0} (start : Contents) (input left : List ℕ) (first new : World) (result : Result T Ended) → length input ≤ input_max → left ≡ [] → RunsLines start (script_lines input) first new result → EndsScript start input left first new result
@@ -219,10 +210,7 @@ module _ (start : Contents) (input left : List ℕ) (first now : World) (line : 
     piece-ends (ends.Input fault) runs =
         let all = too_long runs.1 runs.2 in
         record { end = end-long start input all.0 ∙ ap Input (sym runs.0); said = all.1.said; holds = all.1.holds }
-    piece-ends (ends.Store fault) runs = absurd runs
-    piece-ends ends.Source runs = absurd runs
-    piece-ends ends.Done runs = absurd runs
-    piece-ends ends.Words runs = absurd runs
+    piece-ends _ runs = absurd runs
 
     -- and a crash left one of the states around a line
     pub piece-left : (end : Ended) → RunsPiece (script start (cut s.read).lines).state (cut ((cut s.read).rest ++ take (268435456 - taken) piece)).lines (268435456 - taken) (length piece) now new (Err end)
@@ -232,10 +220,7 @@ module _ (start : Contents) (input left : List ℕ) (first now : World) (line : 
     piece-left ends.Sink runs = (broken ends.Sink runs).left_by
     piece-left (ends.Limit fault) runs = (broken (ends.Limit fault) runs).left_by
     piece-left (ends.Input fault) runs = (too_long runs.1 runs.2).1.left_by
-    piece-left (ends.Store fault) runs = absurd runs
-    piece-left ends.Source runs = absurd runs
-    piece-left ends.Done runs = absurd runs
-    piece-left ends.Words runs = absurd runs
+    piece-left _ runs = absurd runs
 
 -- a run that stopped within a piece
 pub piece-stopped : (state : Contents) (lines : List (List ℕ)) (room len : ℕ) (old new : World) (end : Ended) → RunsLines {T = Unit {0}} state lines old new (Err end) → RunsPiece state lines room len old new (Err end)
@@ -243,8 +228,4 @@ piece-stopped state lines room len old new ends.Memory runs = record { said = tt
 piece-stopped state lines room len old new ends.Disk runs = record { said = tt; holds = tt; stops = runs.stops; left_by = runs.left_by }
 piece-stopped state lines room len old new ends.Sink runs = record { said = tt; holds = tt; stops = runs.stops; left_by = runs.left_by }
 piece-stopped state lines room len old new (ends.Limit fault) runs = record { said = tt; holds = tt; stops = runs.stops; left_by = runs.left_by }
-piece-stopped state lines room len old new (ends.Input fault) runs = absurd runs.stops
-piece-stopped state lines room len old new (ends.Store fault) runs = absurd runs.stops
-piece-stopped state lines room len old new ends.Source runs = absurd runs.stops
-piece-stopped state lines room len old new ends.Done runs = absurd runs.stops
-piece-stopped state lines room len old new ends.Words runs = absurd runs.stops
+piece-stopped state lines room len old new _ runs = absurd runs.stops

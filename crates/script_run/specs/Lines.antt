@@ -1,5 +1,5 @@
 -- How lines are acted on, and how that stops.
-use Rattle.std.specs.Prelude.{◌≡◌, ℕ, ◌<◌, List, ◌++◌, Result, Ok, Err, IfOk, IfErr, OnOk}
+use Rattle.std.specs.Prelude.{◌≡◌, ℕ, ◌+◌, ◌<◌, List, ◌++◌, Result, Ok, Err, IfOk, IfErr, OnOk}
 use Rattle.disk_model.specs.World.{World, LeavesOnly}
 use Rattle.place_map.specs.State.{Contents}
 use Rattle.place_map.specs.declared.update.Update.{Update}
@@ -46,14 +46,7 @@ abbrev pub StopsBeforeReply : Contents → Result Line LineFault → World → E
 StopsBeforeReply state read now ends.Memory = Unit {0}
 StopsBeforeReply state read now ends.Disk = Unit {0}
 StopsBeforeReply state read now (ends.Limit limits.NoRoom) = IsUpdate read × HoldsState now state
-StopsBeforeReply state read now (ends.Limit limits.Full) = ⊥
-StopsBeforeReply state read now (ends.Limit limits.Worn) = ⊥
-StopsBeforeReply state read now (ends.Store fault) = ⊥
-StopsBeforeReply state read now (ends.Input fault) = ⊥
-StopsBeforeReply state read now ends.Sink = ⊥
-StopsBeforeReply state read now ends.Source = ⊥
-StopsBeforeReply state read now ends.Done = ⊥
-StopsBeforeReply state read now ends.Words = ⊥
+StopsBeforeReply state read now _ = ⊥
 
 -- A line that was read so was acted on: its reply has its text, and the image stands for the state after it. Nothing was said, and a
 -- crash left the state before the line or the one after it.
@@ -72,13 +65,7 @@ StopsAmong state lines before now ends.Memory = SaysFrontOf (script state lines)
 StopsAmong state lines before now ends.Disk = SaysFrontOf (script state lines).text before now.said
 StopsAmong state lines before now ends.Sink = SaysFrontOf (script state lines).text before now.said
 StopsAmong state lines before now (ends.Limit limits.NoRoom) = StopsAtLine state lines before now
-StopsAmong state lines before now (ends.Limit limits.Full) = ⊥
-StopsAmong state lines before now (ends.Limit limits.Worn) = ⊥
-StopsAmong state lines before now (ends.Store fault) = ⊥
-StopsAmong state lines before now (ends.Input fault) = ⊥
-StopsAmong state lines before now ends.Source = ⊥
-StopsAmong state lines before now ends.Done = ⊥
-StopsAmong state lines before now ends.Words = ⊥
+StopsAmong state lines before now _ = ⊥
 
 -- Lines were acted on from a state that the image stood for: their replies were said whole, and the image stands for the state after
 -- them. A crash left one of the states around a line.
@@ -96,7 +83,18 @@ RunsPiece state lines room len old new (Err ends.Memory) = RunsLines {T = ℕ} s
 RunsPiece state lines room len old new (Err ends.Disk) = RunsLines {T = ℕ} state lines old new (Err ends.Disk)
 RunsPiece state lines room len old new (Err ends.Sink) = RunsLines {T = ℕ} state lines old new (Err ends.Sink)
 RunsPiece state lines room len old new (Err (ends.Limit fault)) = RunsLines {T = ℕ} state lines old new (Err (ends.Limit fault))
-RunsPiece state lines room len old new (Err (ends.Store fault)) = ⊥
-RunsPiece state lines room len old new (Err ends.Source) = ⊥
-RunsPiece state lines room len old new (Err ends.Done) = ⊥
-RunsPiece state lines room len old new (Err ends.Words) = ⊥
+RunsPiece state lines room len old new (Err _) = ⊥
+
+-- ---- on any image
+
+-- What lines may end by, of limits and inputs: want of room alone. Another limit is a reply, and no line is refused as an input.
+abbrev pub IsLineEnd : Ended → Type 0
+IsLineEnd (ends.Limit fault) = fault ≡ limits.NoRoom
+IsLineEnd (ends.Input fault) = ⊥
+IsLineEnd _ = Unit {0}
+
+-- And a piece of so many bytes, behind those that were taken: an input that is longer than a script may be ends it, too.
+abbrev pub IsPieceEnd : ℕ → ℕ → Ended → Type 0
+IsPieceEnd taken len (ends.Limit fault) = fault ≡ limits.NoRoom
+IsPieceEnd taken len (ends.Input fault) = (fault ≡ Long) × (268435456 < taken + len)
+IsPieceEnd taken len _ = Unit {0}

@@ -38,23 +38,11 @@ Stops start input first now ends.Disk = SaysFrontOf (script_transcript start inp
 Stops start input first now ends.Sink = SaysFrontOf (script_transcript start input).turn.text first.said now.said
 Stops start input first now (ends.Input fault) = EndsAs (Input fault) (script_transcript start input) first now
 Stops start input first now (ends.Limit limits.NoRoom) = StopsAtLine start (script_lines input) first.said now
-Stops start input first now (ends.Limit limits.Full) = ⊥
-Stops start input first now (ends.Limit limits.Worn) = ⊥
-Stops start input first now (ends.Store fault) = ⊥
-Stops start input first now ends.Source = ⊥
-Stops start input first now ends.Done = ⊥
-Stops start input first now ends.Words = ⊥
+Stops start input first now _ = ⊥
 
 -- how a script ended, and what it had said
 abbrev pub EndsScript : {T : Type 0} → Contents → List ℕ → List ℕ → World → World → Result T Ended → Type 0
 EndsScript start input left first now (Ok done) = EndsAs Done (script_transcript start input) first now × (left ≡ [])
 EndsScript start input left first now (Err ends.Source) =
     SaysRepliesOf start input left first now × SaysFrontOf (script_transcript start input).turn.text first.said now.said
-EndsScript start input left first now (Err ends.Memory) = Stops start input first now ends.Memory
-EndsScript start input left first now (Err ends.Disk) = Stops start input first now ends.Disk
-EndsScript start input left first now (Err ends.Sink) = Stops start input first now ends.Sink
-EndsScript start input left first now (Err (ends.Input fault)) = Stops start input first now (ends.Input fault)
-EndsScript start input left first now (Err (ends.Limit fault)) = Stops start input first now (ends.Limit fault)
-EndsScript start input left first now (Err (ends.Store fault)) = ⊥
-EndsScript start input left first now (Err ends.Done) = ⊥
-EndsScript start input left first now (Err ends.Words) = ⊥
+EndsScript start input left first now (Err end) = Stops start input first now end

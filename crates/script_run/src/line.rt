@@ -1,5 +1,5 @@
 // One line of a script, acted on, and its reply.
-ghost use Rattle.std.specs.Prelude.{◌≡◌, ◌++◌, ◌∷◌, [], false, IsTrue, IfOk, OnOk, Ok};
+ghost use Rattle.std.specs.Prelude.{◌≡◌, ◌++◌, ◌∷◌, [], false, IsTrue, IfErr, IfOk, OnOk, Ok};
 ghost use Rattle.place_map.specs.State.{Contents};
 ghost use Rattle.query_lang.specs.Line.{line_of};
 ghost use Rattle.query_lang.specs.Plain.{IsSound};
@@ -10,7 +10,7 @@ ghost use Rattle.place_map.specs.Query.{IsWithinLimits};
 ghost use Rattle.irtree_engine.specs.Holding.{HoldsState};
 ghost use Rattle.irtree_engine.specs.Updates.{NamesText};
 ghost use Rattle.run_protocol.specs.Causes.{HasEngineEnd};
-ghost use Rattle.script_run.specs.Lines.{refused_by, RepliesTo, RunsLines};
+ghost use Rattle.script_run.specs.Lines.{refused_by, IsLineEnd, RepliesTo, RunsLines};
 
 use disk_model::Station;
 use irtree_engine::{Engine, EngineFault};
@@ -54,6 +54,7 @@ fn update<'d, T: Station>(engine: &mut Engine<'d, T>, update: &Update) -> Result
     ensures reason { IfOk result HasReason }
     ensures on { OnOk result (engine.new.stopped ≡ false) }
     ensures cause { HasEngineEnd T.tells (T.world engine.old.store.disk.now) (T.world engine.new.store.disk.now) result }
+    ensures ends { IfErr result IsLineEnd }
 {
     match engine.apply(update) {
         Ok(applied) => Ok(accepted(applied)),
@@ -75,6 +76,7 @@ fn ask<'d, T: Station>(
     ensures reason { IfOk result HasReason }
     ensures on { OnOk result (engine.new.stopped ≡ false) }
     ensures cause { HasEngineEnd T.tells (T.world engine.old.store.disk.now) (T.world engine.new.store.disk.now) result }
+    ensures ends { IfErr result IsLineEnd }
 {
     match engine.answer(&query) {
         Ok(answer) => Ok(Reply::Found {
@@ -95,6 +97,7 @@ fn show<'d, T: Station>(engine: &mut Engine<'d, T>, key: Key) -> Result<Reply, E
     ensures reason { IfOk result HasReason }
     ensures on { OnOk result (engine.new.stopped ≡ false) }
     ensures cause { HasEngineEnd T.tells (T.world engine.old.store.disk.now) (T.world engine.new.store.disk.now) result }
+    ensures ends { IfErr result IsLineEnd }
 {
     match engine.show(&key) {
         Ok(Some(place)) => Ok(Reply::Place {
@@ -117,6 +120,7 @@ fn answer<'d, T: Station>(engine: &mut Engine<'d, T>, line: Line) -> Result<Repl
     ensures reason { IfOk result HasReason }
     ensures on { OnOk result (engine.new.stopped ≡ false) }
     ensures cause { HasEngineEnd T.tells (T.world engine.old.store.disk.now) (T.world engine.new.store.disk.now) result }
+    ensures ends { IfErr result IsLineEnd }
 {
     match line {
         Line::Nothing => Ok(Reply::Nothing),
@@ -140,6 +144,7 @@ fn reply_to<'d, T: Station>(
     ensures reason { IfOk result HasReason }
     ensures on { OnOk result (engine.new.stopped ≡ false) }
     ensures cause { HasEngineEnd T.tells (T.world engine.old.store.disk.now) (T.world engine.new.store.disk.now) result }
+    ensures ends { IfErr result IsLineEnd }
 {
     match read_line(alloc, line) {
         Ok(line) => answer(engine, line),
@@ -161,6 +166,7 @@ pub(crate) fn act<'d, T: Station>(
         → RunsLines state (line.now ∷ []) (T.world engine.old.store.disk.now) (T.world engine.new.store.disk.now) result }
     ensures on { OnOk result (engine.new.stopped ≡ false) }
     ensures cause { HasEngineEnd T.tells (T.world engine.old.store.disk.now) (T.world engine.new.store.disk.now) result }
+    ensures ends { IfErr result IsLineEnd }
 {
     reply.clear();
     let found = match reply_to(alloc, engine, line) {

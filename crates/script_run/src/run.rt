@@ -1,19 +1,19 @@
 // A script, from its source over an engine.
-ghost use Rattle.std.specs.Prelude.{◌≡◌, ◌≤◌, ◌-◌, ◌+◌, ◌++◌, List, ℕ, false, length, take, OnOk, IfOk, IsTrue};
+ghost use Rattle.std.specs.Prelude.{◌≡◌, ◌≤◌, ◌-◌, ◌+◌, ◌++◌, List, [], ℕ, false, length, take, OnOk, IfOk, IfErr, IsErrOf, IsTrue};
 ghost use Rattle.disk_model.specs.World.{LeavesOnly};
 ghost use Rattle.place_map.specs.State.{Contents};
 ghost use Rattle.irtree_engine.specs.Holding.{HoldsState};
 ghost use Rattle.run_protocol.specs.Causes.{HasJobEnd};
 ghost use Rattle.run_protocol.specs.Left.{LeftByLines};
-ghost use Rattle.run_protocol.specs.Script.{cut, script_lines};
+ghost use Rattle.run_protocol.specs.Script.{cut, script_lines, FitsScript, IsScriptInput};
 ghost use Rattle.script_run.specs.Feed.{kept, EndsNoLine};
-ghost use Rattle.script_run.specs.Lines.{RunsPiece};
+ghost use Rattle.script_run.specs.Lines.{IsPieceEnd, RunsPiece};
 ghost use Rattle.script_run.specs.Standing.{EndsScript};
 
 use crate::script::Script;
 use disk_model::{Source, Station};
 use irtree_engine::Engine;
-use run_protocol::{Ended, InputFault};
+use run_protocol::{Ended, InputFault, LimitFault};
 use std::alloc::Global;
 
 /// The greatest number of bytes of a script.
@@ -42,6 +42,7 @@ fn take<'d, T: Station>(
     ensures short { OnOk result (length script.new.line.items ≤ 65537) }
     ensures on { OnOk result (engine.new.stopped ≡ false) }
     ensures cause { HasJobEnd T.tells 0 0 (T.world engine.old.store.disk.now) (T.world engine.new.store.disk.now) result }
+    ensures ends { IfErr result (IsPieceEnd taken (length piece.now)) }
 {
     let room = INPUT_MAX - taken;
     if piece.len() > room {
@@ -59,9 +60,14 @@ fn take<'d, T: Station>(
 
 /// Runs a script to its end, from its source over an engine that isn't stopped.
 ///
-/// Ends by `Input(Long)` where the script has more than 268,435,456 bytes, after the lines whose LF is among these; by
-/// `Limit(NoRoom)` where no page is left for an update, after the replies of the lines before it; by `Source`, after the replies
-/// of all lines whose LF was read; `Disk`, `Sink`, `Memory`; `Store(Damaged)` never where the image stands for a state.
+/// Returns `Ok` if the script has at most 268,435,456 bytes and each of its lines got its reply; then the source was read to its end.
+/// A place that the map has no room for and an update past the last update number are replies, and the script goes on. Errors:
+///
+/// - `Input(Long)` if the script has more bytes, after the replies to the lines whose LF is among the first 268,435,456.
+/// - `Limit(NoRoom)` if no page is left for an update, after the replies to the lines before it. The state is the one before it.
+/// - `Source` if the source fails, after the replies to all lines whose LF was read.
+/// - `Disk`, `Sink` and `Memory` if one of them fails, after a prefix of the replies.
+/// - `Store(Damaged)` if a page breaks a rule; never if the image stands for a state.
 #[tactic(none)]
 pub fn run_script<'d, S: Source, T: Station>(
     alloc: Global,
@@ -76,6 +82,11 @@ pub fn run_script<'d, S: Source, T: Station>(
     ensures any_moment { IsTrue S.tells → IsTrue T.tells → (state : Contents) → HoldsState (T.world engine.old.store.disk.now) state
         → LeavesOnly (T.world engine.old.store.disk.now) (T.world engine.new.store.disk.now) (LeftByLines state (script_lines (S.left source.old)) (T.world engine.old.store.disk.now).said) }
     ensures cause { HasJobEnd T.tells (S.faults source.old) (S.faults source.new) (T.world engine.old.store.disk.now) (T.world engine.new.store.disk.now) result }
+
+    // Whatever the image stands for, the input and a limit end it only for their cause, and else the input was read to its end.
+    ensures input { IsTrue S.tells → (fault : InputFault) → IsErrOf result (Ended.Input fault) → IsScriptInput (S.left source.old) fault }
+    ensures whole { IsTrue S.tells → OnOk result ((S.left source.new ≡ []) × FitsScript (S.left source.old)) }
+    ensures limit { (fault : LimitFault) → IsErrOf result (Ended.Limit fault) → fault ≡ LimitFault.NoRoom }
 {
     let mut piece = match vec![in alloc; 0; PIECE_LEN] {
         Ok(piece) => piece,

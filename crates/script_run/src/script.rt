@@ -5,7 +5,7 @@ ghost use Rattle.irtree_engine.specs.Holding.{HoldsState};
 ghost use Rattle.run_protocol.specs.Causes.{HasEngineEnd};
 ghost use Rattle.run_protocol.specs.Script.{cut, last_line};
 ghost use Rattle.script_run.specs.Feed.{kept, EndsNoLine};
-ghost use Rattle.script_run.specs.Lines.{RunsLines};
+ghost use Rattle.script_run.specs.Lines.{IsLineEnd, RunsLines};
 
 use crate::line::act;
 use disk_model::Station;
@@ -91,6 +91,7 @@ impl Script {
         ensures line { OnOk result (self.new.line.items ≡ []) }
         ensures on { OnOk result (engine.new.stopped ≡ false) }
         ensures cause { HasEngineEnd T.tells (T.world engine.old.store.disk.now) (T.world engine.new.store.disk.now) result }
+        ensures ends { IfErr result IsLineEnd }
     {
         if self.line.is_empty() {
             return act(self.alloc, engine, &mut self.reply, part);
@@ -117,6 +118,7 @@ impl Script {
         ensures short { OnOk result (length self.new.line.items ≤ 65537) }
         ensures on { OnOk result (engine.new.stopped ≡ false) }
         ensures cause { HasEngineEnd T.tells (T.world engine.old.store.disk.now) (T.world engine.new.store.disk.now) result }
+        ensures ends { IfErr result IsLineEnd }
     {
         let mut rest = piece;
         'lines: while let Some((line, next)) = first_line(rest) {
@@ -133,6 +135,7 @@ impl Script {
         ensures told { (front : List ℕ) → self.old.line.items ≡ kept front → IsTrue T.tells → (state : Contents) → HoldsState (T.world engine.old.store.disk.now) state
             → RunsLines state (last_line front) (T.world engine.old.store.disk.now) (T.world engine.new.store.disk.now) result }
         ensures cause { HasEngineEnd T.tells (T.world engine.old.store.disk.now) (T.world engine.new.store.disk.now) result }
+        ensures ends { IfErr result IsLineEnd }
     {
         if self.line.is_empty() {
             return Ok(());

@@ -10,7 +10,7 @@ use Rattle.store_tables.specs.Coded.{IsPlaceEntry}
 use Rattle.store_tables.specs.Entries.{Entries, number_of_word, place_of_key, with_place, without_place, word_cmp}
 use Rattle.store_tables.specs.Words.{WordsAgree, holders, next_after, number_for, with_hold, without_hold}
 use Rattle.store_tables.proofs.WordLemmas.{can_release-agree}
-use Rattle.store_meaning.specs.Steps.{claimed_beside, AreApart, AreAscending, IsNumbering, IsReleasing}
+use Rattle.store_meaning.proofs.Steps.{claimed_beside, AreApart, AreAscending, IsNumbering, IsReleasing}
 use Rattle.store_meaning.specs.Updates.{Numbered, CanNumber, CanReleaseAll, by_number, has_pair, numbered_for, pairs_of, stored_with}
 use Rattle.store_meaning.proofs.Numbers.{numbering-held, numbering-hold, numbering-room, numbering-start}
 use Rattle.store_meaning.proofs.Pairs.{has_pair-by_number}

@@ -1,8 +1,8 @@
 -- The state that an image stands for.
-use Rattle.std.proofs.Common.{◌≡◌, ℕ, ◌+◌, ◌≤◌, Bool, true, false, cond, nat_lt, [], Some, None, ⊎_elim, inl, refl, sym, ap, subst, ◌∙◌, true≢false, arith}
+use Rattle.std.proofs.Common.{◌≡◌, ℕ, ◌+◌, ◌≤◌, Bool, true, false, cond, nat_lt, [], Some, None, refl, sym, ap, subst, ◌∙◌, true≢false, arith}
+use Rattle.std.proofs.lemmas.Bool.{le-ltb}
 use Rattle.std.proofs.lemmas.List.Elements.{All-nil}
 use Rattle.disk_model.specs.World.{Image}
-use Rattle.disk_model.specs.declared.disk.Area.TheVariants.{Pages, Journal}
 use Rattle.page_face.specs.FreeList.{PageMap}
 use Rattle.page_journal.specs.Record.{StandsFor}
 use Rattle.page_store.specs.Contents.{HoldsContents, contents_in, counted_pages, page_bytes}
@@ -15,7 +15,7 @@ use Rattle.place_map.specs.State.{Contents, opening}
 use Rattle.store_tables.specs.Entries.{Entries, no_entries}
 use Rattle.store_tables.specs.Holding.{Holds}
 use Rattle.store_tables.specs.Words.{WordsAgree}
-use Rattle.store_meaning.specs.Stands.{AreSound, PagesStand, Stands, state_in, tables_in}
+use Rattle.store_meaning.specs.Stands.{AreSound, PagesStand, Stands, TablesStand, TreeStands, state_in, tables_in}
 use Rattle.store_meaning.proofs.Maps.{holds-same}
 
 -- ---- one state
@@ -23,13 +23,11 @@ use Rattle.store_meaning.proofs.Maps.{holds-same}
 -- pages stand for at most one state
 pub pages-one : (block : Superblock) (pages : PageMap) (s t : Contents) → PagesStand block pages s → PagesStand block pages t → s ≡ t
 pages-one block pages s t is also =
-    is.is ∙ ap (λ (e : Entries). state_in e block.head.serial block.head.number) (holds-same pages (tables_in block.head) is.entries also.entries is.holds also.holds) ∙ sym also.is
+    is.is ∙ ap (λ (e : Entries). state_in e block.head.serial block.head.number) (holds-same pages (tables_in block.head) is.entries also.entries is.tables.holds also.tables.holds) ∙ sym also.is
 
 -- an image stands for one area of pages
 pub area-one : (image : Image) (a b : ℕ → ℕ) → StandsFor image a → StandsFor image b → a ≡ b
-area-one image a b = ⊎_elim
-    (λ left. ⊎_elim (λ right. left.1 ∙ sym right.1) (λ right. absurd (right.0 left.0)))
-    (λ left. ⊎_elim (λ right. absurd (left.0 right.0)) (λ right. left.2 ∙ sym right.2))
+area-one image a b is also = is.1 ∙ sym also.1
 
 -- and holds one contents
 contents-one : (image : Image) (c d : stores.Contents) → HoldsContents c image → HoldsContents d image → c ≡ d
@@ -94,21 +92,31 @@ empty-range = record {
   words = omega arith;
 }
 
--- pages of the empty store stand for the state in which nothing was put
-pub empty-pages : (pages : PageMap) → PagesStand empty_store pages opening
-empty-pages pages = record {
+-- a page behind those counted can be taken
+uncounted-one : (count n : ℕ) → count ≤ n → uncounted count n ≡ 1
+unfolding uncounted
+uncounted-one count n behind = ap (λ b. cond b 0 1) (le-ltb n count behind)
+
+-- the tables of the empty store stand for no entries, and no page belongs to others
+empty-tables : (pages : PageMap) → TablesStand empty_store pages (λ n. 0) no_entries
+empty-tables pages = record {
   range = empty-range;
-  no_rows = refl;
-  no_tree = refl;
-  entries = no_entries;
   free = [];
   holds = empty-holds pages;
   apart = record { supplied = refl; once = λ n. few_uncounted n; away = refl; some = omega arith };
-  every = λ n some counted. absurd (omega (arith, some, counted));
+  every = λ n some. (let one = uncounted-one 1 n (omega (arith, some)) in omega (arith, one));
+  away = refl;
   sound = empty-sound;
   live = refl;
-  is = refl;
 }
+
+-- the empty store has no tree
+empty-tree : (pages : PageMap) → TreeStands empty_store.head pages no_entries (λ n. 0)
+empty-tree pages = record { rows = refl; tree = refl; none = λ n. refl }
+
+-- pages of the empty store stand for the state in which nothing was put
+pub empty-pages : (pages : PageMap) → PagesStand empty_store pages opening
+empty-pages pages = record { entries = no_entries; others = λ n. 0; tables = empty-tables pages; tree = empty-tree pages; is = refl }
 
 -- An image that stands for pages whose page 0 is all zeros stands for the state in which nothing was put.
 pub empty-area : (image : Image) (area : ℕ → ℕ) → StandsFor image area → is_zero (page_bytes area 0) ≡ true → Stands image opening
@@ -119,7 +127,3 @@ empty-area image area stands zeros =
       holds = record { area = area; stands = stands; holds = refl; page = λ range some. absurd (true≢false (sym zeros ∙ some)) };
       stand = subst (λ (b : Superblock). PagesStand b (counted_pages b.counted (page_bytes area)) opening) (sym block) (empty-pages (counted_pages empty_store.counted (page_bytes area)));
     }
-
--- And so does one whose gate is closed and whose page 0 is all zeros.
-pub empty-stands : (image : Image) → image Journal 0 ≡ 0 → is_zero (page_bytes (image Pages) 0) ≡ true → Stands image opening
-empty-stands image closed zeros = empty-area image (image Pages) (inl (closed, refl)) zeros

@@ -8,4 +8,7 @@ pub mod Places
 pub mod Puts
 pub mod Releases
 pub mod Removes
+pub mod Steps
 pub mod Chances
+pub mod Tables
+pub mod Trees

@@ -37,7 +37,7 @@ use Rattle.store_tables.proofs.CodeLemmas.{length-word_form, word-order}
 use Rattle.store_tables.proofs.EntryLemmas.{IsCoding}
 use Rattle.store_tables.proofs.LookupLemmas.{keys_coding, numbers_coding, words_coding}
 use Rattle.store_tables.proofs.MapLemmas.{IsOrder, keys_are_ordered, numbers_are_ordered, words_are_ordered}
-use Rattle.store_meaning.specs.Steps.{AreAscending}
+use Rattle.store_meaning.proofs.Steps.{AreAscending}
 
 -- ---- in order
 

@@ -16,7 +16,7 @@ use Rattle.store_tables.specs.Words.{WordTablesAgree, CanHold, IsHoldable, claim
 use Rattle.store_tables.proofs.MapLemmas.{lookup-insert, numbers_are_ordered, same_from_test, test_of_same, words_are_ordered}
 use Rattle.store_tables.proofs.WordLemmas.{agree-with_hold}
 use Rattle.store_meaning.specs.Updates.{Numbered, has_pair, numbered}
-use Rattle.store_meaning.specs.Steps.{word_at, KeepsWords, claimed_beside, AreNumbered, AreAscending, IsNumbering, with_pairs}
+use Rattle.store_meaning.proofs.Steps.{word_at, KeepsWords, claimed_beside, AreNumbered, AreAscending, IsNumbering, with_pairs}
 use Rattle.store_meaning.proofs.Ordered.{sorted-insert}
 
 -- ---- one word

@@ -20,7 +20,7 @@ use Rattle.store_tables.specs.Words.{WordTablesAgree, with_word, words_of_pairs}
 use Rattle.store_tables.proofs.EntryLemmas.{equal_test, insert-each}
 use Rattle.store_tables.proofs.MapLemmas.{lookup-insert, numbers_are_ordered, same_from_test, test_of_same, words_are_ordered}
 use Rattle.store_meaning.specs.Updates.{has_pair, by_number, placed, stored_with}
-use Rattle.store_meaning.specs.Steps.{word_at, AreNumbered, AreApart}
+use Rattle.store_meaning.proofs.Steps.{word_at, AreNumbered, AreApart}
 use Rattle.store_meaning.proofs.Numbers.{no_word, unpaired}
 use Rattle.store_meaning.proofs.Ordered.{length-insert, same_from_lookups, sorted-insert}
 

@@ -19,7 +19,7 @@ use Rattle.store_tables.specs.Entries.{Entries, place_of_key, with_place, withou
 use Rattle.store_tables.specs.Words.{WordTablesAgree, WordsAgree, has_number, holders}
 use Rattle.store_tables.proofs.WordLemmas.{holders-without_place, known-claimed, words_of_pairs-same}
 use Rattle.store_meaning.specs.Stands.{place_in, places_in}
-use Rattle.store_meaning.specs.Steps.{word_at, claimed_beside, AreNumbered, AreApart, IsReleasing}
+use Rattle.store_meaning.proofs.Steps.{word_at, claimed_beside, AreNumbered, AreApart, IsReleasing}
 use Rattle.store_meaning.specs.Updates.{has_pair, pairs_of}
 use Rattle.store_meaning.proofs.Numbers.{agree-claims, below_next, claimed-none}
 use Rattle.store_meaning.proofs.Ordered.{lookup-map}

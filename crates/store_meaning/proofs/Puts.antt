@@ -21,7 +21,7 @@ use Rattle.store_tables.proofs.EntryLemmas.{insert-each}
 use Rattle.store_tables.proofs.MapLemmas.{keys_are_ordered, lookup-insert, same_from_test}
 use Rattle.store_tables.proofs.WordLemmas.{holders-with_place}
 use Rattle.store_meaning.specs.Stands.{AreSound, place_in, places_in}
-use Rattle.store_meaning.specs.Steps.{word_at, claimed_beside, AreApart, AreAscending, IsNumbering, IsReleasing}
+use Rattle.store_meaning.proofs.Steps.{word_at, claimed_beside, AreApart, AreAscending, IsNumbering, IsReleasing}
 use Rattle.store_meaning.specs.Updates.{Numbered, after_put, by_number, has_pair, numbered_for, pairs_of, stored_with}
 use Rattle.store_meaning.proofs.Numbers.{agree-claims, numbering-all}
 use Rattle.store_meaning.proofs.Ordered.{same_from_lookups, sorted-insert}

@@ -10,7 +10,7 @@ use Rattle.store_tables.specs.Words.{claimed_less, released, without_hold}
 use Rattle.store_tables.proofs.MapLemmas.{lookup-insert, lookup-remove, numbers_are_ordered, same_from_test}
 use Rattle.store_tables.proofs.WordLemmas.{agree-without_hold, known-claimed}
 use Rattle.store_meaning.specs.Updates.{has_pair, released_all}
-use Rattle.store_meaning.specs.Steps.{word_at, KeepsWords, claimed_beside, AreAscending, IsReleasing, AreApart}
+use Rattle.store_meaning.proofs.Steps.{word_at, KeepsWords, claimed_beside, AreAscending, IsReleasing, AreApart}
 use Rattle.store_meaning.proofs.Numbers.{agree-claims, no_word}
 use Rattle.store_meaning.proofs.Ordered.{sorted-insert, sorted-remove}
 

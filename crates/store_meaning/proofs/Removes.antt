@@ -14,7 +14,7 @@ use Rattle.store_tables.specs.Words.{WordTablesAgree, WordsAgree, holders}
 use Rattle.store_tables.proofs.EntryLemmas.{remove-each}
 use Rattle.store_tables.proofs.MapLemmas.{keys_are_ordered, lookup-remove}
 use Rattle.store_meaning.specs.Stands.{AreSound, place_in, places_in}
-use Rattle.store_meaning.specs.Steps.{AreAscending, IsReleasing}
+use Rattle.store_meaning.proofs.Steps.{AreAscending, IsReleasing}
 use Rattle.store_meaning.specs.Updates.{after_remove, pairs_of}
 use Rattle.store_meaning.proofs.Numbers.{agree-claims}
 use Rattle.store_meaning.proofs.Ordered.{same_from_lookups, sorted-remove}

@@ -39,20 +39,35 @@ pub record AreSound (entries : Entries) (next_word serial : ℕ) : Type 0 where
 abbrev pub tables_in : Head → Tables
 tables_in head = record { places = head.places; texts = head.texts; numbers = head.numbers; next_word = head.next_word }
 
--- Page 0's fields and the pages counted stand for a state: no rule is broken. The fields are in their ranges; the maps are well
--- formed and hold entries, which are sound; each counted page but page 0 is in exactly one of the maps and the free list; the
--- number of live places is that of the entries; and the state is theirs. There are no rows and no tree yet.
-pub record PagesStand (block : Superblock) (pages : PageMap) (state : Contents) : Type 0 where
+-- The tables stand for the entries beside pages that belong to others: `others n` is 1 where page n does, and else 0. Page 0's
+-- fields are in their ranges; the maps are well formed and hold the entries, which are sound; each page but page 0 is in exactly
+-- one of the maps, the pages of others, the free list and the pages not counted yet; page 0 is none of the others; and the number
+-- of live places is that of the entries.
+pub record TablesStand (block : Superblock) (pages : PageMap) (others : ℕ → ℕ) (entries : Entries) : Type 0 where
   pub range : IsInRange block
-  pub no_rows : block.head.rows ≡ 0
-  pub no_tree : block.head.tree ≡ 0
-  pub entries : Entries
   pub free : List ℕ
   pub holds : Holds pages (tables_in block.head) entries
   pub apart : IsApart (view pages block.counted block.first_free free) (tables_in block.head)
-  pub every : (n : ℕ) → 0 < n → n < block.counted → table_uses pages (tables_in block.head) n + spare free block.counted n ≡ 1
+  pub every : (n : ℕ) → 0 < n → table_uses pages (tables_in block.head) n + others n + spare free block.counted n ≡ 1
+  pub away : others 0 ≡ 0
   pub sound : AreSound entries block.head.next_word block.head.serial
   pub live : block.head.live ≡ length entries.places
+
+-- What the tree and its rows are, and which pages belong to them: `uses n` is 1 where page n does, and else 0. There are none yet:
+-- both roots are 0, and no page belongs to them. A tree joins here: the entries of its leaves are the places, and its rows hold
+-- their words.
+pub record TreeStands (head : Head) (pages : PageMap) (entries : Entries) (uses : ℕ → ℕ) : Type 0 where
+  pub rows : head.rows ≡ 0
+  pub tree : head.tree ≡ 0
+  pub none : (n : ℕ) → uses n ≡ 0
+
+-- Page 0's fields and the pages counted stand for a state: the tables stand for entries beside the pages of the tree and its rows,
+-- these stand for the same entries, and the state is that of the entries.
+pub record PagesStand (block : Superblock) (pages : PageMap) (state : Contents) : Type 0 where
+  pub entries : Entries
+  pub others : ℕ → ℕ
+  pub tables : TablesStand block pages others entries
+  pub tree : TreeStands block.head pages entries others
   pub is : state ≡ state_in entries block.head.serial block.head.number
 
 -- The image stands for a state: with its journal applied, its pages do.

@@ -36,7 +36,7 @@ returns-in_err-old-clause-due g c = λ state stand told.
     let tables = c.tables_of-tables.result in
     let pages : PageMap = g.P.Pages.pages c.args.pages.now in
     let passed = err_from_is_err_and c.from_residual.result c.from_residual.ensures.1 in
-    let holds : Holds pages tables stand.entries = subst (λ (t : Tables). Holds pages t stand.entries) (sym c.tables_of-tables.ensures) stand.holds in
+    let holds : Holds pages tables stand.entries = subst (λ (t : Tables). Holds pages t stand.entries) (sym c.tables_of-tables.ensures) stand.tables.holds in
     let counted : AreCounted (table_uses pages tables) (g.P.Pages.count c.args.pages.now) = subst (λ (t : Tables). AreCounted (table_uses pages t) (g.P.Pages.count c.args.pages.now)) (sym c.tables_of-tables.ensures) (stand-counted stand) in
     subst (λ (r : Result Applied EngineFault). IfErr r (IsDueTo outcome)) (sym passed.1)
     (passed-due outcome c.in_err-old.field-0.0 passed.0 passed.2 (λ damage is. c.place.ensures.honest stand.entries holds told counted damage (c.in_err-old.was ∙ ap Err is)))
@@ -50,7 +50,7 @@ returns-then-head-ge-PLACES_MAX-clause-due g c = λ state stand told.
     let old = c.args.pages.now in
     let mid = c.place.new.pages in
     let there = stand-same head (g.P.Pages.pages old) (g.P.Pages.pages mid) (g.P.Pages.count old) (g.P.Pages.count mid) (g.P.Pages.first old) (g.P.Pages.first mid) state c.place.ensures.pages c.place.ensures.count c.place.ensures.first stand in
-    let holds : Holds (g.P.Pages.pages mid) tables there.entries = subst (λ (t : Tables). Holds (g.P.Pages.pages mid) t there.entries) (sym tables_are) there.holds in
+    let holds : Holds (g.P.Pages.pages mid) tables there.entries = subst (λ (t : Tables). Holds (g.P.Pages.pages mid) t there.entries) (sym tables_are) there.tables.holds in
     let new_is : c.is_none-is_new.result ≡ is_none c.in_ok-old.old = flipped c.is_none-is_new.result (is_some c.in_ok-old.old) c.is_none-is_new.ensures in
     let is_found : c.in_ok-old.old ≡ place_of_key c.args.key.now there.entries.places = c.in_ok-old.ensures.found there.entries (subst (λ (p : PageMap). Holds p tables there.entries) c.place.ensures.pages holds) in
     put-full head (g.P.Pages.count mid) (g.P.Pages.first mid) (g.P.Pages.pages mid) state there c.args.key.now c.in_ok-old.old is_found c.args.serial (record { point = c.args.point; words = c.args.words.now })
@@ -65,7 +65,7 @@ returns-then-head-eq-NUMBER_MAX-clause-due g c = λ state stand told.
     let old = c.args.pages.now in
     let mid = c.place.new.pages in
     let there = stand-same head (g.P.Pages.pages old) (g.P.Pages.pages mid) (g.P.Pages.count old) (g.P.Pages.count mid) (g.P.Pages.first old) (g.P.Pages.first mid) state c.place.ensures.pages c.place.ensures.count c.place.ensures.first stand in
-    let holds : Holds (g.P.Pages.pages mid) tables there.entries = subst (λ (t : Tables). Holds (g.P.Pages.pages mid) t there.entries) (sym tables_are) there.holds in
+    let holds : Holds (g.P.Pages.pages mid) tables there.entries = subst (λ (t : Tables). Holds (g.P.Pages.pages mid) t there.entries) (sym tables_are) there.tables.holds in
     let new_is : c.is_none-is_new.result ≡ is_none c.in_ok-old.old = flipped c.is_none-is_new.result (is_some c.in_ok-old.old) c.is_none-is_new.ensures in
     let is_found : c.in_ok-old.old ≡ place_of_key c.args.key.now there.entries.places = c.in_ok-old.ensures.found there.entries (subst (λ (p : PageMap). Holds p tables there.entries) c.place.ensures.pages holds) in
     let room : is_none c.in_ok-old.old ≡ true → head.live < 200000 = λ new. elim c.else-is_new.branch [
@@ -83,7 +83,7 @@ returns-in_err-put_place-clause-due g c = λ state stand told.
     let old = c.args.pages.now in
     let mid = c.place.new.pages in
     let there = stand-same head (g.P.Pages.pages old) (g.P.Pages.pages mid) (g.P.Pages.count old) (g.P.Pages.count mid) (g.P.Pages.first old) (g.P.Pages.first mid) state c.place.ensures.pages c.place.ensures.count c.place.ensures.first stand in
-    let holds : Holds (g.P.Pages.pages mid) tables there.entries = subst (λ (t : Tables). Holds (g.P.Pages.pages mid) t there.entries) (sym tables_are) there.holds in
+    let holds : Holds (g.P.Pages.pages mid) tables there.entries = subst (λ (t : Tables). Holds (g.P.Pages.pages mid) t there.entries) (sym tables_are) there.tables.holds in
     let new_is : c.is_none-is_new.result ≡ is_none c.in_ok-old.old = flipped c.is_none-is_new.result (is_some c.in_ok-old.old) c.is_none-is_new.ensures in
     let is_found : c.in_ok-old.old ≡ place_of_key c.args.key.now there.entries.places = c.in_ok-old.ensures.found there.entries (subst (λ (p : PageMap). Holds p tables there.entries) c.place.ensures.pages holds) in
     let outcome = (put_at state c.args.key.now c.args.serial (record { point = c.args.point; words = c.args.words.now })).answer in
@@ -93,14 +93,14 @@ returns-in_err-put_place-clause-due g c = λ state stand told.
     ] in
     let few = few-left head (g.P.Pages.count mid) (g.P.Pages.first mid) (g.P.Pages.pages mid) state there c.args.key.now c.in_ok-old.old is_found room (omega arith) in
     let passed = err_from_is_err_and c.from_residual-in_err-put_place.result c.from_residual-in_err-put_place.ensures.1 in
-    let apart : IsApart (view (g.P.Pages.pages mid) (g.P.Pages.count mid) (g.P.Pages.first mid) there.free) tables =
-    subst (λ (t : Tables). IsApart (view (g.P.Pages.pages mid) (g.P.Pages.count mid) (g.P.Pages.first mid) there.free) t) (sym tables_are) there.apart in
-    let agree : WordsAgree there.entries tables.next_word = subst (λ (t : Tables). WordsAgree there.entries t.next_word) (sym tables_are) there.sound.words in
+    let apart : IsApart (view (g.P.Pages.pages mid) (g.P.Pages.count mid) (g.P.Pages.first mid) there.tables.free) tables =
+    subst (λ (t : Tables). IsApart (view (g.P.Pages.pages mid) (g.P.Pages.count mid) (g.P.Pages.first mid) there.tables.free) t) (sym tables_are) there.tables.apart in
+    let agree : WordsAgree there.entries tables.next_word = subst (λ (t : Tables). WordsAgree there.entries t.next_word) (sym tables_are) there.tables.sound.words in
     let told_there : AreTold (g.P.Pages.pages mid) (g.P.Pages.count mid) =
     subst (λ (p : PageMap). AreTold p (g.P.Pages.count mid)) (sym c.place.ensures.pages) (subst (λ n. AreTold (g.P.Pages.pages old) n) (sym c.place.ensures.count) told) in
     subst (λ (r : Result Applied EngineFault). IfErr r (IsDueTo outcome)) (sym passed.1)
     (passed-due outcome c.in_err-put_place.field-0.0 passed.0 passed.2
-    (λ damage is. c.put_place.ensures.honest there.entries there.free holds apart (c.as_ref.ensures.value ∙ is_found) agree few told_there damage (c.in_err-put_place.was ∙ ap Err is)))
+    (λ damage is. c.put_place.ensures.honest there.entries there.tables.free holds apart (c.as_ref.ensures.value ∙ is_found) agree few told_there damage (c.in_err-put_place.was ∙ ap Err is)))
 
 -- src/change.rt:150:1
 pub returns-then-is_new-3-clause-updated : goal.returns-then-is_new-3-clause-updated
@@ -111,7 +111,7 @@ returns-then-is_new-3-clause-updated g c = λ state stand later serials above.
     let old = c.args.pages.now in
     let mid = c.place.new.pages in
     let there = stand-same head (g.P.Pages.pages old) (g.P.Pages.pages mid) (g.P.Pages.count old) (g.P.Pages.count mid) (g.P.Pages.first old) (g.P.Pages.first mid) state c.place.ensures.pages c.place.ensures.count c.place.ensures.first stand in
-    let holds : Holds (g.P.Pages.pages mid) tables there.entries = subst (λ (t : Tables). Holds (g.P.Pages.pages mid) t there.entries) (sym tables_are) there.holds in
+    let holds : Holds (g.P.Pages.pages mid) tables there.entries = subst (λ (t : Tables). Holds (g.P.Pages.pages mid) t there.entries) (sym tables_are) there.tables.holds in
     let new_is : c.is_none-is_new.result ≡ is_none c.in_ok-old.old = flipped c.is_none-is_new.result (is_some c.in_ok-old.old) c.is_none-is_new.ensures in
     let is_found : c.in_ok-old.old ≡ place_of_key c.args.key.now there.entries.places = c.in_ok-old.ensures.found there.entries (subst (λ (p : PageMap). Holds p tables there.entries) c.place.ensures.pages holds) in
     let place : Place = record { point = c.args.point; words = c.args.words.now } in
@@ -120,15 +120,15 @@ returns-then-is_new-3-clause-updated g c = λ state stand later serials above.
       | else-is_new-via-else-is_new w ↦ absurd (true≢false (sym new ∙ sym new_is ∙ w.if-is_new.false))
     ] in
     let less : head.number ≡ 2 ^ 40 → ⊥ = λ e. omega arith in
-    let apart : IsApart (view (g.P.Pages.pages mid) (g.P.Pages.count mid) (g.P.Pages.first mid) there.free) tables =
-    subst (λ (t : Tables). IsApart (view (g.P.Pages.pages mid) (g.P.Pages.count mid) (g.P.Pages.first mid) there.free) t) (sym tables_are) there.apart in
+    let apart : IsApart (view (g.P.Pages.pages mid) (g.P.Pages.count mid) (g.P.Pages.first mid) there.tables.free) tables =
+    subst (λ (t : Tables). IsApart (view (g.P.Pages.pages mid) (g.P.Pages.count mid) (g.P.Pages.first mid) there.tables.free) t) (sym tables_are) there.tables.apart in
     let after = c.put_place.new.pages in
     let now = c.put_place.new.tables in
-    let changed = c.in_ok-put_place.ensures.put there.entries there.free holds apart (c.as_ref.ensures.value ∙ is_found) in
+    let changed = c.in_ok-put_place.ensures.put there.entries there.tables.free holds apart (c.as_ref.ensures.value ∙ is_found) in
     let next : now.next_word ≡ (numbered_for c.args.key.now c.args.words.now head.next_word there.entries).next_word =
     subst (λ (t : Tables). now.next_word ≡ (numbered_for c.args.key.now c.args.words.now t.next_word there.entries).next_word) tables_are changed.0 in
-    let moves : IsChanged (view (g.P.Pages.pages mid) (g.P.Pages.count mid) (g.P.Pages.first mid) there.free) (tables_in head) (g.P.Pages.pages after) (g.P.Pages.count after) (g.P.Pages.first after) now (after_put c.args.key.now c.args.point c.args.words.now head.next_word there.entries) =
-    subst (λ (t : Tables). IsChanged (view (g.P.Pages.pages mid) (g.P.Pages.count mid) (g.P.Pages.first mid) there.free) t (g.P.Pages.pages after) (g.P.Pages.count after) (g.P.Pages.first after) now (after_put c.args.key.now c.args.point c.args.words.now t.next_word there.entries)) tables_are changed.1 in
+    let moves : IsChanged (view (g.P.Pages.pages mid) (g.P.Pages.count mid) (g.P.Pages.first mid) there.tables.free) (tables_in head) (g.P.Pages.pages after) (g.P.Pages.count after) (g.P.Pages.first after) now (after_put c.args.key.now c.args.point c.args.words.now head.next_word there.entries) =
+    subst (λ (t : Tables). IsChanged (view (g.P.Pages.pages mid) (g.P.Pages.count mid) (g.P.Pages.first mid) there.tables.free) t (g.P.Pages.pages after) (g.P.Pages.count after) (g.P.Pages.first after) now (after_put c.args.key.now c.args.point c.args.words.now t.next_word there.entries)) tables_are changed.1 in
     let live : c.if-is_new-2.live ≡ cond (is_none c.in_ok-old.old) (head.live + 1) head.live = elim c.if-is_new-2.branch [
       | then-is_new-2 w ↦ w.live-is ∙ ap (λ b. cond b (head.live + 1) head.live) (sym (sym new_is ∙ w.if-is_new-2.true))
       | else-is_new-2 w ↦ w.live-is ∙ ap (λ b. cond b (head.live + 1) head.live) (sym (sym new_is ∙ w.if-is_new-2.false))
@@ -149,7 +149,7 @@ returns-else-is_new-3-clause-updated g c = λ state stand later serials above.
     let old = c.args.pages.now in
     let mid = c.place.new.pages in
     let there = stand-same head (g.P.Pages.pages old) (g.P.Pages.pages mid) (g.P.Pages.count old) (g.P.Pages.count mid) (g.P.Pages.first old) (g.P.Pages.first mid) state c.place.ensures.pages c.place.ensures.count c.place.ensures.first stand in
-    let holds : Holds (g.P.Pages.pages mid) tables there.entries = subst (λ (t : Tables). Holds (g.P.Pages.pages mid) t there.entries) (sym tables_are) there.holds in
+    let holds : Holds (g.P.Pages.pages mid) tables there.entries = subst (λ (t : Tables). Holds (g.P.Pages.pages mid) t there.entries) (sym tables_are) there.tables.holds in
     let new_is : c.is_none-is_new.result ≡ is_none c.in_ok-old.old = flipped c.is_none-is_new.result (is_some c.in_ok-old.old) c.is_none-is_new.ensures in
     let is_found : c.in_ok-old.old ≡ place_of_key c.args.key.now there.entries.places = c.in_ok-old.ensures.found there.entries (subst (λ (p : PageMap). Holds p tables there.entries) c.place.ensures.pages holds) in
     let place : Place = record { point = c.args.point; words = c.args.words.now } in
@@ -158,15 +158,15 @@ returns-else-is_new-3-clause-updated g c = λ state stand later serials above.
       | else-is_new-via-else-is_new w ↦ absurd (true≢false (sym new ∙ sym new_is ∙ w.if-is_new.false))
     ] in
     let less : head.number ≡ 2 ^ 40 → ⊥ = λ e. omega arith in
-    let apart : IsApart (view (g.P.Pages.pages mid) (g.P.Pages.count mid) (g.P.Pages.first mid) there.free) tables =
-    subst (λ (t : Tables). IsApart (view (g.P.Pages.pages mid) (g.P.Pages.count mid) (g.P.Pages.first mid) there.free) t) (sym tables_are) there.apart in
+    let apart : IsApart (view (g.P.Pages.pages mid) (g.P.Pages.count mid) (g.P.Pages.first mid) there.tables.free) tables =
+    subst (λ (t : Tables). IsApart (view (g.P.Pages.pages mid) (g.P.Pages.count mid) (g.P.Pages.first mid) there.tables.free) t) (sym tables_are) there.tables.apart in
     let after = c.put_place.new.pages in
     let now = c.put_place.new.tables in
-    let changed = c.in_ok-put_place.ensures.put there.entries there.free holds apart (c.as_ref.ensures.value ∙ is_found) in
+    let changed = c.in_ok-put_place.ensures.put there.entries there.tables.free holds apart (c.as_ref.ensures.value ∙ is_found) in
     let next : now.next_word ≡ (numbered_for c.args.key.now c.args.words.now head.next_word there.entries).next_word =
     subst (λ (t : Tables). now.next_word ≡ (numbered_for c.args.key.now c.args.words.now t.next_word there.entries).next_word) tables_are changed.0 in
-    let moves : IsChanged (view (g.P.Pages.pages mid) (g.P.Pages.count mid) (g.P.Pages.first mid) there.free) (tables_in head) (g.P.Pages.pages after) (g.P.Pages.count after) (g.P.Pages.first after) now (after_put c.args.key.now c.args.point c.args.words.now head.next_word there.entries) =
-    subst (λ (t : Tables). IsChanged (view (g.P.Pages.pages mid) (g.P.Pages.count mid) (g.P.Pages.first mid) there.free) t (g.P.Pages.pages after) (g.P.Pages.count after) (g.P.Pages.first after) now (after_put c.args.key.now c.args.point c.args.words.now t.next_word there.entries)) tables_are changed.1 in
+    let moves : IsChanged (view (g.P.Pages.pages mid) (g.P.Pages.count mid) (g.P.Pages.first mid) there.tables.free) (tables_in head) (g.P.Pages.pages after) (g.P.Pages.count after) (g.P.Pages.first after) now (after_put c.args.key.now c.args.point c.args.words.now head.next_word there.entries) =
+    subst (λ (t : Tables). IsChanged (view (g.P.Pages.pages mid) (g.P.Pages.count mid) (g.P.Pages.first mid) there.tables.free) t (g.P.Pages.pages after) (g.P.Pages.count after) (g.P.Pages.first after) now (after_put c.args.key.now c.args.point c.args.words.now t.next_word there.entries)) tables_are changed.1 in
     let live : c.if-is_new-2.live ≡ cond (is_none c.in_ok-old.old) (head.live + 1) head.live = elim c.if-is_new-2.branch [
       | then-is_new-2 w ↦ w.live-is ∙ ap (λ b. cond b (head.live + 1) head.live) (sym (sym new_is ∙ w.if-is_new-2.true))
       | else-is_new-2 w ↦ w.live-is ∙ ap (λ b. cond b (head.live + 1) head.live) (sym (sym new_is ∙ w.if-is_new-2.false))

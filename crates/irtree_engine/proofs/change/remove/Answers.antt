@@ -32,7 +32,7 @@ returns-in_err-old-clause-due g c = λ state stand told.
     let tables = c.tables_of-tables.result in
     let pages : PageMap = g.P.Pages.pages c.args.pages.now in
     let passed = err_from_is_err_and c.from_residual.result c.from_residual.ensures.1 in
-    let holds : Holds pages tables stand.entries = subst (λ (t : Tables). Holds pages t stand.entries) (sym c.tables_of-tables.ensures) stand.holds in
+    let holds : Holds pages tables stand.entries = subst (λ (t : Tables). Holds pages t stand.entries) (sym c.tables_of-tables.ensures) stand.tables.holds in
     let counted : AreCounted (table_uses pages tables) (g.P.Pages.count c.args.pages.now) = subst (λ (t : Tables). AreCounted (table_uses pages t) (g.P.Pages.count c.args.pages.now)) (sym c.tables_of-tables.ensures) (stand-counted stand) in
     subst (λ (r : Result Applied EngineFault). IfErr r (IsDueTo outcome)) (sym passed.1)
     (passed-due outcome c.in_err-old.field-0.0 passed.0 passed.2 (λ damage is. c.place.ensures.honest stand.entries holds told counted damage (c.in_err-old.was ∙ ap Err is)))
@@ -46,7 +46,7 @@ returns-in_default-clause-updated g c = λ state stand.
     let old = c.args.pages.now in
     let mid = c.place.new.pages in
     let there = stand-same head (g.P.Pages.pages old) (g.P.Pages.pages mid) (g.P.Pages.count old) (g.P.Pages.count mid) (g.P.Pages.first old) (g.P.Pages.first mid) state c.place.ensures.pages c.place.ensures.count c.place.ensures.first stand in
-    let holds : Holds (g.P.Pages.pages mid) tables there.entries = subst (λ (t : Tables). Holds (g.P.Pages.pages mid) t there.entries) (sym tables_are) there.holds in
+    let holds : Holds (g.P.Pages.pages mid) tables there.entries = subst (λ (t : Tables). Holds (g.P.Pages.pages mid) t there.entries) (sym tables_are) there.tables.holds in
     let is_found : c.in_ok-old.field-0 ≡ place_of_key c.args.key.now there.entries.places = c.in_ok-old.ensures.found there.entries (subst (λ (p : PageMap). Holds p tables there.entries) c.place.ensures.pages holds) in
     let none : is_some c.in_ok-old.field-0 ≡ false = none_there c.in_ok-old.field-0 c.in_default.not-Some in
     let absent = remove-absent head (g.P.Pages.count mid) (g.P.Pages.first mid) (g.P.Pages.pages mid) state there c.args.key.now c.in_ok-old.field-0 is_found none in (
@@ -63,7 +63,7 @@ returns-then-head-eq-NUMBER_MAX-clause-due g c = λ state stand told.
     let old = c.args.pages.now in
     let mid = c.place.new.pages in
     let there = stand-same head (g.P.Pages.pages old) (g.P.Pages.pages mid) (g.P.Pages.count old) (g.P.Pages.count mid) (g.P.Pages.first old) (g.P.Pages.first mid) state c.place.ensures.pages c.place.ensures.count c.place.ensures.first stand in
-    let holds : Holds (g.P.Pages.pages mid) tables there.entries = subst (λ (t : Tables). Holds (g.P.Pages.pages mid) t there.entries) (sym tables_are) there.holds in
+    let holds : Holds (g.P.Pages.pages mid) tables there.entries = subst (λ (t : Tables). Holds (g.P.Pages.pages mid) t there.entries) (sym tables_are) there.tables.holds in
     let is_found : c.in_ok-old.field-0 ≡ place_of_key c.args.key.now there.entries.places = c.in_ok-old.ensures.found there.entries (subst (λ (p : PageMap). Holds p tables there.entries) c.place.ensures.pages holds) in
     remove-worn head (g.P.Pages.count mid) (g.P.Pages.first mid) (g.P.Pages.pages mid) state there c.args.key.now c.in_ok-old.field-0 is_found (ap is_some c.in-Some.is) (omega arith)
 
@@ -76,17 +76,17 @@ returns-clause-updated g c = λ state stand.
     let old = c.args.pages.now in
     let mid = c.place.new.pages in
     let there = stand-same head (g.P.Pages.pages old) (g.P.Pages.pages mid) (g.P.Pages.count old) (g.P.Pages.count mid) (g.P.Pages.first old) (g.P.Pages.first mid) state c.place.ensures.pages c.place.ensures.count c.place.ensures.first stand in
-    let holds : Holds (g.P.Pages.pages mid) tables there.entries = subst (λ (t : Tables). Holds (g.P.Pages.pages mid) t there.entries) (sym tables_are) there.holds in
+    let holds : Holds (g.P.Pages.pages mid) tables there.entries = subst (λ (t : Tables). Holds (g.P.Pages.pages mid) t there.entries) (sym tables_are) there.tables.holds in
     let is_found : c.in_ok-old.field-0 ≡ place_of_key c.args.key.now there.entries.places = c.in_ok-old.ensures.found there.entries (subst (λ (p : PageMap). Holds p tables there.entries) c.place.ensures.pages holds) in
     let some : is_some c.in_ok-old.field-0 ≡ true = ap is_some c.in-Some.is in
     let less : head.number ≡ 2 ^ 40 → ⊥ = λ e. omega arith in
-    let apart : IsApart (view (g.P.Pages.pages mid) (g.P.Pages.count mid) (g.P.Pages.first mid) there.free) tables =
-    subst (λ (t : Tables). IsApart (view (g.P.Pages.pages mid) (g.P.Pages.count mid) (g.P.Pages.first mid) there.free) t) (sym tables_are) there.apart in
+    let apart : IsApart (view (g.P.Pages.pages mid) (g.P.Pages.count mid) (g.P.Pages.first mid) there.tables.free) tables =
+    subst (λ (t : Tables). IsApart (view (g.P.Pages.pages mid) (g.P.Pages.count mid) (g.P.Pages.first mid) there.tables.free) t) (sym tables_are) there.tables.apart in
     let after = c.remove_place.new.pages in
     let now = c.remove_place.new.tables in
-    let moves : IsChanged (view (g.P.Pages.pages mid) (g.P.Pages.count mid) (g.P.Pages.first mid) there.free) (tables_in head) (g.P.Pages.pages after) (g.P.Pages.count after) (g.P.Pages.first after) now (after_remove c.args.key.now there.entries) =
-    subst (λ (t : Tables). IsChanged (view (g.P.Pages.pages mid) (g.P.Pages.count mid) (g.P.Pages.first mid) there.free) t (g.P.Pages.pages after) (g.P.Pages.count after) (g.P.Pages.first after) now (after_remove c.args.key.now there.entries)) tables_are
-    (c.in_ok-remove_place.ensures.removed there.entries there.free holds apart (sym is_found ∙ c.in-Some.is)) in
+    let moves : IsChanged (view (g.P.Pages.pages mid) (g.P.Pages.count mid) (g.P.Pages.first mid) there.tables.free) (tables_in head) (g.P.Pages.pages after) (g.P.Pages.count after) (g.P.Pages.first after) now (after_remove c.args.key.now there.entries) =
+    subst (λ (t : Tables). IsChanged (view (g.P.Pages.pages mid) (g.P.Pages.count mid) (g.P.Pages.first mid) there.tables.free) t (g.P.Pages.pages after) (g.P.Pages.count after) (g.P.Pages.first after) now (after_remove c.args.key.now there.entries)) tables_are
+    (c.in_ok-remove_place.ensures.removed there.entries there.tables.free holds apart (sym is_found ∙ c.in-Some.is)) in
     let next : now.next_word ≡ head.next_word = c.remove_place.ensures.next ∙ ap (λ (t : Tables). t.next_word) tables_are in
     let done = remove-done head (g.P.Pages.count mid) (g.P.Pages.first mid) (g.P.Pages.pages mid) state there c.args.key.now c.in_ok-old.field-0 is_found some less in (
       ap (λ (e : Effect). e.answer) done,

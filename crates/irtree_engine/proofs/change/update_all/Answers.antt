@@ -18,6 +18,16 @@ returns-in_err-update-clause-due g c = λ state stand told.
     subst (λ (r : Result (Unit {0}) EngineFault). IfErr r (IsDueTo (state_after_all state c.args.updates.now))) (sym passed.1)
     (subst (IsDueTo (state_after_all state c.args.updates.now)) (sym passed.2) due)
 
+pub returns-in_err-update-clause-one_more_each : goal.returns-in_err-update-clause-one_more_each
+returns-in_err-update-clause-one_more_each g c =
+    let is : c.loop-next.left.now ≡ c.in-Some.next.now ∷ c.in-Some.rest.now = search rules in
+    let long : length c.loop-next.left.now ≡ length c.in-Some.rest.now + 1 = ap length is ∙ omega arith in
+    let one_more = c.update.ensures.one_more in
+    let more_live = one_more.0 in
+    let more_number = one_more.1 in
+    let lives = c.loop-next.invariant.lives in
+    let numbers = c.loop-next.invariant.numbers in (omega (arith, long, more_live, lives), omega (arith, long, more_number, numbers))
+
 -- src/change.rt:92:5
 pub loop-next-preserved : goal.loop-next-preserved
 loop-next-preserved g c =

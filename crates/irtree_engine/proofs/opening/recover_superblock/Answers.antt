@@ -1,5 +1,5 @@
 use Rattle.std.proofs.Common.{IsErrOf}
-use Rattle.disk_model.specs.declared.disk.Area.TheVariants.{Pages}
+use Rattle.page_journal.specs.Record.{applied}
 use Rattle.page_store.specs.declared.opening.OpenFault.TheVariants.{BadJournal, Damaged, NotAStore}
 use Rattle.irtree_engine.proofs.Openings.{bad-none, opening-leaves}
 use Rattle.irtree_engine.proofs.opening.recover_superblock.Goals as goal
@@ -20,10 +20,25 @@ pub returns-in-Err-NotAStore-clause-foreign : goal.returns-in-Err-NotAStore-clau
 returns-in-Err-NotAStore-clause-foreign g c = λ t is.
     let named : IsErrOf c.recover_superblock.result NotAStore = cc in
     let refused = c.recover_superblock.ensures.not_a_store t named in
-    record { area = (g.D.Disk.world c.recover_superblock.new.disk).seen Pages; stands = refused.stands; filled = refused.page.0; other = refused.page.1 }
+    record { area = applied (g.D.Disk.world c.recover_superblock.new.disk).seen; stands = refused.stands; filled = refused.page.0; other = refused.page.1 }
 
 pub returns-in-Err-Damaged-clause-broken_head : goal.returns-in-Err-Damaged-clause-broken_head
 returns-in-Err-Damaged-clause-broken_head g c = λ t damage is.
     let named : IsErrOf c.recover_superblock.result (Damaged damage) = cc in
     let refused = (c.recover_superblock.ensures.damaged damage named).1 t in
-    record { area = (g.D.Disk.world c.recover_superblock.new.disk).seen Pages; stands = refused.stands; magic = refused.page.0; broken = refused.page.1 }
+    record { area = applied (g.D.Disk.world c.recover_superblock.new.disk).seen; stands = refused.stands; magic = refused.page.0; broken = refused.page.1 }
+
+pub returns-in-Err-BadJournal-clause-left : goal.returns-in-Err-BadJournal-clause-left
+returns-in-Err-BadJournal-clause-left g c = λ t.
+    let named : IsErrOf c.recover_superblock.result (BadJournal c.in-Err-BadJournal.at) = cc in
+    c.recover_superblock.ensures.untouched t c.in-Err-BadJournal.at named
+
+pub returns-in-Err-NotAStore-clause-left : goal.returns-in-Err-NotAStore-clause-left
+returns-in-Err-NotAStore-clause-left g c = λ t.
+    let named : IsErrOf c.recover_superblock.result NotAStore = cc in
+    let refused = c.recover_superblock.ensures.not_a_store t named in record { ready = refused.ready; stands = refused.stands }
+
+pub returns-in-Err-Damaged-clause-left : goal.returns-in-Err-Damaged-clause-left
+returns-in-Err-Damaged-clause-left g c = λ t.
+    let named : IsErrOf c.recover_superblock.result (Damaged c.in-Err-Damaged.damage) = cc in
+    let refused = (c.recover_superblock.ensures.damaged c.in-Err-Damaged.damage named).1 t in record { ready = refused.ready; stands = refused.stands }

@@ -1,4 +1,4 @@
-use Rattle.std.proofs.Common.{◌≡◌, ◌+◌, ◌<◌, ◌≤◌, [], ◌∷◌, ◌++◌, length, Option, Some, None, IsErrOf, IsSome, option_copied, option_map, sym, ap, subst, ◌∙◌, length-append, arith, rules}
+use Rattle.std.proofs.Common.{◌≡◌, ◌+◌, ◌<◌, ◌≤◌, inl, inr, [], ◌∷◌, ◌++◌, length, Option, Some, None, IsErrOf, IsSome, option_copied, option_map, sym, ap, subst, ◌∙◌, length-append, arith, rules}
 use Rattle.std.proofs.lemmas.Result.{err_from_is_err_and}
 use Rattle.page_face.specs.FreeList.{PageMap}
 use Rattle.page_face.specs.declared.fault.PageFault.TheVariants.{Damaged}
@@ -10,6 +10,7 @@ use Rattle.store_tables.specs.Entries.{place_after}
 use Rattle.store_tables.specs.Holding.{Holds, table_uses}
 use Rattle.store_meaning.proofs.Maps.{ascending-holds}
 use Rattle.irtree_engine.specs.Listing.{row_of}
+use Rattle.irtree_engine.proofs.Damages.{damage-there, told-here}
 use Rattle.irtree_engine.proofs.Listings.{AreListed, listed-last, listed-more, listed-next}
 use Rattle.irtree_engine.proofs.places.list_places.Goals as goal
 
@@ -32,6 +33,17 @@ returns-in_err-row-clause-honest g c = λ entries holds live known told counted 
     let some : IsSome (place_after (option_copied c.as_ref.result) entries.places) =
     subst (λ (after : Option Name). IsSome (place_after after entries.places)) (sym c.as_ref.ensures.value) (listed-next entries.numbers entries.places c.loop-alloc.after c.loop-alloc.rows.items (invariant.listed entries holds) fewer) in
     c.next_row.ensures.honest entries here some known told_here counted_here damage named
+
+-- src/places.rt:95:19
+pub returns-in_err-row-clause-damaged : goal.returns-in_err-row-clause-damaged
+returns-in_err-row-clause-damaged g c = λ told damage is.
+    let invariant = c.loop-alloc.invariant in
+    let passed = err_from_is_err_and c.from_residual.result c.from_residual.ensures.1 in
+    let result_is = passed.1 in
+    let same = passed.2 in
+    let was = c.in_err-row.was in
+    let named : IsErrOf c.next_row.result (Damaged damage) = cc in
+    damage-there _ _ _ _ c.args.tables.now damage invariant.pages invariant.count (c.next_row.ensures.damaged (told-here told invariant.pages invariant.count) damage named)
 
 -- src/places.rt:94:5
 pub loop-alloc-preserved : goal.loop-alloc-preserved
@@ -79,3 +91,16 @@ returns-in-Some-clause-only_reads g c = g.met.P.Pages.reads_further _ _ _ c.loop
 -- src/places.rt:65:1
 pub returns-in-Some-clause-follows : goal.returns-in-Some-clause-follows
 returns-in-Some-clause-follows g c = g.met.P.Pages.goes_further _ _ _ c.loop-alloc.invariant.follows c.next_place.ensures.follows
+
+pub returns-in_err-next_place-clause-damaged : goal.returns-in_err-next_place-clause-damaged
+returns-in_err-next_place-clause-damaged g c = λ told damage is.
+    let invariant = c.loop-alloc.invariant in
+    let passed = err_from_is_err_and c.from_residual-in_err-next_place.result c.from_residual-in_err-next_place.ensures.1 in
+    let result_is = passed.1 in
+    let same = passed.2 in
+    let was = c.in_err-next_place.was in
+    let named : IsErrOf c.next_place.result (Damaged damage) = cc in
+    damage-there _ _ _ _ c.args.tables.now damage invariant.pages invariant.count (inl (option_copied c.as_ref-2.result, c.next_place.ensures.damaged (told-here told invariant.pages invariant.count) damage named))
+
+pub returns-in-Some-clause-damaged : goal.returns-in-Some-clause-damaged
+returns-in-Some-clause-damaged g c = λ told damage is. inr (inr (cc))

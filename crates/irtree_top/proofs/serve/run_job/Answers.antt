@@ -1,15 +1,18 @@
 use Rattle.std.proofs.Common.{◌≡◌, ◌≤◌, rules, sym, ap, subst, ◌∙◌, arith}
 use Rattle.std.specs.Prelude.{IsErrOf}
 use Rattle.irtree_engine.specs.declared.fault.EngineFault.TheVariants as engine
-use Rattle.disk_model.specs.World.{LeavesOnly}
-use Rattle.disk_model.specs.declared.disk.Area.TheVariants.{Pages}
+use Rattle.disk_model.specs.World.{LeavesOnly, LeavesOnlySeen}
 use Rattle.disk_model.proofs.Moments.{then, within}
 use Rattle.irtree_engine.specs.Holding.{HoldsState}
+use Rattle.page_store.specs.declared.superblock.Superblock.{Superblock}
 use Rattle.run_protocol.specs.Causes.{HasJobEnd}
+use Rattle.run_protocol.specs.Load.{ReachesLimit}
+use Rattle.run_protocol.specs.declared.ended.Ended.{Ended}
+use Rattle.run_protocol.specs.declared.ended.Ended.TheVariants as ends
 use Rattle.irtree_top.specs.Run.{EndsJob, HasRunEnd, HoldsPrefix}
 use Rattle.irtree_top.proofs.Crashes.{left-from, none-held}
 use Rattle.irtree_top.proofs.Jobs.{job-from}
-use Rattle.irtree_top.proofs.Openings.{Refuses, given-back, job-cause, none-by, refused-cause, refused-job}
+use Rattle.irtree_top.proofs.Openings.{IsOpeningEnd, Refuses, given-back, job-alone, job-cause, none-by, opened-image, opened-limit, opened-quiet, opening-end, refused-alone, refused-cause, refused-job}
 use Rattle.irtree_top.proofs.serve.run_job.Given as given
 use Rattle.irtree_top.proofs.serve.run_job.Goals as goal
 
@@ -36,6 +39,24 @@ pub returns-in-Err-clause-any_moment : goal.returns-in-Err-clause-any_moment
 returns-in-Err-clause-any_moment g c = λ tells told asked action batch state holds.
     let some : 1 ≤ asked.batch = omega (arith, batch, c.requires.some) in
     within (c.in-Err.ensures.any_moment told state holds) (λ image said left whole is. none-held asked.action asked.batch some state whole.turn.changes _ image said left.0 left.1)
+
+-- a refused opening ends by the disk or by the store
+ends-otherwise : (g : given.Over) (c : goal.After-ended_by g) → (end : Ended) → c.ended_by.result ≡ end → IsOpeningEnd end
+ends-otherwise g c end is = subst IsOpeningEnd (sym c.ended_by.ensures ∙ is) (opening-end c.in-Err.fault c.in-Err.ensures.causes)
+
+pub returns-in-Err-clause-left_alone : goal.returns-in-Err-clause-left_alone
+returns-in-Err-clause-left_alone g c = λ told.
+    rw c.ended_by.ensures
+    (refused-alone (g.T.Disk.world c.args.station.now) (g.T.Disk.world c.recover_superblock.new.disk) c.in-Err.fault (c.in-Err.ensures.left told) (c.recover_superblock.ensures.alike told) (c.recover_superblock.ensures.quiet told).said)
+
+pub returns-in-Err-clause-input : goal.returns-in-Err-clause-input
+returns-in-Err-clause-input g c = λ tells fault is. absurd (ends-otherwise g c (ends.Input fault) (cc is))
+
+pub returns-in-Err-clause-limits : goal.returns-in-Err-clause-limits
+returns-in-Err-clause-limits g c = λ fault is. absurd (ends-otherwise g c (ends.Limit fault) (cc is))
+
+pub returns-in-Err-clause-reached : goal.returns-in-Err-clause-reached
+returns-in-Err-clause-reached g c = λ tells told fault is. absurd (ends-otherwise g c (ends.Limit fault) (cc is))
 
 pub returns-in-Err-clause-cause : goal.returns-in-Err-clause-cause
 returns-in-Err-clause-cause g c = record {
@@ -76,7 +97,25 @@ returns-clause-cause g c =
     let over : c.over-engine.result.store.disk.now ≡ c.recover_superblock.new.disk = c.over-engine.ensures.disk in
     given-back (λ disk. HasRunEnd g.T.Disk.tells (source c.args.source.now) (source c.serve-end.new.source) (world c.args.station.now) (world disk) c.serve-end.result) c.serve-end.new.engine.store.disk.now _ (search rules)
     (job-cause g.T.Disk.tells (world c.args.station.now) (world c.recover_superblock.new.disk) (world c.serve-end.new.engine.store.disk.now) c.recover_superblock.ensures.later c.recover_superblock.ensures.sink
-    (λ told. let o = c.in-Ok.ensures.opened told in record { area = (world c.recover_superblock.new.disk).seen Pages; stands = o.stands; page = o.page })
+    (λ told. opened-image c.in-Ok.block (world c.args.station.now) (world c.recover_superblock.new.disk) (c.in-Ok.ensures.opened told))
     (λ told state holds. c.in-Ok.ensures.holds told state holds) (Unit {0})
     (source c.args.source.now) (source c.serve-end.new.source) c.serve-end.result
     (subst (λ disk. HasJobEnd g.T.Disk.tells (source c.args.source.now) (source c.serve-end.new.source) (world disk) (world c.serve-end.new.engine.store.disk.now) c.serve-end.result) over c.serve-end.ensures.cause))
+
+pub serve-end-requires-clause-quiet : goal.serve-end-requires-clause-quiet
+serve-end-requires-clause-quiet g c = λ told. subst (λ disk. LeavesOnlySeen (g.T.Disk.world disk)) (sym c.over-engine.ensures.disk)
+    (opened-quiet c.in-Ok.block (g.T.Disk.world c.args.station.now) (g.T.Disk.world c.recover_superblock.new.disk) (c.in-Ok.ensures.opened told))
+
+pub returns-clause-left_alone : goal.returns-clause-left_alone
+returns-clause-left_alone g c = λ told.
+    let world = g.T.Disk.world in
+    job-alone (world c.args.station.now) _ (opened-image c.in-Ok.block (world c.args.station.now) (world c.recover_superblock.new.disk) (c.in-Ok.ensures.opened told)) (Unit {0}) g.T.Disk.tells
+    (g.S.Source.faults c.args.source.now) (g.S.Source.faults c.serve-end.new.source) (world c.over-engine.result.store.disk.now) (world c.serve-end.new.engine.store.disk.now) c.serve-end.result c.serve-end.ensures.cause
+
+pub returns-clause-reached : goal.returns-clause-reached
+returns-clause-reached g c = λ tells told fault is.
+    let world = g.T.Disk.world in
+    let input = g.S.Source.left c.args.source.now in
+    let block : c.over-engine.result.store.current ≡ c.in-Ok.block = c.over-engine.result.settled ∙ c.over-engine.ensures.block in
+    opened-limit c.in-Ok.block (world c.args.station.now) (world c.recover_superblock.new.disk) (c.in-Ok.ensures.opened told) fault input
+    (subst (λ (b : Superblock). ReachesLimit fault b.head.live b.head.number input) block (c.serve-end.ensures.reached tells fault is))

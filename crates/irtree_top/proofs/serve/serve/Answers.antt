@@ -1,32 +1,65 @@
-use Rattle.std.proofs.Common.{◌≤◌, sym, subst, ◌∙◌, arith}
+use Rattle.std.proofs.Common.{◌≡◌, ◌≤◌, IsTrue, refl, arith}
 use Rattle.disk_model.specs.World.{LeavesOnly}
-use Rattle.load_run.specs.Loading.{EndsLoad}
-use Rattle.run_protocol.specs.Left.{LeftByLoad}
-use Rattle.irtree_top.proofs.Crashes.{load-left, script-left}
-use Rattle.irtree_top.proofs.Jobs.{load-ends, script-ends}
+use Rattle.place_map.specs.State.{Contents}
+use Rattle.irtree_engine.specs.Holding.{HoldsState}
+use Rattle.irtree_top.specs.Run.{HoldsPrefix}
+use Rattle.irtree_top.specs.Words.{Asked}
+use Rattle.irtree_top.proofs.Crashes.{none-held}
+use Rattle.irtree_top.proofs.Settled.{cause-settled, ends-front, now-left, settled-front, settled-job, settled-left}
+use Rattle.irtree_top.proofs.serve.serve.Given as given
+use Rattle.irtree_top.proofs.serve.serve.Goals.{After-settle}
 use Rattle.irtree_top.proofs.serve.serve.Goals as goal
 
-pub returns-in-Run-clause-told : goal.returns-in-Run-clause-told
-returns-in-Run-clause-told g c = λ tells told asked action batch state holds.
-    script-ends asked state (g.S.Source.left c.args.source.now) (action ∙ c.in-Run.is) (g.S.Source.left c.run_script.new.source) (g.T.Disk.world c.args.engine.now.store.disk.now) (g.T.Disk.world c.run_script.new.engine.store.disk.now) c.run_script.result
-    (c.run_script.ensures.told tells told state holds)
-
-pub returns-in-Run-clause-any_moment : goal.returns-in-Run-clause-any_moment
-returns-in-Run-clause-any_moment g c = λ tells told asked action batch state holds.
+-- what a crash leaves of the job and of the settling
+left-behind : (g : given.Over) (c : After-settle g) → IsTrue g.S.Source.tells → IsTrue g.T.Disk.tells → (asked : Asked) → asked.action ≡ c.args.action → asked.batch ≡ c.args.batch
+    → (state : Contents) → HoldsState (g.T.Disk.world c.args.engine.now.store.disk.now) state
+    → LeavesOnly (g.T.Disk.world c.args.engine.now.store.disk.now) (g.T.Disk.world c.settle.new.engine.store.disk.now) (HoldsPrefix asked state (g.S.Source.left c.args.source.now) (g.T.Disk.world c.args.engine.now.store.disk.now))
+left-behind g c tells told asked action batch state holds =
+    let world = g.T.Disk.world in
+    let input = g.S.Source.left c.args.source.now in
+    let first = c.args.engine.now.store.disk.now in
+    let mid = c.act-end.new.engine.store.disk.now in
     let some : 1 ≤ asked.batch = omega (arith, batch, c.requires.some) in
-    script-left asked state (g.S.Source.left c.args.source.now) some (action ∙ c.in-Run.is) (g.T.Disk.world c.args.engine.now.store.disk.now) (g.T.Disk.world c.run_script.new.engine.store.disk.now) (c.run_script.ensures.any_moment tells told state holds)
+    let leaves = c.act-end.ensures.any_moment tells told asked action batch state holds in
+    let whole = c.transcript_is_some.ensures state asked input in
+    let now = now-left (HoldsPrefix asked state input (world first)) (world first) (world mid) (c.requires.quiet told) (λ image said was. g.met.T.Disk.only_now first image said told was) leaves
+    (g.met.T.Disk.counts_now mid (world first).moment (world mid).seen told leaves.later (g.met.T.Disk.leaves_seen mid told))
+    (λ other is. none-held asked.action asked.batch some state other.turn.changes (world first).said (world first).seen (world first).said holds refl) in
+    settled-left c.transcript_is_one.ensures asked state input (world first) (world mid) (world c.settle.new.engine.store.disk.now) whole.0 whole.1 now (c.settle.ensures.any_moment told) leaves
 
-pub returns-in-Load-clause-told : goal.returns-in-Load-clause-told
-returns-in-Load-clause-told g c = λ tells told asked action batch state holds.
-    let old = g.T.Disk.world c.args.engine.now.store.disk.now in
-    let new = g.T.Disk.world c.run_load.new.engine.store.disk.now in
-    load-ends c.outcome_is_one.ensures asked state (g.S.Source.left c.args.source.now) (action ∙ c.in-Load.is) _ (g.S.Source.left c.run_load.new.source) old new c.run_load.result
-    (subst (λ n. EndsLoad n state (g.S.Source.left c.args.source.now) (g.S.Source.left c.run_load.new.source) old new c.run_load.result) (sym batch) (c.run_load.ensures.told tells told state holds))
+pub returns-in-Ok-clause-told : goal.returns-in-Ok-clause-told
+returns-in-Ok-clause-told g c = λ tells told asked action batch state holds.
+    let world = g.T.Disk.world in
+    settled-job asked state (g.S.Source.left c.args.source.now) (world c.args.engine.now.store.disk.now) (world c.act-end.new.engine.store.disk.now) (world c.settle.new.engine.store.disk.now)
+    (c.settle.ensures.silent told) (λ held stands. c.in-Ok.ensures.holds told held stands) (Unit {0}) (g.S.Source.left c.act-end.new.source) c.act-end.result
+    (c.act-end.ensures.told tells told asked action batch state holds)
 
-pub returns-in-Load-clause-any_moment : goal.returns-in-Load-clause-any_moment
-returns-in-Load-clause-any_moment g c = λ tells told asked action batch state holds.
-    let some : 1 ≤ asked.batch = omega (arith, batch, c.requires.some) in
-    let old = g.T.Disk.world c.args.engine.now.store.disk.now in
-    let new = g.T.Disk.world c.run_load.new.engine.store.disk.now in
-    load-left asked state (g.S.Source.left c.args.source.now) some c.outcome_is_one.ensures (action ∙ c.in-Load.is) old new
-    (subst (λ n. LeavesOnly old new (LeftByLoad n state (g.S.Source.left c.args.source.now) old.said)) (sym batch) (c.run_load.ensures.any_moment tells told state holds))
+pub returns-in-Ok-clause-any_moment : goal.returns-in-Ok-clause-any_moment
+returns-in-Ok-clause-any_moment g c = left-behind g (goal.at.returns-in-Ok-clause-any_moment g c).After-settle
+
+pub returns-in-Ok-clause-cause : goal.returns-in-Ok-clause-cause
+returns-in-Ok-clause-cause g c =
+    let world = g.T.Disk.world in
+    cause-settled g.T.Disk.tells (g.S.Source.faults c.args.source.now) (g.S.Source.faults c.act-end.new.source) (world c.args.engine.now.store.disk.now) (world c.act-end.new.engine.store.disk.now) (world c.settle.new.engine.store.disk.now)
+    c.settle.ensures.cause.later c.settle.ensures.cause.sink (Unit {0}) (λ told held stands. c.in-Ok.ensures.holds told held stands) c.act-end.result c.act-end.ensures.cause
+
+pub returns-in-Err-clause-told : goal.returns-in-Err-clause-told
+returns-in-Err-clause-told g c = λ tells told asked action batch state holds.
+    let world = g.T.Disk.world in
+    let input = g.S.Source.left c.args.source.now in
+    let first = world c.args.engine.now.store.disk.now in
+    let mid = world c.act-end.new.engine.store.disk.now in
+    settled-front asked state input first mid (world c.settle.new.engine.store.disk.now) (c.settle.ensures.silent told)
+    (ends-front c.transcript_is_one.ensures (Unit {0}) asked state input (g.S.Source.left c.act-end.new.source) first mid c.act-end.result (c.act-end.ensures.told tells told asked action batch state holds))
+
+pub returns-in-Err-clause-any_moment : goal.returns-in-Err-clause-any_moment
+returns-in-Err-clause-any_moment g c = left-behind g (goal.at.returns-in-Err-clause-any_moment g c).After-settle
+
+pub returns-in-Err-clause-cause : goal.returns-in-Err-clause-cause
+returns-in-Err-clause-cause g c = record {
+  source = c.act-end.ensures.cause.source;
+  faults = omega (arith, c.act-end.ensures.cause.faults, c.settle.ensures.cause.later);
+  sink = omega (arith, c.act-end.ensures.cause.sink, c.settle.ensures.cause.sink);
+  stands = λ t. tt;
+  cause = omega (arith, c.in-Err.ensures.cause.rose, c.act-end.ensures.cause.faults);
+}

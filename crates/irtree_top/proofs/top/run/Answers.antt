@@ -1,11 +1,12 @@
 use Rattle.std.proofs.Common.{◌≡◌, sym, ap, subst}
-use Rattle.std.specs.Prelude.{Err}
+use Rattle.std.specs.Prelude.{Err, IsErrOf}
 use Rattle.run_protocol.specs.declared.ended.Ended.{Ended}
-use Rattle.irtree_top.specs.Run.{EndsJob}
+use Rattle.run_protocol.specs.declared.ended.Ended.TheVariants as ends
+use Rattle.irtree_top.specs.Run.{EndsJob, IsInputEnd, IsLimitOf, IsWholeInput}
 use Rattle.run_protocol.specs.Turn.{Done}
 use Rattle.irtree_top.specs.Words.{Asked, asked_of}
 use Rattle.irtree_top.proofs.Jobs.{decided-front, job-front}
-use Rattle.irtree_top.proofs.Openings.{behind-opening}
+use Rattle.irtree_top.proofs.Openings.{behind-opening, complete-end}
 use Rattle.irtree_top.proofs.top.run.Goals as goal
 
 pub returns-in-Ok-run_job-clause-done : goal.returns-in-Ok-run_job-clause-done
@@ -59,3 +60,33 @@ returns-in-Ok-run_job-clause-opened g c = λ behind tells. c.in-Ok-run_job.ensur
 pub returns-in-Ok-clause-opened : goal.returns-in-Ok-clause-opened
 returns-in-Ok-clause-opened g c = λ behind tells.
     behind-opening g.T.Disk.tells (g.S.Source.faults c.args.source.now) (g.S.Source.faults c.run_job.new.source) (g.T.Disk.world c.args.station.now) (g.T.Disk.world c.run_job.new.station) c.in-Err.end c.in-Err.ensures.cause.cause behind tells
+
+pub returns-in-Ok-run_job-clause-whole : goal.returns-in-Ok-run_job-clause-whole
+returns-in-Ok-run_job-clause-whole g c = λ asked wants tells is.
+    let same : asked_of c.in-Ok.job ≡ asked = cc (c.in-Ok.ensures.asked) in
+    let whole = c.in-Ok-run_job.ensures.whole tells in
+    (whole.0, subst (λ (a : Asked). IsWholeInput a.action (g.S.Source.left c.args.source.now)) same whole.1)
+
+pub returns-in-Ok-clause-input_end : goal.returns-in-Ok-clause-input_end
+returns-in-Ok-clause-input_end g c = λ asked wants tells fault is.
+    let same : asked_of c.in-Ok.job ≡ asked = cc (c.in-Ok.ensures.asked) in
+    let named : IsErrOf c.run_job.result (ends.Input fault) = cc in
+    subst (λ (a : Asked). IsInputEnd a.action (g.S.Source.left c.args.source.now) fault) same (c.run_job.ensures.input tells fault named)
+
+pub returns-in-Ok-clause-limits : goal.returns-in-Ok-clause-limits
+returns-in-Ok-clause-limits g c = λ asked wants fault is.
+    let same : asked_of c.in-Ok.job ≡ asked = cc (c.in-Ok.ensures.asked) in
+    let named : IsErrOf c.run_job.result (ends.Limit fault) = cc in
+    subst (λ (a : Asked). IsLimitOf a.action fault) same (c.run_job.ensures.limits fault named)
+
+pub returns-in-Ok-clause-reached : goal.returns-in-Ok-clause-reached
+returns-in-Ok-clause-reached g c = λ tells told fault is.
+    let named : IsErrOf c.run_job.result (ends.Limit fault) = cc in
+    c.run_job.ensures.reached tells told fault named
+
+pub returns-in-Ok-clause-complete : goal.returns-in-Ok-clause-complete
+returns-in-Ok-clause-complete g c = λ asked wants told state holds source disk sink.
+    let same : asked_of c.in-Ok.job ≡ asked = cc (c.in-Ok.ensures.asked) in
+    complete-end g.T.Disk.tells (g.S.Source.faults c.args.source.now) (g.S.Source.faults c.run_job.new.source) (g.T.Disk.world c.args.station.now) (g.T.Disk.world c.run_job.new.station) asked.action state told holds source disk sink c.in-Err.end
+    (λ fault is. let named : IsErrOf c.run_job.result (ends.Limit fault) = cc in subst (λ (a : Asked). IsLimitOf a.action fault) same (c.run_job.ensures.limits fault named))
+    c.in-Err.ensures.cause.cause

@@ -1,6 +1,8 @@
 use Rattle.std.proofs.Common.{◌≢◌, sym, ◌∙◌, arith}
 use Rattle.std.proofs.lemmas.Bool.{false≢true}
 use Rattle.irtree_engine.specs.declared.fault.EngineFault.TheVariants as engine
+use Rattle.run_protocol.specs.Causes.{end_of_engine}
+use Rattle.load_run.proofs.Numbers.{limit-more, limit-of-engine}
 use Rattle.load_run.proofs.Batches.{failed, outcome-holds, not-stored, not-stored-cause}
 use Rattle.load_run.proofs.load.store_batch.Goals as goal
 
@@ -38,3 +40,13 @@ returns-in-Err-clause-cause g c =
     let on : failed c.in-Err.fault ≢ failed engine.Stopped = λ e. false≢true (sym c.requires.on ∙ was.stopped.0 e) in
     rw c.ended_by.ensures (not-stored-cause g.T.Disk.tells c.args.updates.now (g.T.Disk.world c.args.engine.now.store.disk.now) (g.T.Disk.world c.apply_batch.new.self.store.disk.now) c.in-Err.fault (Unit {0}) was.causes on
     was.disk was.due was.later was.sink)
+
+pub returns-in-Ok-clause-rises : goal.returns-in-Ok-clause-rises
+returns-in-Ok-clause-rises g c = record { live = omega (arith, c.in-Ok.ensures.rises.0); number = omega (arith, c.in-Ok.ensures.rises.1); limit = tt }
+
+pub returns-in-Err-clause-rises : goal.returns-in-Err-clause-rises
+returns-in-Err-clause-rises g c = record {
+  live = tt;
+  number = tt;
+  limit = rw c.ended_by.ensures (limit-more _ _ _ _ (end_of_engine c.in-Err.fault) (omega arith) (omega arith) (limit-of-engine _ _ c.in-Err.fault c.in-Err.ensures.limits));
+}

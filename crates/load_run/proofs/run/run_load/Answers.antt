@@ -1,8 +1,14 @@
-use Rattle.std.proofs.Common.{◌∙◌, map, arith}
+use Rattle.std.proofs.Common.{◌+◌, ◌∙◌, map, subst, arith}
+use Rattle.std.specs.Prelude.{Result, IfErr}
 use Rattle.disk_model.proofs.Moments.{started}
 use Rattle.geojson_points.specs.Takes.{item_of}
+use Rattle.run_protocol.specs.Causes.{IsEngineEnd}
+use Rattle.run_protocol.specs.Load.{places_among}
+use Rattle.run_protocol.specs.declared.ended.Ended.{Ended}
+use Rattle.load_run.specs.Loading.{IsLimitAt}
 use Rattle.load_run.proofs.Causes.{job-of-engine}
-use Rattle.load_run.proofs.Outcomes.{load_max-is, unread-ends, refused-ends, taken-ends, taken-left}
+use Rattle.load_run.proofs.Numbers.{limit-reaches}
+use Rattle.load_run.proofs.Outcomes.{load_max-is, on_ok-held, read-items, refused-ends, refused-input, refused-limit, taken-ends, taken-left, unread-ends, unread-input, unread-limit}
 use Rattle.load_run.proofs.run.run_load.Goals as goal
 
 pub returns-in-Err-clause-told : goal.returns-in-Err-clause-told
@@ -35,3 +41,44 @@ returns-clause-told g c = λ tells told state holds.
 
 pub returns-clause-any_moment : goal.returns-clause-any_moment
 returns-clause-any_moment g c = λ tells told state holds. started (g.T.Disk.world c.args.engine.now.store.disk.now)
+
+-- ---- whatever the image stands for
+
+pub returns-in-Err-clause-input : goal.returns-in-Err-clause-input
+returns-in-Err-clause-input g c = λ tells fault is. unread-input (g.S.Source.left c.args.source.now) c.in-Err.end fault (c.in-Err.ensures.told tells) is
+
+pub returns-in-Err-clause-whole : goal.returns-in-Err-clause-whole
+returns-in-Err-clause-whole g c = λ tells. tt
+
+pub returns-in-Err-clause-limit : goal.returns-in-Err-clause-limit
+returns-in-Err-clause-limit g c = λ tells fault is. absurd (unread-limit (g.S.Source.left c.args.source.now) c.in-Err.end fault (c.in-Err.ensures.told tells) is)
+
+pub returns-in-Ok-take-clause-input : goal.returns-in-Ok-take-clause-input
+returns-in-Ok-take-clause-input g c = λ tells fault is.
+    absurd (subst (λ (r : Result (Unit {0}) Ended). IfErr r (IsEngineEnd g.T.Disk.tells (g.T.Disk.world c.args.engine.now.store.disk.now) (g.T.Disk.world c.store_items.new.engine.store.disk.now))) is c.store_items.ensures.cause.cause)
+
+pub returns-in-Ok-take-clause-whole : goal.returns-in-Ok-take-clause-whole
+returns-in-Ok-take-clause-whole g c = λ tells.
+    let read = c.in-Ok.ensures.told tells in
+    let taken = read-items (g.S.Source.left c.args.source.now) c.deref.result.now (map item_of c.in-Ok-take.items.items) (c.deref.ensures.value ∙ read.0) (omega (arith, load_max-is, c.deref.ensures.len, c.in-Ok.ensures.short)) c.in-Ok-take.ensures.outcome in
+    on_ok-held c.store_items.result (read.1, (map item_of c.in-Ok-take.items.items, taken))
+
+pub returns-in-Ok-take-clause-limit : goal.returns-in-Ok-take-clause-limit
+returns-in-Ok-take-clause-limit g c = λ tells fault is.
+    let read = c.in-Ok.ensures.told tells in
+    let items = map item_of c.in-Ok-take.items.items in
+    let taken = read-items (g.S.Source.left c.args.source.now) c.deref.result.now items (c.deref.ensures.value ∙ read.0) (omega (arith, load_max-is, c.deref.ensures.len, c.in-Ok.ensures.short)) c.in-Ok-take.ensures.outcome in
+    let head = c.args.engine.now.store.current.head in
+    limit-reaches head.live head.number (g.S.Source.left c.args.source.now) items fault taken
+    (subst (λ (r : Result (Unit {0}) Ended). IfErr r (IsLimitAt (head.live + (0 + places_among items)) (head.number + (0 + places_among items)))) is c.store_items.ensures.rises.limit)
+
+pub returns-clause-input : goal.returns-clause-input
+returns-clause-input g c = λ tells why is.
+    let read = c.in-Ok.ensures.told tells in
+    refused-input (g.S.Source.left c.args.source.now) c.deref.result.now c.in-Err-take.fault c.refusal.result why (c.deref.ensures.value ∙ read.0) (omega (arith, load_max-is, c.deref.ensures.len, c.in-Ok.ensures.short)) c.in-Err-take.ensures.outcome c.refusal.ensures is
+
+pub returns-clause-whole : goal.returns-clause-whole
+returns-clause-whole g c = λ tells. tt
+
+pub returns-clause-limit : goal.returns-clause-limit
+returns-clause-limit g c = λ tells why is. absurd (refused-limit c.in-Err-take.fault c.refusal.result why c.refusal.ensures is)

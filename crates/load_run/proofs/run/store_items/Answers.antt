@@ -1,20 +1,25 @@
-use Rattle.std.proofs.Common.{List, length, map, refl, sym, subst, ap, ◌∙◌, arith}
+use Rattle.std.specs.Prelude.{Err}
+use Rattle.std.proofs.Common.{◌≡◌, ◌+◌, List, length, map, refl, sym, subst, ap, ◌∙◌, arith}
 use Rattle.std.specs.List.{All}
 use Rattle.std.specs.Vec.Iter.{into_iter_items}
 use Rattle.std.proofs.lemmas.List.Elements.{All-tail}
 use Rattle.geojson_points.specs.Takes.{HasTextKey, item_of}
 use Rattle.geojson_points.specs.declared.taken.Taken.{Taken}
+use Rattle.run_protocol.specs.Load.{places_among}
 use Rattle.load_run.specs.Loading.{stage_at_start}
 use Rattle.load_run.proofs.Causes.{engine-none, engine-then}
 use Rattle.load_run.proofs.Stages.{goes-as, goes-concludes, goes-then}
 use Rattle.load_run.proofs.Lists.{empty-list}
 use Rattle.load_run.proofs.Moves.{goes-items}
+use Rattle.load_run.proofs.Numbers.{rises-item, rises-last}
 use Rattle.load_run.proofs.run.store_items.Goals as goal
 
 pub loop-item-init : goal.loop-item-init
 loop-item-init g c =
     let gives = c.into_iter-item-iterator.ensures.into_iter_gives in
     let old = g.T.Disk.world c.args.engine.now.store.disk.now in
+    let starts : length c.new-load.result.waiting.items + places_among (map item_of (into_iter_items c.into_iter-item-iterator.result)) ≡ places_among (map item_of c.args.items.items) =
+    omega (arith, c.new-load.ensures.none, ap (λ (xs : List Taken). places_among (map item_of xs)) gives.0) in
     record {
       can = tt;
       finite = tt;
@@ -27,6 +32,7 @@ loop-item-init g c =
       told = λ told state holds.
           let same = c.new-load.ensures.stage state _ ∙ ap (λ (xs : List Taken). stage_at_start c.args.batch state (map item_of xs)) gives.0 in
           (state, goes-as _ _ old (sym same) holds);
+      rises = record { live = omega (arith, starts); number = omega (arith, starts); limit = tt };
       cause = engine-none g.T.Disk.tells old (Unit {0}) tt;
     }
 
@@ -47,6 +53,7 @@ loop-item-preserved g c =
           let here = goes-items _ c.loop-item.load sofar.0 _ _ _ _ c.in-Some.ensures.steps.0 sofar.1 in
           let next = c.in-Ok.ensures.told told sofar.0 (map item_of (into_iter_items c.next.new.self)) here.holds in
           (next.0, goes-then here next.1);
+      rises = rises-item _ _ _ _ _ _ _ c.loop-item.invariant.rises _ _ _ c.in-Some.ensures.steps.0 c.in-Ok.ensures.rises;
       cause = engine-then c.loop-item.invariant.cause _ c.in-Ok.ensures.cause;
     }
 
@@ -68,3 +75,11 @@ returns-clause-told g c = λ told state holds.
 
 pub returns-clause-cause : goal.returns-clause-cause
 returns-clause-cause g c = engine-then c.loop-item.invariant.cause _ c.end.ensures.cause
+
+pub returns-in-Err-clause-rises : goal.returns-in-Err-clause-rises
+returns-in-Err-clause-rises g c =
+    let rises = rises-item {T = Unit {0}} _ _ _ _ _ _ (Err c.in-Err.end) c.loop-item.invariant.rises _ _ _ c.in-Some.ensures.steps.0 c.in-Err.ensures.rises in
+    record { live = tt; number = tt; limit = rises.limit }
+
+pub returns-clause-rises : goal.returns-clause-rises
+returns-clause-rises g c = rises-last _ _ (into_iter_items c.loop-item.item-iterator) _ _ _ c.end.result c.loop-item.invariant.rises c.end.ensures.rises

@@ -1,8 +1,8 @@
-use Rattle.std.proofs.Common.{ap, ◌∙◌, arith, refl}
+use Rattle.std.proofs.Common.{ap, ◌∙◌, arith}
 use Rattle.disk_model.specs.World.{Image}
 use Rattle.disk_model.specs.declared.disk.Area.TheVariants.{Journal}
 use Rattle.page_journal.proofs.Batches.{on_ok_from}
 use Rattle.page_journal.proofs.gate.set_gate.Goals as goal
 
 pub returns-clause-done : goal.returns-clause-done
-returns-clause-done g c = λ t. on_ok_from c.sync.result (ap (λ (s : Image). s Journal 0) (c.sync.ensures.told t).rests.seen ∙ (c.in_ok-write.ensures.told t).written.inside 0 0 (omega arith) refl)
+returns-clause-done g c = λ t. on_ok_from c.sync.result (ap (λ (s : Image). s Journal c.args.at) (c.sync.ensures.told t).rests.seen ∙ (c.in_ok-write.ensures.told t).written.inside 0 c.args.at (omega arith) (omega arith))

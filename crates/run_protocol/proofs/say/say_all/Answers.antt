@@ -13,13 +13,14 @@ loop-at-init g c = record {
   said = λ told. says-none c.args.bytes.now (g.T.Disk.world c.args.engine.now.store.disk.now);
   later = omega arith;
   disk = refl;
+  head = refl;
   room = refl;
 }
 
 pub returns-in_err-at-clause-said : goal.returns-in_err-at-clause-said
 returns-in_err-at-clause-said g c = λ told.
     let world = g.T.Disk.world in
-    let safe = (c.loop-at.engine.store.ready told (sym c.loop-at.engine.stops ∙ c.loop-at.invariant.on)).safe in
+    let safe = (c.loop-at.engine.store.ready told (sym c.loop-at.engine.stops ∙ c.loop-at.invariant.on)).ready.safe in
     let passed = err_from_is_err_and c.from_residual.result c.from_residual.ensures.1 in
     rw passed.1 (says-failed c.loop-at.at c.args.bytes.now _ (world c.args.engine.now.store.disk.now) (world c.loop-at.engine.store.disk.now) (world c.say.new.self.store.disk.now)
     (c.loop-at.invariant.said told) safe (take_rest c.args.bytes.now c.loop-at.at) (Unit {0}) _ (c.in_err-at.ensures.told told))
@@ -34,10 +35,11 @@ loop-at-preserved g c = record {
   loan = c.in_ok-at.ensures.same_loan ∙ c.loop-at.invariant.loan;
   said = λ told.
       let world = g.T.Disk.world in
-      let safe = (c.loop-at.engine.store.ready told (sym c.loop-at.engine.stops ∙ c.loop-at.invariant.on)).safe in
+      let safe = (c.loop-at.engine.store.ready told (sym c.loop-at.engine.stops ∙ c.loop-at.invariant.on)).ready.safe in
       says-more c.loop-at.at c.args.bytes.now _ (world c.args.engine.now.store.disk.now) (world c.loop-at.engine.store.disk.now) (world c.say.new.self.store.disk.now)
       (c.loop-at.invariant.said told) safe (take_rest c.args.bytes.now c.loop-at.at) c.in_ok-at.field-0 (c.in_ok-at.ensures.told told);
   later = omega (arith, c.in_ok-at.ensures.cause.later, c.loop-at.invariant.later);
   disk = c.in_ok-at.ensures.cause.disk ∙ c.loop-at.invariant.disk;
+  head = c.in_ok-at.ensures.head ∙ c.loop-at.invariant.head;
   room = c.in_ok-at.ensures.room ∙ c.loop-at.invariant.room;
 }

@@ -18,4 +18,5 @@ returns-in-Err g c =
       reason = apart;
       on = c.requires.on;
       cause = engine-still _ _ _;
+      ends = tt;
     }

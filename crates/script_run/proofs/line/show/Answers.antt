@@ -7,7 +7,8 @@ use Rattle.query_replies.specs.declared.reply.Reply.TheVariants as replies
 use Rattle.query_replies.specs.Reply.{text_of_reply}
 use Rattle.run_protocol.specs.Causes.{HasEngineEnd}
 use Rattle.run_protocol.specs.declared.ended.Ended.{Ended}
-use Rattle.script_run.specs.Lines.{RepliesTo}
+use Rattle.script_run.specs.Lines.{IsLineEnd, RepliesTo}
+use Rattle.script_run.proofs.Ends.{read-ends}
 use Rattle.script_run.proofs.Replies.{RefusedRead, read-replies, refused-read, refused-read-cause}
 use Rattle.script_run.proofs.line.show.Goals as goal
 
@@ -52,3 +53,6 @@ returns-in-Err-clause-cause g c =
     } in
     subst (λ (e : Ended). HasEngineEnd {T = Reply} g.T.Disk.tells (g.T.Disk.world c.args.engine.now.store.disk.now) (g.T.Disk.world c.show.new.self.store.disk.now) (Err e)) (sym c.ended_by.ensures)
     (refused-read-cause _ _ _ Reply c.in-Err.fault refused)
+
+pub returns-in-Err-clause-ends : goal.returns-in-Err-clause-ends
+returns-in-Err-clause-ends g c = subst IsLineEnd (sym c.ended_by.ensures) (read-ends c.in-Err.fault c.in-Err.ensures.causes)

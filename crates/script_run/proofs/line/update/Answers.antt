@@ -1,10 +1,11 @@
 use Rattle.std.proofs.Common.{◌≡◌, true, false, sym, ap, subst, ◌∙◌}
-use Rattle.std.specs.Prelude.{Result, Ok, Err}
+use Rattle.std.specs.Prelude.{Result, Ok, Err, IfErr}
 use Rattle.query_lang.specs.declared.line.Line.TheVariants as lines
 use Rattle.query_replies.specs.declared.reply.Reply.{Reply}
 use Rattle.run_protocol.specs.Causes.{HasEngineEnd}
 use Rattle.run_protocol.specs.declared.ended.Ended.{Ended}
-use Rattle.script_run.specs.Lines.{RepliesTo}
+use Rattle.script_run.specs.Lines.{IsLineEnd, RepliesTo}
+use Rattle.script_run.proofs.Ends.{refused-ends}
 use Rattle.script_run.proofs.Replies.{AcceptedUpdate, RefusedUpdate, accepted-replies, accepted-goes_on, refused-replies, refused-cause}
 use Rattle.script_run.proofs.line.update.Goals as goal
 
@@ -61,3 +62,6 @@ returns-in-Err-clause-cause g c =
     } in
     subst (λ (r : Result Reply Ended). HasEngineEnd g.T.Disk.tells (g.T.Disk.world c.args.engine.now.store.disk.now) (g.T.Disk.world c.apply.new.self.store.disk.now) r) (sym c.refused.ensures.reply)
     (refused-cause _ _ _ _ c.in-Err.fault refused)
+
+pub returns-in-Err-clause-ends : goal.returns-in-Err-clause-ends
+returns-in-Err-clause-ends g c = subst (λ (r : Result Reply Ended). IfErr r IsLineEnd) (sym c.refused.ensures.reply) (refused-ends c.in-Err.fault)

@@ -1,7 +1,9 @@
 use Rattle.std.proofs.Common.{◌≡◌, ℕ, ◌++◌, [], length, drop, refl, sym, ap, ◌∙◌, arith}
+use Rattle.std.specs.Prelude.{Err}
 use Rattle.disk_model.proofs.Moments.{started}
 use Rattle.run_protocol.specs.Script.{cut, script}
 use Rattle.script_run.proofs.Causes.{job-still, job-by-engine, job-then, job-failed, job-valued}
+use Rattle.script_run.proofs.Ends.{left-counts, line-input, line-limit, on_ok-held, piece-input, piece-limit}
 use Rattle.script_run.proofs.Fronts.{piece-came, none-behind}
 use Rattle.script_run.proofs.Lines.{rest-EndsNoLine}
 use Rattle.script_run.proofs.Standing.{input_max-is, ends-lost, stops-ends, standing-start, standing-fed, standing-left, standing-failed, standing-ends, standing-ends_left, piece-ends, piece-left}
@@ -26,6 +28,7 @@ pieces-init g c = record {
   taken = omega arith;
   room = c.in-Ok.ensures.len;
   short = omega (arith, ap length c.new-script.ensures);
+  came = λ tells. omega arith;
   standing = λ tells told state holds. standing-start state (g.S.Source.left c.args.source.now) _ (g.T.Disk.world c.args.engine.now.store.disk.now) c.new-script.ensures holds;
   cause = job-still _ _ _ _;
 }
@@ -131,6 +134,7 @@ pieces-preserved g c = record {
   taken = c.in-Ok-take.ensures.few.0;
   room = c.pieces.invariant.room;
   short = c.in-Ok-take.ensures.short;
+  came = λ tells. omega (arith, c.pieces.invariant.came tells, left-counts (g.S.Source.left c.pieces.source) (g.S.Source.left c.read.new.self) c.read.new.buf c.in-Ok-read.n (c.in-Ok-read.ensures.told tells).given c.in-Ok-read.ensures.count, c.in-Ok-take.ensures.few.1, c.split_at.ensures.front_len);
   standing = λ tells told state holds.
       let s = c.pieces.invariant.standing tells told state holds in
       let came : g.S.Source.left c.pieces.source ≡ c.split_at.result.0.now ++ g.S.Source.left c.read.new.self =
@@ -141,3 +145,46 @@ pieces-preserved g c = record {
       (c.in-Ok-take.ensures.told (cut s.read).rest (rest-EndsNoLine s.read) s.keeps told (script state (cut s.read).lines).state s.holds);
   cause = job-valued _ _ _ _ _ _ tt (job-then _ (g.S.Source.faults c.args.source.now) (g.S.Source.faults c.pieces.source) (g.S.Source.faults c.read.new.self) (g.T.Disk.world c.args.engine.now.store.disk.now) (g.T.Disk.world c.pieces.engine.store.disk.now) (g.T.Disk.world c.take.new.engine.store.disk.now) tt c.pieces.invariant.cause c.in-Ok-read.ensures.cause.later _ c.in-Ok-take.ensures.cause);
 }
+
+-- ---- whatever the image stands for
+
+pub returns-in-Err-clause-input : goal.returns-in-Err-clause-input
+returns-in-Err-clause-input g c = λ tells fault is. absurd (cc)
+
+pub returns-in-Err-clause-whole : goal.returns-in-Err-clause-whole
+returns-in-Err-clause-whole g c = λ tells. tt
+
+pub returns-in-Err-clause-limit : goal.returns-in-Err-clause-limit
+returns-in-Err-clause-limit g c = λ fault is. absurd (cc)
+
+pub returns-in-Err-read-clause-input : goal.returns-in-Err-read-clause-input
+returns-in-Err-read-clause-input g c = λ tells fault is. absurd (cc)
+
+pub returns-in-Err-read-clause-whole : goal.returns-in-Err-read-clause-whole
+returns-in-Err-read-clause-whole g c = λ tells. tt
+
+pub returns-in-Err-read-clause-limit : goal.returns-in-Err-read-clause-limit
+returns-in-Err-read-clause-limit g c = λ fault is. absurd (cc)
+
+pub returns-then-n-eq0-clause-input : goal.returns-then-n-eq0-clause-input
+returns-then-n-eq0-clause-input g c = λ tells fault is. absurd (line-input c.end.result fault c.end.ensures.ends is)
+
+pub returns-then-n-eq0-clause-whole : goal.returns-then-n-eq0-clause-whole
+returns-then-n-eq0-clause-whole g c = λ tells.
+    let given = c.in-Ok-read.ensures.told tells in
+    let none : g.S.Source.left c.pieces.source ≡ [] = given.ends c.if-n-eq0.true in
+    on_ok-held c.end.result (none-behind _ (g.S.Source.left c.read.new.self) (sym given.given ∙ none), omega (arith, c.pieces.invariant.came tells, c.pieces.invariant.taken, ap length none, input_max-is))
+
+pub returns-then-n-eq0-clause-limit : goal.returns-then-n-eq0-clause-limit
+returns-then-n-eq0-clause-limit g c = λ fault is. line-limit c.end.result fault c.end.ensures.ends is
+
+pub returns-in-Err-take-clause-input : goal.returns-in-Err-take-clause-input
+returns-in-Err-take-clause-input g c = λ tells fault is.
+    let long = piece-input {T = Unit {0}} c.pieces.taken (length c.split_at.result.0.now) (Err c.in-Err-take.end) fault c.in-Err-take.ensures.ends is in
+    (long.0, omega (arith, long.1, c.pieces.invariant.came tells, left-counts (g.S.Source.left c.pieces.source) (g.S.Source.left c.read.new.self) c.read.new.buf c.in-Ok-read.n (c.in-Ok-read.ensures.told tells).given c.in-Ok-read.ensures.count, c.split_at.ensures.front_len, input_max-is))
+
+pub returns-in-Err-take-clause-whole : goal.returns-in-Err-take-clause-whole
+returns-in-Err-take-clause-whole g c = λ tells. tt
+
+pub returns-in-Err-take-clause-limit : goal.returns-in-Err-take-clause-limit
+returns-in-Err-take-clause-limit g c = λ fault is. piece-limit {T = Unit {0}} c.pieces.taken (length c.split_at.result.0.now) (Err c.in-Err-take.end) fault c.in-Err-take.ensures.ends is

@@ -1,4 +1,4 @@
-use Rattle.std.proofs.Common.{◌≡◌, ◌-◌, ◌≤◌, false, length, Ok}
+use Rattle.std.proofs.Common.{◌≡◌, ◌+◌, ◌-◌, ◌≤◌, false, length, Ok}
 use Rattle.std.specs.Prelude.{IsTrue, vec_len}
 use Rattle.place_map.specs.State.{Contents}
 use Rattle.irtree_engine.specs.Holding.{HoldsState}
@@ -13,6 +13,7 @@ invariant-pieces g l = record {
   taken : l.taken ≤ 268435456;
   room : vec_len l.piece ≡ 65536;
   short : length l.script.line.items ≤ 65537;
+  came : IsTrue g.S.Source.tells → length (g.S.Source.left l.fn.source) ≡ l.taken + length (g.S.Source.left l.source);
   standing : IsTrue g.S.Source.tells → IsTrue g.T.Disk.tells → (state : Contents) → HoldsState (g.T.Disk.world l.fn.engine.store.disk.now) state
       → Standing state (g.S.Source.left l.fn.source) (g.S.Source.left l.source) (g.T.Disk.world l.fn.engine.store.disk.now) (g.T.Disk.world l.engine.store.disk.now) l.script.line.items l.taken;
   cause : HasJobEnd {T = Unit {0}} g.T.Disk.tells (g.S.Source.faults l.fn.source) (g.S.Source.faults l.source) (g.T.Disk.world l.fn.engine.store.disk.now) (g.T.Disk.world l.engine.store.disk.now) (Ok tt);

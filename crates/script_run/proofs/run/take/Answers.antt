@@ -5,6 +5,7 @@ use Rattle.run_protocol.specs.Script.{cut}
 use Rattle.run_protocol.specs.declared.ended.InputFault.TheVariants.{Long}
 use Rattle.script_run.specs.Lines.{RunsLines}
 use Rattle.script_run.proofs.Causes.{job-by-failure, job-by-input, job-by-value}
+use Rattle.script_run.proofs.Ends.{piece-line}
 use Rattle.script_run.proofs.Runs.{runs-valued}
 use Rattle.script_run.proofs.Standing.{piece-stopped}
 use Rattle.script_run.proofs.run.take.Goals as goal
@@ -92,3 +93,15 @@ returns-in-Err-feed-clause-told g c = λ front ends is told state holds.
 
 pub returns-in-Err-feed-clause-cause : goal.returns-in-Err-feed-clause-cause
 returns-in-Err-feed-clause-cause g c = job-by-failure (Unit {0}) ℕ _ 0 _ _ c.in-Err-feed.end c.in-Err-feed.ensures.cause
+
+pub returns-in-Ok-clause-ends : goal.returns-in-Ok-clause-ends
+returns-in-Ok-clause-ends g c = (refl, omega arith)
+
+pub returns-in-Err-clause-ends : goal.returns-in-Err-clause-ends
+returns-in-Err-clause-ends g c = piece-line _ _ c.in-Err.end c.in-Err.ensures.ends
+
+pub returns-in-Ok-feed-clause-ends : goal.returns-in-Ok-feed-clause-ends
+returns-in-Ok-feed-clause-ends g c = tt
+
+pub returns-in-Err-feed-clause-ends : goal.returns-in-Err-feed-clause-ends
+returns-in-Err-feed-clause-ends g c = piece-line _ _ c.in-Err-feed.end c.in-Err-feed.ensures.ends

@@ -1,4 +1,4 @@
-use Rattle.std.proofs.Common.{◌≡◌, ◌≤◌, ◌<◌, List, [], ◌∷◌, ◌++◌, length, ap, ◌∙◌, arith, rules}
+use Rattle.std.proofs.Common.{◌≡◌, ◌≤◌, ◌<◌, List, [], ◌∷◌, ◌++◌, length, length-append, ap, ◌∙◌, arith, rules}
 use Rattle.geojson_points.specs.Takes.{Placed, place_of}
 use Rattle.run_protocol.specs.Load.{Step, Store, put_of, steps}
 use Rattle.load_run.specs.declared.load.Load.{Load}
@@ -6,6 +6,7 @@ use Rattle.load_run.specs.Loading.{stage, stage_before}
 use Rattle.load_run.proofs.Stages.{goes-as, lacks-memory}
 use Rattle.load_run.proofs.Lists.{appended}
 use Rattle.load_run.proofs.Moves.{moves-as, moves-before}
+use Rattle.load_run.proofs.Numbers.{rises-lacks, rises-stored}
 use Rattle.load_run.proofs.Steps.{steps-fills, steps-waits}
 use Rattle.load_run.proofs.load.Load.place.Goals as goal
 
@@ -38,3 +39,25 @@ returns-clause-told g c = λ told state items holds.
     (steps-fills s.batch s.waiting.items c.deref.result.now (place_of c.args.draft) items more full)
     (moves-before (stage s state (Store c.deref.result.now ∷ steps s.batch [] items)) mid c.store.new.self items (length c.deref.result.now) _ _ c.store.result empty c.store.ensures.counts
     (c.store.ensures.told told state (steps s.batch [] items) holds))
+
+pub returns-in-Err-clause-rises : goal.returns-in-Err-clause-rises
+returns-in-Err-clause-rises g c = rises-lacks {T = Unit {0}} 1 (length c.args.self.now.waiting.items) _ c.args.engine.now.store.current.head c.args.engine.now.store.current.head c.in-Err.end c.in-Err.ensures.err
+
+pub returns-in-Err-push-clause-rises : goal.returns-in-Err-push-clause-rises
+returns-in-Err-push-clause-rises g c = record { live = tt; number = tt; limit = tt }
+
+pub returns-then-len-self-clause-rises : goal.returns-then-len-self-clause-rises
+returns-then-len-self-clause-rises g c =
+    let same : c.replace-updates.result.items ≡ c.args.self.now.waiting.items = search rules in
+    let more = ap length c.in-Ok-push.ensures.items ∙ length-append c.replace-updates.result.items _ in
+    record { live = omega (arith, more, ap length same); number = omega (arith, more, ap length same); limit = tt }
+
+pub returns-clause-rises : goal.returns-clause-rises
+returns-clause-rises g c =
+    let s : Load = c.args.self.now in
+    let same : c.replace-updates.result.items ≡ s.waiting.items = search rules in
+    let empty : c.replace-updates.new.dest.items ≡ [] = search rules in
+    let more = ap length (c.deref.ensures.value ∙ c.in-Ok-push.ensures.items) ∙ length-append c.replace-updates.result.items _ in
+    let mid : Load = record s { waiting = c.replace-updates.new.dest } in
+    rises-stored (length c.deref.result.now) (length s.waiting.items) c.args.engine.now.store.current.head c.store.new.engine.store.current.head mid c.store.new.self c.store.result (omega (arith, more, ap length same)) empty c.store.ensures.counts
+    c.store.ensures.rises

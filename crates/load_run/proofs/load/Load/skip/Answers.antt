@@ -1,8 +1,10 @@
-use Rattle.std.proofs.Common.{◌+◌}
+use Rattle.std.proofs.Common.{◌+◌, length, ap, arith}
+use Rattle.page_store.specs.declared.superblock.Superblock.{Superblock}
 use Rattle.run_protocol.specs.Load.{steps}
 use Rattle.load_run.specs.Loading.{Stage, stage_before}
 use Rattle.load_run.proofs.Stages.{lacks-memory, goes-moves}
 use Rattle.load_run.proofs.Moves.{goes-skipped, moves-said}
+use Rattle.load_run.proofs.Numbers.{rises-said}
 use Rattle.load_run.proofs.load.Load.skip.Goals as goal
 
 pub returns-in-Err-clause-told : goal.returns-in-Err-clause-told
@@ -22,3 +24,15 @@ returns-clause-told g c = λ told state items holds.
     let behind : Stage = record { state = state; stored = s.stored; skipped = s.skipped + 1; rest = steps s.batch s.waiting.items items; waits = c.write_skip.new.out.items } in
     goes-moves (goes-skipped state s.stored s.skipped c.args.index c.args.reason s.text.items _ s.batch s.waiting.items items old c.in-Ok.ensures holds) new _ c.say_text.result
     (moves-said behind c.say_text.new.text.items old new holds c.say_text.result (says.said told) says.none says.ends)
+
+pub returns-in-Err-clause-rises : goal.returns-in-Err-clause-rises
+returns-in-Err-clause-rises g c = record { live = tt; number = tt; limit = tt }
+
+pub returns-then-len-lt-TEXT_KEPT-clause-rises : goal.returns-then-len-lt-TEXT_KEPT-clause-rises
+returns-then-len-lt-TEXT_KEPT-clause-rises g c = record { live = omega arith; number = omega arith; limit = tt }
+
+pub returns-clause-rises : goal.returns-clause-rises
+returns-clause-rises g c =
+    let waits = length c.args.self.now.waiting.items in
+    rises-said 0 waits waits c.args.engine.now.store.current.head c.args.engine.now.store.current.head c.say_text.new.engine.store.current.head c.say_text.result
+    (omega arith) (omega arith) (ap (λ (b : Superblock). b.head) c.say_text.ensures.head) c.say_text.ensures.ends

@@ -1,8 +1,12 @@
-use Rattle.std.proofs.Common.{◌≡◌, ◌+◌, List, ℕ, [], ◌++◌, length, refl, sym, ap, ◌∙◌}
+use Rattle.std.specs.Prelude.{Err}
+use Rattle.std.proofs.Common.{◌≡◌, ◌+◌, List, ℕ, [], ◌++◌, length, refl, sym, ap, subst, ◌∙◌, arith}
+use Rattle.page_store.specs.declared.superblock.Superblock.{Superblock}
+use Rattle.page_face.specs.declared.head.Head.{Head}
 use Rattle.run_protocol.specs.Load.{stored_line}
-use Rattle.load_run.specs.Loading.{Stage, stage}
+use Rattle.load_run.specs.Loading.{RisesBy, Stage, stage}
 use Rattle.load_run.proofs.Causes.{engine-then}
 use Rattle.load_run.proofs.Stages.{goes-then, goes-as, goes-concludes, goes-moves, lacks-memory}
+use Rattle.load_run.proofs.Numbers.{rises-said}
 use Rattle.load_run.proofs.Moves.{goes-said, goes-stored, concludes-unsaid, concludes-unstored, moves-said, behind_batch}
 use Rattle.load_run.proofs.load.Load.store.Goals as goal
 
@@ -52,3 +56,22 @@ returns-in-Err-write_stored-clause-told g c = λ told state rest holds.
     let said = goes-said (stage s state _) [] old mid holds _ (c.in-Ok.ensures.said told) refl in
     let stored = goes-stored state s.stored s.skipped c.args.updates.now rest mid new _ (c.in-Ok-store_batch.ensures.told told state said.holds) in
     goes-concludes said (goes-concludes stored.1 (lacks-memory (behind_batch state s.stored s.skipped c.args.updates.now rest mid new stored.0) new (Unit {0})))
+
+pub returns-in-Err-clause-rises : goal.returns-in-Err-clause-rises
+returns-in-Err-clause-rises g c = rises-said {T = Unit {0}} (length c.args.updates.now) 0 0 c.args.engine.now.store.current.head c.args.engine.now.store.current.head c.say_text.new.engine.store.current.head (Err c.in-Err.end)
+    (omega arith) (omega arith) (ap (λ (b : Superblock). b.head) c.in-Err.ensures.head) c.in-Err.ensures.ends
+
+pub returns-in-Err-store_batch-clause-rises : goal.returns-in-Err-store_batch-clause-rises
+returns-in-Err-store_batch-clause-rises g c =
+    subst (λ (h : Head). RisesBy {T = Unit {0}} (length c.args.updates.now) 0 0 h c.store_batch.new.engine.store.current.head (Err c.in-Err-store_batch.end)) (ap (λ (b : Superblock). b.head) c.in-Ok.ensures.head)
+    c.in-Err-store_batch.ensures.rises
+
+pub returns-in-Ok-write_stored-clause-rises : goal.returns-in-Ok-write_stored-clause-rises
+returns-in-Ok-write_stored-clause-rises g c =
+    let same : c.say_text.new.engine.store.current.head ≡ c.args.engine.now.store.current.head = ap (λ (b : Superblock). b.head) c.in-Ok.ensures.head in
+    rises-said (length c.args.updates.now) 0 0 c.args.engine.now.store.current.head c.store_batch.new.engine.store.current.head c.say_text-in-Ok-write_stored.new.engine.store.current.head c.say_text-in-Ok-write_stored.result
+    (omega (arith, c.in-Ok-store_batch.ensures.rises.live, ap (λ (h : Head). h.live) same)) (omega (arith, c.in-Ok-store_batch.ensures.rises.number, ap (λ (h : Head). h.number) same))
+    (ap (λ (b : Superblock). b.head) c.say_text-in-Ok-write_stored.ensures.head) c.say_text-in-Ok-write_stored.ensures.ends
+
+pub returns-in-Err-write_stored-clause-rises : goal.returns-in-Err-write_stored-clause-rises
+returns-in-Err-write_stored-clause-rises g c = record { live = tt; number = tt; limit = tt }

@@ -1,0 +1,25 @@
+-- Why a call that only reads finds damage.
+use Rattle.std.specs.Prelude.{◌≡◌, ◌⊎◌, ℕ, Option}
+use Rattle.page_face.specs.FreeList.{PageMap}
+use Rattle.page_face.specs.declared.fault.Damage.{Damage}
+use Rattle.page_face.specs.declared.fault.Rule.TheVariants.{Counts}
+use Rattle.spatial_base.specs.Key.{Name}
+use Rattle.store_tables.specs.Broken.{IsNextDamage, IsPlaceDamage}
+use Rattle.store_tables.specs.Coded.{next_code}
+use Rattle.store_tables.specs.declared.tables.Tables.{Tables}
+use Rattle.place_updates.specs.Known.{IsWordsDamage}
+
+-- the rule Counts, broken at page 0
+abbrev pub miscount : Damage
+miscount = record { page = 0; rule = Counts }
+
+-- Why the place at a key can't be shown: a page of the place table is damaged, or the row at the key is no place's; or so it is with the words by number.
+abbrev pub IsShownDamage : PageMap → ℕ → Tables → Name → Damage → Type 0
+IsShownDamage pages count tables key damage = IsPlaceDamage pages count tables.places key damage ⊎ IsWordsDamage pages count tables.numbers damage
+
+-- Why the places can't be listed: a page of the place table is damaged, or a row behind some key is no place's; or so it is with the words by number; or page 0 counts other than the places of the table.
+abbrev pub IsListedDamage : PageMap → ℕ → Tables → Damage → Type 0
+IsListedDamage pages count tables damage =
+    ((after : Option Name) × IsNextDamage pages count tables.places (next_code after) damage)
+    ⊎ IsWordsDamage pages count tables.numbers damage
+    ⊎ (damage ≡ miscount)

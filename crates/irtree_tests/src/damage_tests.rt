@@ -1,0 +1,199 @@
+//! What is done over stores that break a rule.
+use crate::runs::{ROOM, RUN, bytes_of, run_on};
+use disk_model::{Area, MemoryStation};
+use irtree_top::{Ended, StoreFault};
+use page_face::{Damage, Rule};
+use std::alloc::Global;
+use std::test::Fail;
+
+// A page of the store: page 0, the root of the places, which is an inner page, its first leaf, the root of the words by number, or
+// the page that the root names where the first byte of that leaf's number is 127.
+#[derive(Clone, Copy)]
+enum Spot {
+    Head,
+    Root,
+    Leaf,
+    Numbers,
+    Uncounted,
+}
+
+// A byte of a page that breaks a rule, what is named, and which of the actions meet it.
+struct Broken {
+    page: Spot,
+    at: u32,
+    byte: u8,
+    named: Spot,
+    rule: Rule,
+    met: [bool; 4],
+}
+
+// Eight places with two words each: `show` reads a place and its words, `nearest` all of them; an update and a load put another word
+// in their place at the first.
+static STORE: &[u8] =
+    b"add p0 1 1 x y\nadd p1 1 1 x y\nadd p2 1 1 x y\nadd p3 1 1 x y\nadd p4 1 1 x y\nadd p5 1 1 x y\nadd p6 1 1 x y\nadd p7 1 1 x y\n";
+
+static ACTIONS: [(&[&str; 2], &[u8]); 4] = [
+    (&["-", "run"], b"show p0\n"),
+    (&["-", "run"], b"nearest 0 0 3\n"),
+    (&["-", "run"], b"add p0 2 2 z\n"),
+    (
+        &["-", "load"],
+        b"{\"type\":\"Feature\",\"id\":\"p0\",\"geometry\":{\"type\":\"Point\",\"coordinates\":[1,2]},\"properties\":{\"t\":\"z\"}}",
+    ),
+];
+
+static BROKEN: [Broken; 10] = [
+    // The root names a page that isn't counted.
+    Broken {
+        page: Spot::Root,
+        at: 82,
+        byte: 127,
+        named: Spot::Uncounted,
+        rule: Rule::Link,
+        met: [true; 4],
+    },
+    // The leaf is of no kind.
+    Broken {
+        page: Spot::Leaf,
+        at: 0,
+        byte: 9,
+        named: Spot::Leaf,
+        rule: Rule::Kind,
+        met: [true; 4],
+    },
+    // The leaf has no row.
+    Broken {
+        page: Spot::Leaf,
+        at: 3,
+        byte: 0,
+        named: Spot::Leaf,
+        rule: Rule::Fill,
+        met: [true; 4],
+    },
+    // The leaf's first key is `p9`.
+    Broken {
+        page: Spot::Leaf,
+        at: 18,
+        byte: b'9',
+        named: Spot::Leaf,
+        rule: Rule::Order,
+        met: [true; 4],
+    },
+    // A spare byte isn't zero.
+    Broken {
+        page: Spot::Leaf,
+        at: 5,
+        byte: 1,
+        named: Spot::Leaf,
+        rule: Rule::Spare,
+        met: [true; 4],
+    },
+    // The leaf stands on level 1.
+    Broken {
+        page: Spot::Leaf,
+        at: 4,
+        byte: 1,
+        named: Spot::Leaf,
+        rule: Rule::Level,
+        met: [true; 4],
+    },
+    // The first place stands behind 180 degrees.
+    Broken {
+        page: Spot::Leaf,
+        at: 82,
+        byte: 127,
+        named: Spot::Leaf,
+        rule: Rule::Value,
+        met: [true; 4],
+    },
+    // The root names page 3, its first leaf, twice, and the second time the leaf's keys are below their separator.
+    Broken {
+        page: Spot::Root,
+        at: 155,
+        byte: 3,
+        named: Spot::Leaf,
+        rule: Rule::Order,
+        met: [false, true, false, false],
+    },
+    // The first word's number isn't that of its text.
+    Broken {
+        page: Spot::Numbers,
+        at: 23,
+        byte: 0,
+        named: Spot::Head,
+        rule: Rule::Words,
+        met: [true; 4],
+    },
+    // Nine places live.
+    Broken {
+        page: Spot::Head,
+        at: 39,
+        byte: 9,
+        named: Spot::Head,
+        rule: Rule::Counts,
+        met: [false, true, false, false],
+    },
+];
+
+// The u32 of a page at an offset.
+fn number_at(pages: &[u8], page: u32, at: u32) -> Result<u32, Fail> {
+    let start = page as usize * 4096 + at as usize;
+    match pages.get(start..start.saturating_add(4)) {
+        Some([a, b, c, d]) => Ok(u32::from_be_bytes([*a, *b, *c, *d])),
+        _ => Err("no such page".into()),
+    }
+}
+
+// The page of a spot.
+fn page_of(pages: &[u8], spot: Spot) -> Result<u32, Fail> {
+    let root = number_at(pages, 0, 16)?;
+    match spot {
+        Spot::Head => Ok(0),
+        Spot::Root => Ok(root),
+        Spot::Leaf => number_at(pages, root, 82),
+        Spot::Numbers => number_at(pages, 0, 24),
+        Spot::Uncounted => Ok(number_at(pages, root, 82)? | 0x7f00_0000),
+    }
+}
+
+// The area Pages of the store, all of it.
+fn pages_of_store(alloc: Global) -> Result<Vec<u8>, Fail> {
+    let mut station = MemoryStation::new(alloc, ROOM);
+    if run_on(alloc, &RUN, STORE, 100, &mut station)? != Ended::Done {
+        return Err("the store was not made".into());
+    }
+    bytes_of(alloc, &mut station, Area::Pages, 65_536)
+}
+
+#[test]
+fn a_broken_rule_is_named_and_nothing_is_written(rt: HostRuntime) -> Result<(), Fail> {
+    let store = pages_of_store(rt.alloc())?;
+    for broken in &BROKEN {
+        let mut pages = store.as_slice().to_vec(rt.alloc())?;
+        let at = page_of(&store, broken.page)? as usize * 4096 + broken.at as usize;
+        if let Some(byte) = pages.get_mut(at) {
+            *byte = broken.byte;
+        }
+        let damage = Damage {
+            page: page_of(&store, broken.named)?,
+            rule: broken.rule,
+        };
+        for (action, is_met) in ACTIONS.iter().zip(&broken.met) {
+            let mut station = MemoryStation::with_image(rt.alloc(), &pages, b"", ROOM)?;
+            let (given, input) = (action.0, action.1);
+            let ended = run_on(rt.alloc(), given, input, 100, &mut station)?;
+            if !*is_met {
+                assert!(rt; ended == Ended::Done);
+                continue;
+            }
+            assert!(rt; ended == Ended::Store(StoreFault::Damaged(damage)));
+            assert!(rt; station.said().is_empty());
+            assert!(rt; bytes_of(rt.alloc(), &mut station, Area::Pages, 65_536)? == pages);
+            assert!(rt;
+                bytes_of(rt.alloc(), &mut station, Area::Journal, 8192)?.as_slice()
+                    == [0; 8192].as_slice()
+            );
+        }
+    }
+    Ok(())
+}
