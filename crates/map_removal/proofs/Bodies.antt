@@ -4,8 +4,8 @@ use Rattle.std.specs.Int.{from_be_bytes, w32}
 use Rattle.std.proofs.lemmas.List.{drop-take, length-drop, length-replicate, map-append, take-take, take-append-drop, take-append-le, take_at, drop_at, drop-drop, length-take-le, length-map}
 use Rattle.std.proofs.Math.Nat.{mul-le-mul_left, mul-zero, zero-mul}
 use Rattle.page_face.specs.FreeList.{PageMap}
-use Rattle.page_cells.specs.Number.{number}
-use Rattle.page_cells.specs.Cells.{chop, key_at}
+use Rattle.page_face.specs.Number.{number}
+use Rattle.page_face.specs.Cells.{chop, key_at}
 use Rattle.page_cells.specs.Build.{image}
 use Rattle.page_cells.proofs.Chops.{chop-append, length-chop}
 use Rattle.map_nodes.specs.declared.form.Form.{Form}

@@ -3,8 +3,8 @@ use Rattle.std.proofs.Common.{◌≡◌, ℕ, zero, suc, ◌+◌, ◌*◌, ◌<�
 use Rattle.std.specs.List.{take-map, drop-map}
 use Rattle.std.proofs.lemmas.List.{map-append, drop-drop, take-take, take-append-le, length-take-le, length-append, length-drop}
 use Rattle.std.proofs.Math.Nat.{mul-le-mul_left, mul-suc}
-use Rattle.page_cells.specs.Number.{number}
-use Rattle.page_cells.specs.Cells.{chop}
+use Rattle.page_face.specs.Number.{number}
+use Rattle.page_face.specs.Cells.{chop}
 use Rattle.page_cells.proofs.Chops.{chop-append, chop-front, chop-back}
 use Rattle.map_nodes.specs.declared.form.Form.{Form}
 use Rattle.map_nodes.specs.Rows.{Row}

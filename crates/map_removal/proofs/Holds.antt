@@ -3,13 +3,14 @@ use Rattle.std.proofs.Common.{◌≡◌, ℕ, zero, suc, ◌+◌, ◌*◌, ◌<�
 use Rattle.std.proofs.lemmas.List.{length-drop, take-take, take_all}
 use Rattle.std.proofs.Math.Nat.{mul-le-mul_left, mul-zero}
 use Rattle.page_face.specs.FreeList.{PageMap}
-use Rattle.page_cells.specs.Number.{number}
-use Rattle.page_cells.specs.Cells.{chop, cells, key_at}
+use Rattle.page_face.specs.Number.{number}
+use Rattle.page_face.specs.Cells.{chop, cells, key_at}
 use Rattle.page_cells.proofs.Chops.{chop-front, length-chop}
 use Rattle.map_nodes.specs.declared.form.Form.{Form}
 use Rattle.map_nodes.specs.Supply.{View, one_at}
 use Rattle.map_nodes.specs.Rows.{Row, IsWithin}
-use Rattle.map_nodes.specs.Nodes.{Entry, count_of, rows_in, row_of, entries_in, entry_of, width_of, half_of}
+use Rattle.page_face.specs.Nodes.{count_of}
+use Rattle.map_nodes.specs.Nodes.{Entry, rows_in, row_of, entries_in, entry_of, width_of, half_of}
 use Rattle.map_nodes.specs.Tree.{IsTree, IsFan, rows_at, uses, total, with_low}
 use Rattle.map_nodes.specs.Store.{below_rows}
 use Rattle.map_nodes.proofs.Supplies.{moves-as}

@@ -4,7 +4,7 @@ use Rattle.std.proofs.lemmas.Bool.{cases_lt}
 use Rattle.std.proofs.lemmas.List.{length-drop, length-append, length-replicate, length-take-le, take_rest}
 use Rattle.std.proofs.Math.Nat.{mul-le-mul_left, mul-le-mul_right, mul-div-le}
 use Rattle.page_face.specs.FreeList.{PageMap}
-use Rattle.page_cells.specs.Number.{number}
+use Rattle.page_face.specs.Number.{number}
 use Rattle.page_cells.specs.Build.{image}
 use Rattle.map_nodes.specs.declared.form.Form.{Form}
 use Rattle.map_nodes.specs.Supply.{View, spare_in, one_at}

@@ -3,7 +3,8 @@ use Rattle.std.proofs.Common.{◌≡◌, ℕ, suc, ◌+◌, ◌<◌, ◌≤◌, 
 use Rattle.page_face.specs.FreeList.{PageMap, IsFreePage, next_free}
 use Rattle.map_nodes.specs.declared.form.Form.{Form}
 use Rattle.map_nodes.specs.Supply.{view, IsSupplied, spare, Moves, one_at}
-use Rattle.map_nodes.specs.Nodes.{Entry, count_of, entries_in, half_of}
+use Rattle.page_face.specs.Nodes.{count_of}
+use Rattle.map_nodes.specs.Nodes.{Entry, entries_in, half_of}
 use Rattle.map_nodes.specs.Tree.{IsTree, IsFan, rows_at, uses, total, with_low}
 use Rattle.map_nodes.specs.Bounds.{child_of}
 use Rattle.map_nodes.specs.Store.{below_rows}

@@ -3,12 +3,13 @@ use Rattle.std.proofs.Common.{◌≡◌, ℕ, suc, ◌+◌, ◌-◌, ◌*◌, �
 use Rattle.std.proofs.lemmas.List.{take-append-drop, drop_more, length-append, length-take-le, length-drop}
 use Rattle.std.proofs.Math.Nat.{mul-le-mul_left}
 use Rattle.page_face.specs.FreeList.{PageMap, with_page, IsFreePage, next_free}
-use Rattle.page_cells.specs.Cells.{IsPlace, key_at}
+use Rattle.page_face.specs.Cells.{IsPlace, key_at}
 use Rattle.page_cells.specs.Build.{image}
 use Rattle.map_nodes.specs.declared.form.Form.{Form}
 use Rattle.map_nodes.specs.Supply.{view, IsSupplied, spare, one_at}
 use Rattle.map_nodes.specs.Rows.{Row, IsWithin, lookup, without}
-use Rattle.map_nodes.specs.Nodes.{count_of, rows_in}
+use Rattle.page_face.specs.Nodes.{count_of}
+use Rattle.map_nodes.specs.Nodes.{rows_in}
 use Rattle.map_nodes.proofs.Spans.{no_row, within-append, within-wider}
 use Rattle.map_nodes.proofs.Spots.{length-rows_in, row-key}
 use Rattle.map_nodes.proofs.Finds.{front, back, found}

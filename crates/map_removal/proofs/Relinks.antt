@@ -4,13 +4,14 @@ use Rattle.std.proofs.lemmas.Nat.{from_be_bytes-to_be_bytes_2}
 use Rattle.std.proofs.lemmas.List.{length-take-le, length-drop}
 use Rattle.std.proofs.Math.Nat.{mul-le-mul_left}
 use Rattle.page_face.specs.FreeList.{PageMap, with_page}
-use Rattle.page_cells.specs.Number.{number}
-use Rattle.page_cells.specs.Cells.{key_at}
+use Rattle.page_face.specs.Number.{number}
+use Rattle.page_face.specs.Cells.{key_at}
 use Rattle.page_cells.specs.Build.{image}
 use Rattle.map_nodes.specs.declared.form.Form.{Form}
 use Rattle.map_nodes.specs.Supply.{View, view, spare_in, spare, one_at}
 use Rattle.map_nodes.specs.Rows.{Row}
-use Rattle.map_nodes.specs.Nodes.{Entry, count_of, entries_in, half_of}
+use Rattle.page_face.specs.Nodes.{count_of}
+use Rattle.map_nodes.specs.Nodes.{Entry, entries_in, half_of}
 use Rattle.map_nodes.specs.Tree.{next_key, IsFan, IsTree, rows_at, uses, total, with_low}
 use Rattle.map_nodes.specs.Bounds.{child_of}
 use Rattle.map_nodes.specs.Store.{below_rows}

@@ -6,7 +6,8 @@ use Rattle.page_face.specs.FreeList.{PageMap}
 use Rattle.map_nodes.specs.declared.form.Form.{Form}
 use Rattle.map_nodes.specs.Supply.{View, view, IsSupplied, spare, Moves, one_at}
 use Rattle.map_nodes.specs.Rows.{Row, lookup, without}
-use Rattle.map_nodes.specs.Nodes.{Entry, count_of, entries_in, half_of, IsInner}
+use Rattle.page_face.specs.Nodes.{count_of}
+use Rattle.map_nodes.specs.Nodes.{Entry, entries_in, half_of, IsInner}
 use Rattle.map_nodes.specs.Tree.{next_key, IsFan, IsTree, IsPlaceFor, rows_at, uses, total, with_low}
 use Rattle.map_nodes.specs.Bounds.{low_at, high_at, child_of}
 use Rattle.map_nodes.specs.Store.{below_rows}

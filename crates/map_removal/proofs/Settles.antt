@@ -5,7 +5,8 @@ use Rattle.std.proofs.lemmas.Nat.{le-div}
 use Rattle.page_face.specs.FreeList.{PageMap}
 use Rattle.map_nodes.specs.declared.form.Form.{Form}
 use Rattle.map_nodes.specs.Supply.{view, IsSupplied, Moves, one_at}
-use Rattle.map_nodes.specs.Nodes.{Entry, count_of, entries_in, IsNode, IsInner, width_of, half_of, half_of_width}
+use Rattle.page_face.specs.Nodes.{count_of, IsNode}
+use Rattle.map_nodes.specs.Nodes.{Entry, entries_in, IsInner, width_of, half_of, half_of_width}
 use Rattle.map_nodes.specs.Tree.{next_key, IsFan, IsTree, rows_at, uses, total, with_low}
 use Rattle.map_nodes.specs.Store.{below_rows}
 use Rattle.map_nodes.proofs.Fans.{length-with_low}

@@ -7,7 +7,7 @@ use Rattle.page_face.specs.declared.fault.Damage.{Damage}
 use Rattle.page_face.specs.declared.fault.PageFault.{PageFault}
 use Rattle.page_face.specs.declared.fault.PageFault.TheVariants.{Damaged}
 use Rattle.map_nodes.specs.declared.form.Form.{Form}
-use Rattle.map_nodes.specs.Nodes.{count_of}
+use Rattle.page_face.specs.Nodes.{count_of}
 use Rattle.map_nodes.specs.Tree.{IsTree, uses}
 use Rattle.map_nodes.specs.Bounds.{child_of}
 use Rattle.map_nodes.specs.Damages.{BreaksLeaf, BreaksInner, IsDamaged, AreTold, AskedSince, AsksOnly}

@@ -1,8 +1,8 @@
 -- The cells of a page of a map, apart from the page.
 use Rattle.std.specs.Prelude.{◌≡◌, ℕ, zero, suc, ◌+◌, ◌*◌, List, ◌++◌, length, take, drop, map, replicate}
 use Rattle.page_face.specs.FreeList.{PageMap}
-use Rattle.page_cells.specs.Number.{number}
-use Rattle.page_cells.specs.Cells.{chop}
+use Rattle.page_face.specs.Number.{number}
+use Rattle.page_face.specs.Cells.{chop}
 use Rattle.map_nodes.specs.declared.form.Form.{Form}
 use Rattle.map_nodes.specs.Rows.{Row, IsWithin}
 use Rattle.map_nodes.specs.Nodes.{Entry, row_of, entry_of, half_of}

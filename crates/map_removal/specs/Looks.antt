@@ -3,7 +3,8 @@ use Rattle.std.specs.Prelude.{◌≡◌, ℕ, ◌+◌, ◌*◌, ◌<◌, ◌≤�
 use Rattle.page_face.specs.FreeList.{PageMap}
 use Rattle.page_face.specs.Causes.{IsUncounted}
 use Rattle.map_nodes.specs.declared.form.Form.{Form}
-use Rattle.map_nodes.specs.Nodes.{count_of, width_of, half_of}
+use Rattle.page_face.specs.Nodes.{count_of}
+use Rattle.map_nodes.specs.Nodes.{width_of, half_of}
 use Rattle.map_nodes.specs.Bounds.{child_of}
 use Rattle.map_removal.specs.declared.settling.Beside.{Beside}
 use Rattle.map_removal.specs.Mended.{IsBeside}

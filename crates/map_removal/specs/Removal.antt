@@ -5,7 +5,8 @@ use Rattle.page_face.specs.declared.fault.Rule.{Rule}
 use Rattle.map_nodes.specs.declared.form.Form.{Form}
 use Rattle.map_nodes.specs.Supply.{View, view, Moves}
 use Rattle.map_nodes.specs.Rows.{Row, lookup, without}
-use Rattle.map_nodes.specs.Nodes.{count_of, width_of}
+use Rattle.page_face.specs.Nodes.{count_of}
+use Rattle.map_nodes.specs.Nodes.{width_of}
 use Rattle.map_nodes.specs.Damages.{BreaksLeaf, BreaksInner}
 use Rattle.map_removal.specs.Mended.{Becomes}
 

@@ -1,8 +1,9 @@
 //! The neighbour of a child, read before anything is written.
 ghost use Rattle.std.specs.Prelude.{◌≡◌, ◌≢◌, ◌+◌, ◌*◌, ◌<◌, ◌≤◌, ℕ, suc, List, length, IsTrue, IfOk, IsErrOf};
 ghost use Rattle.page_face.specs.Causes.{Rose, IsUncounted};
-ghost use Rattle.page_cells.specs.Number.{number};
-ghost use Rattle.map_nodes.specs.Nodes.{count_of, width_of, half_of};
+ghost use Rattle.page_face.specs.Number.{number};
+ghost use Rattle.page_face.specs.Nodes.{count_of};
+ghost use Rattle.map_nodes.specs.Nodes.{width_of, half_of};
 ghost use Rattle.map_nodes.specs.Tree.{IsTree, uses};
 ghost use Rattle.map_nodes.specs.Bounds.{upper_of, child_of};
 ghost use Rattle.map_nodes.specs.Damages.{IsDamaged, AreTold, AskedSince, AsksOnly};

@@ -1,9 +1,10 @@
 //! Two neighbouring pages, one of which has too few cells.
 ghost use Rattle.std.specs.Prelude.{◌≡◌, ◌≢◌, ◌+◌, ◌*◌, ◌<◌, ◌≤◌, ◌++◌, ℕ, List, length, IsTrue, IfOk, IsErrOf};
 ghost use Rattle.page_face.specs.Causes.{IsUncounted};
-ghost use Rattle.page_cells.specs.Number.{number};
+ghost use Rattle.page_face.specs.Number.{number};
 ghost use Rattle.map_nodes.specs.Supply.{IsSupplied, view, spare, one_at};
-ghost use Rattle.map_nodes.specs.Nodes.{count_of, width_of, half_of};
+ghost use Rattle.page_face.specs.Nodes.{count_of};
+ghost use Rattle.map_nodes.specs.Nodes.{width_of, half_of};
 ghost use Rattle.map_nodes.specs.Tree.{IsTree, rows_at, uses};
 ghost use Rattle.map_removal.specs.Body.{IsBody, body_rows, body_uses};
 ghost use Rattle.map_removal.specs.Mended.{Becomes, joined};

@@ -1,11 +1,12 @@
 //! A row that is taken out of a leaf.
 ghost use Rattle.std.specs.Prelude.{◌≡◌, ◌≢◌, ◌+◌, ◌*◌, ◌<◌, ◌≤◌, ℕ, List, length, IsTrue, IfOk, IsErrOf};
 ghost use Rattle.page_face.specs.Causes.{IsUncounted};
-ghost use Rattle.page_cells.specs.Number.{number};
-ghost use Rattle.page_cells.specs.Cells.{IsPlace, key_at};
+ghost use Rattle.page_face.specs.Number.{number};
+ghost use Rattle.page_face.specs.Cells.{IsPlace, key_at};
 ghost use Rattle.map_nodes.specs.Supply.{IsSupplied, view, spare, one_at};
 ghost use Rattle.map_nodes.specs.Rows.{IsWithin};
-ghost use Rattle.map_nodes.specs.Nodes.{count_of, rows_in};
+ghost use Rattle.page_face.specs.Nodes.{count_of};
+ghost use Rattle.map_nodes.specs.Nodes.{rows_in};
 ghost use Rattle.map_removal.specs.Removal.{IsOut, HasRemoved, Lessens, IsSame};
 ghost use Rattle.map_nodes.specs.Bounds.{upper_of};
 ghost use Rattle.map_nodes.specs.Damages.{BreaksLeaf};

@@ -1,8 +1,9 @@
 //! A page in its place in a tree.
 ghost use Rattle.std.specs.Prelude.{◌≡◌, ◌↔◌, ◌+◌, ◌*◌, ◌<◌, ◌≤◌, length, IfOk, IfErr, IsTrue};
-ghost use Rattle.page_cells.specs.Number.{number};
-ghost use Rattle.page_cells.specs.Cells.{key_at};
-ghost use Rattle.map_nodes.specs.Nodes.{IsInner, count_of, entries_in, width_of};
+ghost use Rattle.page_face.specs.Number.{number};
+ghost use Rattle.page_face.specs.Cells.{key_at};
+ghost use Rattle.page_face.specs.Nodes.{count_of};
+ghost use Rattle.map_nodes.specs.Nodes.{IsInner, entries_in, width_of};
 ghost use Rattle.map_nodes.specs.Tree.{IsPlaceFor};
 ghost use Rattle.map_nodes.specs.Bounds.{upper_of};
 ghost use Rattle.map_nodes.specs.Damages.{BreaksInner};
@@ -30,7 +31,7 @@ pub fn has_key(page: &Page, form: Form, count: usize, at: usize, key: &[u8]) -> 
 }
 
 /// How many cells a page says that it has.
-#[tactic(auto, unfolding(map_nodes::specs::Nodes::count_of))]
+#[tactic(auto, unfolding(page_face::specs::Nodes::count_of))]
 pub fn count_in(page: &Page) -> usize
     ensures { result ≡ count_of page.now }
 {

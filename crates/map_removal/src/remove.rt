@@ -1,7 +1,7 @@
 //! A row that is taken out of a tree.
 ghost use Rattle.std.specs.Prelude.{◌≡◌, ◌≢◌, ℕ, ◌+◌, ◌<◌, ◌≤◌, List, length, IfOk, IsTrue, IsErrOf};
 ghost use Rattle.page_face.specs.Causes.{Rose, IsUncounted};
-ghost use Rattle.page_cells.specs.Number.{number};
+ghost use Rattle.page_face.specs.Number.{number};
 ghost use Rattle.map_nodes.specs.Supply.{IsSupplied, view, spare};
 ghost use Rattle.map_nodes.specs.Nodes.{least_of_root};
 ghost use Rattle.map_nodes.specs.Tree.{IsTree, rows_at, uses};

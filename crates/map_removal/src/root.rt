@@ -2,7 +2,8 @@
 ghost use Rattle.std.specs.Prelude.{◌≡◌, ◌≢◌, ◌+◌, ◌*◌, ◌<◌, ◌≤◌, ◌∷◌, [], ℕ, suc, List, IsTrue, IfOk, IsErrOf};
 ghost use Rattle.page_face.specs.Causes.{IsUncounted};
 ghost use Rattle.map_nodes.specs.Supply.{IsSupplied, view, spare};
-ghost use Rattle.map_nodes.specs.Nodes.{count_of, half_of};
+ghost use Rattle.page_face.specs.Nodes.{count_of};
+ghost use Rattle.map_nodes.specs.Nodes.{half_of};
 ghost use Rattle.map_nodes.specs.Tree.{IsTree, rows_at, uses};
 ghost use Rattle.map_removal.specs.Mended.{Becomes};
 

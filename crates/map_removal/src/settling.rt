@@ -2,7 +2,8 @@
 ghost use Rattle.std.specs.Prelude.{◌≡◌, ◌≢◌, ◌+◌, ◌*◌, ◌<◌, ◌≤◌, ◌∷◌, [], ℕ, suc, List, length, IsTrue, IfOk, IsErrOf};
 ghost use Rattle.page_face.specs.Causes.{IsUncounted};
 ghost use Rattle.map_nodes.specs.Supply.{IsSupplied, view, spare, one_at};
-ghost use Rattle.map_nodes.specs.Nodes.{IsInner, count_of, entries_in, width_of, half_of};
+ghost use Rattle.page_face.specs.Nodes.{count_of};
+ghost use Rattle.map_nodes.specs.Nodes.{IsInner, entries_in, width_of, half_of};
 ghost use Rattle.map_nodes.specs.Tree.{uses, total, with_low};
 ghost use Rattle.map_nodes.specs.Bounds.{child_of};
 ghost use Rattle.map_nodes.specs.Store.{below_rows};

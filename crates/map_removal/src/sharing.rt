@@ -1,7 +1,7 @@
 //! The cells of two neighbours, gathered and written anew.
 ghost use Rattle.std.specs.Prelude.{◌≡◌, ◌≢◌, ◌+◌, ◌-◌, ◌*◌, ◌/◌, ◌<◌, ◌≤◌, ◌++◌, ℕ, List, length, take, drop, replicate, IsTrue, IfOk, IsErrOf};
 ghost use Rattle.page_face.specs.Causes.{IsUncounted};
-ghost use Rattle.page_cells.specs.Number.{number};
+ghost use Rattle.page_face.specs.Number.{number};
 ghost use Rattle.map_nodes.specs.Supply.{IsSupplied, view, spare, one_at};
 ghost use Rattle.map_nodes.specs.Nodes.{width_of, half_of};
 ghost use Rattle.map_removal.specs.Body.{kind_of, IsBody, body_rows, body_uses, cleared};

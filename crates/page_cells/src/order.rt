@@ -1,8 +1,9 @@
 //! The order of a page's keys.
 ghost use Rattle.std.specs.Prelude.{◌≡◌, ◌↔◌, ℕ, ◌<◌, ◌≤◌, ◌+◌, ◌*◌, IsTrue};
-ghost use Rattle.page_cells.specs.Cells.{key_at, IsAscending};
+ghost use Rattle.page_face.specs.Cells.{key_at, IsAscending};
 
 use crate::key::{compare, key_of};
+use crate::pairs::ascends_by_pairs;
 use page_face::Page;
 use std::cmp::Ordering;
 
@@ -22,8 +23,8 @@ fn is_less(page: &Page, key: usize, width: usize, first: usize, second: usize) -
     }
 }
 
-/// Whether the keys of the cells from `from` up to `count` ascend strictly.
-pub fn ascends(page: &Page, key: usize, width: usize, from: usize, count: usize) -> bool
+// The same by a comparison of each key's bytes.
+fn ascends_by_bytes(page: &Page, key: usize, width: usize, from: usize, count: usize) -> bool
     requires wide { key ≤ width }
     requires fits { 16 + width * count ≤ 4096 }
     requires some { 1 ≤ count }
@@ -35,4 +36,17 @@ pub fn ascends(page: &Page, key: usize, width: usize, from: usize, count: usize)
         }
     }
     true
+}
+
+/// Whether the keys of the cells from `from` up to `count` ascend strictly. Two loads a key where it has 8 to 16 bytes.
+pub fn ascends(page: &Page, key: usize, width: usize, from: usize, count: usize) -> bool
+    requires wide { key ≤ width }
+    requires fits { 16 + width * count ≤ 4096 }
+    requires some { 1 ≤ count }
+    ensures { IsTrue result ↔ IsAscending key width page.now from count }
+{
+    if 8 <= key && key <= 16 && from < count {
+        return ascends_by_pairs(page, key, width, from, count);
+    }
+    ascends_by_bytes(page, key, width, from, count)
 }

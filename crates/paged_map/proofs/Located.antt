@@ -10,7 +10,8 @@ use Rattle.page_face.specs.declared.fault.PageFault.{PageFault}
 use Rattle.page_face.specs.declared.fault.PageFault.TheVariants.{Damaged}
 use Rattle.map_nodes.specs.declared.form.Form.{Form}
 use Rattle.map_nodes.specs.Rows.{lookup}
-use Rattle.map_nodes.specs.Nodes.{count_of, rows_in, IsLeaf}
+use Rattle.page_face.specs.Nodes.{count_of}
+use Rattle.map_nodes.specs.Nodes.{rows_in, IsLeaf}
 use Rattle.map_nodes.specs.Tree.{rows_at, uses}
 use Rattle.map_nodes.specs.Bounds.{child_of}
 use Rattle.map_nodes.proofs.Walks.{uses-self, uses-below}

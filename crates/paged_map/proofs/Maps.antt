@@ -4,7 +4,7 @@ use Rattle.std.proofs.lemmas.List.{take-replicate}
 use Rattle.std.specs.List.{flat_map}
 use Rattle.page_face.specs.FreeList.{PageMap, IsFreeList, next_free}
 use Rattle.page_face.specs.declared.fault.Damage.{Damage}
-use Rattle.page_cells.specs.Number.{number}
+use Rattle.page_face.specs.Number.{number}
 use Rattle.map_nodes.specs.declared.form.Form.{Form}
 use Rattle.map_nodes.specs.Rows.{Row}
 use Rattle.map_nodes.specs.Supply.{View, view, IsSupplied, spare_in, times, Moves}

@@ -16,11 +16,12 @@ use Rattle.paged_map.proofs.Located.{locates-below}
 use Rattle.std.proofs.lemmas.Bool.Decides.{nat_tests}
 use Rattle.std.proofs.lemmas.List.{drop_more, drop_all}
 use Rattle.page_face.specs.FreeList.{PageMap}
-use Rattle.page_cells.specs.Number.{number}
-use Rattle.page_cells.specs.Cells.{key_at, IsPlace}
+use Rattle.page_face.specs.Number.{number}
+use Rattle.page_face.specs.Cells.{key_at, IsPlace}
 use Rattle.map_nodes.specs.declared.form.Form.{Form}
 use Rattle.map_nodes.specs.Rows.{Row, IsWithin, lookup, first_from}
-use Rattle.map_nodes.specs.Nodes.{Entry, count_of, rows_in, entries_in, half_of, IsLeaf}
+use Rattle.page_face.specs.Nodes.{count_of}
+use Rattle.map_nodes.specs.Nodes.{Entry, rows_in, entries_in, half_of, IsLeaf}
 use Rattle.map_nodes.specs.Tree.{IsFan, IsTree, IsPlaceFor, rows_at, uses, with_low, next_key}
 use Rattle.map_nodes.specs.Bounds.{child_of, low_at, high_at}
 use Rattle.map_nodes.proofs.Spans.{no_row, within-row}

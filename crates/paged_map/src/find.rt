@@ -1,7 +1,7 @@
 //! The row at a key.
 ghost use Rattle.std.specs.Prelude.{◌≡◌, ◌≢◌, ℕ, ◌+◌, ◌<◌, ◌≤◌, List, ◌∷◌, [], ◌++◌, length, IfOk, IsTrue, IsErrOf};
 ghost use Rattle.page_face.specs.Causes.{Rose};
-ghost use Rattle.page_cells.specs.Number.{number};
+ghost use Rattle.page_face.specs.Number.{number};
 ghost use Rattle.map_nodes.specs.Rows.{lookup};
 ghost use Rattle.map_nodes.specs.Nodes.{least_of_root};
 ghost use Rattle.map_nodes.specs.Tree.{IsTree, rows_at, uses};

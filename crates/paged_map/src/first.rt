@@ -1,9 +1,10 @@
 //! The first row whose key isn't less.
 ghost use Rattle.std.specs.Prelude.{◌≡◌, ◌≢◌, ℕ, ◌+◌, ◌-◌, ◌*◌, ◌<◌, ◌≤◌, List, ◌∷◌, [], ◌++◌, length, IfOk, IsTrue, IsErrOf};
 ghost use Rattle.page_face.specs.Causes.{Rose};
-ghost use Rattle.page_cells.specs.Number.{number};
+ghost use Rattle.page_face.specs.Number.{number};
 ghost use Rattle.map_nodes.specs.Rows.{first_from};
-ghost use Rattle.map_nodes.specs.Nodes.{count_of, least_of_root};
+ghost use Rattle.page_face.specs.Nodes.{count_of};
+ghost use Rattle.map_nodes.specs.Nodes.{least_of_root};
 ghost use Rattle.map_nodes.specs.Tree.{IsTree, rows_at, uses};
 ghost use Rattle.map_nodes.specs.Bounds.{upper_of, child_of};
 ghost use Rattle.map_nodes.specs.Damages.{IsDamaged, AreTold, AskedSince, AsksOnly};

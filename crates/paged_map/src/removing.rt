@@ -1,10 +1,10 @@
 //! A row that is taken out of a map by its root.
 ghost use Rattle.std.specs.Prelude.{◌≡◌, ◌≢◌, ℕ, ◌^◌, ◌<◌, ◌≤◌, List, length, IfOk, IsErrOf, IsTrue, is_some};
 ghost use Rattle.page_face.specs.Causes.{Rose, IsUncounted};
-ghost use Rattle.page_cells.specs.Number.{number};
+ghost use Rattle.page_face.specs.Number.{number};
 ghost use Rattle.map_nodes.specs.Supply.{View, view};
 ghost use Rattle.map_nodes.specs.Rows.{Row, lookup, without};
-ghost use Rattle.map_nodes.specs.Nodes.{count_of};
+ghost use Rattle.page_face.specs.Nodes.{count_of};
 ghost use Rattle.map_nodes.specs.Tree.{map_rows, map_uses};
 ghost use Rattle.map_nodes.specs.Damages.{AreTold, AskedSince, AsksOnly};
 ghost use Rattle.map_removal.specs.Removal.{IsOut};

@@ -12,7 +12,7 @@ use Rattle.spatial_base.specs.Key.{Name, Text, Auto, IsName, key_cmp, form_of, p
 use Rattle.spatial_base.proofs.KeyOrder.{form_cmp}
 use Rattle.term_impacts.specs.Form.{IsWordText, word_form}
 use Rattle.term_impacts.proofs.FormLemmas.{slice_cmp-word_form}
-use Rattle.page_cells.specs.Number.{number}
+use Rattle.page_face.specs.Number.{number}
 use Rattle.page_cells.proofs.Numbers.{AreBytes, compare_numbers}
 use Rattle.store_rows.specs.Counted.{number_bytes}
 use Rattle.store_tables.specs.Entries.{word_cmp}

@@ -1,6 +1,6 @@
 -- Entries as rows: keys as numbers, and values as bytes.
 use Rattle.std.specs.Prelude.{ℕ, ◌+◌, ◌<◌, ◌^◌, List, Option, Some, None}
-use Rattle.page_cells.specs.Number.{number}
+use Rattle.page_face.specs.Number.{number}
 use Rattle.map_nodes.specs.Rows.{Row}
 use Rattle.spatial_base.specs.Key.{Name, IsName, form_of}
 use Rattle.term_impacts.specs.Form.{word_form}

@@ -1,7 +1,7 @@
 //! Keys and rows of the place table.
 ghost use Rattle.std.specs.Prelude.{◌≡◌, ◌≢◌, ℕ, ◌+◌, List, IfSome, IfNone};
 ghost use Rattle.std.specs.Option.{option_copied};
-ghost use Rattle.page_cells.specs.Number.{number};
+ghost use Rattle.page_face.specs.Number.{number};
 ghost use Rattle.spatial_base.specs.Key.{Name, IsName};
 ghost use Rattle.store_rows.specs.Stored.{place_value};
 ghost use Rattle.store_tables.specs.Coded.{IsPlaceEntry, key_code, next_code};

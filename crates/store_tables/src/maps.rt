@@ -1,7 +1,7 @@
 //! The calls of a map, by its root.
 ghost use Rattle.std.specs.Prelude.{◌≡◌, ◌≢◌, ◌⊎◌, ℕ, ◌≤◌, ◌+◌, List, length, IfOk, IsTrue, IsErrOf, is_some};
 ghost use Rattle.page_face.specs.Causes.{Rose};
-ghost use Rattle.page_cells.specs.Number.{number};
+ghost use Rattle.page_face.specs.Number.{number};
 ghost use Rattle.map_nodes.specs.Rows.{lookup, first_from, put, without};
 ghost use Rattle.map_nodes.specs.Supply.{view};
 ghost use Rattle.map_nodes.specs.Tree.{IsMap, map_rows, map_uses};

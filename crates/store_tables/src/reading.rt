@@ -2,7 +2,7 @@
 ghost use Rattle.std.specs.Prelude.{◌≡◌, ◌≢◌, ℕ, ◌≤◌, ◌<◌, ◌+◌, List, length, option_map, Some, IfOk, IfSome, IsTrue, IsErrOf};
 ghost use Rattle.std.specs.Option.{option_copied};
 ghost use Rattle.page_face.specs.Causes.{Rose};
-ghost use Rattle.page_cells.specs.Number.{number as number_of_bytes};
+ghost use Rattle.page_face.specs.Number.{number as number_of_bytes};
 ghost use Rattle.map_nodes.specs.Rows.{lookup, first_from};
 ghost use Rattle.map_nodes.specs.Tree.{IsMap, map_rows, map_uses};
 ghost use Rattle.map_nodes.specs.Damages.{AreTold, AskedSince, AsksOnly};

@@ -1,6 +1,6 @@
 use Rattle.std.proofs.Common.{arith, ◌≡◌, ◌++◌, List, ap, ◌∙◌}
 use Rattle.page_face.specs.FreeList.{PageMap}
-use Rattle.page_cells.specs.Number.{number}
+use Rattle.page_face.specs.Number.{number}
 use Rattle.map_nodes.specs.Rows.{Row}
 use Rattle.map_nodes.specs.Tree.{rows_at}
 use Rattle.map_removal.specs.Body.{body_rows}

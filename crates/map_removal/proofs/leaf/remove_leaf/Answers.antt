@@ -1,6 +1,6 @@
 use Rattle.std.proofs.Common.{arith, ◌≡◌, refl}
-use Rattle.page_cells.specs.Number.{number}
-use Rattle.map_nodes.specs.Nodes.{count_of}
+use Rattle.page_face.specs.Number.{number}
+use Rattle.page_face.specs.Nodes.{count_of}
 use Rattle.map_nodes.specs.Bounds.{upper_of}
 use Rattle.map_nodes.proofs.Finds.{place_as, missed}
 use Rattle.map_removal.proofs.leaf.remove_leaf.Goals as goal

@@ -1,8 +1,8 @@
 use Rattle.std.proofs.Common.{arith, ◌+◌, ◌-◌, ℕ, List, sym, ap, ◌∙◌}
-use Rattle.page_cells.specs.Number.{number}
+use Rattle.page_face.specs.Number.{number}
 use Rattle.page_cells.specs.Build.{image}
 use Rattle.map_nodes.specs.declared.form.Shape.{Shape}
-use Rattle.map_nodes.specs.Nodes.{count_of}
+use Rattle.page_face.specs.Nodes.{count_of}
 use Rattle.map_removal.specs.Body.{without_cell, cells_in}
 use Rattle.map_removal.proofs.Gives.{page-some}
 use Rattle.map_removal.proofs.Joins.{few, width-some}

@@ -1,9 +1,9 @@
 use Rattle.std.proofs.Common.{arith, ◌+◌, ◌-◌, ℕ, List, sym, ap, ◌∙◌}
 use Rattle.page_face.specs.FreeList.{PageMap}
-use Rattle.page_cells.specs.Number.{number}
+use Rattle.page_face.specs.Number.{number}
 use Rattle.page_cells.specs.Build.{image}
 use Rattle.map_nodes.specs.declared.form.Shape.{Shape}
-use Rattle.map_nodes.specs.Nodes.{count_of}
+use Rattle.page_face.specs.Nodes.{count_of}
 use Rattle.map_nodes.specs.Tree.{next_key}
 use Rattle.map_removal.specs.Body.{without_cell, with_key, cells_in}
 use Rattle.map_removal.proofs.Joins.{few}

@@ -2,10 +2,11 @@ use Rattle.std.proofs.Common.{arith, ◌≡◌, ◌+◌, ◌-◌, ◌*◌, ◌<�
 use Rattle.std.proofs.lemmas.Result.{err_from_is_err_and}
 use Rattle.page_face.specs.FreeList.{PageMap}
 use Rattle.page_face.specs.declared.fault.Damage.{Damage}
-use Rattle.page_cells.specs.Number.{number}
+use Rattle.page_face.specs.Number.{number}
 use Rattle.map_nodes.specs.Supply.{view, spare}
 use Rattle.map_nodes.specs.Rows.{lookup}
-use Rattle.map_nodes.specs.Nodes.{count_of, width_of, least_of_root}
+use Rattle.page_face.specs.Nodes.{count_of}
+use Rattle.map_nodes.specs.Nodes.{width_of, least_of_root}
 use Rattle.map_nodes.specs.Tree.{IsTree, rows_at, uses}
 use Rattle.map_nodes.specs.Bounds.{upper_of, child_of}
 use Rattle.map_nodes.specs.Damages.{IsDamaged, AreTold, AskedSince, AsksOnly}

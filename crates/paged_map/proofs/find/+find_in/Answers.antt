@@ -2,9 +2,9 @@ use Rattle.std.proofs.Common.{arith, ◌≡◌, ◌-◌, ◌<◌, ℕ, ◌∙◌
 use Rattle.std.specs.Result.{IfOk}
 use Rattle.page_face.specs.FreeList.{PageMap}
 use Rattle.page_face.specs.declared.fault.Damage.{Damage}
-use Rattle.page_cells.specs.Number.{number}
+use Rattle.page_face.specs.Number.{number}
 use Rattle.map_nodes.specs.Rows.{lookup}
-use Rattle.map_nodes.specs.Nodes.{count_of}
+use Rattle.page_face.specs.Nodes.{count_of}
 use Rattle.map_nodes.specs.Tree.{IsTree, rows_at, uses}
 use Rattle.map_nodes.specs.Bounds.{upper_of}
 use Rattle.map_nodes.specs.Damages.{IsDamaged, AreTold, AskedSince, AsksOnly}

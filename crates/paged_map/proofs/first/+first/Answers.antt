@@ -3,9 +3,9 @@ use Rattle.std.specs.Result.{IfOk}
 use Rattle.std.proofs.lemmas.Result.{err_from_is_err_and}
 use Rattle.page_face.specs.FreeList.{PageMap}
 use Rattle.page_face.specs.declared.fault.Damage.{Damage}
-use Rattle.page_cells.specs.Number.{number}
+use Rattle.page_face.specs.Number.{number}
 use Rattle.map_nodes.specs.Rows.{Row, first_from}
-use Rattle.map_nodes.specs.Nodes.{count_of}
+use Rattle.page_face.specs.Nodes.{count_of}
 use Rattle.map_nodes.specs.Tree.{IsTree, rows_at, uses}
 use Rattle.map_nodes.specs.Bounds.{upper_of, child_of}
 use Rattle.map_nodes.specs.Damages.{IsDamaged, AreTold, AskedSince, AsksOnly}

@@ -2,8 +2,8 @@ use Rattle.std.proofs.Common.{arith, ◌≡◌, ◌+◌, ℕ, ◌∙◌, sym, ap
 use Rattle.std.proofs.lemmas.Cmp.{ranked}
 use Rattle.std.specs.declared.cmp.Ordering.TheVariants.{Equal}
 use Rattle.std.specs.Cmp.{nat_cmp_is}
-use Rattle.page_cells.specs.Number.{number}
-use Rattle.map_nodes.specs.Nodes.{count_of}
+use Rattle.page_face.specs.Number.{number}
+use Rattle.page_face.specs.Nodes.{count_of}
 use Rattle.map_nodes.specs.Bounds.{upper_of}
 use Rattle.map_nodes.proofs.Finds.{found, missed, place_as}
 use Rattle.map_nodes.proofs.Spots.{fits_at}

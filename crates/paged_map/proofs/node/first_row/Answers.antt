@@ -1,6 +1,6 @@
 use Rattle.std.proofs.Common.{arith, ◌≡◌}
-use Rattle.page_cells.specs.Number.{number}
-use Rattle.map_nodes.specs.Nodes.{count_of}
+use Rattle.page_face.specs.Number.{number}
+use Rattle.page_face.specs.Nodes.{count_of}
 use Rattle.map_nodes.specs.Bounds.{upper_of}
 use Rattle.map_nodes.proofs.Finds.{place_as}
 use Rattle.paged_map.proofs.Rows.{first-missed, first-found, first-holds}

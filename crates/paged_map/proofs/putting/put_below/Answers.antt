@@ -4,7 +4,7 @@ use Rattle.std.proofs.lemmas.Result.{err_from_is_err_and}
 use Rattle.page_face.specs.FreeList.{PageMap}
 use Rattle.page_face.specs.Causes.{IsUncounted}
 use Rattle.page_face.specs.declared.fault.Damage.{Damage}
-use Rattle.page_cells.specs.Number.{number}
+use Rattle.page_face.specs.Number.{number}
 use Rattle.page_cells.proofs.Numbers.{number_below}
 use Rattle.map_nodes.specs.declared.form.Form.{Form}
 use Rattle.map_nodes.specs.Supply.{view, View, IsSupplied, spare}

@@ -3,7 +3,7 @@ use Rattle.std.specs.Option.{is_some}
 use Rattle.std.proofs.lemmas.Bool.Decides.{nat_tests}
 use Rattle.std.proofs.lemmas.Result.{err_from_is_err_and}
 use Rattle.page_face.specs.FreeList.{PageMap}
-use Rattle.page_cells.specs.Number.{number}
+use Rattle.page_face.specs.Number.{number}
 use Rattle.map_nodes.specs.declared.form.Form.{Form}
 use Rattle.map_nodes.specs.Supply.{view}
 use Rattle.map_nodes.specs.Rows.{Row, lookup, put}

@@ -1,0 +1,16 @@
+//! What a page of cells was found to be.
+
+/// What a page of a map is checked as: the map's number, the lengths of its keys and values in bytes, and the page's level.
+///
+/// Which rules a page keeps by itself, so that it needn't be checked again while its bytes stay, says `specs/Sound.antt`.
+#[derive(Clone, Copy, Debug, PartialEq, Eq)]
+pub struct Seal {
+    /// The map's number.
+    pub map: u8,
+    /// Length of a key.
+    pub key: usize,
+    /// Length of a value.
+    pub value: usize,
+    /// The page's level; 0 is a leaf.
+    pub level: u8,
+}
