@@ -2,7 +2,7 @@
 use Rattle.std.proofs.Common.{◌≡◌, ℕ, sym, subst}
 use Rattle.page_face.specs.FreeList.{PageMap}
 use Rattle.page_face.specs.declared.fault.Damage.{Damage}
-use Rattle.map_nodes.specs.Damages.{AreTold}
+use Rattle.btree_nodes.specs.Damages.{AreTold}
 use Rattle.store_tables.specs.declared.tables.Tables.{Tables}
 use Rattle.irtree_engine.specs.Damages.{IsListedDamage}
 

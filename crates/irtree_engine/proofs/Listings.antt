@@ -13,9 +13,9 @@ use Rattle.spatial_base.specs.Key.{Name, key_cmp, key_cmp_total}
 use Rattle.spatial_base.specs.Point.{Position}
 use Rattle.place_map.specs.Restored.{AreNumbers, AreStatePlaces, IsSerialAbove, Rows, keys_in, places_in}
 use Rattle.place_map.specs.State.{Places}
-use Rattle.store_rows.specs.declared.counted.Counted.{Counted}
-use Rattle.store_rows.specs.declared.stored.Stored.{Stored}
-use Rattle.store_rows.specs.Stored.{held_pairs}
+use Rattle.row_codec.specs.declared.counted.Counted.{Counted}
+use Rattle.row_codec.specs.declared.stored.Stored.{Stored}
+use Rattle.row_codec.specs.Stored.{held_pairs}
 use Rattle.store_tables.specs.Entries.{place_after}
 use Rattle.store_meaning.specs.Stands.{place_in}
 use Rattle.place_updates.specs.Known.{AreAllKnown, AreKnown}

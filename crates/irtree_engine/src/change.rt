@@ -2,7 +2,7 @@
 ghost use Rattle.std.specs.Prelude.{◌≡◌, ℕ, ◌≤◌, ◌<◌, ◌+◌, ◌^◌, ◌↔◌, Ok, IsTrue, IfOk, IfErr, OnOk, IsErrOf, length};
 ghost use Rattle.std.specs.List.{AllByRecursion};
 ghost use Rattle.page_face.specs.Causes.{Rose};
-ghost use Rattle.map_nodes.specs.Damages.{AreTold};
+ghost use Rattle.btree_nodes.specs.Damages.{AreTold};
 ghost use Rattle.place_map.specs.Restored.{IsSerialAbove};
 ghost use Rattle.place_map.specs.State.{Contents};
 ghost use Rattle.place_map.specs.Update.{effect_of, key_for, put_at, removed_at, serial_after};
@@ -17,7 +17,7 @@ use place_map::{Applied, NUMBER_MAX, PLACES_MAX, Update};
 use place_updates::{put_place, remove_place};
 use spatial_base::{Key, Point};
 use std::alloc::Global;
-use store_rows::PAIRS_MAX;
+use row_codec::PAIRS_MAX;
 use store_tables::Tables;
 use term_impacts::Words;
 

@@ -2,7 +2,7 @@
 ghost use Rattle.std.specs.Prelude.{◌≡◌, ◌≢◌, ◌≤◌, ◌<◌, ◌^◌, length, option_map, Some, IsSome, IfOk, IsTrue, IsErrOf};
 ghost use Rattle.std.specs.Option.{option_copied};
 ghost use Rattle.page_face.specs.Causes.{Rose};
-ghost use Rattle.map_nodes.specs.Damages.{AreTold};
+ghost use Rattle.btree_nodes.specs.Damages.{AreTold};
 ghost use Rattle.paged_map.specs.Maps.{AreCounted};
 ghost use Rattle.store_tables.specs.Entries.{Entries, place_after};
 ghost use Rattle.store_tables.specs.Holding.{Holds, table_uses};

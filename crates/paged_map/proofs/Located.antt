@@ -8,13 +8,13 @@ use Rattle.page_face.specs.declared.fault.Rule.{Rule}
 use Rattle.page_face.specs.declared.fault.Damage.{Damage}
 use Rattle.page_face.specs.declared.fault.PageFault.{PageFault}
 use Rattle.page_face.specs.declared.fault.PageFault.TheVariants.{Damaged}
-use Rattle.map_nodes.specs.declared.form.Form.{Form}
-use Rattle.map_nodes.specs.Rows.{lookup}
+use Rattle.btree_nodes.specs.declared.form.Form.{Form}
+use Rattle.btree_nodes.specs.Rows.{lookup}
 use Rattle.page_face.specs.Nodes.{count_of}
-use Rattle.map_nodes.specs.Nodes.{rows_in, IsLeaf}
-use Rattle.map_nodes.specs.Tree.{rows_at, uses}
-use Rattle.map_nodes.specs.Bounds.{child_of}
-use Rattle.map_nodes.proofs.Walks.{uses-self, uses-below}
+use Rattle.btree_nodes.specs.Nodes.{rows_in, IsLeaf}
+use Rattle.btree_nodes.specs.Tree.{rows_at, uses}
+use Rattle.btree_nodes.specs.Bounds.{child_of}
+use Rattle.btree_nodes.proofs.Walks.{uses-self, uses-below}
 use Rattle.paged_map.specs.Answers.{HoldsRow, Locates}
 
 -- the page that a refusal names

@@ -5,17 +5,17 @@ use Rattle.std.specs.List.{flat_map}
 use Rattle.page_face.specs.FreeList.{PageMap, IsFreeList, next_free}
 use Rattle.page_face.specs.declared.fault.Damage.{Damage}
 use Rattle.page_face.specs.Number.{number}
-use Rattle.map_nodes.specs.declared.form.Form.{Form}
-use Rattle.map_nodes.specs.Rows.{Row}
-use Rattle.map_nodes.specs.Supply.{View, view, IsSupplied, spare_in, times, Moves}
-use Rattle.map_nodes.specs.Nodes.{Entry, least_of_root}
-use Rattle.map_nodes.specs.Store.{IsGrown}
-use Rattle.map_nodes.proofs.Supplies.{one_at-other, moves-as, counted-none, uncounted-past}
-use Rattle.map_nodes.specs.Tree.{IsTree, IsFan, IsMap, total, rows_at, uses, map_rows, map_uses, level_of}
-use Rattle.map_nodes.specs.Damages.{IsDamaged}
-use Rattle.map_nodes.proofs.Harms.{tree-undamaged}
+use Rattle.btree_nodes.specs.declared.form.Form.{Form}
+use Rattle.btree_nodes.specs.Rows.{Row}
+use Rattle.btree_nodes.specs.Supply.{View, view, IsSupplied, spare_in, times, Moves}
+use Rattle.btree_nodes.specs.Nodes.{Entry, least_of_root}
+use Rattle.btree_nodes.specs.Store.{IsGrown}
+use Rattle.btree_nodes.proofs.Supplies.{one_at-other, moves-as, counted-none, uncounted-past}
+use Rattle.btree_nodes.specs.Tree.{IsTree, IsFan, IsMap, total, rows_at, uses, map_rows, map_uses, level_of}
+use Rattle.btree_nodes.specs.Damages.{IsDamaged}
+use Rattle.btree_nodes.proofs.Harms.{tree-undamaged}
 use Rattle.paged_map.specs.Maps.{IsMapDamaged, AreCounted, IsKept, HasBecome}
-use Rattle.map_insertion.proofs.Inners.{number-zeros}
+use Rattle.btree_insert.proofs.Inners.{number-zeros}
 
 -- what is said of a page by other names is said of it
 pub enter : (Claim : Form → PageMap → ℕ → ℕ → ℕ → ℕ → Type 0) (form form' : Form) (pages pages' : PageMap) (count count' level level' least least' low low' : ℕ) → form' ≡ form → pages' ≡ pages → count' ≡ count

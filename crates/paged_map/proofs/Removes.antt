@@ -2,17 +2,17 @@
 use Rattle.std.proofs.Common.{◌≡◌, ℕ, zero, suc, ◌^◌, ◌==◌, if◌then◌else◌, ◌<◌, ◌≤◌, List, [], ◌∷◌, Option, Some, None, Bool, true, false, arith, refl, sym, ap, ◌∙◌, append-nil}
 use Rattle.std.specs.Option.{is_some}
 use Rattle.page_face.specs.FreeList.{PageMap}
-use Rattle.map_nodes.specs.declared.form.Form.{Form}
-use Rattle.map_nodes.specs.Supply.{View, view, Moves}
-use Rattle.map_nodes.specs.Rows.{Row, lookup, without}
-use Rattle.map_nodes.specs.Nodes.{half_of, least_of_root}
-use Rattle.map_nodes.specs.Tree.{rows_at, uses, map_rows, map_uses}
-use Rattle.map_nodes.proofs.Supplies.{moves-as, moves-further}
-use Rattle.map_removal.specs.Mended.{Becomes}
-use Rattle.map_removal.specs.Removal.{IsEmptied}
-use Rattle.map_removal.proofs.Settles.{tree-fewer, half_some}
+use Rattle.btree_nodes.specs.declared.form.Form.{Form}
+use Rattle.btree_nodes.specs.Supply.{View, view, Moves}
+use Rattle.btree_nodes.specs.Rows.{Row, lookup, without}
+use Rattle.btree_nodes.specs.Nodes.{half_of, least_of_root}
+use Rattle.btree_nodes.specs.Tree.{rows_at, uses, map_rows, map_uses}
+use Rattle.btree_nodes.proofs.Supplies.{moves-as, moves-further}
+use Rattle.btree_delete.specs.Mended.{Becomes}
+use Rattle.btree_delete.specs.Removal.{IsEmptied}
+use Rattle.btree_delete.proofs.Settles.{tree-fewer, half_some}
 use Rattle.paged_map.specs.Maps.{IsKept, HasBecome}
-use Rattle.map_nodes.proofs.Walks.{uses-self}
+use Rattle.btree_nodes.proofs.Walks.{uses-self}
 use Rattle.paged_map.proofs.Maps.{becomes, spare-away}
 
 -- a root with too few cells, but with some, is an inner page with one entry

@@ -8,27 +8,27 @@ use Rattle.page_face.specs.Causes.{asked_after}
 use Rattle.page_face.specs.declared.fault.Damage.{Damage}
 use Rattle.page_face.specs.declared.fault.PageFault.{PageFault}
 use Rattle.page_face.specs.declared.fault.PageFault.TheVariants.{Damaged}
-use Rattle.map_nodes.specs.Damages.{AskedSince}
-use Rattle.map_nodes.proofs.Harms.{asked-here}
+use Rattle.btree_nodes.specs.Damages.{AskedSince}
+use Rattle.btree_nodes.proofs.Harms.{asked-here}
 use Rattle.paged_map.specs.Answers.{HoldsRow, Locates}
-use Rattle.map_nodes.proofs.Walks.{uses-self}
+use Rattle.btree_nodes.proofs.Walks.{uses-self}
 use Rattle.paged_map.proofs.Located.{locates-below}
 use Rattle.std.proofs.lemmas.Bool.Decides.{nat_tests}
 use Rattle.std.proofs.lemmas.List.{drop_more, drop_all}
 use Rattle.page_face.specs.FreeList.{PageMap}
 use Rattle.page_face.specs.Number.{number}
 use Rattle.page_face.specs.Cells.{key_at, IsPlace}
-use Rattle.map_nodes.specs.declared.form.Form.{Form}
-use Rattle.map_nodes.specs.Rows.{Row, IsWithin, lookup, first_from}
+use Rattle.btree_nodes.specs.declared.form.Form.{Form}
+use Rattle.btree_nodes.specs.Rows.{Row, IsWithin, lookup, first_from}
 use Rattle.page_face.specs.Nodes.{count_of}
-use Rattle.map_nodes.specs.Nodes.{Entry, rows_in, entries_in, half_of, IsLeaf}
-use Rattle.map_nodes.specs.Tree.{IsFan, IsTree, IsPlaceFor, rows_at, uses, with_low, next_key}
-use Rattle.map_nodes.specs.Bounds.{child_of, low_at, high_at}
-use Rattle.map_nodes.proofs.Spans.{no_row, within-row}
-use Rattle.map_nodes.proofs.Spots.{length-rows_in, get_or-rows_in, row-key, length-entries_in}
-use Rattle.map_nodes.proofs.Fans.{no_entry, fan-key, with_low-rows, with_low-child, with_low-key, length-with_low, drop-with_low}
-use Rattle.map_nodes.proofs.Firsts.{first_from-last, first_from-at, first_from-below, first_from-left, first_from-right, first_from-here}
-use Rattle.map_nodes.proofs.Trees.{tree-within, tree-child}
+use Rattle.btree_nodes.specs.Nodes.{Entry, rows_in, entries_in, half_of, IsLeaf}
+use Rattle.btree_nodes.specs.Tree.{IsFan, IsTree, IsPlaceFor, rows_at, uses, with_low, next_key}
+use Rattle.btree_nodes.specs.Bounds.{child_of, low_at, high_at}
+use Rattle.btree_nodes.proofs.Spans.{no_row, within-row}
+use Rattle.btree_nodes.proofs.Spots.{length-rows_in, get_or-rows_in, row-key, length-entries_in}
+use Rattle.btree_nodes.proofs.Fans.{no_entry, fan-key, with_low-rows, with_low-child, with_low-key, length-with_low, drop-with_low}
+use Rattle.btree_nodes.proofs.Firsts.{first_from-last, first_from-at, first_from-below, first_from-left, first_from-right, first_from-here}
+use Rattle.btree_nodes.proofs.Trees.{tree-within, tree-child}
 
 lookup-here : (key : ℕ) (row : Row) (rows : List Row) → row.0 ≡ key → lookup key (row ∷ rows) ≡ Some row.1
 lookup-here key row rows h = grind (arith, nat_tests)

@@ -2,15 +2,15 @@
 ghost use Rattle.std.specs.Prelude.{◌≡◌, ◌≢◌, ℕ, ◌+◌, ◌<◌, ◌≤◌, List, ◌∷◌, [], ◌++◌, length, IfOk, IsTrue, IsErrOf};
 ghost use Rattle.page_face.specs.Causes.{Rose};
 ghost use Rattle.page_face.specs.Number.{number};
-ghost use Rattle.map_nodes.specs.Rows.{lookup};
-ghost use Rattle.map_nodes.specs.Nodes.{least_of_root};
-ghost use Rattle.map_nodes.specs.Tree.{IsTree, rows_at, uses};
-ghost use Rattle.map_nodes.specs.Bounds.{upper_of};
-ghost use Rattle.map_nodes.specs.Damages.{IsDamaged, AreTold, AskedSince, AsksOnly};
+ghost use Rattle.btree_nodes.specs.Rows.{lookup};
+ghost use Rattle.btree_nodes.specs.Nodes.{least_of_root};
+ghost use Rattle.btree_nodes.specs.Tree.{IsTree, rows_at, uses};
+ghost use Rattle.btree_nodes.specs.Bounds.{upper_of};
+ghost use Rattle.btree_nodes.specs.Damages.{IsDamaged, AreTold, AskedSince, AsksOnly};
 ghost use Rattle.paged_map.specs.Answers.{HoldsRow, Locates};
 
 use crate::node::find_row;
-use map_nodes::{Form, child_at, damaged, find_place, least_at, lower, upper};
+use btree_nodes::{Form, child_at, damaged, find_place, least_at, lower, upper};
 use page_face::{Damage, Page, PageFault, Pages};
 
 /// The leaf below a page that holds the row at a key, whose value is then left in `value`. The page was read last.

@@ -2,10 +2,10 @@
 ghost use Rattle.std.specs.Prelude.{◌≡◌, ◌≢◌, ◌⊎◌, ℕ, ◌≤◌, List, length, IfOk, IsTrue, IsErrOf, OnErr, is_some};
 ghost use Rattle.page_face.specs.Causes.{Rose};
 ghost use Rattle.page_face.specs.Number.{number};
-ghost use Rattle.map_nodes.specs.Supply.{view};
-ghost use Rattle.map_nodes.specs.Rows.{lookup, first_from, put, without};
-ghost use Rattle.map_nodes.specs.Tree.{IsMap, map_rows, map_uses};
-ghost use Rattle.map_nodes.specs.Damages.{AreTold, AskedSince, AsksOnly, IsRefusedTake};
+ghost use Rattle.btree_nodes.specs.Supply.{view};
+ghost use Rattle.btree_nodes.specs.Rows.{lookup, first_from, put, without};
+ghost use Rattle.btree_nodes.specs.Tree.{IsMap, map_rows, map_uses};
+ghost use Rattle.btree_nodes.specs.Damages.{AreTold, AskedSince, AsksOnly, IsRefusedTake};
 ghost use Rattle.paged_map.specs.Answers.{HoldsRow, Locates};
 ghost use Rattle.paged_map.specs.Maps.{AreCounted, IsMapDamaged, IsKept, HasBecome};
 
@@ -14,8 +14,8 @@ use crate::first::first_in;
 use crate::layout::{Layout, form_of, least_key};
 use crate::putting::put_below;
 use crate::removing::remove_below;
-use map_insertion::first_leaf;
-use map_nodes::{level, root_least};
+use btree_insert::first_leaf;
+use btree_nodes::{level, root_least};
 use page_face::{Damage, PageFault, Pages};
 use std::marker::PhantomData;
 

@@ -2,15 +2,15 @@
 ghost use Rattle.std.specs.Prelude.{◌≡◌, ◌≢◌, ◌⊎◌, ℕ, ◌<◌, ◌≤◌, List, length, IfOk, IsErrOf, IsTrue, is_some};
 ghost use Rattle.page_face.specs.Causes.{Rose};
 ghost use Rattle.page_face.specs.Number.{number};
-ghost use Rattle.map_nodes.specs.Supply.{view};
-ghost use Rattle.map_nodes.specs.Rows.{lookup, put};
-ghost use Rattle.map_nodes.specs.Tree.{IsMap, map_rows, map_uses};
-ghost use Rattle.map_nodes.specs.Damages.{IsRefusedTake, AreTold, AskedSince, AsksOnly};
+ghost use Rattle.btree_nodes.specs.Supply.{view};
+ghost use Rattle.btree_nodes.specs.Rows.{lookup, put};
+ghost use Rattle.btree_nodes.specs.Tree.{IsMap, map_rows, map_uses};
+ghost use Rattle.btree_nodes.specs.Damages.{IsRefusedTake, AreTold, AskedSince, AsksOnly};
 ghost use Rattle.paged_map.specs.Maps.{IsKept, HasBecome, IsMapDamaged};
 
 use crate::layout::least_key;
-use map_insertion::{grow_root, put_in};
-use map_nodes::{Form, level, root_least};
+use btree_insert::{grow_root, put_in};
+use btree_nodes::{Form, level, root_least};
 use page_face::{Damage, PageFault, Pages};
 
 // The greatest level that a page can say.

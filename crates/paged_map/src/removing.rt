@@ -2,18 +2,18 @@
 ghost use Rattle.std.specs.Prelude.{◌≡◌, ◌≢◌, ℕ, ◌^◌, ◌<◌, ◌≤◌, List, length, IfOk, IsErrOf, IsTrue, is_some};
 ghost use Rattle.page_face.specs.Causes.{Rose, IsUncounted};
 ghost use Rattle.page_face.specs.Number.{number};
-ghost use Rattle.map_nodes.specs.Supply.{View, view};
-ghost use Rattle.map_nodes.specs.Rows.{Row, lookup, without};
+ghost use Rattle.btree_nodes.specs.Supply.{View, view};
+ghost use Rattle.btree_nodes.specs.Rows.{Row, lookup, without};
 ghost use Rattle.page_face.specs.Nodes.{count_of};
-ghost use Rattle.map_nodes.specs.Tree.{map_rows, map_uses};
-ghost use Rattle.map_nodes.specs.Damages.{AreTold, AskedSince, AsksOnly};
-ghost use Rattle.map_removal.specs.Removal.{IsOut};
+ghost use Rattle.btree_nodes.specs.Tree.{map_rows, map_uses};
+ghost use Rattle.btree_nodes.specs.Damages.{AreTold, AskedSince, AsksOnly};
+ghost use Rattle.btree_delete.specs.Removal.{IsOut};
 ghost use Rattle.paged_map.specs.Maps.{IsKept, HasBecome, IsMapDamaged};
 
 use crate::layout::least_key;
 use crate::putting::Rooted;
-use map_nodes::{Form, level, root_least};
-use map_removal::{lower_root, remove_in};
+use btree_delete::{lower_root, remove_in};
+use btree_nodes::{Form, level, root_least};
 use page_face::{Damage, Page, PageFault, Pages};
 
 // The root of a map whose root's page has so many cells left: 0 where no row is left, and where an inner page has one

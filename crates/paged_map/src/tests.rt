@@ -1,5 +1,5 @@
 use super::*;
-use page_cells::build;
+use btree_nodes::build;
 use page_face::{Damage, MemoryPages, Page, PageFault, Pages, Rule, free_next};
 use std::collections::BTreeMap;
 use std::test::Fail;

@@ -7,9 +7,9 @@ use Rattle.std.specs.BTreeMap.{insert_entry}
 use Rattle.std.specs.List.Sorted.{IsStrictlySortedBy}
 use Rattle.std.specs.Ordering.{nat_cmp}
 use Rattle.spatial_base.specs.Point.{Position}
-use Rattle.store_rows.specs.Pairs.{Pair, HasImpact}
-use Rattle.store_rows.specs.Stored.{IsStored}
-use Rattle.store_rows.specs.declared.stored.Stored.{Stored}
+use Rattle.row_codec.specs.Pairs.{Pair, HasImpact}
+use Rattle.row_codec.specs.Stored.{IsStored}
+use Rattle.row_codec.specs.declared.stored.Stored.{Stored}
 use Rattle.store_tables.specs.Coded.{IsEntryOf}
 use Rattle.store_tables.proofs.EntryLemmas.{insert-each}
 use Rattle.store_meaning.specs.Updates.{stored_with}

@@ -2,9 +2,9 @@
 use Rattle.std.proofs.Common.{◌≡◌, ℕ, true, false, cond, Bool, List, ◌∷◌, refl, sym, ap, subst, subst₂, ◌∙◌}
 use Rattle.spatial_base.specs.Key.{Name}
 use Rattle.spatial_base.specs.Point.{Position}
-use Rattle.store_rows.specs.Pairs.{Pair}
-use Rattle.store_rows.specs.Stored.{held_pairs}
-use Rattle.store_rows.specs.declared.stored.Stored.{Stored}
+use Rattle.row_codec.specs.Pairs.{Pair}
+use Rattle.row_codec.specs.Stored.{held_pairs}
+use Rattle.row_codec.specs.declared.stored.Stored.{Stored}
 use Rattle.store_tables.specs.Entries.{Entries, number_of_word, place_of_key, with_place}
 use Rattle.store_tables.specs.Words.{next_after, number_for, with_hold, without_hold}
 use Rattle.store_meaning.specs.Updates.{CanNumber, CanReleaseAll, after_put, by_number, has_pair, numbered, numbered_for, pairs_of, released_all, stored_with, with_pair}

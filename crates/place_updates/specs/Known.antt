@@ -3,10 +3,10 @@ use Rattle.std.specs.Prelude.{◌≡◌, ◌⊎◌, ℕ, List, [], ◌∷◌, Is
 use Rattle.page_face.specs.FreeList.{PageMap}
 use Rattle.page_face.specs.declared.fault.Damage.{Damage}
 use Rattle.spatial_base.specs.Key.{Name}
-use Rattle.store_rows.specs.declared.counted.Counted.{Counted}
-use Rattle.store_rows.specs.declared.stored.Stored.{Stored}
-use Rattle.store_rows.specs.Pairs.{Pair}
-use Rattle.store_rows.specs.Stored.{held_pairs}
+use Rattle.row_codec.specs.declared.counted.Counted.{Counted}
+use Rattle.row_codec.specs.declared.stored.Stored.{Stored}
+use Rattle.row_codec.specs.Pairs.{Pair}
+use Rattle.row_codec.specs.Stored.{held_pairs}
 use Rattle.store_tables.specs.Entries.{word_of_number}
 use Rattle.store_tables.specs.Broken.{IsNumberDamage, words_disagree}
 

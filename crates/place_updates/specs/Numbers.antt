@@ -3,7 +3,7 @@ use Rattle.std.specs.Prelude.{ℕ, ◌≤◌, List, length, All}
 use Rattle.std.specs.List.Sorted.{IsStrictlySortedBy}
 use Rattle.std.specs.Map.{keys_of}
 use Rattle.std.specs.Ordering.{nat_cmp}
-use Rattle.store_rows.specs.Pairs.{Pair, HasImpact}
+use Rattle.row_codec.specs.Pairs.{Pair, HasImpact}
 
 -- a word with an impact from 1 to 255
 abbrev pub HasTermImpact : List ℕ × ℕ → Type 0

@@ -3,7 +3,7 @@ ghost use Rattle.std.specs.Prelude.{◌≡◌, ◌+◌, ◌≤◌, ◌<◌, leng
 ghost use Rattle.std.specs.BTreeMap.{insert_entry};
 ghost use Rattle.std.specs.Option.{option_copied};
 ghost use Rattle.std.specs.Ordering.{nat_cmp};
-ghost use Rattle.store_rows.specs.Stored.{IsStored};
+ghost use Rattle.row_codec.specs.Stored.{IsStored};
 ghost use Rattle.store_meaning.specs.Updates.{has_pair as is_among, pairs_of, stored_with};
 ghost use Rattle.place_updates.specs.Numbers.{IsNumberMap};
 

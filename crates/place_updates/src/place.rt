@@ -1,7 +1,7 @@
 //! What lives at a key.
 ghost use Rattle.std.specs.Prelude.{◌≡◌, ◌≢◌, ◌⊎◌, ◌≤◌, option_map, IfOk, IsTrue, IsErrOf};
 ghost use Rattle.page_face.specs.Causes.{Rose};
-ghost use Rattle.map_nodes.specs.Damages.{AreTold};
+ghost use Rattle.btree_nodes.specs.Damages.{AreTold};
 ghost use Rattle.paged_map.specs.Maps.{AreCounted};
 ghost use Rattle.store_tables.specs.Entries.{Entries, place_of_key};
 ghost use Rattle.store_tables.specs.Holding.{Holds, table_uses};

@@ -2,9 +2,9 @@
 ghost use Rattle.std.specs.Prelude.{◌≡◌, ℕ, ◌≤◌, ◌<◌, ◌+◌, ◌^◌, List, length, IfSome, OnOk, OnErr, IsTrue, IsErrOf};
 ghost use Rattle.std.specs.Option.{option_copied};
 ghost use Rattle.page_face.specs.Causes.{Rose};
-ghost use Rattle.map_nodes.specs.Supply.{view};
-ghost use Rattle.map_nodes.specs.Damages.{AreTold};
-ghost use Rattle.store_rows.specs.Stored.{IsStored};
+ghost use Rattle.btree_nodes.specs.Supply.{view};
+ghost use Rattle.btree_nodes.specs.Damages.{AreTold};
+ghost use Rattle.row_codec.specs.Stored.{IsStored};
 ghost use Rattle.store_tables.specs.Entries.{Entries, place_of_key, without_place};
 ghost use Rattle.store_tables.specs.Holding.{Holds, IsApart, IsChanged};
 ghost use Rattle.store_tables.specs.Words.{WordsAgree};

@@ -1,9 +1,9 @@
 //! A place that is taken out.
 ghost use Rattle.std.specs.Prelude.{◌≡◌, ℕ, ◌≤◌, List, Some, OnOk, OnErr, IsTrue, IsErrOf};
 ghost use Rattle.page_face.specs.Causes.{Rose};
-ghost use Rattle.map_nodes.specs.Supply.{view};
-ghost use Rattle.map_nodes.specs.Damages.{AreTold};
-ghost use Rattle.store_rows.specs.Stored.{IsStored};
+ghost use Rattle.btree_nodes.specs.Supply.{view};
+ghost use Rattle.btree_nodes.specs.Damages.{AreTold};
+ghost use Rattle.row_codec.specs.Stored.{IsStored};
 ghost use Rattle.store_tables.specs.Entries.{Entries, place_of_key};
 ghost use Rattle.store_tables.specs.Holding.{Holds, IsApart, IsChanged};
 ghost use Rattle.store_tables.specs.Words.{WordsAgree};

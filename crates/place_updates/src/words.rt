@@ -2,10 +2,10 @@
 ghost use Rattle.std.specs.Prelude.{◌≡◌, ◌≢◌, ℕ, ◌≤◌, ◌<◌, ◌+◌, [], length, IfOk, OnOk, OnErr, IsTrue, IsErrOf, All};
 ghost use Rattle.std.specs.BTreeMap.{insert_entry};
 ghost use Rattle.page_face.specs.Causes.{Rose};
-ghost use Rattle.map_nodes.specs.Damages.{AreTold};
+ghost use Rattle.btree_nodes.specs.Damages.{AreTold};
 ghost use Rattle.paged_map.specs.Maps.{AreCounted};
-ghost use Rattle.store_rows.specs.Pairs.{HasImpact};
-ghost use Rattle.store_rows.specs.Stored.{IsStored, held_pairs};
+ghost use Rattle.row_codec.specs.Pairs.{HasImpact};
+ghost use Rattle.row_codec.specs.Stored.{IsStored, held_pairs};
 ghost use Rattle.store_tables.specs.Entries.{Entries, word_cmp};
 ghost use Rattle.store_tables.specs.Holding.{Holds, table_uses};
 ghost use Rattle.store_tables.specs.Words.{words_of_pairs, words_of_place};

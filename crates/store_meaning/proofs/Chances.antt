@@ -5,7 +5,7 @@ use Rattle.std.specs.Map.{keys_of}
 use Rattle.term_impacts.specs.Pairs.{IsWordMap}
 use Rattle.spatial_base.specs.Key.{Name}
 use Rattle.spatial_base.specs.Point.{Position}
-use Rattle.store_rows.specs.Pairs.{Pair}
+use Rattle.row_codec.specs.Pairs.{Pair}
 use Rattle.store_tables.specs.Coded.{IsPlaceEntry}
 use Rattle.store_tables.specs.Entries.{Entries, number_of_word, place_of_key, with_place, without_place, word_cmp}
 use Rattle.store_tables.specs.Words.{WordsAgree, holders, next_after, number_for, with_hold, without_hold}

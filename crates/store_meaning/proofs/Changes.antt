@@ -7,10 +7,10 @@ use Rattle.spatial_base.specs.Point.{Position}
 use Rattle.page_face.specs.FreeList.{PageMap}
 use Rattle.page_store.specs.Superblock.{IsInRange}
 use Rattle.page_store.specs.declared.superblock.Superblock.{Superblock}
-use Rattle.map_nodes.specs.Supply.{view}
+use Rattle.btree_nodes.specs.Supply.{view}
 use Rattle.place_map.specs.Restored.{IsSerialAbove}
 use Rattle.place_map.specs.State as states
-use Rattle.store_rows.specs.declared.stored.Stored.{Stored}
+use Rattle.row_codec.specs.declared.stored.Stored.{Stored}
 use Rattle.store_tables.specs.Entries.{Entries, place_of_key}
 use Rattle.store_tables.specs.Holding.{IsChanged}
 use Rattle.store_meaning.specs.Stands.{PagesStand, TablesStand, place_in, places_in, state_in, tables_in}

@@ -9,7 +9,7 @@ use Rattle.page_store.specs.Contents.{HoldsContents, contents_in, counted_pages,
 use Rattle.page_store.specs.Contents as stores
 use Rattle.page_store.specs.Superblock.{IsInRange, empty_store, fields_of, is_zero, superblock_in}
 use Rattle.page_store.specs.declared.superblock.Superblock.{Superblock}
-use Rattle.map_nodes.specs.Supply.{uncounted}
+use Rattle.btree_nodes.specs.Supply.{uncounted}
 use Rattle.place_map.specs.Restored.{IsSerialAbove}
 use Rattle.place_map.specs.State.{Contents, opening}
 use Rattle.store_tables.specs.Entries.{Entries, no_entries}

@@ -17,18 +17,18 @@ use Rattle.page_face.specs.FreeList.{PageMap}
 use Rattle.spatial_base.specs.Point.{Position, IsOnMap}
 use Rattle.term_impacts.specs.Form.{IsWordText, word_form}
 use Rattle.page_face.specs.Number.{number}
-use Rattle.map_nodes.specs.declared.form.Form.{Form}
-use Rattle.map_nodes.specs.Rows.{IsWithin, Row}
-use Rattle.map_nodes.specs.Nodes.{least_of_root}
-use Rattle.map_nodes.specs.Tree.{IsMap, level_of, map_rows}
-use Rattle.map_nodes.proofs.Trees.{tree-within}
-use Rattle.store_rows.specs.Counted.{IsCounted, counted_value, number_bytes}
-use Rattle.store_rows.specs.Pairs.{pair_bytes}
-use Rattle.store_rows.specs.Stored.{IsValue, place_value, point_bytes}
-use Rattle.store_rows.specs.declared.counted.Counted.{Counted}
-use Rattle.store_rows.specs.declared.stored.Stored.{Stored}
-use Rattle.store_rows.proofs.PairLemmas.{length-pairs}
-use Rattle.store_rows.proofs.ValueLemmas.{places_part, same_place, word_part}
+use Rattle.btree_nodes.specs.declared.form.Form.{Form}
+use Rattle.btree_nodes.specs.Rows.{IsWithin, Row}
+use Rattle.btree_nodes.specs.Nodes.{least_of_root}
+use Rattle.btree_nodes.specs.Tree.{IsMap, level_of, map_rows}
+use Rattle.btree_nodes.proofs.Trees.{tree-within}
+use Rattle.row_codec.specs.Counted.{IsCounted, counted_value, number_bytes}
+use Rattle.row_codec.specs.Pairs.{pair_bytes}
+use Rattle.row_codec.specs.Stored.{IsValue, place_value, point_bytes}
+use Rattle.row_codec.specs.declared.counted.Counted.{Counted}
+use Rattle.row_codec.specs.declared.stored.Stored.{Stored}
+use Rattle.row_codec.proofs.PairLemmas.{length-pairs}
+use Rattle.row_codec.proofs.ValueLemmas.{places_part, same_place, word_part}
 use Rattle.store_tables.specs.Coded.{IsEntryOf, IsPlaceValue, IsU64, row_by, word_code}
 use Rattle.store_tables.specs.Entries.{Entries}
 use Rattle.store_tables.specs.Holding.{Holds, HoldsMap}

@@ -9,8 +9,8 @@ use Rattle.std.specs.List.Sorted.{IsStrictlySortedBy}
 use Rattle.std.specs.Map.{keys_of}
 use Rattle.std.specs.Ordering.{nat_cmp}
 use Rattle.std.specs.declared.cmp.Ordering.TheVariants.{Less, Equal}
-use Rattle.store_rows.specs.declared.counted.Counted.{Counted}
-use Rattle.store_rows.specs.Pairs.{Pair}
+use Rattle.row_codec.specs.declared.counted.Counted.{Counted}
+use Rattle.row_codec.specs.Pairs.{Pair}
 use Rattle.store_tables.specs.Entries.{Entries, word_cmp, number_of_word, word_of_number}
 use Rattle.store_tables.specs.Words.{WordTablesAgree, CanHold, IsHoldable, claimed_more, next_after, number_for, places_of_number, texts_after, with_hold}
 use Rattle.store_tables.proofs.MapLemmas.{lookup-insert, numbers_are_ordered, same_from_test, test_of_same, words_are_ordered}

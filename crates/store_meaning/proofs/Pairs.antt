@@ -11,9 +11,9 @@ use Rattle.std.specs.Map.{keys_of, lookup}
 use Rattle.std.specs.Ordering.{is_eq, match_ordering, nat_cmp}
 use Rattle.std.specs.declared.cmp.Ordering.TheVariants.{Less, Equal}
 use Rattle.spatial_base.specs.Point.{Position, IsOnMap}
-use Rattle.store_rows.specs.declared.counted.Counted.{Counted}
-use Rattle.store_rows.specs.Pairs.{Pair, HasImpact, IsPair, IsSpare}
-use Rattle.store_rows.specs.Stored.{IsStored, IsValue, held_pairs}
+use Rattle.row_codec.specs.declared.counted.Counted.{Counted}
+use Rattle.row_codec.specs.Pairs.{Pair, HasImpact, IsPair, IsSpare}
+use Rattle.row_codec.specs.Stored.{IsStored, IsValue, held_pairs}
 use Rattle.store_tables.specs.Coded.{IsEntryOf}
 use Rattle.store_tables.specs.Entries.{word_cmp, number_of_word, word_of_number}
 use Rattle.store_tables.specs.Words.{WordTablesAgree, with_word, words_of_pairs}

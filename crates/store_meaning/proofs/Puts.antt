@@ -11,9 +11,9 @@ use Rattle.spatial_base.specs.Point.{Position, IsOnMap}
 use Rattle.place_map.specs.declared.place.Place.{Place}
 use Rattle.place_map.specs.Restored.{IsSerialAbove}
 use Rattle.place_map.specs.State as states
-use Rattle.store_rows.specs.declared.stored.Stored.{Stored}
-use Rattle.store_rows.specs.Pairs.{Pair}
-use Rattle.store_rows.specs.Stored.{IsStored, IsValue, held_pairs}
+use Rattle.row_codec.specs.declared.stored.Stored.{Stored}
+use Rattle.row_codec.specs.Pairs.{Pair}
+use Rattle.row_codec.specs.Stored.{IsStored, IsValue, held_pairs}
 use Rattle.store_tables.specs.Coded.{IsEntryOf, IsPlaceEntry}
 use Rattle.store_tables.specs.Entries.{Entries, place_of_key, with_place, without_place}
 use Rattle.store_tables.specs.Words.{WordTablesAgree, WordsAgree, has_number, holders, words_of_pairs}

@@ -7,7 +7,7 @@ use Rattle.std.specs.Map.{keys_of}
 use Rattle.spatial_base.specs.Key.{Name, key_cmp}
 use Rattle.place_map.specs.Restored.{IsSerialAbove}
 use Rattle.place_map.specs.State as states
-use Rattle.store_rows.specs.declared.stored.Stored.{Stored}
+use Rattle.row_codec.specs.declared.stored.Stored.{Stored}
 use Rattle.store_tables.specs.Coded.{IsPlaceEntry}
 use Rattle.store_tables.specs.Entries.{Entries, place_of_key, without_place}
 use Rattle.store_tables.specs.Words.{WordTablesAgree, WordsAgree, holders}

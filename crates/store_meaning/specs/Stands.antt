@@ -6,13 +6,13 @@ use Rattle.page_face.specs.declared.head.Head.{Head}
 use Rattle.page_store.specs.declared.superblock.Superblock.{Superblock}
 use Rattle.page_store.specs.Superblock.{IsInRange}
 use Rattle.page_store.specs.Contents as stores
-use Rattle.map_nodes.specs.Supply.{view, spare}
+use Rattle.btree_nodes.specs.Supply.{view, spare}
 use Rattle.spatial_base.specs.Key.{Name}
 use Rattle.place_map.specs.declared.place.Place.{Place}
 use Rattle.place_map.specs.Restored.{IsSerialAbove}
 use Rattle.place_map.specs.State.{Contents, Places}
-use Rattle.store_rows.specs.declared.counted.Counted.{Counted}
-use Rattle.store_rows.specs.declared.stored.Stored.{Stored}
+use Rattle.row_codec.specs.declared.counted.Counted.{Counted}
+use Rattle.row_codec.specs.declared.stored.Stored.{Stored}
 use Rattle.store_tables.specs.declared.tables.Tables.{Tables}
 use Rattle.store_tables.specs.Entries.{Entries}
 use Rattle.store_tables.specs.Holding.{Holds, IsApart, table_uses}

@@ -5,9 +5,9 @@ use Rattle.std.specs.List.{list_any}
 use Rattle.std.specs.Ordering.{nat_cmp}
 use Rattle.spatial_base.specs.Key.{Name}
 use Rattle.spatial_base.specs.Point.{Position}
-use Rattle.store_rows.specs.declared.stored.Stored.{Stored}
-use Rattle.store_rows.specs.Pairs.{Pair}
-use Rattle.store_rows.specs.Stored.{held_pairs}
+use Rattle.row_codec.specs.declared.stored.Stored.{Stored}
+use Rattle.row_codec.specs.Pairs.{Pair}
+use Rattle.row_codec.specs.Stored.{held_pairs}
 use Rattle.store_tables.specs.Entries.{Entries, place_of_key, with_place, without_place, number_of_word}
 use Rattle.store_tables.specs.Words.{CanHold, CanRelease, number_for, next_after, with_hold, without_hold}
 

@@ -4,17 +4,17 @@ use Rattle.std.specs.BTreeMap.{insert_entry, is_at}
 use Rattle.std.specs.Map.{lookup, remove_entry}
 use Rattle.std.specs.declared.cmp.Ordering.{Ordering}
 use Rattle.page_face.specs.FreeList.{PageMap}
-use Rattle.map_nodes.specs.declared.form.Form.{Form}
-use Rattle.map_nodes.specs.Rows.{Row, put, without}
-use Rattle.map_nodes.specs.Rows as Rows
-use Rattle.map_nodes.specs.Supply.{View}
-use Rattle.map_nodes.specs.Tree.{map_rows}
+use Rattle.btree_nodes.specs.declared.form.Form.{Form}
+use Rattle.btree_nodes.specs.Rows.{Row, put, without}
+use Rattle.btree_nodes.specs.Rows as Rows
+use Rattle.btree_nodes.specs.Supply.{View}
+use Rattle.btree_nodes.specs.Tree.{map_rows}
 use Rattle.spatial_base.specs.Key.{Name, IsName}
 use Rattle.term_impacts.specs.Form.{IsWordText}
-use Rattle.store_rows.specs.declared.counted.Counted.{Counted}
-use Rattle.store_rows.specs.declared.stored.Stored.{Stored}
-use Rattle.store_rows.specs.Counted.{IsCounted, counted_value, number_bytes}
-use Rattle.store_rows.specs.Stored.{place_value}
+use Rattle.row_codec.specs.declared.counted.Counted.{Counted}
+use Rattle.row_codec.specs.declared.stored.Stored.{Stored}
+use Rattle.row_codec.specs.Counted.{IsCounted, counted_value, number_bytes}
+use Rattle.row_codec.specs.Stored.{place_value}
 use Rattle.store_tables.specs.declared.tables.Tables.{Tables}
 use Rattle.paged_map.specs.Maps.{HasBecome}
 use Rattle.store_tables.specs.Coded.{IsEntryOf, IsPlaceValue, IsU64, key_code, word_code}

@@ -13,8 +13,8 @@ use Rattle.spatial_base.proofs.KeyOrder.{form_cmp}
 use Rattle.term_impacts.specs.Form.{IsWordText, word_form}
 use Rattle.term_impacts.proofs.FormLemmas.{slice_cmp-word_form}
 use Rattle.page_face.specs.Number.{number}
-use Rattle.page_cells.proofs.Numbers.{AreBytes, compare_numbers}
-use Rattle.store_rows.specs.Counted.{number_bytes}
+use Rattle.btree_nodes.proofs.Numbers.{AreBytes, compare_numbers}
+use Rattle.row_codec.specs.Counted.{number_bytes}
 use Rattle.store_tables.specs.Entries.{word_cmp}
 use Rattle.store_tables.specs.Coded.{key_code, word_code}
 

@@ -8,9 +8,9 @@ use Rattle.std.specs.Map.{lookup, remove_entry}
 use Rattle.std.specs.Ordering.{nat_cmp, is_eq, is_lt, match_ordering}
 use Rattle.std.specs.declared.cmp.Ordering.{Ordering}
 use Rattle.std.specs.declared.cmp.Ordering.TheVariants.{Less, Equal, Greater}
-use Rattle.map_nodes.specs.Rows.{Row, put, without}
-use Rattle.map_nodes.specs.Rows as Rows
-use Rattle.map_nodes.proofs.Puts.{put-before, put-here, put-behind}
+use Rattle.btree_nodes.specs.Rows.{Row, put, without}
+use Rattle.btree_nodes.specs.Rows as Rows
+use Rattle.btree_nodes.proofs.Puts.{put-before, put-here, put-behind}
 use Rattle.store_tables.specs.Coded.{row_by, IsEntryOf}
 
 -- a numbering of keys that has their order

@@ -1,16 +1,16 @@
 -- Maps that stand by while another changes.
 use Rattle.std.proofs.Common.{◌≡◌, ℕ, zero, suc, ◌+◌, ◌<◌, ◌≤◌, ◌^◌, List, refl, sym, ap, subst, ◌∙◌, arith}
 use Rattle.page_face.specs.FreeList.{PageMap}
-use Rattle.map_nodes.specs.declared.form.Form.{Form}
-use Rattle.map_nodes.specs.Nodes.{least_of_root}
-use Rattle.map_nodes.specs.Rows.{Row}
-use Rattle.map_nodes.specs.Supply.{Moves, View, spare_in, view}
-use Rattle.map_nodes.specs.Tree.{IsMap, IsTree, level_of, map_uses, rows_at, uses}
-use Rattle.map_nodes.proofs.Frames.{tree-frame}
-use Rattle.map_nodes.proofs.Supplies.{moves-as, moves-beside, moves-further, one_at-same}
+use Rattle.btree_nodes.specs.declared.form.Form.{Form}
+use Rattle.btree_nodes.specs.Nodes.{least_of_root}
+use Rattle.btree_nodes.specs.Rows.{Row}
+use Rattle.btree_nodes.specs.Supply.{Moves, View, spare_in, view}
+use Rattle.btree_nodes.specs.Tree.{IsMap, IsTree, level_of, map_uses, rows_at, uses}
+use Rattle.btree_nodes.proofs.Frames.{tree-frame}
+use Rattle.btree_nodes.proofs.Supplies.{moves-as, moves-beside, moves-further, one_at-same}
 use Rattle.spatial_base.specs.Key.{Name}
-use Rattle.store_rows.specs.declared.counted.Counted.{Counted}
-use Rattle.store_rows.specs.declared.stored.Stored.{Stored}
+use Rattle.row_codec.specs.declared.counted.Counted.{Counted}
+use Rattle.row_codec.specs.declared.stored.Stored.{Stored}
 use Rattle.store_tables.specs.declared.tables.Tables.{Tables}
 use Rattle.paged_map.specs.Maps.{HasBecome, IsKept}
 use Rattle.store_tables.specs.Entries.{Entries}

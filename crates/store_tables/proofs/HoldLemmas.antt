@@ -3,8 +3,8 @@ use Rattle.std.proofs.Common.{◌≡◌, ℕ, ◌+◌, List, Option, Some, None,
 use Rattle.std.specs.BTreeMap.{insert_entry}
 use Rattle.std.specs.Ordering.{nat_cmp}
 use Rattle.page_face.specs.FreeList.{PageMap}
-use Rattle.map_nodes.specs.Supply.{View}
-use Rattle.store_rows.specs.declared.counted.Counted.{Counted}
+use Rattle.btree_nodes.specs.Supply.{View}
+use Rattle.row_codec.specs.declared.counted.Counted.{Counted}
 use Rattle.store_tables.specs.declared.tables.Tables.{Tables}
 use Rattle.store_tables.specs.Entries.{Entries, number_of_word, word_cmp, word_of_number}
 use Rattle.store_tables.specs.Holding.{IsChanged}

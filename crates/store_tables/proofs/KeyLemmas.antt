@@ -7,7 +7,7 @@ use Rattle.std.specs.Ordering.{nat_cmp}
 use Rattle.std.specs.declared.cmp.Ordering.TheVariants.{Equal}
 use Rattle.spatial_base.specs.Key.{Name, Text, Auto, IsName, key_cmp_same, form_of, padded}
 use Rattle.page_face.specs.Number.{number}
-use Rattle.page_cells.proofs.Numbers.{AreBytes, compare_numbers}
+use Rattle.btree_nodes.proofs.Numbers.{AreBytes, compare_numbers}
 use Rattle.store_tables.specs.Coded.{key_code}
 use Rattle.store_tables.proofs.CodeLemmas.{form-bytes, key-order, length-form_of}
 

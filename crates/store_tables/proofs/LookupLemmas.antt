@@ -8,10 +8,10 @@ use Rattle.std.specs.declared.cmp.Ordering.{Ordering}
 use Rattle.page_face.specs.FreeList.{PageMap}
 use Rattle.page_face.specs.declared.fault.Damage.{Damage}
 use Rattle.page_face.specs.Number.{number}
-use Rattle.map_nodes.specs.declared.form.Form.{Form}
-use Rattle.map_nodes.specs.Rows.{Row}
-use Rattle.map_nodes.specs.Rows as Rows
-use Rattle.map_nodes.specs.Tree.{map_rows, map_uses}
+use Rattle.btree_nodes.specs.declared.form.Form.{Form}
+use Rattle.btree_nodes.specs.Rows.{Row}
+use Rattle.btree_nodes.specs.Rows as Rows
+use Rattle.btree_nodes.specs.Tree.{map_rows, map_uses}
 use Rattle.page_face.specs.declared.fault.PageFault.{PageFault}
 use Rattle.page_face.specs.declared.fault.PageFault.TheVariants.{Damaged}
 use Rattle.page_face.specs.declared.fault.Rule.TheVariants.{Value}
@@ -22,10 +22,10 @@ use Rattle.store_tables.specs.Broken.{IsBrokenNumber, IsBrokenPlace}
 use Rattle.store_tables.specs.Entries.{number_of_word, place_after, place_of_key, word_cmp, word_of_number}
 use Rattle.store_tables.specs.Coded.{IsEntryOf, IsPlaceEntry, IsPlaceValue, IsU64, key_code, next_code, number_code, place_row, row_by, word_code}
 use Rattle.store_tables.specs.Holding.{HoldsNumbers, HoldsPlaces, HoldsTexts, numbers_form, places_form, texts_form}
-use Rattle.store_rows.specs.declared.stored.Stored.{Stored}
-use Rattle.store_rows.specs.declared.counted.Counted.{Counted}
-use Rattle.store_rows.specs.Counted.{IsCounted, counted_value, number_bytes}
-use Rattle.store_rows.specs.Stored.{place_value}
+use Rattle.row_codec.specs.declared.stored.Stored.{Stored}
+use Rattle.row_codec.specs.declared.counted.Counted.{Counted}
+use Rattle.row_codec.specs.Counted.{IsCounted, counted_value, number_bytes}
+use Rattle.row_codec.specs.Stored.{place_value}
 use Rattle.store_tables.proofs.CodeLemmas.{key-order, number-number_bytes, word-order}
 use Rattle.store_tables.proofs.EntryLemmas.{IsCoding, first-each, first-row, first-rows, found-each, lookup-rows}
 

@@ -5,14 +5,14 @@ use Rattle.page_face.specs.FreeList.{PageMap, IsFreeList, next_free}
 use Rattle.page_face.specs.declared.fault.Damage.{Damage}
 use Rattle.page_face.specs.declared.fault.Rule.{Rule}
 use Rattle.page_face.specs.declared.fault.Rule.TheVariants.{Link, Value}
-use Rattle.map_nodes.specs.declared.form.Form.{Form}
-use Rattle.map_nodes.specs.Damages.{AreTold, AsksOnly, Breaks, IsDamaged, SomeChild}
-use Rattle.map_nodes.specs.Nodes.{Entry, entries_in, half_of, least_of_root}
-use Rattle.map_nodes.specs.Supply.{View, one_at, spare_in, times, uncounted}
-use Rattle.map_nodes.specs.Tree.{IsFan, IsMap, IsTree, level_of, map_uses, next_key, total, uses, with_low}
-use Rattle.map_nodes.proofs.Frames.{with_low-total}
-use Rattle.map_nodes.proofs.Harms.{asks-further, asks-more}
-use Rattle.map_nodes.proofs.Supplies.{counted-none, free-told, one_at-is, uncounted-past}
+use Rattle.btree_nodes.specs.declared.form.Form.{Form}
+use Rattle.btree_nodes.specs.Damages.{AreTold, AsksOnly, Breaks, IsDamaged, SomeChild}
+use Rattle.btree_nodes.specs.Nodes.{Entry, entries_in, half_of, least_of_root}
+use Rattle.btree_nodes.specs.Supply.{View, one_at, spare_in, times, uncounted}
+use Rattle.btree_nodes.specs.Tree.{IsFan, IsMap, IsTree, level_of, map_uses, next_key, total, uses, with_low}
+use Rattle.btree_nodes.proofs.Frames.{with_low-total}
+use Rattle.btree_nodes.proofs.Harms.{asks-further, asks-more}
+use Rattle.btree_nodes.proofs.Supplies.{counted-none, free-told, one_at-is, uncounted-past}
 use Rattle.paged_map.specs.Maps.{AreCounted, IsMapDamaged}
 use Rattle.store_tables.specs.declared.tables.Tables.{Tables}
 use Rattle.store_tables.specs.Entries.{Entries}

@@ -8,9 +8,9 @@ use Rattle.std.specs.List.Sorted.{IsStrictlySortedBy}
 use Rattle.std.specs.Map.{keys_of, remove_entry}
 use Rattle.std.specs.Ordering.{nat_cmp}
 use Rattle.spatial_base.specs.Key.{Name, key_cmp, key_cmp_total}
-use Rattle.store_rows.specs.declared.counted.Counted.{Counted}
-use Rattle.store_rows.specs.declared.stored.Stored.{Stored}
-use Rattle.store_rows.specs.Pairs.{Pair}
+use Rattle.row_codec.specs.declared.counted.Counted.{Counted}
+use Rattle.row_codec.specs.declared.stored.Stored.{Stored}
+use Rattle.row_codec.specs.Pairs.{Pair}
 use Rattle.store_tables.specs.Entries.{Entries, word_cmp, number_of_word, word_of_number, place_of_key, with_place, without_place}
 use Rattle.store_tables.specs.Words.{WordTablesAgree, CanHold, CanRelease, IsHoldable, claimed_less, claimed_more, has_number, holders, next_after, number_for, places_in, places_of_number, released, texts_after, with_hold, with_word, without_hold, word_in, words_of_pairs}
 use Rattle.store_tables.proofs.EntryLemmas.{equal_test}

@@ -3,16 +3,16 @@ use Rattle.std.specs.Prelude.{◌≡◌, ◌≢◌, ◌⊎◌, ℕ, ◌≤◌, L
 use Rattle.page_face.specs.FreeList.{PageMap}
 use Rattle.page_face.specs.declared.fault.Damage.{Damage}
 use Rattle.page_face.specs.declared.fault.Rule.TheVariants.{Value, Words}
-use Rattle.map_nodes.specs.declared.form.Form.{Form}
-use Rattle.map_nodes.specs.Damages.{AskedSince}
-use Rattle.map_nodes.specs.Rows.{Row, first_from, lookup}
-use Rattle.map_nodes.specs.Tree.{IsMap, map_rows, map_uses}
+use Rattle.btree_nodes.specs.declared.form.Form.{Form}
+use Rattle.btree_nodes.specs.Damages.{AskedSince}
+use Rattle.btree_nodes.specs.Rows.{Row, first_from, lookup}
+use Rattle.btree_nodes.specs.Tree.{IsMap, map_rows, map_uses}
 use Rattle.paged_map.specs.Answers.{HoldsRow}
 use Rattle.paged_map.specs.Maps.{IsMapDamaged}
 use Rattle.spatial_base.specs.Key.{Name, IsName}
-use Rattle.store_rows.specs.declared.counted.Counted.{Counted}
-use Rattle.store_rows.specs.Counted.{IsCounted, counted_value, number_bytes}
-use Rattle.store_rows.specs.Stored.{place_value}
+use Rattle.row_codec.specs.declared.counted.Counted.{Counted}
+use Rattle.row_codec.specs.Counted.{IsCounted, counted_value, number_bytes}
+use Rattle.row_codec.specs.Stored.{place_value}
 use Rattle.store_tables.specs.Coded.{IsEntryOf, IsPlaceValue, IsU64, key_code, number_code, row_by, word_code}
 use Rattle.store_tables.specs.Holding.{numbers_form, places_form, texts_form}
 use Rattle.store_tables.specs.Words.{IsHoldableRow}

@@ -1,11 +1,11 @@
 -- Entries as rows: keys as numbers, and values as bytes.
 use Rattle.std.specs.Prelude.{ℕ, ◌+◌, ◌<◌, ◌^◌, List, Option, Some, None}
 use Rattle.page_face.specs.Number.{number}
-use Rattle.map_nodes.specs.Rows.{Row}
+use Rattle.btree_nodes.specs.Rows.{Row}
 use Rattle.spatial_base.specs.Key.{Name, IsName, form_of}
 use Rattle.term_impacts.specs.Form.{word_form}
-use Rattle.store_rows.specs.declared.stored.Stored.{Stored}
-use Rattle.store_rows.specs.Stored.{IsStored, IsValue, place_value}
+use Rattle.row_codec.specs.declared.stored.Stored.{Stored}
+use Rattle.row_codec.specs.Stored.{IsStored, IsValue, place_value}
 
 -- a key's form as a number
 unfoldable pub key_code : Name → ℕ

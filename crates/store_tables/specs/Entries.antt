@@ -6,8 +6,8 @@ use Rattle.std.specs.Map.{lookup, remove_entry}
 use Rattle.std.specs.Ordering.{nat_cmp, is_lt}
 use Rattle.std.specs.declared.cmp.Ordering.{Ordering}
 use Rattle.spatial_base.specs.Key.{Name, key_cmp}
-use Rattle.store_rows.specs.declared.counted.Counted.{Counted}
-use Rattle.store_rows.specs.declared.stored.Stored.{Stored}
+use Rattle.row_codec.specs.declared.counted.Counted.{Counted}
+use Rattle.row_codec.specs.declared.stored.Stored.{Stored}
 
 -- places by key, numbers of words by text, and words by number with how many places hold them; each in the order of its keys
 pub record Entries : Type 0 where

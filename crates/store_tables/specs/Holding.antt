@@ -2,15 +2,15 @@
 use Rattle.std.specs.Prelude.{◌≡◌, ◌<◌, ℕ, ◌+◌, ◌≤◌, List, map, All}
 use Rattle.std.proofs.Common.{lit≤}
 use Rattle.page_face.specs.FreeList.{PageMap}
-use Rattle.map_nodes.specs.declared.form.Form.{Form}
-use Rattle.map_nodes.specs.Supply.{View, view, Moves, IsSupplied, spare_in}
-use Rattle.map_nodes.specs.Tree.{IsMap, map_rows, map_uses}
+use Rattle.btree_nodes.specs.declared.form.Form.{Form}
+use Rattle.btree_nodes.specs.Supply.{View, view, Moves, IsSupplied, spare_in}
+use Rattle.btree_nodes.specs.Tree.{IsMap, map_rows, map_uses}
 use Rattle.spatial_base.specs.Key.{Name, IsName}
 use Rattle.term_impacts.specs.Form.{IsWordText}
-use Rattle.store_rows.specs.declared.counted.Counted.{Counted}
-use Rattle.store_rows.specs.declared.stored.Stored.{Stored}
-use Rattle.store_rows.specs.Counted.{IsCounted, counted_value, number_bytes}
-use Rattle.store_rows.specs.Stored.{place_value}
+use Rattle.row_codec.specs.declared.counted.Counted.{Counted}
+use Rattle.row_codec.specs.declared.stored.Stored.{Stored}
+use Rattle.row_codec.specs.Counted.{IsCounted, counted_value, number_bytes}
+use Rattle.row_codec.specs.Stored.{place_value}
 use Rattle.store_tables.specs.declared.tables.Tables.{Tables}
 use Rattle.store_tables.specs.Coded.{IsEntryOf, IsPlaceValue, IsU64, key_code, number_code, row_by, word_code}
 use Rattle.store_tables.specs.Entries.{Entries}

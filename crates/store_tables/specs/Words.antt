@@ -5,10 +5,10 @@ use Rattle.std.specs.List.{list_any, count_by}
 use Rattle.std.specs.Map.{remove_entry, values_of}
 use Rattle.std.specs.Ordering.{nat_cmp}
 use Rattle.spatial_base.specs.Key.{Name}
-use Rattle.store_rows.specs.declared.counted.Counted.{Counted}
-use Rattle.store_rows.specs.declared.stored.Stored.{Stored}
-use Rattle.store_rows.specs.Pairs.{Pair}
-use Rattle.store_rows.specs.Stored.{held_pairs}
+use Rattle.row_codec.specs.declared.counted.Counted.{Counted}
+use Rattle.row_codec.specs.declared.stored.Stored.{Stored}
+use Rattle.row_codec.specs.Pairs.{Pair}
+use Rattle.row_codec.specs.Stored.{held_pairs}
 use Rattle.store_tables.specs.Entries.{Entries, word_cmp, number_of_word, word_of_number}
 
 -- the word of a number's row, if there is one

@@ -3,12 +3,12 @@ ghost use Rattle.std.specs.Prelude.{◌≡◌, ◌≢◌, ℕ, ◌+◌, List, If
 ghost use Rattle.std.specs.Option.{option_copied};
 ghost use Rattle.page_face.specs.Number.{number};
 ghost use Rattle.spatial_base.specs.Key.{Name, IsName};
-ghost use Rattle.store_rows.specs.Stored.{place_value};
+ghost use Rattle.row_codec.specs.Stored.{place_value};
 ghost use Rattle.store_tables.specs.Coded.{IsPlaceEntry, key_code, next_code};
-ghost use Rattle.store_rows.specs.declared.stored.Stored.{Stored};
+ghost use Rattle.row_codec.specs.declared.stored.Stored.{Stored};
 
+use row_codec::Stored;
 use spatial_base::Key;
-use store_rows::Stored;
 
 // The bytes that follow those of a key: the number of a key's form plus 1, which no form's last byte, a length, lets overflow.
 fn behind(key: &Key) -> [u8; 66]

@@ -1,6 +1,6 @@
 //! The tables of a store over [`Pages`](page_face::Pages): the places by key, and the words by text and by number.
 //!
-//! Each is a paged B+-tree map of rows of one length, as `store_rows` writes them. [`Tables`] holds their roots. On pages that
+//! Each is a paged B+-tree map of rows of one length, as `row_codec` writes them. [`Tables`] holds their roots. On pages that
 //! hold entries (`specs/Holding.antt`) each read is a look-up in those entries, asks only for pages of its own map and
 //! answers no damage. On any other pages it is safe, ends, and names a rule that a page breaks in its place, or the leaf whose
 //! row isn't of its form. [`Tables::put_place`] puts an entry into the place table, [`Tables::remove_place`] takes one out, and
@@ -22,5 +22,5 @@ mod tests;
 mod words;
 mod writing;
 
-pub use store_rows::Stored;
+pub use row_codec::Stored;
 pub use tables::Tables;

@@ -2,10 +2,10 @@
 ghost use Rattle.std.specs.Prelude.{◌≡◌, ◌≢◌, ◌⊎◌, ℕ, ◌≤◌, ◌+◌, List, length, IfOk, IsTrue, IsErrOf, is_some};
 ghost use Rattle.page_face.specs.Causes.{Rose};
 ghost use Rattle.page_face.specs.Number.{number};
-ghost use Rattle.map_nodes.specs.Rows.{lookup, first_from, put, without};
-ghost use Rattle.map_nodes.specs.Supply.{view};
-ghost use Rattle.map_nodes.specs.Tree.{IsMap, map_rows, map_uses};
-ghost use Rattle.map_nodes.specs.Damages.{AreTold, AskedSince, AsksOnly, IsRefusedTake};
+ghost use Rattle.btree_nodes.specs.Rows.{lookup, first_from, put, without};
+ghost use Rattle.btree_nodes.specs.Supply.{view};
+ghost use Rattle.btree_nodes.specs.Tree.{IsMap, map_rows, map_uses};
+ghost use Rattle.btree_nodes.specs.Damages.{AreTold, AskedSince, AsksOnly, IsRefusedTake};
 ghost use Rattle.paged_map.specs.Answers.{HoldsRow, Locates};
 ghost use Rattle.paged_map.specs.Maps.{AreCounted, HasBecome, IsKept, IsMapDamaged};
 

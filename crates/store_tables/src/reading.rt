@@ -3,12 +3,12 @@ ghost use Rattle.std.specs.Prelude.{◌≡◌, ◌≢◌, ℕ, ◌≤◌, ◌<�
 ghost use Rattle.std.specs.Option.{option_copied};
 ghost use Rattle.page_face.specs.Causes.{Rose};
 ghost use Rattle.page_face.specs.Number.{number as number_of_bytes};
-ghost use Rattle.map_nodes.specs.Rows.{lookup, first_from};
-ghost use Rattle.map_nodes.specs.Tree.{IsMap, map_rows, map_uses};
-ghost use Rattle.map_nodes.specs.Damages.{AreTold, AskedSince, AsksOnly};
+ghost use Rattle.btree_nodes.specs.Rows.{lookup, first_from};
+ghost use Rattle.btree_nodes.specs.Tree.{IsMap, map_rows, map_uses};
+ghost use Rattle.btree_nodes.specs.Damages.{AreTold, AskedSince, AsksOnly};
 ghost use Rattle.paged_map.specs.Maps.{AreCounted, IsMapDamaged};
-ghost use Rattle.store_rows.specs.Counted.{IsCounted, counted_value, number_bytes as bytes_of_number};
-ghost use Rattle.store_rows.specs.Stored.{place_value};
+ghost use Rattle.row_codec.specs.Counted.{IsCounted, counted_value, number_bytes as bytes_of_number};
+ghost use Rattle.row_codec.specs.Stored.{place_value};
 ghost use Rattle.store_tables.specs.Entries.{Entries, place_of_key, place_after, number_of_word, word_of_number};
 
 use crate::Tables;
@@ -16,8 +16,8 @@ use crate::entry::{entry_of_bytes, first_behind};
 use crate::layouts::{Numbers, Places, Texts};
 use crate::maps::{first_row, get_row};
 use page_face::{Damage, PageFault, Pages, Rule};
+use row_codec::{Counted, Stored, number_bytes, number_of_bytes};
 use spatial_base::Key;
-use store_rows::{Counted, Stored, number_bytes, number_of_bytes};
 use term_impacts::Word;
 
 /// The fault of a row that isn't of its form, at its leaf.

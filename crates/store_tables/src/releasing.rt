@@ -4,8 +4,8 @@ ghost use Rattle.std.specs.BTreeMap.{is_at};
 ghost use Rattle.std.specs.Map.{remove_entry};
 ghost use Rattle.std.specs.Ordering.{nat_cmp};
 ghost use Rattle.page_face.specs.Causes.{Rose};
-ghost use Rattle.map_nodes.specs.Supply.{view};
-ghost use Rattle.map_nodes.specs.Damages.{AreTold, AskedSince, AsksOnly, IsRefusedTake};
+ghost use Rattle.btree_nodes.specs.Supply.{view};
+ghost use Rattle.btree_nodes.specs.Damages.{AreTold, AskedSince, AsksOnly, IsRefusedTake};
 ghost use Rattle.paged_map.specs.Maps.{AreCounted, IsMapDamaged};
 ghost use Rattle.store_tables.specs.Entries.{Entries, word_cmp, word_of_number};
 ghost use Rattle.store_tables.specs.Broken.{words_disagree};
@@ -13,7 +13,7 @@ ghost use Rattle.store_tables.specs.Broken.{words_disagree};
 use crate::Tables;
 use crate::words::disagreement;
 use page_face::{Damage, PageFault, Pages};
-use store_rows::Counted;
+use row_codec::Counted;
 use term_impacts::Word;
 
 impl Tables {

@@ -4,9 +4,9 @@ ghost use Rattle.std.specs.BTreeMap.{is_at};
 ghost use Rattle.std.specs.Map.{remove_entry};
 ghost use Rattle.std.specs.Ordering.{nat_cmp};
 ghost use Rattle.page_face.specs.Causes.{Rose};
-ghost use Rattle.map_nodes.specs.Supply.{view};
-ghost use Rattle.map_nodes.specs.Tree.{map_uses};
-ghost use Rattle.map_nodes.specs.Damages.{AreTold, AskedSince, AsksOnly};
+ghost use Rattle.btree_nodes.specs.Supply.{view};
+ghost use Rattle.btree_nodes.specs.Tree.{map_uses};
+ghost use Rattle.btree_nodes.specs.Damages.{AreTold, AskedSince, AsksOnly};
 ghost use Rattle.paged_map.specs.Maps.{IsMapDamaged};
 ghost use Rattle.store_tables.specs.Entries.{Entries, number_of_word, place_of_key, without_place, word_cmp, word_of_number};
 
@@ -14,8 +14,8 @@ use crate::Tables;
 use crate::layouts::{Numbers, Places, Texts};
 use crate::maps::remove_row;
 use page_face::{Damage, PageFault, Pages};
+use row_codec::number_bytes;
 use spatial_base::Key;
-use store_rows::number_bytes;
 use term_impacts::Word;
 
 impl Tables {

@@ -3,12 +3,12 @@ ghost use Rattle.std.specs.Prelude.{◌≡◌, ◌≢◌, ◌⊎◌, ℕ, ◌≤
 ghost use Rattle.std.specs.BTreeMap.{insert_entry};
 ghost use Rattle.std.specs.Ordering.{nat_cmp};
 ghost use Rattle.page_face.specs.Causes.{Rose};
-ghost use Rattle.map_nodes.specs.Rows.{lookup};
-ghost use Rattle.map_nodes.specs.Supply.{view};
-ghost use Rattle.map_nodes.specs.Tree.{IsMap, map_rows};
-ghost use Rattle.map_nodes.specs.Damages.{AreTold, AskedSince, AsksOnly, IsRefusedTake};
+ghost use Rattle.btree_nodes.specs.Rows.{lookup};
+ghost use Rattle.btree_nodes.specs.Supply.{view};
+ghost use Rattle.btree_nodes.specs.Tree.{IsMap, map_rows};
+ghost use Rattle.btree_nodes.specs.Damages.{AreTold, AskedSince, AsksOnly, IsRefusedTake};
 ghost use Rattle.paged_map.specs.Maps.{AreCounted, IsMapDamaged};
-ghost use Rattle.store_rows.specs.Counted.{IsCounted, number_bytes};
+ghost use Rattle.row_codec.specs.Counted.{IsCounted, number_bytes};
 ghost use Rattle.store_tables.specs.Coded.{word_code};
 ghost use Rattle.store_tables.specs.Entries.{Entries, number_of_word, word_cmp};
 ghost use Rattle.store_tables.specs.Broken.{words_disagree};
@@ -16,7 +16,7 @@ ghost use Rattle.store_tables.specs.Words.{IsHoldableRow, places_in};
 
 use crate::Tables;
 use page_face::{Damage, PageFault, Pages, Rule};
-use store_rows::Counted;
+use row_codec::Counted;
 use term_impacts::Word;
 
 /// The tables of words disagree.

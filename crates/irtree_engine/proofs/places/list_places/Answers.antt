@@ -2,7 +2,7 @@ use Rattle.std.proofs.Common.{◌≡◌, ◌+◌, ◌<◌, ◌≤◌, inl, inr, 
 use Rattle.std.proofs.lemmas.Result.{err_from_is_err_and}
 use Rattle.page_face.specs.FreeList.{PageMap}
 use Rattle.page_face.specs.declared.fault.PageFault.TheVariants.{Damaged}
-use Rattle.map_nodes.specs.Damages.{AreTold}
+use Rattle.btree_nodes.specs.Damages.{AreTold}
 use Rattle.paged_map.specs.Maps.{AreCounted}
 use Rattle.place_map.specs.Restored.{Rows}
 use Rattle.spatial_base.specs.Key.{Name}

@@ -3,15 +3,15 @@ use Rattle.std.specs.Result.{IfOk}
 use Rattle.page_face.specs.FreeList.{PageMap}
 use Rattle.page_face.specs.declared.fault.Damage.{Damage}
 use Rattle.page_face.specs.Number.{number}
-use Rattle.map_nodes.specs.Rows.{lookup}
+use Rattle.btree_nodes.specs.Rows.{lookup}
 use Rattle.page_face.specs.Nodes.{count_of}
-use Rattle.map_nodes.specs.Tree.{IsTree, rows_at, uses}
-use Rattle.map_nodes.specs.Bounds.{upper_of}
-use Rattle.map_nodes.specs.Damages.{IsDamaged, AreTold, AskedSince, AsksOnly}
-use Rattle.map_nodes.proofs.Trees.{tree-size}
-use Rattle.map_nodes.proofs.Harms.{asked-here, asked-sooner, asks-here, asks-further, asks-more}
+use Rattle.btree_nodes.specs.Tree.{IsTree, rows_at, uses}
+use Rattle.btree_nodes.specs.Bounds.{upper_of}
+use Rattle.btree_nodes.specs.Damages.{IsDamaged, AreTold, AskedSince, AsksOnly}
+use Rattle.btree_nodes.proofs.Trees.{tree-size}
+use Rattle.btree_nodes.proofs.Harms.{asked-here, asked-sooner, asks-here, asks-further, asks-more}
 use Rattle.paged_map.specs.Answers.{HoldsRow, Locates}
-use Rattle.map_nodes.proofs.Walks.{same-fault, named-read, told-read, uses-self, asks-read, damage-link, uses-below, tree-below, damage-below, lookup-below}
+use Rattle.btree_nodes.proofs.Walks.{same-fault, named-read, told-read, uses-self, asks-read, damage-link, uses-below, tree-below, damage-below, lookup-below}
 use Rattle.paged_map.proofs.Located.{named-page, found-here, found-below}
 use Rattle.paged_map.proofs.find.+find_in.Goals as goal
 

@@ -4,15 +4,15 @@ use Rattle.std.proofs.lemmas.Result.{err_from_is_err_and}
 use Rattle.page_face.specs.FreeList.{PageMap}
 use Rattle.page_face.specs.declared.fault.Damage.{Damage}
 use Rattle.page_face.specs.Number.{number}
-use Rattle.map_nodes.specs.Rows.{Row, first_from}
+use Rattle.btree_nodes.specs.Rows.{Row, first_from}
 use Rattle.page_face.specs.Nodes.{count_of}
-use Rattle.map_nodes.specs.Tree.{IsTree, rows_at, uses}
-use Rattle.map_nodes.specs.Bounds.{upper_of, child_of}
-use Rattle.map_nodes.specs.Damages.{IsDamaged, AreTold, AskedSince, AsksOnly}
-use Rattle.map_nodes.proofs.Trees.{tree-size}
-use Rattle.map_nodes.proofs.Harms.{asked-here, asked-sooner, asked-before, asks-here, asks-further, asks-more, asks-nothing}
+use Rattle.btree_nodes.specs.Tree.{IsTree, rows_at, uses}
+use Rattle.btree_nodes.specs.Bounds.{upper_of, child_of}
+use Rattle.btree_nodes.specs.Damages.{IsDamaged, AreTold, AskedSince, AsksOnly}
+use Rattle.btree_nodes.proofs.Trees.{tree-size}
+use Rattle.btree_nodes.proofs.Harms.{asked-here, asked-sooner, asked-before, asks-here, asks-further, asks-more, asks-nothing}
 use Rattle.paged_map.specs.Answers.{HoldsRow, Locates}
-use Rattle.map_nodes.proofs.Walks.{same-fault, told-read, uses-self, asks-read, damage-link, uses-below, tree-below, damage-below}
+use Rattle.btree_nodes.proofs.Walks.{same-fault, told-read, uses-self, asks-read, damage-link, uses-below, tree-below, damage-below}
 use Rattle.paged_map.proofs.Located.{named-page}
 use Rattle.paged_map.proofs.Rows.{first-here, located-as, named-first, below-child, below-last, below-next}
 use Rattle.paged_map.proofs.first.+first.Goals as goal

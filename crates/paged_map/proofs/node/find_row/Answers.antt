@@ -4,9 +4,9 @@ use Rattle.std.specs.declared.cmp.Ordering.TheVariants.{Equal}
 use Rattle.std.specs.Cmp.{nat_cmp_is}
 use Rattle.page_face.specs.Number.{number}
 use Rattle.page_face.specs.Nodes.{count_of}
-use Rattle.map_nodes.specs.Bounds.{upper_of}
-use Rattle.map_nodes.proofs.Finds.{found, missed, place_as}
-use Rattle.map_nodes.proofs.Spots.{fits_at}
+use Rattle.btree_nodes.specs.Bounds.{upper_of}
+use Rattle.btree_nodes.proofs.Finds.{found, missed, place_as}
+use Rattle.btree_nodes.proofs.Spots.{fits_at}
 use Rattle.paged_map.proofs.node.find_row.Goals as goal
 
 pub returns-then-at-count-clause-found : goal.returns-then-at-count-clause-found

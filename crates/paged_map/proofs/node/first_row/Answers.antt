@@ -1,8 +1,8 @@
 use Rattle.std.proofs.Common.{arith, ◌≡◌}
 use Rattle.page_face.specs.Number.{number}
 use Rattle.page_face.specs.Nodes.{count_of}
-use Rattle.map_nodes.specs.Bounds.{upper_of}
-use Rattle.map_nodes.proofs.Finds.{place_as}
+use Rattle.btree_nodes.specs.Bounds.{upper_of}
+use Rattle.btree_nodes.proofs.Finds.{place_as}
 use Rattle.paged_map.proofs.Rows.{first-missed, first-found, first-holds}
 use Rattle.paged_map.proofs.node.first_row.Goals as goal
 

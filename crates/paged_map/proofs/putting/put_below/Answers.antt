@@ -5,21 +5,21 @@ use Rattle.page_face.specs.FreeList.{PageMap}
 use Rattle.page_face.specs.Causes.{IsUncounted}
 use Rattle.page_face.specs.declared.fault.Damage.{Damage}
 use Rattle.page_face.specs.Number.{number}
-use Rattle.page_cells.proofs.Numbers.{number_below}
-use Rattle.map_nodes.specs.declared.form.Form.{Form}
-use Rattle.map_nodes.specs.Supply.{view, View, IsSupplied, spare}
-use Rattle.map_nodes.specs.Rows.{lookup, put}
-use Rattle.map_nodes.specs.Nodes.{least_of_root, half_of}
-use Rattle.map_nodes.specs.Tree.{IsTree, IsFan, total, rows_at, uses, map_uses, level_of}
-use Rattle.map_nodes.specs.Damages.{IsDamaged, IsRefusedTake, AreTold, AskedSince, AsksOnly}
-use Rattle.map_nodes.specs.Store.{IsGrown, below_rows}
-use Rattle.map_nodes.proofs.Trees.{tree-size}
-use Rattle.map_nodes.proofs.Harms.{asks-more, asks-nothing}
+use Rattle.btree_nodes.proofs.Numbers.{number_below}
+use Rattle.btree_nodes.specs.declared.form.Form.{Form}
+use Rattle.btree_nodes.specs.Supply.{view, View, IsSupplied, spare}
+use Rattle.btree_nodes.specs.Rows.{lookup, put}
+use Rattle.btree_nodes.specs.Nodes.{least_of_root, half_of}
+use Rattle.btree_nodes.specs.Tree.{IsTree, IsFan, total, rows_at, uses, map_uses, level_of}
+use Rattle.btree_nodes.specs.Damages.{IsDamaged, IsRefusedTake, AreTold, AskedSince, AsksOnly}
+use Rattle.btree_nodes.specs.Store.{IsGrown, below_rows}
+use Rattle.btree_nodes.proofs.Trees.{tree-size}
+use Rattle.btree_nodes.proofs.Harms.{asks-more, asks-nothing}
 use Rattle.paged_map.specs.declared.putting.Rooted.{Rooted}
 use Rattle.paged_map.specs.Maps.{HasBecome}
-use Rattle.map_nodes.proofs.Walks.{same-fault, told-read, uses-self, asks-read, damage-link}
+use Rattle.btree_nodes.proofs.Walks.{same-fault, told-read, uses-self, asks-read, damage-link}
 use Rattle.paged_map.proofs.Rows.{named-first}
-use Rattle.map_insertion.proofs.Roots.{to-root, rooted}
+use Rattle.btree_insert.proofs.Roots.{to-root, rooted}
 use Rattle.paged_map.proofs.Maps.{enter, map-tree, map-rows, map-uses, map-damage, map-undamaged, kept-counted, becomes}
 use Rattle.paged_map.proofs.putting.put_below.Goals as goal
 

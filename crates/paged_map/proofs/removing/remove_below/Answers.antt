@@ -5,19 +5,19 @@ use Rattle.page_face.specs.FreeList.{PageMap}
 use Rattle.page_face.specs.Causes.{IsUncounted}
 use Rattle.page_face.specs.declared.fault.Damage.{Damage}
 use Rattle.page_face.specs.Number.{number}
-use Rattle.page_cells.proofs.Numbers.{number_below}
-use Rattle.map_nodes.specs.declared.form.Form.{Form}
-use Rattle.map_nodes.specs.Supply.{view, IsSupplied, spare}
-use Rattle.map_nodes.specs.Rows.{lookup, without}
-use Rattle.map_nodes.specs.Nodes.{least_of_root}
-use Rattle.map_nodes.specs.Tree.{IsTree, rows_at, uses, map_rows, map_uses, level_of}
-use Rattle.map_nodes.specs.Damages.{IsDamaged, AreTold, AsksOnly}
-use Rattle.map_nodes.proofs.Trees.{tree-size}
-use Rattle.map_nodes.proofs.Harms.{asked-here, asks-here, asks-further, asks-more, asks-nothing}
-use Rattle.map_removal.specs.Removal.{HasRemoved, IsOut, IsSame, Lessens}
+use Rattle.btree_nodes.proofs.Numbers.{number_below}
+use Rattle.btree_nodes.specs.declared.form.Form.{Form}
+use Rattle.btree_nodes.specs.Supply.{view, IsSupplied, spare}
+use Rattle.btree_nodes.specs.Rows.{lookup, without}
+use Rattle.btree_nodes.specs.Nodes.{least_of_root}
+use Rattle.btree_nodes.specs.Tree.{IsTree, rows_at, uses, map_rows, map_uses, level_of}
+use Rattle.btree_nodes.specs.Damages.{IsDamaged, AreTold, AsksOnly}
+use Rattle.btree_nodes.proofs.Trees.{tree-size}
+use Rattle.btree_nodes.proofs.Harms.{asked-here, asks-here, asks-further, asks-more, asks-nothing}
+use Rattle.btree_delete.specs.Removal.{HasRemoved, IsOut, IsSame, Lessens}
 use Rattle.paged_map.specs.declared.putting.Rooted.{Rooted}
 use Rattle.paged_map.specs.Maps.{HasBecome}
-use Rattle.map_nodes.proofs.Walks.{same-fault, told-read, uses-self, asks-read, damage-link}
+use Rattle.btree_nodes.proofs.Walks.{same-fault, told-read, uses-self, asks-read, damage-link}
 use Rattle.paged_map.proofs.Rows.{named-first}
 use Rattle.paged_map.proofs.Maps.{enter, map-tree, map-rows, map-uses, map-damage, map-undamaged, kept-counted}
 use Rattle.paged_map.proofs.Removes.{without-absent, is-some, stays}

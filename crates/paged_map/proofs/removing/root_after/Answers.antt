@@ -1,13 +1,13 @@
 use Rattle.std.proofs.Common.{arith, ◌≡◌, ◌+◌, ◌-◌, ◌^◌, ◌≤◌, ℕ, [], ◌∷◌, subst, ◌∙◌, sym, suc}
 use Rattle.std.proofs.lemmas.Result.{IfOk-weaker}
 use Rattle.page_face.specs.FreeList.{PageMap}
-use Rattle.map_nodes.specs.declared.form.Form.{Form}
-use Rattle.map_nodes.specs.Supply.{view, spare}
-use Rattle.map_nodes.specs.Rows.{without}
-use Rattle.map_nodes.specs.Nodes.{half_of}
-use Rattle.map_nodes.specs.Tree.{rows_at, uses}
-use Rattle.map_nodes.proofs.Checks.{least-some}
-use Rattle.map_removal.specs.Mended.{Becomes}
+use Rattle.btree_nodes.specs.declared.form.Form.{Form}
+use Rattle.btree_nodes.specs.Supply.{view, spare}
+use Rattle.btree_nodes.specs.Rows.{without}
+use Rattle.btree_nodes.specs.Nodes.{half_of}
+use Rattle.btree_nodes.specs.Tree.{rows_at, uses}
+use Rattle.btree_nodes.proofs.Checks.{least-some}
+use Rattle.btree_delete.specs.Mended.{Becomes}
 use Rattle.paged_map.specs.Maps.{HasBecome}
 use Rattle.paged_map.proofs.Removes.{root-one, emptied, stands, lowered-root}
 use Rattle.paged_map.proofs.removing.root_after.Goals as goal

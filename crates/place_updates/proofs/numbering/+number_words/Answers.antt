@@ -1,8 +1,8 @@
 use Rattle.std.proofs.Common.{◌≡◌, ℕ, ◌+◌, ◌∷◌, List, length, All, cond, sym, ap, subst, ◌∙◌, rules}
 use Rattle.std.proofs.lemmas.List.Elements.{All-head, All-tail}
 use Rattle.std.proofs.lemmas.Result.{on_ok_weaker}
-use Rattle.map_nodes.specs.Supply.{View, view}
-use Rattle.store_rows.specs.Pairs.{Pair}
+use Rattle.btree_nodes.specs.Supply.{View, view}
+use Rattle.row_codec.specs.Pairs.{Pair}
 use Rattle.store_tables.specs.Entries.{Entries}
 use Rattle.store_tables.specs.Holding.{IsChanged}
 use Rattle.store_tables.specs.Words.{with_hold}

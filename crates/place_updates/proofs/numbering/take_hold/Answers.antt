@@ -3,13 +3,13 @@ use Rattle.std.proofs.lemmas.Bool.Decides.{nat_tests}
 use Rattle.std.proofs.lemmas.List.{nil_from_length}
 use Rattle.std.proofs.lemmas.Result.{err_from_is_err_and}
 use Rattle.page_face.specs.declared.fault.PageFault.TheVariants.{Damaged}
-use Rattle.map_nodes.specs.Supply.{View, view}
+use Rattle.btree_nodes.specs.Supply.{View, view}
 use Rattle.store_tables.specs.Entries.{number_of_word}
 use Rattle.store_tables.specs.Holding.{Holds, IsApart, IsChanged}
 use Rattle.store_tables.specs.Words.{next_after, number_for, with_hold}
 use Rattle.store_tables.proofs.ToldLemmas.{apart-counted}
 use Rattle.store_meaning.specs.Updates.{has_pair}
-use Rattle.map_insertion.proofs.Readings.{ok-map}
+use Rattle.btree_insert.proofs.Readings.{ok-map}
 use Rattle.place_updates.proofs.numbering.take_hold.Goals as goal
 
 pub returns-in_err-number_of-clause-honest : goal.returns-in_err-number_of-clause-honest

@@ -1,7 +1,7 @@
 use Rattle.std.proofs.Common.{◌≡◌, ◌+◌, ◌<◌, ◌∷◌, length, sym, subst, arith, rules}
 use Rattle.std.proofs.lemmas.Map.Iter.{rest_all, rest_more}
 use Rattle.std.specs.Map.Iter.{deref_pair}
-use Rattle.store_rows.specs.Stored.{IsStored}
+use Rattle.row_codec.specs.Stored.{IsStored}
 use Rattle.place_updates.proofs.Numbers.{filled-all, filled-more, spare-more, stored-map}
 use Rattle.place_updates.proofs.pairs.place_with.Goals as goal
 

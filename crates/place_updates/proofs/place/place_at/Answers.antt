@@ -1,7 +1,7 @@
 use Rattle.std.proofs.Common.{◌≡◌, IsErrOf, IfSome, inr, Some, sym, subst, ◌∙◌, rules}
 use Rattle.std.proofs.lemmas.Result.{err_from_is_err_and}
 use Rattle.page_face.specs.declared.fault.PageFault.TheVariants.{Damaged}
-use Rattle.store_rows.specs.Stored.{held_pairs}
+use Rattle.row_codec.specs.Stored.{held_pairs}
 use Rattle.store_tables.specs.Entries.{place_of_key}
 use Rattle.place_updates.specs.Known.{AreKnown}
 use Rattle.place_updates.proofs.Known.{known-at, same-damage}

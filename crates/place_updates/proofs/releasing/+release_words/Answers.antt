@@ -1,7 +1,7 @@
 use Rattle.std.proofs.Common.{◌≡◌, ◌∷◌, false, sym, subst, ◌∙◌, rules}
 use Rattle.std.proofs.lemmas.Result.{on_ok_weaker}
-use Rattle.map_nodes.specs.Supply.{View, view}
-use Rattle.store_rows.specs.Pairs.{Pair}
+use Rattle.btree_nodes.specs.Supply.{View, view}
+use Rattle.row_codec.specs.Pairs.{Pair}
 use Rattle.store_tables.specs.Entries.{Entries}
 use Rattle.store_tables.specs.Holding.{IsChanged}
 use Rattle.store_tables.specs.Words.{without_hold}

@@ -1,8 +1,8 @@
 use Rattle.std.proofs.Common.{◌≡◌, [], List, Err, ap, sym, subst, ◌∙◌}
 use Rattle.std.proofs.lemmas.Result.{err_from_is_err_and}
 use Rattle.page_face.specs.declared.fault.PageFault.TheVariants.{Damaged}
-use Rattle.map_nodes.specs.Supply.{View, view}
-use Rattle.store_rows.specs.Pairs.{Pair}
+use Rattle.btree_nodes.specs.Supply.{View, view}
+use Rattle.row_codec.specs.Pairs.{Pair}
 use Rattle.store_tables.specs.Entries.{Entries, place_of_key, without_place}
 use Rattle.store_tables.specs.Holding.{IsChanged}
 use Rattle.store_tables.proofs.FrameLemmas.{changed-further}

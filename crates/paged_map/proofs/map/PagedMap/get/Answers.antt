@@ -4,16 +4,16 @@ use Rattle.std.proofs.lemmas.Result.{IfOk-weaker}
 use Rattle.page_face.specs.FreeList.{PageMap}
 use Rattle.page_face.specs.declared.fault.Damage.{Damage}
 use Rattle.page_face.specs.Number.{number}
-use Rattle.page_cells.proofs.Numbers.{number_below}
-use Rattle.map_nodes.specs.declared.form.Form.{Form}
-use Rattle.map_nodes.specs.Rows.{Row, lookup}
-use Rattle.map_nodes.specs.Nodes.{least_of_root}
-use Rattle.map_nodes.specs.Tree.{IsTree, rows_at, uses, map_rows, map_uses, level_of}
-use Rattle.map_nodes.specs.Damages.{IsDamaged, AreTold, AsksOnly}
-use Rattle.map_nodes.proofs.Trees.{tree-size}
-use Rattle.map_nodes.proofs.Harms.{asks-more, asks-nothing}
+use Rattle.btree_nodes.proofs.Numbers.{number_below}
+use Rattle.btree_nodes.specs.declared.form.Form.{Form}
+use Rattle.btree_nodes.specs.Rows.{Row, lookup}
+use Rattle.btree_nodes.specs.Nodes.{least_of_root}
+use Rattle.btree_nodes.specs.Tree.{IsTree, rows_at, uses, map_rows, map_uses, level_of}
+use Rattle.btree_nodes.specs.Damages.{IsDamaged, AreTold, AsksOnly}
+use Rattle.btree_nodes.proofs.Trees.{tree-size}
+use Rattle.btree_nodes.proofs.Harms.{asks-more, asks-nothing}
 use Rattle.paged_map.specs.Answers.{HoldsRow, Locates}
-use Rattle.map_nodes.proofs.Walks.{same-fault, told-read, uses-self, asks-read, damage-link}
+use Rattle.btree_nodes.proofs.Walks.{same-fault, told-read, uses-self, asks-read, damage-link}
 use Rattle.paged_map.proofs.Located.{locates-below}
 use Rattle.paged_map.proofs.Rows.{named-first}
 use Rattle.paged_map.proofs.Maps.{enter, map-tree, map-rows, map-uses, map-damage, map-undamaged}

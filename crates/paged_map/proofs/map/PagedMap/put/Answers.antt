@@ -4,16 +4,16 @@ use Rattle.std.proofs.lemmas.Bool.Decides.{nat_tests}
 use Rattle.std.proofs.lemmas.Result.{err_from_is_err_and}
 use Rattle.page_face.specs.FreeList.{PageMap}
 use Rattle.page_face.specs.Number.{number}
-use Rattle.map_nodes.specs.declared.form.Form.{Form}
-use Rattle.map_nodes.specs.Supply.{view}
-use Rattle.map_nodes.specs.Rows.{Row, lookup, put}
-use Rattle.map_nodes.specs.Tree.{IsMap, map_rows, map_uses}
-use Rattle.map_nodes.specs.Damages.{IsRefusedTake, AskedSince, AsksOnly}
-use Rattle.map_nodes.specs.Store.{IsGrown}
-use Rattle.map_nodes.proofs.Harms.{asks-nothing}
-use Rattle.map_insertion.specs.Starts.{no_page}
+use Rattle.btree_nodes.specs.declared.form.Form.{Form}
+use Rattle.btree_nodes.specs.Supply.{view}
+use Rattle.btree_nodes.specs.Rows.{Row, lookup, put}
+use Rattle.btree_nodes.specs.Tree.{IsMap, map_rows, map_uses}
+use Rattle.btree_nodes.specs.Damages.{IsRefusedTake, AskedSince, AsksOnly}
+use Rattle.btree_nodes.specs.Store.{IsGrown}
+use Rattle.btree_nodes.proofs.Harms.{asks-nothing}
+use Rattle.btree_insert.specs.Starts.{no_page}
 use Rattle.paged_map.specs.Maps.{IsKept, HasBecome, IsMapDamaged}
-use Rattle.map_nodes.proofs.Walks.{same-fault}
+use Rattle.btree_nodes.proofs.Walks.{same-fault}
 use Rattle.paged_map.proofs.Maps.{map-none, unused, becomes}
 use Rattle.paged_map.proofs.map.PagedMap.put.Goals as goal
 

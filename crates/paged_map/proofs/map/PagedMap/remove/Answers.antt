@@ -3,14 +3,14 @@ use Rattle.std.specs.Option.{is_some}
 use Rattle.std.proofs.lemmas.Result.{err_from_is_err_and}
 use Rattle.page_face.specs.FreeList.{PageMap}
 use Rattle.page_face.specs.Number.{number}
-use Rattle.map_nodes.specs.declared.form.Form.{Form}
-use Rattle.map_nodes.specs.Supply.{view}
-use Rattle.map_nodes.specs.Rows.{lookup, without}
-use Rattle.map_nodes.specs.Tree.{map_rows, map_uses}
-use Rattle.map_nodes.specs.Damages.{AskedSince, AsksOnly}
-use Rattle.map_nodes.proofs.Harms.{asks-nothing}
+use Rattle.btree_nodes.specs.declared.form.Form.{Form}
+use Rattle.btree_nodes.specs.Supply.{view}
+use Rattle.btree_nodes.specs.Rows.{lookup, without}
+use Rattle.btree_nodes.specs.Tree.{map_rows, map_uses}
+use Rattle.btree_nodes.specs.Damages.{AskedSince, AsksOnly}
+use Rattle.btree_nodes.proofs.Harms.{asks-nothing}
 use Rattle.paged_map.specs.Maps.{IsKept, HasBecome, IsMapDamaged}
-use Rattle.map_nodes.proofs.Walks.{same-fault}
+use Rattle.btree_nodes.proofs.Walks.{same-fault}
 use Rattle.paged_map.proofs.Maps.{map-none}
 use Rattle.paged_map.proofs.Removes.{stays}
 use Rattle.paged_map.proofs.map.PagedMap.remove.Goals as goal

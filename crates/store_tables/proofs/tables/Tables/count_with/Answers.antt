@@ -1,8 +1,8 @@
 use Rattle.std.proofs.Common.{◌≡◌, ℕ, Err, inl, inr, ⊎_elim, ap, sym, ◌∙◌}
 use Rattle.std.proofs.lemmas.Result.{err_from_is_err_and}
 use Rattle.page_face.specs.declared.fault.PageFault.TheVariants.{Damaged}
-use Rattle.map_nodes.proofs.Harms.{asked-before, asks-further}
-use Rattle.map_nodes.specs.Damages.{AreTold}
+use Rattle.btree_nodes.proofs.Harms.{asked-before, asks-further}
+use Rattle.btree_nodes.specs.Damages.{AreTold}
 use Rattle.store_tables.specs.Entries.{word_of_number}
 use Rattle.store_tables.specs.Holding.{numbers_form, word_uses}
 use Rattle.store_tables.proofs.HoldLemmas.{can_hold-read, cannot_hold-read, places-read}

@@ -1,10 +1,10 @@
 use Rattle.std.proofs.Common.{◌≡◌, ℕ, Err, Option, option_map, unwrap_or, inl, inr, ⊎_elim, ap, sym, subst, ◌∙◌}
 use Rattle.std.proofs.lemmas.Result.{err_from_is_err_and}
 use Rattle.page_face.specs.declared.fault.PageFault.TheVariants.{Damaged}
-use Rattle.map_nodes.proofs.Harms.{asked-before, asks-further}
-use Rattle.map_nodes.specs.Damages.{AreTold}
-use Rattle.map_nodes.specs.Supply.{View, view}
-use Rattle.store_rows.specs.Counted.{number_bytes}
+use Rattle.btree_nodes.proofs.Harms.{asked-before, asks-further}
+use Rattle.btree_nodes.specs.Damages.{AreTold}
+use Rattle.btree_nodes.specs.Supply.{View, view}
+use Rattle.row_codec.specs.Counted.{number_bytes}
 use Rattle.store_tables.specs.Entries.{Entries}
 use Rattle.store_tables.specs.Holding.{Holds, IsApart, IsChanged, word_uses}
 use Rattle.store_tables.specs.Words.{next_after}

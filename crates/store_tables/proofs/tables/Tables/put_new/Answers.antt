@@ -1,9 +1,9 @@
 use Rattle.std.proofs.Common.{◌≡◌, ◌+◌, Err, inl, inr, ⊎_elim, ap, subst}
 use Rattle.std.proofs.lemmas.Result.{err_from_is_err_and}
 use Rattle.page_face.specs.declared.fault.PageFault.TheVariants.{Damaged}
-use Rattle.map_nodes.specs.Supply.{View, view}
-use Rattle.map_nodes.specs.Damages.{AsksOnly}
-use Rattle.map_nodes.specs.Tree.{map_uses}
+use Rattle.btree_nodes.specs.Supply.{View, view}
+use Rattle.btree_nodes.specs.Damages.{AsksOnly}
+use Rattle.btree_nodes.specs.Tree.{map_uses}
 use Rattle.store_tables.specs.declared.tables.Tables.{Tables}
 use Rattle.store_tables.specs.Holding.{texts_form}
 use Rattle.store_tables.proofs.FrameLemmas.{changed-further}

@@ -1,9 +1,9 @@
 use Rattle.std.proofs.Common.{◌≡◌, Err, inl, inr, ⊎_elim, ap, sym}
 use Rattle.std.proofs.lemmas.Result.{err_from_is_err_and}
 use Rattle.page_face.specs.declared.fault.PageFault.TheVariants.{Damaged}
-use Rattle.map_nodes.proofs.Harms.{asked-before, asks-further}
-use Rattle.map_nodes.specs.Damages.{AreTold}
-use Rattle.map_nodes.specs.Supply.{View, view}
+use Rattle.btree_nodes.proofs.Harms.{asked-before, asks-further}
+use Rattle.btree_nodes.specs.Damages.{AreTold}
+use Rattle.btree_nodes.specs.Supply.{View, view}
 use Rattle.store_tables.specs.Holding.{word_uses}
 use Rattle.store_tables.proofs.ToldLemmas.{apart-counted, asks-numbers}
 use Rattle.store_tables.proofs.tables.Tables.release.Goals as goal

@@ -1,7 +1,7 @@
 use Rattle.std.proofs.Common.{◌≡◌, Err, ap, rules}
 use Rattle.std.proofs.lemmas.Result.{err_from_is_err_and}
 use Rattle.page_face.specs.declared.fault.PageFault.TheVariants.{Damaged}
-use Rattle.map_nodes.specs.Supply.{View, view}
+use Rattle.btree_nodes.specs.Supply.{View, view}
 use Rattle.store_tables.proofs.FrameLemmas.{kept-numbers, texts-stay}
 use Rattle.store_tables.proofs.ChangeLemmas.{number-removed}
 use Rattle.store_tables.proofs.LookupLemmas.{number-of_number}

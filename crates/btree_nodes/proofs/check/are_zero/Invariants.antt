@@ -1,0 +1,8 @@
+use Rattle.std.proofs.Common.{◌≡◌, ◌==◌, take}
+use Rattle.std.specs.List.{list_all}
+use Rattle.btree_nodes.proofs.check.are_zero.Given as goal
+
+abbrev pub invariant-loop-byte : goal.invariant-loop-byte
+invariant-loop-byte l = record {
+  clear : (l.greatest == 0) ≡ list_all (λ b. b == 0) (take l.byte-index l.bytes);
+}

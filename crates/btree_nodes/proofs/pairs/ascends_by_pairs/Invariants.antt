@@ -1,0 +1,10 @@
+use Rattle.std.proofs.Common.{◌≡◌, ℕ, ◌<◌, ◌≤◌, ◌+◌}
+use Rattle.page_face.specs.Cells.{key_at}
+use Rattle.btree_nodes.specs.Pairs.{pair_at}
+use Rattle.btree_nodes.proofs.pairs.ascends_by_pairs.Given as goal
+
+abbrev pub invariant-loop-at : goal.invariant-loop-at
+invariant-loop-at l = record {
+  last : l.last ≡ pair_at l.key l.width l.page l.at;
+  order : (i : ℕ) → l.from ≤ i → i < l.at → key_at l.key l.width l.page i < key_at l.key l.width l.page (i + 1);
+}

@@ -1,0 +1,9 @@
+pub mod Build
+pub mod Pairs
+pub mod Supply
+pub mod Rows
+pub mod Nodes
+pub mod Tree
+pub mod Bounds
+pub mod Damages
+pub mod Store

@@ -1,0 +1,68 @@
+//! Pages that are made of cells, and cells that are put among others.
+ghost use Rattle.std.specs.Prelude.{◌≡◌, ◌↔◌, ℕ, ◌<◌, ◌≤◌, ◌+◌, ◌-◌, ◌*◌, List, ◌∷◌, ◌++◌, [], length, take, drop, replicate, IsTrue, if◌then◌else◌};
+ghost use Rattle.btree_nodes.specs.Build.{image};
+
+use page_face::Page;
+
+// Copies the bytes over those at this place.
+fn write_over(out: &mut [u8], at: usize, bytes: &[u8])
+    requires { at + length bytes.now ≤ length out.old }
+    ensures { out.new ≡ take at out.old ++ (bytes.now ++ drop (at + length bytes.now) out.old) }
+{
+    out[at..at + bytes.len()].copy_from_slice(bytes);
+}
+
+/// Writes the bytes over those at this place.
+pub fn write_at(out: &mut [u8], at: usize, bytes: &[u8])
+    requires { at + length bytes.now ≤ length out.old }
+    ensures all { out.new ≡ take at out.old ++ (bytes.now ++ drop (at + length bytes.now) out.old) }
+    ensures front { take (at + length bytes.now) out.new ≡ take at out.old ++ bytes.now }
+{
+    write_over(out, at, bytes);
+}
+
+/// Copies the key at this place out.
+pub fn copy_key(cells: &[u8], at: usize, out: &mut [u8])
+    requires { at + length out.old ≤ length cells.now }
+    ensures { out.new ≡ take (length out.old) (drop at cells.now) }
+{
+    out.copy_from_slice(&cells[at..at + out.len()]);
+}
+
+/// Makes the key at this place, of so many bytes, the least one: all of them zero.
+pub fn clear_key(cells: &mut [u8], at: usize, key: usize)
+    requires short { key ≤ 255 }
+    requires fits { at + key ≤ length cells.old }
+    ensures front { take at cells.new ≡ take at cells.old }
+    ensures back { drop at cells.new ≡ replicate key 0 ++ drop key (drop at cells.old) }
+{
+    let zeros = [0; 255];
+    write_at(cells, at, &zeros[..key]);
+}
+
+/// A page of these cells, whose bytes are spare from their end on: byte 0 is the kind, byte 1 the map's number, bytes 2
+/// and 3 the count, byte 4 the level.
+pub fn build(number: u8, kind: u8, level: u8, count: u16, cells: &[u8]) -> Page
+    requires fits { 16 + length cells.now ≤ 4096 }
+    ensures { result ≡ image number kind level count cells.now }
+{
+    let [high, low] = count.to_be_bytes();
+    let head = [kind, number, high, low, level];
+    let mut page = [0; 4096];
+    write_at(&mut page, 0, &head);
+    write_at(&mut page, 16, cells);
+    page
+}
+
+/// Writes the cells into `out`, with a new one, in two pieces, in place of those from `at` up to `until`.
+pub fn splice(cells: &[u8], at: usize, until: usize, first: &[u8], second: &[u8], out: &mut [u8])
+    requires at { at ≤ until }
+    requires until { until ≤ length cells.now }
+    requires out { length out.old + (until - at) ≡ length cells.now + (length first.now + length second.now) }
+    ensures { out.new ≡ take at cells.now ++ ((first.now ++ second.now) ++ drop until cells.now) }
+{
+    write_at(out, 0, &cells[..at]);
+    write_at(out, at, first);
+    write_at(out, at + first.len(), second);
+    write_at(out, at + first.len() + second.len(), &cells[until..]);
+}

@@ -1,4 +1,0 @@
-use Rattle.map_removal.proofs.mending.mend.Goals as goal
-
-pub returns-clause-becomes : goal.returns-clause-becomes
-returns-clause-becomes g c = c.in_ok-left.ensures.becomes

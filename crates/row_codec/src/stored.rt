@@ -1,0 +1,86 @@
+//! A place as the place table keeps it.
+ghost use Rattle.std.specs.Prelude.{◌≡◌, ◌↔◌, ℕ, ◌<◌, ◌≤◌, ◌+◌, ◌*◌, ◌++◌, length, take, drop, IsTrue, Some, IfSome};
+ghost use Rattle.std.specs.Int.{from_be_bytes, w32, w64};
+ghost use Rattle.spatial_base.specs.Point.{Position, IsOnMap};
+ghost use Rattle.row_codec.specs.Stored.{point_bytes};
+
+use crate::bytes::{u32_at, write_at};
+use crate::pairs::{are_spare, has_impacts, is_ascending, pairs_of_bytes, write_pairs};
+use spatial_base::Point;
+
+/// The most words of a place.
+pub const PAIRS_MAX: usize = 64;
+
+/// The bytes of a [`Stored`].
+pub const STORED_BYTES: usize = 585;
+
+/// A place: where it is, and the number and the impact of each of its words.
+///
+/// It is of its form where `count` is at most 64, the first `count` pairs ascend strictly by word number with impacts of at
+/// least 1, and the others are (0, 0).
+#[derive(Clone, Copy, Debug, PartialEq, Eq)]
+pub struct Stored {
+    /// Where it is.
+    pub point: Point,
+    /// How many words it has.
+    pub count: u8,
+    /// The word numbers, ascending, each with its impact; (0, 0) behind them.
+    pub pairs: [(u64, u8); 64],
+}
+
+impl Stored {
+    ghost use Rattle.row_codec.specs.Stored.{IsStored, IsValue, place_value};
+
+    /// Whether it is of its form.
+    pub fn is_of_form(&self) -> bool
+        ensures { IsTrue result ↔ IsStored self.now }
+    {
+        if self.count as usize > PAIRS_MAX {
+            return false;
+        }
+        let (held, spare) = self.pairs.split_at(self.count as usize);
+        is_ascending(held) && has_impacts(held) && are_spare(spare)
+    }
+
+    /// The row's value: longitude, latitude, the count of words, and 64 pairs of 9 bytes.
+    pub fn encode(&self) -> [u8; 585]
+        ensures bytes { result ≡ place_value self.now }
+        ensures value { IsValue self.now }
+    {
+        let mut bytes = [0; 585];
+        write_at(&mut bytes, 0, &self.point.x().to_be_bytes());
+        write_at(&mut bytes, 4, &self.point.y().to_be_bytes());
+        write_at(&mut bytes, 8, &[self.count]);
+        write_pairs(&mut bytes, 9, &self.pairs);
+        bytes
+    }
+
+    /// The place that a row's value stands for, and None exactly where it stands for none: where the point is off the map, or
+    /// the place isn't of its form.
+    pub fn decode(bytes: &[u8; 585]) -> Option<Stored>
+        ensures form { IfSome result (λ stored. IsValue stored × IsStored stored × (bytes.now ≡ place_value stored)) }
+        ensures every { (stored : Stored) → IsValue stored → IsStored stored → bytes.now ≡ place_value stored → result ≡ Some stored }
+    {
+        let stored = Stored {
+            point: point_of_bytes(&bytes[..8])?,
+            count: bytes[8],
+            pairs: pairs_of_bytes(&bytes[9..]),
+        };
+        if stored.is_of_form() {
+            Some(stored)
+        } else {
+            None
+        }
+    }
+}
+
+// The point in 8 bytes.
+fn point_of_bytes(bytes: &[u8]) -> Option<Point>
+    requires { length bytes.now ≡ 8 }
+    ensures form { IfSome result (λ point. IsOnMap point.x point.y × (bytes.now ≡ point_bytes point)) }
+    ensures every { (point : Position) → IsOnMap point.x point.y → bytes.now ≡ point_bytes point → result ≡ Some point }
+{
+    let x = u32_at(bytes, 0).cast_signed();
+    let y = u32_at(bytes, 4).cast_signed();
+    Point::new(x, y)
+}
