@@ -1,12 +1,11 @@
 -- The order of two keys of eight to sixteen bytes is that of their first eight bytes, and where those are equal that of their last eight.
-use Rattle.std.proofs.Common.{◌≡◌, ◌⊎◌, inl, inr, ⊎_elim, ℕ, zero, suc, ◌+◌, ◌-◌, ◌*◌, ◌^◌, ◌<◌, ◌≤◌, List, [], ◌∷◌, ◌++◌, length, take, drop, arith, ap, sym, ◌∙◌, subst}
-use Rattle.std.proofs.Math.Nat.{mul_assoc, add-mul, zero-mul, mul-le-mul_left, mul-suc}
-use Rattle.std.proofs.lemmas.Nat.{pow-add}
+use Rattle.std.proofs.Common.{◌≡◌, ◌⊎◌, inl, inr, ⊎_elim, ℕ, zero, suc, ◌+◌, ◌-◌, ◌*◌, ◌^◌, ◌<◌, ◌≤◌, List, [], ◌∷◌, length, take, drop, arith, ap, sym, ◌∙◌, subst}
+use Rattle.std.proofs.Math.Nat.{mul-le-mul_left, mul-suc}
 use Rattle.std.proofs.lemmas.Bool.{cases_lt}
-use Rattle.std.proofs.lemmas.List.{length-append, length-drop, length-take-le, get_or-drop, take-append-drop, take-take, drop-take, drop-drop}
+use Rattle.std.proofs.lemmas.List.{length-drop, length-take-le, get_or-drop, take-append-drop, take-take, drop-take, drop-drop}
 use Rattle.page_face.specs.Number.{number}
 use Rattle.page_face.specs.Cells.{key_at}
-use Rattle.btree_nodes.proofs.Numbers.{AreBytes, higher, number_below}
+use Rattle.btree_nodes.proofs.Numbers.{AreBytes, higher, number-append, number_below}
 use Rattle.btree_nodes.specs.Pairs.{pair_at}
 use Rattle.btree_nodes.specs.declared.pairs.Pair.{Pair}
 
@@ -16,13 +15,6 @@ heads c d r e f p q same =
     let below : c < d → ⊥ = λ l. let h = higher c d r e f l p in absurd (omega arith) in
     let above : d < c → ⊥ = λ l. let h = higher d c r f e l q in absurd (omega arith) in
     ⊎_elim (λ (l : c < d). absurd (below l)) (λ (l : d ≤ c). ⊎_elim (λ (k : d < c). absurd (above k)) (λ (k : c ≤ d). omega arith) (cases_lt d c)) (cases_lt c d)
-
-number-append : (xs ys : List ℕ) → number (xs ++ ys) ≡ number xs * 256 ^ length ys + number ys
-number-append [] ys = omega (arith, zero-mul (256 ^ length ys))
-number-append (x ∷ xs) ys =
-    let i = number-append xs ys in
-    rw (length-append xs ys, pow-add 256 (length xs) (length ys))
-    (omega (arith, i, mul_assoc x (256 ^ length xs) (256 ^ length ys), add-mul (x * 256 ^ length xs) (number xs) (256 ^ length ys)))
 
 number-halves : (n rest : ℕ) (xs : List ℕ) → length (drop n xs) ≡ rest → number xs ≡ number (take n xs) * 256 ^ rest + number (drop n xs)
 number-halves n rest xs e = ap number (sym (take-append-drop n xs)) ∙ number-append (take n xs) (drop n xs) ∙ ap (λ (l : ℕ). number (take n xs) * 256 ^ l + number (drop n xs)) e

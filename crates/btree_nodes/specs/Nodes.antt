@@ -1,5 +1,5 @@
 -- What the bytes of a page of a map say.
-use Rattle.std.specs.Prelude.{◌≡◌, ℕ, zero, suc, ◌+◌, ◌*◌, ◌/◌, ◌<◌, ◌≤◌, List, take, drop, length, map}
+use Rattle.std.specs.Prelude.{◌≡◌, ℕ, zero, suc, ◌+◌, ◌/◌, List, take, drop, map}
 use Rattle.std.specs.Int.{from_be_bytes, w32}
 use Rattle.page_face.specs.Number.{number}
 use Rattle.page_face.specs.Nodes.{count_of, IsNode}

@@ -10,7 +10,7 @@ use Rattle.page_face.specs.Number.{number}
 use Rattle.btree_nodes.specs.declared.form.Form.{Form}
 use Rattle.btree_nodes.specs.Nodes.{least_of_root}
 use Rattle.btree_nodes.specs.Tree.{IsTree, IsMap, rows_at, uses, map_rows, map_uses, level_of}
-use Rattle.btree_nodes.specs.Damages.{IsDamaged, AskedSince}
+use Rattle.btree_nodes.specs.Damages.{AskedSince}
 use Rattle.btree_nodes.proofs.Harms.{asked-here}
 
 -- what is said of a page by other names is said of it

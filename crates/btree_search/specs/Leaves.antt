@@ -1,5 +1,5 @@
 -- The leaf of a map that a key belongs to.
-use Rattle.std.specs.Prelude.{◌≡◌, ℕ, ◌+◌, ◌^◌, ◌<◌, ◌≤◌, List, ◌++◌}
+use Rattle.std.specs.Prelude.{◌≡◌, ℕ, ◌^◌, ◌<◌, ◌≤◌, List, ◌++◌}
 use Rattle.page_face.specs.FreeList.{PageMap, with_page}
 use Rattle.page_face.specs.Nodes.{count_of}
 use Rattle.btree_nodes.specs.declared.form.Form.{Form}
