@@ -250,7 +250,7 @@ let_go
 gave "files that are removed" 3 "irtree: disk: $work/l.store.journal: it was removed, or another file took its name; put the store and its journal back, and run again" ok
 
 # Signals in the middle of a call.
-ask "$add" "$work/m.store" strace -o "$work/trace" -P "$work/m.store" -P "$work/m.store.journal" --inject=pread64,pwrite64,fsync,flock:error=EINTR:when=1+2
+ask "$add" "$work/m.store" strace -o "$work/trace" -P "$work/m.store" -P "$work/m.store.journal" --inject=pread64,pwrite64,fsync,fdatasync,flock:error=EINTR:when=1+2
 gave "each second call interrupted" 0 "" ok
 holds "and its store" "$work/m.store" 1
 ask "$add" "$work/m.store" strace -o "$work/trace" --inject=write:error=EINTR:when=1

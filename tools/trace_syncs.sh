@@ -64,7 +64,7 @@ needs_each_sync "a load"
 echo "a load: $(cat "$work/verdict"), each of $syncs syncs is needed"
 
 # A kill at the Nth write or sync of a file, for each N until the run ends by itself, and an opening after it.
-for call in pwrite64 fsync; do
+for call in pwrite64 fsync fdatasync; do
     for nth in $(seq 1 400); do
         fresh
         inject=(--inject="$call:signal=KILL:when=$nth")
@@ -86,31 +86,35 @@ for call in pwrite64 fsync; do
     echo "a kill at each of $((nth - 1)) calls $call: what was acknowledged is there, and the opening needs each of its syncs"
 done
 
-# A sync that the program asks for and that isn't made: the rules must see it.
-for nth in $(seq 1 400); do
-    fresh
-    inject=(--inject="fsync:retval=0:when=$nth")
-    traced run <<< "$script"
-    grep -q INJECTED "$work/trace" || break
-    if keeps "$work/trace" > /dev/null; then
-        echo "sync $nth of the run was not made, and the rules hold"
-        exit 1
-    fi
+# A sync that the program asks for and that isn't made: the rules must see it. The folder's is an fsync, a file's an fdatasync.
+for sync in fsync fdatasync; do
+    for nth in $(seq 1 400); do
+        fresh
+        inject=(--inject="$sync:retval=0:when=$nth")
+        traced run <<< "$script"
+        grep -q INJECTED "$work/trace" || break
+        if keeps "$work/trace" > /dev/null; then
+            echo "$sync $nth of the run was not made, and the rules hold"
+            exit 1
+        fi
+    done
+    echo "a run without one of its $((nth - 1)) calls $sync breaks the rules, each time"
 done
-echo "a run without one of its $((nth - 1)) syncs breaks the rules, each time"
 
 # A sync that fails: the run ends as a fault of the disk, and nothing is acknowledged from there on.
-for nth in $(seq 1 400); do
-    fresh
-    inject=(--inject="fsync:error=EIO:when=$nth")
-    ended=0
-    { traced run <<< "$script"; } 2> /dev/null || ended=$?
-    grep -q INJECTED "$work/trace" || break
-    after=$(sed '1,/INJECTED/d' "$work/trace" | grep -cE 'p(read|write)64\(.*(store|journal)>|write\(1<|sync\(' || true)
-    if [ "$ended" -ne 3 ] || [ "$after" -ne 0 ] || [ "$(wc -l < "$work/err")" -ne 1 ]; then
-        echo "sync $nth failed: status $ended, $after calls after it"
-        cat "$work/err"
-        exit 1
-    fi
+for sync in fsync fdatasync; do
+    for nth in $(seq 1 400); do
+        fresh
+        inject=(--inject="$sync:error=EIO:when=$nth")
+        ended=0
+        { traced run <<< "$script"; } 2> /dev/null || ended=$?
+        grep -q INJECTED "$work/trace" || break
+        after=$(sed '1,/INJECTED/d' "$work/trace" | grep -cE 'p(read|write)64\(.*(store|journal)>|write\(1<|sync\(' || true)
+        if [ "$ended" -ne 3 ] || [ "$after" -ne 0 ] || [ "$(wc -l < "$work/err")" -ne 1 ]; then
+            echo "$sync $nth failed: status $ended, $after calls after it"
+            cat "$work/err"
+            exit 1
+        fi
+    done
+    echo "a run in which one of its $((nth - 1)) calls $sync fails ends there with status 3, each time"
 done
-echo "a run in which one of its $((nth - 1)) syncs fails ends there with status 3, each time"

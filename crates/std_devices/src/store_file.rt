@@ -71,7 +71,7 @@ impl<F: StoreFile> KeptFile<F> {
     }
 
     // Whether the file is there whole, and has a name.
-    fn look(&self) -> Result<(), Cause> {
+    fn check_whole(&self) -> Result<(), Cause> {
         let found = self.file.metadata().map_err(|error| Cause::System(error))?;
         if found.len() < self.len {
             return Err(Cause::Cut);
@@ -84,7 +84,7 @@ impl<F: StoreFile> KeptFile<F> {
 
     // Writes all of the bytes at a place.
     pub(crate) fn write(&mut self, at: u64, bytes: &[u8]) -> Result<(), Cause> {
-        self.look()?;
+        self.check_whole()?;
         match self.file.write_all_at(bytes, at) {
             Ok(()) => {
                 self.len = self.len.max(at.saturating_add(bytes.len() as u64));
@@ -94,9 +94,9 @@ impl<F: StoreFile> KeptFile<F> {
         }
     }
 
-    // Makes all of the file safe.
+    // Makes all of the file safe: its bytes and its length, and not the times that the system keeps of it.
     pub(crate) fn sync(&self) -> Result<(), Cause> {
-        self.file.sync_all().map_err(|error| Cause::System(error))?;
-        self.look()
+        self.file.sync_data().map_err(|error| Cause::System(error))?;
+        self.check_whole()
     }
 }

@@ -229,7 +229,8 @@ impl<'a> OpenFile for WatchedFile<'a> {
     }
 
     fn sync_data(&self) -> io::Result<()> {
-        unsupported()
+        self.notes.call(b's', self.of)?;
+        self.file.sync_data()
     }
 }
 
