@@ -1,16 +1,18 @@
 //! The leaf that a key belongs to, by a loop down the levels.
-ghost use Rattle.std.specs.Prelude.{◌≡◌, ℕ, ◌+◌, ◌^◌, ◌<◌, ◌≤◌, List, length, IfOk, IsErrOf};
+ghost use Rattle.std.specs.Prelude.{◌≡◌, ℕ, ◌+◌, ◌^◌, ◌<◌, ◌≤◌, List, ◌∷◌, [], ◌++◌, length, IfOk, IsErrOf};
 ghost use Rattle.page_face.specs.Calls.{Reads, FailsReading};
 ghost use Rattle.page_face.specs.Causes.{IsUncounted};
 ghost use Rattle.page_face.specs.Number.{number};
 ghost use Rattle.btree_nodes.specs.Nodes.{least_of_root};
-ghost use Rattle.btree_nodes.specs.Tree.{IsMap, level_of, map_uses};
+ghost use Rattle.btree_nodes.specs.Tree.{IsTree, IsMap, level_of, map_uses, uses};
 ghost use Rattle.btree_nodes.specs.Damages.{IsDamaged, AreTold, AskedSince, AsksOnly};
 ghost use Rattle.btree_search.specs.Steps.{low_of, high_of};
+ghost use Rattle.btree_search.specs.Below.{LiesBelow};
 ghost use Rattle.btree_search.specs.Leaves.{IsLeafOf, IsShown};
 
 use crate::bounds::Bounds;
-use btree_nodes::Form;
+use crate::sealed::{leaf_count, step_down};
+use btree_nodes::{Form, damaged, least_at, level, root_least};
 use page_face::{Damage, PageFault, Pages};
 
 /// A leaf, as its place in a map asks it to be.
@@ -22,6 +24,70 @@ pub struct Leaf {
     pub count: usize,
     /// How many rows it has at least: 1 where it is the root, and else half of what fits.
     pub least: usize,
+}
+
+/// The leaf that a key belongs to below a page, which is then the page looked at, and whose bounds are then in `bounds`. The page
+/// at the top is the one looked at last.
+///
+/// It looks at a page for each level below that one, holds none, and writes none. It ends on any bytes, since each step is one
+/// level down.
+fn descend_to_leaf<P: Pages>(
+    pages: &mut P,
+    form: Form,
+    least: usize,
+    page: u32,
+    level: u8,
+    bounds: &mut Bounds,
+    key: &[u8],
+) -> Result<Leaf, PageFault>
+    requires least { least_of_root level ≤ least }
+    requires counted { ¬ IsUncounted (P.count pages.old) page }
+    requires key { length key.now ≡ form.key }
+    requires top { 0 < bounds.old.top → bounds.old.top ≡ form.key }
+    requires from { low_of form bounds.old ≤ number key.now }
+    requires to { number key.now < high_of form bounds.old }
+    ensures shown { IfOk result (IsShown form (P.looked pages.new) (number key.now) (low_of form bounds.new) (high_of form bounds.new)) }
+    ensures located { P.looked pages.old ≡ P.pages pages.old page
+        → IsTree form least (P.pages pages.old) level page (low_of form bounds.old) (high_of form bounds.old)
+        → IfOk result (λ leaf. (P.looked pages.new ≡ P.pages pages.old leaf.page)
+        × LiesBelow form (P.pages pages.old) least level page (low_of form bounds.old) (high_of form bounds.old) leaf.least 0 leaf.page (low_of form bounds.new) (high_of form bounds.new)) }
+    ensures counted { IfOk result (λ leaf. ¬ IsUncounted (P.count pages.old) leaf.page) }
+    ensures top { IfOk result (λ leaf. 0 < bounds.new.top → bounds.new.top ≡ form.key) }
+    ensures damaged { AreTold (P.pages pages.old) (P.count pages.old) → P.looked pages.old ≡ P.pages pages.old page
+        → (damage : Damage) → IsErrOf result (PageFault.Damaged damage)
+        → IsDamaged form (P.pages pages.old) (P.count pages.old) damage least level page (low_of form bounds.old) (high_of form bounds.old) }
+    ensures named { (before : List ℕ) → P.asked pages.old ≡ before ++ page ∷ []
+        → (damage : Damage) → IsErrOf result (PageFault.Damaged damage) → AskedSince before (P.asked pages.new) damage.page }
+    ensures own { (before : List ℕ) → P.asked pages.old ≡ before ++ page ∷ []
+        → AreTold (P.pages pages.old) (P.count pages.old) → P.looked pages.old ≡ P.pages pages.old page
+        → AsksOnly (uses form (P.pages pages.old) level page) before (P.asked pages.new) }
+    ensures fails { FailsReading P.Pages pages.old pages.new result }
+    ensures frame { Reads P.Pages pages.old pages.new }
+{
+    let mut here = page;
+    let mut height = level;
+    let mut fill = least;
+    'down: while height > 0 {
+        let child = match step_down(pages, form, fill, height, bounds, key) {
+            Ok(child) => child,
+            Err(rule) => return Err(damaged(here, rule)),
+        };
+        match pages.look(child) {
+            Ok(()) => {}
+            Err(fault) => return Err(fault),
+        }
+        here = child;
+        height -= 1;
+        fill = least_at(form, height);
+    }
+    match leaf_count(pages, form, fill, bounds.low(form), bounds.high(form)) {
+        Ok(count) => Ok(Leaf {
+            page: here,
+            count,
+            least: fill,
+        }),
+        Err(rule) => Err(damaged(here, rule)),
+    }
 }
 
 /// The leaf that a key belongs to in the map below a root, which is then the page looked at, and whose bounds are then in `bounds`.
@@ -54,5 +120,12 @@ pub fn locate<P: Pages>(
     ensures frame { Reads P.Pages pages.old pages.new }
 {
     *bounds = Bounds::all();
-    Err(PageFault::Memory)
+    match pages.look(root) {
+        Ok(()) => {
+            let level = level(pages.looked());
+            let least = root_least(level);
+            descend_to_leaf(pages, form, least, root, level, bounds, key)
+        }
+        Err(fault) => Err(fault),
+    }
 }
