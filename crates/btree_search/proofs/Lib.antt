@@ -1,2 +1,4 @@
 pub mod Soundness
 pub mod Roots
+pub mod Places
+pub mod Descents
