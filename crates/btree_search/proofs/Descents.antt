@@ -2,14 +2,13 @@
 use Rattle.std.proofs.Common.{◌≡◌, ℕ, suc, ◌<◌, ◌≤◌, ◌⊎◌, inl, inr, ⊎_elim, List, [], ◌∷◌, ◌++◌, length, arith, refl, sym, ap, ◌∙◌, subst, append_assoc, Result, Err}
 use Rattle.page_face.specs.FreeList.{PageMap}
 use Rattle.page_face.specs.Causes.{IsUncounted, asked_after, unlinked}
-use Rattle.page_face.specs.declared.fault.Rule.{Rule}
 use Rattle.page_face.specs.declared.fault.Damage.{Damage}
 use Rattle.page_face.specs.declared.fault.PageFault.{PageFault}
 use Rattle.page_face.specs.declared.fault.PageFault.TheVariants.{Damaged}
 use Rattle.btree_nodes.specs.declared.form.Form.{Form}
 use Rattle.btree_nodes.specs.Nodes.{half_of, least_of_root}
 use Rattle.btree_nodes.specs.Tree.{IsTree, uses}
-use Rattle.btree_nodes.specs.Damages.{IsDamaged, AreTold, AskedSince, AsksOnly, BreaksLeaf, BreaksInner}
+use Rattle.btree_nodes.specs.Damages.{IsDamaged, AreTold, AskedSince, AsksOnly}
 use Rattle.btree_nodes.proofs.Trees.{tree-size}
 use Rattle.btree_nodes.proofs.Harms.{asks-here, asks-further}
 use Rattle.btree_nodes.proofs.Walks.{told-read, uses-self, asks-read, damage-link, uses-below, damage-below}
@@ -105,34 +104,6 @@ module _ {form : Form} {pages : PageMap} {count key least level page low high : 
         let b = below-step (half_of form l) refl was.0 was.1 in
         let mine : ℕ → ℕ = uses form pages level page in
         subst (λ (x : List ℕ). AsksOnly mine before x) (sym n) (asks-read mine before since child result (d.own before a is told) (b.owns child (uses-self form pages l child)))
-
-  -- the page that was looked at last breaks a rule
-  pub damaged-inner : (l : ℕ) (rule : Rule) (damage : Damage) → height ≡ suc l → bytes ≡ pages page → AreTold pages count → BreaksInner rule form fill height lo hi looked → damage ≡ record { page = here; rule = rule } → IsDamaged form pages count damage least level page low high
-  damaged-inner l rule damage up is told breaks e =
-      let was = d.below is (inr told) in
-      was.1.damage damage (subst (λ (k : ℕ). IsDamaged form pages count damage fill k here lo hi) (sym up)
-      (inl (
-        ap (λ (m : Damage). m.page) e,
-        inr (subst (λ (r : Rule). BreaksInner r form fill (suc l) lo hi (pages here)) (sym (ap (λ (m : Damage). m.rule) e))
-            (subst (λ (k : ℕ). BreaksInner rule form fill k lo hi (pages here)) up (subst (λ (x : List ℕ). BreaksInner rule form fill height lo hi x) was.0 breaks))),
-      )))
-
-  pub damaged-leaf : (rule : Rule) (damage : Damage) → height ≡ 0 → bytes ≡ pages page → AreTold pages count → BreaksLeaf rule form fill lo hi looked → damage ≡ record { page = here; rule = rule } → IsDamaged form pages count damage least level page low high
-  damaged-leaf rule damage down is told breaks e =
-      let was = d.below is (inr told) in
-      was.1.damage damage (subst (λ (k : ℕ). IsDamaged form pages count damage fill k here lo hi) (sym down) (
-        ap (λ (m : Damage). m.page) e,
-        inr (subst (λ (r : Rule). BreaksLeaf r form fill lo hi (pages here)) (sym (ap (λ (m : Damage). m.rule) e))
-            (subst (λ (x : List ℕ). BreaksLeaf rule form fill lo hi x) was.0 breaks)),
-      ))
-
-  pub named-here : (rule : Rule) (before new : List ℕ) (damage : Damage) → asked ≡ before ++ page ∷ [] → new ≡ since → damage ≡ record { page = here; rule = rule } → AskedSince before new damage.page
-  named-here rule before new damage a n e =
-      let was = d.ends before a in
-      record { front = was.0; back = []; is = n ∙ was.1 ∙ ap (λ (m : Damage). before ++ (was.0 ++ m.page ∷ [])) (sym e) }
-
-  pub own-here : (before new : List ℕ) → asked ≡ before ++ page ∷ [] → bytes ≡ pages page → AreTold pages count → new ≡ since → AsksOnly (uses form pages level page) before new
-  own-here before new a is told n = subst (λ (x : List ℕ). AsksOnly (uses form pages level page) before x) (sym n) (d.own before a is told)
 
   -- the leaf, which was looked at last
   pub leaf-lies : height ≡ 0 → bytes ≡ pages page → IsTree form least pages level page low high → (looked ≡ pages here) × LiesBelow form pages least level page low high fill 0 here lo hi

@@ -1,9 +1,8 @@
 -- A child in its place: the rows in front of it and behind it, and its page's tree where only that child has changed.
-use Rattle.std.proofs.Common.{◌≡◌, ℕ, zero, suc, ◌+◌, ◌<◌, ◌≤◌, List, [], ◌∷◌, ◌++◌, length, get_or, take, drop, arith, refl, sym, ap, ◌∙◌, subst, append_assoc, append-nil}
+use Rattle.std.proofs.Common.{◌≡◌, ℕ, zero, suc, ◌<◌, ◌≤◌, List, [], ◌∷◌, ◌++◌, length, get_or, take, drop, arith, refl, sym, ap, ◌∙◌, subst, append_assoc, append-nil}
 use Rattle.std.specs.List.{flat_map}
 use Rattle.page_face.specs.FreeList.{PageMap}
 use Rattle.page_face.specs.Nodes.{count_of}
-use Rattle.btree_nodes.specs.Supply.{one_at}
 use Rattle.btree_nodes.specs.declared.form.Form.{Form}
 use Rattle.btree_nodes.specs.Rows.{Row, IsWithin}
 use Rattle.btree_nodes.specs.Nodes.{Entry, entries_in, IsInner, half_of}
@@ -14,7 +13,7 @@ use Rattle.btree_nodes.proofs.Spans.{within-append}
 use Rattle.btree_nodes.proofs.Fans.{no_entry, fan-within, with_low-rows, with_low-child, length-with_low, drop-with_low}
 use Rattle.btree_nodes.proofs.Trees.{tree-within, tree-child, child-uses}
 use Rattle.btree_nodes.proofs.Frames.{Same, fan-frame, tree-frame, total-at, with_low-total}
-use Rattle.btree_nodes.proofs.Walks.{inside, tree-below, uses-self}
+use Rattle.btree_nodes.proofs.Walks.{inside}
 use Rattle.btree_search.specs.Below.{HeadsInstead, LiesBelow}
 
 -- the rows below some entries

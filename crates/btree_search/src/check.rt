@@ -52,7 +52,8 @@ fn has_bounded_rows(page: &Page, form: Form, count: usize, low: &[u8], high: &[u
     is_below(key_of(page, form.key, width, count - 1), high)
 }
 
-// Whether the entries of an inner page, whose first key is zero and whose others ascend, keep to the bounds.
+// Whether the entries of an inner page, whose first key is zero and whose others ascend, keep to the bounds. Looks at the second
+// and the last one.
 #[tactic(auto, using(btree_nodes::proofs::Spots::fits_at))]
 fn has_bounded_entries(page: &Page, form: Form, count: usize, low: &[u8], high: &[u8]) -> bool
     requires count { count ≡ count_of page.now }
@@ -69,7 +70,8 @@ fn has_bounded_entries(page: &Page, form: Form, count: usize, low: &[u8], high: 
         Ordering::Less => {}
         _ => return false,
     }
-    is_below(key_of(page, form.key, width, count - 1), high)
+    let last = key_of(page, form.key, width, count - 1);
+    is_below(last, high)
 }
 
 /// The count of a sealed leaf: as `check_leaf`, but only the count and the first and the last key are looked at.

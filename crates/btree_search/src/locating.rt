@@ -26,11 +26,10 @@ pub struct Leaf {
     pub least: usize,
 }
 
-/// The leaf that a key belongs to below a page, which is then the page looked at, and whose bounds are then in `bounds`. The page
-/// at the top is the one looked at last.
+/// Returns the leaf that a key belongs to below `page`, which is the page looked at last. The leaf is then looked at, and its bounds
+/// are in `bounds`.
 ///
-/// It looks at a page for each level below that one, holds none, and writes none. It ends on any bytes, since each step is one
-/// level down.
+/// Looks at one page for each level below `page`. Writes none and copies none.
 fn descend_to_leaf<P: Pages>(
     pages: &mut P,
     form: Form,
@@ -90,11 +89,13 @@ fn descend_to_leaf<P: Pages>(
     }
 }
 
-/// The leaf that a key belongs to in the map below a root, which is then the page looked at, and whose bounds are then in `bounds`.
+/// Returns the leaf that a key belongs to in the map below `root`. The leaf is then looked at, and its bounds are in `bounds`.
 ///
-/// Each page on the way is looked at once, in a loop that holds no page and two keys; a page is checked whole only if it isn't
-/// sealed yet, and is sealed then. Returns `Damaged` with a rule that a page asked for in this call breaks in its place, `Disk`,
-/// `Stopped` or `Memory`. It ends on any bytes, since each step is one level down.
+/// Refuses with `Damaged` and a rule that a page asked for in this call breaks in its place, with `Disk`, `Stopped` or `Memory`. After
+/// a refusal nothing is said of `bounds`. It ends on any bytes, since each step is one level down.
+///
+/// Looks at one page for each level, root and leaf included. Writes none, copies none, and holds two keys. A page is checked whole
+/// only if it isn't sealed yet, and is sealed then; of a sealed one it checks the count and two keys.
 pub fn locate<P: Pages>(
     pages: &mut P,
     form: Form,

@@ -199,39 +199,3 @@ pub fn step_down<P: Pages>(
         Err(rule) => Err(rule),
     }
 }
-
-/// Whether the leaf looked at has a row at the key, whose value is then left in `value`.
-pub fn leaf_row<P: Pages>(
-    pages: &mut P,
-    form: Form,
-    least: usize,
-    bounds: &Bounds,
-    key: &[u8],
-    value: &mut [u8],
-) -> Result<bool, Rule>
-    requires least { 1 ≤ least }
-    requires key { length key.now ≡ form.key }
-    requires top { 0 < bounds.now.top → bounds.now.top ≡ form.key }
-    requires from { number (take form.key bounds.now.low) ≤ number key.now }
-    requires to { number key.now < upper_of form.key (take bounds.now.top bounds.now.high) }
-    requires value { length value.old ≡ form.value }
-    ensures found { IfOk result (λ hit. lookup (number key.now) (rows_in form (P.looked pages.old)) ≡ (if hit then Some value.new else None)) }
-    ensures sound { IfOk result (λ hit. IsLeaf form least (P.looked pages.old)) }
-    ensures breaks { IfErr result (λ rule. BreaksLeaf rule form least
-        (number (take form.key bounds.now.low)) (upper_of form.key (take bounds.now.top bounds.now.high)) (P.looked pages.old)) }
-    ensures asked { P.asked pages.new ≡ P.asked pages.old }
-    ensures frame { Reads P.Pages pages.old pages.new }
-{
-    match leaf_count(pages, form, least, bounds.low(form), bounds.high(form)) {
-        Ok(count) => Ok(row_in(
-            pages.looked(),
-            form,
-            count,
-            bounds.low(form),
-            bounds.high(form),
-            key,
-            value,
-        )),
-        Err(rule) => Err(rule),
-    }
-}

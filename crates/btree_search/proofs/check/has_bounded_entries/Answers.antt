@@ -18,13 +18,13 @@ returns-in_default c = (
 
 pub returns : goal.returns
 returns c = (
-  λ h. let l : number c.key_of-2.result.now < upper_of c.args.form.key c.args.high.now =
-      subst (λ (n : ℕ). number c.key_of-2.result.now < upper_of n c.args.high.now) c.key_of-2.ensures.length (c.is_below.ensures.0 h) in
+  λ h. let l : number c.key_of-last.result.now < upper_of c.args.form.key c.args.high.now =
+      subst (λ (n : ℕ). number c.key_of-last.result.now < upper_of n c.args.high.now) c.key_of-last.ensures.length (c.is_below.ensures.0 h) in
       let m = ap number c.key_of.ensures.is in
-      let n = ap number c.key_of-2.ensures.is in
+      let n = ap number c.key_of-last.ensures.is in
       let low : number c.args.low.now < number c.key_of.result.now = ranked _ _ Less c.in-Less.ensures in
       entries-ordered c.args.form c.args.page.now (number c.args.low.now) (upper_of c.args.form.key c.args.high.now) c.args.count c.requires.count c.requires.some c.requires.first (omega arith) (omega arith) c.requires.order,
   λ h. let r = entries-high c.args.form c.args.page.now (number c.args.low.now) (upper_of c.args.form.key c.args.high.now) c.args.count c.requires.count c.requires.some h in
-      let k = ap number c.key_of-2.ensures.is in
-      c.is_below.ensures.1 (subst (λ (n : ℕ). number c.key_of-2.result.now < upper_of n c.args.high.now) (sym c.key_of-2.ensures.length) (omega arith)),
+      let k = ap number c.key_of-last.ensures.is in
+      c.is_below.ensures.1 (subst (λ (n : ℕ). number c.key_of-last.result.now < upper_of n c.args.high.now) (sym c.key_of-last.ensures.length) (omega arith)),
 )

@@ -1,6 +1,5 @@
 use Rattle.std.proofs.Common.{arith, ◌≡◌, ◌-◌, ◌<◌, ℕ, ◌∙◌, sym, ap, List, subst, refl, ◌++◌, ◌∷◌, [], Err, length}
 use Rattle.page_face.specs.FreeList.{PageMap}
-use Rattle.page_face.specs.Calls.{Reads}
 use Rattle.page_face.specs.Causes.{IsUncounted, asked_after}
 use Rattle.page_face.specs.Number.{number}
 use Rattle.page_face.proofs.Frames.{reads_then}
