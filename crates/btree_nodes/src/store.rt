@@ -1,7 +1,8 @@
 //! Cells that are written into one page, or into two.
-ghost use Rattle.std.specs.Prelude.{◌≡◌, ◌≢◌, ◌+◌, ◌<◌, ◌≤◌, ℕ, List, length, IsTrue, IfOk, OnOk, IsErrOf};
+ghost use Rattle.std.specs.Prelude.{◌≡◌, ◌≢◌, ◌+◌, ◌<◌, ◌≤◌, ℕ, List, length, IfOk, OnOk, IsErrOf};
+ghost use Rattle.page_face.specs.Calls.{FailsWriting, FailsChanging, Writes, Changes};
 ghost use Rattle.page_face.specs.FreeList.{with_page};
-ghost use Rattle.page_face.specs.Causes.{Rose, IsUncounted};
+ghost use Rattle.page_face.specs.Causes.{IsUncounted};
 ghost use Rattle.btree_nodes.specs.Build.{image};
 ghost use Rattle.btree_nodes.specs.Supply.{IsSupplied, view, spare, one_at};
 ghost use Rattle.btree_nodes.specs.Store.{IsSplit};
@@ -25,18 +26,9 @@ pub fn store_one<P: Pages>(
     ensures written { OnOk result (P.pages pages.new ≡ with_page page (image shape.number shape.kind shape.level count cells.now) (P.pages pages.old)) }
 
     ensures damaged { (damage : Damage) → result ≢ Err (PageFault.Damaged damage) }
-    ensures disk { result ≢ Err PageFault.Disk }
-    ensures room_left { result ≢ Err PageFault.NoRoom }
-    ensures stopped { IsErrOf result PageFault.Stopped → IsTrue (P.is_stopped pages.old) }
-
-    ensures asked { P.asked pages.new ≡ P.asked pages.old }
-    ensures count { P.count pages.new ≡ P.count pages.old }
+    ensures fails { FailsWriting P.Pages pages.old result }
+    ensures frame { Writes P.Pages pages.old pages.new }
     ensures first { P.first pages.new ≡ P.first pages.old }
-    ensures room { P.room pages.new ≡ P.room pages.old }
-    ensures faults { P.faults pages.new ≡ P.faults pages.old }
-    ensures refused { P.refused pages.new ≡ P.refused pages.old }
-    ensures goes_on { P.is_stopped pages.new ≡ P.is_stopped pages.old }
-    ensures follows { P.follows_from pages.old pages.new }
 {
     let bytes = build(shape.number, shape.kind, shape.level, count, cells);
     pages.write(page, &bytes)
@@ -67,17 +59,9 @@ pub fn store_two<P: Pages>(
         → (damage : Damage) → result ≢ Err (PageFault.Damaged damage) }
     ensures damaged { (damage : Damage) → IsErrOf result (PageFault.Damaged damage)
         → IsRefusedTake (P.pages pages.new) (P.count pages.new) (P.first pages.new) damage }
-    ensures disk { IsErrOf result PageFault.Disk → Rose (P.faults pages.old) (P.faults pages.new) }
-    ensures refused_more { IsErrOf result PageFault.NoRoom → Rose (P.refused pages.old) (P.refused pages.new) }
-    ensures stopped { IsErrOf result PageFault.Stopped → IsTrue (P.is_stopped pages.old) }
-
+    ensures fails { FailsChanging P.Pages pages.old pages.new result }
+    ensures frame { Changes P.Pages pages.old pages.new }
     ensures asked { P.asked pages.new ≡ P.asked pages.old }
-    ensures counts { P.count pages.old ≤ P.count pages.new }
-    ensures room { P.room pages.new ≡ P.room pages.old }
-    ensures faults { P.faults pages.old ≤ P.faults pages.new }
-    ensures refused { P.refused pages.old ≤ P.refused pages.new }
-    ensures goes_on { P.is_stopped pages.new ≡ P.is_stopped pages.old }
-    ensures follows { P.follows_from pages.old pages.new }
 {
     let right = pages.take()?;
     store_one(pages, shape, page, count, front)?;

@@ -10,7 +10,7 @@ returns-clause-split g c = λ free supplied once.
     is_split (g.P.Pages.pages c.args.pages.now) (g.P.Pages.pages c.take.new.self) (g.P.Pages.pages c.store_one.new.pages) (g.P.Pages.pages c.store_one-2.new.pages)
     (g.P.Pages.count c.args.pages.now) (g.P.Pages.count c.take.new.self) (g.P.Pages.first c.args.pages.now) (g.P.Pages.first c.take.new.self) c.args.page c.in_ok-right.right free _ _
     supplied once t.counts_one t.takes_free t.others c.in_ok-store_one.ensures.written c.in_ok-store_one-2.ensures.written _ _
-    (c.in_ok-store_one-2.ensures.count ∙ c.in_ok-store_one.ensures.count) (c.in_ok-store_one-2.ensures.first ∙ c.in_ok-store_one.ensures.first)
+    (c.in_ok-store_one-2.ensures.frame.count ∙ c.in_ok-store_one.ensures.frame.count) (c.in_ok-store_one-2.ensures.first ∙ c.in_ok-store_one.ensures.first)
 
 pub returns-in_err-right-clause-honest : goal.returns-in_err-right-clause-honest
 returns-in_err-right-clause-honest g c =
