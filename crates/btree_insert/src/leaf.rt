@@ -1,6 +1,7 @@
 //! A row that is put into a leaf.
-ghost use Rattle.std.specs.Prelude.{◌≡◌, ◌≢◌, ◌⊎◌, ℕ, ◌<◌, ◌≤◌, ◌+◌, ◌-◌, ◌*◌, List, ◌++◌, length, map, IfOk, IsErrOf, IsTrue, take, drop, is_some};
-ghost use Rattle.page_face.specs.Causes.{Rose, IsUncounted};
+ghost use Rattle.std.specs.Prelude.{◌≡◌, ◌≢◌, ◌⊎◌, ℕ, ◌<◌, ◌≤◌, ◌+◌, ◌-◌, ◌*◌, List, ◌++◌, length, map, IfOk, IsErrOf, take, drop, is_some};
+ghost use Rattle.page_face.specs.Calls.{FailsChanging, Changes};
+ghost use Rattle.page_face.specs.Causes.{IsUncounted};
 ghost use Rattle.page_face.specs.Number.{number};
 ghost use Rattle.page_face.specs.Cells.{chop, key_at};
 ghost use Rattle.btree_nodes.specs.Supply.{IsSupplied, view, spare, one_at};
@@ -49,17 +50,9 @@ fn store_leaf<P: Pages>(
 
     ensures honest { (free : List ℕ) → IsSupplied (view (P.pages pages.old) (P.count pages.old) (P.first pages.old) free) → (damage : Damage) → result ≢ Err (PageFault.Damaged damage) }
     ensures damaged { (damage : Damage) → IsErrOf result (PageFault.Damaged damage) → IsRefusedTake (P.pages pages.new) (P.count pages.new) (P.first pages.new) damage }
-    ensures disk { IsErrOf result PageFault.Disk → Rose (P.faults pages.old) (P.faults pages.new) }
-    ensures refused_more { IsErrOf result PageFault.NoRoom → Rose (P.refused pages.old) (P.refused pages.new) }
-    ensures stopped { IsErrOf result PageFault.Stopped → IsTrue (P.is_stopped pages.old) }
-
+    ensures fails { FailsChanging P.Pages pages.old pages.new result }
+    ensures frame { Changes P.Pages pages.old pages.new }
     ensures asked { P.asked pages.new ≡ P.asked pages.old }
-    ensures counts { P.count pages.old ≤ P.count pages.new }
-    ensures room { P.room pages.new ≡ P.room pages.old }
-    ensures faults { P.faults pages.old ≤ P.faults pages.new }
-    ensures refused { P.refused pages.old ≤ P.refused pages.new }
-    ensures goes_on { P.is_stopped pages.new ≡ P.is_stopped pages.old }
-    ensures follows { P.follows_from pages.old pages.new }
 {
     let width = form.key + form.value;
     let shape = Shape {
@@ -137,17 +130,9 @@ fn put_at<P: Pages>(
 
     ensures honest { (free : List ℕ) → IsSupplied (view (P.pages pages.old) (P.count pages.old) (P.first pages.old) free) → (damage : Damage) → result ≢ Err (PageFault.Damaged damage) }
     ensures damaged { (damage : Damage) → IsErrOf result (PageFault.Damaged damage) → IsRefusedTake (P.pages pages.new) (P.count pages.new) (P.first pages.new) damage }
-    ensures disk { IsErrOf result PageFault.Disk → Rose (P.faults pages.old) (P.faults pages.new) }
-    ensures refused_more { IsErrOf result PageFault.NoRoom → Rose (P.refused pages.old) (P.refused pages.new) }
-    ensures stopped { IsErrOf result PageFault.Stopped → IsTrue (P.is_stopped pages.old) }
-
+    ensures fails { FailsChanging P.Pages pages.old pages.new result }
+    ensures frame { Changes P.Pages pages.old pages.new }
     ensures asked { P.asked pages.new ≡ P.asked pages.old }
-    ensures counts { P.count pages.old ≤ P.count pages.new }
-    ensures room { P.room pages.new ≡ P.room pages.old }
-    ensures faults { P.faults pages.old ≤ P.faults pages.new }
-    ensures refused { P.refused pages.old ≤ P.refused pages.new }
-    ensures goes_on { P.is_stopped pages.new ≡ P.is_stopped pages.old }
-    ensures follows { P.follows_from pages.old pages.new }
 {
     let width = form.key + form.value;
     splice(old, width * at, width * (at + gone), key, value, cells);
@@ -200,17 +185,9 @@ pub fn put_leaf<P: Pages>(
     ensures damaged { (damage : Damage) → IsErrOf result (PageFault.Damaged damage)
         → ((damage.page ≡ page) × BreaksLeaf damage.rule form least (number low.now) (upper_of form.key high.now) bytes.now)
         ⊎ IsRefusedTake (P.pages pages.new) (P.count pages.new) (P.first pages.new) damage }
-    ensures disk { IsErrOf result PageFault.Disk → Rose (P.faults pages.old) (P.faults pages.new) }
-    ensures refused_more { IsErrOf result PageFault.NoRoom → Rose (P.refused pages.old) (P.refused pages.new) }
-    ensures stopped { IsErrOf result PageFault.Stopped → IsTrue (P.is_stopped pages.old) }
-
+    ensures fails { FailsChanging P.Pages pages.old pages.new result }
+    ensures frame { Changes P.Pages pages.old pages.new }
     ensures asked { P.asked pages.new ≡ P.asked pages.old }
-    ensures counts { P.count pages.old ≤ P.count pages.new }
-    ensures room { P.room pages.new ≡ P.room pages.old }
-    ensures faults { P.faults pages.old ≤ P.faults pages.new }
-    ensures refused { P.refused pages.old ≤ P.refused pages.new }
-    ensures goes_on { P.is_stopped pages.new ≡ P.is_stopped pages.old }
-    ensures follows { P.follows_from pages.old pages.new }
 {
     let width = form.key + form.value;
     let count = match check_leaf(bytes, form, least, low, high) {

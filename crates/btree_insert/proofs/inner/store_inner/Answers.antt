@@ -15,7 +15,7 @@ returns-then-cells-le4096-clause-grown g c = λ low high free enough zero_key fa
     one_inner c.args.form c.args.least old (g.P.Pages.pages c.store_one.new.pages) (g.P.Pages.count c.args.pages.now) (g.P.Pages.first c.args.pages.now) _ _
     c.args.below c.args.page low high c.args.count _ c.args.cells.now free
     (c.in_ok-store_one.ensures.written ∙ ap (λ (k : ℕ). with_page c.args.page (image c.args.form.map 2 k c.args.count c.args.cells.now) old) up)
-    c.in_ok-store_one.ensures.count c.in_ok-store_one.ensures.first
+    c.in_ok-store_one.ensures.frame.count c.in_ok-store_one.ensures.first
     c.requires.some enough (omega arith) c.requires.cells (omega arith) zero_key fan supplied once
 
 pub store_two-requires-clause-back : goal.store_two-requires-clause-back

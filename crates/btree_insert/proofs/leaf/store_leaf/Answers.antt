@@ -8,7 +8,7 @@ pub returns-then-cells-le4096-clause-grown : goal.returns-then-cells-le4096-clau
 returns-then-cells-le4096-clause-grown g c = λ low high free enough within supplied once.
     let f = few (c.args.form.key + c.args.form.value) c.args.count (omega arith) c.requires.some c.requires.few in
     one_leaf c.args.form c.args.least (g.P.Pages.pages c.args.pages.now) (g.P.Pages.pages c.store_one.new.pages) (g.P.Pages.count c.args.pages.now) (g.P.Pages.first c.args.pages.now) _ _
-    c.args.page low high c.args.count _ c.args.cells.now free c.in_ok-store_one.ensures.written c.in_ok-store_one.ensures.count c.in_ok-store_one.ensures.first
+    c.args.page low high c.args.count _ c.args.cells.now free c.in_ok-store_one.ensures.written c.in_ok-store_one.ensures.frame.count c.in_ok-store_one.ensures.first
     c.requires.some enough (omega arith) c.requires.cells (omega arith) within supplied once
 
 pub store_two-requires-clause-back : goal.store_two-requires-clause-back

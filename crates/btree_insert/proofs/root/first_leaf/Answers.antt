@@ -10,7 +10,7 @@ pub returns-clause-grown : goal.returns-clause-grown
 returns-clause-grown g c = λ free supplied once.
     let t = c.in_ok-root.ensures in
     planted c.args.form (g.P.Pages.pages c.args.pages.now) (g.P.Pages.pages c.take.new.self) (g.P.Pages.pages c.write_leaf.new.pages) (g.P.Pages.count c.args.pages.now) (g.P.Pages.count c.take.new.self) (g.P.Pages.first c.args.pages.now) (g.P.Pages.first c.take.new.self) _ _
-    c.in_ok-root.root free c.args.key.now c.args.value.now supplied once t.counts_one t.takes_free t.others c.in_ok-write_leaf.ensures.written c.in_ok-write_leaf.ensures.count c.in_ok-write_leaf.ensures.first c.requires.key c.requires.value
+    c.in_ok-root.root free c.args.key.now c.args.value.now supplied once t.counts_one t.takes_free t.others c.in_ok-write_leaf.ensures.written c.in_ok-write_leaf.ensures.frame.count c.in_ok-write_leaf.ensures.first c.requires.key c.requires.value
     (subst (λ (n : ℕ). number c.args.key.now < 256 ^ n) c.requires.key (number_below c.args.key.now (λ i. let f = c.type_inv.key i in omega arith)))
 
 pub returns-in_err-root-clause-honest : goal.returns-in_err-root-clause-honest

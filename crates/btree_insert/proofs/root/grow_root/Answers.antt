@@ -21,7 +21,7 @@ returns-clause-grown g c = λ high free fan supplied once.
     root_of c.args.form (g.P.Pages.pages c.args.pages.now) taken (g.P.Pages.pages c.write_root.new.pages) (g.P.Pages.count c.args.pages.now) (g.P.Pages.count c.take.new.self) (g.P.Pages.first c.args.pages.now) (g.P.Pages.first c.take.new.self) _ _
     c.args.below c.in_ok-root.root high free bytes _ fan supplied once t.counts_one t.takes_free t.others
     (c.in_ok-write_root.ensures.written ∙ ap (λ (n : ℕ). with_page c.in_ok-root.root (image c.args.form.map 2 n 2 bytes) taken) up)
-    c.in_ok-write_root.ensures.count c.in_ok-write_root.ensures.first
+    c.in_ok-write_root.ensures.frame.count c.in_ok-write_root.ensures.first
     (omega (arith, length-append (replicate k 0 ++ to_be_bytes w32 c.args.left) (c.args.middle.now ++ to_be_bytes w32 c.args.right), length-append (replicate k 0) (to_be_bytes w32 c.args.left), length-append c.args.middle.now (to_be_bytes w32 c.args.right), c.requires.middle, z))
     (ap number (take-append-le k (replicate k 0 ++ to_be_bytes w32 c.args.left) (c.args.middle.now ++ to_be_bytes w32 c.args.right) (omega (arith, length-append (replicate k 0) (to_be_bytes w32 c.args.left), z)) ∙ take_at (replicate k 0) (to_be_bytes w32 c.args.left) k z) ∙ number-zeros k)
     (root-entries c.args.form c.args.middle.now c.args.left c.args.right c.requires.middle (omega arith) (omega arith))
