@@ -1,6 +1,7 @@
 //! The neighbour of a child, read before anything is written.
-ghost use Rattle.std.specs.Prelude.{◌≡◌, ◌≢◌, ◌+◌, ◌*◌, ◌<◌, ◌≤◌, ℕ, suc, List, length, IsTrue, IfOk, IsErrOf};
-ghost use Rattle.page_face.specs.Causes.{Rose, IsUncounted};
+ghost use Rattle.std.specs.Prelude.{◌≡◌, ◌+◌, ◌*◌, ◌<◌, ◌≤◌, ℕ, suc, length, IfOk, IsErrOf};
+ghost use Rattle.page_face.specs.Calls.{FailsReading, Reads};
+ghost use Rattle.page_face.specs.Causes.{IsUncounted};
 ghost use Rattle.page_face.specs.Number.{number};
 ghost use Rattle.page_face.specs.Nodes.{count_of};
 ghost use Rattle.btree_nodes.specs.Nodes.{width_of, half_of};
@@ -62,18 +63,8 @@ pub fn look_beside<P: Pages>(
     ensures named { (damage : Damage) → IsErrOf result (PageFault.Damaged damage) → AskedSince (P.asked pages.old) (P.asked pages.new) damage.page }
     ensures own { (page : ℕ) → bytes.now ≡ P.pages pages.old page → AsksOnly (uses form (P.pages pages.old) (suc below) page) (P.asked pages.old) (P.asked pages.new) }
     ensures more { AsksOnly (λ _. 1) (P.asked pages.old) (P.asked pages.new) }
-    ensures disk { IsErrOf result PageFault.Disk → Rose (P.faults pages.old) (P.faults pages.new) }
-    ensures room_left { result ≢ Err PageFault.NoRoom }
-    ensures stopped { IsErrOf result PageFault.Stopped → IsTrue (P.is_stopped pages.old) }
-
-    ensures pages { P.pages pages.new ≡ P.pages pages.old }
-    ensures count_same { P.count pages.new ≡ P.count pages.old }
-    ensures first { P.first pages.new ≡ P.first pages.old }
-    ensures room { P.room pages.new ≡ P.room pages.old }
-    ensures faults { P.faults pages.old ≤ P.faults pages.new }
-    ensures refused { P.refused pages.new ≡ P.refused pages.old }
-    ensures goes_on { P.is_stopped pages.new ≡ P.is_stopped pages.old }
-    ensures follows { P.follows_from pages.old pages.new }
+    ensures fails { FailsReading P.Pages pages.old pages.new result }
+    ensures frame { Reads P.Pages pages.old pages.new }
 {
     let near = next_to(found);
     let child = child_at(bytes, form, near);
@@ -127,18 +118,8 @@ pub fn look_if_low<P: Pages>(
     ensures named { (damage : Damage) → IsErrOf result (PageFault.Damaged damage) → AskedSince (P.asked pages.old) (P.asked pages.new) damage.page }
     ensures own { (page : ℕ) → bytes.now ≡ P.pages pages.old page → AsksOnly (uses form (P.pages pages.old) (suc below) page) (P.asked pages.old) (P.asked pages.new) }
     ensures more { AsksOnly (λ _. 1) (P.asked pages.old) (P.asked pages.new) }
-    ensures disk { IsErrOf result PageFault.Disk → Rose (P.faults pages.old) (P.faults pages.new) }
-    ensures room_left { result ≢ Err PageFault.NoRoom }
-    ensures stopped { IsErrOf result PageFault.Stopped → IsTrue (P.is_stopped pages.old) }
-
-    ensures pages { P.pages pages.new ≡ P.pages pages.old }
-    ensures count_same { P.count pages.new ≡ P.count pages.old }
-    ensures first { P.first pages.new ≡ P.first pages.old }
-    ensures room { P.room pages.new ≡ P.room pages.old }
-    ensures faults { P.faults pages.old ≤ P.faults pages.new }
-    ensures refused { P.refused pages.new ≡ P.refused pages.old }
-    ensures goes_on { P.is_stopped pages.new ≡ P.is_stopped pages.old }
-    ensures follows { P.follows_from pages.old pages.new }
+    ensures fails { FailsReading P.Pages pages.old pages.new result }
+    ensures frame { Reads P.Pages pages.old pages.new }
 {
     if count_in(child) > least_at(form, below) {
         return Ok(None);

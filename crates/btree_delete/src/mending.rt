@@ -1,5 +1,6 @@
 //! An inner page, one of whose children has too few cells.
-ghost use Rattle.std.specs.Prelude.{◌≡◌, ◌≢◌, ◌+◌, ◌*◌, ◌<◌, ◌≤◌, ◌∷◌, [], ℕ, suc, List, length, IsTrue, IfOk, OnOk, IsErrOf};
+ghost use Rattle.std.specs.Prelude.{◌≡◌, ◌≢◌, ◌+◌, ◌*◌, ◌<◌, ◌≤◌, ◌∷◌, [], ℕ, suc, List, length, IfOk, OnOk};
+ghost use Rattle.page_face.specs.Calls.{FailsWriting, Writes};
 ghost use Rattle.page_face.specs.Causes.{IsUncounted};
 ghost use Rattle.btree_nodes.specs.Supply.{IsSupplied, view, spare, one_at};
 ghost use Rattle.page_face.specs.Nodes.{count_of};
@@ -58,17 +59,8 @@ fn mend_in<P: Pages>(
     ensures range { IfOk result (λ left. (1 ≤ left) × (left ≤ count) × (count ≤ left + 1)) }
 
     ensures damaged { (damage : Damage) → result ≢ Err (PageFault.Damaged damage) }
-    ensures disk { result ≢ Err PageFault.Disk }
-    ensures room_left { result ≢ Err PageFault.NoRoom }
-    ensures stopped { IsErrOf result PageFault.Stopped → IsTrue (P.is_stopped pages.old) }
-
-    ensures asked { P.asked pages.new ≡ P.asked pages.old }
-    ensures count { P.count pages.new ≡ P.count pages.old }
-    ensures room { P.room pages.new ≡ P.room pages.old }
-    ensures faults { P.faults pages.new ≡ P.faults pages.old }
-    ensures refused { P.refused pages.new ≡ P.refused pages.old }
-    ensures goes_on { P.is_stopped pages.new ≡ P.is_stopped pages.old }
-    ensures follows { P.follows_from pages.old pages.new }
+    ensures fails { FailsWriting P.Pages pages.old result }
+    ensures frame { Writes P.Pages pages.old pages.new }
 {
     let left = child_at(bytes, form, at);
     let right = child_at(bytes, form, at + 1);
@@ -141,17 +133,8 @@ pub fn mend<P: Pages>(
     ensures range { IfOk result (λ left. (1 ≤ left) × (left ≤ count) × (count ≤ left + 1)) }
 
     ensures damaged { (damage : Damage) → result ≢ Err (PageFault.Damaged damage) }
-    ensures disk { result ≢ Err PageFault.Disk }
-    ensures room_left { result ≢ Err PageFault.NoRoom }
-    ensures stopped { IsErrOf result PageFault.Stopped → IsTrue (P.is_stopped pages.old) }
-
-    ensures asked { P.asked pages.new ≡ P.asked pages.old }
-    ensures count { P.count pages.new ≡ P.count pages.old }
-    ensures room { P.room pages.new ≡ P.room pages.old }
-    ensures faults { P.faults pages.new ≡ P.faults pages.old }
-    ensures refused { P.refused pages.new ≡ P.refused pages.old }
-    ensures goes_on { P.is_stopped pages.new ≡ P.is_stopped pages.old }
-    ensures follows { P.follows_from pages.old pages.new }
+    ensures fails { FailsWriting P.Pages pages.old result }
+    ensures frame { Writes P.Pages pages.old pages.new }
 {
     let mut middle = [0; 255];
     let left = mend_in(

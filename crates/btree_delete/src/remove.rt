@@ -1,6 +1,7 @@
 //! A row that is taken out of a tree.
-ghost use Rattle.std.specs.Prelude.{◌≡◌, ◌≢◌, ℕ, ◌+◌, ◌<◌, ◌≤◌, List, length, IfOk, IsTrue, IsErrOf};
-ghost use Rattle.page_face.specs.Causes.{Rose, IsUncounted};
+ghost use Rattle.std.specs.Prelude.{◌≡◌, ℕ, ◌+◌, ◌<◌, ◌≤◌, List, length, IfOk, IsErrOf};
+ghost use Rattle.page_face.specs.Calls.{FailsReading, TakesNone};
+ghost use Rattle.page_face.specs.Causes.{IsUncounted};
 ghost use Rattle.page_face.specs.Number.{number};
 ghost use Rattle.btree_nodes.specs.Supply.{IsSupplied, view, spare};
 ghost use Rattle.btree_nodes.specs.Nodes.{least_of_root};
@@ -62,16 +63,8 @@ pub fn remove_in<P: Pages>(
         → (damage : Damage) → IsErrOf result (PageFault.Damaged damage) → AskedSince before (P.asked pages.new) damage.page }
     ensures own { AreTold (P.pages pages.old) (P.count pages.old) → bytes.old ≡ P.pages pages.old page
         → AsksOnly (uses form (P.pages pages.old) level page) (P.asked pages.old) (P.asked pages.new) }
-    ensures disk { IsErrOf result PageFault.Disk → Rose (P.faults pages.old) (P.faults pages.new) }
-    ensures room_left { result ≢ Err PageFault.NoRoom }
-    ensures stopped { IsErrOf result PageFault.Stopped → IsTrue (P.is_stopped pages.old) }
-
-    ensures count { P.count pages.new ≡ P.count pages.old }
-    ensures room { P.room pages.new ≡ P.room pages.old }
-    ensures faults { P.faults pages.old ≤ P.faults pages.new }
-    ensures refused { P.refused pages.new ≡ P.refused pages.old }
-    ensures goes_on { P.is_stopped pages.new ≡ P.is_stopped pages.old }
-    ensures follows { P.follows_from pages.old pages.new }
+    ensures fails { FailsReading P.Pages pages.old pages.new result }
+    ensures frame { TakesNone P.Pages pages.old pages.new }
 {
     if level == 0 {
         return remove_leaf(pages, form, least, page, bytes, low, high, key);

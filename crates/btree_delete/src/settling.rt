@@ -1,5 +1,6 @@
 //! An inner page after a row was taken out below it.
-ghost use Rattle.std.specs.Prelude.{◌≡◌, ◌≢◌, ◌+◌, ◌*◌, ◌<◌, ◌≤◌, ◌∷◌, [], ℕ, suc, List, length, IsTrue, IfOk, IsErrOf};
+ghost use Rattle.std.specs.Prelude.{◌≡◌, ◌≢◌, ◌+◌, ◌*◌, ◌<◌, ◌≤◌, ◌∷◌, [], ℕ, suc, List, IfOk};
+ghost use Rattle.page_face.specs.Calls.{FailsWriting, Writes};
 ghost use Rattle.page_face.specs.Causes.{IsUncounted};
 ghost use Rattle.btree_nodes.specs.Supply.{IsSupplied, view, spare, one_at};
 ghost use Rattle.page_face.specs.Nodes.{count_of};
@@ -66,17 +67,8 @@ pub fn settle<P: Pages>(
     ensures range { IfOk result (λ n. (1 ≤ n) × (n ≤ found.count) × (found.count ≤ n + 1)) }
 
     ensures damaged { (damage : Damage) → result ≢ Err (PageFault.Damaged damage) }
-    ensures disk { result ≢ Err PageFault.Disk }
-    ensures room_left { result ≢ Err PageFault.NoRoom }
-    ensures stopped { IsErrOf result PageFault.Stopped → IsTrue (P.is_stopped pages.old) }
-
-    ensures asked { P.asked pages.new ≡ P.asked pages.old }
-    ensures count { P.count pages.new ≡ P.count pages.old }
-    ensures room { P.room pages.new ≡ P.room pages.old }
-    ensures faults { P.faults pages.new ≡ P.faults pages.old }
-    ensures refused { P.refused pages.new ≡ P.refused pages.old }
-    ensures goes_on { P.is_stopped pages.new ≡ P.is_stopped pages.old }
-    ensures follows { P.follows_from pages.old pages.new }
+    ensures fails { FailsWriting P.Pages pages.old result }
+    ensures frame { Writes P.Pages pages.old pages.new }
 {
     if left >= least_at(form, below) {
         return Ok(found.count);
@@ -150,17 +142,8 @@ pub fn settle_if_low<P: Pages>(
     ensures range { IfOk result (λ n. (1 ≤ n) × (n ≤ found.count) × (found.count ≤ n + 1)) }
 
     ensures damaged { (damage : Damage) → result ≢ Err (PageFault.Damaged damage) }
-    ensures disk { result ≢ Err PageFault.Disk }
-    ensures room_left { result ≢ Err PageFault.NoRoom }
-    ensures stopped { IsErrOf result PageFault.Stopped → IsTrue (P.is_stopped pages.old) }
-
-    ensures asked { P.asked pages.new ≡ P.asked pages.old }
-    ensures count { P.count pages.new ≡ P.count pages.old }
-    ensures room { P.room pages.new ≡ P.room pages.old }
-    ensures faults { P.faults pages.new ≡ P.faults pages.old }
-    ensures refused { P.refused pages.new ≡ P.refused pages.old }
-    ensures goes_on { P.is_stopped pages.new ≡ P.is_stopped pages.old }
-    ensures follows { P.follows_from pages.old pages.new }
+    ensures fails { FailsWriting P.Pages pages.old result }
+    ensures frame { Writes P.Pages pages.old pages.new }
 {
     match beside {
         None => Ok(found.count),

@@ -1,5 +1,6 @@
 //! The cells of two neighbours, gathered and written anew.
-ghost use Rattle.std.specs.Prelude.{◌≡◌, ◌≢◌, ◌+◌, ◌-◌, ◌*◌, ◌/◌, ◌<◌, ◌≤◌, ◌++◌, ℕ, List, length, take, drop, replicate, IsTrue, IfOk, IsErrOf};
+ghost use Rattle.std.specs.Prelude.{◌≡◌, ◌≢◌, ◌+◌, ◌-◌, ◌*◌, ◌/◌, ◌<◌, ◌≤◌, ℕ, List, length, take, drop, IfOk};
+ghost use Rattle.page_face.specs.Calls.{FailsWriting, Writes};
 ghost use Rattle.page_face.specs.Causes.{IsUncounted};
 ghost use Rattle.page_face.specs.Number.{number};
 ghost use Rattle.btree_nodes.specs.Supply.{IsSupplied, view, spare, one_at};
@@ -65,17 +66,8 @@ pub fn share<P: Pages>(
         (body_rows form (P.pages pages.old) level count cells.old) (joined merged low left right (number middle.new))) }
 
     ensures damaged { (damage : Damage) → result ≢ Err (PageFault.Damaged damage) }
-    ensures disk { result ≢ Err PageFault.Disk }
-    ensures room_left { result ≢ Err PageFault.NoRoom }
-    ensures stopped { IsErrOf result PageFault.Stopped → IsTrue (P.is_stopped pages.old) }
-
-    ensures asked { P.asked pages.new ≡ P.asked pages.old }
-    ensures count { P.count pages.new ≡ P.count pages.old }
-    ensures room { P.room pages.new ≡ P.room pages.old }
-    ensures faults { P.faults pages.new ≡ P.faults pages.old }
-    ensures refused { P.refused pages.new ≡ P.refused pages.old }
-    ensures goes_on { P.is_stopped pages.new ≡ P.is_stopped pages.old }
-    ensures follows { P.follows_from pages.old pages.new }
+    ensures fails { FailsWriting P.Pages pages.old result }
+    ensures frame { Writes P.Pages pages.old pages.new }
 {
     let shape = shape_at(form, level);
     if 16 + cells.len() <= 4096 {

@@ -7,4 +7,4 @@ returns-clause-halved g c = λ free supplied once.
     let w = c.in_ok-store_one.ensures in
     let b = c.in_ok-store_one-2.ensures in
     is_halved (g.P.Pages.pages c.args.pages.now) (g.P.Pages.pages c.store_one.new.pages) (g.P.Pages.pages c.store_one-2.new.pages) (g.P.Pages.count c.args.pages.now) (g.P.Pages.first c.args.pages.now) c.args.left c.args.right free _ supplied once w.written
-    _ (g.P.Pages.count c.store_one-2.new.pages) (g.P.Pages.first c.store_one-2.new.pages) (b.count ∙ w.count) (b.first ∙ w.first) b.written
+    _ (g.P.Pages.count c.store_one-2.new.pages) (g.P.Pages.first c.store_one-2.new.pages) (b.frame.count ∙ w.frame.count) (b.first ∙ w.first) b.written

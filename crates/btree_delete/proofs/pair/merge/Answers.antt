@@ -9,4 +9,4 @@ returns-clause-merged g c = λ free supplied once.
     let b = c.in_ok-give_back.ensures in
     let p = page-some (g.P.Pages.count c.args.pages.now) c.args.right c.requires.right in
     is_merged (g.P.Pages.pages c.args.pages.now) (g.P.Pages.pages c.store_one.new.pages) (g.P.Pages.pages c.give_back.new.self) (g.P.Pages.count c.args.pages.now) (g.P.Pages.first c.args.pages.now) c.args.left c.args.right free _ supplied once w.written
-    (g.P.Pages.count c.give_back.new.self) (g.P.Pages.first c.give_back.new.self) (b.count ∙ w.count) b.freed.2 p.0 p.1 b.freed.0 (b.freed.1 ∙ w.first) b.others
+    (g.P.Pages.count c.give_back.new.self) (g.P.Pages.first c.give_back.new.self) (b.count ∙ w.frame.count) b.freed.2 p.0 p.1 b.freed.0 (b.freed.1 ∙ w.first) b.others

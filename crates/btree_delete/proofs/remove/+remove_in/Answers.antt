@@ -25,7 +25,7 @@ use Rattle.btree_delete.proofs.remove.+remove_in.Goals as goal
 pub returns-then-level-eq0-clause-named : goal.returns-then-level-eq0-clause-named
 returns-then-level-eq0-clause-named g t c = λ before asked damage e.
     let d = c.remove_leaf.ensures.damaged damage e in
-    subst (λ (x : List ℕ). AskedSince before x damage.page) (sym c.remove_leaf.ensures.asked) (subst (λ (p : ℕ). AskedSince before (g.P.Pages.asked c.args.pages.now) p) (sym d.0) asked)
+    subst (λ (x : List ℕ). AskedSince before x damage.page) (sym c.remove_leaf.ensures.frame.asked) (subst (λ (p : ℕ). AskedSince before (g.P.Pages.asked c.args.pages.now) p) (sym d.0) asked)
 
 -- the child can't be read
 pub returns-in_err-below-clause-damaged : goal.returns-in_err-below-clause-damaged
@@ -213,7 +213,7 @@ remove_in-requires g t c = λ κs within. (
               c.lower.ensures.from (number c.args.key.now) c.in-Ok.ensures.place c.requires.from,
               (
                 c.upper.ensures.to (number c.args.key.now) c.in-Ok.ensures.place c.requires.to,
-                λ u. let f = c.in_ok-below.ensures.uncounted (subst (λ (k : ℕ). IsUncounted k c.child_at-child.result) (c.look_if_low.ensures.count_same ∙ c.in_ok-below.ensures.count) u) in cc,
+                λ u. let f = c.in_ok-below.ensures.uncounted (subst (λ (k : ℕ). IsUncounted k c.child_at-child.result) (c.look_if_low.ensures.frame.count ∙ c.in_ok-below.ensures.count) u) in cc,
               ),
             ),
           ),
@@ -246,8 +246,8 @@ returns-in_err-removed-clause-damaged g t c =
     let a2 : List ℕ = g.P.Pages.asked c.look_if_low.new.pages in
     let p2 : PageMap = g.P.Pages.pages c.look_if_low.new.pages in
     let n2 : ℕ = g.P.Pages.count c.look_if_low.new.pages in
-    let same = look.pages ∙ read.pages in
-    let more = look.count_same ∙ read.count in
+    let same = look.frame.pages ∙ read.pages in
+    let more = look.frame.count ∙ read.count in
     let passed = err_from_is_err_and c.from_residual-in_err-removed.result c.from_residual-in_err-removed.ensures.1 in
     rw (passed.1, passed.2) (λ told is damage r.
     let was = c.in_err-removed.was ∙ ap Err (same-fault {T = Option ℕ} _ _ r) in
@@ -282,8 +282,8 @@ returns-in_err-removed-clause-in_tree g t c =
     let a2 : List ℕ = g.P.Pages.asked c.look_if_low.new.pages in
     let p2 : PageMap = g.P.Pages.pages c.look_if_low.new.pages in
     let n2 : ℕ = g.P.Pages.count c.look_if_low.new.pages in
-    let same = look.pages ∙ read.pages in
-    let more = look.count_same ∙ read.count in
+    let same = look.frame.pages ∙ read.pages in
+    let more = look.frame.count ∙ read.count in
     let passed = err_from_is_err_and c.from_residual-in_err-removed.result c.from_residual-in_err-removed.ensures.1 in
     rw (passed.1, passed.2) (λ is tree damage r.
     let was = c.in_err-removed.was ∙ ap Err (same-fault {T = Option ℕ} _ _ r) in
@@ -319,8 +319,8 @@ returns-in_err-removed-clause-named g t c =
     let a2 : List ℕ = g.P.Pages.asked c.look_if_low.new.pages in
     let p2 : PageMap = g.P.Pages.pages c.look_if_low.new.pages in
     let n2 : ℕ = g.P.Pages.count c.look_if_low.new.pages in
-    let same = look.pages ∙ read.pages in
-    let more = look.count_same ∙ read.count in
+    let same = look.frame.pages ∙ read.pages in
+    let more = look.frame.count ∙ read.count in
     let passed = err_from_is_err_and c.from_residual-in_err-removed.result c.from_residual-in_err-removed.ensures.1 in
     rw (passed.1, passed.2) (λ before asked damage r.
     let was = c.in_err-removed.was ∙ ap Err (same-fault {T = Option ℕ} _ _ r) in
@@ -348,20 +348,12 @@ returns-in_err-removed-clause-own g t c = λ told is.
     let a2 : List ℕ = g.P.Pages.asked c.look_if_low.new.pages in
     let p2 : PageMap = g.P.Pages.pages c.look_if_low.new.pages in
     let n2 : ℕ = g.P.Pages.count c.look_if_low.new.pages in
-    let same = look.pages ∙ read.pages in
-    let more = look.count_same ∙ read.count in
+    let same = look.frame.pages ∙ read.pages in
+    let more = look.frame.count ∙ read.count in
     own-below form old p2 count n2 c.args.level l page at child c.args.bytes.now c.in_ok-below.below a0 a2 (g.P.Pages.asked c.remove_in.new.pages) up is small e same more told (read.gives (told-read old count child told (λ u. let f = read.uncounted u in cc)))
     (own-looked form old (g.P.Pages.pages c.read.new.self) c.args.level l page at child c.args.bytes.now a0 a1 a2 up is small e read.pages read.asked look.own) c.remove_in.ensures.own
 
-pub returns-in_err-removed-clause-follows : goal.returns-in_err-removed-clause-follows
-returns-in_err-removed-clause-follows g t c =
-    g.met.P.Pages.goes_further _ _ _ c.read.ensures.follows (g.met.P.Pages.goes_further _ _ _ c.look_if_low.ensures.follows c.remove_in.ensures.follows)
-
 -- no row has the key
-pub returns-in-None-clause-follows : goal.returns-in-None-clause-follows
-returns-in-None-clause-follows g t c =
-    g.met.P.Pages.goes_further _ _ _ c.read.ensures.follows (g.met.P.Pages.goes_further _ _ _ c.look_if_low.ensures.follows c.remove_in.ensures.follows)
-
 pub returns-in-None-clause-own : goal.returns-in-None-clause-own
 returns-in-None-clause-own g t c = λ told is.
     let old : PageMap = g.P.Pages.pages c.args.pages.now in
@@ -384,8 +376,8 @@ returns-in-None-clause-own g t c = λ told is.
     let a2 : List ℕ = g.P.Pages.asked c.look_if_low.new.pages in
     let p2 : PageMap = g.P.Pages.pages c.look_if_low.new.pages in
     let n2 : ℕ = g.P.Pages.count c.look_if_low.new.pages in
-    let same = look.pages ∙ read.pages in
-    let more = look.count_same ∙ read.count in
+    let same = look.frame.pages ∙ read.pages in
+    let more = look.frame.count ∙ read.count in
     own-below form old p2 count n2 c.args.level l page at child c.args.bytes.now c.in_ok-below.below a0 a2 (g.P.Pages.asked c.remove_in.new.pages) up is small e same more told (read.gives (told-read old count child told (λ u. let f = read.uncounted u in cc)))
     (own-looked form old (g.P.Pages.pages c.read.new.self) c.args.level l page at child c.args.bytes.now a0 a1 a2 up is small e read.pages read.asked look.own) c.remove_in.ensures.own
 
@@ -411,8 +403,8 @@ returns-in-None-clause-removed g t c = λ free is tree supplied once.
     let a2 : List ℕ = g.P.Pages.asked c.look_if_low.new.pages in
     let p2 : PageMap = g.P.Pages.pages c.look_if_low.new.pages in
     let n2 : ℕ = g.P.Pages.count c.look_if_low.new.pages in
-    let same = look.pages ∙ read.pages in
-    let more = look.count_same ∙ read.count in
+    let same = look.frame.pages ∙ read.pages in
+    let more = look.frame.count ∙ read.count in
     let first : ℕ = g.P.Pages.first c.args.pages.now in
     let key : ℕ = number c.args.key.now in
     let lo' : ℕ = number c.lower.result.now in
@@ -423,7 +415,7 @@ returns-in-None-clause-removed g t c = λ free is tree supplied once.
     let below_tree = tree-below form old c.args.bytes.now c.args.level l page at up is small c.args.least c.least_at.result lo hi lo' hi' child c.least_at.ensures.is c.lower.ensures.is c.upper.ensures.is e tree in
     let there = read.gives (tree-size form c.least_at.result old l child lo' hi' below_tree) in
     let once_child : (n : ℕ) → uses form old l child n + spare free count n ≤ 1 = λ n. (let o = once n in let u = uses-most form old c.args.bytes.now c.args.level l page at up is small child n e in omega arith) in
-    let claim = child-claim form old p2 count n2 first (g.P.Pages.first c.look_if_low.new.pages) free mid nmid fmid l child lo' hi' key c.least_at.result c.in_ok-below.below c.remove_in.new.bytes c.in_ok-removed.removed same more (look.first ∙ read.first)
+    let claim = child-claim form old p2 count n2 first (g.P.Pages.first c.look_if_low.new.pages) free mid nmid fmid l child lo' hi' key c.least_at.result c.in_ok-below.below c.remove_in.new.bytes c.in_ok-removed.removed same more (look.frame.first ∙ read.first)
     (c.in_ok-removed.ensures.removed free) there below_tree supplied once_child in
     let row = lookup-below form old c.args.bytes.now c.args.level l page at up is small c.args.least lo hi key child e c.in-Ok.ensures.place c.requires.from c.requires.to tree in
     row ∙ subst (λ (o : Option ℕ). HasRemoved form (view old count first free) (uses form old l child) mid nmid fmid l child lo' hi' key (rows_at form old l child) c.remove_in.new.bytes o) c.in-None.is claim
@@ -458,19 +450,11 @@ returns-in_err-entries-clause-own g t c = λ told is.
     let a2 : List ℕ = g.P.Pages.asked c.look_if_low.new.pages in
     let p2 : PageMap = g.P.Pages.pages c.look_if_low.new.pages in
     let n2 : ℕ = g.P.Pages.count c.look_if_low.new.pages in
-    let same = look.pages ∙ read.pages in
-    let more = look.count_same ∙ read.count in
-    subst (λ (x : List ℕ). AsksOnly (uses form old c.args.level page) a0 x) (sym c.settle_if_low.ensures.asked) (
+    let same = look.frame.pages ∙ read.pages in
+    let more = look.frame.count ∙ read.count in
+    subst (λ (x : List ℕ). AsksOnly (uses form old c.args.level page) a0 x) (sym c.settle_if_low.ensures.frame.asked) (
     own-below form old p2 count n2 c.args.level l page at child c.args.bytes.now c.in_ok-below.below a0 a2 (g.P.Pages.asked c.remove_in.new.pages) up is small e same more told (read.gives (told-read old count child told (λ u. let f = read.uncounted u in cc)))
     (own-looked form old (g.P.Pages.pages c.read.new.self) c.args.level l page at child c.args.bytes.now a0 a1 a2 up is small e read.pages read.asked look.own) c.remove_in.ensures.own)
-
-pub returns-in_err-entries-clause-follows : goal.returns-in_err-entries-clause-follows
-returns-in_err-entries-clause-follows g t c =
-    g.met.P.Pages.goes_further _ _ _ c.read.ensures.follows (g.met.P.Pages.goes_further _ _ _ c.look_if_low.ensures.follows (g.met.P.Pages.goes_further _ _ _ c.remove_in.ensures.follows c.settle_if_low.ensures.follows))
-
-pub returns-clause-follows : goal.returns-clause-follows
-returns-clause-follows g t c =
-    g.met.P.Pages.goes_further _ _ _ c.read.ensures.follows (g.met.P.Pages.goes_further _ _ _ c.look_if_low.ensures.follows (g.met.P.Pages.goes_further _ _ _ c.remove_in.ensures.follows c.settle_if_low.ensures.follows))
 
 pub returns-clause-own : goal.returns-clause-own
 returns-clause-own g t c = λ told is.
@@ -494,9 +478,9 @@ returns-clause-own g t c = λ told is.
     let a2 : List ℕ = g.P.Pages.asked c.look_if_low.new.pages in
     let p2 : PageMap = g.P.Pages.pages c.look_if_low.new.pages in
     let n2 : ℕ = g.P.Pages.count c.look_if_low.new.pages in
-    let same = look.pages ∙ read.pages in
-    let more = look.count_same ∙ read.count in
-    subst (λ (x : List ℕ). AsksOnly (uses form old c.args.level page) a0 x) (sym c.settle_if_low.ensures.asked) (
+    let same = look.frame.pages ∙ read.pages in
+    let more = look.frame.count ∙ read.count in
+    subst (λ (x : List ℕ). AsksOnly (uses form old c.args.level page) a0 x) (sym c.settle_if_low.ensures.frame.asked) (
     own-below form old p2 count n2 c.args.level l page at child c.args.bytes.now c.in_ok-below.below a0 a2 (g.P.Pages.asked c.remove_in.new.pages) up is small e same more told (read.gives (told-read old count child told (λ u. let f = read.uncounted u in cc)))
     (own-looked form old (g.P.Pages.pages c.read.new.self) c.args.level l page at child c.args.bytes.now a0 a1 a2 up is small e read.pages read.asked look.own) c.remove_in.ensures.own)
 
@@ -533,8 +517,8 @@ returns-clause-removed g t c = λ free is tree supplied once.
     let a2 : List ℕ = g.P.Pages.asked c.look_if_low.new.pages in
     let p2 : PageMap = g.P.Pages.pages c.look_if_low.new.pages in
     let n2 : ℕ = g.P.Pages.count c.look_if_low.new.pages in
-    let same = look.pages ∙ read.pages in
-    let more = look.count_same ∙ read.count in
+    let same = look.frame.pages ∙ read.pages in
+    let more = look.frame.count ∙ read.count in
     let first : ℕ = g.P.Pages.first c.args.pages.now in
     let key : ℕ = number c.args.key.now in
     let lo' : ℕ = number c.lower.result.now in
@@ -545,7 +529,7 @@ returns-clause-removed g t c = λ free is tree supplied once.
     let below_tree = tree-below form old c.args.bytes.now c.args.level l page at up is small c.args.least c.least_at.result lo hi lo' hi' child c.least_at.ensures.is c.lower.ensures.is c.upper.ensures.is e tree in
     let there = read.gives (tree-size form c.least_at.result old l child lo' hi' below_tree) in
     let once_child : (n : ℕ) → uses form old l child n + spare free count n ≤ 1 = λ n. (let o = once n in let u = uses-most form old c.args.bytes.now c.args.level l page at up is small child n e in omega arith) in
-    let claim = child-claim form old p2 count n2 first (g.P.Pages.first c.look_if_low.new.pages) free mid nmid fmid l child lo' hi' key c.least_at.result c.in_ok-below.below c.remove_in.new.bytes c.in_ok-removed.removed same more (look.first ∙ read.first)
+    let claim = child-claim form old p2 count n2 first (g.P.Pages.first c.look_if_low.new.pages) free mid nmid fmid l child lo' hi' key c.least_at.result c.in_ok-below.below c.remove_in.new.bytes c.in_ok-removed.removed same more (look.frame.first ∙ read.first)
     (c.in_ok-removed.ensures.removed free) there below_tree supplied once_child in
     let row = lookup-below form old c.args.bytes.now c.args.level l page at up is small c.args.least lo hi key child e c.in-Ok.ensures.place c.requires.from c.requires.to tree in
     let left : ℕ = c.in-Some.left in
