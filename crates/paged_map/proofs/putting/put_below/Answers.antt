@@ -161,7 +161,7 @@ returns-then-right-eq0-clause-becomes g c = λ free kept.
     (enter (λ f p k v l w. c.in-Ok.bytes ≡ p root → IsTree f l p v root w (256 ^ f.key) → IsSupplied (view p k (g.P.Pages.first c.read.new.self) free) → ((n : ℕ) → uses f p v root n + spare free k n ≤ 1)
     → IsGrown f l (view p k (g.P.Pages.first c.read.new.self) free) (uses f p v root) (g.P.Pages.pages c.put_in.new.pages) (g.P.Pages.count c.put_in.new.pages) (g.P.Pages.first c.put_in.new.pages) v root w (256 ^ f.key) (put (number c.args.key.now) c.args.value.now (rows_at f p v root)) c.in_ok-grown-in-Ok.grown.right (number c.put_in.new.middle))
     form form old (g.P.Pages.pages c.read.new.self) count (g.P.Pages.count c.read.new.self) lv c.level-level.result (least_of_root lv) c.root_least.result 0 (number c.least_key.result.now) refl read.pages read.count e_level e_least c.least_key.ensures.least (c.in_ok-grown-in-Ok.ensures.grown free) bytes tree (rw read.first kept.supplied) once) in
-    let more = c.put_in.ensures.counts in
+    let more = c.put_in.ensures.frame.count in
     let whole = subst (λ (r : ℕ). IsGrown form (least_of_root lv) (view old count first free) (uses form old lv root) (g.P.Pages.pages c.put_in.new.pages) (g.P.Pages.count c.put_in.new.pages) (g.P.Pages.first c.put_in.new.pages) lv root 0 (256 ^ form.key) (put (number c.args.key.now) c.args.value.now (rows_at form old lv root)) r (number c.put_in.new.middle)) c.if-right-eq0.true grew in
     subst (HasBecome form (view old count first free) (g.P.Pages.pages c.put_in.new.pages) (g.P.Pages.count c.put_in.new.pages) (g.P.Pages.first c.put_in.new.pages) root root) (ap (put (number c.args.key.now) c.args.value.now) (sym (map-rows form old root some)))
     (becomes form (view old count first free) (g.P.Pages.pages c.put_in.new.pages) (g.P.Pages.count c.put_in.new.pages) (g.P.Pages.first c.put_in.new.pages) lv root root (number c.put_in.new.middle) (uses form old lv root) (put (number c.args.key.now) c.args.value.now (rows_at form old lv root)) some (let e = read.count in omega arith) kept
@@ -305,8 +305,8 @@ returns-clause-becomes g c = λ free kept.
     new (g.P.Pages.count c.grow_root.new.pages) (g.P.Pages.first c.grow_root.new.pages) (suc v) c.in_ok-top.top 0 (256 ^ form.key) (below_rows form (g.P.Pages.pages c.put_in.new.pages) v ((0, root) ∷ ((number c.put_in.new.middle, c.in_ok-grown-in-Ok.grown.right) ∷ []))) 0 0) e_level made in
     let whole = rooted form (view old count first free) (uses form old lv root) (g.P.Pages.pages c.put_in.new.pages) (g.P.Pages.count c.put_in.new.pages) (g.P.Pages.first c.put_in.new.pages) lv root (256 ^ form.key) c.in_ok-grown-in-Ok.grown.right (number c.put_in.new.middle) rows grew.free
     new (g.P.Pages.count c.grow_root.new.pages) (g.P.Pages.first c.grow_root.new.pages) c.in_ok-top.top up made' in
-    let m1 = c.put_in.ensures.counts in
-    let m2 = c.grow_root.ensures.counts in
+    let m1 = c.put_in.ensures.frame.count in
+    let m2 = c.grow_root.ensures.frame.count in
     subst (HasBecome form (view old count first free) new (g.P.Pages.count c.grow_root.new.pages) (g.P.Pages.first c.grow_root.new.pages) root c.in_ok-top.top) (ap (put (number c.args.key.now) c.args.value.now) (sym (map-rows form old root some)))
     (becomes form (view old count first free) new (g.P.Pages.count c.grow_root.new.pages) (g.P.Pages.first c.grow_root.new.pages) (suc lv) root c.in_ok-top.top 0 (uses form old lv root) rows c.in_ok-top.ensures.some (let e = read.count in omega arith) kept
     (λ n. sym (map-uses form old root n some)) whole)

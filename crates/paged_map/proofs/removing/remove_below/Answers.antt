@@ -33,7 +33,7 @@ pub remove_in-requires-clause-page : goal.remove_in-requires-clause-page
 remove_in-requires-clause-page g c = λ u. let f = c.in_ok-bytes.ensures.uncounted (subst (λ (n : ℕ). IsUncounted n c.args.root) c.in_ok-bytes.ensures.count u) in cc
 
 pub root_after-requires-clause-root : goal.root_after-requires-clause-root
-root_after-requires-clause-root g c = λ u. let f = c.in_ok-bytes.ensures.uncounted (subst (λ (n : ℕ). IsUncounted n c.args.root) (c.remove_in.ensures.count ∙ c.in_ok-bytes.ensures.count) u) in cc
+root_after-requires-clause-root g c = λ u. let f = c.in_ok-bytes.ensures.uncounted (subst (λ (n : ℕ). IsUncounted n c.args.root) (c.remove_in.ensures.frame.count ∙ c.in_ok-bytes.ensures.count) u) in cc
 
 pub root_after-requires-clause-left : goal.root_after-requires-clause-left
 root_after-requires-clause-left g c =
@@ -248,7 +248,7 @@ returns-in-None-clause-removed g c = λ free kept.
     let absent : lookup (number c.args.key.now) (map_rows form old root) ≡ None = ap (lookup (number c.args.key.now)) (map-rows form old root some) ∙ done in (
       sym (ap is_some absent),
       subst (HasBecome form (view old count first free) (g.P.Pages.pages c.remove_in.new.pages) (g.P.Pages.count c.remove_in.new.pages) (g.P.Pages.first c.remove_in.new.pages) root root) (sym (without-absent (number c.args.key.now) (map_rows form old root) absent))
-          (stays form (view old count first free) (g.P.Pages.pages c.remove_in.new.pages) (g.P.Pages.count c.remove_in.new.pages) (g.P.Pages.first c.remove_in.new.pages) root (same.0 ∙ read.pages) (c.remove_in.ensures.count ∙ read.count) (same.1 ∙ read.first) kept),
+          (stays form (view old count first free) (g.P.Pages.pages c.remove_in.new.pages) (g.P.Pages.count c.remove_in.new.pages) (g.P.Pages.first c.remove_in.new.pages) root (same.0 ∙ read.pages) (c.remove_in.ensures.frame.count ∙ read.count) (same.1 ∙ read.first) kept),
     )
 
 pub returns-clause-removed : goal.returns-clause-removed
@@ -274,7 +274,7 @@ returns-clause-removed g c = λ free kept.
     form form old (g.P.Pages.pages c.read.new.self) count (g.P.Pages.count c.read.new.self) lv c.level-level.result (least_of_root lv) c.root_least.result 0 (number c.least_key.result.now) refl read.pages read.count e_level e_least c.least_key.ensures.least (c.in_ok-removed.ensures.removed free) bytes tree (rw read.first kept.supplied) once) in
     let done = subst (λ (o : Option ℕ). HasRemoved form (view old count first free) (uses form old lv root) (g.P.Pages.pages c.remove_in.new.pages) (g.P.Pages.count c.remove_in.new.pages) (g.P.Pages.first c.remove_in.new.pages) lv root 0 (256 ^ form.key) (number c.args.key.now) (rows_at form old lv root) c.remove_in.new.bytes o) c.in-Some.is answer in
     let out = subst (λ (v : ℕ). IsOut form (view old count first free) (uses form old lv root) (g.P.Pages.pages c.remove_in.new.pages) (g.P.Pages.count c.remove_in.new.pages) (g.P.Pages.first c.remove_in.new.pages) v root 0 (256 ^ form.key) (number c.args.key.now) (rows_at form old lv root) c.remove_in.new.bytes c.in-Some.left) (sym e_level) done in
-    let made = c.in_ok-top.ensures.becomes (view old count first free) (uses form old lv root) (number c.args.key.now) (rows_at form old lv root) (sym (c.remove_in.ensures.count ∙ read.count)) kept (λ n. sym (map-uses form old root n some)) out in
+    let made = c.in_ok-top.ensures.becomes (view old count first free) (uses form old lv root) (number c.args.key.now) (rows_at form old lv root) (sym (c.remove_in.ensures.frame.count ∙ read.count)) kept (λ n. sym (map-uses form old root n some)) out in
     let e = map-rows form old root some in (
       is-some (lookup (number c.args.key.now) (map_rows form old root)) (λ none. out.there (ap (lookup (number c.args.key.now)) (sym e) ∙ none)),
       subst (HasBecome form (view old count first free) (g.P.Pages.pages c.root_after.new.pages) (g.P.Pages.count c.root_after.new.pages) (g.P.Pages.first c.root_after.new.pages) root c.in_ok-top.top) (ap (without (number c.args.key.now)) (sym e)) made,

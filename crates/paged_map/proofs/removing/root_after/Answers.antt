@@ -47,4 +47,4 @@ returns-clause-becomes g c = λ before mine key rows same kept are out.
     IfOk-weaker c.lower_root.result
     (λ top. Becomes form (half_of form l) (view old count first b.free) (uses form old (suc l) root) new count' first' l 0 (256 ^ form.key) (rows_at form old (suc l) root) ((0, top) ∷ []))
     (λ top. HasBecome form before new count' first' root top (without key rows))
-    (λ top low. lowered-root form before mine old new count first count' first' l root top root (without key rows) (same ∙ sym c.lower_root.ensures.count) kept are b low) lowered
+    (λ top low. lowered-root form before mine old new count first count' first' l root top root (without key rows) (same ∙ sym c.lower_root.ensures.frame.count) kept are b low) lowered

@@ -43,7 +43,7 @@ returns-then-empty-clause-becomes g c = λ free kept.
     let e = c.form_of-form.ensures in
     let none : root ≡ 0 = grind (arith, nat_tests, c.if-empty.true) in
     let row : Row = (number c.args.key.now, c.args.value.now) in
-    let more = c.first_leaf.ensures.counts in
+    let more = c.first_leaf.ensures.frame.count in
     let grew = subst (λ (f : Form). IsGrown f 1 (view old count first free) no_page (g.P.Pages.pages c.first_leaf.new.pages) (g.P.Pages.count c.first_leaf.new.pages) (g.P.Pages.first c.first_leaf.new.pages) 0 c.in_ok-leaf.leaf 0 (256 ^ f.key) (row ∷ []) 0 0) e
     (c.in_ok-leaf.ensures.grown free kept.supplied (λ n. let o = kept.once n in omega arith)) in
     subst (HasBecome form (view old count first free) (g.P.Pages.pages c.first_leaf.new.pages) (g.P.Pages.count c.first_leaf.new.pages) (g.P.Pages.first c.first_leaf.new.pages) root c.in_ok-leaf.leaf) (ap (put (number c.args.key.now) c.args.value.now) (sym (map-none form old root none)))
