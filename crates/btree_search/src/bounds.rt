@@ -67,7 +67,7 @@ impl Bounds {
         self.top = key.len();
     }
 
-    /// The bounds of the child at this place of an inner page with `count` entries.
+    /// The bounds of the child at this place of an inner page with `count` entries. Copies both buffers, and a key into each.
     pub fn narrow(&mut self, page: &Page, form: Form, count: usize, at: usize)
         requires at { at < count }
         requires count { count ≡ count_of page.now }

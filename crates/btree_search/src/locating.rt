@@ -15,7 +15,7 @@ use crate::sealed::{leaf_count, step_down};
 use btree_nodes::{Form, damaged, least_at, level, root_least};
 use page_face::{Damage, PageFault, Pages};
 
-/// A leaf, as its place in a map asks it to be.
+/// A leaf that was found, and what its place in the map asks of it.
 #[derive(Clone, Copy, Debug, PartialEq, Eq)]
 pub struct Leaf {
     /// Its page.

@@ -93,6 +93,8 @@ fn copy_value(page: &Page, form: Form, at: usize, value: &mut [u8])
 }
 
 /// Whether a leaf of `count` rows has a row at the key, whose value is then left in `value`.
+///
+/// Searches the rows by halves where they lie in the page. Looks at no other page, and copies the value alone.
 #[tactic(auto, using(btree_nodes::proofs::Spots::fits_at))]
 pub fn row_in(
     page: &Page,
