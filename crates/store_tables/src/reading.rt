@@ -1,7 +1,7 @@
 //! What the tables hold, looked up.
-ghost use Rattle.std.specs.Prelude.{◌≡◌, ◌≢◌, ℕ, ◌≤◌, ◌<◌, ◌+◌, List, length, option_map, Some, IfOk, IfSome, IsTrue, IsErrOf};
+ghost use Rattle.std.specs.Prelude.{◌≡◌, ◌≢◌, ◌<◌, option_map, Some, IfOk, IfSome, IsErrOf};
 ghost use Rattle.std.specs.Option.{option_copied};
-ghost use Rattle.page_face.specs.Causes.{Rose};
+ghost use Rattle.page_face.specs.Calls.{FailsReading, Reads};
 ghost use Rattle.page_face.specs.Number.{number as number_of_bytes};
 ghost use Rattle.btree_nodes.specs.Rows.{lookup, first_from};
 ghost use Rattle.btree_nodes.specs.Tree.{IsMap, map_rows, map_uses};
@@ -56,19 +56,8 @@ impl Tables {
             → (damage : Damage) → IsErrOf result (PageFault.Damaged damage) → damage.rule ≢ Rule.Value → AskedSince (P.asked pages.old) (P.asked pages.new) damage.page }
         ensures own { AreTold (P.pages pages.old) (P.count pages.old)
             → AsksOnly (map_uses places_form (P.pages pages.old) self.now.places) (P.asked pages.old) (P.asked pages.new) }
-        ensures disk { IsErrOf result PageFault.Disk → Rose (P.faults pages.old) (P.faults pages.new) }
-        ensures room_left { result ≢ Err PageFault.NoRoom }
-        ensures stopped { IsErrOf result PageFault.Stopped → IsTrue (P.is_stopped pages.old) }
-
-        ensures pages { P.pages pages.new ≡ P.pages pages.old }
-        ensures count { P.count pages.new ≡ P.count pages.old }
-        ensures first { P.first pages.new ≡ P.first pages.old }
-        ensures room { P.room pages.new ≡ P.room pages.old }
-        ensures faults { P.faults pages.old ≤ P.faults pages.new }
-        ensures refused { P.refused pages.new ≡ P.refused pages.old }
-        ensures goes_on { P.is_stopped pages.new ≡ P.is_stopped pages.old }
-        ensures only_reads { P.only_reads pages.old pages.new }
-        ensures follows { P.follows_from pages.old pages.new }
+        ensures fails { FailsReading P.Pages pages.old pages.new result }
+        ensures frame { Reads P.Pages pages.old pages.new }
     {
         let mut value = [0; 585];
         let Some(leaf) = get_row::<Places, P>(pages, self.places, &key.bytes(), &mut value)? else {
@@ -98,19 +87,8 @@ impl Tables {
             → (damage : Damage) → IsErrOf result (PageFault.Damaged damage) → AskedSince (P.asked pages.old) (P.asked pages.new) damage.page }
         ensures own { AreTold (P.pages pages.old) (P.count pages.old)
             → AsksOnly (map_uses texts_form (P.pages pages.old) self.now.texts) (P.asked pages.old) (P.asked pages.new) }
-        ensures disk { IsErrOf result PageFault.Disk → Rose (P.faults pages.old) (P.faults pages.new) }
-        ensures room_left { result ≢ Err PageFault.NoRoom }
-        ensures stopped { IsErrOf result PageFault.Stopped → IsTrue (P.is_stopped pages.old) }
-
-        ensures pages { P.pages pages.new ≡ P.pages pages.old }
-        ensures count { P.count pages.new ≡ P.count pages.old }
-        ensures first { P.first pages.new ≡ P.first pages.old }
-        ensures room { P.room pages.new ≡ P.room pages.old }
-        ensures faults { P.faults pages.old ≤ P.faults pages.new }
-        ensures refused { P.refused pages.new ≡ P.refused pages.old }
-        ensures goes_on { P.is_stopped pages.new ≡ P.is_stopped pages.old }
-        ensures only_reads { P.only_reads pages.old pages.new }
-        ensures follows { P.follows_from pages.old pages.new }
+        ensures fails { FailsReading P.Pages pages.old pages.new result }
+        ensures frame { Reads P.Pages pages.old pages.new }
     {
         let mut value = [0; 8];
         match get_row::<Texts, P>(pages, self.texts, &word.bytes(), &mut value)? {
@@ -140,19 +118,8 @@ impl Tables {
             → (damage : Damage) → IsErrOf result (PageFault.Damaged damage) → damage.rule ≢ Rule.Value → AskedSince (P.asked pages.old) (P.asked pages.new) damage.page }
         ensures own { AreTold (P.pages pages.old) (P.count pages.old)
             → AsksOnly (map_uses numbers_form (P.pages pages.old) self.now.numbers) (P.asked pages.old) (P.asked pages.new) }
-        ensures disk { IsErrOf result PageFault.Disk → Rose (P.faults pages.old) (P.faults pages.new) }
-        ensures room_left { result ≢ Err PageFault.NoRoom }
-        ensures stopped { IsErrOf result PageFault.Stopped → IsTrue (P.is_stopped pages.old) }
-
-        ensures pages { P.pages pages.new ≡ P.pages pages.old }
-        ensures count { P.count pages.new ≡ P.count pages.old }
-        ensures first { P.first pages.new ≡ P.first pages.old }
-        ensures room { P.room pages.new ≡ P.room pages.old }
-        ensures faults { P.faults pages.old ≤ P.faults pages.new }
-        ensures refused { P.refused pages.new ≡ P.refused pages.old }
-        ensures goes_on { P.is_stopped pages.new ≡ P.is_stopped pages.old }
-        ensures only_reads { P.only_reads pages.old pages.new }
-        ensures follows { P.follows_from pages.old pages.new }
+        ensures fails { FailsReading P.Pages pages.old pages.new result }
+        ensures frame { Reads P.Pages pages.old pages.new }
     {
         let mut value = [0; 37];
         let key = number_bytes(number);
@@ -182,19 +149,8 @@ impl Tables {
             → (damage : Damage) → IsErrOf result (PageFault.Damaged damage) → damage.rule ≢ Rule.Value → AskedSince (P.asked pages.old) (P.asked pages.new) damage.page }
         ensures own { AreTold (P.pages pages.old) (P.count pages.old)
             → AsksOnly (map_uses numbers_form (P.pages pages.old) self.now.numbers) (P.asked pages.old) (P.asked pages.new) }
-        ensures disk { IsErrOf result PageFault.Disk → Rose (P.faults pages.old) (P.faults pages.new) }
-        ensures room_left { result ≢ Err PageFault.NoRoom }
-        ensures stopped { IsErrOf result PageFault.Stopped → IsTrue (P.is_stopped pages.old) }
-
-        ensures pages { P.pages pages.new ≡ P.pages pages.old }
-        ensures count { P.count pages.new ≡ P.count pages.old }
-        ensures first { P.first pages.new ≡ P.first pages.old }
-        ensures room { P.room pages.new ≡ P.room pages.old }
-        ensures faults { P.faults pages.old ≤ P.faults pages.new }
-        ensures refused { P.refused pages.new ≡ P.refused pages.old }
-        ensures goes_on { P.is_stopped pages.new ≡ P.is_stopped pages.old }
-        ensures only_reads { P.only_reads pages.old pages.new }
-        ensures follows { P.follows_from pages.old pages.new }
+        ensures fails { FailsReading P.Pages pages.old pages.new result }
+        ensures frame { Reads P.Pages pages.old pages.new }
     {
         match self.counted(pages, number)? {
             Some(counted) => Ok(Some(counted.word)),
@@ -227,19 +183,8 @@ impl Tables {
             → (damage : Damage) → IsErrOf result (PageFault.Damaged damage) → damage.rule ≢ Rule.Value → AskedSince (P.asked pages.old) (P.asked pages.new) damage.page }
         ensures own { AreTold (P.pages pages.old) (P.count pages.old)
             → AsksOnly (map_uses places_form (P.pages pages.old) self.now.places) (P.asked pages.old) (P.asked pages.new) }
-        ensures disk { IsErrOf result PageFault.Disk → Rose (P.faults pages.old) (P.faults pages.new) }
-        ensures room_left { result ≢ Err PageFault.NoRoom }
-        ensures stopped { IsErrOf result PageFault.Stopped → IsTrue (P.is_stopped pages.old) }
-
-        ensures pages { P.pages pages.new ≡ P.pages pages.old }
-        ensures count { P.count pages.new ≡ P.count pages.old }
-        ensures first { P.first pages.new ≡ P.first pages.old }
-        ensures room { P.room pages.new ≡ P.room pages.old }
-        ensures faults { P.faults pages.old ≤ P.faults pages.new }
-        ensures refused { P.refused pages.new ≡ P.refused pages.old }
-        ensures goes_on { P.is_stopped pages.new ≡ P.is_stopped pages.old }
-        ensures only_reads { P.only_reads pages.old pages.new }
-        ensures follows { P.follows_from pages.old pages.new }
+        ensures fails { FailsReading P.Pages pages.old pages.new result }
+        ensures frame { Reads P.Pages pages.old pages.new }
     {
         let mut found = [0; 66];
         let mut value = [0; 585];

@@ -1,9 +1,9 @@
 //! Words that one place less holds.
-ghost use Rattle.std.specs.Prelude.{◌≡◌, ◌≢◌, ◌⊎◌, ℕ, ◌≤◌, List, Some, IfOk, OnOk, OnErr, IsTrue, IsErrOf};
+ghost use Rattle.std.specs.Prelude.{◌≡◌, ◌⊎◌, ℕ, List, Some, IfOk, OnOk, OnErr, IsErrOf};
 ghost use Rattle.std.specs.BTreeMap.{is_at};
 ghost use Rattle.std.specs.Map.{remove_entry};
 ghost use Rattle.std.specs.Ordering.{nat_cmp};
-ghost use Rattle.page_face.specs.Causes.{Rose};
+ghost use Rattle.page_face.specs.Calls.{FailsReading, FailsChanging, Reads, TakesNone, Changes};
 ghost use Rattle.btree_nodes.specs.Supply.{view};
 ghost use Rattle.btree_nodes.specs.Damages.{AreTold, AskedSince, AsksOnly, IsRefusedTake};
 ghost use Rattle.paged_map.specs.Maps.{AreCounted, IsMapDamaged};
@@ -33,19 +33,8 @@ impl Tables {
             → IsReleaseDamage (P.pages pages.old) (P.count pages.old) self.now number (P.asked pages.old) (P.asked pages.new) damage }
         ensures own { AreTold (P.pages pages.old) (P.count pages.old)
             → AsksOnly (word_uses (P.pages pages.old) self.now) (P.asked pages.old) (P.asked pages.new) }
-        ensures disk { IsErrOf result PageFault.Disk → Rose (P.faults pages.old) (P.faults pages.new) }
-        ensures room_left { result ≢ Err PageFault.NoRoom }
-        ensures stopped { IsErrOf result PageFault.Stopped → IsTrue (P.is_stopped pages.old) }
-
-        ensures pages { P.pages pages.new ≡ P.pages pages.old }
-        ensures count { P.count pages.new ≡ P.count pages.old }
-        ensures first { P.first pages.new ≡ P.first pages.old }
-        ensures room { P.room pages.new ≡ P.room pages.old }
-        ensures faults { P.faults pages.old ≤ P.faults pages.new }
-        ensures refused { P.refused pages.new ≡ P.refused pages.old }
-        ensures goes_on { P.is_stopped pages.new ≡ P.is_stopped pages.old }
-        ensures only_reads { P.only_reads pages.old pages.new }
-        ensures follows { P.follows_from pages.old pages.new }
+        ensures fails { FailsReading P.Pages pages.old pages.new result }
+        ensures frame { Reads P.Pages pages.old pages.new }
     {
         let Some(counted) = self.counted(pages, number)? else {
             return Err(disagreement());
@@ -81,15 +70,8 @@ impl Tables {
             → AsksOnly (word_uses (P.pages pages.old) self.old) (P.asked pages.old) (P.asked pages.new) }
         ensures others { (self.new.places ≡ self.old.places) × (self.new.next_word ≡ self.old.next_word) }
         ensures kept { OnErr result (self.new ≡ self.old) }
-        ensures disk { IsErrOf result PageFault.Disk → Rose (P.faults pages.old) (P.faults pages.new) }
-        ensures room_left { result ≢ Err PageFault.NoRoom }
-        ensures stopped { IsErrOf result PageFault.Stopped → IsTrue (P.is_stopped pages.old) }
-
-        ensures room { P.room pages.new ≡ P.room pages.old }
-        ensures faults { P.faults pages.old ≤ P.faults pages.new }
-        ensures refused { P.refused pages.new ≡ P.refused pages.old }
-        ensures goes_on { P.is_stopped pages.new ≡ P.is_stopped pages.old }
-        ensures follows { P.follows_from pages.old pages.new }
+        ensures fails { FailsReading P.Pages pages.old pages.new result }
+        ensures frame { TakesNone P.Pages pages.old pages.new }
     {
         let mut next = *self;
         next.remove_number(pages, number)?;
@@ -125,15 +107,8 @@ impl Tables {
             → AsksOnly (word_uses (P.pages pages.old) self.old) (P.asked pages.old) (P.asked pages.new) }
         ensures others { (self.new.places ≡ self.old.places) × (self.new.next_word ≡ self.old.next_word) }
         ensures kept { OnErr result (self.new ≡ self.old) }
-        ensures disk { IsErrOf result PageFault.Disk → Rose (P.faults pages.old) (P.faults pages.new) }
-        ensures no_room { IsErrOf result PageFault.NoRoom → Rose (P.refused pages.old) (P.refused pages.new) }
-        ensures stopped { IsErrOf result PageFault.Stopped → IsTrue (P.is_stopped pages.old) }
-
-        ensures room { P.room pages.new ≡ P.room pages.old }
-        ensures faults { P.faults pages.old ≤ P.faults pages.new }
-        ensures refused { P.refused pages.old ≤ P.refused pages.new }
-        ensures goes_on { P.is_stopped pages.new ≡ P.is_stopped pages.old }
-        ensures follows { P.follows_from pages.old pages.new }
+        ensures fails { FailsChanging P.Pages pages.old pages.new result }
+        ensures frame { Changes P.Pages pages.old pages.new }
     {
         let counted = self.releasable(pages, number)?;
         if counted.places <= 1 {

@@ -1,9 +1,9 @@
 //! Rows that are taken out of one of the tables.
-ghost use Rattle.std.specs.Prelude.{◌≡◌, ◌≢◌, ℕ, ◌≤◌, List, IfOk, OnOk, OnErr, IsTrue, IsErrOf, is_some};
+ghost use Rattle.std.specs.Prelude.{◌≡◌, ℕ, List, IfOk, OnOk, OnErr, IsErrOf, is_some};
 ghost use Rattle.std.specs.BTreeMap.{is_at};
 ghost use Rattle.std.specs.Map.{remove_entry};
 ghost use Rattle.std.specs.Ordering.{nat_cmp};
-ghost use Rattle.page_face.specs.Causes.{Rose};
+ghost use Rattle.page_face.specs.Calls.{FailsReading, TakesNone};
 ghost use Rattle.btree_nodes.specs.Supply.{view};
 ghost use Rattle.btree_nodes.specs.Tree.{map_uses};
 ghost use Rattle.btree_nodes.specs.Damages.{AreTold, AskedSince, AsksOnly};
@@ -39,15 +39,8 @@ impl Tables {
             → AsksOnly (map_uses places_form (P.pages pages.old) self.old.places) (P.asked pages.old) (P.asked pages.new) }
         ensures others { self.new ≡ record self.old { places = self.new.places } }
         ensures kept { OnErr result (self.new ≡ self.old) }
-        ensures disk { IsErrOf result PageFault.Disk → Rose (P.faults pages.old) (P.faults pages.new) }
-        ensures room_left { result ≢ Err PageFault.NoRoom }
-        ensures stopped { IsErrOf result PageFault.Stopped → IsTrue (P.is_stopped pages.old) }
-
-        ensures room { P.room pages.new ≡ P.room pages.old }
-        ensures faults { P.faults pages.old ≤ P.faults pages.new }
-        ensures refused { P.refused pages.new ≡ P.refused pages.old }
-        ensures goes_on { P.is_stopped pages.new ≡ P.is_stopped pages.old }
-        ensures follows { P.follows_from pages.old pages.new }
+        ensures fails { FailsReading P.Pages pages.old pages.new result }
+        ensures frame { TakesNone P.Pages pages.old pages.new }
     {
         let removed = remove_row::<Places, P>(pages, self.places, &key.bytes())?;
         self.places = removed.root;
@@ -73,15 +66,8 @@ impl Tables {
             → AsksOnly (map_uses texts_form (P.pages pages.old) self.old.texts) (P.asked pages.old) (P.asked pages.new) }
         ensures others { self.new ≡ record self.old { texts = self.new.texts } }
         ensures kept { OnErr result (self.new ≡ self.old) }
-        ensures disk { IsErrOf result PageFault.Disk → Rose (P.faults pages.old) (P.faults pages.new) }
-        ensures room_left { result ≢ Err PageFault.NoRoom }
-        ensures stopped { IsErrOf result PageFault.Stopped → IsTrue (P.is_stopped pages.old) }
-
-        ensures room { P.room pages.new ≡ P.room pages.old }
-        ensures faults { P.faults pages.old ≤ P.faults pages.new }
-        ensures refused { P.refused pages.new ≡ P.refused pages.old }
-        ensures goes_on { P.is_stopped pages.new ≡ P.is_stopped pages.old }
-        ensures follows { P.follows_from pages.old pages.new }
+        ensures fails { FailsReading P.Pages pages.old pages.new result }
+        ensures frame { TakesNone P.Pages pages.old pages.new }
     {
         let removed = remove_row::<Texts, P>(pages, self.texts, &word.bytes())?;
         self.texts = removed.root;
@@ -109,15 +95,8 @@ impl Tables {
             → AsksOnly (map_uses numbers_form (P.pages pages.old) self.old.numbers) (P.asked pages.old) (P.asked pages.new) }
         ensures others { self.new ≡ record self.old { numbers = self.new.numbers } }
         ensures kept { OnErr result (self.new ≡ self.old) }
-        ensures disk { IsErrOf result PageFault.Disk → Rose (P.faults pages.old) (P.faults pages.new) }
-        ensures room_left { result ≢ Err PageFault.NoRoom }
-        ensures stopped { IsErrOf result PageFault.Stopped → IsTrue (P.is_stopped pages.old) }
-
-        ensures room { P.room pages.new ≡ P.room pages.old }
-        ensures faults { P.faults pages.old ≤ P.faults pages.new }
-        ensures refused { P.refused pages.new ≡ P.refused pages.old }
-        ensures goes_on { P.is_stopped pages.new ≡ P.is_stopped pages.old }
-        ensures follows { P.follows_from pages.old pages.new }
+        ensures fails { FailsReading P.Pages pages.old pages.new result }
+        ensures frame { TakesNone P.Pages pages.old pages.new }
     {
         let removed = remove_row::<Numbers, P>(pages, self.numbers, &number_bytes(number))?;
         self.numbers = removed.root;

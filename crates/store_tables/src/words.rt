@@ -1,14 +1,14 @@
 //! Words that one place more holds.
-ghost use Rattle.std.specs.Prelude.{◌≡◌, ◌≢◌, ◌⊎◌, ℕ, ◌≤◌, ◌<◌, ◌+◌, ◌^◌, List, None, IfOk, IfSome, IfNone, OnOk, OnErr, IsTrue, IsErrOf, option_map, unwrap_or};
+ghost use Rattle.std.specs.Prelude.{◌≡◌, ◌⊎◌, ℕ, ◌≤◌, ◌<◌, ◌+◌, ◌^◌, List, None, IfOk, IfSome, IfNone, OnOk, OnErr, IsErrOf, option_map};
 ghost use Rattle.std.specs.BTreeMap.{insert_entry};
 ghost use Rattle.std.specs.Ordering.{nat_cmp};
-ghost use Rattle.page_face.specs.Causes.{Rose};
+ghost use Rattle.page_face.specs.Calls.{FailsReading, FailsChanging, Reads, Changes};
 ghost use Rattle.btree_nodes.specs.Rows.{lookup};
 ghost use Rattle.btree_nodes.specs.Supply.{view};
 ghost use Rattle.btree_nodes.specs.Tree.{IsMap, map_rows};
 ghost use Rattle.btree_nodes.specs.Damages.{AreTold, AskedSince, AsksOnly, IsRefusedTake};
 ghost use Rattle.paged_map.specs.Maps.{AreCounted, IsMapDamaged};
-ghost use Rattle.row_codec.specs.Counted.{IsCounted, number_bytes};
+ghost use Rattle.row_codec.specs.Counted.{number_bytes};
 ghost use Rattle.store_tables.specs.Coded.{word_code};
 ghost use Rattle.store_tables.specs.Entries.{Entries, number_of_word, word_cmp};
 ghost use Rattle.store_tables.specs.Broken.{words_disagree};
@@ -71,19 +71,8 @@ impl Tables {
             → IsCountDamage (P.pages pages.old) (P.count pages.old) self.now word.now (P.asked pages.old) (P.asked pages.new) damage }
         ensures own { AreTold (P.pages pages.old) (P.count pages.old)
             → AsksOnly (word_uses (P.pages pages.old) self.now) (P.asked pages.old) (P.asked pages.new) }
-        ensures disk { IsErrOf result PageFault.Disk → Rose (P.faults pages.old) (P.faults pages.new) }
-        ensures room_left { result ≢ Err PageFault.NoRoom }
-        ensures stopped { IsErrOf result PageFault.Stopped → IsTrue (P.is_stopped pages.old) }
-
-        ensures pages { P.pages pages.new ≡ P.pages pages.old }
-        ensures count { P.count pages.new ≡ P.count pages.old }
-        ensures first { P.first pages.new ≡ P.first pages.old }
-        ensures room { P.room pages.new ≡ P.room pages.old }
-        ensures faults { P.faults pages.old ≤ P.faults pages.new }
-        ensures refused { P.refused pages.new ≡ P.refused pages.old }
-        ensures goes_on { P.is_stopped pages.new ≡ P.is_stopped pages.old }
-        ensures only_reads { P.only_reads pages.old pages.new }
-        ensures follows { P.follows_from pages.old pages.new }
+        ensures fails { FailsReading P.Pages pages.old pages.new result }
+        ensures frame { Reads P.Pages pages.old pages.new }
     {
         let number = self.number_of(pages, word)?;
         let row = self.counted(pages, number.unwrap_or(self.next_word))?;
@@ -114,15 +103,8 @@ impl Tables {
             → AsksOnly (word_uses (P.pages pages.old) self.old) (P.asked pages.old) (P.asked pages.new) }
         ensures others { self.new.places ≡ self.old.places }
         ensures kept { OnErr result (self.new ≡ self.old) }
-        ensures disk { IsErrOf result PageFault.Disk → Rose (P.faults pages.old) (P.faults pages.new) }
-        ensures no_room { IsErrOf result PageFault.NoRoom → Rose (P.refused pages.old) (P.refused pages.new) }
-        ensures stopped { IsErrOf result PageFault.Stopped → IsTrue (P.is_stopped pages.old) }
-
-        ensures room { P.room pages.new ≡ P.room pages.old }
-        ensures faults { P.faults pages.old ≤ P.faults pages.new }
-        ensures refused { P.refused pages.old ≤ P.refused pages.new }
-        ensures goes_on { P.is_stopped pages.new ≡ P.is_stopped pages.old }
-        ensures follows { P.follows_from pages.old pages.new }
+        ensures fails { FailsChanging P.Pages pages.old pages.new result }
+        ensures frame { Changes P.Pages pages.old pages.new }
     {
         let number = self.next_word;
         let mut next = *self;
@@ -164,15 +146,8 @@ impl Tables {
         ensures rises { OnOk result (self.new.next_word ≤ self.old.next_word + 1) }
         ensures others { self.new.places ≡ self.old.places }
         ensures kept { OnErr result (self.new ≡ self.old) }
-        ensures disk { IsErrOf result PageFault.Disk → Rose (P.faults pages.old) (P.faults pages.new) }
-        ensures no_room { IsErrOf result PageFault.NoRoom → Rose (P.refused pages.old) (P.refused pages.new) }
-        ensures stopped { IsErrOf result PageFault.Stopped → IsTrue (P.is_stopped pages.old) }
-
-        ensures room { P.room pages.new ≡ P.room pages.old }
-        ensures faults { P.faults pages.old ≤ P.faults pages.new }
-        ensures refused { P.refused pages.old ≤ P.refused pages.new }
-        ensures goes_on { P.is_stopped pages.new ≡ P.is_stopped pages.old }
-        ensures follows { P.follows_from pages.old pages.new }
+        ensures fails { FailsChanging P.Pages pages.old pages.new result }
+        ensures frame { Changes P.Pages pages.old pages.new }
     {
         let hold = self.count_with(pages, word)?;
         let counted = Counted {

@@ -1,8 +1,8 @@
 //! Rows that are put into one of the tables.
-ghost use Rattle.std.specs.Prelude.{◌≡◌, ◌⊎◌, ℕ, ◌≤◌, List, IfOk, OnOk, OnErr, IsTrue, IsErrOf, is_some};
+ghost use Rattle.std.specs.Prelude.{◌≡◌, ◌⊎◌, ℕ, List, IfOk, OnOk, OnErr, IsErrOf, is_some};
 ghost use Rattle.std.specs.BTreeMap.{insert_entry};
 ghost use Rattle.std.specs.Ordering.{nat_cmp};
-ghost use Rattle.page_face.specs.Causes.{Rose};
+ghost use Rattle.page_face.specs.Calls.{FailsChanging, Changes};
 ghost use Rattle.btree_nodes.specs.Supply.{view};
 ghost use Rattle.btree_nodes.specs.Tree.{map_uses};
 ghost use Rattle.btree_nodes.specs.Damages.{AreTold, AskedSince, AsksOnly, IsRefusedTake};
@@ -46,15 +46,8 @@ impl Tables {
             → AsksOnly (map_uses places_form (P.pages pages.old) self.old.places) (P.asked pages.old) (P.asked pages.new) }
         ensures others { self.new ≡ record self.old { places = self.new.places } }
         ensures kept { OnErr result (self.new ≡ self.old) }
-        ensures disk { IsErrOf result PageFault.Disk → Rose (P.faults pages.old) (P.faults pages.new) }
-        ensures no_room { IsErrOf result PageFault.NoRoom → Rose (P.refused pages.old) (P.refused pages.new) }
-        ensures stopped { IsErrOf result PageFault.Stopped → IsTrue (P.is_stopped pages.old) }
-
-        ensures room { P.room pages.new ≡ P.room pages.old }
-        ensures faults { P.faults pages.old ≤ P.faults pages.new }
-        ensures refused { P.refused pages.old ≤ P.refused pages.new }
-        ensures goes_on { P.is_stopped pages.new ≡ P.is_stopped pages.old }
-        ensures follows { P.follows_from pages.old pages.new }
+        ensures fails { FailsChanging P.Pages pages.old pages.new result }
+        ensures frame { Changes P.Pages pages.old pages.new }
     {
         let put = put_row::<Places, P>(pages, self.places, &key.bytes(), &stored.encode())?;
         self.places = put.root;
@@ -82,15 +75,8 @@ impl Tables {
             → AsksOnly (map_uses texts_form (P.pages pages.old) self.old.texts) (P.asked pages.old) (P.asked pages.new) }
         ensures others { self.new ≡ record self.old { texts = self.new.texts } }
         ensures kept { OnErr result (self.new ≡ self.old) }
-        ensures disk { IsErrOf result PageFault.Disk → Rose (P.faults pages.old) (P.faults pages.new) }
-        ensures no_room { IsErrOf result PageFault.NoRoom → Rose (P.refused pages.old) (P.refused pages.new) }
-        ensures stopped { IsErrOf result PageFault.Stopped → IsTrue (P.is_stopped pages.old) }
-
-        ensures room { P.room pages.new ≡ P.room pages.old }
-        ensures faults { P.faults pages.old ≤ P.faults pages.new }
-        ensures refused { P.refused pages.old ≤ P.refused pages.new }
-        ensures goes_on { P.is_stopped pages.new ≡ P.is_stopped pages.old }
-        ensures follows { P.follows_from pages.old pages.new }
+        ensures fails { FailsChanging P.Pages pages.old pages.new result }
+        ensures frame { Changes P.Pages pages.old pages.new }
     {
         let put = put_row::<Texts, P>(pages, self.texts, &word.bytes(), &number_bytes(number))?;
         self.texts = put.root;
@@ -120,15 +106,8 @@ impl Tables {
             → AsksOnly (map_uses numbers_form (P.pages pages.old) self.old.numbers) (P.asked pages.old) (P.asked pages.new) }
         ensures others { self.new ≡ record self.old { numbers = self.new.numbers } }
         ensures kept { OnErr result (self.new ≡ self.old) }
-        ensures disk { IsErrOf result PageFault.Disk → Rose (P.faults pages.old) (P.faults pages.new) }
-        ensures no_room { IsErrOf result PageFault.NoRoom → Rose (P.refused pages.old) (P.refused pages.new) }
-        ensures stopped { IsErrOf result PageFault.Stopped → IsTrue (P.is_stopped pages.old) }
-
-        ensures room { P.room pages.new ≡ P.room pages.old }
-        ensures faults { P.faults pages.old ≤ P.faults pages.new }
-        ensures refused { P.refused pages.old ≤ P.refused pages.new }
-        ensures goes_on { P.is_stopped pages.new ≡ P.is_stopped pages.old }
-        ensures follows { P.follows_from pages.old pages.new }
+        ensures fails { FailsChanging P.Pages pages.old pages.new result }
+        ensures frame { Changes P.Pages pages.old pages.new }
     {
         let key = number_bytes(number);
         let put = put_row::<Numbers, P>(pages, self.numbers, &key, &counted.encode())?;

@@ -30,32 +30,32 @@ returns-in_err-hold-clause-own g c entries free holds apart told = c.count_with.
 
 pub returns-in_err-put_number-in-Some-clause-damaged : goal.returns-in_err-put_number-in-Some-clause-damaged
 returns-in_err-put_number-in-Some-clause-damaged g c told damage =
-    let still : AreTold (g.P.Pages.pages c.count_with.new.pages) (g.P.Pages.count c.count_with.new.pages) = rw (c.count_with.ensures.pages, c.count_with.ensures.count) told in
+    let still : AreTold (g.P.Pages.pages c.count_with.new.pages) (g.P.Pages.count c.count_with.new.pages) = rw (c.count_with.ensures.frame.pages, c.count_with.ensures.frame.count) told in
     let p = err_from_is_err_and c.from_residual-in_err-put_number-in-Some.result c.from_residual-in_err-put_number-in-Some.ensures.1 in
     λ e. (let same : c.in_err-put_number-in-Some.field-0.0 ≡ Damaged damage = cc (p.1, p.2, e) in
     ⊎_elim
-    (λ map. inl (inr (inl (rw (sym c.count_with.ensures.pages, sym c.count_with.ensures.count) map.0, asked-before (word_uses (g.P.Pages.pages c.args.pages.now) c.args.self.now) _ _ _ damage.page (c.count_with.ensures.own told) map.1))))
+    (λ map. inl (inr (inl (rw (sym c.count_with.ensures.frame.pages, sym c.count_with.ensures.frame.count) map.0, asked-before (word_uses (g.P.Pages.pages c.args.pages.now) c.args.self.now) _ _ _ damage.page (c.count_with.ensures.own told) map.1))))
     (λ take. inr (inl take))
     (c.in_err-put_number-in-Some.ensures.damaged still damage (ap Err same)))
 
 pub returns-in_err-put_number-in-Some-clause-own : goal.returns-in_err-put_number-in-Some-clause-own
 returns-in_err-put_number-in-Some-clause-own g c entries free holds apart told =
-    let still : AreTold (g.P.Pages.pages c.count_with.new.pages) (g.P.Pages.count c.count_with.new.pages) = rw (c.count_with.ensures.pages, c.count_with.ensures.count) told in
+    let still : AreTold (g.P.Pages.pages c.count_with.new.pages) (g.P.Pages.count c.count_with.new.pages) = rw (c.count_with.ensures.frame.pages, c.count_with.ensures.frame.count) told in
     asks-further (word_uses (g.P.Pages.pages c.args.pages.now) c.args.self.now) _ _ _ (c.count_with.ensures.own told)
-    (asks-numbers (g.P.Pages.pages c.args.pages.now) c.args.self.now _ _ (rw (sym c.count_with.ensures.pages) (c.put_number.ensures.own still)))
+    (asks-numbers (g.P.Pages.pages c.args.pages.now) c.args.self.now _ _ (rw (sym c.count_with.ensures.frame.pages) (c.put_number.ensures.own still)))
 
 pub returns-in_ok-put_number-in-Some-clause-own : goal.returns-in_ok-put_number-in-Some-clause-own
 returns-in_ok-put_number-in-Some-clause-own g c entries free holds apart told =
-    let still : AreTold (g.P.Pages.pages c.count_with.new.pages) (g.P.Pages.count c.count_with.new.pages) = rw (c.count_with.ensures.pages, c.count_with.ensures.count) told in
+    let still : AreTold (g.P.Pages.pages c.count_with.new.pages) (g.P.Pages.count c.count_with.new.pages) = rw (c.count_with.ensures.frame.pages, c.count_with.ensures.frame.count) told in
     asks-further (word_uses (g.P.Pages.pages c.args.pages.now) c.args.self.now) _ _ _ (c.count_with.ensures.own told)
-    (asks-numbers (g.P.Pages.pages c.args.pages.now) c.args.self.now _ _ (rw (sym c.count_with.ensures.pages) (c.put_number.ensures.own still)))
+    (asks-numbers (g.P.Pages.pages c.args.pages.now) c.args.self.now _ _ (rw (sym c.count_with.ensures.frame.pages) (c.put_number.ensures.own still)))
 
 pub returns-in-None-clause-held : goal.returns-in-None-clause-held
 returns-in-None-clause-held g c entries free holds apart =
     let before : View = view (g.P.Pages.pages c.args.pages.now) (g.P.Pages.count c.args.pages.now) (g.P.Pages.first c.args.pages.now) free in
     let r = c.count_with.ensures in
-    let held : Holds (g.P.Pages.pages c.count_with.new.pages) c.args.self.now entries = rw r.pages holds in
-    let kept : IsApart (view (g.P.Pages.pages c.count_with.new.pages) (g.P.Pages.count c.count_with.new.pages) (g.P.Pages.first c.count_with.new.pages) free) c.args.self.now = rw (r.pages, r.count, r.first) apart in
+    let held : Holds (g.P.Pages.pages c.count_with.new.pages) c.args.self.now entries = rw r.frame.pages holds in
+    let kept : IsApart (view (g.P.Pages.pages c.count_with.new.pages) (g.P.Pages.count c.count_with.new.pages) (g.P.Pages.first c.count_with.new.pages) free) c.args.self.now = rw (r.frame.pages, r.frame.count, r.frame.first) apart in
     let h = c.in_ok-hold.ensures.held entries holds in
     let next : ℕ = c.args.self.now.next_word in
     let was = sym h.1 ∙ c.in-None.is in
@@ -66,31 +66,31 @@ returns-in-None-clause-held g c entries free holds apart =
       same ∙ sym (ap (λ (f : Option ℕ). unwrap_or f next) was),
       after ∙ sym (ap (λ (f : Option ℕ). next_after f next) was),
       subst (λ (e : Entries). IsChanged before c.args.self.now (g.P.Pages.pages c.put_new.new.pages) (g.P.Pages.count c.put_new.new.pages) (g.P.Pages.first c.put_new.new.pages) c.put_new.new.self e) (sym is)
-          (rw (sym r.pages, sym r.count, sym r.first) changed),
+          (rw (sym r.frame.pages, sym r.frame.count, sym r.frame.first) changed),
     ))
 
 pub returns-in-None-clause-honest : goal.returns-in-None-clause-honest
 returns-in-None-clause-honest g c entries free holds apart told damage =
     let before : View = view (g.P.Pages.pages c.args.pages.now) (g.P.Pages.count c.args.pages.now) (g.P.Pages.first c.args.pages.now) free in
     let r = c.count_with.ensures in
-    let held : Holds (g.P.Pages.pages c.count_with.new.pages) c.args.self.now entries = rw r.pages holds in
-    let kept : IsApart (view (g.P.Pages.pages c.count_with.new.pages) (g.P.Pages.count c.count_with.new.pages) (g.P.Pages.first c.count_with.new.pages) free) c.args.self.now = rw (r.pages, r.count, r.first) apart in
+    let held : Holds (g.P.Pages.pages c.count_with.new.pages) c.args.self.now entries = rw r.frame.pages holds in
+    let kept : IsApart (view (g.P.Pages.pages c.count_with.new.pages) (g.P.Pages.count c.count_with.new.pages) (g.P.Pages.first c.count_with.new.pages) free) c.args.self.now = rw (r.frame.pages, r.frame.count, r.frame.first) apart in
     λ e. absurd (c.put_new.ensures.honest entries free held kept damage e)
 
 pub returns-in-None-clause-damaged : goal.returns-in-None-clause-damaged
 returns-in-None-clause-damaged g c told damage =
-    let still : AreTold (g.P.Pages.pages c.count_with.new.pages) (g.P.Pages.count c.count_with.new.pages) = rw (c.count_with.ensures.pages, c.count_with.ensures.count) told in
+    let still : AreTold (g.P.Pages.pages c.count_with.new.pages) (g.P.Pages.count c.count_with.new.pages) = rw (c.count_with.ensures.frame.pages, c.count_with.ensures.frame.count) told in
     let r = c.count_with.ensures in
     λ e. ⊎_elim
-    (λ map. inl (inr (inl (rw (sym r.pages, sym r.count) map.0, asked-before (word_uses (g.P.Pages.pages c.args.pages.now) c.args.self.now) _ _ _ damage.page (r.own told) map.1))))
-    (λ rest. ⊎_elim (λ take. inr (inl take)) (λ none. inr (inr (λ tree. c.in_ok-hold.ensures.formed tree ∙ ap (λ (f : Option ℕ). option_map number_bytes f) c.in-None.is, λ entries free holds apart. none entries free (rw r.pages holds) (rw (r.pages, r.count, r.first) apart)))) rest)
+    (λ map. inl (inr (inl (rw (sym r.frame.pages, sym r.frame.count) map.0, asked-before (word_uses (g.P.Pages.pages c.args.pages.now) c.args.self.now) _ _ _ damage.page (r.own told) map.1))))
+    (λ rest. ⊎_elim (λ take. inr (inl take)) (λ none. inr (inr (λ tree. c.in_ok-hold.ensures.formed tree ∙ ap (λ (f : Option ℕ). option_map number_bytes f) c.in-None.is, λ entries free holds apart. none entries free (rw r.frame.pages holds) (rw (r.frame.pages, r.frame.count, r.frame.first) apart)))) rest)
     (c.put_new.ensures.damaged still damage e)
 
 pub returns-in-None-clause-own : goal.returns-in-None-clause-own
 returns-in-None-clause-own g c entries free holds apart told =
     let before : View = view (g.P.Pages.pages c.args.pages.now) (g.P.Pages.count c.args.pages.now) (g.P.Pages.first c.args.pages.now) free in
     let r = c.count_with.ensures in
-    let held : Holds (g.P.Pages.pages c.count_with.new.pages) c.args.self.now entries = rw r.pages holds in
-    let kept : IsApart (view (g.P.Pages.pages c.count_with.new.pages) (g.P.Pages.count c.count_with.new.pages) (g.P.Pages.first c.count_with.new.pages) free) c.args.self.now = rw (r.pages, r.count, r.first) apart in
-    let still : AreTold (g.P.Pages.pages c.count_with.new.pages) (g.P.Pages.count c.count_with.new.pages) = rw (c.count_with.ensures.pages, c.count_with.ensures.count) told in
-    asks-further (word_uses (g.P.Pages.pages c.args.pages.now) c.args.self.now) _ _ _ (r.own told) (rw (sym r.pages) (c.put_new.ensures.own entries free held kept still))
+    let held : Holds (g.P.Pages.pages c.count_with.new.pages) c.args.self.now entries = rw r.frame.pages holds in
+    let kept : IsApart (view (g.P.Pages.pages c.count_with.new.pages) (g.P.Pages.count c.count_with.new.pages) (g.P.Pages.first c.count_with.new.pages) free) c.args.self.now = rw (r.frame.pages, r.frame.count, r.frame.first) apart in
+    let still : AreTold (g.P.Pages.pages c.count_with.new.pages) (g.P.Pages.count c.count_with.new.pages) = rw (c.count_with.ensures.frame.pages, c.count_with.ensures.frame.count) told in
+    asks-further (word_uses (g.P.Pages.pages c.args.pages.now) c.args.self.now) _ _ _ (r.own told) (rw (sym r.frame.pages) (c.put_new.ensures.own entries free held kept still))

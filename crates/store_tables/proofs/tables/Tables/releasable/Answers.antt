@@ -30,16 +30,16 @@ returns-in_err-found-clause-honest g c entries holds told counted damage =
     let r = c.counted.ensures in
     let p = err_from_is_err_and c.from_residual-in_err-found.result c.from_residual-in_err-found.ensures.1 in
     λ e. (let same : c.in_err-found.field-0.0 ≡ Damaged damage = cc (p.1, p.2, e) in
-    absurd (c.in_err-found.ensures.honest entries (rw r.pages holds) (rw r.pages (rw r.count told)) (rw r.pages (rw r.count counted)) damage (ap Err same)))
+    absurd (c.in_err-found.ensures.honest entries (rw r.frame.pages holds) (rw r.frame.pages (rw r.frame.count told)) (rw r.frame.pages (rw r.frame.count counted)) damage (ap Err same)))
 
 pub returns-in_err-found-clause-damaged : goal.returns-in_err-found-clause-damaged
 returns-in_err-found-clause-damaged g c told damage =
     let r = c.counted.ensures in
-    let still : AreTold (g.P.Pages.pages c.counted.new.pages) (g.P.Pages.count c.counted.new.pages) = rw r.pages (rw r.count told) in
+    let still : AreTold (g.P.Pages.pages c.counted.new.pages) (g.P.Pages.count c.counted.new.pages) = rw r.frame.pages (rw r.frame.count told) in
     let p = err_from_is_err_and c.from_residual-in_err-found.result c.from_residual-in_err-found.ensures.1 in
     λ e. (let same : c.in_err-found.field-0.0 ≡ Damaged damage = cc (p.1, p.2, e) in
     inr (inr (inl (
-      rw (sym r.pages) (rw (sym r.count) (c.in_err-found.ensures.damaged still damage (ap Err same))),
+      rw (sym r.frame.pages) (rw (sym r.frame.count) (c.in_err-found.ensures.damaged still damage (ap Err same))),
       asked-before (word_uses (g.P.Pages.pages c.args.pages.now) c.args.self.now) _ _ _ damage.page (asks-numbers (g.P.Pages.pages c.args.pages.now) c.args.self.now _ _ (r.own told)) (c.in_err-found.ensures.named still damage (ap Err same)),
     ))))
 
@@ -47,28 +47,16 @@ pub returns-in_err-found-clause-own : goal.returns-in_err-found-clause-own
 returns-in_err-found-clause-own g c told =
     let r = c.counted.ensures in
     asks-further (word_uses (g.P.Pages.pages c.args.pages.now) c.args.self.now) _ _ _ (asks-numbers (g.P.Pages.pages c.args.pages.now) c.args.self.now _ _ (r.own told))
-    (asks-texts (g.P.Pages.pages c.args.pages.now) c.args.self.now _ _ (rw (sym r.pages) (c.number_of.ensures.own (rw r.pages (rw r.count told)))))
+    (asks-texts (g.P.Pages.pages c.args.pages.now) c.args.self.now _ _ (rw (sym r.frame.pages) (c.number_of.ensures.own (rw r.frame.pages (rw r.frame.count told)))))
 
 pub returns-in-Some-2-clause-own : goal.returns-in-Some-2-clause-own
 returns-in-Some-2-clause-own g c told =
     let r = c.counted.ensures in
     asks-further (word_uses (g.P.Pages.pages c.args.pages.now) c.args.self.now) _ _ _ (asks-numbers (g.P.Pages.pages c.args.pages.now) c.args.self.now _ _ (r.own told))
-    (asks-texts (g.P.Pages.pages c.args.pages.now) c.args.self.now _ _ (rw (sym r.pages) (c.number_of.ensures.own (rw r.pages (rw r.count told)))))
+    (asks-texts (g.P.Pages.pages c.args.pages.now) c.args.self.now _ _ (rw (sym r.frame.pages) (c.number_of.ensures.own (rw r.frame.pages (rw r.frame.count told)))))
 
 pub returns-in_default-2-clause-own : goal.returns-in_default-2-clause-own
 returns-in_default-2-clause-own g c told =
     let r = c.counted.ensures in
     asks-further (word_uses (g.P.Pages.pages c.args.pages.now) c.args.self.now) _ _ _ (asks-numbers (g.P.Pages.pages c.args.pages.now) c.args.self.now _ _ (r.own told))
-    (asks-texts (g.P.Pages.pages c.args.pages.now) c.args.self.now _ _ (rw (sym r.pages) (c.number_of.ensures.own (rw r.pages (rw r.count told)))))
-
-pub returns-in_err-found-clause-follows : goal.returns-in_err-found-clause-follows
-returns-in_err-found-clause-follows g c = g.met.P.Pages.goes_further _ _ _ c.counted.ensures.follows c.number_of.ensures.follows
-
-pub returns-in-Some-2-clause-follows : goal.returns-in-Some-2-clause-follows
-returns-in-Some-2-clause-follows g c = g.met.P.Pages.goes_further _ _ _ c.counted.ensures.follows c.number_of.ensures.follows
-
-pub returns-in_default-2-clause-follows : goal.returns-in_default-2-clause-follows
-returns-in_default-2-clause-follows g c = g.met.P.Pages.goes_further _ _ _ c.counted.ensures.follows c.number_of.ensures.follows
-
-pub returns-in_default-2-clause-only_reads : goal.returns-in_default-2-clause-only_reads
-returns-in_default-2-clause-only_reads g c = g.met.P.Pages.reads_further _ _ _ c.counted.ensures.only_reads c.number_of.ensures.only_reads
+    (asks-texts (g.P.Pages.pages c.args.pages.now) c.args.self.now _ _ (rw (sym r.frame.pages) (c.number_of.ensures.own (rw r.frame.pages (rw r.frame.count told)))))
