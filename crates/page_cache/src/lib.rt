@@ -1,0 +1,9 @@
+//! A cache of pages: [`Cache`] holds at most so many pages and their bytes, the one used last first, and lends them where they lie.
+#![tactic(auto)]
+
+mod cache;
+mod shelf;
+#[cfg(test)]
+mod tests;
+
+pub use cache::{Cache, Memory};
