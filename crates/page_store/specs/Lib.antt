@@ -1,4 +1,5 @@
 pub mod Contents
+pub mod Held
 pub mod Opening
 pub mod Store
 pub mod Superblock

@@ -4,8 +4,9 @@ ghost use Rattle.disk_model.specs.World.{LeavesOnly, Rose};
 ghost use Rattle.page_journal.specs.Record.{SaysNothing, LeavesPages, applied};
 ghost use Rattle.page_store.specs.Contents.{contents_in, contents_of, HasRoomFor, HoldsOneOf, page_in};
 
+use crate::held::Place;
 use crate::store::Store;
-use crate::{journaled, overlay};
+use crate::{held, journaled};
 use disk_model::Disk;
 use page_face::{PageFault, Pages};
 use page_journal::{Record, append, checkpoint};
@@ -57,7 +58,14 @@ impl<'d, D: Disk> Store<'d, D> {
         if self.stopped {
             return Err(PageFault::Stopped);
         }
-        overlay::put(self.alloc, &mut self.overlay, 0, &self.current.encode())?;
+        self.place = Place::Spare;
+        held::put(
+            self.alloc,
+            &mut self.overlay,
+            &mut self.seals,
+            0,
+            &self.current.encode(),
+        )?;
         let Ok(gathered) = Record::gather(self.alloc, &self.overlay) else {
             return Err(PageFault::Memory);
         };
@@ -67,6 +75,7 @@ impl<'d, D: Disk> Store<'d, D> {
         let Ok(end) = append(&mut *self.disk, self.end, &gathered) else {
             return Err(PageFault::Disk);
         };
+        self.place = Place::Spare;
         journaled::keep(&mut self.journal, &mut self.overlay);
         self.end = end;
         self.last = self.current;
@@ -101,6 +110,7 @@ impl<'d, D: Disk> Store<'d, D> {
         ensures asked { self.new.asked.items ≡ self.old.asked.items }
         ensures refused { self.new.refused ≡ self.old.refused }
     {
+        self.place = Place::Spare;
         if self.end <= JOURNAL_MAX {
             return journaled::make_room(&mut self.journal, &self.overlay);
         }
@@ -108,6 +118,7 @@ impl<'d, D: Disk> Store<'d, D> {
         journaled::make_room(&mut fresh, &self.overlay)?;
         match self.settle() {
             Ok(()) => {
+                self.place = Place::Spare;
                 self.journal = fresh;
                 Ok(())
             }
@@ -119,13 +130,15 @@ impl<'d, D: Disk> Store<'d, D> {
     ///
     /// Returns `Stopped` if an earlier commit or checkpoint failed, and `Disk` if a call of the disk fails; then the store is stopped. At
     /// every moment an image that a crash may leave stands for the same pages. Takes no memory. Costs a write for each page of the journal,
-    /// one of a byte, and two syncs; and no call of the disk where the journal holds no record.
+    /// one of a byte, and two syncs; and no call of the disk where the journal holds no record. The pages move into the cache, uncopied, as far
+    /// as it has room for them.
     pub fn settle(&mut self) -> Result<(), PageFault>
         ensures same_loan { self.new.disk.ghost_name ≡ self.old.disk.ghost_name }
         ensures any_moment { IsTrue D.tells → self.old.stopped ≡ false → LeavesOnly (D.world self.old.disk.now) (D.world self.new.disk.now)
             (LeavesPages (applied (D.world self.old.disk.now).seen) (D.world self.old.disk.now)) }
         ensures same { IsTrue D.tells → OnOk result (applied (D.world self.new.disk.now).seen ≡ applied (D.world self.old.disk.now).seen) }
         ensures front { OnOk result (self.new.end ≡ 0) }
+        ensures retired { self.old.end ≢ 0 → OnOk result (self.new.journal.entries ≡ []) }
         ensures at_rest { self.old.end ≡ 0 → self.new.disk ≡ self.old.disk }
 
         ensures stopped { IsErrOf result PageFault.Stopped ↔ IsTrue self.old.stopped }
@@ -156,7 +169,8 @@ impl<'d, D: Disk> Store<'d, D> {
         let Ok(()) = checkpoint(&mut *self.disk, &self.journal) else {
             return Err(PageFault::Disk);
         };
-        self.journal.clear();
+        self.place = Place::Spare;
+        held::retire(&mut self.journal, &mut self.cache);
         self.end = 0;
         self.stopped = false;
         Ok(())
@@ -177,7 +191,8 @@ impl<'d, D: Disk> Store<'d, D> {
         ensures asked { self.new.asked.items ≡ self.old.asked.items }
         ensures refused { self.new.refused ≡ self.old.refused }
     {
-        self.overlay.clear();
+        self.place = Place::Spare;
+        held::clear(&mut self.overlay, &mut self.seals);
         self.current = self.last;
     }
 }

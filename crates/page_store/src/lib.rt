@@ -3,7 +3,8 @@
 //! [`Store::open`] recovers the journal and reads page 0. The store then has the trait of pages: what is written
 //! stands in an overlay in memory until [`Store::commit_all`] makes overlay and head safe in one record of the journal, or
 //! [`Store::abandon`] drops them. The last image of each page of the journal is kept in memory, and [`Store::settle`] brings them to their
-//! places; a commit does so first where the journal has grown long. A crash at any moment leaves the contents of the last commit or
+//! places; a commit does so first where the journal has grown long. A page is lent where it lies in memory: in the overlay, among the
+//! journal's pages, or in a cache of the pages used last, into which it is read if it is in none of them. A crash at any moment leaves the contents of the last commit or
 //! those of the one under way. A commit or a checkpoint that fails stops the store.
 //!
 //! The store borrows its disk. [`Store::into_disk`] gives the loan back, and a caller that has to know what a
@@ -11,11 +12,14 @@
 #![tactic(auto)]
 
 mod committing;
+mod fetching;
+mod held;
 mod journaled;
 mod opening;
 mod overlay;
 mod page;
 mod pages;
+mod seals;
 mod store;
 mod superblock;
 #[cfg(test)]

@@ -54,7 +54,8 @@ pub fn recover_superblock<D: Disk>(disk: &mut D) -> Result<Superblock, OpenFault
         Err(JournalFault::Disk) => return Err(OpenFault::Disk),
         Err(JournalFault::BadJournal(at)) => return Err(OpenFault::BadJournal(at)),
     }
-    let Ok(page) = read_page(disk, 0) else {
+    let mut page = [0; 4096];
+    let Ok(()) = read_page(disk, 0, &mut page) else {
         return Err(OpenFault::Disk);
     };
     match Superblock::decode(&page) {

@@ -9,14 +9,11 @@ use disk_model::{Area, Disk, Failed};
 use page_face::Page;
 
 // Reads a page from the disk.
-#[inline(never)]
-pub(crate) fn read_page<D: Disk>(disk: &mut D, number: u32) -> Result<Page, Failed>
-    ensures gives { IsTrue D.tells → IfOk result (λ page. page ≡ page_bytes ((D.world disk.old).seen areas.Pages) number) }
+pub(crate) fn read_page<D: Disk>(disk: &mut D, number: u32, page: &mut Page) -> Result<(), Failed>
+    ensures gives { IsTrue D.tells → OnOk result (page.new ≡ page_bytes ((D.world disk.old).seen areas.Pages) number) }
     ensures reads { IsTrue D.tells → ReadsPage number (D.world disk.old) (D.world disk.new) }
     ensures cause { HasDiskCause (D.world disk.old) (D.world disk.new) result }
     ensures room { D.room_of disk.new ≡ D.room_of disk.old }
 {
-    let mut page = [0; 4096];
-    disk.read(Area::Pages, 4096 * number as u64, &mut page)?;
-    Ok(page)
+    disk.read(Area::Pages, 4096 * number as u64, page)
 }

@@ -1,17 +1,13 @@
 //! The pages of a store.
-ghost use Rattle.std.specs.Prelude.{◌≡◌, ◌≢◌, ◌↔◌, ◌<◌, ◌≤◌, ◌+◌, ℕ, IsTrue, IfOk, IfErr, OnErr, IsErrOf, length};
-ghost use Rattle.disk_model.specs.World.{HasDiskCause};
-ghost use Rattle.page_journal.specs.Record.{AreLastImages, applied, batch_of, kept};
+ghost use Rattle.std.specs.Prelude.{◌≡◌, ◌≢◌, ◌↔◌, ◌≤◌, ◌+◌, ℕ, IsTrue, IfOk, IfErr, OnErr, IsErrOf};
 ghost use Rattle.page_face.specs.Causes.{IsUncounted, Rose, unlinked as link};
-ghost use Rattle.page_store.specs.Contents.{AreKept, shown};
-ghost use Rattle.page_store.specs.Store.{ReadsPage, kept_of};
+ghost use Rattle.page_store.specs.Store.{kept_of};
 
-use crate::page::read_page;
+use crate::held::{Place, or_spare};
 use crate::store::Store;
-use crate::{journaled, overlay};
-use disk_model::{Disk, Failed};
-use page_face::{Damage, Page, PageFault, Pages, Rule, free_next, free_page};
-use std::collections::BTreeMap;
+use crate::{held, journaled, overlay};
+use disk_model::Disk;
+use page_face::{Damage, Page, PageFault, Pages, Rule, Seal, free_next, free_page};
 
 fn unlinked(page: u32) -> PageFault
     ensures { result ≡ PageFault.Damaged (link page) }
@@ -28,34 +24,11 @@ fn is_uncounted(counted: u32, page: u32) -> bool
     page == 0 || page >= counted
 }
 
-// The page of the overlay, or else of the journal, or else that of the disk.
-fn shown_page<D: Disk>(
-    disk: &mut D,
-    overlay: &BTreeMap<u32, Box<Page>>,
-    journal: &BTreeMap<u32, Option<Box<Page>>>,
-    number: u32,
-) -> Result<Page, Failed>
-    requires kept { AreKept journal.now }
-    requires images { IsTrue D.tells → AreLastImages (batch_of (kept journal.now.entries)) (D.world disk.old).seen }
-    ensures gives { IfOk result (λ page. 0 < length (shown D.tells (applied (D.world disk.old).seen) overlay.now number)
-        → page ≡ shown D.tells (applied (D.world disk.old).seen) overlay.now number) }
-    ensures reads { IsTrue D.tells → ReadsPage number (D.world disk.old) (D.world disk.new) }
-    ensures cause { HasDiskCause (D.world disk.old) (D.world disk.new) result }
-    ensures room { D.room_of disk.new ≡ D.room_of disk.old }
-{
-    if let Some(page) = overlay::page_of(overlay, number) {
-        return Ok(*page);
-    }
-    match journaled::page_of(journal, number) {
-        Some(page) => Ok(*page),
-        None => read_page(disk, number),
-    }
-}
-
 impl<'d, D: Disk> Pages for Store<'d, D> {
     ghost use Rattle.std.specs.Prelude.{◌≡◌, ◌≤◌, refl};
     ghost use Rattle.page_journal.specs.Record.{applied};
     ghost use Rattle.page_store.specs.Contents.{shown, counted_pages};
+    ghost use Rattle.page_store.specs.Held.{looked_page};
     ghost use Rattle.page_store.specs.Store.{GoesOn, OnlyReads, goes_nowhere, goes_further, reads_nothing, reads_further};
 
     ghost pages = { λ s. counted_pages s.current.counted (shown D.tells (applied (D.world s.disk.now).seen) s.overlay) };
@@ -67,6 +40,8 @@ impl<'d, D: Disk> Pages for Store<'d, D> {
     ghost room = { λ s. D.room_of s.disk.now };
 
     ghost asked = { λ s. s.asked.items };
+
+    ghost looked = { λ s. looked_page s.place s.at s.overlay s.journal s.cache s.spare };
 
     ghost faults = { λ s. (D.world s.disk.now).faults };
 
@@ -99,6 +74,13 @@ impl<'d, D: Disk> Pages for Store<'d, D> {
     // Inlined, so that a page in memory is copied once, to where the caller looks at it.
     #[inline(always)]
     fn read(&mut self, page: u32) -> Result<Page, PageFault> {
+        match self.look(page) {
+            Ok(()) => Ok(*self.looked()),
+            Err(fault) => Err(fault),
+        }
+    }
+
+    fn look(&mut self, page: u32) -> Result<(), PageFault> {
         if self.stopped {
             return Err(PageFault::Stopped);
         }
@@ -108,16 +90,28 @@ impl<'d, D: Disk> Pages for Store<'d, D> {
         if is_uncounted(self.current.counted, page) {
             return Err(unlinked(page));
         }
-        // Not through `shown_page`, whose answer of another type would copy the page once more.
-        if let Some(held) = overlay::page_of(&self.overlay, page) {
-            return Ok(*held);
-        }
-        if let Some(held) = journaled::page_of(&self.journal, page) {
-            return Ok(*held);
-        }
-        match read_page(&mut *self.disk, page) {
-            Ok(bytes) => Ok(bytes),
+        match self.fetch(page) {
+            Ok(()) => Ok(()),
             Err(_) => Err(PageFault::Disk),
+        }
+    }
+
+    fn looked(&self) -> &Page {
+        match self.place {
+            Place::Overlay => or_spare(overlay::page_of(&self.overlay, self.at), &self.spare),
+            Place::Journal => or_spare(journaled::page_of(&self.journal, self.at), &self.spare),
+            Place::Cache => or_spare(self.cache.looked(), &self.spare),
+            Place::Spare => &self.spare,
+        }
+    }
+
+    fn is_sealed(&self, seal: Seal) -> bool {
+        self.place.is_held() && self.seals.has(self.at, seal)
+    }
+
+    fn seal(&mut self, seal: Seal) {
+        if self.place.is_held() {
+            self.seals.note(self.at, seal);
         }
     }
 
@@ -128,7 +122,8 @@ impl<'d, D: Disk> Pages for Store<'d, D> {
         if is_uncounted(self.current.counted, page) {
             return Err(unlinked(page));
         }
-        overlay::put(self.alloc, &mut self.overlay, page, bytes)
+        self.place = Place::Spare;
+        held::put(self.alloc, &mut self.overlay, &mut self.seals, page, bytes)
     }
 
     fn take(&mut self) -> Result<u32, PageFault> {
@@ -139,10 +134,10 @@ impl<'d, D: Disk> Pages for Store<'d, D> {
             return self.count_one();
         }
         let page = self.current.first_free;
-        let Ok(bytes) = shown_page(&mut *self.disk, &self.overlay, &self.journal, page) else {
+        let Ok(()) = self.fetch(page) else {
             return Err(PageFault::Disk);
         };
-        match free_next(&bytes) {
+        match free_next(self.looked()) {
             Ok(next) => {
                 if next >= self.current.counted {
                     return Err(unlinked(next));
@@ -161,9 +156,11 @@ impl<'d, D: Disk> Pages for Store<'d, D> {
         if is_uncounted(self.current.counted, page) {
             return Err(unlinked(page));
         }
-        overlay::put(
+        self.place = Place::Spare;
+        held::put(
             self.alloc,
             &mut self.overlay,
+            &mut self.seals,
             page,
             &free_page(self.current.first_free),
         )?;

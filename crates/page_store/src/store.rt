@@ -1,15 +1,21 @@
 //! The store as one object.
-ghost use Rattle.std.specs.Prelude.{◌≡◌, ◌≢◌, ℕ, IsErrOf, ◌<◌, ◌≤◌, ◌-◌, ◌^◌, IsTrue, false, [], IfOk, length};
+ghost use Rattle.std.specs.Prelude.{◌≡◌, ◌≢◌, ℕ, Some, IsErrOf, ◌<◌, ◌≤◌, ◌-◌, ◌^◌, IsTrue, false, [], IfOk, length};
 ghost use Rattle.std.proofs.Props.{props};
 ghost use Rattle.disk_model.specs.World.{LeavesOnly, HasSaid, HasSinkCause};
 ghost use Rattle.page_journal.specs.Record.{AreLastImages, IsBad, StandsAlike, batch_of, kept};
 ghost use Rattle.page_store.specs.declared.superblock.HeadFault.TheVariants as heads;
+ghost use Rattle.page_cache.specs.Pairs.{pairs_of};
 ghost use Rattle.page_store.specs.Contents.{AreKept, IsCommitted, IsSized};
+ghost use Rattle.page_store.specs.declared.held.Place.TheVariants as places;
+ghost use Rattle.page_store.specs.Held.{AreCached, AreTrue, held_page, looked_page};
 ghost use Rattle.page_store.specs.Opening.{IsOpened, IsNoStore, SaysNothingReadsHead, head_damage};
 
+use crate::held::Place;
 use crate::opening::{OpenFault, recover_superblock};
+use crate::seals::Seals;
 use crate::superblock::Superblock;
 use disk_model::{Disk, Failed, Station};
+use page_cache::Cache;
 use page_face::{Damage, Head, Page};
 use std::alloc::Global;
 use std::collections::BTreeMap;
@@ -21,9 +27,13 @@ use std::collections::BTreeMap;
 /// commit or a checkpoint that fails stops the store: from then on every call of the pages returns `Stopped`, and the store is to be
 /// opened again. No call of the pages changes the head.
 ///
-/// Cost: `read` is one look-up in the overlay and one among the journal's pages, and one page read from the disk if it is in neither; so
-/// is a `take` of a free page. `write` and `give_back` put one page into the overlay and make no call of the disk. The overlay holds each
-/// page written since the last commit once, and the journal's pages take some 16 MiB at most beside those of one commit.
+/// Cost: `look` of a page of the overlay is one look-up there, of one of the journal one more among its pages, and of a cached one a third in
+/// the cache; none of these calls the disk or copies a page. A page that is in none is read from the disk, where that is one call, and copied
+/// once into the cache. `looked` is one look-up for a page of the overlay or the journal and none for another, `read` both and a copy of the
+/// page, and a `take` of a free page a `look` at it. `write` and `give_back` put one page into the overlay and make no call of the disk.
+///
+/// The overlay holds each page written since the last commit once, the journal's pages take some 16 MiB at most beside those of one commit,
+/// and the cache holds as many pages as it was made for. A checkpoint moves the journal's pages into the cache.
 #[derive(Drop)]
 pub struct Store<'d, D: Disk> {
     pub(crate) alloc: Global,
@@ -40,6 +50,13 @@ pub struct Store<'d, D: Disk> {
     pub(crate) asked: Vec<u32>,
     pub(crate) refused: u64,
     pub(crate) stopped: bool,
+    // committed pages, the one used last first
+    pub(crate) cache: Cache,
+    pub(crate) seals: Seals,
+    // number and place of the page looked at last, and the page itself where memory holds it by no number
+    pub(crate) at: u32,
+    pub(crate) place: Place,
+    pub(crate) spare: Page,
     ghost current_first: { current.first_free < current.counted },
     ghost last_first: { last.first_free < last.counted },
     ghost few: { length overlay.entries < 2 ^ 32 - 1 },
@@ -47,13 +64,26 @@ pub struct Store<'d, D: Disk> {
     ghost in_order: { AreKept journal } by { Prim.hlevel props },
     ghost ready: { IsTrue D.tells → stopped ≡ false → IsCommitted last end (D.world disk.now) },
     ghost images: { IsTrue D.tells → stopped ≡ false → AreLastImages (batch_of (kept journal.entries)) (D.world disk.now).seen },
+    ghost cached: { IsTrue D.tells → stopped ≡ false → AreCached journal cache (D.world disk.now).seen } by { Prim.hlevel props },
+    ghost sealed: { AreTrue seals overlay journal cache } by { Prim.hlevel props },
+    ghost lies: { place ≢ places.Spare → held_page overlay journal cache at ≡ Some (looked_page place at overlay journal cache spare) },
+}
+
+// A cache of so many pages, or of none if there is no memory for it.
+fn cache_of(alloc: Global, pages: u32) -> Cache
+    ensures { pairs_of result ≡ [] }
+{
+    match Cache::new(alloc, pages) {
+        Ok(cache) => cache,
+        Err(_) => Cache::empty(alloc),
+    }
 }
 
 impl<'d, D: Disk> Store<'d, D> {
-    /// Recovers the journal and reads page 0. `cache` is the number of pages that a cache may hold; there is none yet.
+    /// Recovers the journal and reads page 0. `cache` is the number of pages that the cache may hold; 0 is none.
     ///
     /// Refuses as [`recover_superblock`] does, and costs as much.
-    pub fn open(alloc: Global, disk: &'d mut D, _cache: u32) -> Result<Store<'d, D>, OpenFault>
+    pub fn open(alloc: Global, disk: &'d mut D, cache: u32) -> Result<Store<'d, D>, OpenFault>
         ensures same_loan { IfOk result (λ store. store.disk.ghost_name ≡ disk.entry.ghost_name) }
 
         // A crash at any moment leaves what a crash could leave as the call began, or what stands for the same pages.
@@ -73,11 +103,12 @@ impl<'d, D: Disk> Store<'d, D> {
         ensures memory { result ≢ Err OpenFault.Memory }
     {
         let block = recover_superblock(&mut *disk)?;
-        Ok(Store::over(alloc, disk, block))
+        Ok(Store::over(alloc, disk, block, cache))
     }
 
-    /// The store over a disk that [`recover_superblock`] has answered this superblock of. Makes no call of the disk.
-    pub fn over(alloc: Global, disk: &'d mut D, block: Superblock) -> Store<'d, D>
+    /// The store over a disk for which [`recover_superblock`] has returned this superblock, with a cache of at most `cache` pages; with none
+    /// if it runs out of memory for it. Makes no call of the disk.
+    pub fn over(alloc: Global, disk: &'d mut D, block: Superblock, cache: u32) -> Store<'d, D>
         requires in_range { block.first_free < block.counted }
         requires committed { IsTrue D.tells → IsCommitted block 0 (D.world disk.old) }
         ensures same_loan { result.disk.ghost_name ≡ disk.entry.ghost_name }
@@ -97,6 +128,11 @@ impl<'d, D: Disk> Store<'d, D> {
             asked: Vec::new(alloc),
             refused: 0,
             stopped: false,
+            cache: cache_of(alloc, cache),
+            seals: Seals::new(alloc),
+            at: 0,
+            place: Place::Spare,
+            spare: [0; 4096],
         }
     }
 
@@ -116,6 +152,11 @@ impl<'d, D: Disk> Store<'d, D> {
             asked: _,
             refused: _,
             stopped: _,
+            cache: _,
+            seals: _,
+            at: _,
+            place: _,
+            spare: _,
         } = self;
         disk
     }
@@ -141,7 +182,7 @@ impl<'d, D: Disk> Store<'d, D> {
         self.current.head = *head;
     }
 
-    /// The pages given to `read` since `clear_log`, the last one last.
+    /// The pages given to `read` and `look` since `clear_log`, the last one last.
     pub fn read_log(&self) -> &[u32]
         ensures { result.now ≡ self.now.asked.items }
     {

@@ -1,7 +1,8 @@
 //! Stores that are opened, committed, dropped, stopped and cut off.
+use crate::seals::Seals;
 use crate::{OpenFault, Store};
 use disk_model::{CallKind, Fail, MemoryStation, Tear};
-use page_face::{Damage, Page, PageFault, Pages, Rule, free_page};
+use page_face::{Damage, Page, PageFault, Pages, Rule, Seal, free_page};
 use std::alloc::{AllocError, Global};
 use std::test::Fail as Failure;
 
@@ -233,5 +234,98 @@ fn a_checkpoint_that_fails_stops_the_store(rt: HostRuntime) -> Result<(), Failur
         Err(_) => assert!(rt; false),
     }
     assert_eq!(rt; held(rt.alloc(), &mut station), Ok((2, 0, 7)));
+    Ok(())
+}
+
+// Looks at a page; the first byte that is lent of it, or None where the look is refused.
+fn looked_at(store: &mut Store<'_, MemoryStation>, page: u32) -> Option<u8> {
+    match store.look(page) {
+        Ok(()) => Some(store.looked()[0]),
+        Err(_) => None,
+    }
+}
+
+// Looks at the pages of a store of two, each filled with its number: the page, and the reads of the disk made in all with a cache of 0, 1
+// and 2 pages.
+static LOOKS: [(u32, [u64; 3]); 5] = [
+    (1, [1, 1, 1]),
+    (1, [2, 1, 1]),
+    (2, [3, 2, 2]),
+    (1, [4, 3, 2]),
+    (1, [5, 3, 2]),
+];
+
+// How many reads of the disk were made.
+fn reads_of(store: &Store<'_, MemoryStation>) -> u64 {
+    store.disk.reads()
+}
+
+#[test]
+fn a_cached_page_is_looked_at_without_a_read(rt: HostRuntime) -> Result<(), Failure> {
+    // three pages counted, none of them free
+    let header =
+        b"IRTREE00\0\0\0\x03\0\0\0\0\0\0\0\0\0\0\0\0\0\0\0\0\0\0\0\0\0\0\0\0\0\0\0\0\0\0\0\x01\0\0\0\0\0\0\0\0\0\0\0\0\0\0\0\x01";
+    let image = image(rt.alloc(), header, &[[1; 4096], [2; 4096]])?;
+    for cache in 0..3 {
+        let mut station = MemoryStation::with_image(rt.alloc(), &image, b"", 9)?;
+        match Store::open(rt.alloc(), &mut station, cache as u32) {
+            Ok(mut store) => {
+                let opening = reads_of(&store);
+                for (page, reads) in &LOOKS {
+                    assert_eq!(rt; looked_at(&mut store, *page), Some(*page as u8));
+                    assert_eq!(rt; reads_of(&store), opening.saturating_add(reads[cache]));
+                }
+                assert_eq!(rt; store.read_log(), [1, 1, 2, 1, 1].as_slice());
+            }
+            Err(_) => assert!(rt; false),
+        }
+    }
+    Ok(())
+}
+
+#[test]
+fn a_look_lends_what_was_written_or_committed_last(rt: HostRuntime) -> Result<(), Failure> {
+    let mut station = MemoryStation::new(rt.alloc(), 9);
+    match Store::open(rt.alloc(), &mut station, 1) {
+        Ok(mut store) => {
+            assert_eq!(rt; store.take(), Ok(1));
+            assert_eq!(rt; store.write(1, &[6; 4096]), Ok(()));
+            assert_eq!(rt; looked_at(&mut store, 1), Some(6));
+            assert_eq!(rt; store.commit_all(), Ok(()));
+            assert_eq!(rt; looked_at(&mut store, 1), Some(6));
+            assert_eq!(rt; store.settle(), Ok(()));
+            let settled = reads_of(&store);
+            assert_eq!(rt; looked_at(&mut store, 1), Some(6));
+            assert_eq!(rt; reads_of(&store), settled);
+            assert_eq!(rt; store.write(1, &[7; 4096]), Ok(()));
+            assert_eq!(rt; looked_at(&mut store, 1), Some(7));
+            store.abandon();
+            assert_eq!(rt; looked_at(&mut store, 1), Some(6));
+            assert_eq!(rt; store.write(1, &[8; 4096]), Ok(()));
+            assert_eq!(rt; store.commit_all(), Ok(()));
+            assert_eq!(rt; store.settle(), Ok(()));
+            assert_eq!(rt; looked_at(&mut store, 1), Some(8));
+        }
+        Err(_) => assert!(rt; false),
+    }
+    Ok(())
+}
+
+#[test]
+fn a_seal_stays_until_it_is_dropped(rt: HostRuntime) -> Result<(), Failure> {
+    let seal = Seal {
+        map: 1,
+        key: 12,
+        value: 32,
+        level: 0,
+    };
+    let mut seals = Seals::new(rt.alloc());
+    assert!(rt; !seals.has(1, seal));
+    seals.note(1, seal);
+    assert!(rt; seals.has(1, seal));
+    assert!(rt; !seals.has(1, Seal { level: 1, ..seal }));
+    assert!(rt; !seals.has(2, seal));
+    seals.forget(1);
+    assert!(rt; !seals.has(1, seal));
     Ok(())
 }

@@ -1,8 +1,10 @@
-use Rattle.std.proofs.Common.{◌≡◌, ℕ, ap, subst, sym, ◌∙◌, rules}
+use Rattle.std.proofs.Common.{◌≡◌, ℕ, refl, ap, subst, sym, ◌∙◌, rules}
 use Rattle.page_journal.specs.Record.{applied, batch_of, given, with_batch}
 use Rattle.page_store.specs.declared.superblock.Superblock.{Superblock}
 use Rattle.page_store.specs.Contents.{Overlay, contents_in, shown, counted_pages, page_in, journaled_page, first_page, IsCommitted}
 use Rattle.page_store.proofs.Overlays.{has_entries, committed_by, committed_contents, committed_pages, commit_leaves, cleared_sized}
+use Rattle.page_store.specs.Held.{AreTrue}
+use Rattle.page_store.proofs.Holds.{cached_later, true_moved, moved_keeps}
 use Rattle.page_store.proofs.Kept.{kept_after, images_after}
 use Rattle.page_store.proofs.store.Store.commit_all.Goals as goal
 
@@ -33,6 +35,9 @@ invariant_of-self-3 g c =
           (c.in-Ok-append.ensures.ready t (given whole.entries) is_record) (c.in-Ok-append.ensures.appended t (given whole.entries) is_record));
       images = λ t on. images_after whole mid.journal c.keep.new.journal _ _ put.ordered put.sized mid.in_order c.keep.ensures.ordered keeps (mid.images t c.in_ok-make_room.ensures.on)
           (c.in-Ok-append.ensures.appended t (given whole.entries) is_record) (c.append.ensures.area t) (c.in-Ok-append.ensures.overwritten t (given whole.entries) is_record);
+      cached = λ t on. cached_later mid.journal c.keep.new.journal mid.cache _ _ (moved_keeps whole mid.journal c.keep.new.journal keeps) (c.append.ensures.area t) (mid.cached t c.in_ok-make_room.ensures.on);
+      sealed = true_moved mid.seals whole c.keep.new.overlay mid.journal c.keep.new.journal mid.cache c.keep.ensures.empty keeps (subst (λ (o : Overlay). AreTrue mid.seals o mid.journal mid.cache) c.make_room.ensures.overlay mid.sealed);
+      lies = λ ne. absurd (ne refl);
     }
 
 pub returns-clause-any_moment : goal.returns-clause-any_moment

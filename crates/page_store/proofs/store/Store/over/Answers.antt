@@ -1,7 +1,8 @@
-use Rattle.std.proofs.Common.{◌≡◌, ℕ, None, arith}
+use Rattle.std.proofs.Common.{◌≡◌, ℕ, None, refl, arith}
 use Rattle.page_journal.proofs.Gates.{ready_0}
 use Rattle.page_store.specs.Contents.{journaled_page}
 use Rattle.page_store.proofs.Overlays.{cleared_sized}
+use Rattle.page_store.proofs.Holds.{cached_none, true_none}
 use Rattle.page_store.proofs.Kept.{keeps_none, none_are_kept, images_at_front}
 use Rattle.page_store.proofs.store.Store.over.Goals as goal
 
@@ -17,4 +18,7 @@ invariant_of-result g c =
       in_order = in_order;
       ready = λ t on. c.requires.committed t;
       images = λ t on. images_at_front c.new-2.result _ in_order none (ready_0 _ (c.requires.committed t).ready);
+      cached = λ t on. cached_none c.new-2.result c.cache_of.result _ c.cache_of.ensures;
+      sealed = true_none c.new-4.result c.new.result c.new-2.result c.cache_of.result c.new-4.ensures;
+      lies = λ ne. absurd (ne refl);
     }
