@@ -1,4 +1,6 @@
+pub mod Behind
+pub mod Leaves
+pub mod Edits
 pub mod Rows
 pub mod Maps
-pub mod Located
 pub mod Removes

@@ -7,11 +7,10 @@
 //! exactly one of them.
 #![tactic(auto)]
 
-mod find;
-mod first;
+mod editing;
+mod finding;
 mod layout;
 mod map;
-mod node;
 mod putting;
 mod removing;
 

@@ -1,5 +1,6 @@
 //! A map by its root.
 ghost use Rattle.std.specs.Prelude.{◌≡◌, ◌≢◌, ◌⊎◌, ℕ, ◌≤◌, List, length, IfOk, IsTrue, IsErrOf, OnErr, is_some};
+ghost use Rattle.page_face.specs.Calls.{Reads, Changes, FailsReading, FailsChanging};
 ghost use Rattle.page_face.specs.Causes.{Rose};
 ghost use Rattle.page_face.specs.Number.{number};
 ghost use Rattle.btree_nodes.specs.Supply.{view};
@@ -9,13 +10,11 @@ ghost use Rattle.btree_nodes.specs.Damages.{AreTold, AskedSince, AsksOnly, IsRef
 ghost use Rattle.paged_map.specs.Answers.{HoldsRow, Locates};
 ghost use Rattle.paged_map.specs.Maps.{AreCounted, IsMapDamaged, IsKept, HasBecome};
 
-use crate::find::find_in;
-use crate::first::first_in;
-use crate::layout::{Layout, form_of, least_key};
-use crate::putting::put_below;
-use crate::removing::remove_below;
+use crate::finding::{find_below, first_below};
+use crate::layout::{Layout, form_of};
+use crate::putting::put_row;
+use crate::removing::remove_row;
 use btree_insert::first_leaf;
-use btree_nodes::{level, root_least};
 use page_face::{Damage, PageFault, Pages};
 use std::marker::PhantomData;
 
@@ -52,7 +51,7 @@ impl<L: Layout> PagedMap<L> {
     /// key isn't there, and where `value` may hold anything.
     ///
     /// Refuses `Damaged` with a rule that a page asked for in this call breaks in its place; `Disk`; `Stopped`;
-    /// `Memory`. It reads a page a level.
+    /// `Memory`. Looks at one page a level where it lies, writes none, and copies the value alone.
     pub fn get<P: Pages>(
         &self,
         pages: &mut P,
@@ -74,48 +73,20 @@ impl<L: Layout> PagedMap<L> {
             → (damage : Damage) → IsErrOf result (PageFault.Damaged damage) → AskedSince (P.asked pages.old) (P.asked pages.new) damage.page }
         ensures own { AreTold (P.pages pages.old) (P.count pages.old)
             → AsksOnly (map_uses L.form (P.pages pages.old) self.now.root) (P.asked pages.old) (P.asked pages.new) }
-        ensures disk { IsErrOf result PageFault.Disk → Rose (P.faults pages.old) (P.faults pages.new) }
-        ensures room_left { result ≢ Err PageFault.NoRoom }
-        ensures stopped { IsErrOf result PageFault.Stopped → IsTrue (P.is_stopped pages.old) }
-
-        ensures pages { P.pages pages.new ≡ P.pages pages.old }
-        ensures count { P.count pages.new ≡ P.count pages.old }
-        ensures first { P.first pages.new ≡ P.first pages.old }
-        ensures room { P.room pages.new ≡ P.room pages.old }
-        ensures faults { P.faults pages.old ≤ P.faults pages.new }
-        ensures refused { P.refused pages.new ≡ P.refused pages.old }
-        ensures goes_on { P.is_stopped pages.new ≡ P.is_stopped pages.old }
-        ensures only_reads { P.only_reads pages.old pages.new }
-        ensures follows { P.follows_from pages.old pages.new }
+        ensures fails { FailsReading P.Pages pages.old pages.new result }
+        ensures frame { Reads P.Pages pages.old pages.new }
     {
         if self.root == 0 {
             return Ok(None);
         }
-        let form = form_of::<L>();
-        match pages.read(self.root) {
-            Ok(bytes) => {
-                let level = level(&bytes);
-                find_in(
-                    pages,
-                    form,
-                    root_least(level),
-                    self.root,
-                    &bytes,
-                    level,
-                    least_key(form),
-                    &[],
-                    key,
-                    value,
-                )
-            }
-            Err(fault) => Err(fault),
-        }
+        find_below(pages, form_of::<L>(), self.root, key, value)
     }
 
     /// The page of the leaf that holds the first row whose key isn't less; the row's key is then left in `found` and
     /// its value in `value`. `None` exactly where there is no such row, and where both may hold anything.
     ///
-    /// Refuses as [`PagedMap::get`]. It reads at most two pages a level.
+    /// Refuses as [`PagedMap::get`]. Looks at one page a level, and at one more a level if the key is past the last row of the
+    /// leaf that it belongs to. Writes none, and copies the row alone.
     pub fn first_from<P: Pages>(
         &self,
         pages: &mut P,
@@ -139,50 +110,24 @@ impl<L: Layout> PagedMap<L> {
             → (damage : Damage) → IsErrOf result (PageFault.Damaged damage) → AskedSince (P.asked pages.old) (P.asked pages.new) damage.page }
         ensures own { AreTold (P.pages pages.old) (P.count pages.old)
             → AsksOnly (map_uses L.form (P.pages pages.old) self.now.root) (P.asked pages.old) (P.asked pages.new) }
-        ensures disk { IsErrOf result PageFault.Disk → Rose (P.faults pages.old) (P.faults pages.new) }
-        ensures room_left { result ≢ Err PageFault.NoRoom }
-        ensures stopped { IsErrOf result PageFault.Stopped → IsTrue (P.is_stopped pages.old) }
-
-        ensures pages { P.pages pages.new ≡ P.pages pages.old }
-        ensures count { P.count pages.new ≡ P.count pages.old }
-        ensures first { P.first pages.new ≡ P.first pages.old }
-        ensures room { P.room pages.new ≡ P.room pages.old }
-        ensures faults { P.faults pages.old ≤ P.faults pages.new }
-        ensures refused { P.refused pages.new ≡ P.refused pages.old }
-        ensures goes_on { P.is_stopped pages.new ≡ P.is_stopped pages.old }
-        ensures only_reads { P.only_reads pages.old pages.new }
-        ensures follows { P.follows_from pages.old pages.new }
+        ensures fails { FailsReading P.Pages pages.old pages.new result }
+        ensures frame { Reads P.Pages pages.old pages.new }
     {
         if self.root == 0 {
             return Ok(None);
         }
-        let form = form_of::<L>();
-        match pages.read(self.root) {
-            Ok(bytes) => {
-                let level = level(&bytes);
-                first_in(
-                    pages,
-                    form,
-                    root_least(level),
-                    self.root,
-                    &bytes,
-                    level,
-                    least_key(form),
-                    &[],
-                    key,
-                    found,
-                    value,
-                )
-            }
-            Err(fault) => Err(fault),
-        }
+        first_below(pages, form_of::<L>(), self.root, key, found, value)
     }
 
     /// Puts a row: the value at the key is this one from now on. Answers whether the key was there.
     ///
     /// Refuses `Damaged` with a rule that a page asked for in this call breaks in its place, or as a `take` answered it;
     /// `Disk`; `NoRoom`; `Stopped`; `Memory`. After a refusal the root is as before, and pages may have changed: they are
-    /// to be abandoned. It reads and writes a page a level, and takes one for each page that is split.
+    /// to be abandoned.
+    ///
+    /// Looks at one page a level. If the leaf that the key belongs to has the key, or room for one more row, writes that leaf
+    /// alone, and copies its bytes once, into the new page. Else reads each of these pages by value once more, writes two
+    /// pages for each one that is split and one above them, and takes one for each split and for a new root.
     pub fn put<P: Pages>(
         &mut self,
         pages: &mut P,
@@ -205,16 +150,8 @@ impl<L: Layout> PagedMap<L> {
             ⊎ IsRefusedTake (P.pages pages.new) (P.count pages.new) (P.first pages.new) damage }
         ensures own { AreTold (P.pages pages.old) (P.count pages.old)
             → AsksOnly (map_uses L.form (P.pages pages.old) self.old.root) (P.asked pages.old) (P.asked pages.new) }
-        ensures disk { IsErrOf result PageFault.Disk → Rose (P.faults pages.old) (P.faults pages.new) }
-        ensures refused_more { IsErrOf result PageFault.NoRoom → Rose (P.refused pages.old) (P.refused pages.new) }
-        ensures stopped { IsErrOf result PageFault.Stopped → IsTrue (P.is_stopped pages.old) }
-
-        ensures counts { P.count pages.old ≤ P.count pages.new }
-        ensures room { P.room pages.new ≡ P.room pages.old }
-        ensures faults { P.faults pages.old ≤ P.faults pages.new }
-        ensures refused { P.refused pages.old ≤ P.refused pages.new }
-        ensures goes_on { P.is_stopped pages.new ≡ P.is_stopped pages.old }
-        ensures follows { P.follows_from pages.old pages.new }
+        ensures fails { FailsChanging P.Pages pages.old pages.new result }
+        ensures frame { Changes P.Pages pages.old pages.new }
     {
         let form = form_of::<L>();
         let empty = self.root == 0;
@@ -224,7 +161,7 @@ impl<L: Layout> PagedMap<L> {
             return Ok(false);
         }
         let mut middle = [0; 255];
-        let rooted = put_below(pages, form, self.root, key, value, &mut middle[..form.key])?;
+        let rooted = put_row(pages, form, self.root, key, value, &mut middle[..form.key])?;
         self.root = rooted.root;
         Ok(rooted.had)
     }
@@ -232,9 +169,12 @@ impl<L: Layout> PagedMap<L> {
     /// Takes the row at a key out. Answers whether the key was there.
     ///
     /// Refuses `Damaged` with a rule that a page asked for in this call breaks in its place; `Disk`; `Stopped`; `Memory`.
-    /// After a refusal the root is as before, and pages may have changed: they are to be abandoned. Where the key isn't
-    /// there all pages are as before. It reads at most two pages a level and writes at most three, and gives each page
-    /// back that it empties.
+    /// After a refusal the root is as before, and pages may have changed: they are to be abandoned. If the key isn't
+    /// there all pages are as before.
+    ///
+    /// Looks at one page a level. If the key isn't there, writes none. If the leaf that it belongs to has more rows than it
+    /// must have, writes that leaf alone, and copies its bytes once, into the new page. Else reads at most two pages a level by
+    /// value, writes at most three a level, and gives each page back that it empties.
     pub fn remove<P: Pages>(&mut self, pages: &mut P, key: &[u8]) -> Result<bool, PageFault>
         requires key { length key.now ≡ L.KEY }
         ensures removed { (free : List ℕ) → IsKept L.form (view (P.pages pages.old) (P.count pages.old) (P.first pages.old) free) self.old.root
@@ -250,21 +190,15 @@ impl<L: Layout> PagedMap<L> {
             → IsMapDamaged L.form (P.pages pages.old) (P.count pages.old) self.old.root damage × AskedSince (P.asked pages.old) (P.asked pages.new) damage.page }
         ensures own { AreTold (P.pages pages.old) (P.count pages.old)
             → AsksOnly (map_uses L.form (P.pages pages.old) self.old.root) (P.asked pages.old) (P.asked pages.new) }
-        ensures disk { IsErrOf result PageFault.Disk → Rose (P.faults pages.old) (P.faults pages.new) }
-        ensures room_left { result ≢ Err PageFault.NoRoom }
-        ensures stopped { IsErrOf result PageFault.Stopped → IsTrue (P.is_stopped pages.old) }
-
+        ensures fails { FailsReading P.Pages pages.old pages.new result }
         ensures count { P.count pages.new ≡ P.count pages.old }
-        ensures room { P.room pages.new ≡ P.room pages.old }
-        ensures faults { P.faults pages.old ≤ P.faults pages.new }
         ensures refused { P.refused pages.new ≡ P.refused pages.old }
-        ensures goes_on { P.is_stopped pages.new ≡ P.is_stopped pages.old }
-        ensures follows { P.follows_from pages.old pages.new }
+        ensures frame { Changes P.Pages pages.old pages.new }
     {
         if self.root == 0 {
             return Ok(false);
         }
-        let after = remove_below(pages, form_of::<L>(), self.root, key)?;
+        let after = remove_row(pages, form_of::<L>(), self.root, key)?;
         self.root = after.root;
         Ok(after.had)
     }

@@ -1,5 +1,6 @@
 //! A row that is put into a map by its root.
 ghost use Rattle.std.specs.Prelude.{◌≡◌, ◌≢◌, ◌⊎◌, ℕ, ◌<◌, ◌≤◌, List, length, IfOk, IsErrOf, IsTrue, is_some};
+ghost use Rattle.page_face.specs.Calls.{Changes, FailsChanging};
 ghost use Rattle.page_face.specs.Causes.{Rose};
 ghost use Rattle.page_face.specs.Number.{number};
 ghost use Rattle.btree_nodes.specs.Supply.{view};
@@ -8,9 +9,11 @@ ghost use Rattle.btree_nodes.specs.Tree.{IsMap, map_rows, map_uses};
 ghost use Rattle.btree_nodes.specs.Damages.{IsRefusedTake, AreTold, AskedSince, AsksOnly};
 ghost use Rattle.paged_map.specs.Maps.{IsKept, HasBecome, IsMapDamaged};
 
+use crate::editing::{cut_of, has_room, spot_of, write_leaf};
 use crate::layout::least_key;
 use btree_insert::{grow_root, put_in};
 use btree_nodes::{Form, level, root_least};
+use btree_search::{Bounds, locate};
 use page_face::{Damage, PageFault, Pages};
 
 // The greatest level that a page can say.
@@ -95,5 +98,53 @@ pub fn put_below<P: Pages>(
     Ok(Rooted {
         root: top,
         had: grown.had,
+    })
+}
+
+/// Puts a row into a map that has a root. `middle` is room for a key.
+///
+/// Goes down to the leaf that the key belongs to, with no copy of a page. If the leaf has the key, or room for one row more,
+/// it alone is written, as one new page: no page above it changes. Else, and where a page is damaged, goes down again, by
+/// [`put_below`], and refuses as that.
+pub fn put_row<P: Pages>(
+    pages: &mut P,
+    form: Form,
+    root: u32,
+    key: &[u8],
+    value: &[u8],
+    middle: &mut [u8],
+) -> Result<Rooted, PageFault>
+    requires root { 0 < root }
+    requires key { length key.now ≡ form.key }
+    requires value { length value.now ≡ form.value }
+    requires middle { length middle.old ≡ form.key }
+    ensures becomes { (free : List ℕ) → IsKept form (view (P.pages pages.old) (P.count pages.old) (P.first pages.old) free) root
+        → IfOk result (λ rooted. HasBecome form (view (P.pages pages.old) (P.count pages.old) (P.first pages.old) free) (P.pages pages.new) (P.count pages.new) (P.first pages.new) root rooted.root (put (number key.now) value.now (map_rows form (P.pages pages.old) root))) }
+    ensures had { IsMap form (P.pages pages.old) root → IfOk result (λ rooted. rooted.had ≡ is_some (lookup (number key.now) (map_rows form (P.pages pages.old) root))) }
+
+    ensures honest { (free : List ℕ) → IsKept form (view (P.pages pages.old) (P.count pages.old) (P.first pages.old) free) root → (damage : Damage) → result ≢ Err (PageFault.Damaged damage) }
+    ensures damaged { AreTold (P.pages pages.old) (P.count pages.old) → (damage : Damage) → IsErrOf result (PageFault.Damaged damage)
+        → (IsMapDamaged form (P.pages pages.old) (P.count pages.old) root damage × AskedSince (P.asked pages.old) (P.asked pages.new) damage.page)
+        ⊎ IsRefusedTake (P.pages pages.new) (P.count pages.new) (P.first pages.new) damage }
+    ensures own { AreTold (P.pages pages.old) (P.count pages.old) → AsksOnly (map_uses form (P.pages pages.old) root) (P.asked pages.old) (P.asked pages.new) }
+    ensures fails { FailsChanging P.Pages pages.old pages.new result }
+    ensures frame { Changes P.Pages pages.old pages.new }
+{
+    let mut bounds = Bounds::all();
+    let leaf = match locate(pages, form, root, key, &mut bounds) {
+        Ok(leaf) => leaf,
+        Err(PageFault::Damaged(_)) => return put_below(pages, form, root, key, value, middle),
+        Err(fault) => return Err(fault),
+    };
+    let spot = spot_of(pages.looked(), form, leaf.count, key);
+    if !has_room(form, leaf.count, spot.gone) {
+        return put_below(pages, form, root, key, value, middle);
+    }
+    let count = (leaf.count + 1 - spot.gone) as u16;
+    let cut = cut_of(form, leaf.count, spot);
+    write_leaf(pages, form, leaf.page, count, cut, key, value)?;
+    Ok(Rooted {
+        root,
+        had: spot.gone == 1,
     })
 }

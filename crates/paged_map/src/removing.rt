@@ -1,5 +1,6 @@
 //! A row that is taken out of a map by its root.
 ghost use Rattle.std.specs.Prelude.{◌≡◌, ◌≢◌, ℕ, ◌^◌, ◌<◌, ◌≤◌, List, length, IfOk, IsErrOf, IsTrue, is_some};
+ghost use Rattle.page_face.specs.Calls.{Changes, FailsReading};
 ghost use Rattle.page_face.specs.Causes.{Rose, IsUncounted};
 ghost use Rattle.page_face.specs.Number.{number};
 ghost use Rattle.btree_nodes.specs.Supply.{View, view};
@@ -10,10 +11,12 @@ ghost use Rattle.btree_nodes.specs.Damages.{AreTold, AskedSince, AsksOnly};
 ghost use Rattle.btree_delete.specs.Removal.{IsOut};
 ghost use Rattle.paged_map.specs.Maps.{IsKept, HasBecome, IsMapDamaged};
 
+use crate::editing::{cut_of, spot_of, write_leaf};
 use crate::layout::least_key;
 use crate::putting::Rooted;
 use btree_delete::{lower_root, remove_in};
 use btree_nodes::{Form, level, root_least};
+use btree_search::{Bounds, locate};
 use page_face::{Damage, Page, PageFault, Pages};
 
 // The root of a map whose root's page has so many cells left: 0 where no row is left, and where an inner page has one
@@ -107,4 +110,49 @@ pub fn remove_below<P: Pages>(
         root: top,
         had: true,
     })
+}
+
+/// Takes the row at a key out of a map that has a root. Returns the root, and whether the key was there.
+///
+/// Goes down to the leaf that the key belongs to, with no copy of a page. If the key isn't there nothing is written. If the
+/// leaf has more rows than it must have, it alone is written, as one new page. Else, and where a page is damaged, goes down
+/// again, by [`remove_below`], and refuses as that.
+pub fn remove_row<P: Pages>(
+    pages: &mut P,
+    form: Form,
+    root: u32,
+    key: &[u8],
+) -> Result<Rooted, PageFault>
+    requires root { 0 < root }
+    requires key { length key.now ≡ form.key }
+    ensures removed { (free : List ℕ) → IsKept form (view (P.pages pages.old) (P.count pages.old) (P.first pages.old) free) root
+        → IfOk result (λ rooted. (rooted.had ≡ is_some (lookup (number key.now) (map_rows form (P.pages pages.old) root)))
+        × HasBecome form (view (P.pages pages.old) (P.count pages.old) (P.first pages.old) free) (P.pages pages.new) (P.count pages.new) (P.first pages.new) root rooted.root (without (number key.now) (map_rows form (P.pages pages.old) root))) }
+
+    ensures honest { (free : List ℕ) → IsKept form (view (P.pages pages.old) (P.count pages.old) (P.first pages.old) free) root → (damage : Damage) → result ≢ Err (PageFault.Damaged damage) }
+    ensures damaged { AreTold (P.pages pages.old) (P.count pages.old) → (damage : Damage) → IsErrOf result (PageFault.Damaged damage)
+        → IsMapDamaged form (P.pages pages.old) (P.count pages.old) root damage × AskedSince (P.asked pages.old) (P.asked pages.new) damage.page }
+    ensures own { AreTold (P.pages pages.old) (P.count pages.old) → AsksOnly (map_uses form (P.pages pages.old) root) (P.asked pages.old) (P.asked pages.new) }
+    ensures fails { FailsReading P.Pages pages.old pages.new result }
+    ensures count { P.count pages.new ≡ P.count pages.old }
+    ensures refused { P.refused pages.new ≡ P.refused pages.old }
+    ensures frame { Changes P.Pages pages.old pages.new }
+{
+    let mut bounds = Bounds::all();
+    let leaf = match locate(pages, form, root, key, &mut bounds) {
+        Ok(leaf) => leaf,
+        Err(PageFault::Damaged(_)) => return remove_below(pages, form, root, key),
+        Err(fault) => return Err(fault),
+    };
+    let spot = spot_of(pages.looked(), form, leaf.count, key);
+    if spot.gone == 0 {
+        return Ok(Rooted { root, had: false });
+    }
+    if leaf.count <= leaf.least {
+        return remove_below(pages, form, root, key);
+    }
+    let count = (leaf.count - 1) as u16;
+    let cut = cut_of(form, leaf.count, spot);
+    write_leaf(pages, form, leaf.page, count, cut, &[], &[])?;
+    Ok(Rooted { root, had: true })
 }

@@ -70,7 +70,7 @@ returns-in_err-rooted-clause-honest g c =
     let root : ℕ = c.args.self.now.root in
     let e = c.form_of-form.ensures in
     rw (passed.1, passed.2) (λ free kept damage e'.
-    c.put_below.ensures.honest free (subst (λ (f : Form). IsKept f (view old count first free) root) (sym e) kept) damage (c.in_err-rooted.was ∙ ap Err (same-fault {T = Bool} _ _ e')))
+    c.put_row.ensures.honest free (subst (λ (f : Form). IsKept f (view old count first free) root) (sym e) kept) damage (c.in_err-rooted.was ∙ ap Err (same-fault {T = Bool} _ _ e')))
 
 pub returns-in_err-rooted-clause-damaged : goal.returns-in_err-rooted-clause-damaged
 returns-in_err-rooted-clause-damaged g c =
@@ -82,8 +82,8 @@ returns-in_err-rooted-clause-damaged g c =
     let root : ℕ = c.args.self.now.root in
     let e = c.form_of-form.ensures in
     rw (passed.1, passed.2) (λ told damage e'.
-    subst (λ (f : Form). (IsMapDamaged f old count root damage × AskedSince (g.P.Pages.asked c.args.pages.now) (g.P.Pages.asked c.put_below.new.pages) damage.page) ⊎ IsRefusedTake (g.P.Pages.pages c.put_below.new.pages) (g.P.Pages.count c.put_below.new.pages) (g.P.Pages.first c.put_below.new.pages) damage) e
-    (c.put_below.ensures.damaged told damage (c.in_err-rooted.was ∙ ap Err (same-fault {T = Bool} _ _ e'))))
+    subst (λ (f : Form). (IsMapDamaged f old count root damage × AskedSince (g.P.Pages.asked c.args.pages.now) (g.P.Pages.asked c.put_row.new.pages) damage.page) ⊎ IsRefusedTake (g.P.Pages.pages c.put_row.new.pages) (g.P.Pages.count c.put_row.new.pages) (g.P.Pages.first c.put_row.new.pages) damage) e
+    (c.put_row.ensures.damaged told damage (c.in_err-rooted.was ∙ ap Err (same-fault {T = Bool} _ _ e'))))
 
 pub returns-in_err-rooted-clause-own : goal.returns-in_err-rooted-clause-own
 returns-in_err-rooted-clause-own g c = λ told.
@@ -93,7 +93,7 @@ returns-in_err-rooted-clause-own g c = λ told.
     let first : ℕ = g.P.Pages.first c.args.pages.now in
     let root : ℕ = c.args.self.now.root in
     let e = c.form_of-form.ensures in
-    subst (λ (f : Form). AsksOnly (map_uses f old root) (g.P.Pages.asked c.args.pages.now) (g.P.Pages.asked c.put_below.new.pages)) e (c.put_below.ensures.own told)
+    subst (λ (f : Form). AsksOnly (map_uses f old root) (g.P.Pages.asked c.args.pages.now) (g.P.Pages.asked c.put_row.new.pages)) e (c.put_row.ensures.own told)
 
 pub returns-clause-own : goal.returns-clause-own
 returns-clause-own g c = λ told.
@@ -103,7 +103,7 @@ returns-clause-own g c = λ told.
     let first : ℕ = g.P.Pages.first c.args.pages.now in
     let root : ℕ = c.args.self.now.root in
     let e = c.form_of-form.ensures in
-    subst (λ (f : Form). AsksOnly (map_uses f old root) (g.P.Pages.asked c.args.pages.now) (g.P.Pages.asked c.put_below.new.pages)) e (c.put_below.ensures.own told)
+    subst (λ (f : Form). AsksOnly (map_uses f old root) (g.P.Pages.asked c.args.pages.now) (g.P.Pages.asked c.put_row.new.pages)) e (c.put_row.ensures.own told)
 
 pub returns-clause-becomes : goal.returns-clause-becomes
 returns-clause-becomes g c = λ free kept.
@@ -113,7 +113,7 @@ returns-clause-becomes g c = λ free kept.
     let first : ℕ = g.P.Pages.first c.args.pages.now in
     let root : ℕ = c.args.self.now.root in
     let e = c.form_of-form.ensures in
-    subst (λ (f : Form). HasBecome f (view old count first free) (g.P.Pages.pages c.put_below.new.pages) (g.P.Pages.count c.put_below.new.pages) (g.P.Pages.first c.put_below.new.pages) root c.in_ok-rooted.rooted.root (put (number c.args.key.now) c.args.value.now (map_rows f old root))) e
+    subst (λ (f : Form). HasBecome f (view old count first free) (g.P.Pages.pages c.put_row.new.pages) (g.P.Pages.count c.put_row.new.pages) (g.P.Pages.first c.put_row.new.pages) root c.in_ok-rooted.rooted.root (put (number c.args.key.now) c.args.value.now (map_rows f old root))) e
     (c.in_ok-rooted.ensures.becomes free (subst (λ (f : Form). IsKept f (view old count first free) root) (sym e) kept))
 
 pub returns-clause-had : goal.returns-clause-had

@@ -41,7 +41,7 @@ returns-in_err-after-clause-honest g c =
     let root : ℕ = c.args.self.now.root in
     let e = c.form_of.ensures in
     rw (passed.1, passed.2) (λ free kept damage e'.
-    c.remove_below.ensures.honest free (subst (λ (f : Form). IsKept f (view old count first free) root) (sym e) kept) damage (c.in_err-after.was ∙ ap Err (same-fault {T = Bool} _ _ e')))
+    c.remove_row.ensures.honest free (subst (λ (f : Form). IsKept f (view old count first free) root) (sym e) kept) damage (c.in_err-after.was ∙ ap Err (same-fault {T = Bool} _ _ e')))
 
 pub returns-in_err-after-clause-damaged : goal.returns-in_err-after-clause-damaged
 returns-in_err-after-clause-damaged g c =
@@ -53,8 +53,8 @@ returns-in_err-after-clause-damaged g c =
     let root : ℕ = c.args.self.now.root in
     let e = c.form_of.ensures in
     rw (passed.1, passed.2) (λ told damage e'.
-    subst (λ (f : Form). IsMapDamaged f old count root damage × AskedSince (g.P.Pages.asked c.args.pages.now) (g.P.Pages.asked c.remove_below.new.pages) damage.page) e
-    (c.remove_below.ensures.damaged told damage (c.in_err-after.was ∙ ap Err (same-fault {T = Bool} _ _ e'))))
+    subst (λ (f : Form). IsMapDamaged f old count root damage × AskedSince (g.P.Pages.asked c.args.pages.now) (g.P.Pages.asked c.remove_row.new.pages) damage.page) e
+    (c.remove_row.ensures.damaged told damage (c.in_err-after.was ∙ ap Err (same-fault {T = Bool} _ _ e'))))
 
 pub returns-in_err-after-clause-own : goal.returns-in_err-after-clause-own
 returns-in_err-after-clause-own g c = λ told.
@@ -64,7 +64,7 @@ returns-in_err-after-clause-own g c = λ told.
     let first : ℕ = g.P.Pages.first c.args.pages.now in
     let root : ℕ = c.args.self.now.root in
     let e = c.form_of.ensures in
-    subst (λ (f : Form). AsksOnly (map_uses f old root) (g.P.Pages.asked c.args.pages.now) (g.P.Pages.asked c.remove_below.new.pages)) e (c.remove_below.ensures.own told)
+    subst (λ (f : Form). AsksOnly (map_uses f old root) (g.P.Pages.asked c.args.pages.now) (g.P.Pages.asked c.remove_row.new.pages)) e (c.remove_row.ensures.own told)
 
 pub returns-clause-own : goal.returns-clause-own
 returns-clause-own g c = λ told.
@@ -74,7 +74,7 @@ returns-clause-own g c = λ told.
     let first : ℕ = g.P.Pages.first c.args.pages.now in
     let root : ℕ = c.args.self.now.root in
     let e = c.form_of.ensures in
-    subst (λ (f : Form). AsksOnly (map_uses f old root) (g.P.Pages.asked c.args.pages.now) (g.P.Pages.asked c.remove_below.new.pages)) e (c.remove_below.ensures.own told)
+    subst (λ (f : Form). AsksOnly (map_uses f old root) (g.P.Pages.asked c.args.pages.now) (g.P.Pages.asked c.remove_row.new.pages)) e (c.remove_row.ensures.own told)
 
 pub returns-clause-removed : goal.returns-clause-removed
 returns-clause-removed g c = λ free kept.
@@ -85,5 +85,5 @@ returns-clause-removed g c = λ free kept.
     let root : ℕ = c.args.self.now.root in
     let e = c.form_of.ensures in
     subst (λ (f : Form). (c.in_ok-after.after.had ≡ is_some (lookup (number c.args.key.now) (map_rows f old root)))
-    × HasBecome f (view old count first free) (g.P.Pages.pages c.remove_below.new.pages) (g.P.Pages.count c.remove_below.new.pages) (g.P.Pages.first c.remove_below.new.pages) root c.in_ok-after.after.root (without (number c.args.key.now) (map_rows f old root))) e
+    × HasBecome f (view old count first free) (g.P.Pages.pages c.remove_row.new.pages) (g.P.Pages.count c.remove_row.new.pages) (g.P.Pages.first c.remove_row.new.pages) root c.in_ok-after.after.root (without (number c.args.key.now) (map_rows f old root))) e
     (c.in_ok-after.ensures.removed free (subst (λ (f : Form). IsKept f (view old count first free) root) (sym e) kept))

@@ -1,0 +1,29 @@
+use Rattle.std.proofs.Common.{◌≡◌, ◌^◌, ℕ, List, take, ◌∙◌, sym, ap, subst}
+use Rattle.page_face.specs.FreeList.{PageMap}
+use Rattle.page_face.specs.Number.{number}
+use Rattle.btree_nodes.specs.Bounds.{upper_of}
+use Rattle.btree_nodes.specs.Nodes.{rows_in}
+use Rattle.btree_nodes.specs.Rows.{IsWithin, first_from}
+use Rattle.btree_nodes.specs.Tree.{map_rows}
+use Rattle.btree_search.specs.Steps.{low_of, high_of}
+use Rattle.paged_map.proofs.Leaves.{first-found-leaf, first-end}
+use Rattle.paged_map.proofs.finding.first_at.Goals as goal
+
+pub returns-in-Ok-clause-found : goal.returns-in-Ok-clause-found
+returns-in-Ok-clause-found g c = λ map.
+    let l = c.in-Ok.ensures.located map in
+    let s = c.in-Ok.ensures.shown in
+    let low : ℕ = low_of c.args.form c.locate.new.bounds in
+    let high : ℕ = high_of c.args.form c.locate.new.bounds in
+    let within : IsWithin low high (rows_in c.args.form c.looked.result.now) = subst (λ (x : List ℕ). IsWithin low high (rows_in c.args.form x)) (sym c.looked.ensures) s.within in
+    first-found-leaf c.args.form (g.P.Pages.pages c.args.pages.now) c.args.root c.in-Ok.leaf.least c.in-Ok.leaf.page low high l.1
+    (number c.args.key.now) s.from s.to c.looked.result.now c.first_in-hit.new.value (number c.first_in-hit.new.found) c.first_in-hit.result c.then_some.result (c.looked.ensures ∙ l.0)
+    (c.first_in-hit.ensures.found low high within) (c.first_in-hit.ensures.holds low high within) c.then_some.ensures
+
+pub returns-in-Ok-clause-last : goal.returns-in-Ok-clause-last
+returns-in-Ok-clause-last g c = λ map top.
+    let l = c.in-Ok.ensures.located map in
+    let old : PageMap = g.P.Pages.pages c.args.pages.now in
+    let e : high_of c.args.form c.locate.new.bounds ≡ 256 ^ c.args.form.key = ap (λ (n : ℕ). upper_of c.args.form.key (take n c.locate.new.bounds.high)) top in
+    ap (λ (k : ℕ). first_from k (map_rows c.args.form old c.args.root)) e
+    ∙ first-end c.args.form old c.args.root c.in-Ok.leaf.least c.in-Ok.leaf.page (low_of c.args.form c.locate.new.bounds) (high_of c.args.form c.locate.new.bounds) l.1

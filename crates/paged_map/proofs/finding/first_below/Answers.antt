@@ -1,0 +1,74 @@
+use Rattle.std.proofs.Common.{rules, arith, ◌≡◌, ◌^◌, ◌<◌, ℕ, List, length, take, ◌∙◌, sym, ap, subst, refl, Err, Option}
+use Rattle.std.proofs.lemmas.Bool.Decides.{nat_tests}
+use Rattle.page_face.specs.FreeList.{PageMap}
+use Rattle.page_face.specs.Number.{number}
+use Rattle.btree_nodes.specs.declared.form.Form.{Form}
+use Rattle.btree_nodes.specs.Rows.{first_from}
+use Rattle.btree_nodes.specs.Tree.{IsMap, map_rows}
+use Rattle.btree_nodes.proofs.Checks.{upper-some}
+use Rattle.btree_nodes.proofs.Harms.{asks-nothing}
+use Rattle.btree_nodes.proofs.Walks.{same-fault}
+use Rattle.btree_search.specs.Steps.{high_of}
+use Rattle.paged_map.proofs.Behind.{own-behind, named-behind}
+use Rattle.paged_map.proofs.finding.first_below.Goals as goal
+
+pub leaves-init : goal.leaves-init
+leaves-init g c =
+    let form : Form = c.args.form in
+    let key : List ℕ = c.args.key.now in
+    let e : take form.key c.set_key.new.buffer ≡ key = subst (λ (n : ℕ). take n c.set_key.new.buffer ≡ key) c.requires.key c.set_key.ensures.front in
+    record {
+      same = λ map. ap (λ (k : List ℕ). first_from (number k) (map_rows form (g.P.Pages.pages c.args.pages.now) c.args.root)) (sym e);
+      own = λ told. asks-nothing _ _ _ refl;
+      below = rw e (subst (λ (n : ℕ). number key < 256 ^ n) c.requires.key c.set_key.ensures.below);
+      key = c.requires.key;
+      found = c.requires.found;
+      value = c.requires.value;
+      frame = search rules;
+    }
+
+pub returns-in-Ok-Some-clause-own : goal.returns-in-Ok-Some-clause-own
+returns-in-Ok-Some-clause-own g c = λ told.
+    let f = c.leaves.invariant.frame in
+    own-behind c.args.form c.args.root _ _ _ _ f.pages f.count _ _ _ c.leaves.invariant.own c.first_at.ensures.own told
+
+pub returns-in-Err-clause-named : goal.returns-in-Err-clause-named
+returns-in-Err-clause-named g c = λ told damage e.
+    let f = c.leaves.invariant.frame in
+    named-behind c.args.form c.args.root _ _ _ _ f.pages f.count _ _ _ c.leaves.invariant.own damage.page (λ t. c.first_at.ensures.named t damage (c.in-Err.is ∙ ap Err (same-fault {T = Option ℕ} _ _ e))) told
+
+pub returns-in-Err-clause-own : goal.returns-in-Err-clause-own
+returns-in-Err-clause-own g c = λ told.
+    let f = c.leaves.invariant.frame in
+    own-behind c.args.form c.args.root _ _ _ _ f.pages f.count _ _ _ c.leaves.invariant.own c.first_at.ensures.own told
+
+pub returns-then-is_empty-clause-own : goal.returns-then-is_empty-clause-own
+returns-then-is_empty-clause-own g c = λ told.
+    let f = c.leaves.invariant.frame in
+    own-behind c.args.form c.args.root _ _ _ _ f.pages f.count _ _ _ c.leaves.invariant.own c.first_at.ensures.own told
+
+pub leaves-preserved : goal.leaves-preserved
+leaves-preserved g c =
+    let form : Form = c.args.form in
+    let root : ℕ = c.args.root in
+    let old : PageMap = g.P.Pages.pages c.args.pages.now in
+    let f = c.leaves.invariant.frame in
+    let high : List ℕ = c.high-high.result.now in
+    let some : 0 < length high = grind (arith, nat_tests) in
+    let long : length high ≡ form.key = let l = c.high-high.ensures.length in let t = c.in-Ok-None.ensures.top (omega arith) in omega arith in
+    let e : take form.key c.set_key-in-leaves.new.buffer ≡ high = subst (λ (n : ℕ). take n c.set_key-in-leaves.new.buffer ≡ high) long c.set_key-in-leaves.ensures.front in
+    let is : high_of form c.first_at.new.bounds ≡ number (take form.key c.set_key-in-leaves.new.buffer) =
+    upper-some form.key (take c.first_at.new.bounds.top c.first_at.new.bounds.high) (subst (λ (x : List ℕ). 0 < length x) c.high-high.ensures.is some)
+    ∙ ap number (sym c.high-high.ensures.is) ∙ ap number (sym e) in
+    let past = rw c.in-Ok-None.field-0-is at c.in-Ok-None.ensures.found in
+    record {
+      same = λ map. c.leaves.invariant.same map
+          ∙ subst (λ (x : PageMap). IsMap form x root → first_from (number (take form.key c.leaves.from)) (map_rows form x root) ≡ first_from (high_of form c.first_at.new.bounds) (map_rows form x root)) f.pages past map
+          ∙ ap (λ (k : ℕ). first_from k (map_rows form old root)) is;
+      own = λ told. own-behind form root _ _ _ _ f.pages f.count _ _ _ c.leaves.invariant.own c.first_at.ensures.own told;
+      below = rw e (subst (λ (n : ℕ). number high < 256 ^ n) long c.set_key-in-leaves.ensures.below);
+      key = c.leaves.invariant.key;
+      found = search rules;
+      value = search rules;
+      frame = search rules;
+    }

@@ -1,0 +1,155 @@
+//! A leaf that is written in its place with one row more, less, or other.
+ghost use Rattle.std.specs.Prelude.{◌≡◌, ◌≢◌, ◌↔◌, ◌+◌, ◌-◌, ◌*◌, ◌<◌, ◌≤◌, ◌++◌, ℕ, length, take, drop, replicate, IsTrue, OnOk, OnErr, IsErrOf};
+ghost use Rattle.page_face.specs.Calls.{Changes, FailsReading};
+ghost use Rattle.page_face.specs.Causes.{IsUncounted};
+ghost use Rattle.page_face.specs.Cells.{IsPlace, key_at};
+ghost use Rattle.page_face.specs.FreeList.{with_page};
+ghost use Rattle.page_face.specs.Number.{number};
+ghost use Rattle.btree_nodes.specs.Build.{image};
+ghost use Rattle.paged_map.specs.Edits.{edited};
+
+use btree_nodes::{Form, compare, key_of, place, splice, write_at};
+use page_face::{Damage, Page, PageFault, Pages};
+use std::cmp::Ordering;
+
+/// The place of a key in a leaf.
+#[derive(Clone, Copy, Debug, PartialEq, Eq)]
+pub struct Spot {
+    /// The place of the first row whose key isn't less.
+    pub at: usize,
+    /// 1 if that row has the key, and else 0.
+    pub gone: usize,
+}
+
+/// The bytes of a leaf's cells, and which of them a row comes in place of.
+#[derive(Clone, Copy, Debug, PartialEq, Eq)]
+pub struct Cut {
+    /// Bytes of all cells.
+    pub size: usize,
+    /// Where the row's cell begins.
+    pub from: usize,
+    /// Where the cells behind it begin.
+    pub until: usize,
+}
+
+// 1 where the row at this place has the key, and else 0.
+#[tactic(auto, using(btree_nodes::proofs::Spots::fits_at))]
+fn gone_at(page: &Page, form: Form, count: usize, at: usize, key: &[u8]) -> usize
+    requires fits { 16 + (form.key + form.value) * count ≤ 4096 }
+    requires key { length key.now ≡ form.key }
+    ensures some { result ≡ 1 → (at < count) × (key_at form.key (form.key + form.value) page.now at ≡ number key.now) }
+    ensures none { (result ≡ 1 → ⊥) → at < count → key_at form.key (form.key + form.value) page.now at ≡ number key.now → ⊥ }
+    ensures small { result ≤ 1 }
+{
+    if at >= count {
+        return 0;
+    }
+    match compare(key_of(page, form.key, form.key + form.value, at), key) {
+        Ordering::Equal => 1,
+        _ => 0,
+    }
+}
+
+/// The place of a key in a leaf of `count` rows.
+pub fn spot_of(page: &Page, form: Form, count: usize, key: &[u8]) -> Spot
+    requires fits { 16 + (form.key + form.value) * count ≤ 4096 }
+    requires key { length key.now ≡ form.key }
+    ensures place { IsPlace form.key (form.key + form.value) count page.now (number key.now) result.at }
+    ensures some { result.gone ≡ 1 → (result.at < count) × (key_at form.key (form.key + form.value) page.now result.at ≡ number key.now) }
+    ensures none { (result.gone ≡ 1 → ⊥) → result.at < count → key_at form.key (form.key + form.value) page.now result.at ≡ number key.now → ⊥ }
+    ensures small { result.gone ≤ 1 }
+    ensures within { result.at + result.gone ≤ count }
+{
+    let at = place(page, key, false, form.key + form.value, count);
+    let gone = gone_at(page, form, count, at, key);
+    Spot { at, gone }
+}
+
+/// Whether a leaf of `count` rows has room for one row more, in place of as many as are gone.
+pub fn has_room(form: Form, count: usize, gone: usize) -> bool
+    requires fits { 16 + (form.key + form.value) * count ≤ 4096 }
+    requires gone { gone ≤ 1 }
+    ensures { IsTrue result ↔ 16 + (form.key + form.value) * (count + 1 - gone) ≤ 4096 }
+{
+    16 + (form.key + form.value) * (count + 1 - gone) <= 4096
+}
+
+/// The bytes of a leaf of `count` rows at a place.
+pub fn cut_of(form: Form, count: usize, spot: Spot) -> Cut
+    requires fits { 16 + (form.key + form.value) * count ≤ 4096 }
+    requires within { spot.at + spot.gone ≤ count }
+    ensures is { result ≡ record { size = (form.key + form.value) * count; from = (form.key + form.value) * spot.at; until = (form.key + form.value) * (spot.at + spot.gone) } }
+    ensures order { result.from ≤ result.until }
+    ensures end { result.until ≤ result.size }
+{
+    let width = form.key + form.value;
+    Cut {
+        size: width * count,
+        from: width * spot.at,
+        until: width * (spot.at + spot.gone),
+    }
+}
+
+// Fills a page of zeros with a leaf of `count` rows: the cells of `old` with two pieces in place of those that are cut.
+fn fill_leaf(
+    out: &mut Page,
+    old: &Page,
+    form: Form,
+    count: u16,
+    cut: Cut,
+    first: &[u8],
+    second: &[u8],
+)
+    requires zeros { out.old ≡ replicate 4096 0 }
+    requires order { cut.from ≤ cut.until }
+    requires end { cut.until ≤ cut.size }
+    requires size { 16 + cut.size ≤ 4096 }
+    requires fits { 16 + cut.size + (length first.now + length second.now) ≤ 4096 + (cut.until - cut.from) }
+    ensures { out.new ≡ image form.map 1 0 count (edited cut.size cut.from cut.until first.now second.now old.now) }
+{
+    let room = cut.size + (first.len() + second.len()) - (cut.until - cut.from);
+    let [high, low] = count.to_be_bytes();
+    write_at(out, 0, &[1, form.map, high, low, 0]);
+    splice(
+        &old[16..16 + cut.size],
+        cut.from,
+        cut.until,
+        first,
+        second,
+        &mut out[16..16 + room],
+    );
+}
+
+/// Writes a leaf of `count` rows to a counted page: the cells of the page looked at with two pieces in place of those that
+/// are cut.
+///
+/// Makes one page, into which each piece is copied once. Refuses `Stopped` and `Memory`.
+pub fn write_leaf<P: Pages>(
+    pages: &mut P,
+    form: Form,
+    page: u32,
+    count: u16,
+    cut: Cut,
+    first: &[u8],
+    second: &[u8],
+) -> Result<(), PageFault>
+    requires counted { ¬ IsUncounted (P.count pages.old) page }
+    requires order { cut.from ≤ cut.until }
+    requires end { cut.until ≤ cut.size }
+    requires size { 16 + cut.size ≤ 4096 }
+    requires fits { 16 + cut.size + (length first.now + length second.now) ≤ 4096 + (cut.until - cut.from) }
+    ensures written { OnOk result (P.pages pages.new
+        ≡ with_page page (image form.map 1 0 count (edited cut.size cut.from cut.until first.now second.now (P.looked pages.old))) (P.pages pages.old)) }
+
+    ensures damaged { (damage : Damage) → result ≢ Err (PageFault.Damaged damage) }
+    ensures fails { FailsReading P.Pages pages.old pages.new result }
+    ensures asked { P.asked pages.new ≡ P.asked pages.old }
+    ensures count { P.count pages.new ≡ P.count pages.old }
+    ensures first { P.first pages.new ≡ P.first pages.old }
+    ensures refused { P.refused pages.new ≡ P.refused pages.old }
+    ensures frame { Changes P.Pages pages.old pages.new }
+{
+    let mut bytes = [0; 4096];
+    fill_leaf(&mut bytes, pages.looked(), form, count, cut, first, second);
+    pages.write(page, &bytes)
+}

@@ -1,0 +1,215 @@
+//! A row that is looked for in a map by its root.
+ghost use Rattle.std.specs.Prelude.{◌≡◌, ℕ, ◌+◌, ◌*◌, ◌^◌, ◌<◌, ◌≤◌, List, length, take, drop, IfOk, IsErrOf, Some, None, true, if◌then◌else◌};
+ghost use Rattle.page_face.specs.Calls.{Reads, FailsReading};
+ghost use Rattle.page_face.specs.Nodes.{count_of};
+ghost use Rattle.page_face.specs.Number.{number};
+ghost use Rattle.btree_nodes.specs.Rows.{IsWithin, lookup, first_from};
+ghost use Rattle.btree_nodes.specs.Nodes.{rows_in};
+ghost use Rattle.btree_nodes.specs.Tree.{IsMap, map_rows, map_uses};
+ghost use Rattle.btree_nodes.specs.Damages.{AreTold, AskedSince, AsksOnly};
+ghost use Rattle.btree_search.specs.Steps.{high_of};
+ghost use Rattle.paged_map.specs.Answers.{HoldsRow, Locates, LocatesOr};
+ghost use Rattle.paged_map.specs.Maps.{IsMapDamaged};
+
+use btree_nodes::{Form, key_of, place};
+use btree_search::{Bounds, locate, row_in};
+use page_face::{Damage, Page, PageFault, Pages};
+
+/// The page of the leaf that holds the row at a key in a map that has a root. The row's value is then left in `value`.
+///
+/// Looks at a page a level, and copies the value alone. Returns `Damaged` with a rule that a page breaks in its place,
+/// `Disk`, `Stopped` or `Memory`.
+pub fn find_below<P: Pages>(
+    pages: &mut P,
+    form: Form,
+    root: u32,
+    key: &[u8],
+    value: &mut [u8],
+) -> Result<Option<u32>, PageFault>
+    requires root { 0 < root }
+    requires key { length key.now ≡ form.key }
+    requires value { length value.old ≡ form.value }
+    ensures found { IsMap form (P.pages pages.old) root
+        → IfOk result (Locates (lookup (number key.now) (map_rows form (P.pages pages.old) root)) value.new
+        (HoldsRow form (P.pages pages.old) (map_uses form (P.pages pages.old) root) (number key.now, value.new))) }
+    ensures damaged { AreTold (P.pages pages.old) (P.count pages.old)
+        → (damage : Damage) → IsErrOf result (PageFault.Damaged damage) → IsMapDamaged form (P.pages pages.old) (P.count pages.old) root damage }
+    ensures named { AreTold (P.pages pages.old) (P.count pages.old)
+        → (damage : Damage) → IsErrOf result (PageFault.Damaged damage) → AskedSince (P.asked pages.old) (P.asked pages.new) damage.page }
+    ensures own { AreTold (P.pages pages.old) (P.count pages.old)
+        → AsksOnly (map_uses form (P.pages pages.old) root) (P.asked pages.old) (P.asked pages.new) }
+    ensures fails { FailsReading P.Pages pages.old pages.new result }
+    ensures frame { Reads P.Pages pages.old pages.new }
+{
+    let mut bounds = Bounds::all();
+    match locate(pages, form, root, key, &mut bounds) {
+        Ok(leaf) => {
+            let hit = row_in(
+                pages.looked(),
+                form,
+                leaf.count,
+                bounds.low(form),
+                bounds.high(form),
+                key,
+                value,
+            );
+            Ok(hit.then_some(leaf.page))
+        }
+        Err(fault) => Err(fault),
+    }
+}
+
+// The key of the row at this place.
+fn copy_key(page: &Page, form: Form, at: usize, found: &mut [u8])
+    requires found { length found.old ≡ form.key }
+    requires fits { 16 + (form.key + form.value) * at + (form.key + form.value) ≤ 4096 }
+    ensures { found.new ≡ take form.key (drop (16 + (form.key + form.value) * at) page.now) }
+{
+    found.copy_from_slice(key_of(page, form.key, form.key + form.value, at));
+}
+
+// The value of the row at this place.
+fn copy_value(page: &Page, form: Form, at: usize, value: &mut [u8])
+    requires value { length value.old ≡ form.value }
+    requires fits { 16 + (form.key + form.value) * at + (form.key + form.value) ≤ 4096 }
+    ensures { value.new ≡ drop form.key (take (form.key + form.value) (drop (16 + (form.key + form.value) * at) page.now)) }
+{
+    let from = 16 + (form.key + form.value) * at + form.key;
+    value.copy_from_slice(&page[from..from + form.value]);
+}
+
+// Whether a leaf of `count` rows has a row whose key isn't less. The key of the first one is then left in `found` and
+// its value in `value`.
+#[tactic(auto, using(btree_nodes::proofs::Spots::fits_at))]
+fn first_in(
+    page: &Page,
+    form: Form,
+    count: usize,
+    key: &[u8],
+    found: &mut [u8],
+    value: &mut [u8],
+) -> bool
+    requires count { count ≡ count_of page.now }
+    requires fits { 16 + (form.key + form.value) * count ≤ 4096 }
+    requires key { length key.now ≡ form.key }
+    requires found { length found.old ≡ form.key }
+    requires value { length value.old ≡ form.value }
+    ensures found { (low high : ℕ) → IsWithin low high (rows_in form page.now)
+        → first_from (number key.now) (rows_in form page.now) ≡ (if result then Some (number found.new, value.new) else None) }
+    ensures holds { (low high : ℕ) → IsWithin low high (rows_in form page.now)
+        → result ≡ true → lookup (number found.new) (rows_in form page.now) ≡ Some value.new }
+{
+    let at = place(page, key, false, form.key + form.value, count);
+    if at == count {
+        return false;
+    }
+    copy_key(page, form, at, found);
+    copy_value(page, form, at, value);
+    true
+}
+
+// The page of the leaf that a key belongs to, if it has a row whose key isn't less; its key is then left in `found` and
+// its value in `value`. If it has none, the first such row is the first one from the upper bound on, which is left in
+// `bounds`.
+fn first_at<P: Pages>(
+    pages: &mut P,
+    form: Form,
+    root: u32,
+    key: &[u8],
+    bounds: &mut Bounds,
+    found: &mut [u8],
+    value: &mut [u8],
+) -> Result<Option<u32>, PageFault>
+    requires root { 0 < root }
+    requires key { length key.now ≡ form.key }
+    requires found { length found.old ≡ form.key }
+    requires value { length value.old ≡ form.value }
+    ensures found { IsMap form (P.pages pages.old) root
+        → IfOk result (LocatesOr (first_from (number key.now) (map_rows form (P.pages pages.old) root)) (number found.new, value.new)
+        (HoldsRow form (P.pages pages.old) (map_uses form (P.pages pages.old) root) (number found.new, value.new))
+        (first_from (high_of form bounds.new) (map_rows form (P.pages pages.old) root))) }
+    ensures last { IsMap form (P.pages pages.old) root → bounds.new.top ≡ 0
+        → IfOk result (λ leaf. first_from (high_of form bounds.new) (map_rows form (P.pages pages.old) root) ≡ None) }
+    ensures past { IfOk result (λ leaf. number key.now < high_of form bounds.new) }
+    ensures top { IfOk result (λ leaf. 0 < bounds.new.top → bounds.new.top ≡ form.key) }
+    ensures damaged { AreTold (P.pages pages.old) (P.count pages.old)
+        → (damage : Damage) → IsErrOf result (PageFault.Damaged damage) → IsMapDamaged form (P.pages pages.old) (P.count pages.old) root damage }
+    ensures named { AreTold (P.pages pages.old) (P.count pages.old)
+        → (damage : Damage) → IsErrOf result (PageFault.Damaged damage) → AskedSince (P.asked pages.old) (P.asked pages.new) damage.page }
+    ensures own { AreTold (P.pages pages.old) (P.count pages.old)
+        → AsksOnly (map_uses form (P.pages pages.old) root) (P.asked pages.old) (P.asked pages.new) }
+    ensures fails { FailsReading P.Pages pages.old pages.new result }
+    ensures frame { Reads P.Pages pages.old pages.new }
+{
+    match locate(pages, form, root, key, bounds) {
+        Ok(leaf) => {
+            let hit = first_in(pages.looked(), form, leaf.count, key, found, value);
+            Ok(hit.then_some(leaf.page))
+        }
+        Err(fault) => Err(fault),
+    }
+}
+
+// Writes a key to the front of a buffer.
+fn set_key(buffer: &mut [u8; 255], key: &[u8])
+    requires { length key.now ≤ 255 }
+    ensures front { take (length key.now) buffer.new ≡ key.now }
+    ensures below { number key.now < 256 ^ length key.now }
+{
+    buffer[..key.len()].copy_from_slice(key);
+}
+
+/// The page of the leaf that holds the first row whose key isn't less, in a map that has a root. The row's key is then
+/// left in `found` and its value in `value`.
+///
+/// Goes down to the leaf that the key belongs to, and if that has no such row to the leaf that its upper bound belongs to.
+/// The latter begins at the bound, and is never empty, so that two ways down are enough; they look at a page a level each.
+/// Copies the key and the value alone. Refuses as [`find_below`].
+pub fn first_below<P: Pages>(
+    pages: &mut P,
+    form: Form,
+    root: u32,
+    key: &[u8],
+    found: &mut [u8],
+    value: &mut [u8],
+) -> Result<Option<u32>, PageFault>
+    requires root { 0 < root }
+    requires key { length key.now ≡ form.key }
+    requires found { length found.old ≡ form.key }
+    requires value { length value.old ≡ form.value }
+    ensures found { IsMap form (P.pages pages.old) root
+        → IfOk result (Locates (first_from (number key.now) (map_rows form (P.pages pages.old) root)) (number found.new, value.new)
+        (HoldsRow form (P.pages pages.old) (map_uses form (P.pages pages.old) root) (number found.new, value.new))) }
+    ensures damaged { AreTold (P.pages pages.old) (P.count pages.old)
+        → (damage : Damage) → IsErrOf result (PageFault.Damaged damage) → IsMapDamaged form (P.pages pages.old) (P.count pages.old) root damage }
+    ensures named { AreTold (P.pages pages.old) (P.count pages.old)
+        → (damage : Damage) → IsErrOf result (PageFault.Damaged damage) → AskedSince (P.asked pages.old) (P.asked pages.new) damage.page }
+    ensures own { AreTold (P.pages pages.old) (P.count pages.old)
+        → AsksOnly (map_uses form (P.pages pages.old) root) (P.asked pages.old) (P.asked pages.new) }
+    ensures fails { FailsReading P.Pages pages.old pages.new result }
+    ensures frame { Reads P.Pages pages.old pages.new }
+{
+    let mut bounds = Bounds::all();
+    let mut from = [0; 255];
+    set_key(&mut from, key);
+    'leaves: loop {
+        match first_at(
+            pages,
+            form,
+            root,
+            &from[..form.key],
+            &mut bounds,
+            found,
+            value,
+        ) {
+            Ok(Some(leaf)) => return Ok(Some(leaf)),
+            Ok(None) => {}
+            Err(fault) => return Err(fault),
+        }
+        let high = bounds.high(form);
+        if high.is_empty() {
+            return Ok(None);
+        }
+        set_key(&mut from, high);
+    }
+}
