@@ -282,3 +282,98 @@ fn a_key_that_is_not_there_is_not_removed(rt: HostRuntime) -> Result<(), Fail> {
     assert_eq!(rt; pages.first_free(), 0);
     Ok(())
 }
+
+// How many rows the page has, and how many pages are counted.
+fn rows_in(pages: &mut MemoryPages, page: u32) -> Result<(u8, u32), PageFault> {
+    let bytes = pages.read(page)?;
+    Ok((bytes[3], pages.counted()))
+}
+
+#[test]
+fn a_row_is_put_into_its_leaf_until_that_is_full(rt: HostRuntime) -> Result<(), Fail> {
+    let mut pages = MemoryPages::new(rt.alloc(), 8);
+    assert_eq!(rt; pages.take(), Ok(1));
+    assert_eq!(rt; pages.take(), Ok(2));
+    assert_eq!(rt; pages.take(), Ok(3));
+    let root = inner(1, 1, 6, 2);
+    assert_eq!(rt;
+        write_all(&mut pages, &leaf(2, 4), &leaf(6, 8), &root),
+        Ok(())
+    );
+    let mut map: PagedMap<Wide> = PagedMap::at(3);
+    let mut value = [7; 765];
+    // the key, whether it was there, the rows of the left leaf then, and the pages counted
+    let cases = [
+        (4, true, 2, 4),
+        (3, false, 3, 4),
+        (5, false, 4, 4),
+        (2, true, 4, 4),
+    ];
+    for (last, had, rows, counted) in &cases {
+        assert_eq!(rt; map.put(&mut pages, &key(*last), &value), Ok(*had));
+        assert_eq!(rt; rows_in(&mut pages, 1), Ok((*rows, *counted)));
+        assert_eq!(rt; pages.read(2), Ok(leaf(6, 8)));
+        assert_eq!(rt; pages.read(3), Ok(root));
+        value[0] = 0;
+        assert_eq!(rt; map.get(&mut pages, &key(*last), &mut value), Ok(Some(1)));
+        assert_eq!(rt; value[0], 7);
+    }
+    assert_eq!(rt; map.put(&mut pages, &key(1), &value), Ok(false));
+    assert_eq!(rt; rows_in(&mut pages, 1), Ok((2, 5)));
+    Ok(())
+}
+
+#[test]
+fn a_row_is_taken_out_of_its_leaf_down_to_the_least_count(rt: HostRuntime) -> Result<(), Fail> {
+    let mut pages = MemoryPages::new(rt.alloc(), 8);
+    assert_eq!(rt; pages.take(), Ok(1));
+    assert_eq!(rt; pages.take(), Ok(2));
+    assert_eq!(rt; pages.take(), Ok(3));
+    let root = inner(1, 1, 6, 2);
+    assert_eq!(rt;
+        write_all(&mut pages, &leaf(2, 4), &leaf(6, 8), &root),
+        Ok(())
+    );
+    let mut map: PagedMap<Wide> = PagedMap::at(3);
+    assert_eq!(rt; map.put(&mut pages, &key(3), &[7; 765]), Ok(false));
+    assert_eq!(rt; map.remove(&mut pages, &key(5)), Ok(false));
+    assert_eq!(rt; rows_in(&mut pages, 1), Ok((3, 4)));
+    assert_eq!(rt; map.remove(&mut pages, &key(3)), Ok(true));
+    assert_eq!(rt; pages.read(1), Ok(leaf(2, 4)));
+    assert_eq!(rt; pages.read(3), Ok(root));
+    assert_eq!(rt; map.root(), 3);
+    assert_eq!(rt; map.remove(&mut pages, &key(4)), Ok(true));
+    assert_eq!(rt; rows_in(&mut pages, map.root()), Ok((3, 4)));
+    assert_eq!(rt; pages.first_free() > 0, true);
+    Ok(())
+}
+
+#[test]
+fn the_first_row_past_a_leaf_is_that_of_the_next(rt: HostRuntime) -> Result<(), Fail> {
+    let mut pages = MemoryPages::new(rt.alloc(), 8);
+    assert_eq!(rt; pages.take(), Ok(1));
+    assert_eq!(rt; pages.take(), Ok(2));
+    assert_eq!(rt; pages.take(), Ok(3));
+    assert_eq!(rt;
+        write_all(&mut pages, &leaf(2, 4), &leaf(7, 9), &inner(1, 1, 6, 2)),
+        Ok(())
+    );
+    let map: PagedMap<Wide> = PagedMap::at(3);
+    let mut found = [0; 255];
+    let mut value = [0; 765];
+    let cases = [
+        (0, Some(1), 2),
+        (3, Some(1), 4),
+        (4, Some(1), 4),
+        (5, Some(2), 7),
+        (6, Some(2), 7),
+        (8, Some(2), 9),
+        (10, None, 9),
+    ];
+    for (last, leaf, first) in &cases {
+        let answer = map.first_from(&mut pages, &key(*last), &mut found, &mut value);
+        assert_eq!(rt; answer, Ok(*leaf));
+        assert_eq!(rt; found[254], *first);
+    }
+    Ok(())
+}
