@@ -1,6 +1,6 @@
 //! The numbers of a place's words.
-ghost use Rattle.std.specs.Prelude.{◌≡◌, ℕ, ◌≤◌, ◌<◌, ◌+◌, ◌^◌, false, if◌then◌else◌, List, length, IfOk, OnOk, IsTrue, IsErrOf, All};
-ghost use Rattle.page_face.specs.Causes.{Rose};
+ghost use Rattle.std.specs.Prelude.{◌≡◌, ℕ, ◌≤◌, ◌<◌, ◌+◌, ◌^◌, false, if◌then◌else◌, List, length, IfOk, OnOk, IsErrOf, All};
+ghost use Rattle.page_face.specs.Calls.{FailsChanging, Changes};
 ghost use Rattle.btree_nodes.specs.Supply.{view};
 ghost use Rattle.btree_nodes.specs.Damages.{AreTold};
 ghost use Rattle.store_tables.specs.Entries.{Entries, number_of_word};
@@ -32,15 +32,8 @@ fn take_hold<P: Pages>(
         → (is_among (number_for word.now tables.old.next_word entries.texts) old.now ≡ false → CanHold word.now tables.old.next_word entries)
         → AreTold (P.pages pages.old) (P.count pages.old) → (damage : Damage) → ¬ IsErrOf result (PageFault.Damaged damage) }
     ensures rises { OnOk result (tables.new.next_word ≤ tables.old.next_word + 1) }
-    ensures disk { IsErrOf result PageFault.Disk → Rose (P.faults pages.old) (P.faults pages.new) }
-    ensures no_room { IsErrOf result PageFault.NoRoom → Rose (P.refused pages.old) (P.refused pages.new) }
-    ensures stopped { IsErrOf result PageFault.Stopped → IsTrue (P.is_stopped pages.old) }
-
-    ensures room { P.room pages.new ≡ P.room pages.old }
-    ensures faults { P.faults pages.old ≤ P.faults pages.new }
-    ensures refused { P.refused pages.old ≤ P.refused pages.new }
-    ensures goes_on { P.is_stopped pages.new ≡ P.is_stopped pages.old }
-    ensures follows { P.follows_from pages.old pages.new }
+    ensures fails { FailsChanging P.Pages pages.old pages.new result }
+    ensures frame { Changes P.Pages pages.old pages.new }
 {
     // A place that was not there held no word: then the number need not be known before.
     if old.is_empty() {
@@ -77,15 +70,8 @@ pub(crate) fn number_words<P: Pages>(
         → CanNumber old.now words.now tables.old.next_word entries
         → AreTold (P.pages pages.old) (P.count pages.old) → (damage : Damage) → ¬ IsErrOf result (PageFault.Damaged damage) }
     ensures map { OnOk result (IsNumberMap pairs.new.entries) }
-    ensures disk { IsErrOf result PageFault.Disk → Rose (P.faults pages.old) (P.faults pages.new) }
-    ensures no_room { IsErrOf result PageFault.NoRoom → Rose (P.refused pages.old) (P.refused pages.new) }
-    ensures stopped { IsErrOf result PageFault.Stopped → IsTrue (P.is_stopped pages.old) }
-
-    ensures room { P.room pages.new ≡ P.room pages.old }
-    ensures faults { P.faults pages.old ≤ P.faults pages.new }
-    ensures refused { P.refused pages.old ≤ P.refused pages.new }
-    ensures goes_on { P.is_stopped pages.new ≡ P.is_stopped pages.old }
-    ensures follows { P.follows_from pages.old pages.new }
+    ensures fails { FailsChanging P.Pages pages.old pages.new result }
+    ensures frame { Changes P.Pages pages.old pages.new }
 {
     let Some(((word, impact), rest)) = words.split_first() else {
         return Ok(());

@@ -1,6 +1,6 @@
 //! What lives at a key.
-ghost use Rattle.std.specs.Prelude.{◌≡◌, ◌≢◌, ◌⊎◌, ◌≤◌, option_map, IfOk, IsTrue, IsErrOf};
-ghost use Rattle.page_face.specs.Causes.{Rose};
+ghost use Rattle.std.specs.Prelude.{◌≡◌, ◌⊎◌, option_map, IfOk, IsErrOf};
+ghost use Rattle.page_face.specs.Calls.{FailsReading, Reads};
 ghost use Rattle.btree_nodes.specs.Damages.{AreTold};
 ghost use Rattle.paged_map.specs.Maps.{AreCounted};
 ghost use Rattle.store_tables.specs.Entries.{Entries, place_of_key};
@@ -34,19 +34,8 @@ pub fn place_at<P: Pages>(
         → (damage : Damage) → IsErrOf result (PageFault.Damaged damage)
         → IsPlaceDamage (P.pages pages.old) (P.count pages.old) tables.now.places key.now damage
         ⊎ IsWordsDamage (P.pages pages.old) (P.count pages.old) tables.now.numbers damage }
-    ensures disk { IsErrOf result PageFault.Disk → Rose (P.faults pages.old) (P.faults pages.new) }
-    ensures room_left { result ≢ Err PageFault.NoRoom }
-    ensures stopped { IsErrOf result PageFault.Stopped → IsTrue (P.is_stopped pages.old) }
-
-    ensures pages { P.pages pages.new ≡ P.pages pages.old }
-    ensures count { P.count pages.new ≡ P.count pages.old }
-    ensures first { P.first pages.new ≡ P.first pages.old }
-    ensures room { P.room pages.new ≡ P.room pages.old }
-    ensures faults { P.faults pages.old ≤ P.faults pages.new }
-    ensures refused { P.refused pages.new ≡ P.refused pages.old }
-    ensures goes_on { P.is_stopped pages.new ≡ P.is_stopped pages.old }
-    ensures only_reads { P.only_reads pages.old pages.new }
-    ensures follows { P.follows_from pages.old pages.new }
+    ensures fails { FailsReading P.Pages pages.old pages.new result }
+    ensures frame { Reads P.Pages pages.old pages.new }
 {
     let Some(stored) = tables.place(pages, key)? else {
         return Ok(None);

@@ -1,7 +1,7 @@
 //! The words of a stored place.
-ghost use Rattle.std.specs.Prelude.{◌≡◌, ◌≢◌, ℕ, ◌≤◌, ◌<◌, ◌+◌, [], length, IfOk, OnOk, OnErr, IsTrue, IsErrOf, All};
+ghost use Rattle.std.specs.Prelude.{◌≡◌, ◌≤◌, ◌<◌, ◌+◌, [], length, IfOk, OnOk, OnErr, IsErrOf, All};
 ghost use Rattle.std.specs.BTreeMap.{insert_entry};
-ghost use Rattle.page_face.specs.Causes.{Rose};
+ghost use Rattle.page_face.specs.Calls.{FailsReading, Reads};
 ghost use Rattle.btree_nodes.specs.Damages.{AreTold};
 ghost use Rattle.paged_map.specs.Maps.{AreCounted};
 ghost use Rattle.row_codec.specs.Pairs.{HasImpact};
@@ -49,19 +49,8 @@ pub fn words_of<P: Pages>(
     ensures damaged { AreTold (P.pages pages.old) (P.count pages.old)
         → (damage : Damage) → IsErrOf result (PageFault.Damaged damage)
         → IsWordsDamage (P.pages pages.old) (P.count pages.old) tables.now.numbers damage }
-    ensures disk { IsErrOf result PageFault.Disk → Rose (P.faults pages.old) (P.faults pages.new) }
-    ensures room_left { result ≢ Err PageFault.NoRoom }
-    ensures stopped { IsErrOf result PageFault.Stopped → IsTrue (P.is_stopped pages.old) }
-
-    ensures pages { P.pages pages.new ≡ P.pages pages.old }
-    ensures count { P.count pages.new ≡ P.count pages.old }
-    ensures first { P.first pages.new ≡ P.first pages.old }
-    ensures room { P.room pages.new ≡ P.room pages.old }
-    ensures faults { P.faults pages.old ≤ P.faults pages.new }
-    ensures refused { P.refused pages.new ≡ P.refused pages.old }
-    ensures goes_on { P.is_stopped pages.new ≡ P.is_stopped pages.old }
-    ensures only_reads { P.only_reads pages.old pages.new }
-    ensures follows { P.follows_from pages.old pages.new }
+    ensures fails { FailsReading P.Pages pages.old pages.new result }
+    ensures frame { Reads P.Pages pages.old pages.new }
 {
     let held = &stored.pairs[..stored.count as usize];
     let by_word = words_of_pairs(alloc, pages, tables, held)?;
@@ -90,19 +79,8 @@ fn words_of_pairs<P: Pages>(
     ensures damaged { AreTold (P.pages pages.old) (P.count pages.old)
         → (damage : Damage) → IsErrOf result (PageFault.Damaged damage)
         → IsWordsDamage (P.pages pages.old) (P.count pages.old) tables.now.numbers damage }
-    ensures disk { IsErrOf result PageFault.Disk → Rose (P.faults pages.old) (P.faults pages.new) }
-    ensures room_left { result ≢ Err PageFault.NoRoom }
-    ensures stopped { IsErrOf result PageFault.Stopped → IsTrue (P.is_stopped pages.old) }
-
-    ensures pages { P.pages pages.new ≡ P.pages pages.old }
-    ensures count { P.count pages.new ≡ P.count pages.old }
-    ensures first { P.first pages.new ≡ P.first pages.old }
-    ensures room { P.room pages.new ≡ P.room pages.old }
-    ensures faults { P.faults pages.old ≤ P.faults pages.new }
-    ensures refused { P.refused pages.new ≡ P.refused pages.old }
-    ensures goes_on { P.is_stopped pages.new ≡ P.is_stopped pages.old }
-    ensures only_reads { P.only_reads pages.old pages.new }
-    ensures follows { P.follows_from pages.old pages.new }
+    ensures fails { FailsReading P.Pages pages.old pages.new result }
+    ensures frame { Reads P.Pages pages.old pages.new }
 {
     let Some(((number, impact), rest)) = pairs.split_first() else {
         return Ok(BTreeMap::new(alloc));

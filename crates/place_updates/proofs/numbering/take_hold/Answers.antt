@@ -24,8 +24,8 @@ returns-clause-held g c entries free holds apart =
     let before : View = view (g.P.Pages.pages c.args.pages.now) (g.P.Pages.count c.args.pages.now) (g.P.Pages.first c.args.pages.now) free in
     let r = c.number_of.ensures in
     let next : ℕ = c.args.tables.now.next_word in
-    let held : Holds (g.P.Pages.pages c.number_of.new.pages) c.args.tables.now entries = rw r.pages holds in
-    let kept : IsApart (view (g.P.Pages.pages c.number_of.new.pages) (g.P.Pages.count c.number_of.new.pages) (g.P.Pages.first c.number_of.new.pages) free) c.args.tables.now = rw (r.pages, r.count, r.first) apart in
+    let held : Holds (g.P.Pages.pages c.number_of.new.pages) c.args.tables.now entries = rw r.frame.pages holds in
+    let kept : IsApart (view (g.P.Pages.pages c.number_of.new.pages) (g.P.Pages.count c.number_of.new.pages) (g.P.Pages.first c.number_of.new.pages) free) c.args.tables.now = rw (r.frame.pages, r.frame.count, r.frame.first) apart in
     let number_is : c.unwrap_or-number.result ≡ number_for c.args.word.now next entries.texts = c.unwrap_or-number.ensures ∙ ap (λ (f : Option ℕ). unwrap_or f next) (c.in_ok-number_of.ensures.found entries holds) in
     let fresh : has_pair c.unwrap_or-number.result c.args.old.now ≡ false = sym c.has_pair.ensures ∙ c.if-has_pair.false in
     ok-map _ _ c.hold-2.result
@@ -34,7 +34,7 @@ returns-clause-held g c entries free holds apart =
       h.1,
       h.2 ∙ ap (λ b. cond b next (next_after (number_of_word c.args.word.now entries.texts) next)) (sym other),
       subst (λ b. IsChanged before c.args.tables.now (g.P.Pages.pages c.hold-2.new.pages) (g.P.Pages.count c.hold-2.new.pages) (g.P.Pages.first c.hold-2.new.pages) c.hold-2.new.self (cond b entries (with_hold c.args.word.now next entries))) (sym other)
-          (rw (sym r.pages, sym r.count, sym r.first) h.3),
+          (rw (sym r.frame.pages, sym r.frame.count, sym r.frame.first) h.3),
     ))
     (c.hold-2.ensures.held entries free held kept)
 

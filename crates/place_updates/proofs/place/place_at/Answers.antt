@@ -27,4 +27,4 @@ returns-in_err-words-clause-damaged g c = λ told damage is.
     let was = c.in_err-words.was in
     let named : IsErrOf c.words_of.result (Damaged damage) = cc in
     let found = c.words_of.ensures.damaged (search rules) damage named in
-    inr (same-damage _ _ _ _ _ damage c.in_ok-stored.ensures.pages c.in_ok-stored.ensures.count found)
+    inr (same-damage _ _ _ _ _ damage c.in_ok-stored.ensures.frame.pages c.in_ok-stored.ensures.frame.count found)
