@@ -264,7 +264,7 @@ fn reads_of(store: &Store<'_, MemoryStation>) -> u64 {
 fn a_cached_page_is_looked_at_without_a_read(rt: HostRuntime) -> Result<(), Failure> {
     // three pages counted, none of them free
     let header =
-        b"IRTREE00\0\0\0\x03\0\0\0\0\0\0\0\0\0\0\0\0\0\0\0\0\0\0\0\0\0\0\0\0\0\0\0\0\0\0\0\x01\0\0\0\0\0\0\0\0\0\0\0\0\0\0\0\x01";
+        b"IRTREE00\0\0\0\x03\0\0\0\0\0\0\0\0\0\0\0\0\0\0\0\0\0\0\0\0\0\0\0\0\0\0\0\0\0\0\0\0\0\0\0\x01\0\0\0\0\0\0\0\0\0\0\0\0\0\0\0\x01";
     let image = image(rt.alloc(), header, &[[1; 4096], [2; 4096]])?;
     for cache in 0..3 {
         let mut station = MemoryStation::with_image(rt.alloc(), &image, b"", 9)?;
