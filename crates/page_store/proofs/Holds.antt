@@ -1,6 +1,6 @@
 -- What the pages that memory holds say of the disk, and what is known of them.
-use Rattle.std.proofs.Common.{◌≡◌, ◌≢◌, ◌⊎◌, ⊎_elim, inl, inr, ℕ, ◌<◌, ◌+◌, Bool, true, false, List, [], ◌∷◌, length, cond, Option, Some, None, IsSome, is_some, option_map, option_and_then, Box, refl, sym, ◌∙◌, ap, subst, arith}
-use Rattle.std.specs.BTreeMap.{is_at, get, IsOrdered}
+use Rattle.std.proofs.Common.{◌≡◌, ◌≢◌, ◌⊎◌, ⊎_elim, ℕ, ◌<◌, Bool, true, false, List, [], length, cond, Option, Some, None, is_some, option_map, option_and_then, Box, refl, sym, ◌∙◌, ap, subst, arith}
+use Rattle.std.specs.BTreeMap.{is_at, get}
 use Rattle.std.specs.Ordering.{nat_cmp}
 use Rattle.std.specs.Map.{lookup}
 use Rattle.std.specs.declared.alloc.Global.{Global}
@@ -17,8 +17,7 @@ use Rattle.page_store.specs.declared.held.Place.{Place}
 use Rattle.page_store.specs.declared.held.Place.TheVariants as places
 use Rattle.page_store.specs.declared.seals.Seals.{Seals}
 use Rattle.page_store.specs.Held.{page_behind, held_page, looked_page, seal_of, boxed, AreCached, AreTrue}
-use Rattle.page_store.proofs.Kept.{page_from_images, keeps_none}
-use Rattle.page_store.proofs.Overlays.{other_key}
+use Rattle.page_store.proofs.Kept.{page_from_images}
 
 -- ---- the first of several pages
 

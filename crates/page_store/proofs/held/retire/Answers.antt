@@ -1,4 +1,4 @@
-use Rattle.std.proofs.Common.{◌≡◌, sym}
+use Rattle.std.proofs.Common.{sym}
 use Rattle.page_store.proofs.Overlays.{other_key}
 use Rattle.page_store.proofs.Holds.{retired_one}
 use Rattle.page_store.proofs.held.retire.Goals as goal

@@ -1,5 +1,5 @@
 use Rattle.page_store.proofs.Committed.{committed_rests, images_rest}
-use Rattle.page_store.proofs.Holds.{cached_alike, cached_read, true_read, kept_lies, kept_looked}
+use Rattle.page_store.proofs.Holds.{cached_alike, cached_read, true_read, kept_lies}
 use Rattle.page_store.proofs.store.Store.load.Goals as goal
 
 pub invariant_of-self : goal.invariant_of-self
