@@ -29,11 +29,11 @@ pub struct Engine<'d, D: Station> {
 }
 
 impl<'d, D: Station> Engine<'d, D> {
-    /// Recovers the journal and reads page 0. `cache` is the number of pages that a cache may hold; there is none yet.
+    /// Recovers the journal and reads page 0. `cache` is the number of pages that the cache may hold; 0 is none.
     ///
     /// Refuses as [`recover_superblock`] does, and costs as much. The contract of [`recover_superblock`] says what a refusal leaves: a
     /// journal that is bad is left alone, and a store that is refused is recovered, and nothing else of it is written.
-    pub fn open(alloc: Global, disk: &'d mut D, _cache: u32) -> Result<Engine<'d, D>, EngineFault>
+    pub fn open(alloc: Global, disk: &'d mut D, cache: u32) -> Result<Engine<'d, D>, EngineFault>
         ensures same_loan { IfOk result (λ engine. engine.store.disk.ghost_name ≡ disk.entry.ghost_name) }
         ensures holds { IsTrue D.tells → (state : Contents) → HoldsState (D.world disk.old) state → IfOk result (λ engine. HoldsState (D.world engine.store.disk.now) state) }
         ensures any_moment { IsTrue D.tells → (state : Contents) → HoldsState (D.world disk.old) state
@@ -53,13 +53,14 @@ impl<'d, D: Station> Engine<'d, D> {
         ensures room { IfOk result (λ engine. D.room_of engine.store.disk.now ≡ D.room_of disk.old) }
     {
         match recover_superblock(&mut *disk) {
-            Ok(block) => Ok(Engine::over(alloc, disk, block)),
+            Ok(block) => Ok(Engine::over(alloc, disk, block, cache)),
             Err(fault) => Err(fault),
         }
     }
 
-    /// The engine over a disk that [`recover_superblock`] has answered this superblock of. Makes no call of the disk.
-    pub fn over(alloc: Global, disk: &'d mut D, block: Superblock) -> Engine<'d, D>
+    /// The engine over a disk for which [`recover_superblock`] has returned this superblock, with a cache of at most `cache` pages; with
+    /// none if it runs out of memory for it. Makes no call of the disk.
+    pub fn over(alloc: Global, disk: &'d mut D, block: Superblock, cache: u32) -> Engine<'d, D>
         requires in_range { block.first_free < block.counted }
         requires committed { IsTrue D.tells → IsCommitted block 0 (D.world disk.old) }
         ensures same_loan { result.store.disk.ghost_name ≡ disk.entry.ghost_name }
@@ -69,7 +70,7 @@ impl<'d, D: Station> Engine<'d, D> {
     {
         Engine {
             alloc,
-            store: Store::over(alloc, disk, block),
+            store: Store::over(alloc, disk, block, cache),
             stopped: false,
         }
     }

@@ -17,6 +17,9 @@ use run_protocol::{Ended, InputFault, LimitFault, ended_by};
 use script_run::run_script;
 use std::alloc::Global;
 
+// How many pages the store's cache may hold: 4 MiB, enough for the upper levels of every map of a large store.
+const CACHE_PAGES: u32 = 1_024;
+
 // Does a job over an engine.
 fn act<'d, S: Source, T: Station>(
     alloc: Global,
@@ -132,7 +135,7 @@ pub(crate) fn run_job<S: Source, T: Station>(
         Ok(block) => block,
         Err(fault) => return Err(ended_by(fault)),
     };
-    let mut engine = Engine::over(alloc, station, block);
+    let mut engine = Engine::over(alloc, station, block, CACHE_PAGES);
     let end = serve(alloc, action, batch, source, &mut engine);
     let _station = engine.into_disk();
     end
