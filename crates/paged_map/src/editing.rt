@@ -65,7 +65,7 @@ pub fn spot_of(page: &Page, form: Form, count: usize, key: &[u8]) -> Spot
     Spot { at, gone }
 }
 
-/// Whether a leaf of `count` rows has room for one row more, in place of as many as are gone.
+/// Returns whether a leaf of `count` rows has room for one row more, in place of as many as are gone.
 pub fn has_room(form: Form, count: usize, gone: usize) -> bool
     requires fits { 16 + (form.key + form.value) * count ≤ 4096 }
     requires gone { gone ≤ 1 }
@@ -123,7 +123,7 @@ fn fill_leaf(
 /// Writes a leaf of `count` rows to a counted page: the cells of the page looked at with two pieces in place of those that
 /// are cut.
 ///
-/// Makes one page, into which each piece is copied once. Refuses `Stopped` and `Memory`.
+/// Makes one page, into which each piece is copied once. Returns `Stopped` or `Memory` if it fails.
 pub fn write_leaf<P: Pages>(
     pages: &mut P,
     form: Form,

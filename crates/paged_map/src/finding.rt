@@ -15,7 +15,7 @@ use btree_nodes::{Form, key_of, place};
 use btree_search::{Bounds, locate, row_in};
 use page_face::{Damage, Page, PageFault, Pages};
 
-/// The page of the leaf that holds the row at a key in a map that has a root. The row's value is then left in `value`.
+/// Returns the page of the leaf that holds the row at a key in a map that has a root, and leaves the row's value in `value`.
 ///
 /// Looks at a page a level, and copies the value alone. Returns `Damaged` with a rule that a page breaks in its place,
 /// `Disk`, `Stopped` or `Memory`.
@@ -159,12 +159,12 @@ fn set_key(buffer: &mut [u8; 255], key: &[u8])
     buffer[..key.len()].copy_from_slice(key);
 }
 
-/// The page of the leaf that holds the first row whose key isn't less, in a map that has a root. The row's key is then
-/// left in `found` and its value in `value`.
+/// Returns the page of the leaf that holds the first row whose key isn't less, in a map that has a root, and leaves the row's
+/// key in `found` and its value in `value`.
 ///
 /// Goes down to the leaf that the key belongs to, and if that has no such row to the leaf that its upper bound belongs to.
 /// The latter begins at the bound, and is never empty, so that two ways down are enough; they look at a page a level each.
-/// Copies the key and the value alone. Refuses as [`find_below`].
+/// Copies the key and the value alone. Fails as [`find_below`] does.
 pub fn first_below<P: Pages>(
     pages: &mut P,
     form: Form,

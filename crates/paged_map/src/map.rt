@@ -47,11 +47,13 @@ impl<L: Layout> PagedMap<L> {
         self.root
     }
 
-    /// The page of the leaf that holds the row at a key, whose value is then left in `value`; `None` exactly where the
-    /// key isn't there, and where `value` may hold anything.
+    /// Returns the page of the leaf that holds the row at a key, and leaves the row's value in `value`. Returns `None` exactly
+    /// if the key isn't there; `value` may then hold anything.
     ///
-    /// Refuses `Damaged` with a rule that a page asked for in this call breaks in its place; `Disk`; `Stopped`;
-    /// `Memory`. Looks at one page a level where it lies, writes none, and copies the value alone.
+    /// Returns `Damaged` with a rule that a page asked for in this call breaks in its place, `Disk`, `Stopped`, or `Memory` if
+    /// it runs out of memory.
+    ///
+    /// Looks at one page a level where it lies, writes none, and copies the value alone.
     pub fn get<P: Pages>(
         &self,
         pages: &mut P,
@@ -82,11 +84,13 @@ impl<L: Layout> PagedMap<L> {
         find_below(pages, form_of::<L>(), self.root, key, value)
     }
 
-    /// The page of the leaf that holds the first row whose key isn't less; the row's key is then left in `found` and
-    /// its value in `value`. `None` exactly where there is no such row, and where both may hold anything.
+    /// Returns the page of the leaf that holds the first row whose key isn't less, and leaves the row's key in `found` and its
+    /// value in `value`. Returns `None` exactly if there is no such row; both may then hold anything.
     ///
-    /// Refuses as [`PagedMap::get`]. Looks at one page a level, and at one more a level if the key is past the last row of the
-    /// leaf that it belongs to. Writes none, and copies the row alone.
+    /// Fails as [`PagedMap::get`] does.
+    ///
+    /// Looks at one page a level, and at one more a level if the key is past the last row of the leaf that it belongs to and
+    /// another leaf follows. Writes none, and copies the row alone.
     pub fn first_from<P: Pages>(
         &self,
         pages: &mut P,
@@ -119,11 +123,11 @@ impl<L: Layout> PagedMap<L> {
         first_below(pages, form_of::<L>(), self.root, key, found, value)
     }
 
-    /// Puts a row: the value at the key is this one from now on. Answers whether the key was there.
+    /// Puts a row: the value at the key is this one from now on. Returns whether the key was there.
     ///
-    /// Refuses `Damaged` with a rule that a page asked for in this call breaks in its place, or as a `take` answered it;
-    /// `Disk`; `NoRoom`; `Stopped`; `Memory`. After a refusal the root is as before, and pages may have changed: they are
-    /// to be abandoned.
+    /// Returns `Damaged` with a rule that a page asked for in this call breaks in its place, or as a `take` returned it; `Disk`,
+    /// `NoRoom`, `Stopped`, or `Memory` if it runs out of memory. After a failure the root is as before, and pages may have
+    /// changed: they are to be abandoned.
     ///
     /// Looks at one page a level. If the leaf that the key belongs to has the key, or room for one more row, writes that leaf
     /// alone, and copies its bytes once, into the new page. Else reads each of these pages by value once more, writes two
@@ -166,11 +170,11 @@ impl<L: Layout> PagedMap<L> {
         Ok(rooted.had)
     }
 
-    /// Takes the row at a key out. Answers whether the key was there.
+    /// Takes the row at a key out. Returns whether the key was there.
     ///
-    /// Refuses `Damaged` with a rule that a page asked for in this call breaks in its place; `Disk`; `Stopped`; `Memory`.
-    /// After a refusal the root is as before, and pages may have changed: they are to be abandoned. If the key isn't
-    /// there all pages are as before.
+    /// Returns `Damaged` with a rule that a page asked for in this call breaks in its place, `Disk`, `Stopped`, or `Memory` if
+    /// it runs out of memory. After a failure the root is as before, and pages may have changed: they are to be abandoned. If
+    /// the key isn't there, all pages are as before.
     ///
     /// Looks at one page a level. If the key isn't there, writes none. If the leaf that it belongs to has more rows than it
     /// must have, writes that leaf alone, and copies its bytes once, into the new page. Else reads at most two pages a level by

@@ -105,7 +105,7 @@ pub fn put_below<P: Pages>(
 ///
 /// Goes down to the leaf that the key belongs to, with no copy of a page. If the leaf has the key, or room for one row more,
 /// it alone is written, as one new page: no page above it changes. Else, and where a page is damaged, goes down again, by
-/// [`put_below`], and refuses as that.
+/// [`put_below`], and fails as that does.
 pub fn put_row<P: Pages>(
     pages: &mut P,
     form: Form,

@@ -116,7 +116,7 @@ pub fn remove_below<P: Pages>(
 ///
 /// Goes down to the leaf that the key belongs to, with no copy of a page. If the key isn't there nothing is written. If the
 /// leaf has more rows than it must have, it alone is written, as one new page. Else, and where a page is damaged, goes down
-/// again, by [`remove_below`], and refuses as that.
+/// again, by [`remove_below`], and fails as that does.
 pub fn remove_row<P: Pages>(
     pages: &mut P,
     form: Form,
