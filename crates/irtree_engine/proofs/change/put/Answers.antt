@@ -49,10 +49,10 @@ returns-then-head-ge-PLACES_MAX-clause-due g c = λ state stand told.
     let tables_are : tables ≡ tables_in head = c.tables_of-tables.ensures in
     let old = c.args.pages.now in
     let mid = c.place.new.pages in
-    let there = stand-same head (g.P.Pages.pages old) (g.P.Pages.pages mid) (g.P.Pages.count old) (g.P.Pages.count mid) (g.P.Pages.first old) (g.P.Pages.first mid) state c.place.ensures.pages c.place.ensures.count c.place.ensures.first stand in
+    let there = stand-same head (g.P.Pages.pages old) (g.P.Pages.pages mid) (g.P.Pages.count old) (g.P.Pages.count mid) (g.P.Pages.first old) (g.P.Pages.first mid) state c.place.ensures.frame.pages c.place.ensures.frame.count c.place.ensures.frame.first stand in
     let holds : Holds (g.P.Pages.pages mid) tables there.entries = subst (λ (t : Tables). Holds (g.P.Pages.pages mid) t there.entries) (sym tables_are) there.tables.holds in
     let new_is : c.is_none-is_new.result ≡ is_none c.in_ok-old.old = flipped c.is_none-is_new.result (is_some c.in_ok-old.old) c.is_none-is_new.ensures in
-    let is_found : c.in_ok-old.old ≡ place_of_key c.args.key.now there.entries.places = c.in_ok-old.ensures.found there.entries (subst (λ (p : PageMap). Holds p tables there.entries) c.place.ensures.pages holds) in
+    let is_found : c.in_ok-old.old ≡ place_of_key c.args.key.now there.entries.places = c.in_ok-old.ensures.found there.entries (subst (λ (p : PageMap). Holds p tables there.entries) c.place.ensures.frame.pages holds) in
     put-full head (g.P.Pages.count mid) (g.P.Pages.first mid) (g.P.Pages.pages mid) state there c.args.key.now c.in_ok-old.old is_found c.args.serial (record { point = c.args.point; words = c.args.words.now })
     (sym new_is ∙ c.if-is_new.true) (omega arith)
 
@@ -64,10 +64,10 @@ returns-then-head-eq-NUMBER_MAX-clause-due g c = λ state stand told.
     let tables_are : tables ≡ tables_in head = c.tables_of-tables.ensures in
     let old = c.args.pages.now in
     let mid = c.place.new.pages in
-    let there = stand-same head (g.P.Pages.pages old) (g.P.Pages.pages mid) (g.P.Pages.count old) (g.P.Pages.count mid) (g.P.Pages.first old) (g.P.Pages.first mid) state c.place.ensures.pages c.place.ensures.count c.place.ensures.first stand in
+    let there = stand-same head (g.P.Pages.pages old) (g.P.Pages.pages mid) (g.P.Pages.count old) (g.P.Pages.count mid) (g.P.Pages.first old) (g.P.Pages.first mid) state c.place.ensures.frame.pages c.place.ensures.frame.count c.place.ensures.frame.first stand in
     let holds : Holds (g.P.Pages.pages mid) tables there.entries = subst (λ (t : Tables). Holds (g.P.Pages.pages mid) t there.entries) (sym tables_are) there.tables.holds in
     let new_is : c.is_none-is_new.result ≡ is_none c.in_ok-old.old = flipped c.is_none-is_new.result (is_some c.in_ok-old.old) c.is_none-is_new.ensures in
-    let is_found : c.in_ok-old.old ≡ place_of_key c.args.key.now there.entries.places = c.in_ok-old.ensures.found there.entries (subst (λ (p : PageMap). Holds p tables there.entries) c.place.ensures.pages holds) in
+    let is_found : c.in_ok-old.old ≡ place_of_key c.args.key.now there.entries.places = c.in_ok-old.ensures.found there.entries (subst (λ (p : PageMap). Holds p tables there.entries) c.place.ensures.frame.pages holds) in
     let room : is_none c.in_ok-old.old ≡ true → head.live < 200000 = λ new. elim c.else-is_new.branch [
       | else-is_new-via-then-is_new+else-head-ge-PLACES_MAX w ↦ omega arith
       | else-is_new-via-else-is_new w ↦ absurd (true≢false (sym new ∙ sym new_is ∙ w.if-is_new.false))
@@ -82,10 +82,10 @@ returns-in_err-put_place-clause-due g c = λ state stand told.
     let tables_are : tables ≡ tables_in head = c.tables_of-tables.ensures in
     let old = c.args.pages.now in
     let mid = c.place.new.pages in
-    let there = stand-same head (g.P.Pages.pages old) (g.P.Pages.pages mid) (g.P.Pages.count old) (g.P.Pages.count mid) (g.P.Pages.first old) (g.P.Pages.first mid) state c.place.ensures.pages c.place.ensures.count c.place.ensures.first stand in
+    let there = stand-same head (g.P.Pages.pages old) (g.P.Pages.pages mid) (g.P.Pages.count old) (g.P.Pages.count mid) (g.P.Pages.first old) (g.P.Pages.first mid) state c.place.ensures.frame.pages c.place.ensures.frame.count c.place.ensures.frame.first stand in
     let holds : Holds (g.P.Pages.pages mid) tables there.entries = subst (λ (t : Tables). Holds (g.P.Pages.pages mid) t there.entries) (sym tables_are) there.tables.holds in
     let new_is : c.is_none-is_new.result ≡ is_none c.in_ok-old.old = flipped c.is_none-is_new.result (is_some c.in_ok-old.old) c.is_none-is_new.ensures in
-    let is_found : c.in_ok-old.old ≡ place_of_key c.args.key.now there.entries.places = c.in_ok-old.ensures.found there.entries (subst (λ (p : PageMap). Holds p tables there.entries) c.place.ensures.pages holds) in
+    let is_found : c.in_ok-old.old ≡ place_of_key c.args.key.now there.entries.places = c.in_ok-old.ensures.found there.entries (subst (λ (p : PageMap). Holds p tables there.entries) c.place.ensures.frame.pages holds) in
     let outcome = (put_at state c.args.key.now c.args.serial (record { point = c.args.point; words = c.args.words.now })).answer in
     let room : is_none c.in_ok-old.old ≡ true → head.live < 200000 = λ new. elim c.else-is_new.branch [
       | else-is_new-via-then-is_new+else-head-ge-PLACES_MAX w ↦ omega arith
@@ -97,7 +97,7 @@ returns-in_err-put_place-clause-due g c = λ state stand told.
     subst (λ (t : Tables). IsApart (view (g.P.Pages.pages mid) (g.P.Pages.count mid) (g.P.Pages.first mid) there.tables.free) t) (sym tables_are) there.tables.apart in
     let agree : WordsAgree there.entries tables.next_word = subst (λ (t : Tables). WordsAgree there.entries t.next_word) (sym tables_are) there.tables.sound.words in
     let told_there : AreTold (g.P.Pages.pages mid) (g.P.Pages.count mid) =
-    subst (λ (p : PageMap). AreTold p (g.P.Pages.count mid)) (sym c.place.ensures.pages) (subst (λ n. AreTold (g.P.Pages.pages old) n) (sym c.place.ensures.count) told) in
+    subst (λ (p : PageMap). AreTold p (g.P.Pages.count mid)) (sym c.place.ensures.frame.pages) (subst (λ n. AreTold (g.P.Pages.pages old) n) (sym c.place.ensures.frame.count) told) in
     subst (λ (r : Result Applied EngineFault). IfErr r (IsDueTo outcome)) (sym passed.1)
     (passed-due outcome c.in_err-put_place.field-0.0 passed.0 passed.2
     (λ damage is. c.put_place.ensures.honest there.entries there.tables.free holds apart (c.as_ref.ensures.value ∙ is_found) agree few told_there damage (c.in_err-put_place.was ∙ ap Err is)))
@@ -110,10 +110,10 @@ returns-then-is_new-3-clause-updated g c = λ state stand later serials above.
     let tables_are : tables ≡ tables_in head = c.tables_of-tables.ensures in
     let old = c.args.pages.now in
     let mid = c.place.new.pages in
-    let there = stand-same head (g.P.Pages.pages old) (g.P.Pages.pages mid) (g.P.Pages.count old) (g.P.Pages.count mid) (g.P.Pages.first old) (g.P.Pages.first mid) state c.place.ensures.pages c.place.ensures.count c.place.ensures.first stand in
+    let there = stand-same head (g.P.Pages.pages old) (g.P.Pages.pages mid) (g.P.Pages.count old) (g.P.Pages.count mid) (g.P.Pages.first old) (g.P.Pages.first mid) state c.place.ensures.frame.pages c.place.ensures.frame.count c.place.ensures.frame.first stand in
     let holds : Holds (g.P.Pages.pages mid) tables there.entries = subst (λ (t : Tables). Holds (g.P.Pages.pages mid) t there.entries) (sym tables_are) there.tables.holds in
     let new_is : c.is_none-is_new.result ≡ is_none c.in_ok-old.old = flipped c.is_none-is_new.result (is_some c.in_ok-old.old) c.is_none-is_new.ensures in
-    let is_found : c.in_ok-old.old ≡ place_of_key c.args.key.now there.entries.places = c.in_ok-old.ensures.found there.entries (subst (λ (p : PageMap). Holds p tables there.entries) c.place.ensures.pages holds) in
+    let is_found : c.in_ok-old.old ≡ place_of_key c.args.key.now there.entries.places = c.in_ok-old.ensures.found there.entries (subst (λ (p : PageMap). Holds p tables there.entries) c.place.ensures.frame.pages holds) in
     let place : Place = record { point = c.args.point; words = c.args.words.now } in
     let room : is_none c.in_ok-old.old ≡ true → head.live < 200000 = λ new. elim c.else-is_new.branch [
       | else-is_new-via-then-is_new+else-head-ge-PLACES_MAX w ↦ omega arith
@@ -148,10 +148,10 @@ returns-else-is_new-3-clause-updated g c = λ state stand later serials above.
     let tables_are : tables ≡ tables_in head = c.tables_of-tables.ensures in
     let old = c.args.pages.now in
     let mid = c.place.new.pages in
-    let there = stand-same head (g.P.Pages.pages old) (g.P.Pages.pages mid) (g.P.Pages.count old) (g.P.Pages.count mid) (g.P.Pages.first old) (g.P.Pages.first mid) state c.place.ensures.pages c.place.ensures.count c.place.ensures.first stand in
+    let there = stand-same head (g.P.Pages.pages old) (g.P.Pages.pages mid) (g.P.Pages.count old) (g.P.Pages.count mid) (g.P.Pages.first old) (g.P.Pages.first mid) state c.place.ensures.frame.pages c.place.ensures.frame.count c.place.ensures.frame.first stand in
     let holds : Holds (g.P.Pages.pages mid) tables there.entries = subst (λ (t : Tables). Holds (g.P.Pages.pages mid) t there.entries) (sym tables_are) there.tables.holds in
     let new_is : c.is_none-is_new.result ≡ is_none c.in_ok-old.old = flipped c.is_none-is_new.result (is_some c.in_ok-old.old) c.is_none-is_new.ensures in
-    let is_found : c.in_ok-old.old ≡ place_of_key c.args.key.now there.entries.places = c.in_ok-old.ensures.found there.entries (subst (λ (p : PageMap). Holds p tables there.entries) c.place.ensures.pages holds) in
+    let is_found : c.in_ok-old.old ≡ place_of_key c.args.key.now there.entries.places = c.in_ok-old.ensures.found there.entries (subst (λ (p : PageMap). Holds p tables there.entries) c.place.ensures.frame.pages holds) in
     let place : Place = record { point = c.args.point; words = c.args.words.now } in
     let room : is_none c.in_ok-old.old ≡ true → head.live < 200000 = λ new. elim c.else-is_new.branch [
       | else-is_new-via-then-is_new+else-head-ge-PLACES_MAX w ↦ omega arith

@@ -86,11 +86,11 @@ returns-in-Some-clause-honest g c = λ entries holds live known told counted dam
 
 -- src/places.rt:65:1
 pub returns-in-Some-clause-only_reads : goal.returns-in-Some-clause-only_reads
-returns-in-Some-clause-only_reads g c = g.met.P.Pages.reads_further _ _ _ c.loop-alloc.invariant.only_reads c.next_place.ensures.only_reads
+returns-in-Some-clause-only_reads g c = g.met.P.Pages.reads_further _ _ _ c.loop-alloc.invariant.only_reads c.next_place.ensures.frame.only_reads
 
 -- src/places.rt:65:1
 pub returns-in-Some-clause-follows : goal.returns-in-Some-clause-follows
-returns-in-Some-clause-follows g c = g.met.P.Pages.goes_further _ _ _ c.loop-alloc.invariant.follows c.next_place.ensures.follows
+returns-in-Some-clause-follows g c = g.met.P.Pages.goes_further _ _ _ c.loop-alloc.invariant.follows c.next_place.ensures.frame.follows
 
 pub returns-in_err-next_place-clause-damaged : goal.returns-in_err-next_place-clause-damaged
 returns-in_err-next_place-clause-damaged g c = λ told damage is.

@@ -17,16 +17,16 @@ returns-in_err-words-clause-honest g c = λ entries holds some known told counte
     c.words_of.ensures.honest entries (search rules) (known-after entries.numbers (option_copied c.args.after) c.in-Some.entry entries.places known found) (search rules) (search rules) damage named
 
 pub returns-in_err-words-clause-only_reads : goal.returns-in_err-words-clause-only_reads
-returns-in_err-words-clause-only_reads g c = g.met.P.Pages.reads_further _ _ _ c.next_place.ensures.only_reads c.words_of.ensures.only_reads
+returns-in_err-words-clause-only_reads g c = g.met.P.Pages.reads_further _ _ _ c.next_place.ensures.frame.only_reads c.words_of.ensures.frame.only_reads
 
 pub returns-in_err-words-clause-follows : goal.returns-in_err-words-clause-follows
-returns-in_err-words-clause-follows g c = g.met.P.Pages.goes_further _ _ _ c.next_place.ensures.follows c.words_of.ensures.follows
+returns-in_err-words-clause-follows g c = g.met.P.Pages.goes_further _ _ _ c.next_place.ensures.frame.follows c.words_of.ensures.frame.follows
 
 pub returns-clause-only_reads : goal.returns-clause-only_reads
-returns-clause-only_reads g c = g.met.P.Pages.reads_further _ _ _ c.next_place.ensures.only_reads c.words_of.ensures.only_reads
+returns-clause-only_reads g c = g.met.P.Pages.reads_further _ _ _ c.next_place.ensures.frame.only_reads c.words_of.ensures.frame.only_reads
 
 pub returns-clause-follows : goal.returns-clause-follows
-returns-clause-follows g c = g.met.P.Pages.goes_further _ _ _ c.next_place.ensures.follows c.words_of.ensures.follows
+returns-clause-follows g c = g.met.P.Pages.goes_further _ _ _ c.next_place.ensures.frame.follows c.words_of.ensures.frame.follows
 
 pub returns-in_err-entry-clause-damaged : goal.returns-in_err-entry-clause-damaged
 returns-in_err-entry-clause-damaged g c = λ told damage is.
@@ -47,4 +47,4 @@ returns-in_err-words-clause-damaged g c = λ told damage is.
     let same = passed.2 in
     let was = c.in_err-words.was in
     let named : IsErrOf c.words_of.result (Damaged damage) = cc in
-    damage-there _ _ _ _ c.args.tables.now damage c.next_place.ensures.pages c.next_place.ensures.count (inr (inl (c.words_of.ensures.damaged (search rules) damage named)))
+    damage-there _ _ _ _ c.args.tables.now damage c.next_place.ensures.frame.pages c.next_place.ensures.frame.count (inr (inl (c.words_of.ensures.damaged (search rules) damage named)))

@@ -53,10 +53,10 @@ pub returns-then-self-clause-log : goal.returns-then-self-clause-log
 returns-then-self-clause-log g c = logged-none g.D.Disk.tells g.D.Disk.world c.clear_log.ensures.disk c.clear_log.ensures.log c.clear_log.new.self.overlay
 
 pub returns-in_err-place_at-clause-log : goal.returns-in_err-place_at-clause-log
-returns-in_err-place_at-clause-log g c = logged g.D.Disk.tells g.D.Disk.world c.clear_log.ensures.disk c.clear_log.ensures.log c.place_at.ensures.only_reads
+returns-in_err-place_at-clause-log g c = logged g.D.Disk.tells g.D.Disk.world c.clear_log.ensures.disk c.clear_log.ensures.log c.place_at.ensures.frame.only_reads
 
 pub returns-clause-log : goal.returns-clause-log
-returns-clause-log g c = logged g.D.Disk.tells g.D.Disk.world c.clear_log.ensures.disk c.clear_log.ensures.log c.place_at.ensures.only_reads
+returns-clause-log g c = logged g.D.Disk.tells g.D.Disk.world c.clear_log.ensures.disk c.clear_log.ensures.log c.place_at.ensures.frame.only_reads
 
 pub returns-in_err-place_at-clause-damaged : goal.returns-in_err-place_at-clause-damaged
 returns-in_err-place_at-clause-damaged g c = λ t damage is.
