@@ -162,6 +162,8 @@ impl<'d, D: Station> Engine<'d, D> {
         ensures stopped { IsErrOf result EngineFault.Stopped ↔ IsTrue self.entry.stopped }
         ensures causes { IfErr result IsSettleFault }
     {
-        self.settle()
+        let ended = self.settle();
+        let _disk = self.into_disk();
+        ended
     }
 }
