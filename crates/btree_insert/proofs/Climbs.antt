@@ -64,7 +64,8 @@ module _ (form : Form) (least : ℕ) (old : PageMap) (count first level page low
     next : List Entry
     next = take at ws ++ (grew.entries ++ drop (suc at) ws)
 
-    page-same : new page ≡ old page
+    -- the page itself has stayed
+    pub page-same : new page ≡ old page
     page-same = let o = once page in let u = child-uses page in let s = one_at-same page in
         let a : uses form old level child page ≡ 0 = omega arith in
         let b : spare free count page ≡ 0 = omega arith in

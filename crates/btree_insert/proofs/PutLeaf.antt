@@ -1,5 +1,6 @@
 -- A row that is put into a leaf's cells.
-use Rattle.std.proofs.Common.{◌≡◌, ℕ, ◌+◌, ◌-◌, ◌*◌, ◌<◌, ◌≤◌, ◌⊎◌, inl, inr, List, ◌∷◌, ◌++◌, length, get_or, take, drop, map, arith, sym, ap, ◌∙◌, subst, ⊎_elim, true, false, nat_eq}
+use Rattle.std.proofs.Common.{◌≡◌, ℕ, suc, ◌+◌, ◌-◌, ◌*◌, ◌<◌, ◌≤◌, ◌⊎◌, inl, inr, List, ◌∷◌, ◌++◌, length, get_or, take, drop, map, arith, sym, ap, ◌∙◌, subst, ⊎_elim, true, false, nat_eq}
+use Rattle.std.proofs.Math.Nat.{mul-suc}
 use Rattle.std.specs.Option.{is_some}
 use Rattle.std.proofs.lemmas.Bool.Decides.{nat_tests}
 use Rattle.std.proofs.lemmas.Bool.{cases_eq}
@@ -40,6 +41,26 @@ put-at low high key value rows at gone f (inr c) =
       within = rw one (within-append low key high (take at rows) ((key, value) ∷ drop (at + 1) rows) f (omega arith, rest));
       is = rw one (sym (joined ∙ ap (λ (x : List Row). take at rows ++ x) (ap (put key value) more ∙ put-here key value (get_or rows at no_row) (drop (at + 1) rows) c.2)));
     }
+
+one_more : (n : ℕ) → n + 1 ≡ suc n
+one_more n = omega arith
+
+-- the cells have room for the new one
+pub room-splice : (width count at gone out body both : ℕ) → gone ≤ 1 → at + gone ≤ count → out ≡ width * (count + 1 - gone) → body ≡ width * count → both ≡ width
+    → out + (width * (at + gone) - width * at) ≡ body + both
+room-splice width count at gone out body both small inside o b w =
+    let more : width * (count + 1) ≡ width * count + width = ap (λ (n : ℕ). width * n) (one_more count) ∙ mul-suc width count in
+    let next : width * (at + 1) ≡ width * at + width = ap (λ (n : ℕ). width * n) (one_more at) ∙ mul-suc width at in
+    ⊎_elim
+    (λ (e : gone ≡ 1).
+    let f : width * (count + 1 - gone) ≡ width * count = ap (λ (n : ℕ). width * n) (omega arith) in
+    let h : width * (at + gone) ≡ width * (at + 1) = ap (λ (n : ℕ). width * (at + n)) e in
+    omega arith)
+    (λ (n : gone ≡ 1 → ⊥).
+    let f : width * (count + 1 - gone) ≡ width * (count + 1) = ap (λ (k : ℕ). width * k) (omega arith) in
+    let h : width * (at + gone) ≡ width * at = ap (λ (k : ℕ). width * k) (omega arith) in
+    omega arith)
+    (cases_eq gone 1)
 
 -- the cells of a page alone
 pub chop-body : (width count : ℕ) (page : List ℕ) → 16 + width * count ≤ length page → chop width count (take (width * count) (drop 16 page)) ≡ cells width count page

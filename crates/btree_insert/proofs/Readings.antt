@@ -1,5 +1,5 @@
 -- What a step ensures, as a claim on values that a read or a rewriting carries over.
-use Rattle.std.proofs.Common.{ℕ, suc, ◌+◌, ◌≤◌, List, Result, Ok, Err}
+use Rattle.std.proofs.Common.{◌≡◌, subst, ℕ, suc, ◌+◌, ◌≤◌, List, Result, Ok, Err}
 use Rattle.std.specs.Result.{IfOk}
 use Rattle.page_face.specs.declared.fault.PageFault.{PageFault}
 use Rattle.page_face.specs.FreeList.{PageMap}
@@ -17,6 +17,28 @@ LinkClaim form least new count first free level page low high at right middle la
     → ((n : ℕ) → one_at page n + total (λ c. uses form new level c n) (linked low (entries_in form bytes) at right middle) + spare free count n ≤ 1)
     → IfOk result (λ more. IsGrown form least (view new count first free) (λ n. one_at page n + total (λ c. uses form new level c n) (linked low (entries_in form bytes) at right middle))
     last c'' f'' (suc level) page low high (below_rows form new level (linked low (entries_in form bytes) at right middle)) more key)
+
+-- what `link` ensures, from pages that were only read since
+pub link-carried : (form : Form) (least : ℕ) (old mid : PageMap) (count count' first first' : ℕ) (free : List ℕ) (level page low high at at' right middle : ℕ) (last : PageMap) (c'' f'' key : ℕ) (result : Result ℕ PageFault) (bytes looked : List ℕ)
+    → mid ≡ old → count' ≡ count → first' ≡ first → at' ≡ at → looked ≡ bytes
+    → LinkClaim form least mid count' first' free level page low high at' right middle last c'' f'' key result looked
+    → LinkClaim form least old count first free level page low high at right middle last c'' f'' key result bytes
+link-carried form least old mid count count' first first' free level page low high at at' right middle last c'' f'' key result bytes looked e f h i j claim =
+    subst (LinkClaim form least old count first free level page low high at right middle last c'' f'' key result) j
+    (subst (λ (x : ℕ). LinkClaim form least old count first free level page low high x right middle last c'' f'' key result looked) i
+    (subst (λ (x : ℕ). LinkClaim form least old count x free level page low high at' right middle last c'' f'' key result looked) h
+    (subst (λ (x : ℕ). LinkClaim form least old x first' free level page low high at' right middle last c'' f'' key result looked) f
+    (subst (λ (x : PageMap). LinkClaim form least x count' first' free level page low high at' right middle last c'' f'' key result looked) e claim))))
+
+-- what holds anyway holds of an answer
+pub ok-any : {X E : Type 0} (Q : Type 0) (result : Result X E) → Q → IfOk result (λ x. Q)
+ok-any Q (Ok x) q = q
+ok-any Q (Err e) q = tt
+
+-- what follows from two facts of an answer
+pub ok-both : {X E : Type 0} (P Q R : X → Type 0) (result : Result X E) → ((x : X) → P x → Q x → R x) → IfOk result P → IfOk result Q → IfOk result R
+ok-both P Q R (Ok x) f h k = f x h k
+ok-both P Q R (Err e) f h k = tt
 
 -- what holds of an answer holds of it otherwise
 pub ok-map : {X : Type 0} {E : Type 0} (P Q : X → Type 0) (result : Result X E) → ((x : X) → P x → Q x) → IfOk result P → IfOk result Q

@@ -6,14 +6,16 @@ ghost use Rattle.page_face.specs.Number.{number};
 ghost use Rattle.page_face.specs.Cells.{chop, key_at};
 ghost use Rattle.btree_nodes.specs.Supply.{IsSupplied, view, spare, one_at};
 ghost use Rattle.btree_nodes.specs.Rows.{Row, IsWithin, IsMade, lookup, put};
-ghost use Rattle.btree_nodes.specs.Nodes.{row_of, rows_in};
+ghost use Rattle.page_face.specs.Nodes.{count_of};
+ghost use Rattle.btree_nodes.specs.Nodes.{row_of, rows_in, IsLeaf};
 ghost use Rattle.btree_nodes.specs.Bounds.{upper_of};
-ghost use Rattle.btree_nodes.specs.Damages.{BreaksLeaf, IsRefusedTake};
+ghost use Rattle.btree_nodes.specs.Damages.{AreTold, BreaksLeaf, IsRefusedTake};
 ghost use Rattle.btree_nodes.specs.Store.{IsGrown};
+ghost use Rattle.btree_insert.specs.Keeps.{KeepsOthers};
 
-use btree_nodes::{
-    Form, Shape, body, check_leaf, compare, damaged, key_of, place, splice, store_one, store_two,
-};
+use crate::split::split_page;
+use btree_nodes::{Form, Shape, body, compare, damaged, key_of, place, splice, store_one};
+use btree_search::leaf_count;
 use page_face::{Damage, Page, PageFault, Pages};
 use std::cmp::Ordering;
 
@@ -48,6 +50,7 @@ fn store_leaf<P: Pages>(
         → IfOk result (λ right. IsGrown form least (view (P.pages pages.old) (P.count pages.old) (P.first pages.old) free) (one_at page) (P.pages pages.new) (P.count pages.new) (P.first pages.new)
         0 page low high (map (row_of form.key) (chop (form.key + form.value) count cells.now)) right (number middle.new)) }
 
+    ensures kept { AreTold (P.pages pages.old) (P.count pages.old) → IfOk result (λ right. KeepsOthers page (P.pages pages.old) (P.count pages.old) (P.pages pages.new) (P.count pages.new)) }
     ensures honest { (free : List ℕ) → IsSupplied (view (P.pages pages.old) (P.count pages.old) (P.first pages.old) free) → (damage : Damage) → result ≢ Err (PageFault.Damaged damage) }
     ensures damaged { (damage : Damage) → IsErrOf result (PageFault.Damaged damage) → IsRefusedTake (P.pages pages.new) (P.count pages.new) (P.first pages.new) damage }
     ensures fails { FailsChanging P.Pages pages.old pages.new result }
@@ -66,7 +69,7 @@ fn store_leaf<P: Pages>(
         return Ok(0);
     }
     let half = count / 2;
-    let right = store_two(
+    let right = split_page(
         pages,
         shape,
         page,
@@ -96,14 +99,13 @@ fn gone_at(bytes: &Page, form: Form, count: usize, at: usize, key: &[u8]) -> usi
     }
 }
 
-// Puts a row into a leaf's cells at this place, in place of as many as are gone. The page that was split off is
-// answered, or 0.
+// Puts a row into the leaf looked at, of `count` rows, at this place, in place of as many as are gone. The page that was split off
+// is returned, or 0.
 fn put_at<P: Pages>(
     pages: &mut P,
     form: Form,
     least: usize,
     page: u32,
-    old: &[u8],
     count: usize,
     at: usize,
     gone: usize,
@@ -115,19 +117,19 @@ fn put_at<P: Pages>(
     requires key { length key.now ≡ form.key }
     requires value { length value.now ≡ form.value }
     requires middle { length middle.old ≡ form.key }
-    requires old { length old.now ≡ (form.key + form.value) * count }
     requires fits { 16 + (form.key + form.value) * count ≤ 4096 }
     requires at { at + gone ≤ count }
     requires gone { gone ≤ 1 }
     requires cells { length cells.old ≡ (form.key + form.value) * (count + 1 - gone) }
     requires counted { ¬ IsUncounted (P.count pages.old) page }
     ensures grown { (low high : ℕ) (free : List ℕ) (rows : List Row) → least ≤ count + 1 - gone
-        → IsMade low high (put (number key.now) value.now) rows (map (row_of form.key) (chop (form.key + form.value) (count + 1 - gone) (take ((form.key + form.value) * at) old.now ++ ((key.now ++ value.now) ++ drop ((form.key + form.value) * (at + gone)) old.now))))
+        → IsMade low high (put (number key.now) value.now) rows (map (row_of form.key) (chop (form.key + form.value) (count + 1 - gone) (take ((form.key + form.value) * at) (take ((form.key + form.value) * count) (drop 16 (P.looked pages.old))) ++ ((key.now ++ value.now) ++ drop ((form.key + form.value) * (at + gone)) (take ((form.key + form.value) * count) (drop 16 (P.looked pages.old)))))))
         → IsSupplied (view (P.pages pages.old) (P.count pages.old) (P.first pages.old) free)
         → ((n : ℕ) → one_at page n + spare free (P.count pages.old) n ≤ 1)
         → IfOk result (λ right. IsGrown form least (view (P.pages pages.old) (P.count pages.old) (P.first pages.old) free) (one_at page) (P.pages pages.new) (P.count pages.new) (P.first pages.new)
         0 page low high (put (number key.now) value.now rows) right (number middle.new)) }
 
+    ensures kept { AreTold (P.pages pages.old) (P.count pages.old) → IfOk result (λ right. KeepsOthers page (P.pages pages.old) (P.count pages.old) (P.pages pages.new) (P.count pages.new)) }
     ensures honest { (free : List ℕ) → IsSupplied (view (P.pages pages.old) (P.count pages.old) (P.first pages.old) free) → (damage : Damage) → result ≢ Err (PageFault.Damaged damage) }
     ensures damaged { (damage : Damage) → IsErrOf result (PageFault.Damaged damage) → IsRefusedTake (P.pages pages.new) (P.count pages.new) (P.first pages.new) damage }
     ensures fails { FailsChanging P.Pages pages.old pages.new result }
@@ -135,7 +137,14 @@ fn put_at<P: Pages>(
     ensures asked { P.asked pages.new ≡ P.asked pages.old }
 {
     let width = form.key + form.value;
-    splice(old, width * at, width * (at + gone), key, value, cells);
+    splice(
+        body(pages.looked(), width, count),
+        width * at,
+        width * (at + gone),
+        key,
+        value,
+        cells,
+    );
     store_leaf(pages, form, least, page, count + 1 - gone, cells, middle)
 }
 
@@ -149,16 +158,74 @@ fn room_for(form: Form, count: usize, gone: usize) -> usize
     (form.key + form.value) * (count + 1 - gone)
 }
 
-/// Puts a row into a leaf that was read. Where it is split, the first key of the page that was split off is left in
+// Puts a row into the leaf looked at, of `count` rows. Where it is split, the first key of the page that was split off is left in
+// `middle`.
+fn put_row<P: Pages>(
+    pages: &mut P,
+    form: Form,
+    least: usize,
+    page: u32,
+    count: usize,
+    key: &[u8],
+    value: &[u8],
+    middle: &mut [u8],
+) -> Result<Grown, PageFault>
+    requires count { count ≡ count_of (P.looked pages.old) }
+    requires sound { IsLeaf form least (P.looked pages.old) }
+    requires key { length key.now ≡ form.key }
+    requires value { length value.now ≡ form.value }
+    requires middle { length middle.old ≡ form.key }
+    requires counted { ¬ IsUncounted (P.count pages.old) page }
+    ensures grown { (low high : ℕ) (free : List ℕ) → IsWithin low high (rows_in form (P.looked pages.old)) → low ≤ number key.now → number key.now < high
+        → IsSupplied (view (P.pages pages.old) (P.count pages.old) (P.first pages.old) free)
+        → ((n : ℕ) → one_at page n + spare free (P.count pages.old) n ≤ 1)
+        → IfOk result (λ grown. IsGrown form least (view (P.pages pages.old) (P.count pages.old) (P.first pages.old) free) (one_at page) (P.pages pages.new) (P.count pages.new) (P.first pages.new)
+        0 page low high (put (number key.now) value.now (rows_in form (P.looked pages.old))) grown.right (number middle.new)) }
+    ensures had { (low high : ℕ) → IsWithin low high (rows_in form (P.looked pages.old)) → low ≤ number key.now → number key.now < high
+        → IfOk result (λ grown. grown.had ≡ is_some (lookup (number key.now) (rows_in form (P.looked pages.old)))) }
+
+    ensures kept { AreTold (P.pages pages.old) (P.count pages.old) → IfOk result (λ grown. KeepsOthers page (P.pages pages.old) (P.count pages.old) (P.pages pages.new) (P.count pages.new)) }
+    ensures honest { (free : List ℕ) → IsSupplied (view (P.pages pages.old) (P.count pages.old) (P.first pages.old) free) → (damage : Damage) → result ≢ Err (PageFault.Damaged damage) }
+    ensures damaged { (damage : Damage) → IsErrOf result (PageFault.Damaged damage) → IsRefusedTake (P.pages pages.new) (P.count pages.new) (P.first pages.new) damage }
+    ensures fails { FailsChanging P.Pages pages.old pages.new result }
+    ensures frame { Changes P.Pages pages.old pages.new }
+    ensures asked { P.asked pages.new ≡ P.asked pages.old }
+{
+    let width = form.key + form.value;
+    let at = place(pages.looked(), key, false, width, count);
+    let gone = gone_at(pages.looked(), form, count, at, key);
+    let room = room_for(form, count, gone);
+    let mut buffer = [0; 5120];
+    let right = put_at(
+        pages,
+        form,
+        least,
+        page,
+        count,
+        at,
+        gone,
+        key,
+        value,
+        middle,
+        &mut buffer[..room],
+    )?;
+    Ok(Grown {
+        right,
+        had: gone == 1,
+    })
+}
+
+/// Puts a row into the leaf looked at, which is `page`. Where it is split, the first key of the page that was split off is left in
 /// `middle`.
 ///
-/// Refuses the rule that the page breaks between these bounds, and what a `take` refuses.
+/// Refuses the rule that the page breaks between these bounds, and what a `take` refuses. Its cells are copied once into a buffer,
+/// and one page is written, or one taken and two written.
+#[inline(never)]
 pub fn put_leaf<P: Pages>(
     pages: &mut P,
     form: Form,
     least: usize,
     page: u32,
-    bytes: &Page,
     low: &[u8],
     high: &[u8],
     key: &[u8],
@@ -177,43 +244,22 @@ pub fn put_leaf<P: Pages>(
     ensures grown { (free : List ℕ) → IsSupplied (view (P.pages pages.old) (P.count pages.old) (P.first pages.old) free)
         → ((n : ℕ) → one_at page n + spare free (P.count pages.old) n ≤ 1)
         → IfOk result (λ grown. IsGrown form least (view (P.pages pages.old) (P.count pages.old) (P.first pages.old) free) (one_at page) (P.pages pages.new) (P.count pages.new) (P.first pages.new)
-        0 page (number low.now) (upper_of form.key high.now) (put (number key.now) value.now (rows_in form bytes.now)) grown.right (number middle.new)) }
-    ensures had { IfOk result (λ grown. grown.had ≡ is_some (lookup (number key.now) (rows_in form bytes.now))) }
+        0 page (number low.now) (upper_of form.key high.now) (put (number key.now) value.now (rows_in form (P.looked pages.old))) grown.right (number middle.new)) }
+    ensures had { IfOk result (λ grown. grown.had ≡ is_some (lookup (number key.now) (rows_in form (P.looked pages.old)))) }
 
+    ensures sound { IfOk result (λ grown. IsLeaf form least (P.looked pages.old)) }
+    ensures kept { AreTold (P.pages pages.old) (P.count pages.old) → IfOk result (λ grown. KeepsOthers page (P.pages pages.old) (P.count pages.old) (P.pages pages.new) (P.count pages.new)) }
     ensures supplied { (free : List ℕ) → IsSupplied (view (P.pages pages.old) (P.count pages.old) (P.first pages.old) free) → (damage : Damage) → IsErrOf result (PageFault.Damaged damage)
-        → (damage.page ≡ page) × BreaksLeaf damage.rule form least (number low.now) (upper_of form.key high.now) bytes.now }
+        → (damage.page ≡ page) × BreaksLeaf damage.rule form least (number low.now) (upper_of form.key high.now) (P.looked pages.old) }
     ensures damaged { (damage : Damage) → IsErrOf result (PageFault.Damaged damage)
-        → ((damage.page ≡ page) × BreaksLeaf damage.rule form least (number low.now) (upper_of form.key high.now) bytes.now)
+        → ((damage.page ≡ page) × BreaksLeaf damage.rule form least (number low.now) (upper_of form.key high.now) (P.looked pages.old))
         ⊎ IsRefusedTake (P.pages pages.new) (P.count pages.new) (P.first pages.new) damage }
     ensures fails { FailsChanging P.Pages pages.old pages.new result }
     ensures frame { Changes P.Pages pages.old pages.new }
     ensures asked { P.asked pages.new ≡ P.asked pages.old }
 {
-    let width = form.key + form.value;
-    let count = match check_leaf(bytes, form, least, low, high) {
-        Ok(count) => count,
-        Err(rule) => return Err(damaged(page, rule)),
-    };
-    let at = place(bytes, key, false, width, count);
-    let gone = gone_at(bytes, form, count, at, key);
-    let room = room_for(form, count, gone);
-    let mut buffer = [0; 5120];
-    let right = put_at(
-        pages,
-        form,
-        least,
-        page,
-        body(bytes, width, count),
-        count,
-        at,
-        gone,
-        key,
-        value,
-        middle,
-        &mut buffer[..room],
-    )?;
-    Ok(Grown {
-        right,
-        had: gone == 1,
-    })
+    match leaf_count(pages, form, least, low, high) {
+        Ok(count) => put_row(pages, form, least, page, count, key, value, middle),
+        Err(rule) => Err(damaged(page, rule)),
+    }
 }

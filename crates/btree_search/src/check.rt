@@ -25,9 +25,9 @@ pub fn seal_of(form: Form, level: u8) -> Seal
     }
 }
 
-// How many cells a page says that it has.
+/// How many cells a page says that it has.
 #[tactic(auto, unfolding(page_face::specs::Nodes::count_of))]
-fn count(page: &Page) -> usize
+pub fn count(page: &Page) -> usize
     ensures { result ≡ count_of page.now }
 {
     u16::from_be_bytes([page[2], page[3]]) as usize

@@ -8,5 +8,6 @@ mod locating;
 mod sealed;
 
 pub use bounds::Bounds;
+pub use check::count;
 pub use locating::{Leaf, locate};
-pub use sealed::row_in;
+pub use sealed::{inner_count, leaf_count, place_in, row_in};

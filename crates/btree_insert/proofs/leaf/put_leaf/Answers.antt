@@ -1,43 +1,60 @@
-use Rattle.std.proofs.Common.{arith, ◌≡◌, ◌+◌, ◌-◌, ◌*◌, ℕ, ◌∙◌, sym, ap, take, drop, List, ◌++◌, subst, Err}
-use Rattle.std.proofs.lemmas.Result.{err_from_is_err_and}
+use Rattle.std.proofs.Common.{ℕ, sym, ap, List, subst, refl, inl, inr}
 use Rattle.page_face.specs.Number.{number}
-use Rattle.page_face.specs.Nodes.{count_of}
+use Rattle.page_face.specs.declared.fault.Damage.{Damage}
+use Rattle.page_face.specs.declared.fault.Rule.{Rule}
 use Rattle.btree_nodes.specs.Nodes.{rows_in}
-use Rattle.btree_nodes.specs.Rows.{IsMade, put}
+use Rattle.btree_nodes.specs.Rows.{IsWithin}
 use Rattle.btree_nodes.specs.Bounds.{upper_of}
-use Rattle.btree_nodes.proofs.Finds.{place_as}
-use Rattle.btree_insert.proofs.Leaves.{rows_of}
-use Rattle.btree_insert.proofs.PutLeaf.{put_cells, put-had}
-use Rattle.btree_nodes.proofs.Walks.{same-fault}
+use Rattle.btree_nodes.specs.Damages.{BreaksLeaf}
 use Rattle.btree_insert.specs.declared.leaf.Grown.{Grown}
+use Rattle.btree_insert.proofs.Grows.{same-damage}
+use Rattle.btree_insert.proofs.Readings.{ok-any}
 use Rattle.btree_insert.proofs.leaf.put_leaf.Goals as goal
 
-pub returns-clause-grown : goal.returns-clause-grown
-returns-clause-grown g c = λ free supplied once.
-    let w : ℕ = c.args.form.key + c.args.form.value in
-    let e : c.in-Ok.count ≡ count_of c.args.bytes.now = c.in-Ok.ensures.count in
-    let node = c.in-Ok.ensures.sound in
+pub returns-in-Ok-clause-grown : goal.returns-in-Ok-clause-grown
+returns-in-Ok-clause-grown g c = λ free supplied once.
+    let f = c.leaf_count.ensures.frame in
+    let same = c.leaf_count.ensures.looked in
     let low : ℕ = number c.args.low.now in
     let high : ℕ = upper_of c.args.form.key c.args.high.now in
-    let place = place_as c.requires.key e (omega arith) c.place-at.ensures in
-    let enough = node.fill in
-    let small = c.gone_at-gone.ensures.small in
-    let made = put_cells c.args.form c.args.bytes.now c.args.key.now c.args.value.now low high c.place-at.result c.gone_at-gone.result (c.in-Ok.count + 1 - c.gone_at-gone.result)
-    node.size node.fits c.requires.key c.requires.value place c.in-Ok.ensures.order c.requires.from c.requires.to (λ h. let s = c.gone_at-gone.ensures.some h in (omega (arith, s.0, e), s.1)) (λ n l. c.gone_at-gone.ensures.none n (omega (arith, e))) c.gone_at-gone.ensures.small (omega arith) in
-    let cells : c.body.result.now ≡ take (w * count_of c.args.bytes.now) (drop 16 c.args.bytes.now) = c.body.ensures.is ∙ ap (λ (n : ℕ). take (w * n) (drop 16 c.args.bytes.now)) e in
-    c.in_ok-right.ensures.grown low high free (rows_in c.args.form c.args.bytes.now) (omega arith)
-    (subst (λ (x : List ℕ). IsMade low high (put (number c.args.key.now) c.args.value.now) (rows_in c.args.form c.args.bytes.now)
-    (rows_of c.args.form (c.in-Ok.count + 1 - c.gone_at-gone.result) (take (w * c.place-at.result) x ++ ((c.args.key.now ++ c.args.value.now) ++ drop (w * (c.place-at.result + c.gone_at-gone.result)) x)))) (sym cells) made)
-    supplied once
+    let within = subst (λ (b : List ℕ). IsWithin low high (rows_in c.args.form b)) (sym same) c.in-Ok.ensures.order in
+    rw (sym f.pages, sym f.count, sym f.first, sym same) (c.put_row.ensures.grown low high free within c.requires.from c.requires.to (rw (f.pages, f.count, f.first) supplied) (rw f.count once))
 
-pub returns-clause-had : goal.returns-clause-had
-returns-clause-had g c =
-    let e : c.in-Ok.count ≡ count_of c.args.bytes.now = c.in-Ok.ensures.count in
-    let place = place_as c.requires.key e (omega arith) c.place-at.ensures in
-    put-had c.args.form c.args.bytes.now (number c.args.low.now) (upper_of c.args.form.key c.args.high.now) (number c.args.key.now) c.place-at.result c.gone_at-gone.result place c.in-Ok.ensures.order c.requires.from c.requires.to
-    (λ h. let s = c.gone_at-gone.ensures.some h in (omega (arith, s.0, e), s.1)) (λ n l. c.gone_at-gone.ensures.none n (omega (arith, e)))
+pub returns-in-Ok-clause-had : goal.returns-in-Ok-clause-had
+returns-in-Ok-clause-had g c =
+    let same = c.leaf_count.ensures.looked in
+    let low : ℕ = number c.args.low.now in
+    let high : ℕ = upper_of c.args.form.key c.args.high.now in
+    let within = subst (λ (b : List ℕ). IsWithin low high (rows_in c.args.form b)) (sym same) c.in-Ok.ensures.order in
+    rw (sym same) (c.put_row.ensures.had low high within c.requires.from c.requires.to)
 
-pub returns-in_err-right-clause-supplied : goal.returns-in_err-right-clause-supplied
-returns-in_err-right-clause-supplied g c =
-    let passed = err_from_is_err_and c.from_residual.result c.from_residual.ensures.1 in
-    rw (passed.1, passed.2) (λ free supplied damage e. absurd (c.put_at.ensures.honest free supplied damage (c.in_err-right.was ∙ ap Err (same-fault {T = Grown} _ _ e))))
+pub returns-in-Ok-clause-sound : goal.returns-in-Ok-clause-sound
+returns-in-Ok-clause-sound g c = ok-any _ c.put_row.result c.in-Ok.ensures.sound
+
+pub returns-in-Ok-clause-kept : goal.returns-in-Ok-clause-kept
+returns-in-Ok-clause-kept g c = λ told.
+    let f = c.leaf_count.ensures.frame in
+    rw (sym f.pages, sym f.count) (c.put_row.ensures.kept (rw (f.pages, f.count) told))
+
+pub returns-in-Ok-clause-supplied : goal.returns-in-Ok-clause-supplied
+returns-in-Ok-clause-supplied g c = λ free supplied damage e.
+    let f = c.leaf_count.ensures.frame in
+    absurd (c.put_row.ensures.honest free (rw (f.pages, f.count, f.first) supplied) damage e)
+
+pub returns-in-Ok-clause-damaged : goal.returns-in-Ok-clause-damaged
+returns-in-Ok-clause-damaged g c = λ damage e. inr (c.put_row.ensures.damaged damage e)
+
+pub returns-in-Err-clause-supplied : goal.returns-in-Err-clause-supplied
+returns-in-Err-clause-supplied g c = λ free supplied damage e.
+    let same = same-damage {T = Grown} _ c.damaged.result (record { page = c.args.page; rule = c.in-Err.rule }) damage refl c.damaged.ensures e in (
+      ap (λ (d : Damage). d.page) same,
+      subst (λ (r : Rule). BreaksLeaf r c.args.form c.args.least (number c.args.low.now) (upper_of c.args.form.key c.args.high.now) (g.P.Pages.looked c.args.pages.now)) (sym (ap (λ (d : Damage). d.rule) same)) c.in-Err.ensures.breaks,
+    )
+
+pub returns-in-Err-clause-damaged : goal.returns-in-Err-clause-damaged
+returns-in-Err-clause-damaged g c = λ damage e.
+    let same = same-damage {T = Grown} _ c.damaged.result (record { page = c.args.page; rule = c.in-Err.rule }) damage refl c.damaged.ensures e in
+    inl (
+      ap (λ (d : Damage). d.page) same,
+      subst (λ (r : Rule). BreaksLeaf r c.args.form c.args.least (number c.args.low.now) (upper_of c.args.form.key c.args.high.now) (g.P.Pages.looked c.args.pages.now)) (sym (ap (λ (d : Damage). d.rule) same)) c.in-Err.ensures.breaks,
+    )

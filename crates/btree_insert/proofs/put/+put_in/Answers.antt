@@ -1,25 +1,28 @@
-use Rattle.std.proofs.Common.{arith, ◌≡◌, ◌+◌, ◌-◌, ◌<◌, ◌≤◌, ℕ, ◌∙◌, sym, ap, List, subst, suc, refl, ◌++◌, ◌∷◌, [], Ok, Err, inl, inr, ◌⊎◌, ⊎_elim}
+use Rattle.std.proofs.Common.{arith, ◌≡◌, ◌+◌, ◌-◌, ◌<◌, ◌≤◌, ℕ, ◌∙◌, sym, ap, List, subst, suc, ◌++◌, ◌∷◌, [], Err, inl, inr, ⊎_elim}
 use Rattle.std.specs.Result.{IfOk}
 use Rattle.std.specs.Option.{is_some}
 use Rattle.std.proofs.lemmas.Result.{err_from_is_err_and}
 use Rattle.page_face.specs.FreeList.{PageMap}
 use Rattle.page_face.specs.Causes.{IsUncounted}
-use Rattle.page_face.specs.declared.fault.Damage.{Damage}
 use Rattle.page_face.specs.Number.{number}
+use Rattle.page_face.specs.Nodes.{count_of}
 use Rattle.btree_nodes.specs.declared.form.Form.{Form}
 use Rattle.btree_nodes.specs.Supply.{view, spare, one_at}
 use Rattle.btree_nodes.specs.Rows.{lookup, put}
-use Rattle.page_face.specs.Nodes.{count_of}
-use Rattle.btree_nodes.specs.Nodes.{rows_in}
+use Rattle.btree_nodes.specs.Nodes.{rows_in, IsInner}
 use Rattle.btree_nodes.specs.Tree.{rows_at, uses}
 use Rattle.btree_nodes.specs.Bounds.{upper_of}
-use Rattle.btree_nodes.specs.Damages.{IsDamaged, AreTold, AskedSince, AsksOnly, IsRefusedTake}
+use Rattle.btree_nodes.specs.Damages.{AskedSince, BreaksLeaf}
+use Rattle.page_face.proofs.Frames.{changes_then, reads_change}
 use Rattle.btree_nodes.specs.Store.{IsGrown}
-use Rattle.btree_nodes.proofs.Harms.{asked-here, asked-sooner, asks-here, asks-further, asks-more}
+use Rattle.btree_nodes.proofs.Harms.{asked-here, asked-sooner, asks-here, asks-further}
+use Rattle.btree_nodes.proofs.Walks.{same-fault, uses-self}
+use Rattle.btree_search.specs.Steps.{low_of, high_of}
+use Rattle.btree_insert.specs.Keeps.{KeepsAbove}
 use Rattle.btree_insert.specs.declared.leaf.Grown.{Grown}
-use Rattle.btree_nodes.proofs.Walks.{same-fault, named-read, told-read, uses-self, asks-read, damage-link, uses-below, damage-below, lookup-below}
-use Rattle.btree_insert.proofs.Readings.{LinkClaim}
-use Rattle.btree_insert.proofs.Grows.{same-damage, damage-leaf, damage-inner, mid-tree, mid-bytes, mid-supplied, mid-once, whole, to-be-linked}
+use Rattle.btree_insert.proofs.Grows.{damage-leaf, mid-tree, mid-bytes, mid-supplied, mid-once, mid-had, mid-damage, mid-told, mid-own, mid-kept, whole, stayed, to-be-linked}
+use Rattle.btree_insert.proofs.Keeps.{leaf-keeps, kept-higher, page-kept, inner-keeps, counted-below}
+use Rattle.btree_insert.proofs.Readings.{ok-both}
 use Rattle.btree_insert.proofs.put.+put_in.Goals as goal
 
 pub returns-then-level-eq0-clause-grown : goal.returns-then-level-eq0-clause-grown
@@ -28,15 +31,15 @@ returns-then-level-eq0-clause-grown g t c = λ free is tree supplied once.
     let old : PageMap = g.P.Pages.pages c.args.pages.now in
     let page : ℕ = c.args.page in
     let key : ℕ = number c.args.key.now in
-    let low : ℕ = number c.args.low.now in
-    let high : ℕ = upper_of c.args.form.key c.args.high.now in
+    let low : ℕ = low_of form c.args.bounds.now in
+    let high : ℕ = high_of form c.args.bounds.now in
     let new : PageMap = g.P.Pages.pages c.put_leaf.new.pages in
     let z : c.args.level ≡ 0 = c.if-level-eq0.true in
     let once' : (n : ℕ) → one_at page n + spare free (g.P.Pages.count c.args.pages.now) n ≤ 1 = subst (λ (k : ℕ). (n : ℕ) → uses form old k page n + spare free (g.P.Pages.count c.args.pages.now) n ≤ 1) z once in
     subst (λ (k : ℕ). IfOk c.put_leaf.result (λ grown. IsGrown form c.args.least (view old (g.P.Pages.count c.args.pages.now) (g.P.Pages.first c.args.pages.now) free) (uses form old k page) new (g.P.Pages.count c.put_leaf.new.pages) (g.P.Pages.first c.put_leaf.new.pages)
     k page low high (put key c.args.value.now (rows_at form old k page)) grown.right (number c.put_leaf.new.middle))) (sym z)
     (subst (λ (b : List ℕ). IfOk c.put_leaf.result (λ grown. IsGrown form c.args.least (view old (g.P.Pages.count c.args.pages.now) (g.P.Pages.first c.args.pages.now) free) (one_at page) new (g.P.Pages.count c.put_leaf.new.pages) (g.P.Pages.first c.put_leaf.new.pages)
-    0 page low high (put key c.args.value.now (rows_in form b)) grown.right (number c.put_leaf.new.middle))) is (c.put_leaf.ensures.grown free supplied once'))
+    0 page low high (put key c.args.value.now (rows_in form b)) grown.right (number c.put_leaf.new.middle))) is (subst (λ (x : ℕ). IfOk c.put_leaf.result (λ grown. IsGrown form c.args.least (view old (g.P.Pages.count c.args.pages.now) (g.P.Pages.first c.args.pages.now) free) (one_at page) new (g.P.Pages.count c.put_leaf.new.pages) (g.P.Pages.first c.put_leaf.new.pages) 0 page x high (put key c.args.value.now (rows_in form (g.P.Pages.looked c.args.pages.now))) grown.right (number c.put_leaf.new.middle))) (ap number c.low.ensures.is) (subst (λ (x : ℕ). IfOk c.put_leaf.result (λ grown. IsGrown form c.args.least (view old (g.P.Pages.count c.args.pages.now) (g.P.Pages.first c.args.pages.now) free) (one_at page) new (g.P.Pages.count c.put_leaf.new.pages) (g.P.Pages.first c.put_leaf.new.pages) 0 page (number c.low.result.now) x (put key c.args.value.now (rows_in form (g.P.Pages.looked c.args.pages.now))) grown.right (number c.put_leaf.new.middle))) (ap (upper_of form.key) c.high.ensures.is) (c.put_leaf.ensures.grown free supplied once'))))
 
 pub returns-then-level-eq0-clause-had : goal.returns-then-level-eq0-clause-had
 returns-then-level-eq0-clause-had g t c = λ is tree.
@@ -46,15 +49,25 @@ returns-then-level-eq0-clause-had g t c = λ is tree.
     subst (λ (k : ℕ). IfOk c.put_leaf.result (λ grown. grown.had ≡ is_some (lookup (number c.args.key.now) (rows_at form old k c.args.page)))) (sym z)
     (subst (λ (b : List ℕ). IfOk c.put_leaf.result (λ grown. grown.had ≡ is_some (lookup (number c.args.key.now) (rows_in form b)))) is c.put_leaf.ensures.had)
 
+pub returns-then-level-eq0-clause-kept : goal.returns-then-level-eq0-clause-kept
+returns-then-level-eq0-clause-kept g t c = λ told is.
+    let form : Form = c.args.form in
+    let old : PageMap = g.P.Pages.pages c.args.pages.now in
+    let count : ℕ = g.P.Pages.count c.args.pages.now in
+    let new : PageMap = g.P.Pages.pages c.put_leaf.new.pages in
+    let count' : ℕ = g.P.Pages.count c.put_leaf.new.pages in
+    subst (λ (k : ℕ). IfOk c.put_leaf.result (λ grown. KeepsAbove k old count new count')) (sym c.if-level-eq0.true)
+    (ok-both _ _ _ c.put_leaf.result (λ grown leaf kept. leaf-keeps form c.args.least c.args.page count count' (g.P.Pages.looked c.args.pages.now) old new is leaf kept) c.put_leaf.ensures.sound (c.put_leaf.ensures.kept told))
+
 pub returns-then-level-eq0-clause-supplied : goal.returns-then-level-eq0-clause-supplied
 returns-then-level-eq0-clause-supplied g t c = λ free is tree supplied once damage e.
-    damage-leaf c.args.form (g.P.Pages.pages c.args.pages.now) (g.P.Pages.count c.args.pages.now) damage c.args.least c.args.level c.args.page _ _ c.args.bytes.now c.if-level-eq0.true is (c.put_leaf.ensures.supplied free supplied damage e)
+    damage-leaf c.args.form (g.P.Pages.pages c.args.pages.now) (g.P.Pages.count c.args.pages.now) damage c.args.least c.args.level c.args.page _ _ (g.P.Pages.looked c.args.pages.now) c.if-level-eq0.true is (let b = c.put_leaf.ensures.supplied free supplied damage e in (b.0, (subst (λ (x : ℕ). BreaksLeaf damage.rule c.args.form c.args.least x (high_of c.args.form c.args.bounds.now) (g.P.Pages.looked c.args.pages.now)) (ap number c.low.ensures.is) (subst (λ (x : ℕ). BreaksLeaf damage.rule c.args.form c.args.least (number c.low.result.now) x (g.P.Pages.looked c.args.pages.now)) (ap (upper_of c.args.form.key) c.high.ensures.is) b.1))))
 
 pub returns-then-level-eq0-clause-damaged : goal.returns-then-level-eq0-clause-damaged
 returns-then-level-eq0-clause-damaged g t c = λ before asked told is damage e.
     ⊎_elim
     (λ b. inl (
-      damage-leaf c.args.form (g.P.Pages.pages c.args.pages.now) (g.P.Pages.count c.args.pages.now) damage c.args.least c.args.level c.args.page _ _ c.args.bytes.now c.if-level-eq0.true is b,
+      damage-leaf c.args.form (g.P.Pages.pages c.args.pages.now) (g.P.Pages.count c.args.pages.now) damage c.args.least c.args.level c.args.page _ _ (g.P.Pages.looked c.args.pages.now) c.if-level-eq0.true is (b.0, (subst (λ (x : ℕ). BreaksLeaf damage.rule c.args.form c.args.least x (high_of c.args.form c.args.bounds.now) (g.P.Pages.looked c.args.pages.now)) (ap number c.low.ensures.is) (subst (λ (x : ℕ). BreaksLeaf damage.rule c.args.form c.args.least (number c.low.result.now) x (g.P.Pages.looked c.args.pages.now)) (ap (upper_of c.args.form.key) c.high.ensures.is) b.1))),
       asked-here before _ damage.page (c.put_leaf.ensures.asked ∙ asked ∙ ap (λ (p : ℕ). before ++ p ∷ []) (sym b.0)),
     ))
     (λ r. inr r) (c.put_leaf.ensures.damaged damage e)
@@ -62,393 +75,237 @@ returns-then-level-eq0-clause-damaged g t c = λ before asked told is damage e.
 pub returns-then-level-eq0-clause-own : goal.returns-then-level-eq0-clause-own
 returns-then-level-eq0-clause-own g t c = λ before asked told is. asks-here (uses c.args.form (g.P.Pages.pages c.args.pages.now) c.args.level c.args.page) before _ c.args.page (uses-self c.args.form (g.P.Pages.pages c.args.pages.now) c.args.level c.args.page) (c.put_leaf.ensures.asked ∙ asked)
 
-pub returns-in-Err-clause-damaged : goal.returns-in-Err-clause-damaged
-returns-in-Err-clause-damaged g t c = λ before asked told is damage e.
-    let same = same-damage _ c.damaged.result (record { page = c.args.page; rule = c.in-Err.rule }) damage refl c.damaged.ensures e in
-    inl (
-      damage-inner c.args.form (g.P.Pages.pages c.args.pages.now) (g.P.Pages.count c.args.pages.now) damage c.args.least c.args.level c.args.page _ _ c.in-Err.rule c.args.bytes.now c.if-level-eq0.false is same c.in-Err.ensures.breaks,
-      asked-here before _ damage.page (asked ∙ ap (λ (p : ℕ). before ++ p ∷ []) (sym (ap (λ (d : Damage). d.page) same))),
-    )
+pub returns-in_err-step-clause-supplied : goal.returns-in_err-step-clause-supplied
+returns-in_err-step-clause-supplied g t c =
+    let passed = err_from_is_err_and c.from_residual.result c.from_residual.ensures.1 in
+    rw (passed.1, passed.2) (λ free is tree supplied once damage e. c.go_down.ensures.damaged is damage (c.in_err-step.was ∙ ap Err (same-fault {T = Grown} _ _ e)))
 
-pub returns-in-Err-clause-own : goal.returns-in-Err-clause-own
-returns-in-Err-clause-own g t c = λ before asked told is. asks-here (uses c.args.form (g.P.Pages.pages c.args.pages.now) c.args.level c.args.page) before _ c.args.page (uses-self c.args.form (g.P.Pages.pages c.args.pages.now) c.args.level c.args.page) asked
+pub returns-in_err-step-clause-damaged : goal.returns-in_err-step-clause-damaged
+returns-in_err-step-clause-damaged g t c =
+    let passed = err_from_is_err_and c.from_residual.result c.from_residual.ensures.1 in
+    rw (passed.1, passed.2) (λ before asked told is damage e.
+    let was = c.in_err-step.was ∙ ap Err (same-fault {T = Grown} _ _ e) in
+    inl (c.go_down.ensures.damaged is damage was, c.go_down.ensures.named before asked damage was))
 
-pub returns-in-Err-read-clause-supplied : goal.returns-in-Err-read-clause-supplied
-returns-in-Err-read-clause-supplied g t c =
-    let form : Form = c.args.form in
-    let old : PageMap = g.P.Pages.pages c.args.pages.now in
-    let count : ℕ = g.P.Pages.count c.args.pages.now in
-    let l : ℕ = c.args.level - 1 in
-    let up : c.args.level ≡ suc l = omega arith in
-    let at : ℕ = c.in-Ok.found.at in
-    let w = c.in-Ok.ensures.within in
-    let small : at < count_of c.args.bytes.now = omega arith in
-    let key : ℕ = number c.args.key.now in
-    let low : ℕ = number c.args.low.now in
-    let high : ℕ = upper_of c.args.form.key c.args.high.now in
-    let child : ℕ = c.child_at-child.result in
-    (λ free is tree supplied once damage e.
-    let d = c.read.ensures.damaged damage (c.in-Err-read.is ∙ ap Err (same-fault {T = Grown} _ _ e)) in
-    damage-below form old c.args.bytes.now c.args.level l c.args.page at up is small count damage c.args.least _ low high _ _ child refl refl refl c.child_at-child.ensures
-    (damage-link form old count damage _ l child _ _ d.0 d.1))
-
-pub returns-in-Err-read-clause-damaged : goal.returns-in-Err-read-clause-damaged
-returns-in-Err-read-clause-damaged g t c =
-    let form : Form = c.args.form in
-    let old : PageMap = g.P.Pages.pages c.args.pages.now in
-    let count : ℕ = g.P.Pages.count c.args.pages.now in
-    let l : ℕ = c.args.level - 1 in
-    let up : c.args.level ≡ suc l = omega arith in
-    let at : ℕ = c.in-Ok.found.at in
-    let w = c.in-Ok.ensures.within in
-    let small : at < count_of c.args.bytes.now = omega arith in
-    let key : ℕ = number c.args.key.now in
-    let low : ℕ = number c.args.low.now in
-    let high : ℕ = upper_of c.args.form.key c.args.high.now in
-    let child : ℕ = c.child_at-child.result in
-    (λ before asked told is damage e.
-    let was = c.in-Err-read.is ∙ ap Err (same-fault {T = Grown} _ _ e) in
-    let d = c.read.ensures.damaged damage was in
-    inl (
-      damage-below form old c.args.bytes.now c.args.level l c.args.page at up is small count damage c.args.least _ low high _ _ child refl refl refl c.child_at-child.ensures
-          (damage-link form old count damage _ l child _ _ d.0 d.1),
-      named-read before (g.P.Pages.asked c.args.pages.now) (g.P.Pages.asked c.read.new.self) c.args.page child c.read.result damage asked c.read.ensures.asked was (ap (λ (d : Damage). d.page) d.0),
-    ))
-
-pub returns-in-Err-read-clause-own : goal.returns-in-Err-read-clause-own
-returns-in-Err-read-clause-own g t c = λ before asked told is.
-    let form : Form = c.args.form in
-    let old : PageMap = g.P.Pages.pages c.args.pages.now in
-    let count : ℕ = g.P.Pages.count c.args.pages.now in
-    let l : ℕ = c.args.level - 1 in
-    let up : c.args.level ≡ suc l = omega arith in
-    let at : ℕ = c.in-Ok.found.at in
-    let w = c.in-Ok.ensures.within in
-    let small : at < count_of c.args.bytes.now = omega arith in
-    let key : ℕ = number c.args.key.now in
-    let low : ℕ = number c.args.low.now in
-    let high : ℕ = upper_of c.args.form.key c.args.high.now in
-    let child : ℕ = c.child_at-child.result in
-    let mine : ℕ → ℕ = uses form old c.args.level c.args.page in
-    let here = asks-here mine before _ c.args.page (uses-self form old c.args.level c.args.page) asked in
-    let below = uses-below form old c.args.bytes.now c.args.level l c.args.page at up is small child child c.child_at-child.ensures (uses-self form old l child) in
-    subst (λ (x : List ℕ). AsksOnly mine before x) (sym c.read.ensures.asked) (asks-read mine before _ child c.read.result here below)
+pub returns-in_err-step-clause-own : goal.returns-in_err-step-clause-own
+returns-in_err-step-clause-own g t c = λ before asked told is. c.go_down.ensures.own before asked is
 
 pub put_in-requires : goal.put_in-requires
-put_in-requires g t c = λ κs within. (
-  omega arith,
-  (
-    within,
-    (
-      c.least_at.ensures.some,
+put_in-requires g t c = λ κs within.
+    let step = c.in_ok-step.ensures in (
+      omega arith,
       (
-        c.lower.ensures.length,
+        within,
         (
-          c.upper.ensures.length,
+          c.least_at.ensures.some,
           (
-            c.requires.key,
+            step.top,
             (
-              c.lower.ensures.from (number c.args.key.now) c.in-Ok.ensures.place c.requires.from,
-              (
-                c.upper.ensures.to (number c.args.key.now) c.in-Ok.ensures.place c.requires.to,
-                (c.requires.value, (c.requires.middle, λ u. let f = c.in-Ok-read.ensures.uncounted (subst (λ (n : ℕ). IsUncounted n c.child_at-child.result) c.in-Ok-read.ensures.count u) in cc)),
-              ),
+              c.requires.key,
+              (step.steps.over c.requires.from, (step.steps.under c.requires.to, (c.requires.value, (c.requires.middle, λ u. step.counted (subst (λ (n : ℕ). IsUncounted n c.in_ok-step.step.child) step.frame.count u))))),
             ),
           ),
         ),
       ),
-    ),
-  ),
-)
+    )
 
-pub returns-in_err-grown-in-Ok-read-clause-supplied : goal.returns-in_err-grown-in-Ok-read-clause-supplied
-returns-in_err-grown-in-Ok-read-clause-supplied g t c =
-    let passed = err_from_is_err_and c.from_residual.result c.from_residual.ensures.1 in
+pub returns-in_err-grown-clause-supplied : goal.returns-in_err-grown-clause-supplied
+returns-in_err-grown-clause-supplied g t c =
+    let passed = err_from_is_err_and c.from_residual-in_err-grown.result c.from_residual-in_err-grown.ensures.1 in
     let form : Form = c.args.form in
     let old : PageMap = g.P.Pages.pages c.args.pages.now in
-    let count : ℕ = g.P.Pages.count c.args.pages.now in
     let l : ℕ = c.args.level - 1 in
     let up : c.args.level ≡ suc l = omega arith in
-    let at : ℕ = c.in-Ok.found.at in
-    let w = c.in-Ok.ensures.within in
-    let small : at < count_of c.args.bytes.now = omega arith in
-    let key : ℕ = number c.args.key.now in
-    let low : ℕ = number c.args.low.now in
-    let high : ℕ = upper_of c.args.form.key c.args.high.now in
-    let child : ℕ = c.child_at-child.result in
-    let mid : PageMap = g.P.Pages.pages c.read.new.self in
-    let read = c.in-Ok-read.ensures in
-    let lo : ℕ = number c.lower.result.now in
-    let hi : ℕ = upper_of c.args.form.key c.upper.result.now in
+    let step = c.in_ok-step.ensures in
+    let f = step.frame in
     rw (passed.1, passed.2) (λ free is tree supplied once damage e.
-    let d = c.put_in.ensures.supplied free (mid-bytes form c.args.least old mid count (g.P.Pages.count c.read.new.self) (g.P.Pages.first c.args.pages.now) (g.P.Pages.first c.read.new.self) c.args.level l c.args.page at key child c.least_at.result lo hi low high c.args.value.now c.in-Ok-read.below c.args.bytes.now up is small c.in-Ok.ensures.place c.requires.from c.requires.to c.child_at-child.ensures c.least_at.ensures.is c.lower.ensures.is c.upper.ensures.is read.pages read.count read.first read.gives tree) (mid-tree form c.args.least old mid count (g.P.Pages.count c.read.new.self) (g.P.Pages.first c.args.pages.now) (g.P.Pages.first c.read.new.self) c.args.level l c.args.page at key child c.least_at.result lo hi low high c.args.value.now c.in-Ok-read.below c.args.bytes.now up is small c.in-Ok.ensures.place c.requires.from c.requires.to c.child_at-child.ensures c.least_at.ensures.is c.lower.ensures.is c.upper.ensures.is read.pages read.count read.first read.gives tree) (mid-supplied form c.args.least old mid count (g.P.Pages.count c.read.new.self) (g.P.Pages.first c.args.pages.now) (g.P.Pages.first c.read.new.self) c.args.level l c.args.page at key child c.least_at.result lo hi low high c.args.value.now c.in-Ok-read.below c.args.bytes.now up is small c.in-Ok.ensures.place c.requires.from c.requires.to c.child_at-child.ensures c.least_at.ensures.is c.lower.ensures.is c.upper.ensures.is read.pages read.count read.first read.gives free supplied) (mid-once form c.args.least old mid count (g.P.Pages.count c.read.new.self) (g.P.Pages.first c.args.pages.now) (g.P.Pages.first c.read.new.self) c.args.level l c.args.page at key child c.least_at.result lo hi low high c.args.value.now c.in-Ok-read.below c.args.bytes.now up is small c.in-Ok.ensures.place c.requires.from c.requires.to c.child_at-child.ensures c.least_at.ensures.is c.lower.ensures.is c.upper.ensures.is read.pages read.count read.first read.gives free once) damage (c.in_err-grown-in-Ok-read.was ∙ e) in
-    let d' = subst (λ (n : ℕ). IsDamaged form old n damage c.least_at.result l child lo hi) read.count
-    (subst (λ (p : PageMap). IsDamaged form p (g.P.Pages.count c.read.new.self) damage c.least_at.result l child lo hi) read.pages d) in
-    damage-below form old c.args.bytes.now c.args.level l c.args.page at up is small count damage c.args.least c.least_at.result low high lo hi child c.least_at.ensures.is c.lower.ensures.is c.upper.ensures.is c.child_at-child.ensures d')
+    mid-damage c.args.least old c.args.page l up is step.steps c.requires.from c.requires.to c.least_at.ensures.is f.pages f.count f.first step.gives damage
+    (c.put_in.ensures.supplied free (mid-bytes c.args.least old c.args.page l up is step.steps c.requires.from c.requires.to c.least_at.ensures.is f.pages f.count f.first step.gives tree) (mid-tree c.args.least old c.args.page l up is step.steps c.requires.from c.requires.to c.least_at.ensures.is f.pages f.count f.first step.gives tree) (mid-supplied c.args.least old c.args.page l up is step.steps c.requires.from c.requires.to c.least_at.ensures.is f.pages f.count f.first step.gives free supplied) (mid-once c.args.least old c.args.page l up is step.steps c.requires.from c.requires.to c.least_at.ensures.is f.pages f.count f.first step.gives free once) damage (c.in_err-grown.was ∙ e)))
 
-pub returns-in_err-grown-in-Ok-read-clause-damaged : goal.returns-in_err-grown-in-Ok-read-clause-damaged
-returns-in_err-grown-in-Ok-read-clause-damaged g t c =
-    let passed = err_from_is_err_and c.from_residual.result c.from_residual.ensures.1 in
+pub returns-in_err-grown-clause-damaged : goal.returns-in_err-grown-clause-damaged
+returns-in_err-grown-clause-damaged g t c =
+    let passed = err_from_is_err_and c.from_residual-in_err-grown.result c.from_residual-in_err-grown.ensures.1 in
     let form : Form = c.args.form in
     let old : PageMap = g.P.Pages.pages c.args.pages.now in
-    let count : ℕ = g.P.Pages.count c.args.pages.now in
     let l : ℕ = c.args.level - 1 in
     let up : c.args.level ≡ suc l = omega arith in
-    let at : ℕ = c.in-Ok.found.at in
-    let w = c.in-Ok.ensures.within in
-    let small : at < count_of c.args.bytes.now = omega arith in
-    let key : ℕ = number c.args.key.now in
-    let low : ℕ = number c.args.low.now in
-    let high : ℕ = upper_of c.args.form.key c.args.high.now in
-    let child : ℕ = c.child_at-child.result in
-    let mid : PageMap = g.P.Pages.pages c.read.new.self in
-    let read = c.in-Ok-read.ensures in
-    let lo : ℕ = number c.lower.result.now in
-    let hi : ℕ = upper_of c.args.form.key c.upper.result.now in
+    let step = c.in_ok-step.ensures in
+    let f = step.frame in
     rw (passed.1, passed.2) (λ before asked told is damage e.
-    let bytes = read.gives (told-read old count child told (λ u. let f = read.uncounted u in cc)) in
-    let claim = subst (λ (n : ℕ). AreTold old n → c.in-Ok-read.below ≡ old child → (IsDamaged form old n damage c.least_at.result l child lo hi × AskedSince (g.P.Pages.asked c.args.pages.now) (g.P.Pages.asked c.put_in.new.pages) damage.page) ⊎ IsRefusedTake (g.P.Pages.pages c.put_in.new.pages) (g.P.Pages.count c.put_in.new.pages) (g.P.Pages.first c.put_in.new.pages) damage) read.count
-    (subst (λ (p : PageMap). AreTold p (g.P.Pages.count c.read.new.self) → c.in-Ok-read.below ≡ p child → (IsDamaged form p (g.P.Pages.count c.read.new.self) damage c.least_at.result l child lo hi × AskedSince (g.P.Pages.asked c.args.pages.now) (g.P.Pages.asked c.put_in.new.pages) damage.page) ⊎ IsRefusedTake (g.P.Pages.pages c.put_in.new.pages) (g.P.Pages.count c.put_in.new.pages) (g.P.Pages.first c.put_in.new.pages) damage) read.pages
-    (λ a b. c.put_in.ensures.damaged (g.P.Pages.asked c.args.pages.now) read.asked a b damage (c.in_err-grown-in-Ok-read.was ∙ e))) in
+    let known = mid-told c.args.least old c.args.page l up is step.steps c.requires.from c.requires.to c.least_at.ensures.is f.pages f.count f.first step.gives told step.counted in
     ⊎_elim
     (λ d. inl (
-      damage-below form old c.args.bytes.now c.args.level l c.args.page at up is small count damage c.args.least c.least_at.result low high lo hi child c.least_at.ensures.is c.lower.ensures.is c.upper.ensures.is c.child_at-child.ensures d.0,
+      mid-damage c.args.least old c.args.page l up is step.steps c.requires.from c.requires.to c.least_at.ensures.is f.pages f.count f.first step.gives damage d.0,
       asked-sooner before _ c.args.page damage.page (subst (λ (x : List ℕ). AskedSince x (g.P.Pages.asked c.put_in.new.pages) damage.page) asked d.1),
     ))
-    (λ r. inr r) (claim told bytes))
+    (λ r. inr r) (c.put_in.ensures.damaged (g.P.Pages.asked c.args.pages.now) step.asked known.0 known.1 damage (c.in_err-grown.was ∙ e)))
 
-pub returns-then-right-eq0-clause-grown : goal.returns-then-right-eq0-clause-grown
-returns-then-right-eq0-clause-grown g t c = λ free is tree supplied once.
+pub returns-in_err-grown-clause-own : goal.returns-in_err-grown-clause-own
+returns-in_err-grown-clause-own g t c = λ before asked told is.
     let form : Form = c.args.form in
     let old : PageMap = g.P.Pages.pages c.args.pages.now in
-    let count : ℕ = g.P.Pages.count c.args.pages.now in
     let l : ℕ = c.args.level - 1 in
     let up : c.args.level ≡ suc l = omega arith in
-    let at : ℕ = c.in-Ok.found.at in
-    let w = c.in-Ok.ensures.within in
-    let small : at < count_of c.args.bytes.now = omega arith in
-    let key : ℕ = number c.args.key.now in
-    let low : ℕ = number c.args.low.now in
-    let high : ℕ = upper_of c.args.form.key c.args.high.now in
-    let child : ℕ = c.child_at-child.result in
-    let mid : PageMap = g.P.Pages.pages c.read.new.self in
-    let read = c.in-Ok-read.ensures in
-    let lo : ℕ = number c.lower.result.now in
-    let hi : ℕ = upper_of c.args.form.key c.upper.result.now in
-    let grew = c.in_ok-grown-in-Ok-read.ensures.grown free (mid-bytes form c.args.least old mid count (g.P.Pages.count c.read.new.self) (g.P.Pages.first c.args.pages.now) (g.P.Pages.first c.read.new.self) c.args.level l c.args.page at key child c.least_at.result lo hi low high c.args.value.now c.in-Ok-read.below c.args.bytes.now up is small c.in-Ok.ensures.place c.requires.from c.requires.to c.child_at-child.ensures c.least_at.ensures.is c.lower.ensures.is c.upper.ensures.is read.pages read.count read.first read.gives tree) (mid-tree form c.args.least old mid count (g.P.Pages.count c.read.new.self) (g.P.Pages.first c.args.pages.now) (g.P.Pages.first c.read.new.self) c.args.level l c.args.page at key child c.least_at.result lo hi low high c.args.value.now c.in-Ok-read.below c.args.bytes.now up is small c.in-Ok.ensures.place c.requires.from c.requires.to c.child_at-child.ensures c.least_at.ensures.is c.lower.ensures.is c.upper.ensures.is read.pages read.count read.first read.gives tree) (mid-supplied form c.args.least old mid count (g.P.Pages.count c.read.new.self) (g.P.Pages.first c.args.pages.now) (g.P.Pages.first c.read.new.self) c.args.level l c.args.page at key child c.least_at.result lo hi low high c.args.value.now c.in-Ok-read.below c.args.bytes.now up is small c.in-Ok.ensures.place c.requires.from c.requires.to c.child_at-child.ensures c.least_at.ensures.is c.lower.ensures.is c.upper.ensures.is read.pages read.count read.first read.gives free supplied) (mid-once form c.args.least old mid count (g.P.Pages.count c.read.new.self) (g.P.Pages.first c.args.pages.now) (g.P.Pages.first c.read.new.self) c.args.level l c.args.page at key child c.least_at.result lo hi low high c.args.value.now c.in-Ok-read.below c.args.bytes.now up is small c.in-Ok.ensures.place c.requires.from c.requires.to c.child_at-child.ensures c.least_at.ensures.is c.lower.ensures.is c.upper.ensures.is read.pages read.count read.first read.gives free once) in
-    whole form c.args.least old mid count (g.P.Pages.count c.read.new.self) (g.P.Pages.first c.args.pages.now) (g.P.Pages.first c.read.new.self) c.args.level l c.args.page at key child c.least_at.result lo hi low high c.args.value.now c.in-Ok-read.below c.args.bytes.now up is small c.in-Ok.ensures.place c.requires.from c.requires.to c.child_at-child.ensures c.least_at.ensures.is c.lower.ensures.is c.upper.ensures.is read.pages read.count read.first read.gives free tree once (g.P.Pages.pages c.put_in.new.pages) (g.P.Pages.count c.put_in.new.pages) (g.P.Pages.first c.put_in.new.pages) c.in_ok-grown-in-Ok-read.grown.right (number c.put_in.new.middle) grew c.if-right-eq0.true
+    let step = c.in_ok-step.ensures in
+    let f = step.frame in
+    let known = mid-told c.args.least old c.args.page l up is step.steps c.requires.from c.requires.to c.least_at.ensures.is f.pages f.count f.first step.gives told step.counted in
+    mid-own c.args.least old c.args.page l up is step.steps c.requires.from c.requires.to c.least_at.ensures.is f.pages f.count f.first step.gives before (g.P.Pages.asked c.args.pages.now) _ asked (c.put_in.ensures.own (g.P.Pages.asked c.args.pages.now) step.asked known.0 known.1)
 
-pub returns-then-right-eq0-clause-had : goal.returns-then-right-eq0-clause-had
-returns-then-right-eq0-clause-had g t c = λ is tree.
+pub returns-then-grown-eq0-clause-grown : goal.returns-then-grown-eq0-clause-grown
+returns-then-grown-eq0-clause-grown g t c = λ free is tree supplied once.
     let form : Form = c.args.form in
     let old : PageMap = g.P.Pages.pages c.args.pages.now in
-    let count : ℕ = g.P.Pages.count c.args.pages.now in
     let l : ℕ = c.args.level - 1 in
     let up : c.args.level ≡ suc l = omega arith in
-    let at : ℕ = c.in-Ok.found.at in
-    let w = c.in-Ok.ensures.within in
-    let small : at < count_of c.args.bytes.now = omega arith in
-    let key : ℕ = number c.args.key.now in
-    let low : ℕ = number c.args.low.now in
-    let high : ℕ = upper_of c.args.form.key c.args.high.now in
-    let child : ℕ = c.child_at-child.result in
-    let mid : PageMap = g.P.Pages.pages c.read.new.self in
-    let read = c.in-Ok-read.ensures in
-    let lo : ℕ = number c.lower.result.now in
-    let hi : ℕ = upper_of c.args.form.key c.upper.result.now in
-    let h = c.in_ok-grown-in-Ok-read.ensures.had (mid-bytes form c.args.least old mid count (g.P.Pages.count c.read.new.self) (g.P.Pages.first c.args.pages.now) (g.P.Pages.first c.read.new.self) c.args.level l c.args.page at key child c.least_at.result lo hi low high c.args.value.now c.in-Ok-read.below c.args.bytes.now up is small c.in-Ok.ensures.place c.requires.from c.requires.to c.child_at-child.ensures c.least_at.ensures.is c.lower.ensures.is c.upper.ensures.is read.pages read.count read.first read.gives tree) (mid-tree form c.args.least old mid count (g.P.Pages.count c.read.new.self) (g.P.Pages.first c.args.pages.now) (g.P.Pages.first c.read.new.self) c.args.level l c.args.page at key child c.least_at.result lo hi low high c.args.value.now c.in-Ok-read.below c.args.bytes.now up is small c.in-Ok.ensures.place c.requires.from c.requires.to c.child_at-child.ensures c.least_at.ensures.is c.lower.ensures.is c.upper.ensures.is read.pages read.count read.first read.gives tree) in
-    h ∙ ap (λ (p : PageMap). is_some (lookup key (rows_at form p l child))) read.pages
-    ∙ ap is_some (sym (lookup-below form old c.args.bytes.now c.args.level l c.args.page at up is small c.args.least low high key child c.child_at-child.ensures c.in-Ok.ensures.place c.requires.from c.requires.to tree))
+    let step = c.in_ok-step.ensures in
+    let f = step.frame in
+    let grew = c.in_ok-grown.ensures.grown free (mid-bytes c.args.least old c.args.page l up is step.steps c.requires.from c.requires.to c.least_at.ensures.is f.pages f.count f.first step.gives tree) (mid-tree c.args.least old c.args.page l up is step.steps c.requires.from c.requires.to c.least_at.ensures.is f.pages f.count f.first step.gives tree) (mid-supplied c.args.least old c.args.page l up is step.steps c.requires.from c.requires.to c.least_at.ensures.is f.pages f.count f.first step.gives free supplied) (mid-once c.args.least old c.args.page l up is step.steps c.requires.from c.requires.to c.least_at.ensures.is f.pages f.count f.first step.gives free once) in
+    whole c.args.least old c.args.page l up is step.steps c.requires.from c.requires.to c.least_at.ensures.is f.pages f.count f.first step.gives c.args.value.now free tree once (g.P.Pages.pages c.put_in.new.pages) (g.P.Pages.count c.put_in.new.pages) (g.P.Pages.first c.put_in.new.pages) c.in_ok-grown.grown.right (number c.put_in.new.middle) grew c.if-grown-eq0.true
 
-pub returns-clause-had : goal.returns-clause-had
-returns-clause-had g t c = λ is tree.
+pub returns-then-grown-eq0-clause-had : goal.returns-then-grown-eq0-clause-had
+returns-then-grown-eq0-clause-had g t c = λ is tree.
     let form : Form = c.args.form in
     let old : PageMap = g.P.Pages.pages c.args.pages.now in
-    let count : ℕ = g.P.Pages.count c.args.pages.now in
     let l : ℕ = c.args.level - 1 in
     let up : c.args.level ≡ suc l = omega arith in
-    let at : ℕ = c.in-Ok.found.at in
-    let w = c.in-Ok.ensures.within in
-    let small : at < count_of c.args.bytes.now = omega arith in
-    let key : ℕ = number c.args.key.now in
-    let low : ℕ = number c.args.low.now in
-    let high : ℕ = upper_of c.args.form.key c.args.high.now in
-    let child : ℕ = c.child_at-child.result in
-    let mid : PageMap = g.P.Pages.pages c.read.new.self in
-    let read = c.in-Ok-read.ensures in
-    let lo : ℕ = number c.lower.result.now in
-    let hi : ℕ = upper_of c.args.form.key c.upper.result.now in
-    let h = c.in_ok-grown-in-Ok-read.ensures.had (mid-bytes form c.args.least old mid count (g.P.Pages.count c.read.new.self) (g.P.Pages.first c.args.pages.now) (g.P.Pages.first c.read.new.self) c.args.level l c.args.page at key child c.least_at.result lo hi low high c.args.value.now c.in-Ok-read.below c.args.bytes.now up is small c.in-Ok.ensures.place c.requires.from c.requires.to c.child_at-child.ensures c.least_at.ensures.is c.lower.ensures.is c.upper.ensures.is read.pages read.count read.first read.gives tree) (mid-tree form c.args.least old mid count (g.P.Pages.count c.read.new.self) (g.P.Pages.first c.args.pages.now) (g.P.Pages.first c.read.new.self) c.args.level l c.args.page at key child c.least_at.result lo hi low high c.args.value.now c.in-Ok-read.below c.args.bytes.now up is small c.in-Ok.ensures.place c.requires.from c.requires.to c.child_at-child.ensures c.least_at.ensures.is c.lower.ensures.is c.upper.ensures.is read.pages read.count read.first read.gives tree) in
-    h ∙ ap (λ (p : PageMap). is_some (lookup key (rows_at form p l child))) read.pages
-    ∙ ap is_some (sym (lookup-below form old c.args.bytes.now c.args.level l c.args.page at up is small c.args.least low high key child c.child_at-child.ensures c.in-Ok.ensures.place c.requires.from c.requires.to tree))
+    let step = c.in_ok-step.ensures in
+    let f = step.frame in
+    mid-had c.args.least old c.args.page l up is step.steps c.requires.from c.requires.to c.least_at.ensures.is f.pages f.count f.first step.gives c.in_ok-grown.grown.had tree (c.in_ok-grown.ensures.had (mid-bytes c.args.least old c.args.page l up is step.steps c.requires.from c.requires.to c.least_at.ensures.is f.pages f.count f.first step.gives tree) (mid-tree c.args.least old c.args.page l up is step.steps c.requires.from c.requires.to c.least_at.ensures.is f.pages f.count f.first step.gives tree))
+
+pub returns-then-grown-eq0-clause-kept : goal.returns-then-grown-eq0-clause-kept
+returns-then-grown-eq0-clause-kept g t c = λ told is.
+    let form : Form = c.args.form in
+    let old : PageMap = g.P.Pages.pages c.args.pages.now in
+    let l : ℕ = c.args.level - 1 in
+    let up : c.args.level ≡ suc l = omega arith in
+    let step = c.in_ok-step.ensures in
+    let f = step.frame in
+    let known = mid-told c.args.least old c.args.page l up is step.steps c.requires.from c.requires.to c.least_at.ensures.is f.pages f.count f.first step.gives told step.counted in
+    let kept = mid-kept c.args.least old c.args.page l up is step.steps c.requires.from c.requires.to c.least_at.ensures.is f.pages f.count f.first step.gives _ _ (c.in_ok-grown.ensures.kept known.0 known.1) in
+    subst (λ (k : ℕ). KeepsAbove k old (g.P.Pages.count c.args.pages.now) (g.P.Pages.pages c.put_in.new.pages) (g.P.Pages.count c.put_in.new.pages)) (sym up) (kept-higher l _ _ old _ kept)
+
+pub returns-then-grown-eq0-clause-own : goal.returns-then-grown-eq0-clause-own
+returns-then-grown-eq0-clause-own g t c = λ before asked told is.
+    let form : Form = c.args.form in
+    let old : PageMap = g.P.Pages.pages c.args.pages.now in
+    let l : ℕ = c.args.level - 1 in
+    let up : c.args.level ≡ suc l = omega arith in
+    let step = c.in_ok-step.ensures in
+    let f = step.frame in
+    let known = mid-told c.args.least old c.args.page l up is step.steps c.requires.from c.requires.to c.least_at.ensures.is f.pages f.count f.first step.gives told step.counted in
+    mid-own c.args.least old c.args.page l up is step.steps c.requires.from c.requires.to c.least_at.ensures.is f.pages f.count f.first step.gives before (g.P.Pages.asked c.args.pages.now) _ asked (c.put_in.ensures.own (g.P.Pages.asked c.args.pages.now) step.asked known.0 known.1)
 
 pub returns-in_err-more-clause-supplied : goal.returns-in_err-more-clause-supplied
 returns-in_err-more-clause-supplied g t c =
     let passed = err_from_is_err_and c.from_residual-in_err-more.result c.from_residual-in_err-more.ensures.1 in
     let form : Form = c.args.form in
     let old : PageMap = g.P.Pages.pages c.args.pages.now in
-    let count : ℕ = g.P.Pages.count c.args.pages.now in
     let l : ℕ = c.args.level - 1 in
     let up : c.args.level ≡ suc l = omega arith in
-    let at : ℕ = c.in-Ok.found.at in
-    let w = c.in-Ok.ensures.within in
-    let small : at < count_of c.args.bytes.now = omega arith in
-    let key : ℕ = number c.args.key.now in
-    let low : ℕ = number c.args.low.now in
-    let high : ℕ = upper_of c.args.form.key c.args.high.now in
-    let child : ℕ = c.child_at-child.result in
-    let mid : PageMap = g.P.Pages.pages c.read.new.self in
-    let read = c.in-Ok-read.ensures in
-    let lo : ℕ = number c.lower.result.now in
-    let hi : ℕ = upper_of c.args.form.key c.upper.result.now in
+    let step = c.in_ok-step.ensures in
+    let f = step.frame in
     rw (passed.1, passed.2) (λ free is tree supplied once damage e.
-    let grew = c.in_ok-grown-in-Ok-read.ensures.grown free (mid-bytes form c.args.least old mid count (g.P.Pages.count c.read.new.self) (g.P.Pages.first c.args.pages.now) (g.P.Pages.first c.read.new.self) c.args.level l c.args.page at key child c.least_at.result lo hi low high c.args.value.now c.in-Ok-read.below c.args.bytes.now up is small c.in-Ok.ensures.place c.requires.from c.requires.to c.child_at-child.ensures c.least_at.ensures.is c.lower.ensures.is c.upper.ensures.is read.pages read.count read.first read.gives tree) (mid-tree form c.args.least old mid count (g.P.Pages.count c.read.new.self) (g.P.Pages.first c.args.pages.now) (g.P.Pages.first c.read.new.self) c.args.level l c.args.page at key child c.least_at.result lo hi low high c.args.value.now c.in-Ok-read.below c.args.bytes.now up is small c.in-Ok.ensures.place c.requires.from c.requires.to c.child_at-child.ensures c.least_at.ensures.is c.lower.ensures.is c.upper.ensures.is read.pages read.count read.first read.gives tree) (mid-supplied form c.args.least old mid count (g.P.Pages.count c.read.new.self) (g.P.Pages.first c.args.pages.now) (g.P.Pages.first c.read.new.self) c.args.level l c.args.page at key child c.least_at.result lo hi low high c.args.value.now c.in-Ok-read.below c.args.bytes.now up is small c.in-Ok.ensures.place c.requires.from c.requires.to c.child_at-child.ensures c.least_at.ensures.is c.lower.ensures.is c.upper.ensures.is read.pages read.count read.first read.gives free supplied) (mid-once form c.args.least old mid count (g.P.Pages.count c.read.new.self) (g.P.Pages.first c.args.pages.now) (g.P.Pages.first c.read.new.self) c.args.level l c.args.page at key child c.least_at.result lo hi low high c.args.value.now c.in-Ok-read.below c.args.bytes.now up is small c.in-Ok.ensures.place c.requires.from c.requires.to c.child_at-child.ensures c.least_at.ensures.is c.lower.ensures.is c.upper.ensures.is read.pages read.count read.first read.gives free once) in
-    let k = to-be-linked form c.args.least old mid count (g.P.Pages.count c.read.new.self) (g.P.Pages.first c.args.pages.now) (g.P.Pages.first c.read.new.self) c.args.level l c.args.page at key child c.least_at.result lo hi low high c.args.value.now c.in-Ok-read.below c.args.bytes.now up is small c.in-Ok.ensures.place c.requires.from c.requires.to c.child_at-child.ensures c.least_at.ensures.is c.lower.ensures.is c.upper.ensures.is read.pages read.count read.first read.gives free tree once (g.P.Pages.pages c.put_in.new.pages) (g.P.Pages.count c.put_in.new.pages) (g.P.Pages.first c.put_in.new.pages) c.in_ok-grown-in-Ok-read.grown.right (number c.put_in.new.middle) grew (omega arith) in
-    absurd (c.link.ensures.honest k.free_now k.supplied damage (c.in_err-more.was ∙ ap Err (same-fault {T = Grown} _ _ e))))
+    let grew = c.in_ok-grown.ensures.grown free (mid-bytes c.args.least old c.args.page l up is step.steps c.requires.from c.requires.to c.least_at.ensures.is f.pages f.count f.first step.gives tree) (mid-tree c.args.least old c.args.page l up is step.steps c.requires.from c.requires.to c.least_at.ensures.is f.pages f.count f.first step.gives tree) (mid-supplied c.args.least old c.args.page l up is step.steps c.requires.from c.requires.to c.least_at.ensures.is f.pages f.count f.first step.gives free supplied) (mid-once c.args.least old c.args.page l up is step.steps c.requires.from c.requires.to c.least_at.ensures.is f.pages f.count f.first step.gives free once) in
+    let same = stayed c.args.least old c.args.page l up is step.steps c.requires.from c.requires.to c.least_at.ensures.is f.pages f.count f.first step.gives c.args.value.now free tree once (g.P.Pages.pages c.put_in.new.pages) (g.P.Pages.count c.put_in.new.pages) (g.P.Pages.first c.put_in.new.pages) c.in_ok-grown.grown.right (number c.put_in.new.middle) grew in
+    let k = to-be-linked c.args.least old c.args.page l up is step.steps c.requires.from c.requires.to c.least_at.ensures.is f.pages f.count f.first step.gives c.args.value.now free tree once (g.P.Pages.pages c.put_in.new.pages) (g.P.Pages.count c.put_in.new.pages) (g.P.Pages.first c.put_in.new.pages) c.in_ok-grown.grown.right (number c.put_in.new.middle) grew (omega arith) in
+    absurd (c.relink.ensures.honest k.free_now (subst (IsInner form c.args.least (suc l)) (sym same) k.inner) (subst (λ (b : List ℕ). c.in_ok-step.step.at < count_of b) (is ∙ sym same) step.steps.within) k.supplied damage
+    (c.in_err-more.was ∙ ap Err (same-fault {T = Grown} _ _ e))))
 
 pub returns-in_err-more-clause-damaged : goal.returns-in_err-more-clause-damaged
 returns-in_err-more-clause-damaged g t c =
     let passed = err_from_is_err_and c.from_residual-in_err-more.result c.from_residual-in_err-more.ensures.1 in
-    rw (passed.1, passed.2) (λ before asked told is damage e. inr (c.link.ensures.damaged damage (c.in_err-more.was ∙ ap Err (same-fault {T = Grown} _ _ e))))
-
-pub returns-clause-grown : goal.returns-clause-grown
-returns-clause-grown g t c = λ free is tree supplied once.
     let form : Form = c.args.form in
     let old : PageMap = g.P.Pages.pages c.args.pages.now in
-    let count : ℕ = g.P.Pages.count c.args.pages.now in
     let l : ℕ = c.args.level - 1 in
     let up : c.args.level ≡ suc l = omega arith in
-    let at : ℕ = c.in-Ok.found.at in
-    let w = c.in-Ok.ensures.within in
-    let small : at < count_of c.args.bytes.now = omega arith in
-    let key : ℕ = number c.args.key.now in
-    let low : ℕ = number c.args.low.now in
-    let high : ℕ = upper_of c.args.form.key c.args.high.now in
-    let child : ℕ = c.child_at-child.result in
-    let mid : PageMap = g.P.Pages.pages c.read.new.self in
-    let read = c.in-Ok-read.ensures in
-    let lo : ℕ = number c.lower.result.now in
-    let hi : ℕ = upper_of c.args.form.key c.upper.result.now in
-    let grew = c.in_ok-grown-in-Ok-read.ensures.grown free (mid-bytes form c.args.least old mid count (g.P.Pages.count c.read.new.self) (g.P.Pages.first c.args.pages.now) (g.P.Pages.first c.read.new.self) c.args.level l c.args.page at key child c.least_at.result lo hi low high c.args.value.now c.in-Ok-read.below c.args.bytes.now up is small c.in-Ok.ensures.place c.requires.from c.requires.to c.child_at-child.ensures c.least_at.ensures.is c.lower.ensures.is c.upper.ensures.is read.pages read.count read.first read.gives tree) (mid-tree form c.args.least old mid count (g.P.Pages.count c.read.new.self) (g.P.Pages.first c.args.pages.now) (g.P.Pages.first c.read.new.self) c.args.level l c.args.page at key child c.least_at.result lo hi low high c.args.value.now c.in-Ok-read.below c.args.bytes.now up is small c.in-Ok.ensures.place c.requires.from c.requires.to c.child_at-child.ensures c.least_at.ensures.is c.lower.ensures.is c.upper.ensures.is read.pages read.count read.first read.gives tree) (mid-supplied form c.args.least old mid count (g.P.Pages.count c.read.new.self) (g.P.Pages.first c.args.pages.now) (g.P.Pages.first c.read.new.self) c.args.level l c.args.page at key child c.least_at.result lo hi low high c.args.value.now c.in-Ok-read.below c.args.bytes.now up is small c.in-Ok.ensures.place c.requires.from c.requires.to c.child_at-child.ensures c.least_at.ensures.is c.lower.ensures.is c.upper.ensures.is read.pages read.count read.first read.gives free supplied) (mid-once form c.args.least old mid count (g.P.Pages.count c.read.new.self) (g.P.Pages.first c.args.pages.now) (g.P.Pages.first c.read.new.self) c.args.level l c.args.page at key child c.least_at.result lo hi low high c.args.value.now c.in-Ok-read.below c.args.bytes.now up is small c.in-Ok.ensures.place c.requires.from c.requires.to c.child_at-child.ensures c.least_at.ensures.is c.lower.ensures.is c.upper.ensures.is read.pages read.count read.first read.gives free once) in
-    let k = to-be-linked form c.args.least old mid count (g.P.Pages.count c.read.new.self) (g.P.Pages.first c.args.pages.now) (g.P.Pages.first c.read.new.self) c.args.level l c.args.page at key child c.least_at.result lo hi low high c.args.value.now c.in-Ok-read.below c.args.bytes.now up is small c.in-Ok.ensures.place c.requires.from c.requires.to c.child_at-child.ensures c.least_at.ensures.is c.lower.ensures.is c.upper.ensures.is read.pages read.count read.first read.gives free tree once (g.P.Pages.pages c.put_in.new.pages) (g.P.Pages.count c.put_in.new.pages) (g.P.Pages.first c.put_in.new.pages) c.in_ok-grown-in-Ok-read.grown.right (number c.put_in.new.middle) grew (omega arith) in
-    let last : PageMap = g.P.Pages.pages c.link.new.pages in
-    let claim = subst (LinkClaim form c.args.least (g.P.Pages.pages c.put_in.new.pages) (g.P.Pages.count c.put_in.new.pages) (g.P.Pages.first c.put_in.new.pages) k.free_now l c.args.page low high at c.in_ok-grown-in-Ok-read.grown.right (number c.put_in.new.middle) last (g.P.Pages.count c.link.new.pages) (g.P.Pages.first c.link.new.pages) (number c.link.new.middle) (Ok c.in_ok-more.more))
-    is (c.in_ok-more.ensures.grown low high k.free_now) in
-    let made = k.then_grown last (g.P.Pages.count c.link.new.pages) (g.P.Pages.first c.link.new.pages) c.in_ok-more.more (number c.link.new.middle) (claim k.inner k.fan k.supplied k.once_more) in
-    subst (λ (x : ℕ). IsGrown form c.args.least (view old count (g.P.Pages.first c.args.pages.now) free) (uses form old x c.args.page) last (g.P.Pages.count c.link.new.pages) (g.P.Pages.first c.link.new.pages) x c.args.page low high (put key c.args.value.now (rows_at form old x c.args.page)) c.in_ok-more.more (number c.link.new.middle)) (sym up) made
-
-pub returns-in_err-grown-in-Ok-read-clause-own : goal.returns-in_err-grown-in-Ok-read-clause-own
-returns-in_err-grown-in-Ok-read-clause-own g t c = λ before asked told is.
-    let form : Form = c.args.form in
-    let old : PageMap = g.P.Pages.pages c.args.pages.now in
-    let count : ℕ = g.P.Pages.count c.args.pages.now in
-    let l : ℕ = c.args.level - 1 in
-    let up : c.args.level ≡ suc l = omega arith in
-    let at : ℕ = c.in-Ok.found.at in
-    let w = c.in-Ok.ensures.within in
-    let small : at < count_of c.args.bytes.now = omega arith in
-    let key : ℕ = number c.args.key.now in
-    let low : ℕ = number c.args.low.now in
-    let high : ℕ = upper_of c.args.form.key c.args.high.now in
-    let child : ℕ = c.child_at-child.result in
-    let mid : PageMap = g.P.Pages.pages c.read.new.self in
-    let read = c.in-Ok-read.ensures in
-    let lo : ℕ = number c.lower.result.now in
-    let hi : ℕ = upper_of c.args.form.key c.upper.result.now in
-    let mine : ℕ → ℕ = uses form old c.args.level c.args.page in
-    let last : List ℕ = g.P.Pages.asked c.put_in.new.pages in
-    let bytes = read.gives (told-read old count child told (λ u. let f = read.uncounted u in cc)) in
-    let claim = subst (λ (n : ℕ). AreTold old n → c.in-Ok-read.below ≡ old child → AsksOnly (uses form old l child) (g.P.Pages.asked c.args.pages.now) last) read.count
-    (subst (λ (p : PageMap). AreTold p (g.P.Pages.count c.read.new.self) → c.in-Ok-read.below ≡ p child → AsksOnly (uses form p l child) (g.P.Pages.asked c.args.pages.now) last) read.pages
-    (c.put_in.ensures.own (g.P.Pages.asked c.args.pages.now) read.asked)) in
-    let here = asks-here mine before (g.P.Pages.asked c.args.pages.now) c.args.page (uses-self form old c.args.level c.args.page) asked in
-    (asks-further mine before (g.P.Pages.asked c.args.pages.now) last here
-    (asks-more (uses form old l child) mine (g.P.Pages.asked c.args.pages.now) last
-    (λ n h. uses-below form old c.args.bytes.now c.args.level l c.args.page at up is small child n c.child_at-child.ensures h) (claim told bytes)))
-
-pub returns-then-right-eq0-clause-own : goal.returns-then-right-eq0-clause-own
-returns-then-right-eq0-clause-own g t c = λ before asked told is.
-    let form : Form = c.args.form in
-    let old : PageMap = g.P.Pages.pages c.args.pages.now in
-    let count : ℕ = g.P.Pages.count c.args.pages.now in
-    let l : ℕ = c.args.level - 1 in
-    let up : c.args.level ≡ suc l = omega arith in
-    let at : ℕ = c.in-Ok.found.at in
-    let w = c.in-Ok.ensures.within in
-    let small : at < count_of c.args.bytes.now = omega arith in
-    let key : ℕ = number c.args.key.now in
-    let low : ℕ = number c.args.low.now in
-    let high : ℕ = upper_of c.args.form.key c.args.high.now in
-    let child : ℕ = c.child_at-child.result in
-    let mid : PageMap = g.P.Pages.pages c.read.new.self in
-    let read = c.in-Ok-read.ensures in
-    let lo : ℕ = number c.lower.result.now in
-    let hi : ℕ = upper_of c.args.form.key c.upper.result.now in
-    let mine : ℕ → ℕ = uses form old c.args.level c.args.page in
-    let last : List ℕ = g.P.Pages.asked c.put_in.new.pages in
-    let bytes = read.gives (told-read old count child told (λ u. let f = read.uncounted u in cc)) in
-    let claim = subst (λ (n : ℕ). AreTold old n → c.in-Ok-read.below ≡ old child → AsksOnly (uses form old l child) (g.P.Pages.asked c.args.pages.now) last) read.count
-    (subst (λ (p : PageMap). AreTold p (g.P.Pages.count c.read.new.self) → c.in-Ok-read.below ≡ p child → AsksOnly (uses form p l child) (g.P.Pages.asked c.args.pages.now) last) read.pages
-    (c.put_in.ensures.own (g.P.Pages.asked c.args.pages.now) read.asked)) in
-    let here = asks-here mine before (g.P.Pages.asked c.args.pages.now) c.args.page (uses-self form old c.args.level c.args.page) asked in
-    (asks-further mine before (g.P.Pages.asked c.args.pages.now) last here
-    (asks-more (uses form old l child) mine (g.P.Pages.asked c.args.pages.now) last
-    (λ n h. uses-below form old c.args.bytes.now c.args.level l c.args.page at up is small child n c.child_at-child.ensures h) (claim told bytes)))
+    let step = c.in_ok-step.ensures in
+    let f = step.frame in
+    rw (passed.1, passed.2) (λ before asked told is damage e.
+    let known = mid-told c.args.least old c.args.page l up is step.steps c.requires.from c.requires.to c.least_at.ensures.is f.pages f.count f.first step.gives told step.counted in
+    let kept = mid-kept c.args.least old c.args.page l up is step.steps c.requires.from c.requires.to c.least_at.ensures.is f.pages f.count f.first step.gives _ _ (c.in_ok-grown.ensures.kept known.0 known.1) in
+    let inner = subst (λ (k : ℕ). IsInner form c.args.least k (g.P.Pages.looked c.args.pages.now)) up step.sound in
+    let same = page-kept form c.args.least l c.args.page (g.P.Pages.count c.args.pages.now) _ (g.P.Pages.looked c.args.pages.now) old _ is inner (counted-below _ _ c.requires.counted) kept in
+    inr (c.relink.ensures.damaged (subst (IsInner form c.args.least (suc l)) (sym same) inner) (subst (λ (b : List ℕ). c.in_ok-step.step.at < count_of b) (sym same) step.steps.within) damage
+    (c.in_err-more.was ∙ ap Err (same-fault {T = Grown} _ _ e))))
 
 pub returns-in_err-more-clause-own : goal.returns-in_err-more-clause-own
 returns-in_err-more-clause-own g t c = λ before asked told is.
     let form : Form = c.args.form in
     let old : PageMap = g.P.Pages.pages c.args.pages.now in
-    let count : ℕ = g.P.Pages.count c.args.pages.now in
     let l : ℕ = c.args.level - 1 in
     let up : c.args.level ≡ suc l = omega arith in
-    let at : ℕ = c.in-Ok.found.at in
-    let w = c.in-Ok.ensures.within in
-    let small : at < count_of c.args.bytes.now = omega arith in
-    let key : ℕ = number c.args.key.now in
-    let low : ℕ = number c.args.low.now in
-    let high : ℕ = upper_of c.args.form.key c.args.high.now in
-    let child : ℕ = c.child_at-child.result in
-    let mid : PageMap = g.P.Pages.pages c.read.new.self in
-    let read = c.in-Ok-read.ensures in
-    let lo : ℕ = number c.lower.result.now in
-    let hi : ℕ = upper_of c.args.form.key c.upper.result.now in
+    let step = c.in_ok-step.ensures in
+    let f = step.frame in
+    let known = mid-told c.args.least old c.args.page l up is step.steps c.requires.from c.requires.to c.least_at.ensures.is f.pages f.count f.first step.gives told step.counted in
     let mine : ℕ → ℕ = uses form old c.args.level c.args.page in
-    let last : List ℕ = g.P.Pages.asked c.put_in.new.pages in
-    let bytes = read.gives (told-read old count child told (λ u. let f = read.uncounted u in cc)) in
-    let claim = subst (λ (n : ℕ). AreTold old n → c.in-Ok-read.below ≡ old child → AsksOnly (uses form old l child) (g.P.Pages.asked c.args.pages.now) last) read.count
-    (subst (λ (p : PageMap). AreTold p (g.P.Pages.count c.read.new.self) → c.in-Ok-read.below ≡ p child → AsksOnly (uses form p l child) (g.P.Pages.asked c.args.pages.now) last) read.pages
-    (c.put_in.ensures.own (g.P.Pages.asked c.args.pages.now) read.asked)) in
-    let here = asks-here mine before (g.P.Pages.asked c.args.pages.now) c.args.page (uses-self form old c.args.level c.args.page) asked in
-    subst (λ (x : List ℕ). AsksOnly mine before x) (sym c.link.ensures.asked) (asks-further mine before (g.P.Pages.asked c.args.pages.now) last here
-    (asks-more (uses form old l child) mine (g.P.Pages.asked c.args.pages.now) last
-    (λ n h. uses-below form old c.args.bytes.now c.args.level l c.args.page at up is small child n c.child_at-child.ensures h) (claim told bytes)))
+    asks-further mine before _ _ (mid-own c.args.least old c.args.page l up is step.steps c.requires.from c.requires.to c.least_at.ensures.is f.pages f.count f.first step.gives before (g.P.Pages.asked c.args.pages.now) _ asked (c.put_in.ensures.own (g.P.Pages.asked c.args.pages.now) step.asked known.0 known.1))
+    (c.relink.ensures.own mine (uses-self form old c.args.level c.args.page))
+
+pub returns-clause-grown : goal.returns-clause-grown
+returns-clause-grown g t c = λ free is tree supplied once.
+    let form : Form = c.args.form in
+    let old : PageMap = g.P.Pages.pages c.args.pages.now in
+    let l : ℕ = c.args.level - 1 in
+    let up : c.args.level ≡ suc l = omega arith in
+    let step = c.in_ok-step.ensures in
+    let f = step.frame in
+    let grew = c.in_ok-grown.ensures.grown free (mid-bytes c.args.least old c.args.page l up is step.steps c.requires.from c.requires.to c.least_at.ensures.is f.pages f.count f.first step.gives tree) (mid-tree c.args.least old c.args.page l up is step.steps c.requires.from c.requires.to c.least_at.ensures.is f.pages f.count f.first step.gives tree) (mid-supplied c.args.least old c.args.page l up is step.steps c.requires.from c.requires.to c.least_at.ensures.is f.pages f.count f.first step.gives free supplied) (mid-once c.args.least old c.args.page l up is step.steps c.requires.from c.requires.to c.least_at.ensures.is f.pages f.count f.first step.gives free once) in
+    let same = stayed c.args.least old c.args.page l up is step.steps c.requires.from c.requires.to c.least_at.ensures.is f.pages f.count f.first step.gives c.args.value.now free tree once (g.P.Pages.pages c.put_in.new.pages) (g.P.Pages.count c.put_in.new.pages) (g.P.Pages.first c.put_in.new.pages) c.in_ok-grown.grown.right (number c.put_in.new.middle) grew in
+    let k = to-be-linked c.args.least old c.args.page l up is step.steps c.requires.from c.requires.to c.least_at.ensures.is f.pages f.count f.first step.gives c.args.value.now free tree once (g.P.Pages.pages c.put_in.new.pages) (g.P.Pages.count c.put_in.new.pages) (g.P.Pages.first c.put_in.new.pages) c.in_ok-grown.grown.right (number c.put_in.new.middle) grew (omega arith) in
+    let last : PageMap = g.P.Pages.pages c.relink.new.pages in
+    let low : ℕ = low_of form c.args.bounds.now in
+    let high : ℕ = high_of form c.args.bounds.now in
+    let made = k.then_grown last (g.P.Pages.count c.relink.new.pages) (g.P.Pages.first c.relink.new.pages) c.in_ok-more.more (number c.relink.new.middle)
+    (c.in_ok-more.ensures.grown (old c.args.page) low high k.free_now same k.inner (subst (λ (b : List ℕ). c.in_ok-step.step.at < count_of b) is step.steps.within) k.fan k.supplied k.once_more) in
+    subst (λ (x : ℕ). IsGrown form c.args.least (view old (g.P.Pages.count c.args.pages.now) (g.P.Pages.first c.args.pages.now) free) (uses form old x c.args.page) last (g.P.Pages.count c.relink.new.pages) (g.P.Pages.first c.relink.new.pages) x c.args.page low high (put (number c.args.key.now) c.args.value.now (rows_at form old x c.args.page)) c.in_ok-more.more (number c.relink.new.middle)) (sym up) made
+
+pub returns-clause-had : goal.returns-clause-had
+returns-clause-had g t c = λ is tree.
+    let form : Form = c.args.form in
+    let old : PageMap = g.P.Pages.pages c.args.pages.now in
+    let l : ℕ = c.args.level - 1 in
+    let up : c.args.level ≡ suc l = omega arith in
+    let step = c.in_ok-step.ensures in
+    let f = step.frame in
+    mid-had c.args.least old c.args.page l up is step.steps c.requires.from c.requires.to c.least_at.ensures.is f.pages f.count f.first step.gives c.in_ok-grown.grown.had tree (c.in_ok-grown.ensures.had (mid-bytes c.args.least old c.args.page l up is step.steps c.requires.from c.requires.to c.least_at.ensures.is f.pages f.count f.first step.gives tree) (mid-tree c.args.least old c.args.page l up is step.steps c.requires.from c.requires.to c.least_at.ensures.is f.pages f.count f.first step.gives tree))
+
+pub returns-clause-kept : goal.returns-clause-kept
+returns-clause-kept g t c = λ told is.
+    let form : Form = c.args.form in
+    let old : PageMap = g.P.Pages.pages c.args.pages.now in
+    let l : ℕ = c.args.level - 1 in
+    let up : c.args.level ≡ suc l = omega arith in
+    let step = c.in_ok-step.ensures in
+    let f = step.frame in
+    let known = mid-told c.args.least old c.args.page l up is step.steps c.requires.from c.requires.to c.least_at.ensures.is f.pages f.count f.first step.gives told step.counted in
+    let below = c.in_ok-grown.ensures.kept known.0 known.1 in
+    let kept = mid-kept c.args.least old c.args.page l up is step.steps c.requires.from c.requires.to c.least_at.ensures.is f.pages f.count f.first step.gives _ _ below in
+    let inner = subst (λ (k : ℕ). IsInner form c.args.least k (g.P.Pages.looked c.args.pages.now)) up step.sound in
+    let m = c.put_in.ensures.frame.count in
+    let e = f.count in
+    subst (λ (k : ℕ). KeepsAbove k old (g.P.Pages.count c.args.pages.now) (g.P.Pages.pages c.relink.new.pages) (g.P.Pages.count c.relink.new.pages)) (sym up)
+    (inner-keeps form c.args.least l c.args.page (g.P.Pages.count c.args.pages.now) (g.P.Pages.count c.put_in.new.pages) _ (g.P.Pages.looked c.args.pages.now) old (g.P.Pages.pages c.put_in.new.pages) _ is inner (omega arith) kept (c.in_ok-more.ensures.kept below.told))
 
 pub returns-clause-own : goal.returns-clause-own
 returns-clause-own g t c = λ before asked told is.
     let form : Form = c.args.form in
     let old : PageMap = g.P.Pages.pages c.args.pages.now in
-    let count : ℕ = g.P.Pages.count c.args.pages.now in
     let l : ℕ = c.args.level - 1 in
     let up : c.args.level ≡ suc l = omega arith in
-    let at : ℕ = c.in-Ok.found.at in
-    let w = c.in-Ok.ensures.within in
-    let small : at < count_of c.args.bytes.now = omega arith in
-    let key : ℕ = number c.args.key.now in
-    let low : ℕ = number c.args.low.now in
-    let high : ℕ = upper_of c.args.form.key c.args.high.now in
-    let child : ℕ = c.child_at-child.result in
-    let mid : PageMap = g.P.Pages.pages c.read.new.self in
-    let read = c.in-Ok-read.ensures in
-    let lo : ℕ = number c.lower.result.now in
-    let hi : ℕ = upper_of c.args.form.key c.upper.result.now in
+    let step = c.in_ok-step.ensures in
+    let f = step.frame in
+    let known = mid-told c.args.least old c.args.page l up is step.steps c.requires.from c.requires.to c.least_at.ensures.is f.pages f.count f.first step.gives told step.counted in
     let mine : ℕ → ℕ = uses form old c.args.level c.args.page in
-    let last : List ℕ = g.P.Pages.asked c.put_in.new.pages in
-    let bytes = read.gives (told-read old count child told (λ u. let f = read.uncounted u in cc)) in
-    let claim = subst (λ (n : ℕ). AreTold old n → c.in-Ok-read.below ≡ old child → AsksOnly (uses form old l child) (g.P.Pages.asked c.args.pages.now) last) read.count
-    (subst (λ (p : PageMap). AreTold p (g.P.Pages.count c.read.new.self) → c.in-Ok-read.below ≡ p child → AsksOnly (uses form p l child) (g.P.Pages.asked c.args.pages.now) last) read.pages
-    (c.put_in.ensures.own (g.P.Pages.asked c.args.pages.now) read.asked)) in
-    let here = asks-here mine before (g.P.Pages.asked c.args.pages.now) c.args.page (uses-self form old c.args.level c.args.page) asked in
-    subst (λ (x : List ℕ). AsksOnly mine before x) (sym c.link.ensures.asked) (asks-further mine before (g.P.Pages.asked c.args.pages.now) last here
-    (asks-more (uses form old l child) mine (g.P.Pages.asked c.args.pages.now) last
-    (λ n h. uses-below form old c.args.bytes.now c.args.level l c.args.page at up is small child n c.child_at-child.ensures h) (claim told bytes)))
+    asks-further mine before _ _ (mid-own c.args.least old c.args.page l up is step.steps c.requires.from c.requires.to c.least_at.ensures.is f.pages f.count f.first step.gives before (g.P.Pages.asked c.args.pages.now) _ asked (c.put_in.ensures.own (g.P.Pages.asked c.args.pages.now) step.asked known.0 known.1))
+    (c.relink.ensures.own mine (uses-self form old c.args.level c.args.page))
+
+pub returns-then-grown-eq0-clause-frame : goal.returns-then-grown-eq0-clause-frame
+returns-then-grown-eq0-clause-frame g t c = changes_then g.P.Pages g.met.P.Pages.goes_further _ _ _ (reads_change g.P.Pages _ _ c.in_ok-step.ensures.frame) c.put_in.ensures.frame
+
+pub returns-in_err-more-clause-frame : goal.returns-in_err-more-clause-frame
+returns-in_err-more-clause-frame g t c =
+    changes_then g.P.Pages g.met.P.Pages.goes_further _ _ _ (changes_then g.P.Pages g.met.P.Pages.goes_further _ _ _ (reads_change g.P.Pages _ _ c.in_ok-step.ensures.frame) c.put_in.ensures.frame) c.relink.ensures.frame
+
+pub returns-clause-frame : goal.returns-clause-frame
+returns-clause-frame g t c =
+    changes_then g.P.Pages g.met.P.Pages.goes_further _ _ _ (changes_then g.P.Pages g.met.P.Pages.goes_further _ _ _ (reads_change g.P.Pages _ _ c.in_ok-step.ensures.frame) c.put_in.ensures.frame) c.relink.ensures.frame
