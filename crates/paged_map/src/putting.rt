@@ -10,7 +10,6 @@ ghost use Rattle.btree_nodes.specs.Damages.{IsRefusedTake, AreTold, AskedSince, 
 ghost use Rattle.paged_map.specs.Maps.{IsKept, HasBecome, IsMapDamaged};
 
 use crate::editing::{cut_of, has_room, spot_of, write_leaf};
-use crate::layout::least_key;
 use btree_insert::{grow_root, put_in};
 use btree_nodes::{Form, level, root_least};
 use btree_search::{Bounds, locate};
@@ -30,8 +29,11 @@ pub struct Rooted {
 
 /// Puts a row into a map that has a root. `middle` is room for a key.
 ///
-/// Refuses the rule that a page breaks in its place, and what a `take` refuses. A root of level 255 that would have to
-/// be split is refused as `Memory`; a well-formed map has none, since it would have more pages than there are numbers.
+/// Refuses with `Damaged` and the rule that a page breaks in its place, and as a `take` is refused. A root of level 255 that would
+/// have to be split is refused with `Memory`; a well-formed map has none, since it would have more pages than there are numbers.
+///
+/// Looks at one page for each level, and once more at each page whose child was split. Writes one page, or two for each page that is
+/// split, for which it takes one, and one for a new root.
 pub fn put_below<P: Pages>(
     pages: &mut P,
     form: Form,
@@ -64,28 +66,24 @@ pub fn put_below<P: Pages>(
     ensures goes_on { P.is_stopped pages.new ≡ P.is_stopped pages.old }
     ensures follows { P.follows_from pages.old pages.new }
 {
-    let (level, grown) = match pages.read(root) {
-        Ok(bytes) => {
-            let level = level(&bytes);
-            let grown = put_in(
-                pages,
-                form,
-                root_least(level),
-                root,
-                &bytes,
-                level,
-                least_key(form),
-                &[],
-                key,
-                value,
-                middle,
-            )?;
-            (level, grown)
-        }
+    match pages.look(root) {
+        Ok(()) => {}
         Err(fault) => return Err(fault),
-    };
-    let right = grown.right;
-    if right == 0 {
+    }
+    let level = level(pages.looked());
+    let mut bounds = Bounds::all();
+    let grown = put_in(
+        pages,
+        form,
+        root_least(level),
+        root,
+        level,
+        &mut bounds,
+        key,
+        value,
+        middle,
+    )?;
+    if grown.right == 0 {
         return Ok(Rooted {
             root,
             had: grown.had,
@@ -94,7 +92,7 @@ pub fn put_below<P: Pages>(
     if level == LAST {
         return Err(PageFault::Memory);
     }
-    let top = grow_root(pages, form, level, root, middle, right)?;
+    let top = grow_root(pages, form, level, root, middle, grown.right)?;
     Ok(Rooted {
         root: top,
         had: grown.had,
