@@ -87,7 +87,9 @@ fn step_from<P: Pages>(
 /// `bounds`.
 ///
 /// Refuses `Damaged` with the rule that the page breaks between its bounds, or with `Link` at the child; `Disk`; `Stopped`;
-/// `Memory`. Looks at one page, and copies none.
+/// `Memory`. Looks at one page, and copies none. It has a frame of its own, so that no level of a put holds what it copies of the
+/// bounds.
+#[inline(never)]
 pub fn go_down<P: Pages>(
     pages: &mut P,
     form: Form,
