@@ -4,3 +4,4 @@ pub mod Edits
 pub mod Rows
 pub mod Maps
 pub mod Removes
+pub mod Spots

@@ -1,6 +1,7 @@
 //! A row that is looked for in a map by its root.
-ghost use Rattle.std.specs.Prelude.{◌≡◌, ℕ, ◌+◌, ◌*◌, ◌^◌, ◌<◌, ◌≤◌, List, length, take, drop, IfOk, IsErrOf, Some, None, true, if◌then◌else◌};
+ghost use Rattle.std.specs.Prelude.{◌≡◌, ℕ, ◌+◌, ◌*◌, ◌^◌, ◌<◌, ◌≤◌, List, length, take, drop, IfOk, IfSome, IsErrOf, Some, None, is_some, true, if◌then◌else◌};
 ghost use Rattle.page_face.specs.Calls.{Reads, FailsReading};
+ghost use Rattle.page_face.specs.Causes.{IsUncounted};
 ghost use Rattle.page_face.specs.Nodes.{count_of};
 ghost use Rattle.page_face.specs.Number.{number};
 ghost use Rattle.btree_nodes.specs.Rows.{IsWithin, lookup, first_from};
@@ -10,12 +11,39 @@ ghost use Rattle.btree_nodes.specs.Damages.{AreTold, AskedSince, AsksOnly};
 ghost use Rattle.btree_search.specs.Steps.{high_of};
 ghost use Rattle.paged_map.specs.Answers.{HoldsRow, Locates, LocatesOr};
 ghost use Rattle.paged_map.specs.Maps.{IsMapDamaged};
+ghost use Rattle.paged_map.specs.Spots.{IsRowAt, IsSpot, leaf_of};
 
+use crate::editing::spot_of;
+use crate::replacing::RowSpot;
 use btree_nodes::{Form, key_of, place};
-use btree_search::{Bounds, locate, row_in};
+use btree_search::{Bounds, Leaf, locate};
 use page_face::{Damage, Page, PageFault, Pages};
 
-/// Returns the page of the leaf that holds the row at a key in a map that has a root, and leaves the row's value in `value`.
+// Where a leaf has the row at a key, if it has one. The row's value is then left in `value`.
+fn row_at(page: &Page, form: Form, leaf: Leaf, key: &[u8], value: &mut [u8]) -> Option<RowSpot>
+    requires count { leaf.count ≡ count_of page.now }
+    requires fits { 16 + (form.key + form.value) * leaf.count ≤ 4096 }
+    requires key { length key.now ≡ form.key }
+    requires value { length value.old ≡ form.value }
+    ensures found { (low high : ℕ) → IsWithin low high (rows_in form page.now) → low ≤ number key.now → number key.now < high
+        → lookup (number key.now) (rows_in form page.now) ≡ (if is_some result then Some value.new else None) }
+    ensures spot { (count : ℕ) → ¬ IsUncounted count leaf.page → IfSome result (IsRowAt form count page.now (number key.now)) }
+    ensures page { IfSome result (λ spot. spot.page ≡ leaf.page) }
+{
+    let here = spot_of(page, form, leaf.count, key);
+    if here.gone == 0 {
+        return None;
+    }
+    copy_value(page, form, here.at, value);
+    Some(RowSpot {
+        page: leaf.page,
+        count: leaf.count,
+        at: here.at,
+    })
+}
+
+/// Where the row at a key stands in a map that has a root. The row's value is then left in `value`, and its leaf is the page
+/// looked at.
 ///
 /// Looks at a page a level, and copies the value alone. Returns `Damaged` with a rule that a page breaks in its place,
 /// `Disk`, `Stopped` or `Memory`.
@@ -25,13 +53,14 @@ pub fn find_below<P: Pages>(
     root: u32,
     key: &[u8],
     value: &mut [u8],
-) -> Result<Option<u32>, PageFault>
+) -> Result<Option<RowSpot>, PageFault>
     requires root { 0 < root }
     requires key { length key.now ≡ form.key }
     requires value { length value.old ≡ form.value }
     ensures found { IsMap form (P.pages pages.old) root
-        → IfOk result (Locates (lookup (number key.now) (map_rows form (P.pages pages.old) root)) value.new
-        (HoldsRow form (P.pages pages.old) (map_uses form (P.pages pages.old) root) (number key.now, value.new))) }
+        → IfOk result (λ found. Locates (lookup (number key.now) (map_rows form (P.pages pages.old) root)) value.new
+        (HoldsRow form (P.pages pages.old) (map_uses form (P.pages pages.old) root) (number key.now, value.new)) (leaf_of found)) }
+    ensures spot { IfOk result (λ found. IfSome found (IsSpot form (P.pages pages.new) (P.count pages.new) root (P.looked pages.new) (number key.now))) }
     ensures damaged { AreTold (P.pages pages.old) (P.count pages.old)
         → (damage : Damage) → IsErrOf result (PageFault.Damaged damage) → IsMapDamaged form (P.pages pages.old) (P.count pages.old) root damage }
     ensures named { AreTold (P.pages pages.old) (P.count pages.old)
@@ -43,18 +72,7 @@ pub fn find_below<P: Pages>(
 {
     let mut bounds = Bounds::all();
     match locate(pages, form, root, key, &mut bounds) {
-        Ok(leaf) => {
-            let hit = row_in(
-                pages.looked(),
-                form,
-                leaf.count,
-                bounds.low(form),
-                bounds.high(form),
-                key,
-                value,
-            );
-            Ok(hit.then_some(leaf.page))
-        }
+        Ok(leaf) => Ok(row_at(pages.looked(), form, leaf, key, value)),
         Err(fault) => Err(fault),
     }
 }

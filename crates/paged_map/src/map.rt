@@ -1,5 +1,5 @@
 //! A map by its root.
-ghost use Rattle.std.specs.Prelude.{◌≡◌, ◌≢◌, ◌⊎◌, ℕ, ◌≤◌, List, length, IfOk, IsTrue, IsErrOf, OnErr, is_some};
+ghost use Rattle.std.specs.Prelude.{◌≡◌, ◌≢◌, ◌⊎◌, ℕ, ◌≤◌, List, length, IfOk, IfSome, IsTrue, IsErrOf, OnOk, OnErr, is_some};
 ghost use Rattle.page_face.specs.Calls.{Reads, Changes, FailsReading, FailsChanging};
 ghost use Rattle.page_face.specs.Causes.{Rose};
 ghost use Rattle.page_face.specs.Number.{number};
@@ -9,11 +9,13 @@ ghost use Rattle.btree_nodes.specs.Tree.{IsMap, map_rows, map_uses};
 ghost use Rattle.btree_nodes.specs.Damages.{AreTold, AskedSince, AsksOnly, IsRefusedTake};
 ghost use Rattle.paged_map.specs.Answers.{HoldsRow, Locates};
 ghost use Rattle.paged_map.specs.Maps.{AreCounted, IsMapDamaged, IsKept, HasBecome};
+ghost use Rattle.paged_map.specs.Spots.{IsSpot, leaf_of};
 
 use crate::finding::{find_below, first_below};
 use crate::layout::{Layout, form_of};
 use crate::putting::put_row;
 use crate::removing::remove_row;
+use crate::replacing::{RowSpot, replace_at};
 use btree_insert::first_leaf;
 use page_face::{Damage, PageFault, Pages};
 use std::marker::PhantomData;
@@ -65,6 +67,43 @@ impl<L: Layout> PagedMap<L> {
         ensures found { IsMap L.form (P.pages pages.old) self.now.root
             → IfOk result (Locates (lookup (number key.now) (map_rows L.form (P.pages pages.old) self.now.root)) value.new
             (HoldsRow L.form (P.pages pages.old) (map_uses L.form (P.pages pages.old) self.now.root) (number key.now, value.new))) }
+
+        // On a well-formed map whose pages are counted no page is damaged.
+        ensures honest { IsMap L.form (P.pages pages.old) self.now.root → AreCounted (map_uses L.form (P.pages pages.old) self.now.root) (P.count pages.old)
+            → AreTold (P.pages pages.old) (P.count pages.old) → (damage : Damage) → result ≢ Err (PageFault.Damaged damage) }
+        ensures damaged { AreTold (P.pages pages.old) (P.count pages.old)
+            → (damage : Damage) → IsErrOf result (PageFault.Damaged damage) → IsMapDamaged L.form (P.pages pages.old) (P.count pages.old) self.now.root damage }
+        ensures named { AreTold (P.pages pages.old) (P.count pages.old)
+            → (damage : Damage) → IsErrOf result (PageFault.Damaged damage) → AskedSince (P.asked pages.old) (P.asked pages.new) damage.page }
+        ensures own { AreTold (P.pages pages.old) (P.count pages.old)
+            → AsksOnly (map_uses L.form (P.pages pages.old) self.now.root) (P.asked pages.old) (P.asked pages.new) }
+        ensures fails { FailsReading P.Pages pages.old pages.new result }
+        ensures frame { Reads P.Pages pages.old pages.new }
+    {
+        match self.find(pages, key, value) {
+            Ok(Some(spot)) => Ok(Some(spot.page)),
+            Ok(None) => Ok(None),
+            Err(fault) => Err(fault),
+        }
+    }
+
+    /// Where the row at a key stands, whose value is then left in `value`; `None` exactly where the key isn't there, and where
+    /// `value` may hold anything. The row's leaf is then the page looked at: as long as it is, and the pages don't change,
+    /// [`PagedMap::replace`] puts another value there.
+    ///
+    /// Refuses as [`PagedMap::get`], and costs as much.
+    pub fn find<P: Pages>(
+        &self,
+        pages: &mut P,
+        key: &[u8],
+        value: &mut [u8],
+    ) -> Result<Option<RowSpot>, PageFault>
+        requires key { length key.now ≡ L.KEY }
+        requires value { length value.old ≡ L.VALUE }
+        ensures found { IsMap L.form (P.pages pages.old) self.now.root
+            → IfOk result (λ found. Locates (lookup (number key.now) (map_rows L.form (P.pages pages.old) self.now.root)) value.new
+            (HoldsRow L.form (P.pages pages.old) (map_uses L.form (P.pages pages.old) self.now.root) (number key.now, value.new)) (leaf_of found)) }
+        ensures spot { IfOk result (λ found. IfSome found (IsSpot L.form (P.pages pages.new) (P.count pages.new) self.now.root (P.looked pages.new) (number key.now))) }
 
         // On a well-formed map whose pages are counted no page is damaged.
         ensures honest { IsMap L.form (P.pages pages.old) self.now.root → AreCounted (map_uses L.form (P.pages pages.old) self.now.root) (P.count pages.old)
@@ -168,6 +207,38 @@ impl<L: Layout> PagedMap<L> {
         let rooted = put_row(pages, form, self.root, key, value, &mut middle[..form.key])?;
         self.root = rooted.root;
         Ok(rooted.had)
+    }
+
+    /// Puts another value at the key of the row that [`PagedMap::find`] found at a spot. The root stays.
+    ///
+    /// The spot is that of the key, and its leaf is still the page looked at: no call has changed the pages since, or looked at
+    /// another one.
+    ///
+    /// Returns `Stopped`, or `Memory` if it runs out of memory; then pages may have changed: they are to be abandoned. Looks at no page but the leaf,
+    /// with no way down. Writes the leaf alone, and copies its bytes once, into the new page.
+    pub fn replace<P: Pages>(
+        &self,
+        pages: &mut P,
+        spot: &RowSpot,
+        key: &[u8],
+        value: &[u8],
+    ) -> Result<(), PageFault>
+        requires spot { IsSpot L.form (P.pages pages.old) (P.count pages.old) self.now.root (P.looked pages.old) (number key.now) spot.now }
+        requires key { length key.now ≡ L.KEY }
+        requires value { length value.now ≡ L.VALUE }
+        ensures becomes { (free : List ℕ) → IsKept L.form (view (P.pages pages.old) (P.count pages.old) (P.first pages.old) free) self.now.root
+            → OnOk result (HasBecome L.form (view (P.pages pages.old) (P.count pages.old) (P.first pages.old) free) (P.pages pages.new) (P.count pages.new) (P.first pages.new) self.now.root self.now.root
+            (put (number key.now) value.now (map_rows L.form (P.pages pages.old) self.now.root))) }
+
+        // No page is damaged: the leaf was found sound.
+        ensures honest { (damage : Damage) → result ≢ Err (PageFault.Damaged damage) }
+        ensures asked { P.asked pages.new ≡ P.asked pages.old }
+        ensures fails { FailsReading P.Pages pages.old pages.new result }
+        ensures count { P.count pages.new ≡ P.count pages.old }
+        ensures refused { P.refused pages.new ≡ P.refused pages.old }
+        ensures frame { Changes P.Pages pages.old pages.new }
+    {
+        replace_at(pages, form_of::<L>(), spot, key, value)
     }
 
     /// Takes the row at a key out. Returns whether the key was there.

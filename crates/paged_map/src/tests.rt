@@ -152,6 +152,18 @@ fn a_broken_page_is_named_with_its_rule(rt: HostRuntime) -> Result<(), Fail> {
     Ok(())
 }
 
+// Raises the first byte of the value at a key, if the key is there.
+fn raise(pages: &mut MemoryPages, map: &PagedMap<Wide>, last: u8) -> Result<bool, PageFault> {
+    let at = key(last);
+    let mut value = [0; 765];
+    let Some(spot) = map.find(pages, &at, &mut value)? else {
+        return Ok(false);
+    };
+    value[0] = value[0].wrapping_add(1);
+    map.replace(pages, &spot, &at, &value)?;
+    Ok(true)
+}
+
 #[test]
 fn rows_put_are_those_of_a_sorted_map(rt: HostRuntime) -> Result<(), Fail> {
     let mut pages = MemoryPages::new(rt.alloc(), 99);
@@ -163,6 +175,15 @@ fn rows_put_are_those_of_a_sorted_map(rt: HostRuntime) -> Result<(), Fail> {
         value[0] = step;
         let had = model.insert(last, step)?.is_some();
         assert_eq!(rt; map.put(&mut pages, &key(last), &value), Ok(had));
+    }
+    for last in [0, 7, 8, 31, 59, 60, 255] {
+        let raised = raise(&mut pages, &map, last);
+        assert_eq!(rt; raised, Ok(model.contains_key(&last)));
+        let Some(step) = model.get(&last) else {
+            continue;
+        };
+        let more = step.wrapping_add(1);
+        model.insert(last, more)?;
     }
     for last in 0..99u8 {
         let leaf = map.get(&mut pages, &key(last), &mut value);

@@ -5,7 +5,7 @@ use Rattle.btree_nodes.specs.Tree.{map_uses}
 use Rattle.btree_nodes.specs.Damages.{AsksOnly}
 use Rattle.paged_map.specs.Maps.{IsMapDamaged}
 use Rattle.paged_map.proofs.Maps.{map-undamaged}
-use Rattle.paged_map.proofs.map.PagedMap.get.Goals as goal
+use Rattle.paged_map.proofs.map.PagedMap.find.Goals as goal
 
 pub returns-clause-honest : goal.returns-clause-honest
 returns-clause-honest g c = λ map counted told damage e.
