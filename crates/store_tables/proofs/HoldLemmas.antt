@@ -1,14 +1,17 @@
 -- What the tables hold once a word is held.
-use Rattle.std.proofs.Common.{◌≡◌, ℕ, ◌+◌, List, Option, Some, None, unwrap_or, Result, Ok, Err, IfOk, OnOk, sym, ap, subst, ◌∙◌}
+use Rattle.std.proofs.Common.{◌≡◌, ℕ, ◌+◌, List, Option, Some, None, is_some, unwrap_or, Result, Ok, Err, IfOk, OnOk, refl, sym, ap, subst, ◌∙◌}
 use Rattle.std.specs.BTreeMap.{insert_entry}
 use Rattle.std.specs.Ordering.{nat_cmp}
 use Rattle.page_face.specs.FreeList.{PageMap}
 use Rattle.btree_nodes.specs.Supply.{View}
 use Rattle.row_codec.specs.declared.counted.Counted.{Counted}
+use Rattle.paged_map.specs.declared.replacing.RowSpot.{RowSpot}
+use Rattle.store_tables.specs.declared.reading.CountedRow.{CountedRow}
 use Rattle.store_tables.specs.declared.tables.Tables.{Tables}
 use Rattle.store_tables.specs.Entries.{Entries, number_of_word, word_cmp, word_of_number}
 use Rattle.store_tables.specs.Holding.{IsChanged}
-use Rattle.store_tables.specs.Words.{CanHold, IsHoldableRow, number_for, places_in, places_of_number, texts_after, with_hold}
+use Rattle.store_tables.specs.Rows.{counted_in, spot_in}
+use Rattle.store_tables.specs.Words.{CanHold, IsHoldableRow, next_after, number_for, places_in, places_of_number, texts_after, with_hold}
 
 -- the entries after a hold, by the word's number, or none, and its new count
 abbrev held_with : List ℕ → ℕ → Entries → Option ℕ → ℕ → Entries
@@ -32,6 +35,19 @@ pub with_hold-new : (word : List ℕ) (next_word places : ℕ) (entries : Entrie
     → with_hold word next_word entries ≡ record entries { texts = insert_entry word_cmp entries.texts word next_word; numbers = insert_entry nat_cmp entries.numbers next_word (record { word = word; places = places }) }
 with_hold-new word next_word places entries was is = held_as word next_word places None entries was is
 
+-- a word that has a number, which was found
+pub with_hold-found : (word : List ℕ) (next_word places : ℕ) (found : Option ℕ) (spot : Option RowSpot) (here : RowSpot) (entries : Entries) → found ≡ number_of_word word entries.texts → is_some spot ≡ is_some found → spot ≡ Some here
+    → places ≡ places_of_number (number_for word next_word entries.texts) entries.numbers + 1
+    → (with_hold word next_word entries ≡ record entries { numbers = insert_entry nat_cmp entries.numbers (unwrap_or found next_word) (record { word = word; places = places }) }) × (next_after (number_of_word word entries.texts) next_word ≡ next_word)
+with_hold-found word next_word places None spot here entries was known at is = absurd (cc (known, at))
+with_hold-found word next_word places (Some number) spot here entries was known at is =
+    (with_hold-known word next_word number places entries (sym was) is, ap (λ (f : Option ℕ). next_after f next_word) (sym was))
+
+-- no number was found where no row was
+pub none-found : (found : Option ℕ) (spot : Option RowSpot) → is_some spot ≡ is_some found → spot ≡ None → found ≡ None
+none-found None spot known at = refl
+none-found (Some number) spot known at = absurd (cc (known, at))
+
 -- what was read of a word stands in the entries
 read_as : (word : List ℕ) (next_word : ℕ) (entries : Entries) (found : Option ℕ) (row : Option Counted) → found ≡ number_of_word word entries.texts → row ≡ word_of_number (unwrap_or found next_word) entries.numbers
     → row ≡ word_of_number (number_for word next_word entries.texts) entries.numbers
@@ -48,6 +64,13 @@ pub cannot_hold-read : (word : List ℕ) (next_word : ℕ) (entries : Entries) (
     → CanHold word next_word entries → ⊥
 cannot_hold-read word next_word entries found row was is unheld can =
     unheld (subst (λ (f : Option ℕ). IsHoldableRow word f row) (sym was) (subst (λ (r : Option Counted). IsHoldableRow word (number_of_word word entries.texts) r) (sym (read_as word next_word entries found row was is)) can))
+
+-- a word has a row where it has a number
+pub known-read : (word : List ℕ) (found : Option ℕ) (row : Option CountedRow) (spot : Option RowSpot) → spot ≡ spot_in row → IsHoldableRow word found (counted_in row) → is_some spot ≡ is_some found
+known-read word None None spot at holdable = ap is_some at
+known-read word None (Some row) spot at holdable = absurd (cc holdable)
+known-read word (Some number) None spot at holdable = absurd (cc holdable.0)
+known-read word (Some number) (Some row) spot at holdable = ap is_some at
 
 -- its count
 pub places-read : (word : List ℕ) (next_word places : ℕ) (entries : Entries) (found : Option ℕ) (row : Option Counted) → found ≡ number_of_word word entries.texts → row ≡ word_of_number (unwrap_or found next_word) entries.numbers → places ≡ places_in row + 1

@@ -3,3 +3,4 @@ pub mod Coded
 pub mod Entries
 pub mod Holding
 pub mod Words
+pub mod Rows

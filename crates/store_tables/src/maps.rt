@@ -1,5 +1,5 @@
 //! The calls of a map, by its root.
-ghost use Rattle.std.specs.Prelude.{◌≡◌, ◌⊎◌, ℕ, List, length, IfOk, IsErrOf, is_some};
+ghost use Rattle.std.specs.Prelude.{◌≡◌, ◌⊎◌, ℕ, List, length, IfOk, IfSome, OnOk, IsErrOf, is_some};
 ghost use Rattle.page_face.specs.Calls.{FailsReading, FailsChanging, Reads, TakesNone, Changes};
 ghost use Rattle.page_face.specs.Number.{number};
 ghost use Rattle.btree_nodes.specs.Rows.{lookup, first_from, put, without};
@@ -8,9 +8,10 @@ ghost use Rattle.btree_nodes.specs.Tree.{IsMap, map_rows, map_uses};
 ghost use Rattle.btree_nodes.specs.Damages.{AreTold, AskedSince, AsksOnly, IsRefusedTake};
 ghost use Rattle.paged_map.specs.Answers.{HoldsRow, Locates};
 ghost use Rattle.paged_map.specs.Maps.{AreCounted, HasBecome, IsKept, IsMapDamaged};
+ghost use Rattle.paged_map.specs.Spots.{IsSpot, leaf_of};
 
 use page_face::{Damage, PageFault, Pages};
-use paged_map::{Layout, PagedMap};
+use paged_map::{Layout, PagedMap, RowSpot};
 
 /// A map after a row was put or taken out: whether the key was there, and the map's root.
 #[derive(Clone, Copy)]
@@ -45,6 +46,35 @@ pub(crate) fn get_row<L: Layout, P: Pages>(
     ensures frame { Reads P.Pages pages.old pages.new }
 {
     PagedMap::<L>::at(root).get(pages, key, value)
+}
+
+/// Where the row at a key stands, whose value is then left in `value`. Its leaf is then the page looked at.
+pub(crate) fn find_row<L: Layout, P: Pages>(
+    pages: &mut P,
+    root: u32,
+    key: &[u8],
+    value: &mut [u8],
+) -> Result<Option<RowSpot>, PageFault>
+    requires key { length key.now ≡ L.KEY }
+    requires value { length value.old ≡ L.VALUE }
+    ensures found { IsMap L.form (P.pages pages.old) root
+        → IfOk result (λ found. Locates (lookup (number key.now) (map_rows L.form (P.pages pages.old) root)) value.new
+        (HoldsRow L.form (P.pages pages.old) (map_uses L.form (P.pages pages.old) root) (number key.now, value.new)) (leaf_of found)) }
+    ensures spot { IfOk result (λ found. IfSome found (IsSpot L.form (P.pages pages.new) (P.count pages.new) root (P.looked pages.new) (number key.now))) }
+    ensures honest { IsMap L.form (P.pages pages.old) root → AreTold (P.pages pages.old) (P.count pages.old)
+        → AreCounted (map_uses L.form (P.pages pages.old) root) (P.count pages.old)
+        → (damage : Damage) → ¬ IsErrOf result (PageFault.Damaged damage) }
+    ensures damaged { AreTold (P.pages pages.old) (P.count pages.old)
+        → (damage : Damage) → IsErrOf result (PageFault.Damaged damage)
+        → IsMapDamaged L.form (P.pages pages.old) (P.count pages.old) root damage }
+    ensures named { AreTold (P.pages pages.old) (P.count pages.old)
+        → (damage : Damage) → IsErrOf result (PageFault.Damaged damage) → AskedSince (P.asked pages.old) (P.asked pages.new) damage.page }
+    ensures own { AreTold (P.pages pages.old) (P.count pages.old)
+        → AsksOnly (map_uses L.form (P.pages pages.old) root) (P.asked pages.old) (P.asked pages.new) }
+    ensures fails { FailsReading P.Pages pages.old pages.new result }
+    ensures frame { Reads P.Pages pages.old pages.new }
+{
+    PagedMap::<L>::at(root).find(pages, key, value)
 }
 
 /// The leaf that holds the first row whose key isn't less. The row's key is left in `found` and its value in `value`.
@@ -107,6 +137,28 @@ pub(crate) fn put_row<L: Layout, P: Pages>(
         was,
         root: map.root(),
     })
+}
+
+/// Puts another value at the key of the row at a spot, whose leaf is the page looked at. The root stays.
+pub(crate) fn replace_row<L: Layout, P: Pages>(
+    pages: &mut P,
+    root: u32,
+    spot: &RowSpot,
+    key: &[u8],
+    value: &[u8],
+) -> Result<(), PageFault>
+    requires spot { IsSpot L.form (P.pages pages.old) (P.count pages.old) root (P.looked pages.old) (number key.now) spot.now }
+    requires key { length key.now ≡ L.KEY }
+    requires value { length value.now ≡ L.VALUE }
+    ensures put { (free : List ℕ) → IsKept L.form (view (P.pages pages.old) (P.count pages.old) (P.first pages.old) free) root
+        → OnOk result (HasBecome L.form (view (P.pages pages.old) (P.count pages.old) (P.first pages.old) free) (P.pages pages.new) (P.count pages.new) (P.first pages.new) root root
+        (put (number key.now) value.now (map_rows L.form (P.pages pages.old) root))) }
+    ensures honest { (damage : Damage) → ¬ IsErrOf result (PageFault.Damaged damage) }
+    ensures asked { P.asked pages.new ≡ P.asked pages.old }
+    ensures fails { FailsReading P.Pages pages.old pages.new result }
+    ensures frame { TakesNone P.Pages pages.old pages.new }
+{
+    PagedMap::<L>::at(root).replace(pages, spot, key, value)
 }
 
 /// Takes the row at a key out.

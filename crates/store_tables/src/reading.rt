@@ -10,12 +10,14 @@ ghost use Rattle.paged_map.specs.Maps.{AreCounted, IsMapDamaged};
 ghost use Rattle.row_codec.specs.Counted.{IsCounted, counted_value, number_bytes as bytes_of_number};
 ghost use Rattle.row_codec.specs.Stored.{place_value};
 ghost use Rattle.store_tables.specs.Entries.{Entries, place_of_key, place_after, number_of_word, word_of_number};
+ghost use Rattle.store_tables.specs.Rows.{counted_in, spot_in};
 
 use crate::Tables;
 use crate::entry::{entry_of_bytes, first_behind};
 use crate::layouts::{Numbers, Places, Texts};
-use crate::maps::{first_row, get_row};
+use crate::maps::{find_row, first_row, get_row};
 use page_face::{Damage, PageFault, Pages, Rule};
+use paged_map::RowSpot;
 use row_codec::{Counted, Stored, number_bytes, number_of_bytes};
 use spatial_base::Key;
 use term_impacts::Word;
@@ -30,10 +32,20 @@ pub(crate) fn broken(leaf: u32) -> PageFault
     })
 }
 
+/// The row of a number, and where it stands.
+#[derive(Clone, Copy)]
+pub(crate) struct CountedRow {
+    /// The word, and how many places hold it.
+    pub counted: Counted,
+    /// Where the row was found.
+    pub spot: RowSpot,
+}
+
 impl Tables {
     ghost use Rattle.store_tables.specs.Coded.{IsPlaceEntry, IsPlaceValue, key_code, next_code, place_row, word_code};
     ghost use Rattle.store_tables.specs.Holding.{Holds, table_uses, numbers_form, places_form, texts_form};
     ghost use Rattle.store_tables.specs.Broken.{IsPlaceDamage, IsNumberDamage, IsNextDamage};
+    ghost use Rattle.store_tables.specs.Rows.{IsNumberSpot};
 
     /// The place of a key.
     ///
@@ -97,6 +109,44 @@ impl Tables {
         }
     }
 
+    /// The row of a number, and where it stands. Its leaf is then the page looked at.
+    ///
+    /// Looks at one page a level of the words by number, and copies the row's value alone.
+    pub(crate) fn counted_row<P: Pages>(
+        &self,
+        pages: &mut P,
+        number: u64,
+    ) -> Result<Option<CountedRow>, PageFault>
+        ensures found { (entries : Entries) → Holds (P.pages pages.old) self.now entries
+            → IfOk result (λ found. counted_in found ≡ word_of_number number entries.numbers) }
+        ensures formed { IsMap numbers_form (P.pages pages.old) self.now.numbers
+            → IfOk result (λ found. (lookup number (map_rows numbers_form (P.pages pages.old) self.now.numbers) ≡ option_map counted_value (counted_in found))
+            × IfSome (counted_in found) IsCounted) }
+        ensures spot { IfOk result (λ found. IfSome (spot_in found) (IsNumberSpot (P.pages pages.new) (P.count pages.new) self.now.numbers (P.looked pages.new) number)) }
+        ensures honest { (entries : Entries) → Holds (P.pages pages.old) self.now entries
+            → AreTold (P.pages pages.old) (P.count pages.old) → AreCounted (table_uses (P.pages pages.old) self.now) (P.count pages.old)
+            → (damage : Damage) → ¬ IsErrOf result (PageFault.Damaged damage) }
+        ensures damaged { AreTold (P.pages pages.old) (P.count pages.old)
+            → (damage : Damage) → IsErrOf result (PageFault.Damaged damage)
+            → IsNumberDamage (P.pages pages.old) (P.count pages.old) self.now.numbers number damage }
+        ensures named { AreTold (P.pages pages.old) (P.count pages.old)
+            → (damage : Damage) → IsErrOf result (PageFault.Damaged damage) → damage.rule ≢ Rule.Value → AskedSince (P.asked pages.old) (P.asked pages.new) damage.page }
+        ensures own { AreTold (P.pages pages.old) (P.count pages.old)
+            → AsksOnly (map_uses numbers_form (P.pages pages.old) self.now.numbers) (P.asked pages.old) (P.asked pages.new) }
+        ensures fails { FailsReading P.Pages pages.old pages.new result }
+        ensures frame { Reads P.Pages pages.old pages.new }
+    {
+        let mut value = [0; 37];
+        let key = number_bytes(number);
+        let Some(spot) = find_row::<Numbers, P>(pages, self.numbers, &key, &mut value)? else {
+            return Ok(None);
+        };
+        match Counted::decode(&value) {
+            Some(counted) => Ok(Some(CountedRow { counted, spot })),
+            None => Err(broken(spot.page)),
+        }
+    }
+
     /// The word of a number, and how many places hold it.
     pub(crate) fn counted<P: Pages>(
         &self,
@@ -121,14 +171,9 @@ impl Tables {
         ensures fails { FailsReading P.Pages pages.old pages.new result }
         ensures frame { Reads P.Pages pages.old pages.new }
     {
-        let mut value = [0; 37];
-        let key = number_bytes(number);
-        let Some(leaf) = get_row::<Numbers, P>(pages, self.numbers, &key, &mut value)? else {
-            return Ok(None);
-        };
-        match Counted::decode(&value) {
-            Some(counted) => Ok(Some(counted)),
-            None => Err(broken(leaf)),
+        match self.counted_row(pages, number)? {
+            Some(row) => Ok(Some(row.counted)),
+            None => Ok(None),
         }
     }
 

@@ -1,5 +1,5 @@
 //! Words that one place less holds.
-ghost use Rattle.std.specs.Prelude.{◌≡◌, ◌⊎◌, ℕ, List, Some, IfOk, OnOk, OnErr, IsErrOf};
+ghost use Rattle.std.specs.Prelude.{◌≡◌, ◌⊎◌, ◌<◌, ℕ, List, Some, IfOk, OnOk, OnErr, IsErrOf};
 ghost use Rattle.std.specs.BTreeMap.{is_at};
 ghost use Rattle.std.specs.Map.{remove_entry};
 ghost use Rattle.std.specs.Ordering.{nat_cmp};
@@ -11,6 +11,7 @@ ghost use Rattle.store_tables.specs.Entries.{Entries, word_cmp, word_of_number};
 ghost use Rattle.store_tables.specs.Broken.{words_disagree};
 
 use crate::Tables;
+use crate::reading::CountedRow;
 use crate::words::disagreement;
 use page_face::{Damage, PageFault, Pages};
 use row_codec::Counted;
@@ -19,12 +20,14 @@ use term_impacts::Word;
 impl Tables {
     ghost use Rattle.store_tables.specs.Holding.{Holds, IsApart, IsChanged, numbers_form, table_uses, word_uses};
     ghost use Rattle.store_tables.specs.Broken.{IsReleaseDamage};
+    ghost use Rattle.store_tables.specs.Rows.{IsNumberSpot};
     ghost use Rattle.store_tables.specs.Words.{CanRelease, without_hold};
 
-    // The row of a number whose word can be released.
-    fn releasable<P: Pages>(&self, pages: &mut P, number: u64) -> Result<Counted, PageFault>
+    // The row of a number whose word can be released. If more than one place holds it, the row's leaf is then the page looked at.
+    fn releasable<P: Pages>(&self, pages: &mut P, number: u64) -> Result<CountedRow, PageFault>
         ensures found { (entries : Entries) → Holds (P.pages pages.old) self.now entries
-            → IfOk result (λ counted. CanRelease number entries × (word_of_number number entries.numbers ≡ Some counted)) }
+            → IfOk result (λ row. CanRelease number entries × (word_of_number number entries.numbers ≡ Some row.counted)) }
+        ensures spot { IfOk result (λ row. 1 < row.counted.places → IsNumberSpot (P.pages pages.new) (P.count pages.new) self.now.numbers (P.looked pages.new) number row.spot) }
         ensures honest { (entries : Entries) → Holds (P.pages pages.old) self.now entries
             → AreTold (P.pages pages.old) (P.count pages.old) → AreCounted (table_uses (P.pages pages.old) self.now) (P.count pages.old)
             → (damage : Damage) → IsErrOf result (PageFault.Damaged damage) → (damage ≡ words_disagree) × (¬ CanRelease number entries) }
@@ -36,14 +39,14 @@ impl Tables {
         ensures fails { FailsReading P.Pages pages.old pages.new result }
         ensures frame { Reads P.Pages pages.old pages.new }
     {
-        let Some(counted) = self.counted(pages, number)? else {
+        let Some(row) = self.counted_row(pages, number)? else {
             return Err(disagreement());
         };
-        if counted.places > 1 {
-            return Ok(counted);
+        if row.counted.places > 1 {
+            return Ok(row);
         }
-        match self.number_of(pages, &counted.word)? {
-            Some(found) if found == number => Ok(counted),
+        match self.number_of(pages, &row.counted.word)? {
+            Some(found) if found == number => Ok(row),
             _ => Err(disagreement()),
         }
     }
@@ -87,6 +90,9 @@ impl Tables {
     /// whose row is no word's, or as a take of a page refuses, or with `Words` at page 0 where the number has no word, or where
     /// its word goes and the words by text have another number of it, or none; that is found before anything is written. After a
     /// refusal the tables are as before, and pages may have changed.
+    ///
+    /// Looks at one page a level of the words by number. If more places hold the word, writes the leaf of its row alone. Else
+    /// looks the word up by text, and takes a row out of each of the two tables, with one more way down in each.
     pub fn release<P: Pages>(&mut self, pages: &mut P, number: u64) -> Result<(), PageFault>
         ensures released { (entries : Entries) (free : List ℕ) → Holds (P.pages pages.old) self.old entries → IsApart (view (P.pages pages.old) (P.count pages.old) (P.first pages.old) free) self.old
             → OnOk result (CanRelease number entries
@@ -110,7 +116,8 @@ impl Tables {
         ensures fails { FailsChanging P.Pages pages.old pages.new result }
         ensures frame { Changes P.Pages pages.old pages.new }
     {
-        let counted = self.releasable(pages, number)?;
+        let row = self.releasable(pages, number)?;
+        let counted = row.counted;
         if counted.places <= 1 {
             return self.remove_word(pages, number, &counted.word);
         }
@@ -118,7 +125,7 @@ impl Tables {
             places: counted.places - 1,
             ..counted
         };
-        self.put_number(pages, number, &fewer)?;
+        self.replace_number(pages, number, &row.spot, &fewer)?;
         Ok(())
     }
 }

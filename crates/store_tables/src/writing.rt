@@ -2,7 +2,7 @@
 ghost use Rattle.std.specs.Prelude.{◌≡◌, ◌⊎◌, ℕ, List, IfOk, OnOk, OnErr, IsErrOf, is_some};
 ghost use Rattle.std.specs.BTreeMap.{insert_entry};
 ghost use Rattle.std.specs.Ordering.{nat_cmp};
-ghost use Rattle.page_face.specs.Calls.{FailsChanging, Changes};
+ghost use Rattle.page_face.specs.Calls.{FailsReading, FailsChanging, TakesNone, Changes};
 ghost use Rattle.btree_nodes.specs.Supply.{view};
 ghost use Rattle.btree_nodes.specs.Tree.{map_uses};
 ghost use Rattle.btree_nodes.specs.Damages.{AreTold, AskedSince, AsksOnly, IsRefusedTake};
@@ -12,14 +12,16 @@ ghost use Rattle.store_tables.specs.Entries.{Entries, number_of_word, place_of_k
 
 use crate::Tables;
 use crate::layouts::{Numbers, Places, Texts};
-use crate::maps::put_row;
+use crate::maps::{put_row, replace_row};
 use page_face::{Damage, PageFault, Pages};
+use paged_map::RowSpot;
 use row_codec::{Counted, Stored, number_bytes};
 use spatial_base::Key;
 use term_impacts::Word;
 
 impl Tables {
     ghost use Rattle.store_tables.specs.Holding.{Holds, IsApart, IsChanged, IsSameMap, numbers_form, places_form, texts_form};
+    ghost use Rattle.store_tables.specs.Rows.{IsNumberSpot};
 
     /// Puts a place at its key, and answers whether the key was there.
     ///
@@ -113,5 +115,28 @@ impl Tables {
         let put = put_row::<Numbers, P>(pages, self.numbers, &key, &counted.encode())?;
         self.numbers = put.root;
         Ok(put.was)
+    }
+
+    /// Puts a word and its count at the word's number, whose row was found at a spot. The tables stay.
+    ///
+    /// Looks at no page but the row's leaf, which is the page looked at. Writes that page alone, and copies its bytes once.
+    pub(crate) fn replace_number<P: Pages>(
+        &self,
+        pages: &mut P,
+        number: u64,
+        spot: &RowSpot,
+        counted: &Counted,
+    ) -> Result<(), PageFault>
+        requires spot { IsNumberSpot (P.pages pages.old) (P.count pages.old) self.now.numbers (P.looked pages.old) number spot.now }
+        ensures put { (entries : Entries) (free : List ℕ) → Holds (P.pages pages.old) self.now entries → IsApart (view (P.pages pages.old) (P.count pages.old) (P.first pages.old) free) self.now
+            → OnOk result (IsChanged (view (P.pages pages.old) (P.count pages.old) (P.first pages.old) free) self.now
+            (P.pages pages.new) (P.count pages.new) (P.first pages.new) self.now (record entries { numbers = insert_entry nat_cmp entries.numbers number counted.now })) }
+        ensures honest { (damage : Damage) → ¬ IsErrOf result (PageFault.Damaged damage) }
+        ensures asked { P.asked pages.new ≡ P.asked pages.old }
+        ensures fails { FailsReading P.Pages pages.old pages.new result }
+        ensures frame { TakesNone P.Pages pages.old pages.new }
+    {
+        let key = number_bytes(number);
+        replace_row::<Numbers, P>(pages, self.numbers, spot, &key, &counted.encode())
     }
 }

@@ -1,96 +1,64 @@
-use Rattle.std.proofs.Common.{◌≡◌, ℕ, Err, Option, option_map, unwrap_or, inl, inr, ⊎_elim, ap, sym, subst, ◌∙◌}
+use Rattle.std.proofs.Common.{◌≡◌, Err, inl, inr, ⊎_elim, ap, sym}
 use Rattle.std.proofs.lemmas.Result.{err_from_is_err_and}
 use Rattle.page_face.specs.declared.fault.PageFault.TheVariants.{Damaged}
 use Rattle.btree_nodes.proofs.Harms.{asked-before, asks-further}
-use Rattle.btree_nodes.specs.Damages.{AreTold}
+use Rattle.btree_nodes.specs.Damages.{AreTold, AsksOnly}
 use Rattle.btree_nodes.specs.Supply.{View, view}
-use Rattle.row_codec.specs.Counted.{number_bytes}
-use Rattle.store_tables.specs.Entries.{Entries}
-use Rattle.store_tables.specs.Holding.{Holds, IsApart, IsChanged, word_uses}
-use Rattle.store_tables.specs.Words.{next_after}
-use Rattle.store_tables.proofs.HoldLemmas.{if_ok, with_hold-new}
-use Rattle.store_tables.proofs.ToldLemmas.{apart-counted, asks-numbers}
+use Rattle.store_tables.specs.Broken.{IsTextSought}
+use Rattle.store_tables.specs.Holding.{Holds, IsApart, word_uses}
+use Rattle.store_tables.proofs.ToldLemmas.{apart-counted, asks-texts}
 use Rattle.store_tables.proofs.tables.Tables.hold.Goals as goal
 
-pub returns-in_err-hold-clause-honest : goal.returns-in_err-hold-clause-honest
-returns-in_err-hold-clause-honest g c entries free holds apart told damage =
+pub returns-in_err-found-clause-honest : goal.returns-in_err-found-clause-honest
+returns-in_err-found-clause-honest g c entries free holds apart told damage =
     let before : View = view (g.P.Pages.pages c.args.pages.now) (g.P.Pages.count c.args.pages.now) (g.P.Pages.first c.args.pages.now) free in
     let p = err_from_is_err_and c.from_residual.result c.from_residual.ensures.1 in
-    λ e. (let same : c.in_err-hold.field-0.0 ≡ Damaged damage = cc (p.1, p.2, e) in
-    c.in_err-hold.ensures.honest entries holds told (apart-counted before c.args.self.now apart) damage (ap Err same))
+    λ e. (let same : c.in_err-found.field-0.0 ≡ Damaged damage = cc (p.1, p.2, e) in
+    absurd (c.in_err-found.ensures.honest entries holds told (apart-counted before c.args.self.now apart) damage (ap Err same)))
 
-pub returns-in_err-hold-clause-damaged : goal.returns-in_err-hold-clause-damaged
-returns-in_err-hold-clause-damaged g c told damage =
+pub returns-in_err-found-clause-damaged : goal.returns-in_err-found-clause-damaged
+returns-in_err-found-clause-damaged g c told damage =
     let p = err_from_is_err_and c.from_residual.result c.from_residual.ensures.1 in
-    λ e. (let same : c.in_err-hold.field-0.0 ≡ Damaged damage = cc (p.1, p.2, e) in
-    inl (c.in_err-hold.ensures.damaged told damage (ap Err same)))
+    λ e. (let same : c.in_err-found.field-0.0 ≡ Damaged damage = cc (p.1, p.2, e) in
+    inl (inl (c.in_err-found.ensures.damaged told damage (ap Err same), c.in_err-found.ensures.named told damage (ap Err same))))
 
-pub returns-in_err-hold-clause-own : goal.returns-in_err-hold-clause-own
-returns-in_err-hold-clause-own g c entries free holds apart told = c.count_with.ensures.own told
+pub returns-in_err-found-clause-own : goal.returns-in_err-found-clause-own
+returns-in_err-found-clause-own g c entries free holds apart told = asks-texts (g.P.Pages.pages c.args.pages.now) c.args.self.now _ _ (c.number_of.ensures.own told)
 
-pub returns-in_err-put_number-in-Some-clause-damaged : goal.returns-in_err-put_number-in-Some-clause-damaged
-returns-in_err-put_number-in-Some-clause-damaged g c told damage =
-    let still : AreTold (g.P.Pages.pages c.count_with.new.pages) (g.P.Pages.count c.count_with.new.pages) = rw (c.count_with.ensures.frame.pages, c.count_with.ensures.frame.count) told in
-    let p = err_from_is_err_and c.from_residual-in_err-put_number-in-Some.result c.from_residual-in_err-put_number-in-Some.ensures.1 in
-    λ e. (let same : c.in_err-put_number-in-Some.field-0.0 ≡ Damaged damage = cc (p.1, p.2, e) in
-    ⊎_elim
-    (λ map. inl (inr (inl (rw (sym c.count_with.ensures.frame.pages, sym c.count_with.ensures.frame.count) map.0, asked-before (word_uses (g.P.Pages.pages c.args.pages.now) c.args.self.now) _ _ _ damage.page (c.count_with.ensures.own told) map.1))))
-    (λ take. inr (inl take))
-    (c.in_err-put_number-in-Some.ensures.damaged still damage (ap Err same)))
+pub returns-clause-held : goal.returns-clause-held
+returns-clause-held g c entries free holds apart =
+    let f = c.number_of.ensures.frame in
+    let held : Holds (g.P.Pages.pages c.number_of.new.pages) c.args.self.now entries = rw f.pages holds in
+    let kept : IsApart (view (g.P.Pages.pages c.number_of.new.pages) (g.P.Pages.count c.number_of.new.pages) (g.P.Pages.first c.number_of.new.pages) free) c.args.self.now = rw (f.pages, f.count, f.first) apart in
+    rw (sym f.pages, sym f.count, sym f.first) (c.hold_numbered.ensures.held entries free held kept (c.in_ok-found.ensures.found entries holds))
 
-pub returns-in_err-put_number-in-Some-clause-own : goal.returns-in_err-put_number-in-Some-clause-own
-returns-in_err-put_number-in-Some-clause-own g c entries free holds apart told =
-    let still : AreTold (g.P.Pages.pages c.count_with.new.pages) (g.P.Pages.count c.count_with.new.pages) = rw (c.count_with.ensures.frame.pages, c.count_with.ensures.frame.count) told in
-    asks-further (word_uses (g.P.Pages.pages c.args.pages.now) c.args.self.now) _ _ _ (c.count_with.ensures.own told)
-    (asks-numbers (g.P.Pages.pages c.args.pages.now) c.args.self.now _ _ (rw (sym c.count_with.ensures.frame.pages) (c.put_number.ensures.own still)))
+pub returns-clause-honest : goal.returns-clause-honest
+returns-clause-honest g c entries free holds apart told damage =
+    let f = c.number_of.ensures.frame in
+    let held : Holds (g.P.Pages.pages c.number_of.new.pages) c.args.self.now entries = rw f.pages holds in
+    let kept : IsApart (view (g.P.Pages.pages c.number_of.new.pages) (g.P.Pages.count c.number_of.new.pages) (g.P.Pages.first c.number_of.new.pages) free) c.args.self.now = rw (f.pages, f.count, f.first) apart in
+    let still : AreTold (g.P.Pages.pages c.number_of.new.pages) (g.P.Pages.count c.number_of.new.pages) = rw (f.pages, f.count) told in
+    c.hold_numbered.ensures.honest entries free held kept (c.in_ok-found.ensures.found entries holds) still damage
 
-pub returns-in_ok-put_number-in-Some-clause-own : goal.returns-in_ok-put_number-in-Some-clause-own
-returns-in_ok-put_number-in-Some-clause-own g c entries free holds apart told =
-    let still : AreTold (g.P.Pages.pages c.count_with.new.pages) (g.P.Pages.count c.count_with.new.pages) = rw (c.count_with.ensures.frame.pages, c.count_with.ensures.frame.count) told in
-    asks-further (word_uses (g.P.Pages.pages c.args.pages.now) c.args.self.now) _ _ _ (c.count_with.ensures.own told)
-    (asks-numbers (g.P.Pages.pages c.args.pages.now) c.args.self.now _ _ (rw (sym c.count_with.ensures.frame.pages) (c.put_number.ensures.own still)))
+pub returns-clause-damaged : goal.returns-clause-damaged
+returns-clause-damaged g c told damage =
+    let f = c.number_of.ensures.frame in
+    let own : AsksOnly (word_uses (g.P.Pages.pages c.args.pages.now) c.args.self.now) (g.P.Pages.asked c.args.pages.now) (g.P.Pages.asked c.number_of.new.pages) = asks-texts (g.P.Pages.pages c.args.pages.now) c.args.self.now _ _ (c.number_of.ensures.own told) in
+    let still : AreTold (g.P.Pages.pages c.number_of.new.pages) (g.P.Pages.count c.number_of.new.pages) = rw (f.pages, f.count) told in
+    let sought : IsTextSought (g.P.Pages.pages c.number_of.new.pages) c.args.self.now c.args.word.now c.in_ok-found.found = rw f.pages c.in_ok-found.ensures.formed in
+    λ e. rw (sym f.pages, sym f.count, sym f.first)
+    (⊎_elim
+    (λ count. inl (⊎_elim
+    (λ map. inl (map.0, asked-before (word_uses (g.P.Pages.pages c.args.pages.now) c.args.self.now) _ _ _ damage.page own map.1))
+    (λ rest. inr (⊎_elim (λ map. inl (map.0, asked-before (word_uses (g.P.Pages.pages c.args.pages.now) c.args.self.now) _ _ _ damage.page own map.1)) (λ more. inr more) rest))
+    count))
+    (λ other. inr other)
+    (c.hold_numbered.ensures.damaged still sought damage e))
 
-pub returns-in-None-clause-held : goal.returns-in-None-clause-held
-returns-in-None-clause-held g c entries free holds apart =
-    let before : View = view (g.P.Pages.pages c.args.pages.now) (g.P.Pages.count c.args.pages.now) (g.P.Pages.first c.args.pages.now) free in
-    let r = c.count_with.ensures in
-    let held : Holds (g.P.Pages.pages c.count_with.new.pages) c.args.self.now entries = rw r.frame.pages holds in
-    let kept : IsApart (view (g.P.Pages.pages c.count_with.new.pages) (g.P.Pages.count c.count_with.new.pages) (g.P.Pages.first c.count_with.new.pages) free) c.args.self.now = rw (r.frame.pages, r.frame.count, r.frame.first) apart in
-    let h = c.in_ok-hold.ensures.held entries holds in
-    let next : ℕ = c.args.self.now.next_word in
-    let was = sym h.1 ∙ c.in-None.is in
-    let is = with_hold-new c.args.word.now next c.in_ok-hold.hold.places entries was h.2 in
-    if_ok c.put_new.result (c.put_new.ensures.put entries free held kept) c.put_new.ensures.number c.put_new.ensures.next
-    (λ number changed same after. (
-      h.0,
-      same ∙ sym (ap (λ (f : Option ℕ). unwrap_or f next) was),
-      after ∙ sym (ap (λ (f : Option ℕ). next_after f next) was),
-      subst (λ (e : Entries). IsChanged before c.args.self.now (g.P.Pages.pages c.put_new.new.pages) (g.P.Pages.count c.put_new.new.pages) (g.P.Pages.first c.put_new.new.pages) c.put_new.new.self e) (sym is)
-          (rw (sym r.frame.pages, sym r.frame.count, sym r.frame.first) changed),
-    ))
-
-pub returns-in-None-clause-honest : goal.returns-in-None-clause-honest
-returns-in-None-clause-honest g c entries free holds apart told damage =
-    let before : View = view (g.P.Pages.pages c.args.pages.now) (g.P.Pages.count c.args.pages.now) (g.P.Pages.first c.args.pages.now) free in
-    let r = c.count_with.ensures in
-    let held : Holds (g.P.Pages.pages c.count_with.new.pages) c.args.self.now entries = rw r.frame.pages holds in
-    let kept : IsApart (view (g.P.Pages.pages c.count_with.new.pages) (g.P.Pages.count c.count_with.new.pages) (g.P.Pages.first c.count_with.new.pages) free) c.args.self.now = rw (r.frame.pages, r.frame.count, r.frame.first) apart in
-    λ e. absurd (c.put_new.ensures.honest entries free held kept damage e)
-
-pub returns-in-None-clause-damaged : goal.returns-in-None-clause-damaged
-returns-in-None-clause-damaged g c told damage =
-    let still : AreTold (g.P.Pages.pages c.count_with.new.pages) (g.P.Pages.count c.count_with.new.pages) = rw (c.count_with.ensures.frame.pages, c.count_with.ensures.frame.count) told in
-    let r = c.count_with.ensures in
-    λ e. ⊎_elim
-    (λ map. inl (inr (inl (rw (sym r.frame.pages, sym r.frame.count) map.0, asked-before (word_uses (g.P.Pages.pages c.args.pages.now) c.args.self.now) _ _ _ damage.page (r.own told) map.1))))
-    (λ rest. ⊎_elim (λ take. inr (inl take)) (λ none. inr (inr (λ tree. c.in_ok-hold.ensures.formed tree ∙ ap (λ (f : Option ℕ). option_map number_bytes f) c.in-None.is, λ entries free holds apart. none entries free (rw r.frame.pages holds) (rw (r.frame.pages, r.frame.count, r.frame.first) apart)))) rest)
-    (c.put_new.ensures.damaged still damage e)
-
-pub returns-in-None-clause-own : goal.returns-in-None-clause-own
-returns-in-None-clause-own g c entries free holds apart told =
-    let before : View = view (g.P.Pages.pages c.args.pages.now) (g.P.Pages.count c.args.pages.now) (g.P.Pages.first c.args.pages.now) free in
-    let r = c.count_with.ensures in
-    let held : Holds (g.P.Pages.pages c.count_with.new.pages) c.args.self.now entries = rw r.frame.pages holds in
-    let kept : IsApart (view (g.P.Pages.pages c.count_with.new.pages) (g.P.Pages.count c.count_with.new.pages) (g.P.Pages.first c.count_with.new.pages) free) c.args.self.now = rw (r.frame.pages, r.frame.count, r.frame.first) apart in
-    let still : AreTold (g.P.Pages.pages c.count_with.new.pages) (g.P.Pages.count c.count_with.new.pages) = rw (c.count_with.ensures.frame.pages, c.count_with.ensures.frame.count) told in
-    asks-further (word_uses (g.P.Pages.pages c.args.pages.now) c.args.self.now) _ _ _ (r.own told) (rw (sym r.frame.pages) (c.put_new.ensures.own entries free held kept still))
+pub returns-clause-own : goal.returns-clause-own
+returns-clause-own g c entries free holds apart told =
+    let f = c.number_of.ensures.frame in
+    let held : Holds (g.P.Pages.pages c.number_of.new.pages) c.args.self.now entries = rw f.pages holds in
+    let kept : IsApart (view (g.P.Pages.pages c.number_of.new.pages) (g.P.Pages.count c.number_of.new.pages) (g.P.Pages.first c.number_of.new.pages) free) c.args.self.now = rw (f.pages, f.count, f.first) apart in
+    let still : AreTold (g.P.Pages.pages c.number_of.new.pages) (g.P.Pages.count c.number_of.new.pages) = rw (f.pages, f.count) told in
+    asks-further (word_uses (g.P.Pages.pages c.args.pages.now) c.args.self.now) _ _ _ (asks-texts (g.P.Pages.pages c.args.pages.now) c.args.self.now _ _ (c.number_of.ensures.own told)) (rw (sym f.pages) (c.hold_numbered.ensures.own entries free held kept still))

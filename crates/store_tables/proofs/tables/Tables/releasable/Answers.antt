@@ -7,35 +7,35 @@ use Rattle.store_tables.specs.Holding.{numbers_form, word_uses}
 use Rattle.store_tables.proofs.ToldLemmas.{asks-numbers, asks-texts, map-value}
 use Rattle.store_tables.proofs.tables.Tables.releasable.Goals as goal
 
-pub returns-in_err-counted-clause-damaged : goal.returns-in_err-counted-clause-damaged
-returns-in_err-counted-clause-damaged g c told damage =
+pub returns-in_err-row-clause-damaged : goal.returns-in_err-row-clause-damaged
+returns-in_err-row-clause-damaged g c told damage =
     let p = err_from_is_err_and c.from_residual.result c.from_residual.ensures.1 in
-    λ e. (let same : c.in_err-counted.field-0.0 ≡ Damaged damage = cc (p.1, p.2, e) in
+    λ e. (let same : c.in_err-row.field-0.0 ≡ Damaged damage = cc (p.1, p.2, e) in
     ⊎_elim
-    (λ map. inl (map, c.in_err-counted.ensures.named told damage (ap Err same) (map-value numbers_form (g.P.Pages.pages c.args.pages.now) (g.P.Pages.count c.args.pages.now) c.args.self.now.numbers damage map)))
+    (λ map. inl (map, c.in_err-row.ensures.named told damage (ap Err same) (map-value numbers_form (g.P.Pages.pages c.args.pages.now) (g.P.Pages.count c.args.pages.now) c.args.self.now.numbers damage map)))
     (λ row. inr (inl row))
-    (c.in_err-counted.ensures.damaged told damage (ap Err same)))
+    (c.in_err-row.ensures.damaged told damage (ap Err same)))
 
-pub returns-in_err-counted-clause-own : goal.returns-in_err-counted-clause-own
-returns-in_err-counted-clause-own g c told = asks-numbers (g.P.Pages.pages c.args.pages.now) c.args.self.now _ _ (c.counted.ensures.own told)
+pub returns-in_err-row-clause-own : goal.returns-in_err-row-clause-own
+returns-in_err-row-clause-own g c told = asks-numbers (g.P.Pages.pages c.args.pages.now) c.args.self.now _ _ (c.counted_row.ensures.own told)
 
 pub returns-in_default-clause-own : goal.returns-in_default-clause-own
-returns-in_default-clause-own g c told = asks-numbers (g.P.Pages.pages c.args.pages.now) c.args.self.now _ _ (c.counted.ensures.own told)
+returns-in_default-clause-own g c told = asks-numbers (g.P.Pages.pages c.args.pages.now) c.args.self.now _ _ (c.counted_row.ensures.own told)
 
-pub returns-then-counted-gt1-clause-own : goal.returns-then-counted-gt1-clause-own
-returns-then-counted-gt1-clause-own g c told = asks-numbers (g.P.Pages.pages c.args.pages.now) c.args.self.now _ _ (c.counted.ensures.own told)
+pub returns-then-row-gt1-clause-own : goal.returns-then-row-gt1-clause-own
+returns-then-row-gt1-clause-own g c told = asks-numbers (g.P.Pages.pages c.args.pages.now) c.args.self.now _ _ (c.counted_row.ensures.own told)
 
 pub returns-in_err-found-clause-honest : goal.returns-in_err-found-clause-honest
 returns-in_err-found-clause-honest g c entries holds told counted damage =
-    let r = c.counted.ensures in
+    let r = c.counted_row.ensures in
     let p = err_from_is_err_and c.from_residual-in_err-found.result c.from_residual-in_err-found.ensures.1 in
     λ e. (let same : c.in_err-found.field-0.0 ≡ Damaged damage = cc (p.1, p.2, e) in
     absurd (c.in_err-found.ensures.honest entries (rw r.frame.pages holds) (rw r.frame.pages (rw r.frame.count told)) (rw r.frame.pages (rw r.frame.count counted)) damage (ap Err same)))
 
 pub returns-in_err-found-clause-damaged : goal.returns-in_err-found-clause-damaged
 returns-in_err-found-clause-damaged g c told damage =
-    let r = c.counted.ensures in
-    let still : AreTold (g.P.Pages.pages c.counted.new.pages) (g.P.Pages.count c.counted.new.pages) = rw r.frame.pages (rw r.frame.count told) in
+    let r = c.counted_row.ensures in
+    let still : AreTold (g.P.Pages.pages c.counted_row.new.pages) (g.P.Pages.count c.counted_row.new.pages) = rw r.frame.pages (rw r.frame.count told) in
     let p = err_from_is_err_and c.from_residual-in_err-found.result c.from_residual-in_err-found.ensures.1 in
     λ e. (let same : c.in_err-found.field-0.0 ≡ Damaged damage = cc (p.1, p.2, e) in
     inr (inr (inl (
@@ -45,18 +45,18 @@ returns-in_err-found-clause-damaged g c told damage =
 
 pub returns-in_err-found-clause-own : goal.returns-in_err-found-clause-own
 returns-in_err-found-clause-own g c told =
-    let r = c.counted.ensures in
+    let r = c.counted_row.ensures in
     asks-further (word_uses (g.P.Pages.pages c.args.pages.now) c.args.self.now) _ _ _ (asks-numbers (g.P.Pages.pages c.args.pages.now) c.args.self.now _ _ (r.own told))
     (asks-texts (g.P.Pages.pages c.args.pages.now) c.args.self.now _ _ (rw (sym r.frame.pages) (c.number_of.ensures.own (rw r.frame.pages (rw r.frame.count told)))))
 
 pub returns-in-Some-2-clause-own : goal.returns-in-Some-2-clause-own
 returns-in-Some-2-clause-own g c told =
-    let r = c.counted.ensures in
+    let r = c.counted_row.ensures in
     asks-further (word_uses (g.P.Pages.pages c.args.pages.now) c.args.self.now) _ _ _ (asks-numbers (g.P.Pages.pages c.args.pages.now) c.args.self.now _ _ (r.own told))
     (asks-texts (g.P.Pages.pages c.args.pages.now) c.args.self.now _ _ (rw (sym r.frame.pages) (c.number_of.ensures.own (rw r.frame.pages (rw r.frame.count told)))))
 
 pub returns-in_default-2-clause-own : goal.returns-in_default-2-clause-own
 returns-in_default-2-clause-own g c told =
-    let r = c.counted.ensures in
+    let r = c.counted_row.ensures in
     asks-further (word_uses (g.P.Pages.pages c.args.pages.now) c.args.self.now) _ _ _ (asks-numbers (g.P.Pages.pages c.args.pages.now) c.args.self.now _ _ (r.own told))
     (asks-texts (g.P.Pages.pages c.args.pages.now) c.args.self.now _ _ (rw (sym r.frame.pages) (c.number_of.ensures.own (rw r.frame.pages (rw r.frame.count told)))))
