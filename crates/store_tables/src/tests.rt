@@ -218,6 +218,9 @@ fn a_word_goes_with_its_last_place(rt: HostRuntime) -> Result<(), Fail> {
     assert!(rt; hold_all(&mut pages, &mut tables)?);
     tables.release(&mut pages, 1)?;
     assert_eq!(rt; tables.number_of(&mut pages, &tea)?, Some(1));
+    let counted = tables.counted(&mut pages, 1)?.ok_or("no tea")?;
+    assert_eq!(rt; counted.places, 1);
+    assert!(rt; tables.word_of(&mut pages, 2)? == word("cake"));
     tables.release(&mut pages, 1)?;
     assert_eq!(rt; tables.number_of(&mut pages, &tea)?, None);
     assert!(rt; tables.word_of(&mut pages, 1)?.is_none());
