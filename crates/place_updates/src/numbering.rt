@@ -16,6 +16,8 @@ use store_tables::Tables;
 use term_impacts::Word;
 
 // The number of a word, which is held by one place more unless its number is among the old pairs.
+//
+// Looks the word up by text once. If its number isn't among the old pairs, goes on as `Tables::hold_numbered`.
 fn take_hold<P: Pages>(
     pages: &mut P,
     tables: &mut Tables,
@@ -35,15 +37,12 @@ fn take_hold<P: Pages>(
     ensures fails { FailsChanging P.Pages pages.old pages.new result }
     ensures frame { Changes P.Pages pages.old pages.new }
 {
-    // A place that was not there held no word: then the number need not be known before.
-    if old.is_empty() {
-        return tables.hold(pages, word);
-    }
-    let number = tables.number_of(pages, word)?.unwrap_or(tables.next_word);
+    let found = tables.number_of(pages, word)?;
+    let number = found.unwrap_or(tables.next_word);
     if has_pair(number, old) {
         return Ok(number);
     }
-    tables.hold(pages, word)
+    tables.hold_numbered(pages, word, found)
 }
 
 /// Numbers the words in their order, and maps each number to the word's impact. One place more holds each word whose number

@@ -1,6 +1,4 @@
-use Rattle.std.proofs.Common.{arith, length, [], ◌≡◌, ℕ, Err, Option, false, cond, unwrap_or, ap, sym, subst, ◌∙◌}
-use Rattle.std.proofs.lemmas.Bool.Decides.{nat_tests}
-use Rattle.std.proofs.lemmas.List.{nil_from_length}
+use Rattle.std.proofs.Common.{◌≡◌, ℕ, Err, Option, false, cond, unwrap_or, ap, sym, subst, ◌∙◌}
 use Rattle.std.proofs.lemmas.Result.{err_from_is_err_and}
 use Rattle.page_face.specs.declared.fault.PageFault.TheVariants.{Damaged}
 use Rattle.btree_nodes.specs.Supply.{View, view}
@@ -12,12 +10,12 @@ use Rattle.store_meaning.specs.Updates.{has_pair}
 use Rattle.btree_insert.proofs.Readings.{ok-map}
 use Rattle.place_updates.proofs.numbering.take_hold.Goals as goal
 
-pub returns-in_err-number_of-clause-honest : goal.returns-in_err-number_of-clause-honest
-returns-in_err-number_of-clause-honest g c entries free holds apart can told damage =
+pub returns-in_err-found-clause-honest : goal.returns-in_err-found-clause-honest
+returns-in_err-found-clause-honest g c entries free holds apart can told damage =
     let before : View = view (g.P.Pages.pages c.args.pages.now) (g.P.Pages.count c.args.pages.now) (g.P.Pages.first c.args.pages.now) free in
     let p = err_from_is_err_and c.from_residual.result c.from_residual.ensures.1 in
-    λ e. (let same : c.in_err-number_of.field-0.0 ≡ Damaged damage = cc (p.1, p.2, e) in
-    c.in_err-number_of.ensures.honest entries holds told (apart-counted before c.args.tables.now apart) damage (ap Err same))
+    λ e. (let same : c.in_err-found.field-0.0 ≡ Damaged damage = cc (p.1, p.2, e) in
+    c.in_err-found.ensures.honest entries holds told (apart-counted before c.args.tables.now apart) damage (ap Err same))
 
 pub returns-clause-held : goal.returns-clause-held
 returns-clause-held g c entries free holds apart =
@@ -26,28 +24,14 @@ returns-clause-held g c entries free holds apart =
     let next : ℕ = c.args.tables.now.next_word in
     let held : Holds (g.P.Pages.pages c.number_of.new.pages) c.args.tables.now entries = rw r.frame.pages holds in
     let kept : IsApart (view (g.P.Pages.pages c.number_of.new.pages) (g.P.Pages.count c.number_of.new.pages) (g.P.Pages.first c.number_of.new.pages) free) c.args.tables.now = rw (r.frame.pages, r.frame.count, r.frame.first) apart in
-    let number_is : c.unwrap_or-number.result ≡ number_for c.args.word.now next entries.texts = c.unwrap_or-number.ensures ∙ ap (λ (f : Option ℕ). unwrap_or f next) (c.in_ok-number_of.ensures.found entries holds) in
+    let number_is : c.unwrap_or-number.result ≡ number_for c.args.word.now next entries.texts = c.unwrap_or-number.ensures ∙ ap (λ (f : Option ℕ). unwrap_or f next) (c.in_ok-found.ensures.found entries holds) in
     let fresh : has_pair c.unwrap_or-number.result c.args.old.now ≡ false = sym c.has_pair.ensures ∙ c.if-has_pair.false in
-    ok-map _ _ c.hold-2.result
+    ok-map _ _ c.hold_numbered.result
     (λ number h.
     let other : has_pair number c.args.old.now ≡ false = ap (λ (n : ℕ). has_pair n c.args.old.now) (h.1 ∙ sym number_is) ∙ fresh in (
       h.1,
       h.2 ∙ ap (λ b. cond b next (next_after (number_of_word c.args.word.now entries.texts) next)) (sym other),
-      subst (λ b. IsChanged before c.args.tables.now (g.P.Pages.pages c.hold-2.new.pages) (g.P.Pages.count c.hold-2.new.pages) (g.P.Pages.first c.hold-2.new.pages) c.hold-2.new.self (cond b entries (with_hold c.args.word.now next entries))) (sym other)
+      subst (λ b. IsChanged before c.args.tables.now (g.P.Pages.pages c.hold_numbered.new.pages) (g.P.Pages.count c.hold_numbered.new.pages) (g.P.Pages.first c.hold_numbered.new.pages) c.hold_numbered.new.self (cond b entries (with_hold c.args.word.now next entries))) (sym other)
           (rw (sym r.frame.pages, sym r.frame.count, sym r.frame.first) h.3),
     ))
-    (c.hold-2.ensures.held entries free held kept)
-
-pub returns-then-is_empty-clause-held : goal.returns-then-is_empty-clause-held
-returns-then-is_empty-clause-held g c entries free holds apart =
-    let before : View = view (g.P.Pages.pages c.args.pages.now) (g.P.Pages.count c.args.pages.now) (g.P.Pages.first c.args.pages.now) free in
-    let next : ℕ = c.args.tables.now.next_word in
-    let none : c.args.old.now ≡ [] = nil_from_length c.args.old.now (let z : length c.args.old.now ≡ 0 = grind (arith, nat_tests) in z) in
-    ok-map _ _ c.hold.result
-    (λ number h.
-    let other : has_pair number c.args.old.now ≡ false = ap (has_pair number) none in (
-      h.1,
-      h.2 ∙ ap (λ b. cond b next (next_after (number_of_word c.args.word.now entries.texts) next)) (sym other),
-      subst (λ b. IsChanged before c.args.tables.now (g.P.Pages.pages c.hold.new.pages) (g.P.Pages.count c.hold.new.pages) (g.P.Pages.first c.hold.new.pages) c.hold.new.self (cond b entries (with_hold c.args.word.now next entries))) (sym other) h.3,
-    ))
-    (c.hold.ensures.held entries free holds apart)
+    (c.hold_numbered.ensures.held entries free held kept (c.in_ok-found.ensures.found entries holds))
