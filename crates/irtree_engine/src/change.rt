@@ -15,9 +15,9 @@ use crate::fault::broken_by_head;
 use page_face::{Head, Pages, Rule};
 use place_map::{Applied, NUMBER_MAX, PLACES_MAX, Update};
 use place_updates::{put_place, remove_place};
+use row_codec::PAIRS_MAX;
 use spatial_base::{Key, Point};
 use std::alloc::Global;
-use row_codec::PAIRS_MAX;
 use store_tables::Tables;
 use term_impacts::Words;
 
