@@ -1,6 +1,6 @@
 #!/usr/bin/env bash
 # A store whose place map has 256 levels, under a small stack (`ulimit -s`): what is looked up there is answered in 64 KB, as over a map of two
-# levels, and a place that is put into a full leaf in 128 KB. tools/deep_store.py writes the store.
+# levels, and a place that is put into a full leaf in 160 KB. tools/deep_store.py writes the store.
 # It needs python3, and the program built (./irtree builds it).
 # usage: tools/small_stack.sh
 set -euo pipefail
@@ -35,4 +35,4 @@ add "vc" 0 0
 add "vd" 0 0
 show "vd"
 count'
-same "a leaf split below 255 levels in 128 KB" "$(replies 256 128 <<< "$put")" "$(replies 2 8192 <<< "$put")"
+same "a leaf split below 255 levels in 160 KB" "$(replies 256 160 <<< "$put")" "$(replies 2 8192 <<< "$put")"
