@@ -67,33 +67,45 @@ fn store_one(alloc: Global, station: &mut MemoryStation) -> Result<(), Fail> {
     Ok(())
 }
 
+// How many places live in a store.
+fn count_in(alloc: Global, station: &mut MemoryStation) -> Result<u32, EngineFault> {
+    let engine = Engine::open(alloc, station, 0)?;
+    let count = engine.count();
+    let _loan = engine.into_disk();
+    Ok(count)
+}
+
+// While an engine lives nothing returns early: its loan is given back by `close` or `into_disk`.
 #[test]
 fn a_stored_place_is_shown_with_its_words(rt: HostRuntime) -> Result<(), Fail> {
     let mut station = MemoryStation::new(rt.alloc(), 9);
     store_one(rt.alloc(), &mut station)?;
+    let (here, nowhere) = (key("a")?, key("b")?);
     let mut engine = Engine::open(rt.alloc(), &mut station, 0)?;
     assert_eq!(rt; engine.count(), 1);
-    let place = engine.show(&key("a")?)?.ok_or("absent")?;
+    let shown = engine.show(&here);
+    let other = engine.show(&nowhere);
+    assert_eq!(rt; engine.read_log().len(), 1);
+    assert_eq!(rt; engine.say(b"ok"), Ok(2));
+    assert_eq!(rt; engine.read_log().len(), 1);
+    assert_eq!(rt; engine.close(), Ok(()));
+    let place = shown?.ok_or("absent")?;
     assert_eq!(rt; place.point, Point::new(-1, 2).ok_or("off the map")?);
     let pairs = place.words.pairs();
     assert_eq!(rt; pairs.len(), 1);
     assert_eq!(rt; pairs[0].0.text(), "café");
     assert_eq!(rt; pairs[0].1, 9);
-    assert!(rt; engine.show(&key("b")?)?.is_none());
-    assert_eq!(rt; engine.read_log().len(), 1);
-    assert_eq!(rt; engine.say(b"ok"), Ok(2));
-    assert_eq!(rt; engine.read_log().len(), 1);
-    assert_eq!(rt; engine.close(), Ok(()));
+    assert!(rt; other?.is_none());
     Ok(())
 }
 
 #[test]
 fn an_area_of_other_bytes_is_no_store(rt: HostRuntime) -> Result<(), Fail> {
     let mut station = MemoryStation::with_image(rt.alloc(), &[120; 4096], b"", 9)?;
-    let opened = Engine::open(rt.alloc(), &mut station, 0).map(|engine| engine.count());
+    let opened = count_in(rt.alloc(), &mut station);
     assert_eq!(rt; opened, Err(EngineFault::NotAStore));
     let mut empty = MemoryStation::new(rt.alloc(), 9);
-    let opened = Engine::open(rt.alloc(), &mut empty, 0).map(|engine| engine.count());
+    let opened = count_in(rt.alloc(), &mut empty);
     assert_eq!(rt; opened, Ok(0));
     Ok(())
 }
@@ -101,31 +113,34 @@ fn an_area_of_other_bytes_is_no_store(rt: HostRuntime) -> Result<(), Fail> {
 #[test]
 fn what_was_applied_stands_after_reopening(rt: HostRuntime) -> Result<(), Fail> {
     let mut station = MemoryStation::new(rt.alloc(), 30);
-    let mut engine = Engine::open(rt.alloc(), &mut station, 0)?;
     let first = put(rt.alloc(), "a", "café")?;
-    assert_eq!(rt; engine.apply(&first), Ok(Applied::New));
-    assert_eq!(rt; engine.apply(&first), Ok(Applied::Replaced));
-    assert_eq!(rt;
-        engine.apply(&Update::Remove { key: key("b")? }),
-        Ok(Applied::Absent)
-    );
+    let absent = Update::Remove { key: key("b")? };
     let batch = [
         put(rt.alloc(), "b", "bar")?,
         Update::Remove { key: key("a")? },
     ];
-    assert_eq!(rt; engine.apply_batch(&batch), Ok(()));
-    assert_eq!(rt; engine.settle(), Ok(()));
-    let _loan = engine.into_disk();
-    let mut engine = Engine::open(rt.alloc(), &mut station, 0)?;
-    assert_eq!(rt; engine.count(), 1);
-    assert!(rt; engine.show(&key("a")?)?.is_none());
+    let gone = key("a")?;
     let query = Query::Nearest {
         at: Point::new(0, 0).ok_or("off the map")?,
         k: 2,
         filter: None,
     };
     assert!(rt; query.is_within_limits());
-    let Answer::Hits(hits) = engine.answer(&query)? else {
+    let mut engine = Engine::open(rt.alloc(), &mut station, 0)?;
+    assert_eq!(rt; engine.apply(&first), Ok(Applied::New));
+    assert_eq!(rt; engine.apply(&first), Ok(Applied::Replaced));
+    assert_eq!(rt; engine.apply(&absent), Ok(Applied::Absent));
+    assert_eq!(rt; engine.apply_batch(&batch), Ok(()));
+    assert_eq!(rt; engine.settle(), Ok(()));
+    let _loan = engine.into_disk();
+    let mut engine = Engine::open(rt.alloc(), &mut station, 0)?;
+    let count = engine.count();
+    let shown = engine.show(&gone);
+    let answer = engine.answer(&query);
+    let _loan = engine.into_disk();
+    assert_eq!(rt; count, 1);
+    assert!(rt; shown?.is_none());
+    let Answer::Hits(hits) = answer? else {
         return Err("no hits".into());
     };
     assert_eq!(rt; hits.as_slice().len(), 1);

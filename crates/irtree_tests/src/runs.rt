@@ -65,7 +65,11 @@ pub(crate) fn load_on(
 ) -> Result<Result<(), Ended>, Fail> {
     let mut source = MemorySource::new(alloc, text, 100, &[]).map_err(|_| "memory")?;
     match Engine::open(alloc, station, 0) {
-        Ok(mut engine) => Ok(run_load(alloc, batch.min(10_000), &mut source, &mut engine)),
+        Ok(mut engine) => {
+            let ended = run_load(alloc, batch.min(10_000), &mut source, &mut engine);
+            let _loan = engine.into_disk();
+            Ok(ended)
+        }
         Err(fault) => Ok(Err(ended_by(fault))),
     }
 }
