@@ -1,0 +1,9 @@
+pub mod Areas
+pub mod Best
+pub mod Bits
+pub mod Divisions
+pub mod Once
+pub mod Partners
+pub mod Ranks
+pub mod Spreads
+pub mod Sums

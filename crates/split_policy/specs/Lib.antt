@@ -1,0 +1,5 @@
+pub mod Areas
+pub mod Divided
+pub mod Halving
+pub mod Masks
+pub mod Quadratic

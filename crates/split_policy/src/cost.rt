@@ -1,0 +1,50 @@
+//! What joining a rectangle costs another.
+ghost use Rattle.std.specs.Prelude.{◌≡◌, ◌||◌, ◌&&◌, ◌==◌, nat_lt};
+ghost use Rattle.split_policy.specs.Areas.{growth_of, rect_area};
+
+use spatial_base::Rect;
+
+/// The area that a rectangle gains by joining another, and the area that it had, in square units of 10^-7 degrees.
+#[derive(Clone, Copy, PartialEq, Eq)]
+pub(crate) struct Cost {
+    pub(crate) gained: u64,
+    pub(crate) had: u64,
+}
+
+impl Cost {
+    /// Returns what joining `add` costs a rectangle.
+    pub(crate) fn of(rect: &Rect, add: &Rect) -> Cost
+        ensures gained { result.gained ≡ growth_of rect.now add.now }
+        ensures had { result.had ≡ rect_area rect.now }
+    {
+        let had = area(rect);
+        Cost {
+            gained: growth(rect, had, add),
+            had,
+        }
+    }
+
+    /// Returns whether this cost is less: less area is gained, or as much by a smaller rectangle.
+    pub(crate) fn is_less(&self, other: &Cost) -> bool
+        ensures { result ≡ (nat_lt self.now.gained other.now.gained
+            || ((self.now.gained == other.now.gained) && nat_lt self.now.had other.now.had)) }
+    {
+        self.gained < other.gained || self.gained == other.gained && self.had < other.had
+    }
+}
+
+/// Returns the area of a rectangle, in square units of 10^-7 degrees.
+pub(crate) fn area(rect: &Rect) -> u64
+    ensures { result ≡ rect_area rect.now }
+{
+    rect.area()
+}
+
+/// Returns the area that a rectangle of the area `had` gains by joining another, in square units of 10^-7 degrees.
+pub(crate) fn growth(rect: &Rect, had: u64, add: &Rect) -> u64
+    requires { had ≡ rect_area rect.now }
+    ensures { result ≡ growth_of rect.now add.now }
+{
+    prove!(rect.west() <= rect.east());
+    area(&rect.join(add)) - had
+}

@@ -1,0 +1,46 @@
+//! The two groups of a quadratic split.
+ghost use Rattle.std.specs.Prelude.{◌≡◌, ◌<◌};
+ghost use Rattle.split_policy.specs.Quadratic.{group_of, with_entry, is_preferred};
+
+use crate::cost::Cost;
+use spatial_base::Rect;
+
+/// A group of entries: the least rectangle round them, and how many there are.
+#[derive(Clone, Copy)]
+pub(crate) struct Group {
+    pub(crate) bounds: Rect,
+    pub(crate) count: u32,
+}
+
+impl Group {
+    /// Returns the group of one entry.
+    pub(crate) fn of(rect: &Rect) -> Group
+        ensures { result ≡ group_of rect.now }
+    {
+        Group {
+            bounds: *rect,
+            count: 1,
+        }
+    }
+
+    /// Returns the group and one entry more.
+    pub(crate) fn with(&self, rect: &Rect) -> Group
+        requires { self.now.count < 33 }
+        ensures { result ≡ with_entry rect.now self.now }
+    {
+        Group {
+            bounds: self.bounds.join(rect),
+            count: self.count + 1,
+        }
+    }
+
+    /// Returns whether an entry joins this group rather than the other: this one grows less, of equals is smaller, and of equals
+    /// again has fewer entries.
+    pub(crate) fn is_preferred(&self, rect: &Rect, other: &Group) -> bool
+        ensures { result ≡ is_preferred rect.now self.now other.now }
+    {
+        let here = Cost::of(&self.bounds, rect);
+        let there = Cost::of(&other.bounds, rect);
+        here.is_less(&there) || here == there && self.count < other.count
+    }
+}
