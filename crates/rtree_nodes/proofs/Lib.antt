@@ -1,0 +1,16 @@
+pub mod AllBelow
+pub mod Bounding
+pub mod Cells
+pub mod Children
+pub mod Coded
+pub mod Formed
+pub mod Images
+pub mod Keys
+pub mod Laws
+pub mod Made
+pub mod Masks
+pub mod Clearings
+pub mod Parts
+pub mod Puts
+pub mod Reaches
+pub mod Rewrites

@@ -1,0 +1,46 @@
+//! What the first bytes of a page say, and what stands in a slot.
+ghost use Rattle.std.specs.Prelude.{◌≡◌};
+ghost use Rattle.rtree_nodes.specs.Reach.{reach_of, item_of, rect_in};
+
+use spatial_base::{Key, Point, Rect};
+
+/// What the first bytes of a node's page say.
+#[derive(Clone, Copy, Debug, PartialEq, Eq)]
+pub struct Header {
+    /// The level, 0 in a leaf.
+    pub level: u8,
+    /// The mask of used slots, slot i at bit i. It isn't 0.
+    pub used: u32,
+}
+
+/// What stands in a slot: a place in a leaf, a child in an inner node.
+#[derive(Clone, Copy, Debug, PartialEq, Eq)]
+pub enum Slot {
+    /// A place of a leaf.
+    Place {
+        /// Where it is.
+        point: Point,
+        /// Its key.
+        key: Key,
+    },
+    /// A child of an inner node.
+    Child {
+        /// The least rectangle round what is below it.
+        rect: Rect,
+        /// Its page.
+        page: u32,
+    },
+}
+
+impl Slot {
+    /// The rectangle that it goes to: a child's, or that of a place's point.
+    pub fn rect(&self) -> Rect
+        ensures value { result ≡ rect_in self.now }
+        ensures reach { reach_of result ≡ (item_of self.now).reach }
+    {
+        match self {
+            Slot::Place { point, .. } => Rect::of(point),
+            Slot::Child { rect, .. } => *rect,
+        }
+    }
+}
