@@ -1,0 +1,5 @@
+pub mod Entries
+pub mod Rounds
+pub mod Subtrees
+pub mod Roots
+pub mod Harms

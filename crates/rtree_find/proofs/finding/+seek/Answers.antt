@@ -1,0 +1,211 @@
+use Rattle.std.proofs.Common.{◌≡◌, ℕ, suc, ◌-◌, ◌<◌, List, length, Some, None, Err, Bool, arith, refl, sym, ap, ◌∙◌, subst, slice_index_or, get_or-set_same, get_or-set_other, below_more}
+use Rattle.std.specs.Prelude.{◌≢◌, slice_set}
+use Rattle.page_face.specs.FreeList.{PageMap}
+use Rattle.page_face.specs.Calls.{Reads}
+use Rattle.page_face.specs.declared.fault.Damage.{Damage}
+use Rattle.page_face.specs.declared.fault.PageFault.TheVariants.{Damaged}
+use Rattle.page_face.proofs.Frames.{reads_then}
+use Rattle.btree_nodes.specs.Damages.{AskedSince}
+use Rattle.btree_nodes.proofs.Walks.{same-fault}
+use Rattle.btree_delete.proofs.Walks.{asked-from}
+use Rattle.rtree_shape.specs.Slots.{NodeMap, got}
+use Rattle.rtree_shape.specs.Trees.{below, node_below}
+use Rattle.rtree_shape.specs.Made.{nodes_in}
+use Rattle.rtree_shape.specs.Loose.{Leads}
+use Rattle.rtree_nodes.specs.Pages.{level_in, is_form, stored_in, node_of}
+use Rattle.rtree_nodes.specs.Reach.{place_item}
+use Rattle.rtree_find.specs.Entries.{is_entry, IsRound}
+use Rattle.rtree_find.specs.Subtrees.{IsNodeAt, AreCounted, Finds}
+use Rattle.rtree_find.specs.Harms.{BreaksPlace, IsHarm}
+use Rattle.rtree_find.proofs.Subtrees.{node-read, place-fine, page-counted, leaf-finds, node-absent, passed-short, child-here, child-node, child-counted, child-leads, passed-child}
+use Rattle.rtree_find.proofs.Rounds.{no-child}
+use Rattle.rtree_find.proofs.Harms.{harm-child}
+use Rattle.rtree_find.proofs.finding.+seek.Goals as goal
+use Rattle.rtree_find.proofs.finding.+seek.Goals.{in-Some+in-Ok-enter_child+in-Ok-false, in_default}
+
+pub returns-then-level-eq0-clause-finds : goal.returns-then-level-eq0-clause-finds
+returns-then-level-eq0-clause-finds g t c = λ is node.
+    let old : PageMap = g.P.Pages.pages c.args.pages.now in
+    let nodes : NodeMap = nodes_in node_of old in
+    let page : ℕ = c.args.page in
+    let bytes : List ℕ = c.looked.result.now in
+    let r = node-read old c.args.level page node in
+    let leaf : level_in bytes ≡ 0 = ap level_in c.looked.ensures ∙ sym c.requires.level ∙ c.if-level-eq0.true in
+    let slots : (nodes page).slots ≡ stored_in bytes = r.slots ∙ ap stored_in (sym (c.looked.ensures ∙ is)) in
+    subst (λ (k : ℕ). Finds nodes k page c.args.point.now c.args.key.now c.seek_in_leaf.new.path c.seek_in_leaf.result) (sym c.if-level-eq0.true)
+    (leaf-finds nodes page (stored_in bytes) c.args.point.now c.args.key.now c.seek_in_leaf.new.path c.seek_in_leaf.result slots (c.seek_in_leaf.ensures.found leaf) (c.seek_in_leaf.ensures.absent leaf))
+
+pub returns-in-Err-clause-honest : goal.returns-in-Err-clause-honest
+returns-in-Err-clause-honest g t c = λ is node counted damage e.
+    let old : PageMap = g.P.Pages.pages c.args.pages.now in
+    let r = node-read old c.args.level c.args.page node in
+    let k = c.in-Err.ensures.ok (ap is_form (c.looked-2.ensures ∙ is) ∙ r.form) in
+    absurd (cc)
+
+pub returns-in-Err-enter_child-clause-honest : goal.returns-in-Err-enter_child-clause-honest
+returns-in-Err-enter_child-clause-honest g t c = λ is node counted damage e.
+    let old : PageMap = g.P.Pages.pages c.args.pages.now in
+    let count : ℕ = g.P.Pages.count c.args.pages.now in
+    let nodes : NodeMap = nodes_in node_of old in
+    let level : ℕ = c.args.level in
+    let l : ℕ = level - 1 in
+    let up : level ≡ suc l = omega arith in
+    let page : ℕ = c.args.page in
+    let at : ℕ = c.loop-at.at in
+    let child : ℕ = c.in-Some.child in
+    let within : at < 32 = omega arith in
+    let bytes : List ℕ = c.looked-2.result.now in
+    let inner : 0 < level_in bytes = let a : level ≡ level_in bytes = c.requires.level ∙ ap level_in (sym c.looked-2.ensures) in omega arith in
+    let there = child-here old level page at child c.args.point.now bytes (slice_index_or c.in-Ok.children at None) (c.looked-2.ensures ∙ is) node (c.in-Ok.ensures.round inner at within) c.in-Some.is in
+    let m = c.loop-at.invariant.frame in
+    let d = c.enter_child.ensures.damaged damage (c.in-Err-enter_child.is ∙ ap Err (same-fault {T = Bool} _ _ e)) in
+    let broken : BreaksPlace damage.rule old count child (λ found. found ≢ l) =
+    subst (λ (k : ℕ). BreaksPlace damage.rule old k child (λ found. found ≢ l)) m.count (subst (λ (x : PageMap). BreaksPlace damage.rule x (g.P.Pages.count c.loop-at.pages) child (λ found. found ≢ l)) m.pages d.2) in
+    let at_child = child-node nodes level l page at child up within node there in
+    place-fine damage.rule old count l child (λ found. found ≢ l) at_child
+    (page-counted nodes count l child (child-counted nodes level l page at child up within node there count counted)) (λ wrong. wrong refl) broken
+
+pub returns-in-Err-enter_child-clause-damaged : goal.returns-in-Err-enter_child-clause-damaged
+returns-in-Err-enter_child-clause-damaged g t c = λ before root told asked damage e.
+    let old : PageMap = g.P.Pages.pages c.args.pages.now in
+    let count : ℕ = g.P.Pages.count c.args.pages.now in
+    let level : ℕ = c.args.level in
+    let l : ℕ = level - 1 in
+    let up : level ≡ suc l = omega arith in
+    let page : ℕ = c.args.page in
+    let at : ℕ = c.loop-at.at in
+    let child : ℕ = c.in-Some.child in
+    let within : at < 32 = omega arith in
+    let bytes : List ℕ = c.looked-2.result.now in
+    let level_is : level ≡ level_in bytes = c.requires.level ∙ ap level_in (sym c.looked-2.ensures) in
+    let inner : 0 < level_in bytes = omega arith in
+    let kept : IsRound (stored_in bytes) c.args.point.now at (Some child) = subst (IsRound (stored_in bytes) c.args.point.now at) c.in-Some.is (c.in-Ok.ensures.round inner at within) in
+    let m = c.loop-at.invariant.frame in
+    let middle : List ℕ = g.P.Pages.asked c.loop-at.pages in
+    let after : List ℕ = g.P.Pages.asked c.enter_child.new.pages in
+    let d = c.enter_child.ensures.damaged damage (c.in-Err-enter_child.is ∙ ap Err (same-fault {T = Bool} _ _ e)) in
+    let broken : BreaksPlace damage.rule old count child (λ found. found ≢ l) =
+    subst (λ (k : ℕ). BreaksPlace damage.rule old k child (λ found. found ≢ l)) m.count (subst (λ (x : PageMap). BreaksPlace damage.rule x (g.P.Pages.count c.loop-at.pages) child (λ found. found ≢ l)) m.pages d.2) in
+    let mid = c.loop-at.invariant.keeps before page asked in
+    harm-child old count root before middle after bytes level l page at child damage up level_is (λ some. c.looked-2.ensures ∙ told some) kept mid (c.enter_child.ensures.keeps before page mid) (d.0, d.1, broken)
+
+pub returns-in-Ok-true-clause-finds : goal.returns-in-Ok-true-clause-finds
+returns-in-Ok-true-clause-finds g t c = λ is node.
+    let old : PageMap = g.P.Pages.pages c.args.pages.now in
+    let nodes : NodeMap = nodes_in node_of old in
+    let level : ℕ = c.args.level in
+    let l : ℕ = level - 1 in
+    let up : level ≡ suc l = omega arith in
+    let page : ℕ = c.args.page in
+    let at : ℕ = c.loop-at.at in
+    let child : ℕ = c.in-Some.child in
+    let within : at < 32 = omega arith in
+    let bytes : List ℕ = c.looked-2.result.now in
+    let inner : 0 < level_in bytes = let a : level ≡ level_in bytes = c.requires.level ∙ ap level_in (sym c.looked-2.ensures) in omega arith in
+    let there = child-here old level page at child c.args.point.now bytes (slice_index_or c.in-Ok.children at None) (c.looked-2.ensures ∙ is) node (c.in-Ok.ensures.round inner at within) c.in-Some.is in
+    let m = c.loop-at.invariant.frame in
+    let f = c.enter_child.ensures.frame in
+    let point = c.args.point.now in
+    let key : List ℕ = c.args.key.now in
+    let path : List ℕ = c.seek.new.path in
+    let at_child = child-node nodes level l page at child up within node there in
+    let looked : g.P.Pages.looked c.enter_child.new.pages ≡ old child =
+    (subst (λ (x : PageMap). 0 < length (x child) → g.P.Pages.looked c.enter_child.new.pages ≡ x child) m.pages c.in-Ok-enter_child.ensures.gives) (let q = node-read old l child at_child in q.told) in
+    let claim = subst (λ (x : PageMap). g.P.Pages.looked c.enter_child.new.pages ≡ x child → IsNodeAt (nodes_in node_of x) l child → Finds (nodes_in node_of x) l child point key path c.in-Ok-true.field-0) (f.pages ∙ m.pages) c.in-Ok-true.ensures.finds in
+    let leads : Leads nodes path l child (place_item point key) = subst (Finds nodes l child point key path) c.in-Ok-true.field-0-test (claim looked at_child) in
+    let long : level < length path = let n = c.seek.array_long in let b = c.requires.low in omega arith in
+    child-leads nodes level l page at child up within node there point key path (slice_set path level at) leads
+    (get_or-set_same path level at 0 long) (λ i less. get_or-set_other path level i at 0 (λ same. absurd (omega arith)))
+
+pub returns-in-Err-seek-clause-honest : goal.returns-in-Err-seek-clause-honest
+returns-in-Err-seek-clause-honest g t c = λ is node counted damage e.
+    let old : PageMap = g.P.Pages.pages c.args.pages.now in
+    let count : ℕ = g.P.Pages.count c.args.pages.now in
+    let nodes : NodeMap = nodes_in node_of old in
+    let level : ℕ = c.args.level in
+    let l : ℕ = level - 1 in
+    let up : level ≡ suc l = omega arith in
+    let page : ℕ = c.args.page in
+    let at : ℕ = c.loop-at.at in
+    let child : ℕ = c.in-Some.child in
+    let within : at < 32 = omega arith in
+    let bytes : List ℕ = c.looked-2.result.now in
+    let inner : 0 < level_in bytes = let a : level ≡ level_in bytes = c.requires.level ∙ ap level_in (sym c.looked-2.ensures) in omega arith in
+    let there = child-here old level page at child c.args.point.now bytes (slice_index_or c.in-Ok.children at None) (c.looked-2.ensures ∙ is) node (c.in-Ok.ensures.round inner at within) c.in-Some.is in
+    let m = c.loop-at.invariant.frame in
+    let f = c.enter_child.ensures.frame in
+    let at_child = child-node nodes level l page at child up within node there in
+    let looked : g.P.Pages.looked c.enter_child.new.pages ≡ old child =
+    (subst (λ (x : PageMap). 0 < length (x child) → g.P.Pages.looked c.enter_child.new.pages ≡ x child) m.pages c.in-Ok-enter_child.ensures.gives) (let q = node-read old l child at_child in q.told) in
+    let claim = subst (λ (k : ℕ). g.P.Pages.looked c.enter_child.new.pages ≡ old child → IsNodeAt nodes l child → AreCounted nodes k l child → (harm : Damage) → c.seek.result ≡ Err (Damaged harm) → ⊥) (f.count ∙ m.count)
+    (subst (λ (x : PageMap). g.P.Pages.looked c.enter_child.new.pages ≡ x child → IsNodeAt (nodes_in node_of x) l child → AreCounted (nodes_in node_of x) (g.P.Pages.count c.enter_child.new.pages) l child → (harm : Damage) → c.seek.result ≡ Err (Damaged harm) → ⊥)
+    (f.pages ∙ m.pages) c.seek.ensures.honest) in
+    claim looked at_child (child-counted nodes level l page at child up within node there count counted) damage (c.in-Err-seek.is ∙ e)
+
+pub returns-in-Err-seek-clause-damaged : goal.returns-in-Err-seek-clause-damaged
+returns-in-Err-seek-clause-damaged g t c = λ before root told asked damage e.
+    let old : PageMap = g.P.Pages.pages c.args.pages.now in
+    let child : ℕ = c.in-Some.child in
+    let page : ℕ = c.args.page in
+    let last : List ℕ = g.P.Pages.asked c.seek.new.pages in
+    let m = c.loop-at.invariant.frame in
+    let f = c.enter_child.ensures.frame in
+    let gives = subst (λ (x : PageMap). 0 < length (x child) → g.P.Pages.looked c.enter_child.new.pages ≡ x child) (sym f.pages) c.in-Ok-enter_child.ensures.gives in
+    let seen : AskedSince before (g.P.Pages.asked c.enter_child.new.pages) child =
+    asked-from before (g.P.Pages.asked c.loop-at.pages) (g.P.Pages.asked c.enter_child.new.pages) page child (c.loop-at.invariant.keeps before page asked) c.in-Ok-enter_child.ensures.here in
+    let harm = c.seek.ensures.damaged before root gives seen damage (c.in-Err-seek.is ∙ e) in
+    subst (λ (k : ℕ). IsHarm old k root before last damage) (f.count ∙ m.count)
+    (subst (λ (x : PageMap). IsHarm x (g.P.Pages.count c.enter_child.new.pages) root before last damage) (f.pages ∙ m.pages) harm)
+
+pub returns-clause-finds : goal.returns-clause-finds
+returns-clause-finds g t c = λ is node.
+    node-absent (nodes_in node_of (g.P.Pages.pages c.args.pages.now)) c.args.level c.args.page c.args.point.now c.args.key.now c.loop-at.path
+    (λ i less. c.loop-at.invariant.passed is node i (omega arith))
+
+pub loop-at-preserved : goal.loop-at-preserved
+loop-at-preserved g t c =
+    let further = g.met.P.Pages.goes_further in
+    let more = g.met.P.Pages.reads_further in
+    let old : PageMap = g.P.Pages.pages c.args.pages.now in
+    let nodes : NodeMap = nodes_in node_of old in
+    let level : ℕ = c.args.level in
+    let l : ℕ = level - 1 in
+    let up : level ≡ suc l = omega arith in
+    let page : ℕ = c.args.page in
+    let at : ℕ = c.loop-at.at in
+    let within : at < 32 = omega arith in
+    let point = c.args.point.now in
+    let key : List ℕ = c.args.key.now in
+    let bytes : List ℕ = c.looked-2.result.now in
+    let inner : 0 < level_in bytes = let a : level ≡ level_in bytes = c.requires.level ∙ ap level_in (sym c.looked-2.ensures) in omega arith in
+    let kept : IsRound (stored_in bytes) point at (slice_index_or c.in-Ok.children at None) = c.in-Ok.ensures.round inner at within in
+    let m = c.loop-at.invariant.frame in
+    let slots : g.P.Pages.looked c.args.pages.now ≡ old page → IsNodeAt nodes level page → (nodes page).slots ≡ stored_in bytes =
+    λ is node. let r = node-read old level page node in r.slots ∙ ap stored_in (sym (c.looked-2.ensures ∙ is)) in
+    elim c.match-children-at.branch [
+      | in-Some+in-Ok-enter_child+in-Ok-false w ↦
+          let child : ℕ = w.in-Some.child in
+          let f = w.enter_child.ensures.frame in
+          record {
+            frame = subst (λ (x : g.row.P.Denot). Reads g.P.Pages c.args.pages.now x) (sym w.pages-is)
+                (reads_then g.P.Pages further more _ _ _ (reads_then g.P.Pages further more _ _ _ m f) w.seek.ensures.frame);
+            keeps = λ before n a. subst (λ (x : g.row.P.Denot). AskedSince before (g.P.Pages.asked x) n) (sym w.pages-is)
+                (w.seek.ensures.keeps before n (w.enter_child.ensures.keeps before n (c.loop-at.invariant.keeps before n a)));
+            passed = λ is node. below_more (λ i. got (λ y. below nodes (is_entry point key) level y) ((nodes page).slots i) ≡ 0) at (c.loop-at.invariant.passed is node)
+                (let there = child-here old level page at child point bytes (slice_index_or c.in-Ok.children at None) (c.looked-2.ensures ∙ is) node kept w.in-Some.is in
+                let at_child = child-node nodes level l page at child up within node there in
+                let looked : g.P.Pages.looked w.enter_child.new.pages ≡ old child =
+                (subst (λ (x : PageMap). 0 < length (x child) → g.P.Pages.looked w.enter_child.new.pages ≡ x child) m.pages w.in-Ok-enter_child.ensures.gives) (let q = node-read old l child at_child in q.told) in
+                let claim = subst (λ (x : PageMap). g.P.Pages.looked w.enter_child.new.pages ≡ x child → IsNodeAt (nodes_in node_of x) l child → Finds (nodes_in node_of x) l child point key w.seek.new.path w.in-Ok-false.field-0) (f.pages ∙ m.pages) w.in-Ok-false.ensures.finds in
+                let none : node_below nodes (is_entry point key) l child ≡ 0 = subst (Finds nodes l child point key w.seek.new.path) w.in-Ok-false.field-0-test (claim looked at_child) in
+                passed-child nodes level l page at child up within node there point key none);
+          }
+      | in_default w ↦
+          record {
+            frame = subst (λ (x : g.row.P.Denot). Reads g.P.Pages c.args.pages.now x) (sym w.pages-is) m;
+            keeps = λ before n a. subst (λ (x : g.row.P.Denot). AskedSince before (g.P.Pages.asked x) n) (sym w.pages-is) (c.loop-at.invariant.keeps before n a);
+            passed = λ is node. below_more (λ i. got (λ y. below nodes (is_entry point key) level y) ((nodes page).slots i) ≡ 0) at (c.loop-at.invariant.passed is node)
+                (passed-short nodes level page at (stored_in bytes) point key (slots is node) node within
+                (subst (IsRound (stored_in bytes) point at) (no-child (slice_index_or c.in-Ok.children at None) w.in_default.not-Some) kept));
+          }
+    ]
