@@ -1,0 +1,10 @@
+pub mod Outlines
+pub mod Loads
+pub mod Halves
+pub mod Damages
+pub mod Counted
+pub mod Rises
+pub mod Links
+pub mod Descents
+pub mod Tops
+pub mod Lands

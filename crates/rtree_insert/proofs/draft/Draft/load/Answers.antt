@@ -1,0 +1,22 @@
+use Rattle.std.proofs.Common.{sym, ◌∙◌, subst, refl, ℕ}
+use Rattle.std.proofs.lemmas.Result.{err_from_is_err_and}
+use Rattle.std.proofs.lemmas.Bool.{false≢true}
+use Rattle.rtree_nodes.specs.Pages.{slots_in}
+use Rattle.rtree_insert.specs.Drafts.{AreOutlined}
+use Rattle.rtree_nodes.proofs.Bounding.{form-rects, some-form}
+use Rattle.rtree_insert.proofs.Loads.{read-outlined, header-sound, value-breaks, same-rule}
+use Rattle.rtree_insert.proofs.draft.Draft.load.Goals as goal
+
+pub returns-in_err-head-clause-ok : goal.returns-in_err-head-clause-ok
+returns-in_err-head-clause-ok c = λ some. absurd (header-sound c.in_err-head.field-0.0 c.args.page.now c.in_err-head.ensures some)
+
+pub returns-in_err-self-clause-ok : goal.returns-in_err-self-clause-ok
+returns-in_err-self-clause-ok c = λ some. absurd (false≢true (sym (c.in_err-self.ensures.value.0 refl) ∙ form-rects c.args.page.now (some-form c.args.page.now some)))
+
+pub returns-in_err-self-clause-broken : goal.returns-in_err-self-clause-broken
+returns-in_err-self-clause-broken c =
+    let passed = err_from_is_err_and c.from_residual-in_err-self.result c.from_residual-in_err-self.ensures.1 in
+    rw (passed.1, passed.2) (λ rule e. value-breaks rule c.args.page.now (sym (same-rule _ _ e) ∙ c.in_err-self.ensures.rule) (c.in_err-self.ensures.value.0 refl))
+
+pub returns-clause-draft : goal.returns-clause-draft
+returns-clause-draft c = λ form. record { form = form; outlined = subst (λ (u : ℕ). AreOutlined u c.in_ok-self.field-0 (slots_in c.args.page.now)) (sym c.in_ok-head.ensures.1) (read-outlined c.args.page.now c.in_ok-self.field-0 form (c.in_ok-self.ensures.reach form)) }
