@@ -1,0 +1,5 @@
+pub mod Forms
+pub mod Pushes
+pub mod Takes
+pub mod Removes
+pub mod Ways

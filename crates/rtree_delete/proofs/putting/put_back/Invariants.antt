@@ -1,0 +1,19 @@
+use Rattle.std.proofs.Common.{ℕ, List, vec_len}
+use Rattle.page_face.specs.Calls.{Changes}
+use Rattle.rtree_shape.specs.Slots.{Item}
+use Rattle.rtree_shape.specs.Stock.{View, view, IsSupplied}
+use Rattle.rtree_shape.specs.Loose.{IsStanding}
+use Rattle.rtree_nodes.specs.Pages.{node_of}
+use Rattle.rtree_delete.specs.Orphans.{loose_in}
+use Rattle.rtree_delete.proofs.putting.put_back.Given as goal
+
+abbrev pub invariant-loop-orphan : goal.invariant-loop-orphan
+invariant-loop-orphan g l = record {
+  frame : Changes g.P.Pages l.initial.pages l.pages;
+  standing : (before : View) (rows : ℕ) (free : List ℕ) (level : ℕ) (mine : ℕ → ℕ) (sums : (Item → ℕ) → ℕ) → IsSupplied before
+      → IsStanding node_of before (view (g.P.Pages.pages l.initial.pages) rows (g.P.Pages.count l.initial.pages) (g.P.Pages.first l.initial.pages) free) level l.initial.root (loose_in l.initial.orphans.items) mine sums
+      → (free' : List ℕ) × (level' : ℕ) × IsStanding node_of before (view (g.P.Pages.pages l.pages) rows (g.P.Pages.count l.pages) (g.P.Pages.first l.pages) free') level' l.top (loose_in l.orphans.items) mine sums;
+}
+
+abbrev pub decreases-loop-orphan : goal.decreases-loop-orphan
+decreases-loop-orphan g l = vec_len l.orphans

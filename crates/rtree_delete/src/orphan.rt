@@ -1,0 +1,14 @@
+//! Items that stand nowhere.
+ghost use Rattle.rtree_insert.specs.Fits.{Fits};
+
+use rtree_nodes::Slot;
+
+/// An item whose node was dissolved, until it is put back.
+#[derive(Clone, Copy, Debug)]
+pub struct Orphan {
+    /// The level of the nodes that it belongs to: 0 for a place.
+    pub level: u8,
+    /// What stood in the slot: a place at level 0, else a child.
+    pub slot: Slot,
+    ghost fits: { Fits level slot },
+}
