@@ -1,0 +1,15 @@
+pub mod Keys
+pub mod Lookups
+pub mod Bytes
+pub mod Turned
+pub mod Told
+pub mod Found
+pub mod Faults
+pub mod Ascents
+pub mod Drops
+pub mod Moves
+pub mod Impacts
+pub mod Refreshes
+pub mod Lifts
+pub mod Counts
+pub mod Takes

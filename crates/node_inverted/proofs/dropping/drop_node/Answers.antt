@@ -1,0 +1,61 @@
+use Rattle.std.proofs.Common.{◌≡◌, ℕ, ◌∙◌, ap, ◌^◌, Option, subst, Err, refl}
+use Rattle.std.proofs.lemmas.Result.{err_from_is_err_and}
+use Rattle.page_face.specs.declared.fault.PageFault.TheVariants.{Damaged}
+use Rattle.page_face.proofs.Frames.{changes_then}
+use Rattle.btree_nodes.specs.Supply.{View, view}
+use Rattle.btree_nodes.specs.Tree.{map_rows}
+use Rattle.rtree_shape.specs.Stock.{rows_form}
+use Rattle.node_inverted.specs.Rows.{Bytes, bytes_in}
+use Rattle.node_inverted.specs.Turns.{Turns, dropped}
+use Rattle.node_inverted.specs.Ascents.{until, reached}
+use Rattle.node_inverted.proofs.Bytes.{bytes-large}
+use Rattle.node_inverted.proofs.Turned.{turns-same, turns-as}
+use Rattle.node_inverted.proofs.Told.{told-turned}
+use Rattle.node_inverted.proofs.Faults.{changes-none}
+use Rattle.node_inverted.proofs.Ascents.{start, all}
+use Rattle.node_inverted.proofs.Drops.{dropped-idle}
+use Rattle.node_inverted.proofs.dropping.drop_node.Goals as goal
+
+pub loop-from-init : goal.loop-from-init
+loop-from-init g c = record {
+  root = refl;
+  turns = λ free rows.
+      let before : View = view (g.P.Pages.pages c.args.pages.now) (g.P.Pages.count c.args.pages.now) (g.P.Pages.first c.args.pages.now) free in
+      let b : Bytes = bytes_in (g.P.Pages.pages c.args.pages.now) c.args.tree.now.rows in
+      turns-as before c.args.tree.now.rows (g.P.Pages.pages c.args.pages.now) (g.P.Pages.count c.args.pages.now) (g.P.Pages.first c.args.pages.now) c.args.tree.now.rows b
+      (until 0 (dropped c.args.node b) b) (start (dropped c.args.node b) b) (turns-same before c.args.tree.now.rows rows);
+  frame = changes-none g.P.Pages c.args.pages.now (g.met.P.Pages.stays c.args.pages.now);
+}
+
+pub loop-from-preserved : goal.loop-from-preserved
+loop-from-preserved g c = record {
+  root = c.in_ok-from.ensures.root ∙ c.loop-from.invariant.root;
+  turns = λ free rows.
+      let before : View = view (g.P.Pages.pages c.args.pages.now) (g.P.Pages.count c.args.pages.now) (g.P.Pages.first c.args.pages.now) free in
+      let b : Bytes = bytes_in (g.P.Pages.pages c.args.pages.now) c.args.tree.now.rows in
+      c.in_ok-from.ensures.turns before c.args.tree.now.rows b (subst (λ (o : Option ℕ). Turns before c.args.tree.now.rows (g.P.Pages.pages c.loop-from.pages) (g.P.Pages.count c.loop-from.pages) (g.P.Pages.first c.loop-from.pages) c.loop-from.changed.rows
+      (until (reached o) (dropped c.args.node b) b)) c.in-Some.is (c.loop-from.invariant.turns free rows));
+  frame = changes_then g.P.Pages g.met.P.Pages.goes_further _ _ _ c.loop-from.invariant.frame c.drop_next.ensures.frame;
+}
+
+pub returns-clause-turns : goal.returns-clause-turns
+returns-clause-turns g c = λ free rows.
+    let before : View = view (g.P.Pages.pages c.args.pages.now) (g.P.Pages.count c.args.pages.now) (g.P.Pages.first c.args.pages.now) free in
+    let b : Bytes = bytes_in (g.P.Pages.pages c.args.pages.now) c.args.tree.now.rows in
+    let large = bytes-large (map_rows rows_form (g.P.Pages.pages c.args.pages.now) c.args.tree.now.rows) in
+    let f : Bytes → Bytes = dropped c.args.node in
+    let e : reached c.loop-from.from ≡ 2 ^ 64 = ap reached c.in_default.is in
+    turns-as before c.args.tree.now.rows (g.P.Pages.pages c.loop-from.pages) (g.P.Pages.count c.loop-from.pages) (g.P.Pages.first c.loop-from.pages) c.loop-from.changed.rows
+    (until (reached c.loop-from.from) (f b) b) (f b)
+    (λ n w i. ap (λ (k : ℕ). until k (f b) b n w i) e ∙ all (2 ^ 64) (f b) b (λ n' w' i' l. dropped-idle c.args.node b w' (λ j. large c.args.node w' j l) n' i') n w i)
+    (c.loop-from.invariant.turns free rows)
+
+pub returns-in_err-from-clause-honest : goal.returns-in_err-from-clause-honest
+returns-in_err-from-clause-honest g c free rows told damage =
+    let before : View = view (g.P.Pages.pages c.args.pages.now) (g.P.Pages.count c.args.pages.now) (g.P.Pages.first c.args.pages.now) free in
+    let b : Bytes = bytes_in (g.P.Pages.pages c.args.pages.now) c.args.tree.now.rows in
+    let turn = c.loop-from.invariant.turns free rows in
+    let p = err_from_is_err_and c.from_residual.result c.from_residual.ensures.1 in
+    λ e. (let same : c.in_err-from.field-0.0 ≡ Damaged damage = cc (p.1, p.2, e) in
+    c.in_err-from.ensures.honest turn.free turn.rows (told-turned before c.args.tree.now.rows (g.P.Pages.pages c.loop-from.pages) (g.P.Pages.count c.loop-from.pages) (g.P.Pages.first c.loop-from.pages) c.loop-from.changed.rows
+    (until (reached c.loop-from.from) (dropped c.args.node b) b) turn told) damage (ap Err same))

@@ -1,0 +1,23 @@
+use Rattle.std.proofs.Common.{◌≡◌, ℕ}
+use Rattle.page_face.specs.Calls.{Changes}
+use Rattle.btree_nodes.specs.Supply.{View}
+use Rattle.node_inverted.specs.Rows.{Bytes}
+use Rattle.node_inverted.specs.Ascents.{left_from}
+use Rattle.node_inverted.specs.Refreshing.{IsRefreshing, IsBounded, lesser_of, word_of}
+use Rattle.node_inverted.proofs.refreshing.refresh.Given as goal
+
+-- the words before those that lie ahead are refreshed
+abbrev pub invariant-loop-number : goal.invariant-loop-number
+invariant-loop-number g l =
+    let p = g.P.Pages in
+    record {
+      root : l.changed.root ≡ l.initial.changed.root;
+      turns : (before : View) (root : ℕ) (b : Bytes) → IsBounded b → (l.node ≡ l.child → ⊥)
+          → IsRefreshing before root (p.pages l.initial.pages) (p.count l.initial.pages) (p.first l.initial.pages) l.initial.changed.rows l.node l.slot l.child b l.initial.below l.initial.above
+          → IsRefreshing before root (p.pages l.pages) (p.count l.pages) (p.first l.pages) l.changed.rows l.node l.slot l.child b l.below l.above;
+      frame : Changes p l.initial.pages l.pages;
+    }
+
+-- the lesser word that lies ahead rises
+abbrev pub decreases-loop-number : goal.decreases-loop-number
+decreases-loop-number g l = left_from (lesser_of (word_of l.below) (word_of l.above))

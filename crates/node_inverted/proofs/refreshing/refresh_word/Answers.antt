@@ -1,0 +1,100 @@
+use Rattle.std.proofs.Common.{◌≡◌, ℕ, ◌+◌, ◌<◌, ◌≤◌, ◌∙◌, sym, ap, subst, arith, slice_index, Err}
+use Rattle.std.proofs.lemmas.Result.{err_from_is_err_and, on_ok_weaker}
+use Rattle.page_face.specs.FreeList.{PageMap}
+use Rattle.page_face.specs.declared.fault.PageFault.TheVariants.{Damaged}
+use Rattle.btree_nodes.specs.Supply.{View, view}
+use Rattle.btree_nodes.specs.Tree.{IsMap, map_uses}
+use Rattle.btree_nodes.specs.Damages.{AreTold}
+use Rattle.paged_map.specs.Maps.{AreCounted}
+use Rattle.paged_map.proofs.Maps.{kept-counted}
+use Rattle.rtree_shape.specs.Stock.{rows_form}
+use Rattle.node_inverted.specs.Rows.{Bytes, bytes_in}
+use Rattle.node_inverted.specs.Ascents.{until}
+use Rattle.node_inverted.specs.Impacts.{refreshed, with_byte, top_at}
+use Rattle.node_inverted.proofs.Ascents.{left}
+use Rattle.node_inverted.proofs.Turned.{turns-as, turns-further, turned-rest}
+use Rattle.node_inverted.proofs.Told.{told-turned}
+use Rattle.node_inverted.proofs.Refreshes.{least, ahead-byte, top-row, refreshed-next}
+use Rattle.node_inverted.proofs.refreshing.refresh_word.Goals as goal
+
+pub returns-clause-turns : goal.returns-clause-turns
+returns-clause-turns g c = λ before root b bounded apart first h.
+    let old : PageMap = g.P.Pages.pages c.args.pages.now in
+    let word : ℕ = c.args.number in
+    let node : ℕ = c.args.node in
+    let slot : ℕ = c.args.slot in
+    let child : ℕ = c.args.child in
+    let k : ℕ = h.k in
+    let turn = h.turn in
+    let now : Bytes = bytes_in old c.args.tree.now.rows in
+    let f : Bytes = refreshed node slot child b in
+    let l = least c.args.below.now c.args.above.now word first in
+    let on : k ≤ word = l.on b b child node k h.low h.high in
+    let low : (i : ℕ) → slice_index c.row_ahead-low.result i ≡ b child word i = λ i. c.row_ahead-low.ensures i ∙ ahead-byte b child k word c.args.below.now h.low on l.from_o i in
+    let stays : (n w i : ℕ) → k ≤ w → now n w i ≡ b n w i = left f b now k turn.is in
+    let high : (i : ℕ) → slice_index c.row_ahead-high.result i ≡ now node word i =
+    λ i. c.row_ahead-high.ensures i ∙ ahead-byte b node k word c.args.above.now h.high on l.from_p i ∙ sym (stays node word i on) in
+    let byte_is : c.greatest-byte.result ≡ top_at b child word = c.greatest-byte.ensures ∙ top-row b child word c.row_ahead-low.result low in
+    let mid : PageMap = g.P.Pages.pages c.set_byte.new.pages in
+    let set = c.in_ok-set_byte.ensures.turns turn.free turn.rows high in
+    let d : Bytes = until (word + 1) f b in
+    let next = turns-further before root old (g.P.Pages.count c.args.pages.now) (g.P.Pages.first c.args.pages.now) c.args.tree.now.rows (until k f b) turn
+    mid (g.P.Pages.count c.set_byte.new.pages) (g.P.Pages.first c.set_byte.new.pages) c.set_byte.new.tree.rows d
+    (turns-as _ c.args.tree.now.rows mid (g.P.Pages.count c.set_byte.new.pages) (g.P.Pages.first c.set_byte.new.pages) c.set_byte.new.tree.rows (with_byte node word slot c.greatest-byte.result now) d
+    (refreshed-next node slot child word b now k c.args.below.now c.args.above.now on turn.is h.low h.high l.from_o l.from_p c.greatest-byte.result byte_is) set) in
+    let after : (n w i : ℕ) → word < w → bytes_in mid c.set_byte.new.tree.rows n w i ≡ b n w i = λ n w i m. left f b (bytes_in mid c.set_byte.new.tree.rows) (word + 1) next.is n w i (omega arith) in
+    let one = c.pass.ensures.frame in
+    let two = c.pass-2.ensures.frame in
+    let small = c.ranges.number.fits in
+    on_ok_weaker c.pass-2.result (λ high'. record {
+      k = word + 1;
+      small = omega arith;
+      turn = turned-rest before root mid (g.P.Pages.pages c.pass-2.new.pages) (g.P.Pages.count c.set_byte.new.pages) (g.P.Pages.count c.pass-2.new.pages) (g.P.Pages.first c.set_byte.new.pages) (g.P.Pages.first c.pass-2.new.pages) c.set_byte.new.tree.rows d d
+          (two.pages ∙ one.pages) (two.count ∙ one.count) (two.first ∙ one.first) (λ n w i. λ j. d n w i) next;
+      low = c.in_ok-pass.ensures.ahead b k next.rows.kept.map (λ w i m. after child w i m) on h.low;
+      high = high';
+    }) (c.pass-2.ensures.ahead b k (subst (λ (p : PageMap). IsMap rows_form p c.set_byte.new.tree.rows) (sym one.pages) next.rows.kept.map)
+    (subst (λ (p : PageMap). (w i : ℕ) → word < w → bytes_in p c.set_byte.new.tree.rows node w i ≡ b node w i) (sym one.pages) (λ w i m. after node w i m)) on h.high)
+
+pub returns-in_err-set_byte-clause-honest : goal.returns-in_err-set_byte-clause-honest
+returns-in_err-set_byte-clause-honest g c = λ before root b apart first h told damage.
+    let p = err_from_is_err_and c.from_residual.result c.from_residual.ensures.1 in
+    λ e. (let same : c.in_err-set_byte.field-0.0 ≡ Damaged damage = cc (p.1, p.2, e) in
+    c.in_err-set_byte.ensures.honest h.turn.free h.turn.rows damage (ap Err same))
+
+pub returns-in_err-pass-clause-honest : goal.returns-in_err-pass-clause-honest
+returns-in_err-pass-clause-honest g c = λ before root b apart first h told damage.
+    let old : PageMap = g.P.Pages.pages c.args.pages.now in
+    let here : View = view old (g.P.Pages.count c.args.pages.now) (g.P.Pages.first c.args.pages.now) h.turn.free in
+    let now : Bytes = bytes_in old c.args.tree.now.rows in
+    let l = least c.args.below.now c.args.above.now c.args.number first in
+    let on : h.k ≤ c.args.number = l.on b b c.args.child c.args.node h.k h.low h.high in
+    let high : (i : ℕ) → slice_index c.row_ahead-high.result i ≡ now c.args.node c.args.number i =
+    λ i. c.row_ahead-high.ensures i ∙ ahead-byte b c.args.node h.k c.args.number c.args.above.now h.high on l.from_p i ∙ sym (left (refreshed c.args.node c.args.slot c.args.child b) b now h.k h.turn.is c.args.node c.args.number i on) in
+    let set = c.in_ok-set_byte.ensures.turns h.turn.free h.turn.rows high in
+    let mid : View = view (g.P.Pages.pages c.set_byte.new.pages) (g.P.Pages.count c.set_byte.new.pages) (g.P.Pages.first c.set_byte.new.pages) set.free in
+    let still = told-turned here c.args.tree.now.rows (g.P.Pages.pages c.set_byte.new.pages) (g.P.Pages.count c.set_byte.new.pages) (g.P.Pages.first c.set_byte.new.pages) c.set_byte.new.tree.rows
+    (with_byte c.args.node c.args.number c.args.slot c.greatest-byte.result now) set told in
+    let p = err_from_is_err_and c.from_residual-in_err-pass.result c.from_residual-in_err-pass.ensures.1 in
+    λ e. (let same : c.in_err-pass.field-0.0 ≡ Damaged damage = cc (p.1, p.2, e) in
+    c.in_err-pass.ensures.honest set.rows.kept.map (kept-counted rows_form mid c.set_byte.new.tree.rows set.rows.kept) still damage (ap Err same))
+
+pub returns-clause-honest : goal.returns-clause-honest
+returns-clause-honest g c = λ before root b apart first h told damage.
+    let old : PageMap = g.P.Pages.pages c.args.pages.now in
+    let here : View = view old (g.P.Pages.count c.args.pages.now) (g.P.Pages.first c.args.pages.now) h.turn.free in
+    let now : Bytes = bytes_in old c.args.tree.now.rows in
+    let l = least c.args.below.now c.args.above.now c.args.number first in
+    let on : h.k ≤ c.args.number = l.on b b c.args.child c.args.node h.k h.low h.high in
+    let high : (i : ℕ) → slice_index c.row_ahead-high.result i ≡ now c.args.node c.args.number i =
+    λ i. c.row_ahead-high.ensures i ∙ ahead-byte b c.args.node h.k c.args.number c.args.above.now h.high on l.from_p i ∙ sym (left (refreshed c.args.node c.args.slot c.args.child b) b now h.k h.turn.is c.args.node c.args.number i on) in
+    let set = c.in_ok-set_byte.ensures.turns h.turn.free h.turn.rows high in
+    let mid : View = view (g.P.Pages.pages c.set_byte.new.pages) (g.P.Pages.count c.set_byte.new.pages) (g.P.Pages.first c.set_byte.new.pages) set.free in
+    let rows : ℕ = c.set_byte.new.tree.rows in
+    let still = told-turned here c.args.tree.now.rows (g.P.Pages.pages c.set_byte.new.pages) (g.P.Pages.count c.set_byte.new.pages) (g.P.Pages.first c.set_byte.new.pages) rows
+    (with_byte c.args.node c.args.number c.args.slot c.greatest-byte.result now) set told in
+    let one = c.pass.ensures.frame in
+    let map : IsMap rows_form (g.P.Pages.pages c.pass.new.pages) rows = rw one.pages set.rows.kept.map in
+    let counted : AreCounted (map_uses rows_form (g.P.Pages.pages c.pass.new.pages) rows) (g.P.Pages.count c.pass.new.pages) = rw (one.pages, one.count) (kept-counted rows_form mid rows set.rows.kept) in
+    let told' : AreTold (g.P.Pages.pages c.pass.new.pages) (g.P.Pages.count c.pass.new.pages) = rw (one.pages, one.count) still in
+    c.pass-2.ensures.honest map counted told' damage

@@ -1,0 +1,38 @@
+//! The rows of words of an R-tree's nodes, which make it an IR-tree (Cong, Jensen and Wu, VLDB 2009): for each node and word
+//! one row of 32 bytes, the greatest impact of the word below each slot.
+//!
+//! The rows of a tree are one paged map. A row's key is its node's page and its word's number, so the rows of a node stand
+//! beside each other, in the order of their words. A row of zeros is never stored. Seen from above the rows are one function
+//! from a node, a word and a slot to a byte (`specs/Rows.antt`), and each call here says which bytes it returns or which
+//! bytes it makes; every other byte is as it was.
+#![tactic(auto)]
+
+mod ahead;
+mod ascent;
+mod dropping;
+mod key;
+mod layout;
+mod moving;
+mod next;
+mod raising;
+mod refreshing;
+mod roots;
+mod rows;
+mod sharing;
+mod slots;
+mod taking;
+mod words;
+
+pub use dropping::drop_node;
+pub use moving::move_slots;
+pub use next::next_row;
+pub use raising::raise;
+pub use refreshing::{refresh, renew};
+pub use roots::Tree;
+pub use rows::{row, set_row};
+pub use sharing::shared;
+pub use taking::{NodeRow, take_rows};
+pub use words::words_of;
+
+#[cfg(test)]
+mod tests;
