@@ -1,0 +1,99 @@
+//! The command line as a command of `clap`.
+ghost use Rattle.std.specs.Prelude.{◌≡◌, ◌≢◌, [], false, map, IfOk, IfErr, OnOk};
+ghost use Rattle.clap.specs.Words.{app_of, found_of, kind_of, rows_of, rule_of};
+ghost use Rattle.command_words.specs.Command.{HasNumbers, action_rule, batch_rule, cache_rule, program, refusals, store_rule, text_rule, values_on};
+
+use clap::builder::ValueParser;
+use clap::error::ErrorKind;
+use clap::{Arg, ArgMatches, Command, Error};
+use std::alloc::{AllocError, Global};
+
+/// The program's name, which stands first on a line.
+pub(crate) const PROGRAM: &str = "irtree";
+
+/// The name of the store's word.
+pub(crate) const STORE: &str = "STORE";
+
+/// The name of the action's word.
+pub(crate) const ACTION: &str = "ACTION";
+
+/// The option of a batch.
+pub(crate) const BATCH: &str = "batch";
+
+/// The option of the page cache.
+pub(crate) const CACHE: &str = "cache";
+
+/// The option of the one property that is read.
+pub(crate) const TEXT: &str = "text";
+
+fn store<'a>(alloc: Global) -> Arg<'a>
+    ensures rule { rule_of result ≡ store_rule }
+    ensures local { result.global ≡ false }
+{
+    Arg::new(alloc, STORE)
+        .required(true)
+        .value_parser(ValueParser::NonEmptyString)
+        .help("The file of the store, or - for a store that ends with the run")
+}
+
+fn action<'a>(alloc: Global) -> Arg<'a>
+    ensures rule { rule_of result ≡ action_rule }
+    ensures local { result.global ≡ false }
+{
+    Arg::new(alloc, ACTION).required(true).help(
+        "run: a script from standard input; load: GeoJSON from standard input",
+    )
+}
+
+fn batch<'a>(alloc: Global) -> Arg<'a>
+    ensures rule { rule_of result ≡ batch_rule }
+    ensures local { result.global ≡ false }
+{
+    Arg::new(alloc, BATCH)
+        .long(BATCH)
+        .value_name("PLACES")
+        .value_parser(ValueParser::Unsigned(1, 10_000))
+        .help("How many places a load stores at a time, 1000 if absent")
+}
+
+fn cache<'a>(alloc: Global) -> Arg<'a>
+    ensures rule { rule_of result ≡ cache_rule }
+    ensures local { result.global ≡ false }
+{
+    Arg::new(alloc, CACHE)
+        .long(CACHE)
+        .value_name("PAGES")
+        .value_parser(ValueParser::Unsigned(0, 65_536))
+        .help("How many pages of the store are kept in memory, 1024 if absent")
+}
+
+fn text<'a>(alloc: Global) -> Arg<'a>
+    ensures rule { rule_of result ≡ text_rule }
+    ensures local { result.global ≡ false }
+{
+    Arg::new(alloc, TEXT).long(TEXT).value_name("PROPERTY").help(
+        "The one property that a load reads, all with a text if absent",
+    )
+}
+
+// The command with all that may stand on a line.
+fn program<'a>(alloc: Global) -> Result<Command<'a>, AllocError>
+    ensures { IfOk result (λ command. app_of command ≡ program) }
+{
+    Command::new(alloc, PROGRAM)
+        .arg(store(alloc))?
+        .arg(action(alloc))?
+        .arg(batch(alloc))?
+        .arg(cache(alloc))?
+        .arg(text(alloc))
+}
+
+/// Returns what stands on a line, of which the first word is the program's name, or the explanation of its refusal.
+pub(crate) fn parse<'a>(alloc: Global, line: &'a [&'a str]) -> Result<ArgMatches<'a>, Error>
+    ensures taken { OnOk result (refusals (map (λ word. word.now) line.entry.now) ≡ []) }
+    ensures values { IfOk result (λ matches. rows_of (found_of matches) ≡ values_on (map (λ word. word.now) line.entry.now)) }
+    ensures numbers { IfOk result (λ matches. HasNumbers (rows_of (found_of matches))) }
+    ensures refused { IfErr result (λ error. kind_of error ≢ ErrorKind.OutOfMemory → refusals (map (λ word. word.now) line.entry.now) ≢ []) }
+{
+    program(alloc)?.try_get_matches_from(line)
+}

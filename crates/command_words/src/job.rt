@@ -1,0 +1,73 @@
+//! A job, and why words are refused.
+ghost use Rattle.std.specs.Prelude.{◌≡◌};
+ghost use Rattle.command_words.specs.Job.{uses};
+ghost use Rattle.command_words.specs.declared.job.WordsFault.TheVariants as faults;
+
+use crate::command::{BATCH, CACHE, TEXT};
+use std::alloc::AllocError;
+use std::fmt;
+
+/// What the program is to do.
+#[derive(Clone, Copy, Debug, PartialEq, Eq)]
+pub enum Action {
+    /// A script from the source.
+    Run,
+    /// The places of a GeoJSON text from the source.
+    Load,
+}
+
+impl Action {
+    /// Returns whether the action uses an option.
+    pub(crate) fn uses(self, option: &str) -> bool
+        ensures { result ≡ uses self option.now }
+    {
+        match self {
+            Action::Run => option == CACHE,
+            Action::Load => option == BATCH || option == CACHE || option == TEXT,
+        }
+    }
+}
+
+impl fmt::Display for Action {
+    fn fmt<W: fmt::Write>(&self, f: &mut fmt::Formatter<W>) -> fmt::Result {
+        f.write_str(match self {
+            Action::Run => "run",
+            Action::Load => "load",
+        })
+    }
+}
+
+/// What the words ask for.
+#[derive(Debug, Drop)]
+pub struct Job {
+    /// The store: a path, or `-` for one that ends with the run. It has at least one byte.
+    pub store: String,
+    /// What to do.
+    pub action: Action,
+    /// How many places a load stores at a time: 1 to 10,000.
+    pub batch: u32,
+    /// How many pages of the store are kept in memory: 0 to 65,536.
+    pub cache: u32,
+    /// The name of the one property that a load reads, or `None` if it reads all properties with a text.
+    pub text: Option<String>,
+}
+
+/// Why words are refused. If several causes apply, the one with the least number is returned.
+#[derive(Clone, Copy, Debug, PartialEq, Eq)]
+pub enum WordsFault {
+    /// They are no command: a word is missing, one too many or unknown, an option stands twice or has no value, or a value is out of its
+    /// range.
+    Line = 1,
+    /// An option stands there that the action doesn't use.
+    Unused = 2,
+    /// Memory ran out.
+    Memory,
+}
+
+impl From<AllocError> for WordsFault {
+    ghost from_gives = { λ _ fault. fault ≡ faults.Memory };
+
+    fn from(_error: AllocError) -> WordsFault {
+        WordsFault::Memory
+    }
+}

@@ -1,0 +1,129 @@
+//! The store and the action that stand on a line, and why they are no task.
+ghost use Rattle.std.specs.Prelude.{◌≡◌, ◌&&◌, not, find, is_some, IfErr, IfOk, Ok, Err, option_map};
+ghost use Rattle.clap.specs.Words.{first_of, found_of, rows_of};
+ghost use Rattle.command_words.specs.Job.{action_of, asked_among, asked_with, has_unused, uses};
+ghost use Rattle.command_words.specs.Refusals.{fault_of};
+
+use crate::command::{ACTION, BATCH, CACHE, STORE, TEXT};
+use crate::{Action, WordsFault};
+use clap::ArgMatches;
+use std::fmt;
+
+static OPTIONS: [&str; 3] = [BATCH, CACHE, TEXT];
+
+/// A store, and what to do with it.
+#[derive(Clone, Copy)]
+pub(crate) struct Task<'a> {
+    pub(crate) store: &'a str,
+    pub(crate) action: Action,
+}
+
+/// Why what stands on a line is no task. Its `Display` is the text for a person.
+#[derive(Clone, Copy)]
+pub(crate) enum Refusal<'a> {
+    /// No store stands there.
+    NoStore,
+    /// No action stands there.
+    NoAction,
+    /// The word names no action.
+    NotAnAction(&'a str),
+    /// The action doesn't use the option.
+    Unused(Action, &'static str),
+}
+
+impl Refusal<'_> {
+    /// Returns the fault that the refusal is.
+    pub(crate) fn fault(&self) -> WordsFault
+        ensures { result ≡ fault_of self.now }
+    {
+        match self {
+            Refusal::Unused(_, _) => WordsFault::Unused,
+            _ => WordsFault::Line,
+        }
+    }
+}
+
+impl fmt::Display for Refusal<'_> {
+    fn fmt<W: fmt::Write>(&self, f: &mut fmt::Formatter<W>) -> fmt::Result {
+        match self {
+            Refusal::NoStore => f.write_str("no store is given"),
+            Refusal::NoAction => f.write_str("no action is given"),
+            Refusal::NotAnAction(word) => {
+                write!(f, "unknown action '{word}', expected run or load")
+            }
+            Refusal::Unused(action, option) => {
+                write!(f, "the action {action} doesn't use '--{option}'")
+            }
+        }
+    }
+}
+
+/// Returns the first value of an argument that stands on the line.
+pub(crate) fn value_of<'a>(matches: &ArgMatches<'a>, name: &str) -> Option<&'a str>
+    ensures { option_map (λ value. value.now) result ≡ first_of name.now (rows_of (found_of matches.now)) }
+{
+    matches.get_str(name)
+}
+
+// The action of a word.
+fn action_of(word: &str) -> Option<Action>
+    ensures { result ≡ action_of word.now }
+{
+    if word == "run" {
+        Some(Action::Run)
+    } else if word == "load" {
+        Some(Action::Load)
+    } else {
+        None
+    }
+}
+
+// Whether an option stands on the line and the action doesn't use it.
+fn is_unused(matches: &ArgMatches<'_>, action: Action, option: &str) -> bool
+    ensures { result ≡ (is_some (first_of option.now (rows_of (found_of matches.now))) && not (uses action option.now)) }
+{
+    value_of(matches, option).is_some() && !action.uses(option)
+}
+
+// The first of the options that stands on the line and that the action doesn't use.
+fn unused_among<'o, 'a>(
+    matches: &ArgMatches<'_>,
+    action: Action,
+    options: &'o [&'a str],
+) -> Option<&'o &'a str>
+    ensures { option_map (λ option. option.now) result ≡ find (λ option. is_some (first_of option.now (rows_of (found_of matches.now))) && not (uses action option.now)) options.entry.now }
+{
+    options
+        .iter()
+        .find(|option| is_unused(matches, action, option))
+}
+
+// The first option that stands on the line and that the action doesn't use.
+fn unused(matches: &ArgMatches<'_>, action: Action) -> Option<&'static str>
+    ensures { is_some result ≡ has_unused action (rows_of (found_of matches.now)) }
+{
+    unused_among(matches, action, OPTIONS.as_slice()).copied()
+}
+
+/// Returns the task that stands on a line.
+pub(crate) fn task_of<'a>(matches: &ArgMatches<'a>) -> Result<Task<'a>, Refusal<'a>>
+    ensures task { IfOk result (λ task. asked_among (rows_of (found_of matches.now)) ≡ Ok (asked_with (rows_of (found_of matches.now)) task.store.now task.action)) }
+    ensures refused { IfErr result (λ refusal. asked_among (rows_of (found_of matches.now)) ≡ Err (fault_of refusal)) }
+{
+    let store = match value_of(matches, STORE) {
+        Some(store) => store,
+        None => return Err(Refusal::NoStore),
+    };
+    let word = match value_of(matches, ACTION) {
+        Some(word) => word,
+        None => return Err(Refusal::NoAction),
+    };
+    let action = match action_of(word) {
+        Some(action) => action,
+        None => return Err(Refusal::NotAnAction(word)),
+    };
+    match unused(matches, action) {
+        Some(option) => Err(Refusal::Unused(action, option)),
+        None => Ok(Task { store, action }),
+    }
+}

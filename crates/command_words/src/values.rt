@@ -1,0 +1,68 @@
+//! The values that stand on a line, as a job.
+ghost use Rattle.std.specs.Prelude.{◌≡◌, ◌≤◌, IfOk, IfSome, option_map, string_bytes};
+ghost use Rattle.clap.specs.Words.{IsUnsignedIn, found_of, one_of, rows_of};
+ghost use Rattle.command_words.specs.Command.{HasNumbers};
+ghost use Rattle.command_words.specs.Job.{IsReading, asked_among, asked_of, asked_with, number_or};
+
+use crate::command::{BATCH, CACHE, TEXT};
+use crate::task::{Task, task_of, value_of};
+use crate::{Job, WordsFault};
+use clap::ArgMatches;
+use std::alloc::{AllocError, Global};
+
+// How many places a load stores at a time if no option says another number.
+const BATCH_ABSENT: u32 = 1_000;
+
+// How many pages of the store are kept if no option says another number: 4 MiB, enough for the upper levels of every map of a large
+// store.
+const CACHE_ABSENT: u32 = 1_024;
+
+// The number of an option that stands on the line, or the one for an absent option.
+fn number_of(matches: &ArgMatches<'_>, name: &str, absent: u32) -> u32
+    requires fits { IfSome (one_of name.now (rows_of (found_of matches.now))) (IsUnsignedIn 0 4294967295) }
+    ensures { result ≡ number_or absent (one_of name.now (rows_of (found_of matches.now))) }
+{
+    match matches.get_one::<u32>(name) {
+        Some(number) => number,
+        None => absent,
+    }
+}
+
+// A copy of a value that may be absent.
+fn copy_of(alloc: Global, value: Option<&str>) -> Result<Option<String>, AllocError>
+    ensures { IfOk result (λ copy. option_map string_bytes copy ≡ option_map (λ text. text.now) value.entry) }
+{
+    match value {
+        Some(value) => Ok(Some(value.to_string(alloc)?)),
+        None => Ok(None),
+    }
+}
+
+// The job of a task, with the options on the line.
+fn job_with(alloc: Global, matches: &ArgMatches<'_>, task: &Task<'_>) -> Result<Job, AllocError>
+    requires numbers { HasNumbers (rows_of (found_of matches.now)) }
+    ensures asked { IfOk result (λ job. asked_of job ≡ asked_with (rows_of (found_of matches.now)) task.now.store.now task.now.action) }
+    ensures batch { IfOk result (λ job. (1 ≤ job.batch) × (job.batch ≤ 10000)) }
+    ensures cache { IfOk result (λ job. job.cache ≤ 65536) }
+{
+    Ok(Job {
+        store: task.store.to_string(alloc)?,
+        action: task.action,
+        batch: number_of(matches, BATCH, BATCH_ABSENT),
+        cache: number_of(matches, CACHE, CACHE_ABSENT),
+        text: copy_of(alloc, value_of(matches, TEXT))?,
+    })
+}
+
+/// Returns the job that stands on a line.
+pub(crate) fn job_of(alloc: Global, matches: &ArgMatches<'_>) -> Result<Job, WordsFault>
+    requires numbers { HasNumbers (rows_of (found_of matches.now)) }
+    ensures reading { IsReading result (asked_among (rows_of (found_of matches.now))) }
+    ensures batch { IfOk result (λ job. (1 ≤ job.batch) × (job.batch ≤ 10000)) }
+    ensures cache { IfOk result (λ job. job.cache ≤ 65536) }
+{
+    match task_of(matches) {
+        Ok(task) => Ok(job_with(alloc, matches, &task)?),
+        Err(refusal) => Err(refusal.fault()),
+    }
+}
