@@ -5,7 +5,7 @@
 //! of a source and a station is the premise of the program; what is read, kept and said is `run`'s to prove.
 #![tactic(auto)]
 
-use irtree_top::{Ended, WordsFault, read_words, run};
+use irtree_top::{Ended, WordsFault, explain_words, read_words, run};
 use spatial_base::Memory;
 use std::alloc::Global;
 use std::io::{ErrorKind, Write};
@@ -36,7 +36,7 @@ fn words(rt: &HostRuntime) -> Result<Vec<String>, Ended> {
 fn store_of(alloc: Global, words: &[String]) -> Result<Option<String>, Memory> {
     match read_words(alloc, words) {
         Ok(job) if job.store.as_str() != "-" => Ok(Some(job.store)),
-        Ok(_) | Err(WordsFault::Line) => Ok(None),
+        Ok(_) | Err(WordsFault::Line) | Err(WordsFault::Unused) => Ok(None),
         Err(WordsFault::Memory) => Err(Memory),
     }
 }
@@ -54,11 +54,17 @@ fn run_on_files(rt: &HostRuntime, words: &[String], store: &str) -> Result<Told,
     Ok(Told { end, why })
 }
 
-// Runs over a store in memory, which ends with the run.
-fn run_in_memory(rt: &HostRuntime, words: &[String]) -> Ended {
+// Runs over a store in memory, which ends with the run. If the words are refused, it says what is wrong with which of them.
+fn run_in_memory(rt: &HostRuntime, words: &[String]) -> Told {
     let mut source = StdSource::new(rt.stdin());
     let mut station = ScratchStation::new(rt.alloc(), rt.stdout());
-    run(rt.alloc(), words, &mut source, &mut station)
+    let end = run(rt.alloc(), words, &mut source, &mut station);
+    let why = match end {
+        // If no memory is left for it, the end's line stands alone.
+        Ended::Words => explain_words(rt.alloc(), words).unwrap_or(None),
+        _ => None,
+    };
+    Told { end, why }
 }
 
 // An end of which its own line says all.
@@ -85,19 +91,23 @@ fn run_words(rt: &HostRuntime) -> Result<Told, Memory> {
     };
     match store_of(rt.alloc(), &words)? {
         Some(store) => run_on_files(rt, &words, &store),
-        None => Ok(plain(run_in_memory(rt, &words))),
+        None => Ok(run_in_memory(rt, &words)),
     }
 }
 
-// The end's line with what else it says, on standard error: one line.
+// The end's line with what else it says behind it, on standard error. What has several lines, as help, stands on lines of its own.
 fn tell(alloc: Global, told: &Told, err: &mut impl Write) -> Result<(), Memory> {
     let mut line = Vec::new(alloc);
     told.end.write_text(&mut line)?;
     if let Some(why) = &told.why {
-        let _lf = line.pop();
-        line.extend_from_slice(b": ").map_err(|_| Memory)?;
+        if !why.contains('\n') {
+            let _lf = line.pop();
+            line.extend_from_slice(b": ").map_err(|_| Memory)?;
+        }
         line.extend_from_slice(why.as_bytes()).map_err(|_| Memory)?;
-        line.push(b'\n').map_err(|_| Memory)?;
+        if !why.ends_with('\n') {
+            line.push(b'\n').map_err(|_| Memory)?;
+        }
     }
     // Where standard error takes nothing, the status alone tells.
     let _ = err.write_all(&line);

@@ -1,5 +1,5 @@
 //! What loads say.
-use crate::runs::{LOAD, ROOM, load_on, plan, run_over};
+use crate::runs::{LOAD, ROOM, RUN, load_on, plan, run_on, run_over};
 use crate::script_tests::Spaces;
 use disk_model::{CallKind, MemorySource, MemoryStation};
 use irtree_top::{Ended, InputFault, LOAD_MAX, LimitFault, StoreFault};
@@ -12,17 +12,17 @@ pub(crate) static FOUR: &[u8] =
     b"{\"features\":[{\"type\":\"Feature\",\"id\":7,\"geometry\":{\"type\":\"Point\",\"coordinates\":[12.5683,55.6761,3.0]},\"properties\":{\"name\":\"Caf\xc3\xa9 Ny\",\"rank\":2}},{\"type\":\"Feature\",\"geometry\":{\"type\":\"Polygon\",\"coordinates\":[]},\"properties\":null},{\"type\":\"Feature\",\"geometry\":{\"type\":\"Point\",\"coordinates\":[12.57,55.68]},\"properties\":{\"name\":\"Bar\"}},{\"type\":\"Feature\",\"geometry\":null,\"properties\":{}}],\"type\":\"FeatureCollection\"}";
 
 // How many places a batch has, and what is then said of the four features.
-static BATCHES: [(u32, &[u8]); 3] = [
+static BATCHES: [(&str, &[u8]); 3] = [
     (
-        1,
+        "--batch=1",
         b"stored 1\nskip 1 not-point\nstored 2\nskip 3 no-geometry\nloaded 2 skipped 2\n",
     ),
     (
-        2,
+        "--batch=2",
         b"skip 1 not-point\nstored 2\nskip 3 no-geometry\nloaded 2 skipped 2\n",
     ),
     (
-        1000,
+        "--batch=1000",
         b"skip 1 not-point\nskip 3 no-geometry\nstored 2\nloaded 2 skipped 2\n",
     ),
 ];
@@ -117,7 +117,42 @@ fn line_of(alloc: Global, end: Ended) -> Result<Vec<u8>, Fail> {
 fn a_batch_is_stored_as_soon_as_it_is_full(rt: HostRuntime) -> Result<(), Fail> {
     for (batch, said) in &BATCHES {
         let mut station = MemoryStation::new(rt.alloc(), ROOM);
-        assert!(rt; load_on(rt.alloc(), *batch, FOUR, &mut station)?.is_ok());
+        let ended = run_on(rt.alloc(), &["-", "load", *batch], FOUR, 100, &mut station)?;
+        assert!(rt; ended == Ended::Done);
+        assert!(rt; station.said() == *said);
+    }
+    Ok(())
+}
+
+// A place with two properties, which of them are read, and what is shown of the place then.
+static BOTH: &[u8] =
+    b"{\"type\":\"Feature\",\"id\":\"k\",\"geometry\":{\"type\":\"Point\",\"coordinates\":[1,2]},\"properties\":{\"name\":\"Bar\",\"kind\":\"pub\"}}";
+
+static PROPERTIES: [(&[&str], &[u8]); 4] = [
+    (
+        &["-", "load"],
+        b"stored 1\nloaded 1 skipped 0\nplace \"k\" 1.0000000 2.0000000 2\n\"bar\" 128\n\"pub\" 128\n",
+    ),
+    (
+        &["-", "load", "--text", "name"],
+        b"stored 1\nloaded 1 skipped 0\nplace \"k\" 1.0000000 2.0000000 1\n\"bar\" 255\n",
+    ),
+    (
+        &["-", "load", "--text=kind"],
+        b"stored 1\nloaded 1 skipped 0\nplace \"k\" 1.0000000 2.0000000 1\n\"pub\" 255\n",
+    ),
+    (
+        &["-", "load", "--text="],
+        b"stored 1\nloaded 1 skipped 0\nplace \"k\" 1.0000000 2.0000000 0\n",
+    ),
+];
+
+#[test]
+fn a_load_reads_all_properties_or_the_one_that_is_named(rt: HostRuntime) -> Result<(), Fail> {
+    for (words, said) in &PROPERTIES {
+        let mut station = MemoryStation::new(rt.alloc(), ROOM);
+        assert!(rt; run_on(rt.alloc(), words, BOTH, 100, &mut station)? == Ended::Done);
+        assert!(rt; run_on(rt.alloc(), &RUN, b"show k\n", 100, &mut station)? == Ended::Done);
         assert!(rt; station.said() == *said);
     }
     Ok(())

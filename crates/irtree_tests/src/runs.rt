@@ -66,7 +66,7 @@ pub(crate) fn load_on(
     let mut source = MemorySource::new(alloc, text, 100, &[]).map_err(|_| "memory")?;
     match Engine::open(alloc, station, 0) {
         Ok(mut engine) => {
-            let ended = run_load(alloc, batch.min(10_000), &mut source, &mut engine);
+            let ended = run_load(alloc, batch.min(10_000), None, &mut source, &mut engine);
             let _loan = engine.into_disk();
             Ok(ended)
         }

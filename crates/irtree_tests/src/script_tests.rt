@@ -41,14 +41,15 @@ static SCRIPTS: [(&[u8], &[u8]); 9] = [
 static PIECES: [usize; 4] = [1, 2, 7, 65_536];
 
 // Words that are no command.
-static REFUSED: [&[&str]; 9] = [
+static REFUSED: [&[&str]; 10] = [
     &[],
     &["-"],
     &["-", "dance"],
     &["-", "verify"],
     &["run", "-"],
     &["-", "run", "--count", "5"],
-    &["-", "load", "--batch", "1"],
+    &["-", "run", "--batch", "1"],
+    &["-", "load", "--batch", "0"],
     &["", "run"],
     &["--x", "run"],
 ];

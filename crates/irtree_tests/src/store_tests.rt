@@ -33,6 +33,33 @@ fn a_script_asks_for_what_a_load_stored(rt: HostRuntime) -> Result<(), Fail> {
     Ok(())
 }
 
+// How many reads of the station a script makes over a store, with so many pages kept in memory.
+fn reads_with(
+    alloc: Global,
+    cache: &str,
+    script: &[u8],
+    station: &MemoryStation,
+) -> Result<u64, Fail> {
+    let (ended, next) = said_on(alloc, &["-", "run", "--cache", cache], script, station)?;
+    if ended == Ended::Done {
+        Ok(next.reads())
+    } else {
+        Err("the script didn't end well".into())
+    }
+}
+
+#[test]
+fn a_cache_of_pages_spares_reads(rt: HostRuntime) -> Result<(), Fail> {
+    let empty = MemoryStation::new(rt.alloc(), ROOM);
+    let (ended, stored) = said_on(rt.alloc(), &RUN, TWENTY, &empty)?;
+    assert!(rt; ended == Ended::Done);
+    let script = b"show a\nshow a\nshow a\nshow a\n";
+    let none = reads_with(rt.alloc(), "0", script, &stored)?;
+    let some = reads_with(rt.alloc(), "64", script, &stored)?;
+    assert!(rt; some < none, "{some} reads with a cache, {none} without");
+    Ok(())
+}
+
 #[test]
 fn other_bytes_are_no_store(rt: HostRuntime) -> Result<(), Fail> {
     for given in [&RUN, &LOAD] {

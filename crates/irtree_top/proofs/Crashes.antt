@@ -12,10 +12,10 @@ use Rattle.run_protocol.specs.Left.{LeftByLines, LeftByLoad}
 use Rattle.run_protocol.specs.Load.{load_transcript}
 use Rattle.run_protocol.specs.Script.{script_lines, script_transcript}
 use Rattle.run_protocol.specs.Turn.{Transcript}
-use Rattle.irtree_top.specs.declared.words.Action.{Action}
-use Rattle.irtree_top.specs.declared.words.Action.TheVariants.{Run, Load}
+use Rattle.command_words.specs.declared.job.Action.{Action}
+use Rattle.command_words.specs.declared.job.Action.TheVariants.{Run, Load}
 use Rattle.irtree_top.specs.Run.{HoldsPrefix, IsNear, acked}
-use Rattle.irtree_top.specs.Words.{Asked}
+use Rattle.command_words.specs.Job.{Asked}
 use Rattle.irtree_top.proofs.Jobs.{script-only, load-only}
 use Rattle.irtree_top.proofs.Loads.{load-prefix}
 use Rattle.irtree_top.proofs.Scripts.{script-prefix}
@@ -53,7 +53,7 @@ module _ (asked : Asked) (state : Contents) (input : List ℕ) (some : 1 ≤ ask
       (script-prefix state (script_lines input) old.said image said left)))
 
   -- and so it does of a load
-  pub load-left : OutcomeIsOne → asked.action ≡ Load → (old new : World) → LeavesOnly old new (LeftByLoad asked.batch state input old.said) → LeavesOnly old new (HoldsPrefix asked state input old)
+  pub load-left : OutcomeIsOne → asked.action ≡ Load → (old new : World) → LeavesOnly old new (LeftByLoad asked.batch asked.text state input old.said) → LeavesOnly old new (HoldsPrefix asked state input old)
   load-left law loads old new leaves = within leaves (λ image said left whole is. ⊎_elim
       (λ none. none-held asked.action asked.batch some state whole.turn.changes old.said image said none.0 none.1)
       (λ items.

@@ -1,6 +1,6 @@
 -- How a job ends, and what a crash leaves of it.
 use Rattle.std.proofs.Common.{◌≡◌, ℕ, ⊎_elim, List, [], ◌++◌, take, refl, sym, ap, subst, ◌∙◌}
-use Rattle.std.specs.Prelude.{Result, Ok, Err}
+use Rattle.std.specs.Prelude.{Option, Result, Ok, Err}
 use Rattle.std.proofs.lemmas.List.{append-nil}
 use Rattle.disk_model.specs.World.{World}
 use Rattle.place_map.specs.State.{Contents}
@@ -17,11 +17,11 @@ use Rattle.run_protocol.specs.declared.ended.InputFault.{InputFault}
 use Rattle.run_protocol.specs.declared.ended.LimitFault.{LimitFault}
 use Rattle.run_protocol.specs.declared.ended.LimitFault.TheVariants as limits
 use Rattle.script_run.specs.Standing.{EndsScript}
-use Rattle.irtree_top.specs.declared.words.Action.{Action}
-use Rattle.irtree_top.specs.declared.words.Action.TheVariants.{Run, Load}
+use Rattle.command_words.specs.declared.job.Action.{Action}
+use Rattle.command_words.specs.declared.job.Action.TheVariants.{Run, Load}
 use Rattle.irtree_top.specs.Run.{EndsBy, EndsJob, SaysFront, SaysWhatWasRead, StopsAtLimit, StopsForRoom}
 use Rattle.irtree_top.specs.Transcript.{IsTranscript, IsTranscriptBy}
-use Rattle.irtree_top.specs.Words.{Asked}
+use Rattle.command_words.specs.Job.{Asked}
 use Rattle.irtree_top.proofs.Fronts.{batch-front, line-front, none-said, whole-said}
 use Rattle.irtree_top.proofs.Transcripts.{OutcomeIsOne, taken-one}
 
@@ -30,11 +30,11 @@ use Rattle.irtree_top.proofs.Transcripts.{OutcomeIsOne, taken-one}
 module _ (asked : Asked) (state : Contents) (input : List ℕ) (runs : asked.action ≡ Run) where
   -- its transcript
   script-is : IsTranscript state asked input (script_transcript state input)
-  script-is = subst (λ a. IsTranscriptBy a asked.batch state input (script_transcript state input)) (sym runs) refl
+  script-is = subst (λ a. IsTranscriptBy a asked.batch asked.text state input (script_transcript state input)) (sym runs) refl
 
   -- and no other
   pub script-only : (whole : Transcript) → IsTranscript state asked input whole → whole ≡ script_transcript state input
-  script-only whole is = subst (λ a. IsTranscriptBy a asked.batch state input whole) runs is
+  script-only whole is = subst (λ a. IsTranscriptBy a asked.batch asked.text state input whole) runs is
 
   script-front : (old new : World) → SaysFrontOf (script_transcript state input).turn.text old.said new.said → SaysFront asked state input old new
   script-front old new says whole is = subst (λ (t : Transcript). SaysFrontOf t.turn.text old.said new.said) (sym (script-only whole is)) says
@@ -53,7 +53,7 @@ module _ (asked : Asked) (state : Contents) (input : List ℕ) (runs : asked.act
   script-ends left old new (Err (ends.Limit limits.Full)) says = absurd says
   script-ends left old new (Err (ends.Limit limits.Worn)) says = absurd says
   script-ends left old new (Err (ends.Limit limits.NoRoom)) says =
-      (subst (λ a. StopsForRoom a asked.batch state input old new) (sym runs) says, script-front old new (line-front state (script_lines input) old.said new says))
+      (subst (λ a. StopsForRoom a asked.batch asked.text state input old new) (sym runs) says, script-front old new (line-front state (script_lines input) old.said new says))
   script-ends left old new (Err (ends.Store fault)) says = absurd says
   script-ends left old new (Err ends.Done) says = absurd says
   script-ends left old new (Err ends.Words) says = absurd says
@@ -62,33 +62,33 @@ module _ (asked : Asked) (state : Contents) (input : List ℕ) (runs : asked.act
 
 module _ (law : OutcomeIsOne) (asked : Asked) (state : Contents) (input : List ℕ) (loads : asked.action ≡ Load) where
   -- its transcript, by what its text gives
-  load-is : (taken : Result (List Item) InputFault) → IsTaken input taken → IsTranscript state asked input (load_transcript asked.batch state taken)
-  load-is taken is = subst (λ a. IsTranscriptBy a asked.batch state input (load_transcript asked.batch state taken)) (sym loads) (taken, is, refl)
+  load-is : (taken : Result (List Item) InputFault) → IsTaken asked.text input taken → IsTranscript state asked input (load_transcript asked.batch state taken)
+  load-is taken is = subst (λ a. IsTranscriptBy a asked.batch asked.text state input (load_transcript asked.batch state taken)) (sym loads) (taken, is, refl)
 
   -- and no other
-  pub load-only : (taken : Result (List Item) InputFault) → IsTaken input taken → (whole : Transcript) → IsTranscript state asked input whole → whole ≡ load_transcript asked.batch state taken
+  pub load-only : (taken : Result (List Item) InputFault) → IsTaken asked.text input taken → (whole : Transcript) → IsTranscript state asked input whole → whole ≡ load_transcript asked.batch state taken
   load-only taken is whole also =
-      let given : IsTranscriptBy Load asked.batch state input whole = subst (λ a. IsTranscriptBy a asked.batch state input whole) loads also in
-      given.2 ∙ ap (load_transcript asked.batch state) (taken-one law input given.0 taken given.1 is)
+      let given : IsTranscriptBy Load asked.batch asked.text state input whole = subst (λ a. IsTranscriptBy a asked.batch asked.text state input whole) loads also in
+      given.2 ∙ ap (load_transcript asked.batch state) (taken-one law asked.text input given.0 taken given.1 is)
 
-  load-front : (taken : Result (List Item) InputFault) → IsTaken input taken → (old new : World) → SaysFrontOf (load_transcript asked.batch state taken).turn.text old.said new.said → SaysFront asked state input old new
+  load-front : (taken : Result (List Item) InputFault) → IsTaken asked.text input taken → (old new : World) → SaysFrontOf (load_transcript asked.batch state taken).turn.text old.said new.said → SaysFront asked state input old new
   load-front taken is old new says whole also = subst (λ (t : Transcript). SaysFrontOf t.turn.text old.said new.said) (sym (load-only taken is whole also)) says
 
-  load-by : (taken : Result (List Item) InputFault) → IsTaken input taken → (wanted : End) (old new : World) → EndsAs wanted (load_transcript asked.batch state taken) old new → EndsBy wanted asked state input old new
+  load-by : (taken : Result (List Item) InputFault) → IsTaken asked.text input taken → (wanted : End) (old new : World) → EndsAs wanted (load_transcript asked.batch state taken) old new → EndsBy wanted asked state input old new
   load-by taken is wanted old new says = record { whole = load_transcript asked.batch state taken; is = load-is taken is; ends = says }
 
   no-front : (old new : World) → new.said ≡ old.said → SaysFront asked state input old new
   no-front old new none whole is = none-said whole.turn.text old.said new.said none
 
   -- where its items stop
-  items-stop : (T : Type 0) (items : List Item) → IsTaken input (Ok items) → (left : List ℕ) (old new : World) (end : Ended) → StopsItems asked.batch state items old new end → EndsJob {T = T} asked state input left old new (Err end)
+  items-stop : (T : Type 0) (items : List Item) → IsTaken asked.text input (Ok items) → (left : List ℕ) (old new : World) (end : Ended) → StopsItems asked.batch state items old new end → EndsJob {T = T} asked state input left old new (Err end)
   items-stop T items is left old new ends.Memory says = load-front (Ok items) is old new says
   items-stop T items is left old new ends.Disk says = load-front (Ok items) is old new says
   items-stop T items is left old new ends.Sink says = load-front (Ok items) is old new says
   items-stop T items is left old new (ends.Limit limits.Full) says = load-by (Ok items) is _ old new says
   items-stop T items is left old new (ends.Limit limits.Worn) says = load-by (Ok items) is _ old new says
   items-stop T items is left old new (ends.Limit limits.NoRoom) says =
-      (subst (λ a. StopsForRoom a asked.batch state input old new) (sym loads) (items, is, says), load-front (Ok items) is old new (batch-front state 0 0 (steps asked.batch [] items) old.said new says))
+      (subst (λ a. StopsForRoom a asked.batch asked.text state input old new) (sym loads) (items, is, says), load-front (Ok items) is old new (batch-front state 0 0 (steps asked.batch [] items) old.said new says))
   items-stop T items is left old new (ends.Input fault) says = absurd says
   items-stop T items is left old new (ends.Store fault) says = absurd says
   items-stop T items is left old new ends.Source says = absurd says
@@ -96,7 +96,7 @@ module _ (law : OutcomeIsOne) (asked : Asked) (state : Contents) (input : List �
   items-stop T items is left old new ends.Words says = absurd says
 
   -- a load ends as a job that is one
-  pub load-ends : (T : Type 0) (left : List ℕ) (old new : World) (result : Result T Ended) → EndsLoad asked.batch state input left old new result → EndsJob asked state input left old new result
+  pub load-ends : (T : Type 0) (left : List ℕ) (old new : World) (result : Result T Ended) → EndsLoad asked.batch asked.text state input left old new result → EndsJob asked state input left old new result
   load-ends T left old new (Ok done) says = (load-by (Ok says.0.0) says.0.1 _ old new says.0.2, says.1)
   load-ends T left old new (Err ends.Source) says = (subst (λ a. SaysWhatWasRead a state input left old new) (sym loads) says, no-front old new says.0)
   load-ends T left old new (Err (ends.Input fault)) says =
@@ -126,9 +126,9 @@ module _ (asked : Asked) (state : Contents) (input : List ℕ) (old was new : Wo
   read-from Run left says = record { read = says.read; came = says.came; said = says.said ∙ ap (λ s. s ++ (script state (cut says.read).lines).text) same; holds = says.holds }
   read-from Load left says = (says.0 ∙ same, says.1)
 
-  room-from : (action : Action) (batch : ℕ) → StopsForRoom action batch state input was new → StopsForRoom action batch state input old new
-  room-from Run batch stops = subst (λ s. StopsAtLine state (script_lines input) s new) same stops
-  room-from Load batch stops = (stops.0, stops.1, subst (λ s. StopsAtBatch state 0 0 (steps batch [] stops.0) s new) same stops.2)
+  room-from : (action : Action) (batch : ℕ) (only : Option (List ℕ)) → StopsForRoom action batch only state input was new → StopsForRoom action batch only state input old new
+  room-from Run batch only stops = subst (λ s. StopsAtLine state (script_lines input) s new) same stops
+  room-from Load batch only stops = (stops.0, stops.1, subst (λ s. StopsAtBatch state 0 0 (steps batch [] stops.0) s new) same stops.2)
 
   -- how a job ended, from where as much was said
   pub job-from : (T : Type 0) (left : List ℕ) (result : Result T Ended) → EndsJob asked state input left was new result → EndsJob asked state input left old new result
@@ -140,7 +140,7 @@ module _ (asked : Asked) (state : Contents) (input : List ℕ) (old was new : Wo
   job-from T left (Err (ends.Input fault)) says = by-from _ says
   job-from T left (Err (ends.Limit limits.Full)) says = by-from _ says
   job-from T left (Err (ends.Limit limits.Worn)) says = by-from _ says
-  job-from T left (Err (ends.Limit limits.NoRoom)) says = (room-from asked.action asked.batch says.0, front-from says.1)
+  job-from T left (Err (ends.Limit limits.NoRoom)) says = (room-from asked.action asked.batch asked.text says.0, front-from says.1)
   job-from T left (Err (ends.Store fault)) says = absurd says
   job-from T left (Err ends.Done) says = absurd says
   job-from T left (Err ends.Words) says = absurd says

@@ -1,6 +1,6 @@
 -- A job, and the settling of its engine behind it.
 use Rattle.std.proofs.Common.{◌≡◌, ℕ, ◌+◌, ◌≤◌, ⊎_elim, inl, inr, Bool, List, [], ◌∷◌, ◌++◌, length, take, subst, sym, ◌∙◌, arith}
-use Rattle.std.specs.Prelude.{IsTrue, Result, Ok, Err}
+use Rattle.std.specs.Prelude.{IsTrue, Option, Result, Ok, Err}
 use Rattle.disk_model.specs.World.{World, Image, LeavesOnly, LeavesOnlySeen}
 use Rattle.disk_model.proofs.Moments.{then, within}
 use Rattle.place_map.specs.State.{Contents}
@@ -15,12 +15,12 @@ use Rattle.run_protocol.specs.Turn.{Transcript, End}
 use Rattle.run_protocol.specs.declared.ended.Ended.{Ended}
 use Rattle.run_protocol.specs.declared.ended.Ended.TheVariants as ends
 use Rattle.run_protocol.specs.declared.ended.LimitFault.TheVariants as limits
-use Rattle.irtree_top.specs.declared.words.Action.{Action}
-use Rattle.irtree_top.specs.declared.words.Action.TheVariants.{Run, Load}
+use Rattle.command_words.specs.declared.job.Action.{Action}
+use Rattle.command_words.specs.declared.job.Action.TheVariants.{Run, Load}
 use Rattle.irtree_top.specs.Prefix.{HoldsAcked, state_after_updates}
 use Rattle.irtree_top.specs.Run.{EndsBy, EndsJob, HoldsPrefix, IsNear, SaysFront, SaysWhatWasRead, StopsForRoom, acked}
 use Rattle.irtree_top.specs.Transcript.{IsTranscript}
-use Rattle.irtree_top.specs.Words.{Asked}
+use Rattle.command_words.specs.Job.{Asked}
 use Rattle.irtree_top.proofs.Jobs.{decided-front, job-front}
 
 -- the law that what is asked for has one transcript
@@ -74,9 +74,9 @@ module _ (asked : Asked) (state : Contents) (input : List ℕ) (old mid new : Wo
         (λ after next. batch-settled after (stored + length updates) skipped rest (before ++ stored_line (stored + length updates)) next) behind))
         stops
 
-    settled-room : (action : Action) (batch : ℕ) → StopsForRoom action batch state input old mid → StopsForRoom action batch state input old new
-    settled-room Run batch stops = line-settled state (script_lines input) old.said stops
-    settled-room Load batch stops = (stops.0, stops.1, batch-settled state 0 0 (steps batch [] stops.0) old.said stops.2)
+    settled-room : (action : Action) (batch : ℕ) (only : Option (List ℕ)) → StopsForRoom action batch only state input old mid → StopsForRoom action batch only state input old new
+    settled-room Run batch only stops = line-settled state (script_lines input) old.said stops
+    settled-room Load batch only stops = (stops.0, stops.1, batch-settled state 0 0 (steps batch [] stops.0) old.said stops.2)
 
     -- the job ended as it did before it was settled
     pub settled-job : (T : Type 0) (left : List ℕ) (result : Result T Ended) → EndsJob asked state input left old mid result → EndsJob asked state input left old new result
@@ -88,7 +88,7 @@ module _ (asked : Asked) (state : Contents) (input : List ℕ) (old mid new : Wo
     settled-job T left (Err (ends.Input fault)) says = settled-by _ says
     settled-job T left (Err (ends.Limit limits.Full)) says = settled-by _ says
     settled-job T left (Err (ends.Limit limits.Worn)) says = settled-by _ says
-    settled-job T left (Err (ends.Limit limits.NoRoom)) says = (settled-room asked.action asked.batch says.0, settled-front says.1)
+    settled-job T left (Err (ends.Limit limits.NoRoom)) says = (settled-room asked.action asked.batch asked.text says.0, settled-front says.1)
     settled-job T left (Err (ends.Store fault)) says = absurd says
     settled-job T left (Err ends.Done) says = absurd says
     settled-job T left (Err ends.Words) says = absurd says

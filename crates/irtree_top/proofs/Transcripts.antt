@@ -1,6 +1,6 @@
 -- What is asked for has one transcript on each input and state.
 use Rattle.std.proofs.Common.{◌≡◌, ℕ, ◌<◌, ◌≤◌, ⊎_elim, List, length, refl, sym, ap, ◌∙◌, arith}
-use Rattle.std.specs.Prelude.{Option, None, Result, Ok, Err}
+use Rattle.std.specs.Prelude.{Option, Result, Ok, Err}
 use Rattle.std.proofs.lemmas.Bool.{cases_lt}
 use Rattle.place_map.specs.State.{Contents}
 use Rattle.json_spelled.specs.declared.tree.JsonFault.TheVariants as json
@@ -12,10 +12,10 @@ use Rattle.run_protocol.specs.declared.ended.InputFault.TheVariants as inputs
 use Rattle.run_protocol.specs.Turn.{Transcript}
 use Rattle.run_protocol.specs.Load.{load_max, IsTaken, load_transcript}
 use Rattle.run_protocol.specs.Script.{script_transcript}
-use Rattle.irtree_top.specs.declared.words.Action.{Action}
-use Rattle.irtree_top.specs.declared.words.Action.TheVariants.{Run, Load}
+use Rattle.command_words.specs.declared.job.Action.{Action}
+use Rattle.command_words.specs.declared.job.Action.TheVariants.{Run, Load}
 use Rattle.irtree_top.specs.Transcript.{IsTranscriptBy, IsTranscript}
-use Rattle.irtree_top.specs.Words.{Asked}
+use Rattle.command_words.specs.Job.{Asked}
 
 -- ---- one transcript
 
@@ -52,75 +52,75 @@ taken-back (Err inputs.NotFeatures) = refl
 taken-back (Err inputs.Long) = refl
 
 -- a text that isn't too long has the outcome
-short-takes : (input : List ℕ) (taken : Result (List Item) InputFault) → length input ≤ load_max → IsTaken input taken → Takes input None (as_outcome taken)
+short-takes : (only : Option (List ℕ)) (input : List ℕ) (taken : Result (List Item) InputFault) → length input ≤ load_max → IsTaken only input taken → Takes input only (as_outcome taken)
 unfolding as_outcome
-short-takes input (Ok items) short is = is.1
-short-takes input (Err (inputs.NotUtf8 at)) short is = is.1
-short-takes input (Err (inputs.Syntax at)) short is = is.1
-short-takes input (Err (inputs.TooDeep at)) short is = is.1
-short-takes input (Err inputs.NotFeatures) short is = is.1
-short-takes input (Err inputs.Long) short is = absurd (omega arith)
+short-takes only input (Ok items) short is = is.1
+short-takes only input (Err (inputs.NotUtf8 at)) short is = is.1
+short-takes only input (Err (inputs.Syntax at)) short is = is.1
+short-takes only input (Err (inputs.TooDeep at)) short is = is.1
+short-takes only input (Err inputs.NotFeatures) short is = is.1
+short-takes only input (Err inputs.Long) short is = absurd (omega arith)
 
 -- one that is too long gives only that
-long-gives : (input : List ℕ) (taken : Result (List Item) InputFault) → load_max < length input → IsTaken input taken → taken ≡ Err inputs.Long
-long-gives input (Ok items) long is = absurd (omega (arith, is.0))
-long-gives input (Err (inputs.NotUtf8 at)) long is = absurd (omega (arith, is.0))
-long-gives input (Err (inputs.Syntax at)) long is = absurd (omega (arith, is.0))
-long-gives input (Err (inputs.TooDeep at)) long is = absurd (omega (arith, is.0))
-long-gives input (Err inputs.NotFeatures) long is = absurd (omega (arith, is.0))
-long-gives input (Err inputs.Long) long is = refl
+long-gives : (only : Option (List ℕ)) (input : List ℕ) (taken : Result (List Item) InputFault) → load_max < length input → IsTaken only input taken → taken ≡ Err inputs.Long
+long-gives only input (Ok items) long is = absurd (omega (arith, is.0))
+long-gives only input (Err (inputs.NotUtf8 at)) long is = absurd (omega (arith, is.0))
+long-gives only input (Err (inputs.Syntax at)) long is = absurd (omega (arith, is.0))
+long-gives only input (Err (inputs.TooDeep at)) long is = absurd (omega (arith, is.0))
+long-gives only input (Err inputs.NotFeatures) long is = absurd (omega (arith, is.0))
+long-gives only input (Err inputs.Long) long is = refl
 
 -- a text gives one thing
-pub taken-one : OutcomeIsOne → (input : List ℕ) (one other : Result (List Item) InputFault) → IsTaken input one → IsTaken input other → one ≡ other
-taken-one law input one other is also = ⊎_elim
-    (λ (long : load_max < length input). long-gives input one long is ∙ sym (long-gives input other long also))
+pub taken-one : OutcomeIsOne → (only : Option (List ℕ)) (input : List ℕ) (one other : Result (List Item) InputFault) → IsTaken only input one → IsTaken only input other → one ≡ other
+taken-one law only input one other is also = ⊎_elim
+    (λ (long : load_max < length input). long-gives only input one long is ∙ sym (long-gives only input other long also))
     (λ (short : length input ≤ load_max).
     sym (taken-back one)
-    ∙ ap as_taken (law input None (as_outcome one) (as_outcome other) (short-takes input one short is) (short-takes input other short also))
+    ∙ ap as_taken (law input only (as_outcome one) (as_outcome other) (short-takes only input one short is) (short-takes only input other short also))
     ∙ taken-back other)
     (cases_lt load_max (length input))
 
 -- so a load has one transcript
-load-one : OutcomeIsOne → (batch : ℕ) (state : Contents) (input : List ℕ) (one other : Transcript) → IsTranscriptBy Load batch state input one → IsTranscriptBy Load batch state input other → one ≡ other
-load-one law batch state input one other is also = is.2 ∙ ap (load_transcript batch state) (taken-one law input is.0 also.0 is.1 also.1) ∙ sym also.2
+load-one : OutcomeIsOne → (batch : ℕ) (only : Option (List ℕ)) (state : Contents) (input : List ℕ) (one other : Transcript) → IsTranscriptBy Load batch only state input one → IsTranscriptBy Load batch only state input other → one ≡ other
+load-one law batch only state input one other is also = is.2 ∙ ap (load_transcript batch state) (taken-one law only input is.0 also.0 is.1 also.1) ∙ sym also.2
 
 -- the law that each text gives an outcome
 abbrev pub OutcomeIsSome : Type 0
 OutcomeIsSome = (bytes : List ℕ) (only : Option (List ℕ)) → (outcome : Result (List Item) LoadFault) × Takes bytes only outcome
 
 -- an outcome is what a text that isn't too long gives
-outcome-taken : (input : List ℕ) → length input ≤ load_max → (outcome : Result (List Item) LoadFault) → Takes input None outcome → (taken : Result (List Item) InputFault) × IsTaken input taken
-outcome-taken input short (Ok items) takes = (Ok items, (short, takes))
-outcome-taken input short (Err (loads.Json (json.NotUtf8 at))) takes = (Err (inputs.NotUtf8 at), (short, takes))
-outcome-taken input short (Err (loads.Json (json.Syntax at))) takes = (Err (inputs.Syntax at), (short, takes))
-outcome-taken input short (Err (loads.Json (json.TooDeep at))) takes = (Err (inputs.TooDeep at), (short, takes))
-outcome-taken input short (Err (loads.Json json.Memory)) takes = absurd takes.stands
-outcome-taken input short (Err loads.NotFeatures) takes = (Err inputs.NotFeatures, (short, takes))
-outcome-taken input short (Err loads.Memory) takes = absurd takes
+outcome-taken : (only : Option (List ℕ)) (input : List ℕ) → length input ≤ load_max → (outcome : Result (List Item) LoadFault) → Takes input only outcome → (taken : Result (List Item) InputFault) × IsTaken only input taken
+outcome-taken only input short (Ok items) takes = (Ok items, (short, takes))
+outcome-taken only input short (Err (loads.Json (json.NotUtf8 at))) takes = (Err (inputs.NotUtf8 at), (short, takes))
+outcome-taken only input short (Err (loads.Json (json.Syntax at))) takes = (Err (inputs.Syntax at), (short, takes))
+outcome-taken only input short (Err (loads.Json (json.TooDeep at))) takes = (Err (inputs.TooDeep at), (short, takes))
+outcome-taken only input short (Err (loads.Json json.Memory)) takes = absurd takes.stands
+outcome-taken only input short (Err loads.NotFeatures) takes = (Err inputs.NotFeatures, (short, takes))
+outcome-taken only input short (Err loads.Memory) takes = absurd takes
 
 -- so each load has a transcript
-load-some : OutcomeIsSome → (batch : ℕ) (state : Contents) (input : List ℕ) → (whole : Transcript) × IsTranscriptBy Load batch state input whole
-load-some law batch state input =
-    let given : (taken : Result (List Item) InputFault) × IsTaken input taken = ⊎_elim
+load-some : OutcomeIsSome → (batch : ℕ) (only : Option (List ℕ)) (state : Contents) (input : List ℕ) → (whole : Transcript) × IsTranscriptBy Load batch only state input whole
+load-some law batch only state input =
+    let given : (taken : Result (List Item) InputFault) × IsTaken only input taken = ⊎_elim
     (λ (long : load_max < length input). (Err inputs.Long, long))
-    (λ (short : length input ≤ load_max). let outcome = law input None in outcome-taken input short outcome.0 outcome.1)
+    (λ (short : length input ≤ load_max). let outcome = law input only in outcome-taken only input short outcome.0 outcome.1)
     (cases_lt load_max (length input)) in
     (load_transcript batch state given.0, (given.0, given.1, refl))
 
 -- what is asked for, by its action
-one-by : OutcomeIsOne → (action : Action) (batch : ℕ) (state : Contents) (input : List ℕ) (one other : Transcript) → IsTranscriptBy action batch state input one → IsTranscriptBy action batch state input other → one ≡ other
-one-by law Run batch state input one other is also = is ∙ sym also
-one-by law Load batch state input one other is also = load-one law batch state input one other is also
+one-by : OutcomeIsOne → (action : Action) (batch : ℕ) (only : Option (List ℕ)) (state : Contents) (input : List ℕ) (one other : Transcript) → IsTranscriptBy action batch only state input one → IsTranscriptBy action batch only state input other → one ≡ other
+one-by law Run batch only state input one other is also = is ∙ sym also
+one-by law Load batch only state input one other is also = load-one law batch only state input one other is also
 
 -- what is asked for has one transcript
 pub transcript-one : OutcomeIsOne → (state : Contents) (asked : Asked) (input : List ℕ) (one other : Transcript) → IsTranscript state asked input one → IsTranscript state asked input other → one ≡ other
-transcript-one law state asked input one other is also = one-by law asked.action asked.batch state input one other is also
+transcript-one law state asked input one other is also = one-by law asked.action asked.batch asked.text state input one other is also
 
 -- by its action
-some-by : OutcomeIsSome → (action : Action) (batch : ℕ) (state : Contents) (input : List ℕ) → (whole : Transcript) × IsTranscriptBy action batch state input whole
-some-by law Run batch state input = (script_transcript state input, refl)
-some-by law Load batch state input = load-some law batch state input
+some-by : OutcomeIsSome → (action : Action) (batch : ℕ) (only : Option (List ℕ)) (state : Contents) (input : List ℕ) → (whole : Transcript) × IsTranscriptBy action batch only state input whole
+some-by law Run batch only state input = (script_transcript state input, refl)
+some-by law Load batch only state input = load-some law batch only state input
 
 -- and it has one at least
 pub transcript-some : OutcomeIsSome → (state : Contents) (asked : Asked) (input : List ℕ) → (whole : Transcript) × IsTranscript state asked input whole
-transcript-some law state asked input = some-by law asked.action asked.batch state input
+transcript-some law state asked input = some-by law asked.action asked.batch asked.text state input

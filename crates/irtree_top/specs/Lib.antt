@@ -2,4 +2,3 @@ pub mod Acked
 pub mod Prefix
 pub mod Run
 pub mod Transcript
-pub mod Words

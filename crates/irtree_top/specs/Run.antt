@@ -1,5 +1,5 @@
 -- What a run of the program promises.
-use Rattle.std.specs.Prelude.{◌≡◌, ◌⊎◌, ◌≤◌, ℕ, List, [], Bool, IsTrue, IfErr, OnOk, Ok, Err, Result}
+use Rattle.std.specs.Prelude.{◌≡◌, ◌⊎◌, ◌≤◌, ℕ, List, [], Bool, Option, IsTrue, IfErr, OnOk, Ok, Err, Result}
 use Rattle.disk_model.specs.World.{World, Image, LeavesOnly, Rose, WritesNothing}
 use Rattle.irtree_engine.specs.Holding.{HasBrokenHead, IsForeign, StandsForNone}
 use Rattle.irtree_engine.specs.Opening.{IsRecovered}
@@ -26,10 +26,10 @@ use Rattle.run_protocol.specs.declared.ended.LimitFault.TheVariants as limits
 use Rattle.run_protocol.specs.declared.ended.StoreFault.{StoreFault}
 use Rattle.run_protocol.specs.declared.ended.StoreFault.TheVariants as stores
 use Rattle.script_run.specs.Standing.{SaysRepliesOf}
-use Rattle.irtree_top.specs.declared.words.Action.{Action}
-use Rattle.irtree_top.specs.declared.words.Action.TheVariants.{Run, Load}
+use Rattle.command_words.specs.declared.job.Action.{Action}
+use Rattle.command_words.specs.declared.job.Action.TheVariants.{Run, Load}
 use Rattle.irtree_top.specs.Transcript.{IsTranscript}
-use Rattle.irtree_top.specs.Words.{Asked}
+use Rattle.command_words.specs.Job.{Asked}
 
 -- a front of the text of the transcript was said
 abbrev pub SaysFront : Asked → Contents → List ℕ → World → World → Type 0
@@ -49,15 +49,15 @@ SaysWhatWasRead Load state input left old new = SaysNothingYet state old new
 
 -- Where no page was left: what comes before the reply to an update, or before a batch's line, was said whole and nothing else, and the
 -- image stands for the state before it.
-abbrev pub StopsForRoom : Action → ℕ → Contents → List ℕ → World → World → Type 0
-StopsForRoom Run batch state input old new = StopsAtLine state (script_lines input) old.said new
-StopsForRoom Load batch state input old new = (items : List Item) × IsTaken input (Ok items) × StopsAtBatch state 0 0 (steps batch [] items) old.said new
+abbrev pub StopsForRoom : Action → ℕ → Option (List ℕ) → Contents → List ℕ → World → World → Type 0
+StopsForRoom Run batch only state input old new = StopsAtLine state (script_lines input) old.said new
+StopsForRoom Load batch only state input old new = (items : List Item) × IsTaken only input (Ok items) × StopsAtBatch state 0 0 (steps batch [] items) old.said new
 
 -- how a run stops at a limit
 abbrev pub StopsAtLimit : LimitFault → Asked → Contents → List ℕ → World → World → Type 0
 StopsAtLimit limits.Full asked state input old new = EndsBy (Limit limits.Full) asked state input old new
 StopsAtLimit limits.Worn asked state input old new = EndsBy (Limit limits.Worn) asked state input old new
-StopsAtLimit limits.NoRoom asked state input old new = StopsForRoom asked.action asked.batch state input old new × SaysFront asked state input old new
+StopsAtLimit limits.NoRoom asked state input old new = StopsForRoom asked.action asked.batch asked.text state input old new × SaysFront asked state input old new
 
 -- how many updates the bytes said acknowledge
 abbrev pub acked : Action → List ℕ → ℕ
@@ -129,14 +129,14 @@ pub record HasRunEnd {T : Type 0} (tells : Bool) (source_old source_new : ℕ) (
 -- ---- what the input says of an end
 
 -- why an input ends an action: that of a script is too long, and that of a load gives no items, for this cause
-abbrev pub IsInputEnd : Action → List ℕ → InputFault → Type 0
-IsInputEnd Run input fault = IsScriptInput input fault
-IsInputEnd Load input fault = IsTaken input (Err fault)
+abbrev pub IsInputEnd : Action → Option (List ℕ) → List ℕ → InputFault → Type 0
+IsInputEnd Run only input fault = IsScriptInput input fault
+IsInputEnd Load only input fault = IsTaken only input (Err fault)
 
 -- an input that an action takes whole: a script is no longer than it may be, and the text of a load gives items
-abbrev pub IsWholeInput : Action → List ℕ → Type 0
-IsWholeInput Run input = FitsScript input
-IsWholeInput Load input = GivesItems input
+abbrev pub IsWholeInput : Action → Option (List ℕ) → List ℕ → Type 0
+IsWholeInput Run only input = FitsScript input
+IsWholeInput Load only input = GivesItems only input
 
 -- the limits that end an action: a script ends for want of room alone, since it says the limits of the map and goes on
 abbrev pub IsLimitOf : Action → LimitFault → Type 0
@@ -144,10 +144,10 @@ IsLimitOf Run fault = fault ≡ limits.NoRoom
 IsLimitOf Load fault = Unit {0}
 
 -- The image stands for pages whose page 0 has numbers that reach the limit, with the number of places of the input added.
-pub record IsLimitReached (fault : LimitFault) (input : List ℕ) (image : Image) : Type 0 where
+pub record IsLimitReached (fault : LimitFault) (only : Option (List ℕ)) (input : List ℕ) (image : Image) : Type 0 where
   pub area : ℕ → ℕ
   pub stands : StandsFor image area
-  pub reaches : ReachesLimit fault (superblock_in (page_bytes area 0)).head.live (superblock_in (page_bytes area 0)).head.number input
+  pub reaches : ReachesLimit fault (superblock_in (page_bytes area 0)).head.live (superblock_in (page_bytes area 0)).head.number only input
 
 -- ---- which ends there are
 

@@ -9,10 +9,9 @@
 
 mod serve;
 mod top;
-mod words;
 
+pub use command_words::{Action, Job, WordsFault, explain_words, read_words};
 pub use load_run::LOAD_MAX;
 pub use run_protocol::{Ended, InputFault, LimitFault, StoreFault};
 pub use script_run::INPUT_MAX;
 pub use top::{run, transcript_is_one, transcript_is_some};
-pub use words::{Action, Job, WordsFault, read_words};

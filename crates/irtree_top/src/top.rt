@@ -1,15 +1,16 @@
 //! The top call.
-ghost use Rattle.std.specs.Prelude.{◌≡◌, ◌≤◌, [], ℕ, List, map, string_bytes, IsTrue, Err};
+ghost use Rattle.std.specs.Prelude.{◌≡◌, ◌≤◌, ◌⊎◌, [], ℕ, List, map, string_bytes, IsTrue, Err};
 ghost use Rattle.disk_model.specs.World.{LeavesOnly, Rose};
 ghost use Rattle.place_map.specs.State.{Contents};
 ghost use Rattle.irtree_engine.specs.Holding.{HoldsState};
 ghost use Rattle.run_protocol.specs.Turn.{Transcript, Done, Input};
 ghost use Rattle.irtree_top.specs.Run.{EndsBy, HoldsPrefix, IsLimitReached, IsBehindOpening, IsBroken, IsCompleteEnd, IsInputEnd, IsLimitOf, IsOpenable, IsSettled, IsWholeInput, LeavesAlone, SaysFront, SaysWhatWasRead, StopsAtLimit};
 ghost use Rattle.irtree_top.specs.Transcript.{IsTranscript};
-ghost use Rattle.irtree_top.specs.Words.{Asked, AskFor, AreAccepted};
+ghost use Rattle.command_words.specs.Job.{Asked, AskFor, AreAccepted};
 
 use crate::serve::run_job;
-use crate::{Ended, InputFault, LimitFault, StoreFault, WordsFault, read_words};
+use crate::{Ended, InputFault, LimitFault, StoreFault};
+use command_words::{WordsFault, read_words};
 use disk_model::{Source, Station};
 use geojson_points::{outcome_is_one, outcome_is_some};
 use std::alloc::Global;
@@ -17,12 +18,13 @@ use std::alloc::Global;
 /// Runs the program: does what the words ask for with the input of the source, and says what it does to the station, which keeps the
 /// places.
 ///
-/// The words accepted are a store and an action; the store is the station's, and its name isn't looked at. `run` is a script, a line
-/// at a time. `load` stores the places of a GeoJSON text, which is read whole before anything is said. Returns how it ended:
+/// The words are read by [`read_words`]; the store is the station's, and its name isn't looked at. `run` is a script, a line at a time.
+/// `load` stores the places of a GeoJSON text, which is read whole before anything is said. The cache has as many pages as the words
+/// say, and no clause depends on it. Returns how it ended:
 ///
 /// - `Done` if the input was read to its end, and a script isn't too long or a text gives items. The whole transcript was said, and the
 ///   image stands for its last state.
-/// - `Words` if the words are others. Nothing was read, written or said.
+/// - `Words` if the words are refused for another cause than memory. Nothing was read, written or said.
 /// - `Input` if a script is too long, or a text gives no items, for its first offence. The whole transcript was said: of a script the
 ///   replies to the lines that are whole within the bytes it may have, of a load nothing.
 /// - `Limit(NoRoom)` if no page is left for an update or a batch. All that comes before its reply was said, and the image stands for the
@@ -53,7 +55,7 @@ pub fn run<S: Source, T: Station>(
 ) -> Ended
     // The words are refused: nothing was read, written or said.
     ensures words { result ≡ Ended.Words → ¬ AreAccepted (map string_bytes words.now) }
-    ensures refused { ¬ AreAccepted (map string_bytes words.now) → result ≡ Ended.Words }
+    ensures refused { ¬ AreAccepted (map string_bytes words.now) → (result ≡ Ended.Words) ⊎ (result ≡ Ended.Memory) }
     ensures untouched { result ≡ Ended.Words → (source.new ≡ source.old) × (station.new ≡ station.old) }
 
     // The whole text was said, the input was read to its end, and the image stands for the last state.
@@ -84,13 +86,13 @@ pub fn run<S: Source, T: Station>(
 
     // The input was read to its end and is taken whole, or it is refused for this cause, whatever the image stands for.
     ensures whole { (asked : Asked) → AskFor (map string_bytes words.now) asked → IsTrue S.tells → result ≡ Ended.Done
-        → (S.left source.new ≡ []) × IsWholeInput asked.action (S.left source.old) }
+        → (S.left source.new ≡ []) × IsWholeInput asked.action asked.text (S.left source.old) }
     ensures input_end { (asked : Asked) → AskFor (map string_bytes words.now) asked → IsTrue S.tells → (fault : InputFault) → result ≡ Ended.Input fault
-        → IsInputEnd asked.action (S.left source.old) fault }
+        → IsInputEnd asked.action asked.text (S.left source.old) fault }
     // So is a limit one that ends the action, and reached by the numbers of page 0.
     ensures limits { (asked : Asked) → AskFor (map string_bytes words.now) asked → (fault : LimitFault) → result ≡ Ended.Limit fault → IsLimitOf asked.action fault }
-    ensures reached { IsTrue S.tells → IsTrue T.tells → (fault : LimitFault) → result ≡ Ended.Limit fault
-        → IsLimitReached fault (S.left source.old) (T.world station.old).seen }
+    ensures reached { (asked : Asked) → AskFor (map string_bytes words.now) asked → IsTrue S.tells → IsTrue T.tells → (fault : LimitFault) → result ≡ Ended.Limit fault
+        → IsLimitReached fault asked.text (S.left source.old) (T.world station.old).seen }
 
     // Each end has its cause, and no count falls.
     ensures store { (fault : StoreFault) → result ≡ Ended.Store fault → IsTrue T.tells → IsBroken fault (T.world station.old).seen }
@@ -116,11 +118,12 @@ pub fn run<S: Source, T: Station>(
 {
     transcript_is_one();
     match read_words(alloc, words) {
-        Ok(job) => match run_job(alloc, job.action, job.batch, source, station) {
+        Ok(job) => match run_job(alloc, &job, source, station) {
             Ok(()) => Ended::Done,
             Err(end) => end,
         },
         Err(WordsFault::Line) => Ended::Words,
+        Err(WordsFault::Unused) => Ended::Words,
         Err(WordsFault::Memory) => Ended::Memory,
     }
 }

@@ -1,6 +1,6 @@
 -- Page 0's numbers over the calls of a load, and what a limit says of the text.
 use Rattle.std.proofs.Common.{◌≡◌, ℕ, ◌+◌, ◌≤◌, List, [], ◌∷◌, length, map, ap, sym, subst, ◌∙◌, arith}
-use Rattle.std.specs.Prelude.{Result, Ok, Err, OnOk, IfErr}
+use Rattle.std.specs.Prelude.{Option, Result, Ok, Err, OnOk, IfErr}
 use Rattle.page_face.specs.declared.head.Head.{Head}
 use Rattle.geojson_points.specs.Takes.{Item, Placed, Skipped, item_of}
 use Rattle.geojson_points.specs.declared.taken.Taken.{Taken}
@@ -31,10 +31,10 @@ limit-of-engine live number engine.Worn reaches = reaches
 limit-of-engine live number _ reaches = tt
 
 -- a limit that the places of a text reach
-pub limit-reaches : (live number : ℕ) (input : List ℕ) (items : List Item) (fault : LimitFault) → IsTaken input (Ok items) → IsLimitAt (live + (0 + places_among items)) (number + (0 + places_among items)) (ends.Limit fault) → ReachesLimit fault live number input
-limit-reaches live number input items limits.Full is reaches = (items, is, omega (arith, reaches))
-limit-reaches live number input items limits.Worn is reaches = (items, is, omega (arith, reaches))
-limit-reaches live number input items limits.NoRoom is reaches = tt
+pub limit-reaches : (live number : ℕ) (only : Option (List ℕ)) (input : List ℕ) (items : List Item) (fault : LimitFault) → IsTaken only input (Ok items) → IsLimitAt (live + (0 + places_among items)) (number + (0 + places_among items)) (ends.Limit fault) → ReachesLimit fault live number only input
+limit-reaches live number only input items limits.Full is reaches = (items, is, omega (arith, reaches))
+limit-reaches live number only input items limits.Worn is reaches = (items, is, omega (arith, reaches))
+limit-reaches live number only input items limits.NoRoom is reaches = tt
 
 -- ---- calls
 

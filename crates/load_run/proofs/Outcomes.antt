@@ -1,6 +1,6 @@
 -- How a load ends, from what its text gives.
 use Rattle.std.proofs.Common.{◌≡◌, ◌≢◌, ℕ, ◌+◌, ◌<◌, ◌≤◌, inl, inr, ⊎_elim, List, [], ◌∷◌, ◌++◌, length, take, refl, sym, ap, subst, ◌∙◌, arith, append_assoc, length-append, length-take}
-use Rattle.std.specs.Prelude.{None, Result, Ok, Err, OnOk, IfErr, IsErrOf}
+use Rattle.std.specs.Prelude.{Option, Result, Ok, Err, OnOk, IfErr, IsErrOf}
 use Rattle.std.proofs.lemmas.List.{append-nil, take-take, take-append-le}
 use Rattle.disk_model.specs.World.{World, LeavesOnly}
 use Rattle.disk_model.proofs.Moments.{within}
@@ -32,25 +32,25 @@ load_max-is = refl
 -- ---- how it ends
 
 -- the input wasn't read to its end, or is too long
-pub unread-ends : (T : Type 0) (batch : ℕ) (state : Contents) (input left : List ℕ) (now : World) (end : Ended) → HoldsState now state → IsUnread input end → EndsLoad {T = T} batch state input left now now (Err end)
-unread-ends T batch state input left now ends.Memory holds has = inl ((refl, holds), refl)
-unread-ends T batch state input left now ends.Source holds has = (refl, holds)
-unread-ends T batch state input left now (ends.Input inputs.Long) holds has = (has, (refl, holds))
-unread-ends T batch state input left now _ holds has = absurd has
+pub unread-ends : (T : Type 0) (batch : ℕ) (only : Option (List ℕ)) (state : Contents) (input left : List ℕ) (now : World) (end : Ended) → HoldsState now state → IsUnread input end → EndsLoad {T = T} batch only state input left now now (Err end)
+unread-ends T batch only state input left now ends.Memory holds has = inl ((refl, holds), refl)
+unread-ends T batch only state input left now ends.Source holds has = (refl, holds)
+unread-ends T batch only state input left now (ends.Input inputs.Long) holds has = (has, (refl, holds))
+unread-ends T batch only state input left now _ holds has = absurd has
 
 -- the text gives no items
-pub refused-ends : (T : Type 0) (batch : ℕ) (state : Contents) (input left bytes : List ℕ) (now : World) (fault : LoadFault) (end : Ended) → HoldsState now state → bytes ≡ input → length bytes ≤ load_max → (fault ≢ loads.Memory → Takes bytes None (Err fault)) → RefusesSo fault end
-    → EndsLoad {T = T} batch state input left now now (Err end)
-refused-ends T batch state input left bytes now fault end holds same short takes so =
-    subst (λ (b : List ℕ). EndsLoad {T = T} batch state b left now now (Err end)) same (by_fault fault takes so)
+pub refused-ends : (T : Type 0) (batch : ℕ) (only : Option (List ℕ)) (state : Contents) (input left bytes : List ℕ) (now : World) (fault : LoadFault) (end : Ended) → HoldsState now state → bytes ≡ input → length bytes ≤ load_max → (fault ≢ loads.Memory → Takes bytes only (Err fault)) → RefusesSo fault end
+    → EndsLoad {T = T} batch only state input left now now (Err end)
+refused-ends T batch only state input left bytes now fault end holds same short takes so =
+    subst (λ (b : List ℕ). EndsLoad {T = T} batch only state b left now now (Err end)) same (by_fault fault takes so)
   where
-    says : (refused : InputFault) → IsTaken bytes (Err refused) → end ≡ ends.Input refused → EndsLoad {T = T} batch state bytes left now now (Err end)
-    says refused is so = subst (λ (e : Ended). EndsLoad {T = T} batch state bytes left now now (Err e)) (sym so) (is, (refl, holds))
+    says : (refused : InputFault) → IsTaken only bytes (Err refused) → end ≡ ends.Input refused → EndsLoad {T = T} batch only state bytes left now now (Err end)
+    says refused is so = subst (λ (e : Ended). EndsLoad {T = T} batch only state bytes left now now (Err e)) (sym so) (is, (refl, holds))
 
-    lacks : end ≡ ends.Memory → EndsLoad {T = T} batch state bytes left now now (Err end)
-    lacks so = subst (λ (e : Ended). EndsLoad {T = T} batch state bytes left now now (Err e)) (sym so) (inl ((refl, holds), refl))
+    lacks : end ≡ ends.Memory → EndsLoad {T = T} batch only state bytes left now now (Err end)
+    lacks so = subst (λ (e : Ended). EndsLoad {T = T} batch only state bytes left now now (Err e)) (sym so) (inl ((refl, holds), refl))
 
-    by_fault : (fault : LoadFault) → (fault ≢ loads.Memory → Takes bytes None (Err fault)) → RefusesSo fault end → EndsLoad {T = T} batch state bytes left now now (Err end)
+    by_fault : (fault : LoadFault) → (fault ≢ loads.Memory → Takes bytes only (Err fault)) → RefusesSo fault end → EndsLoad {T = T} batch only state bytes left now now (Err end)
     by_fault (loads.Json (json.NotUtf8 at)) takes so = says (inputs.NotUtf8 at) (short, takes (λ e. absurd (cc))) so
     by_fault (loads.Json (json.Syntax at)) takes so = says (inputs.Syntax at) (short, takes (λ e. absurd (cc))) so
     by_fault (loads.Json (json.TooDeep at)) takes so = says (inputs.TooDeep at) (short, takes (λ e. absurd (cc))) so
@@ -63,15 +63,15 @@ reaches-ends : (wanted : End) (batch : ℕ) (state : Contents) (items : List Ite
 reaches-ends wanted batch state items old new reaches = record { end = reaches.end; said = reaches.said; holds = reaches.holds }
 
 -- the text gives items, which were acted on
-pub taken-ends : (T : Type 0) (batch : ℕ) (state : Contents) (input left bytes : List ℕ) (items : List Item) (old new : World) (result : Result T Ended) → bytes ≡ input → left ≡ [] → length bytes ≤ load_max → Takes bytes None (Ok items)
-    → IsConcluded (stage_at_start batch state items) old new result → EndsLoad batch state input left old new result
-taken-ends T batch state input left bytes items old new result same none short takes concluded =
-    subst (λ (b : List ℕ). EndsLoad batch state b left old new result) same (by_result result concluded)
+pub taken-ends : (T : Type 0) (batch : ℕ) (only : Option (List ℕ)) (state : Contents) (input left bytes : List ℕ) (items : List Item) (old new : World) (result : Result T Ended) → bytes ≡ input → left ≡ [] → length bytes ≤ load_max → Takes bytes only (Ok items)
+    → IsConcluded (stage_at_start batch state items) old new result → EndsLoad batch only state input left old new result
+taken-ends T batch only state input left bytes items old new result same none short takes concluded =
+    subst (λ (b : List ℕ). EndsLoad batch only state b left old new result) same (by_result result concluded)
   where
-    is : IsTaken bytes (Ok items)
+    is : IsTaken only bytes (Ok items)
     is = (short, takes)
 
-    by_result : (result : Result T Ended) → IsConcluded (stage_at_start batch state items) old new result → EndsLoad batch state bytes left old new result
+    by_result : (result : Result T Ended) → IsConcluded (stage_at_start batch state items) old new result → EndsLoad batch only state bytes left old new result
     by_result (Ok done) ended = ((items, is, reaches-ends _ batch state items old new ended), none)
     by_result (Err ends.Memory) ended = inr (items, is, ended)
     by_result (Err ends.Disk) ended = inr (items, is, ended)
@@ -82,12 +82,12 @@ taken-ends T batch state input left bytes items old new result same none short t
     by_result (Err _) ended = absurd ended
 
 -- and what a crash left meanwhile
-pub taken-left : (batch : ℕ) (state : Contents) (input bytes : List ℕ) (items : List Item) (old new : World) → bytes ≡ input → length bytes ≤ load_max → Takes bytes None (Ok items)
-    → LeavesOnly old new (LeftFrom (stage_at_start batch state items) old.said) → LeavesOnly old new (LeftByLoad batch state input old.said)
-taken-left batch state input bytes items old new same short takes left = within left (λ image said may. ⊎_elim
+pub taken-left : (batch : ℕ) (only : Option (List ℕ)) (state : Contents) (input bytes : List ℕ) (items : List Item) (old new : World) → bytes ≡ input → length bytes ≤ load_max → Takes bytes only (Ok items)
+    → LeavesOnly old new (LeftFrom (stage_at_start batch state items) old.said) → LeavesOnly old new (LeftByLoad batch only state input old.said)
+taken-left batch only state input bytes items old new same short takes left = within left (λ image said may. ⊎_elim
     (λ (h : Stands image state × SaysFrontOf [] old.said said). inl (h.0, front-empty old.said said h.1))
     (λ (h : LeftBySteps state 0 0 (steps batch [] items) (old.said ++ []) image said).
-    inr (items, subst (λ (b : List ℕ). IsTaken b (Ok items)) same (short, takes), subst (λ b. LeftBySteps state 0 0 (steps batch [] items) b image said) (append-nil old.said) h))
+    inr (items, subst (λ (b : List ℕ). IsTaken only b (Ok items)) same (short, takes), subst (λ b. LeftBySteps state 0 0 (steps batch [] items) b image said) (append-nil old.said) h))
     may)
 
 -- ---- reading the whole input
@@ -123,10 +123,10 @@ abbrev pub stopped : Ended → Result (Unit {0}) Ended
 stopped end = Err end
 
 -- an input that is refused before it was read whole is too long
-pub unread-input : (input : List ℕ) (end : Ended) (fault : InputFault) → IsUnread input end → IsErrOf (stopped end) (ends.Input fault) → IsTaken input (Err fault)
-unread-input input end fault has is = by_fault fault (subst (λ (r : Result (Unit {0}) Ended). IfErr r (IsUnread input)) is has)
+pub unread-input : (only : Option (List ℕ)) (input : List ℕ) (end : Ended) (fault : InputFault) → IsUnread input end → IsErrOf (stopped end) (ends.Input fault) → IsTaken only input (Err fault)
+unread-input only input end fault has is = by_fault fault (subst (λ (r : Result (Unit {0}) Ended). IfErr r (IsUnread input)) is has)
   where
-    by_fault : (fault : InputFault) → IsUnread input (ends.Input fault) → IsTaken input (Err fault)
+    by_fault : (fault : InputFault) → IsUnread input (ends.Input fault) → IsTaken only input (Err fault)
     by_fault inputs.Long has = has
     by_fault _ has = absurd has
 
@@ -135,23 +135,23 @@ pub unread-limit : (input : List ℕ) (end : Ended) (fault : LimitFault) → IsU
 unread-limit input end fault has is = subst (λ (r : Result (Unit {0}) Ended). IfErr r (IsUnread input)) is has
 
 -- the items of a text that was read whole
-pub read-items : (input bytes : List ℕ) (items : List Item) → bytes ≡ input → length bytes ≤ load_max → Takes bytes None (Ok items) → IsTaken input (Ok items)
-read-items input bytes items same short takes = subst (λ (b : List ℕ). IsTaken b (Ok items)) same (short, takes)
+pub read-items : (only : Option (List ℕ)) (input bytes : List ℕ) (items : List Item) → bytes ≡ input → length bytes ≤ load_max → Takes bytes only (Ok items) → IsTaken only input (Ok items)
+read-items only input bytes items same short takes = subst (λ (b : List ℕ). IsTaken only b (Ok items)) same (short, takes)
 
 -- a text that gives no items is refused for its cause
-pub refused-input : (input bytes : List ℕ) (fault : LoadFault) (end : Ended) (why : InputFault) → bytes ≡ input → length bytes ≤ load_max → (fault ≢ loads.Memory → Takes bytes None (Err fault)) → RefusesSo fault end
-    → IsErrOf (stopped end) (ends.Input why) → IsTaken input (Err why)
-refused-input input bytes fault end why same short takes so is = subst (λ (b : List ℕ). IsTaken b (Err why)) same (by_fault fault takes so (ended-by is))
+pub refused-input : (only : Option (List ℕ)) (input bytes : List ℕ) (fault : LoadFault) (end : Ended) (why : InputFault) → bytes ≡ input → length bytes ≤ load_max → (fault ≢ loads.Memory → Takes bytes only (Err fault)) → RefusesSo fault end
+    → IsErrOf (stopped end) (ends.Input why) → IsTaken only input (Err why)
+refused-input only input bytes fault end why same short takes so is = subst (λ (b : List ℕ). IsTaken only b (Err why)) same (by_fault fault takes so (ended-by is))
   where
     ended-by : stopped end ≡ Err (ends.Input why) → end ≡ ends.Input why
     ended-by e = cc
 
-    says : (other : InputFault) → IsTaken bytes (Err other) → end ≡ ends.Input other → end ≡ ends.Input why → IsTaken bytes (Err why)
+    says : (other : InputFault) → IsTaken only bytes (Err other) → end ≡ ends.Input other → end ≡ ends.Input why → IsTaken only bytes (Err why)
     says other taken one two =
         let alike : other ≡ why = cc in
-        subst (λ (f : InputFault). IsTaken bytes (Err f)) alike taken
+        subst (λ (f : InputFault). IsTaken only bytes (Err f)) alike taken
 
-    by_fault : (fault : LoadFault) → (fault ≢ loads.Memory → Takes bytes None (Err fault)) → RefusesSo fault end → end ≡ ends.Input why → IsTaken bytes (Err why)
+    by_fault : (fault : LoadFault) → (fault ≢ loads.Memory → Takes bytes only (Err fault)) → RefusesSo fault end → end ≡ ends.Input why → IsTaken only bytes (Err why)
     by_fault (loads.Json (json.NotUtf8 at)) takes so e = says (inputs.NotUtf8 at) (short, takes (λ e. absurd (cc))) so e
     by_fault (loads.Json (json.Syntax at)) takes so e = says (inputs.Syntax at) (short, takes (λ e. absurd (cc))) so e
     by_fault (loads.Json (json.TooDeep at)) takes so e = says (inputs.TooDeep at) (short, takes (λ e. absurd (cc))) so e

@@ -1,5 +1,5 @@
 -- A load between two of its items, and how it ends.
-use Rattle.std.specs.Prelude.{◌≡◌, ◌⊎◌, ℕ, ◌+◌, ◌^◌, ◌<◌, ◌≤◌, List, [], ◌++◌, length, Vec, Result, Ok, Err, OnOk, IfErr}
+use Rattle.std.specs.Prelude.{◌≡◌, ◌⊎◌, ℕ, ◌+◌, ◌^◌, ◌<◌, ◌≤◌, List, [], ◌++◌, length, Option, Vec, Result, Ok, Err, OnOk, IfErr}
 use Rattle.std.specs.List.{AllByRecursion}
 use Rattle.disk_model.specs.World.{World, Image, LeavesOnly, Rose}
 use Rattle.json_spelled.specs.declared.tree.JsonFault.TheVariants as json
@@ -192,17 +192,17 @@ abbrev pub SaysNothingYet : Contents → World → World → Type 0
 SaysNothingYet state first now = (now.said ≡ first.said) × HoldsState now state
 
 -- How a load ended: its text was refused, or gave items that were acted on, or wasn't read.
-abbrev pub EndsLoad : {T : Type 0} → ℕ → Contents → List ℕ → List ℕ → World → World → Result T Ended → Type 0
-EndsLoad batch state input left first now (Ok done) =
-    ((items : List Item) × IsTaken input (Ok items) × EndsAs Done (load_transcript batch state (Ok items)) first now) × (left ≡ [])
-EndsLoad batch state input left first now (Err ends.Source) = SaysNothingYet state first now
-EndsLoad batch state input left first now (Err (ends.Input fault)) = IsTaken input (Err fault) × SaysNothingYet state first now
-EndsLoad batch state input left first now (Err ends.Done) = ⊥
-EndsLoad batch state input left first now (Err ends.Words) = ⊥
-EndsLoad batch state input left first now (Err (ends.Store fault)) = ⊥
-EndsLoad batch state input left first now (Err end) =
+abbrev pub EndsLoad : {T : Type 0} → ℕ → Option (List ℕ) → Contents → List ℕ → List ℕ → World → World → Result T Ended → Type 0
+EndsLoad batch only state input left first now (Ok done) =
+    ((items : List Item) × IsTaken only input (Ok items) × EndsAs Done (load_transcript batch state (Ok items)) first now) × (left ≡ [])
+EndsLoad batch only state input left first now (Err ends.Source) = SaysNothingYet state first now
+EndsLoad batch only state input left first now (Err (ends.Input fault)) = IsTaken only input (Err fault) × SaysNothingYet state first now
+EndsLoad batch only state input left first now (Err ends.Done) = ⊥
+EndsLoad batch only state input left first now (Err ends.Words) = ⊥
+EndsLoad batch only state input left first now (Err (ends.Store fault)) = ⊥
+EndsLoad batch only state input left first now (Err end) =
     (SaysNothingYet state first now × (end ≡ ends.Memory))
-    ⊎ ((items : List Item) × IsTaken input (Ok items) × StopsItems batch state items first now end)
+    ⊎ ((items : List Item) × IsTaken only input (Ok items) × StopsItems batch state items first now end)
 
 -- what may end the reading of a whole input: want of memory, a source whose count rose, or an input that is too long
 abbrev pub IsReadEnd : ℕ → ℕ → Ended → Type 0

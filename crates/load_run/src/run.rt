@@ -1,5 +1,5 @@
 //! A load, from its source to its end.
-ghost use Rattle.std.specs.Prelude.{◌≡◌, ◌≤◌, ◌<◌, ◌^◌, [], length, map, false, Err, IfOk, OnOk, IsErrOf, IsTrue};
+ghost use Rattle.std.specs.Prelude.{◌≡◌, ◌≤◌, ◌<◌, ◌^◌, [], length, map, option_copied, false, Err, IfOk, OnOk, IsErrOf, IsTrue};
 ghost use Rattle.std.specs.List.{All};
 ghost use Rattle.disk_model.specs.World.{LeavesOnly};
 ghost use Rattle.place_map.specs.State.{Contents};
@@ -95,7 +95,7 @@ fn refusal(fault: LoadFault) -> Ended
 }
 
 /// Runs a load to its end, over an engine that isn't stopped: reads the whole text, then acts on its items in their order, with
-/// `batch` places in a batch.
+/// `batch` places in a batch. The text of a place is the strings of its properties, or with `only` that of the property of this name.
 ///
 /// Returns `Ok` if the text gives items and each of them was acted on; then the source was read to its end. Errors:
 ///
@@ -108,6 +108,7 @@ fn refusal(fault: LoadFault) -> Ended
 pub fn run_load<'d, S: Source, T: Station>(
     alloc: Global,
     batch: u32,
+    only: Option<&str>,
     source: &mut S,
     engine: &mut Engine<'d, T>,
 ) -> Result<(), Ended>
@@ -115,23 +116,23 @@ pub fn run_load<'d, S: Source, T: Station>(
     requires few { batch ≤ 10000 }
     ensures same_loan { engine.new.store.disk.ghost_name ≡ engine.old.store.disk.ghost_name }
     ensures told { IsTrue S.tells → IsTrue T.tells → (state : Contents) → HoldsState (T.world engine.old.store.disk.now) state
-        → EndsLoad batch state (S.left source.old) (S.left source.new) (T.world engine.old.store.disk.now) (T.world engine.new.store.disk.now) result }
+        → EndsLoad batch (option_copied only.entry) state (S.left source.old) (S.left source.new) (T.world engine.old.store.disk.now) (T.world engine.new.store.disk.now) result }
     // A crash at any moment leaves one of the states around a batch, and what comes before it was said whole.
     ensures any_moment { IsTrue S.tells → IsTrue T.tells → (state : Contents) → HoldsState (T.world engine.old.store.disk.now) state
-        → LeavesOnly (T.world engine.old.store.disk.now) (T.world engine.new.store.disk.now) (LeftByLoad batch state (S.left source.old) (T.world engine.old.store.disk.now).said) }
+        → LeavesOnly (T.world engine.old.store.disk.now) (T.world engine.new.store.disk.now) (LeftByLoad batch (option_copied only.entry) state (S.left source.old) (T.world engine.old.store.disk.now).said) }
     ensures cause { HasJobEnd T.tells (S.faults source.old) (S.faults source.new) (T.world engine.old.store.disk.now) (T.world engine.new.store.disk.now) result }
 
     // Whatever the image stands for, the text and a limit end it only for their cause, and else the text was read to its end.
-    ensures input { IsTrue S.tells → (fault : InputFault) → IsErrOf result (Ended.Input fault) → IsTaken (S.left source.old) (Err fault) }
-    ensures whole { IsTrue S.tells → OnOk result ((S.left source.new ≡ []) × GivesItems (S.left source.old)) }
+    ensures input { IsTrue S.tells → (fault : InputFault) → IsErrOf result (Ended.Input fault) → IsTaken (option_copied only.entry) (S.left source.old) (Err fault) }
+    ensures whole { IsTrue S.tells → OnOk result ((S.left source.new ≡ []) × GivesItems (option_copied only.entry) (S.left source.old)) }
     ensures limit { IsTrue S.tells → (fault : LimitFault) → IsErrOf result (Ended.Limit fault)
-        → ReachesLimit fault engine.old.store.current.head.live engine.old.store.current.head.number (S.left source.old) }
+        → ReachesLimit fault engine.old.store.current.head.live engine.old.store.current.head.number (option_copied only.entry) (S.left source.old) }
 {
     let text = match read_text(alloc, source) {
         Ok(text) => text,
         Err(end) => return Err(end),
     };
-    match take(alloc, &text, None) {
+    match take(alloc, &text, only) {
         Ok(items) => store_items(alloc, batch, items, engine),
         Err(fault) => Err(refusal(fault)),
     }

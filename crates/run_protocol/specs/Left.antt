@@ -1,5 +1,5 @@
 -- What a crash may leave of a run, and where a run stops for want of room.
-use Rattle.std.specs.Prelude.{◌≡◌, ◌⊎◌, ℕ, ◌+◌, List, [], ◌∷◌, ◌++◌, length, Result, Ok, Err}
+use Rattle.std.specs.Prelude.{◌≡◌, ◌⊎◌, ℕ, ◌+◌, List, [], ◌∷◌, ◌++◌, length, Option, Result, Ok, Err}
 use Rattle.disk_model.specs.World.{World, Image}
 use Rattle.place_map.specs.State.{Contents}
 use Rattle.place_map.specs.declared.update.Update.{Update}
@@ -59,10 +59,10 @@ LeftBySteps state stored skipped (Store updates ∷ rest) before image said =
     (λ after. LeftBySteps after (stored + length updates) skipped rest) before image said
 
 -- before the text was taken, or around one of its steps
-abbrev pub LeftByLoad : ℕ → Contents → List ℕ → List ℕ → Image → List ℕ → Type 0
-LeftByLoad batch state input before image said =
+abbrev pub LeftByLoad : ℕ → Option (List ℕ) → Contents → List ℕ → List ℕ → Image → List ℕ → Type 0
+LeftByLoad batch only state input before image said =
     (Stands image state × (said ≡ before))
-    ⊎ ((items : List Item) × IsTaken input (Ok items) × LeftBySteps state 0 0 (steps batch [] items) before image said)
+    ⊎ ((items : List Item) × IsTaken only input (Ok items) × LeftBySteps state 0 0 (steps batch [] items) before image said)
 
 -- behind a batch that is accepted
 abbrev pub StopsBehind : Result Contents UpdateFault → (Contents → Type 0) → Type 0

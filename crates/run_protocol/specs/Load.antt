@@ -1,5 +1,5 @@
 -- What a load says and does, as a function of what its text gives.
-use Rattle.std.specs.Prelude.{ℕ, ◌+◌, ◌^◌, ◌<◌, ◌≤◌, nat_le, if◌then◌else◌, List, [], ◌∷◌, ◌++◌, length, None, Result, Ok, Err, codes, decimal}
+use Rattle.std.specs.Prelude.{ℕ, ◌+◌, ◌^◌, ◌<◌, ◌≤◌, nat_le, if◌then◌else◌, List, [], ◌∷◌, ◌++◌, length, Option, Result, Ok, Err, codes, decimal}
 use Rattle.term_impacts.specs.Impacts.{word_impacts}
 use Rattle.place_map.specs.declared.update.Update.{Update}
 use Rattle.place_map.specs.declared.update.Update.TheVariants.{Put}
@@ -94,18 +94,18 @@ load state stored skipped (Store updates ∷ rest) =
 unfoldable pub load_max : ℕ
 load_max = 67108864
 
--- what the text of a load gives: its items, or why it is refused
-abbrev pub IsTaken : List ℕ → Result (List Item) InputFault → Type 0
-IsTaken input (Ok items) = (length input ≤ load_max) × Takes input None (Ok items)
-IsTaken input (Err (inputs.NotUtf8 at)) = (length input ≤ load_max) × Takes input None (Err (loads.Json (json.NotUtf8 at)))
-IsTaken input (Err (inputs.Syntax at)) = (length input ≤ load_max) × Takes input None (Err (loads.Json (json.Syntax at)))
-IsTaken input (Err (inputs.TooDeep at)) = (length input ≤ load_max) × Takes input None (Err (loads.Json (json.TooDeep at)))
-IsTaken input (Err inputs.NotFeatures) = (length input ≤ load_max) × Takes input None (Err loads.NotFeatures)
-IsTaken input (Err inputs.Long) = load_max < length input
+-- what the text of a load gives, by one property alone or by all: its items, or why it is refused
+abbrev pub IsTaken : Option (List ℕ) → List ℕ → Result (List Item) InputFault → Type 0
+IsTaken only input (Ok items) = (length input ≤ load_max) × Takes input only (Ok items)
+IsTaken only input (Err (inputs.NotUtf8 at)) = (length input ≤ load_max) × Takes input only (Err (loads.Json (json.NotUtf8 at)))
+IsTaken only input (Err (inputs.Syntax at)) = (length input ≤ load_max) × Takes input only (Err (loads.Json (json.Syntax at)))
+IsTaken only input (Err (inputs.TooDeep at)) = (length input ≤ load_max) × Takes input only (Err (loads.Json (json.TooDeep at)))
+IsTaken only input (Err inputs.NotFeatures) = (length input ≤ load_max) × Takes input only (Err loads.NotFeatures)
+IsTaken only input (Err inputs.Long) = load_max < length input
 
 -- the text of a load gives items
-abbrev pub GivesItems : List ℕ → Type 0
-GivesItems input = (items : List Item) × IsTaken input (Ok items)
+abbrev pub GivesItems : Option (List ℕ) → List ℕ → Type 0
+GivesItems only input = (items : List Item) × IsTaken only input (Ok items)
 
 -- how many of the items are places
 abbrev pub places_among : List Item → ℕ
@@ -114,10 +114,10 @@ places_among (Placed place ∷ items) = places_among items + 1
 places_among (Skipped index reason ∷ items) = places_among items
 
 -- The text of a load gives items whose places reach this limit, from so many live places and this update number on.
-abbrev pub ReachesLimit : LimitFault → ℕ → ℕ → List ℕ → Type 0
-ReachesLimit Full live number input = (items : List Item) × IsTaken input (Ok items) × (200000 ≤ live + places_among items)
-ReachesLimit Worn live number input = (items : List Item) × IsTaken input (Ok items) × (2 ^ 40 ≤ number + places_among items)
-ReachesLimit NoRoom live number input = Unit {0}
+abbrev pub ReachesLimit : LimitFault → ℕ → ℕ → Option (List ℕ) → List ℕ → Type 0
+ReachesLimit Full live number only input = (items : List Item) × IsTaken only input (Ok items) × (200000 ≤ live + places_among items)
+ReachesLimit Worn live number only input = (items : List Item) × IsTaken only input (Ok items) × (2 ^ 40 ≤ number + places_among items)
+ReachesLimit NoRoom live number only input = Unit {0}
 
 -- all that a load says and does
 abbrev pub load_transcript : ℕ → Contents → Result (List Item) InputFault → Transcript

@@ -1,5 +1,6 @@
 use Rattle.std.proofs.Common.{◌≡◌, ◌≤◌, rules, sym, ap, subst, ◌∙◌, arith}
-use Rattle.std.specs.Prelude.{IsErrOf}
+use Rattle.std.specs.Prelude.{IsErrOf, option_map, string_bytes}
+use Rattle.command_words.specs.Job.{asked_of}
 use Rattle.irtree_engine.specs.declared.fault.EngineFault.TheVariants as engine
 use Rattle.disk_model.specs.World.{LeavesOnly, LeavesOnlySeen}
 use Rattle.disk_model.proofs.Moments.{then, within}
@@ -30,14 +31,15 @@ refuses g c = record {
 }
 
 pub returns-in-Err-clause-told : goal.returns-in-Err-clause-told
-returns-in-Err-clause-told g c = λ tells told asked action batch state holds.
+returns-in-Err-clause-told g c = λ tells told state holds.
     let input = g.S.Source.left c.args.source.now in
     rw c.ended_by.ensures
-    (refused-job (Unit {0}) g.T.Disk.tells told asked state input input (g.T.Disk.world c.args.station.now) (g.T.Disk.world c.recover_superblock.new.disk) holds (c.recover_superblock.ensures.quiet told).said c.in-Err.fault c.in-Err.ensures.causes (refuses g c))
+    (refused-job (Unit {0}) g.T.Disk.tells told (asked_of c.args.job.now) state input input (g.T.Disk.world c.args.station.now) (g.T.Disk.world c.recover_superblock.new.disk) holds (c.recover_superblock.ensures.quiet told).said c.in-Err.fault c.in-Err.ensures.causes (refuses g c))
 
 pub returns-in-Err-clause-any_moment : goal.returns-in-Err-clause-any_moment
-returns-in-Err-clause-any_moment g c = λ tells told asked action batch state holds.
-    let some : 1 ≤ asked.batch = omega (arith, batch, c.requires.some) in
+returns-in-Err-clause-any_moment g c = λ tells told state holds.
+    let asked = asked_of c.args.job.now in
+    let some = c.requires.some in
     within (c.in-Err.ensures.any_moment told state holds) (λ image said left whole is. none-held asked.action asked.batch some state whole.turn.changes _ image said left.0 left.1)
 
 -- a refused opening ends by the disk or by the store
@@ -68,25 +70,26 @@ returns-in-Err-clause-cause g c = record {
 }
 
 pub returns-clause-told : goal.returns-clause-told
-returns-clause-told g c = λ tells told asked action batch state holds.
+returns-clause-told g c = λ tells told state holds.
     let world = g.T.Disk.world in
     let input = g.S.Source.left c.args.source.now in
     let left = g.S.Source.left c.serve-end.new.source in
     let mid = subst (λ disk. HoldsState (world disk) state) (sym c.over-engine.ensures.disk) (c.in-Ok.ensures.holds told state holds) in
     let same = ap (λ disk. (world disk).said) c.over-engine.ensures.disk ∙ (c.in-Ok.ensures.quiet told).said in
-    given-back (λ disk. EndsJob asked state input left (world c.args.station.now) (world disk) c.serve-end.result) c.serve-end.new.engine.store.disk.now _ (search rules)
-    (job-from asked state input (world c.args.station.now) (world c.over-engine.result.store.disk.now) (world c.serve-end.new.engine.store.disk.now) same _ left c.serve-end.result
-    (c.serve-end.ensures.told tells told asked action batch state mid))
+    given-back (λ disk. EndsJob (asked_of c.args.job.now) state input left (world c.args.station.now) (world disk) c.serve-end.result) c.serve-end.new.engine.store.disk.now _ (search rules)
+    (job-from (asked_of c.args.job.now) state input (world c.args.station.now) (world c.over-engine.result.store.disk.now) (world c.serve-end.new.engine.store.disk.now) same _ left c.serve-end.result
+    (c.serve-end.ensures.told tells told state mid))
 
 pub returns-clause-any_moment : goal.returns-clause-any_moment
-returns-clause-any_moment g c = λ tells told asked action batch state holds.
+returns-clause-any_moment g c = λ tells told state holds.
     let world = g.T.Disk.world in
     let input = g.S.Source.left c.args.source.now in
-    let some : 1 ≤ asked.batch = omega (arith, batch, c.requires.some) in
+    let asked = asked_of c.args.job.now in
+    let some = c.requires.some in
     let opened = within (c.in-Ok.ensures.any_moment told state holds) (λ image said left whole is. none-held asked.action asked.batch some state whole.turn.changes (world c.args.station.now).said image said left.0 left.1) in
     let mid = subst (λ disk. HoldsState (world disk) state) (sym c.over-engine.ensures.disk) (c.in-Ok.ensures.holds told state holds) in
     let same = ap (λ disk. (world disk).said) c.over-engine.ensures.disk ∙ (c.in-Ok.ensures.quiet told).said in
-    let served = within (c.serve-end.ensures.any_moment tells told asked action batch state mid) (left-from asked state input some (world c.args.station.now) (world c.over-engine.result.store.disk.now) same) in
+    let served = within (c.serve-end.ensures.any_moment tells told state mid) (left-from asked state input some (world c.args.station.now) (world c.over-engine.result.store.disk.now) same) in
     let whole = then (subst (λ disk. LeavesOnly (world c.args.station.now) (world disk) (HoldsPrefix asked state input (world c.args.station.now))) (sym c.over-engine.ensures.disk) opened) served in
     given-back (λ disk. LeavesOnly (world c.args.station.now) (world disk) (HoldsPrefix asked state input (world c.args.station.now))) c.serve-end.new.engine.store.disk.now _ (search rules) whole
 
@@ -117,5 +120,5 @@ returns-clause-reached g c = λ tells told fault is.
     let world = g.T.Disk.world in
     let input = g.S.Source.left c.args.source.now in
     let block : c.over-engine.result.store.current ≡ c.in-Ok.block = c.over-engine.result.settled ∙ c.over-engine.ensures.block in
-    opened-limit c.in-Ok.block (world c.args.station.now) (world c.recover_superblock.new.disk) (c.in-Ok.ensures.opened told) fault input
-    (subst (λ (b : Superblock). ReachesLimit fault b.head.live b.head.number input) block (c.serve-end.ensures.reached tells fault is))
+    opened-limit c.in-Ok.block (world c.args.station.now) (world c.recover_superblock.new.disk) (c.in-Ok.ensures.opened told) fault (option_map string_bytes c.args.job.now.text) input
+    (subst (λ (b : Superblock). ReachesLimit fault b.head.live b.head.number (option_map string_bytes c.args.job.now.text) input) block (c.serve-end.ensures.reached tells fault is))

@@ -1,58 +1,59 @@
-use Rattle.std.proofs.Common.{◌≡◌, sym, ap, subst}
+use Rattle.std.proofs.Common.{◌≡◌, [], subst}
 use Rattle.std.specs.Prelude.{Err, IsErrOf}
 use Rattle.run_protocol.specs.declared.ended.Ended.{Ended}
 use Rattle.run_protocol.specs.declared.ended.Ended.TheVariants as ends
-use Rattle.irtree_top.specs.Run.{EndsJob, IsInputEnd, IsLimitOf, IsWholeInput}
+use Rattle.disk_model.specs.World.{LeavesOnly}
+use Rattle.irtree_top.specs.Run.{EndsBy, EndsJob, HoldsPrefix, IsInputEnd, IsLimitOf, IsLimitReached, IsWholeInput, SaysFront}
 use Rattle.run_protocol.specs.Turn.{Done}
-use Rattle.irtree_top.specs.Words.{Asked, asked_of}
+use Rattle.command_words.specs.Job.{Asked, asked_of}
 use Rattle.irtree_top.proofs.Jobs.{decided-front, job-front}
 use Rattle.irtree_top.proofs.Openings.{behind-opening, complete-end}
 use Rattle.irtree_top.proofs.top.run.Goals as goal
 
 pub returns-in-Ok-run_job-clause-done : goal.returns-in-Ok-run_job-clause-done
 returns-in-Ok-run_job-clause-done g c = λ asked wants tells told state holds is.
-    let same : asked_of c.in-Ok.job ≡ asked = cc (c.in-Ok.ensures.asked) in
-    c.in-Ok-run_job.ensures.told tells told asked (sym (ap (λ (a : Asked). a.action) same)) (sym (ap (λ (a : Asked). a.batch) same)) state holds
+    let same : asked_of c.in-Ok.job ≡ asked = cc (c.in-Ok.ensures.reading) in
+    subst (λ (a : Asked). EndsBy Done a state (g.S.Source.left c.args.source.now) (g.T.Disk.world c.args.station.now) (g.T.Disk.world c.run_job.new.station) × (g.S.Source.left c.run_job.new.source ≡ [])) same (c.in-Ok-run_job.ensures.told tells told state holds)
 
 pub returns-in-Ok-run_job-clause-front : goal.returns-in-Ok-run_job-clause-front
 returns-in-Ok-run_job-clause-front g c = λ asked wants tells told state holds.
-    let same : asked_of c.in-Ok.job ≡ asked = cc (c.in-Ok.ensures.asked) in
-    decided-front c.transcript_is_one.ensures Done asked state _ _ _
-    (c.in-Ok-run_job.ensures.told tells told asked (sym (ap (λ (a : Asked). a.action) same)) (sym (ap (λ (a : Asked). a.batch) same)) state holds).0
+    let same : asked_of c.in-Ok.job ≡ asked = cc (c.in-Ok.ensures.reading) in
+    subst (λ (a : Asked). SaysFront a state (g.S.Source.left c.args.source.now) (g.T.Disk.world c.args.station.now) (g.T.Disk.world c.run_job.new.station)) same
+    (decided-front c.transcript_is_one.ensures Done (asked_of c.in-Ok.job) state _ _ _ (c.in-Ok-run_job.ensures.told tells told state holds).0)
 
 pub returns-in-Ok-run_job-clause-crash : goal.returns-in-Ok-run_job-clause-crash
 returns-in-Ok-run_job-clause-crash g c = λ asked wants tells told state holds.
-    let same : asked_of c.in-Ok.job ≡ asked = cc (c.in-Ok.ensures.asked) in
-    c.run_job.ensures.any_moment tells told asked (sym (ap (λ (a : Asked). a.action) same)) (sym (ap (λ (a : Asked). a.batch) same)) state holds
+    let same : asked_of c.in-Ok.job ≡ asked = cc (c.in-Ok.ensures.reading) in
+    subst (λ (a : Asked). LeavesOnly (g.T.Disk.world c.args.station.now) (g.T.Disk.world c.run_job.new.station) (HoldsPrefix a state (g.S.Source.left c.args.source.now) (g.T.Disk.world c.args.station.now))) same (c.run_job.ensures.any_moment tells told state holds)
 
 pub returns-in-Ok-clause-input : goal.returns-in-Ok-clause-input
 returns-in-Ok-clause-input g c = λ asked wants tells told state holds fault is.
-    let same : asked_of c.in-Ok.job ≡ asked = cc (c.in-Ok.ensures.asked) in
-    subst (λ (e : Ended). EndsJob {T = Unit {0}} asked state (g.S.Source.left c.args.source.now) (g.S.Source.left c.run_job.new.source) (g.T.Disk.world c.args.station.now) (g.T.Disk.world c.run_job.new.station) (Err e)) is
-    (c.in-Err.ensures.told tells told asked (sym (ap (λ (a : Asked). a.action) same)) (sym (ap (λ (a : Asked). a.batch) same)) state holds)
+    let same : asked_of c.in-Ok.job ≡ asked = cc (c.in-Ok.ensures.reading) in
+    subst (λ (a : Asked). EndsJob {T = Unit {0}} a state (g.S.Source.left c.args.source.now) (g.S.Source.left c.run_job.new.source) (g.T.Disk.world c.args.station.now) (g.T.Disk.world c.run_job.new.station) (Err (ends.Input fault))) same
+    (subst (λ (e : Ended). EndsJob {T = Unit {0}} (asked_of c.in-Ok.job) state (g.S.Source.left c.args.source.now) (g.S.Source.left c.run_job.new.source) (g.T.Disk.world c.args.station.now) (g.T.Disk.world c.run_job.new.station) (Err e)) is (c.in-Err.ensures.told tells told state holds))
 
 pub returns-in-Ok-clause-limit : goal.returns-in-Ok-clause-limit
 returns-in-Ok-clause-limit g c = λ asked wants tells told state holds fault is.
-    let same : asked_of c.in-Ok.job ≡ asked = cc (c.in-Ok.ensures.asked) in
-    subst (λ (e : Ended). EndsJob {T = Unit {0}} asked state (g.S.Source.left c.args.source.now) (g.S.Source.left c.run_job.new.source) (g.T.Disk.world c.args.station.now) (g.T.Disk.world c.run_job.new.station) (Err e)) is
-    (c.in-Err.ensures.told tells told asked (sym (ap (λ (a : Asked). a.action) same)) (sym (ap (λ (a : Asked). a.batch) same)) state holds)
+    let same : asked_of c.in-Ok.job ≡ asked = cc (c.in-Ok.ensures.reading) in
+    subst (λ (a : Asked). EndsJob {T = Unit {0}} a state (g.S.Source.left c.args.source.now) (g.S.Source.left c.run_job.new.source) (g.T.Disk.world c.args.station.now) (g.T.Disk.world c.run_job.new.station) (Err (ends.Limit fault))) same
+    (subst (λ (e : Ended). EndsJob {T = Unit {0}} (asked_of c.in-Ok.job) state (g.S.Source.left c.args.source.now) (g.S.Source.left c.run_job.new.source) (g.T.Disk.world c.args.station.now) (g.T.Disk.world c.run_job.new.station) (Err e)) is (c.in-Err.ensures.told tells told state holds))
 
 pub returns-in-Ok-clause-source : goal.returns-in-Ok-clause-source
 returns-in-Ok-clause-source g c = λ asked wants tells told state holds is.
-    let same : asked_of c.in-Ok.job ≡ asked = cc (c.in-Ok.ensures.asked) in
-    (subst (λ (e : Ended). EndsJob {T = Unit {0}} asked state (g.S.Source.left c.args.source.now) (g.S.Source.left c.run_job.new.source) (g.T.Disk.world c.args.station.now) (g.T.Disk.world c.run_job.new.station) (Err e)) is
-    (c.in-Err.ensures.told tells told asked (sym (ap (λ (a : Asked). a.action) same)) (sym (ap (λ (a : Asked). a.batch) same)) state holds)).0
+    let same : asked_of c.in-Ok.job ≡ asked = cc (c.in-Ok.ensures.reading) in
+    (subst (λ (a : Asked). EndsJob {T = Unit {0}} a state (g.S.Source.left c.args.source.now) (g.S.Source.left c.run_job.new.source) (g.T.Disk.world c.args.station.now) (g.T.Disk.world c.run_job.new.station) (Err ends.Source)) same
+    (subst (λ (e : Ended). EndsJob {T = Unit {0}} (asked_of c.in-Ok.job) state (g.S.Source.left c.args.source.now) (g.S.Source.left c.run_job.new.source) (g.T.Disk.world c.args.station.now) (g.T.Disk.world c.run_job.new.station) (Err e)) is (c.in-Err.ensures.told tells told state holds))).0
 
 pub returns-in-Ok-clause-front : goal.returns-in-Ok-clause-front
 returns-in-Ok-clause-front g c = λ asked wants tells told state holds.
-    let same : asked_of c.in-Ok.job ≡ asked = cc (c.in-Ok.ensures.asked) in
-    job-front c.transcript_is_one.ensures (Unit {0}) asked state (g.S.Source.left c.args.source.now) (g.S.Source.left c.run_job.new.source) (g.T.Disk.world c.args.station.now) (g.T.Disk.world c.run_job.new.station) c.in-Err.end
-    (c.in-Err.ensures.told tells told asked (sym (ap (λ (a : Asked). a.action) same)) (sym (ap (λ (a : Asked). a.batch) same)) state holds)
+    let same : asked_of c.in-Ok.job ≡ asked = cc (c.in-Ok.ensures.reading) in
+    subst (λ (a : Asked). SaysFront a state (g.S.Source.left c.args.source.now) (g.T.Disk.world c.args.station.now) (g.T.Disk.world c.run_job.new.station)) same
+    (job-front c.transcript_is_one.ensures (Unit {0}) (asked_of c.in-Ok.job) state (g.S.Source.left c.args.source.now) (g.S.Source.left c.run_job.new.source) (g.T.Disk.world c.args.station.now) (g.T.Disk.world c.run_job.new.station) c.in-Err.end (c.in-Err.ensures.told tells told state holds))
 
 pub returns-in-Ok-clause-crash : goal.returns-in-Ok-clause-crash
 returns-in-Ok-clause-crash g c = λ asked wants tells told state holds.
-    let same : asked_of c.in-Ok.job ≡ asked = cc (c.in-Ok.ensures.asked) in
-    c.run_job.ensures.any_moment tells told asked (sym (ap (λ (a : Asked). a.action) same)) (sym (ap (λ (a : Asked). a.batch) same)) state holds
+    let same : asked_of c.in-Ok.job ≡ asked = cc (c.in-Ok.ensures.reading) in
+    subst (λ (a : Asked). LeavesOnly (g.T.Disk.world c.args.station.now) (g.T.Disk.world c.run_job.new.station) (HoldsPrefix a state (g.S.Source.left c.args.source.now) (g.T.Disk.world c.args.station.now))) same (c.run_job.ensures.any_moment tells told state holds)
 
 pub returns-in-Ok-run_job-clause-opened : goal.returns-in-Ok-run_job-clause-opened
 returns-in-Ok-run_job-clause-opened g c = λ behind tells. c.in-Ok-run_job.ensures.cause.opened tells
@@ -63,30 +64,31 @@ returns-in-Ok-clause-opened g c = λ behind tells.
 
 pub returns-in-Ok-run_job-clause-whole : goal.returns-in-Ok-run_job-clause-whole
 returns-in-Ok-run_job-clause-whole g c = λ asked wants tells is.
-    let same : asked_of c.in-Ok.job ≡ asked = cc (c.in-Ok.ensures.asked) in
+    let same : asked_of c.in-Ok.job ≡ asked = cc (c.in-Ok.ensures.reading) in
     let whole = c.in-Ok-run_job.ensures.whole tells in
-    (whole.0, subst (λ (a : Asked). IsWholeInput a.action (g.S.Source.left c.args.source.now)) same whole.1)
+    (whole.0, subst (λ (a : Asked). IsWholeInput a.action a.text (g.S.Source.left c.args.source.now)) same whole.1)
 
 pub returns-in-Ok-clause-input_end : goal.returns-in-Ok-clause-input_end
 returns-in-Ok-clause-input_end g c = λ asked wants tells fault is.
-    let same : asked_of c.in-Ok.job ≡ asked = cc (c.in-Ok.ensures.asked) in
+    let same : asked_of c.in-Ok.job ≡ asked = cc (c.in-Ok.ensures.reading) in
     let named : IsErrOf c.run_job.result (ends.Input fault) = cc in
-    subst (λ (a : Asked). IsInputEnd a.action (g.S.Source.left c.args.source.now) fault) same (c.run_job.ensures.input tells fault named)
+    subst (λ (a : Asked). IsInputEnd a.action a.text (g.S.Source.left c.args.source.now) fault) same (c.run_job.ensures.input tells fault named)
 
 pub returns-in-Ok-clause-limits : goal.returns-in-Ok-clause-limits
 returns-in-Ok-clause-limits g c = λ asked wants fault is.
-    let same : asked_of c.in-Ok.job ≡ asked = cc (c.in-Ok.ensures.asked) in
+    let same : asked_of c.in-Ok.job ≡ asked = cc (c.in-Ok.ensures.reading) in
     let named : IsErrOf c.run_job.result (ends.Limit fault) = cc in
     subst (λ (a : Asked). IsLimitOf a.action fault) same (c.run_job.ensures.limits fault named)
 
 pub returns-in-Ok-clause-reached : goal.returns-in-Ok-clause-reached
-returns-in-Ok-clause-reached g c = λ tells told fault is.
+returns-in-Ok-clause-reached g c = λ asked wants tells told fault is.
+    let same : asked_of c.in-Ok.job ≡ asked = cc (c.in-Ok.ensures.reading) in
     let named : IsErrOf c.run_job.result (ends.Limit fault) = cc in
-    c.run_job.ensures.reached tells told fault named
+    subst (λ (a : Asked). IsLimitReached fault a.text (g.S.Source.left c.args.source.now) (g.T.Disk.world c.args.station.now).seen) same (c.run_job.ensures.reached tells told fault named)
 
 pub returns-in-Ok-clause-complete : goal.returns-in-Ok-clause-complete
 returns-in-Ok-clause-complete g c = λ asked wants told state holds source disk sink.
-    let same : asked_of c.in-Ok.job ≡ asked = cc (c.in-Ok.ensures.asked) in
+    let same : asked_of c.in-Ok.job ≡ asked = cc (c.in-Ok.ensures.reading) in
     complete-end g.T.Disk.tells (g.S.Source.faults c.args.source.now) (g.S.Source.faults c.run_job.new.source) (g.T.Disk.world c.args.station.now) (g.T.Disk.world c.run_job.new.station) asked.action state told holds source disk sink c.in-Err.end
     (λ fault is. let named : IsErrOf c.run_job.result (ends.Limit fault) = cc in subst (λ (a : Asked). IsLimitOf a.action fault) same (c.run_job.ensures.limits fault named))
     c.in-Err.ensures.cause.cause

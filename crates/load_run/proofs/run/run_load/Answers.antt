@@ -1,5 +1,5 @@
 use Rattle.std.proofs.Common.{◌+◌, ◌∙◌, map, subst, arith}
-use Rattle.std.specs.Prelude.{Result, IfErr}
+use Rattle.std.specs.Prelude.{Result, IfErr, option_copied}
 use Rattle.disk_model.proofs.Moments.{started}
 use Rattle.geojson_points.specs.Takes.{item_of}
 use Rattle.run_protocol.specs.Causes.{IsEngineEnd}
@@ -12,7 +12,7 @@ use Rattle.load_run.proofs.Outcomes.{load_max-is, on_ok-held, read-items, refuse
 use Rattle.load_run.proofs.run.run_load.Goals as goal
 
 pub returns-in-Err-clause-told : goal.returns-in-Err-clause-told
-returns-in-Err-clause-told g c = λ tells told state holds. unread-ends (Unit {0}) c.args.batch state (g.S.Source.left c.args.source.now) (g.S.Source.left c.read_text.new.source) (g.T.Disk.world c.args.engine.now.store.disk.now) c.in-Err.end holds (c.in-Err.ensures.told tells)
+returns-in-Err-clause-told g c = λ tells told state holds. unread-ends (Unit {0}) c.args.batch (option_copied c.args.only) state (g.S.Source.left c.args.source.now) (g.S.Source.left c.read_text.new.source) (g.T.Disk.world c.args.engine.now.store.disk.now) c.in-Err.end holds (c.in-Err.ensures.told tells)
 
 pub returns-in-Err-clause-any_moment : goal.returns-in-Err-clause-any_moment
 returns-in-Err-clause-any_moment g c = λ tells told state holds. started (g.T.Disk.world c.args.engine.now.store.disk.now)
@@ -20,13 +20,13 @@ returns-in-Err-clause-any_moment g c = λ tells told state holds. started (g.T.D
 pub returns-in-Ok-take-clause-told : goal.returns-in-Ok-take-clause-told
 returns-in-Ok-take-clause-told g c = λ tells told state holds.
     let read = c.in-Ok.ensures.told tells in
-    taken-ends (Unit {0}) c.args.batch state (g.S.Source.left c.args.source.now) (g.S.Source.left c.read_text.new.source) c.deref.result.now (map item_of c.in-Ok-take.items.items) (g.T.Disk.world c.args.engine.now.store.disk.now) (g.T.Disk.world c.store_items.new.engine.store.disk.now) c.store_items.result
+    taken-ends (Unit {0}) c.args.batch (option_copied c.args.only) state (g.S.Source.left c.args.source.now) (g.S.Source.left c.read_text.new.source) c.deref.result.now (map item_of c.in-Ok-take.items.items) (g.T.Disk.world c.args.engine.now.store.disk.now) (g.T.Disk.world c.store_items.new.engine.store.disk.now) c.store_items.result
     (c.deref.ensures.value ∙ read.0) read.1 (omega (arith, load_max-is, c.deref.ensures.len, c.in-Ok.ensures.short)) c.in-Ok-take.ensures.outcome (c.store_items.ensures.told told state holds).ends
 
 pub returns-in-Ok-take-clause-any_moment : goal.returns-in-Ok-take-clause-any_moment
 returns-in-Ok-take-clause-any_moment g c = λ tells told state holds.
     let read = c.in-Ok.ensures.told tells in
-    taken-left c.args.batch state (g.S.Source.left c.args.source.now) c.deref.result.now (map item_of c.in-Ok-take.items.items) (g.T.Disk.world c.args.engine.now.store.disk.now) (g.T.Disk.world c.store_items.new.engine.store.disk.now)
+    taken-left c.args.batch (option_copied c.args.only) state (g.S.Source.left c.args.source.now) c.deref.result.now (map item_of c.in-Ok-take.items.items) (g.T.Disk.world c.args.engine.now.store.disk.now) (g.T.Disk.world c.store_items.new.engine.store.disk.now)
     (c.deref.ensures.value ∙ read.0) (omega (arith, load_max-is, c.deref.ensures.len, c.in-Ok.ensures.short)) c.in-Ok-take.ensures.outcome (c.store_items.ensures.told told state holds).left
 
 pub returns-in-Ok-take-clause-cause : goal.returns-in-Ok-take-clause-cause
@@ -36,7 +36,7 @@ returns-in-Ok-take-clause-cause g c = job-of-engine g.T.Disk.tells (g.S.Source.f
 pub returns-clause-told : goal.returns-clause-told
 returns-clause-told g c = λ tells told state holds.
     let read = c.in-Ok.ensures.told tells in
-    refused-ends (Unit {0}) c.args.batch state (g.S.Source.left c.args.source.now) (g.S.Source.left c.read_text.new.source) c.deref.result.now (g.T.Disk.world c.args.engine.now.store.disk.now) c.in-Err-take.fault c.refusal.result holds (c.deref.ensures.value ∙ read.0)
+    refused-ends (Unit {0}) c.args.batch (option_copied c.args.only) state (g.S.Source.left c.args.source.now) (g.S.Source.left c.read_text.new.source) c.deref.result.now (g.T.Disk.world c.args.engine.now.store.disk.now) c.in-Err-take.fault c.refusal.result holds (c.deref.ensures.value ∙ read.0)
     (omega (arith, load_max-is, c.deref.ensures.len, c.in-Ok.ensures.short)) c.in-Err-take.ensures.outcome c.refusal.ensures
 
 pub returns-clause-any_moment : goal.returns-clause-any_moment
@@ -45,7 +45,7 @@ returns-clause-any_moment g c = λ tells told state holds. started (g.T.Disk.wor
 -- ---- whatever the image stands for
 
 pub returns-in-Err-clause-input : goal.returns-in-Err-clause-input
-returns-in-Err-clause-input g c = λ tells fault is. unread-input (g.S.Source.left c.args.source.now) c.in-Err.end fault (c.in-Err.ensures.told tells) is
+returns-in-Err-clause-input g c = λ tells fault is. unread-input (option_copied c.args.only) (g.S.Source.left c.args.source.now) c.in-Err.end fault (c.in-Err.ensures.told tells) is
 
 pub returns-in-Err-clause-whole : goal.returns-in-Err-clause-whole
 returns-in-Err-clause-whole g c = λ tells. tt
@@ -60,22 +60,22 @@ returns-in-Ok-take-clause-input g c = λ tells fault is.
 pub returns-in-Ok-take-clause-whole : goal.returns-in-Ok-take-clause-whole
 returns-in-Ok-take-clause-whole g c = λ tells.
     let read = c.in-Ok.ensures.told tells in
-    let taken = read-items (g.S.Source.left c.args.source.now) c.deref.result.now (map item_of c.in-Ok-take.items.items) (c.deref.ensures.value ∙ read.0) (omega (arith, load_max-is, c.deref.ensures.len, c.in-Ok.ensures.short)) c.in-Ok-take.ensures.outcome in
+    let taken = read-items (option_copied c.args.only) (g.S.Source.left c.args.source.now) c.deref.result.now (map item_of c.in-Ok-take.items.items) (c.deref.ensures.value ∙ read.0) (omega (arith, load_max-is, c.deref.ensures.len, c.in-Ok.ensures.short)) c.in-Ok-take.ensures.outcome in
     on_ok-held c.store_items.result (read.1, (map item_of c.in-Ok-take.items.items, taken))
 
 pub returns-in-Ok-take-clause-limit : goal.returns-in-Ok-take-clause-limit
 returns-in-Ok-take-clause-limit g c = λ tells fault is.
     let read = c.in-Ok.ensures.told tells in
     let items = map item_of c.in-Ok-take.items.items in
-    let taken = read-items (g.S.Source.left c.args.source.now) c.deref.result.now items (c.deref.ensures.value ∙ read.0) (omega (arith, load_max-is, c.deref.ensures.len, c.in-Ok.ensures.short)) c.in-Ok-take.ensures.outcome in
+    let taken = read-items (option_copied c.args.only) (g.S.Source.left c.args.source.now) c.deref.result.now items (c.deref.ensures.value ∙ read.0) (omega (arith, load_max-is, c.deref.ensures.len, c.in-Ok.ensures.short)) c.in-Ok-take.ensures.outcome in
     let head = c.args.engine.now.store.current.head in
-    limit-reaches head.live head.number (g.S.Source.left c.args.source.now) items fault taken
+    limit-reaches head.live head.number (option_copied c.args.only) (g.S.Source.left c.args.source.now) items fault taken
     (subst (λ (r : Result (Unit {0}) Ended). IfErr r (IsLimitAt (head.live + (0 + places_among items)) (head.number + (0 + places_among items)))) is c.store_items.ensures.rises.limit)
 
 pub returns-clause-input : goal.returns-clause-input
 returns-clause-input g c = λ tells why is.
     let read = c.in-Ok.ensures.told tells in
-    refused-input (g.S.Source.left c.args.source.now) c.deref.result.now c.in-Err-take.fault c.refusal.result why (c.deref.ensures.value ∙ read.0) (omega (arith, load_max-is, c.deref.ensures.len, c.in-Ok.ensures.short)) c.in-Err-take.ensures.outcome c.refusal.ensures is
+    refused-input (option_copied c.args.only) (g.S.Source.left c.args.source.now) c.deref.result.now c.in-Err-take.fault c.refusal.result why (c.deref.ensures.value ∙ read.0) (omega (arith, load_max-is, c.deref.ensures.len, c.in-Ok.ensures.short)) c.in-Err-take.ensures.outcome c.refusal.ensures is
 
 pub returns-clause-whole : goal.returns-clause-whole
 returns-clause-whole g c = λ tells. tt
