@@ -22,6 +22,10 @@ AreOrdered low high (r ∷ rows) = (low ≤ r.number) × AreOrdered (r.number + 
 abbrev pub tops_of : Bytes → ℕ → Bytes
 tops_of b node n w i = top_at b node w
 
+-- the byte of one node at one slot, whatever node and slot is asked
+abbrev pub slot_of : Bytes → ℕ → ℕ → Bytes
+slot_of b node slot n w i = b node w slot
+
 -- the bytes of one node, whatever node is asked
 abbrev pub bytes_at : ℕ → Bytes → Bytes
 bytes_at node b n w i = b node w i

@@ -9,6 +9,7 @@
 
 mod ahead;
 mod ascent;
+mod columns;
 mod dropping;
 mod key;
 mod layout;
@@ -23,6 +24,7 @@ mod slots;
 mod taking;
 mod words;
 
+pub use columns::column;
 pub use dropping::drop_node;
 pub use moving::move_slots;
 pub use next::next_row;
