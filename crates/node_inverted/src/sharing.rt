@@ -12,8 +12,8 @@ use crate::Tree;
 use crate::rows::row;
 use page_face::{Damage, PageFault, Pages};
 
-// One more where the byte isn't 0.
-fn more_by(count: u32, byte: u8) -> u32
+/// One more where the byte isn't 0.
+pub(crate) fn more_by(count: u32, byte: u8) -> u32
     ensures { result ≡ min (count + sign byte) most }
 {
     if byte == 0 {

@@ -134,6 +134,20 @@ fn words_and_rows_are_listed_in_order(rt: HostRuntime) -> Result<(), Fail> {
         shared(&mut pages, &tree, 9, &[(1, 7), (256, 7)]),
         Ok(counts)
     );
+    let mut table = [[0; 33]; 33];
+    table[0][0] = 1;
+    table[3][3] = 1;
+    table[3][32] = 1;
+    table[32][3] = 1;
+    table[32][32] = 1;
+    assert_eq!(rt; like(&mut pages, &tree, 9, &[(1, 7), (256, 7)]), Ok(table));
+    match column(rt.alloc(), &mut pages, &tree, 7, 31) {
+        Ok(words) => {
+            assert_eq!(rt; words.len(), 1);
+            assert_eq!(rt; words.first(), Some(&(256, 4)));
+        }
+        Err(fault) => assert_eq!(rt; Some(fault), None),
+    }
     match words_of(rt.alloc(), &mut pages, &tree, 9) {
         Ok(words) => {
             assert_eq!(rt; words.len(), 2);
