@@ -7,6 +7,8 @@
 mod deleting;
 mod entry;
 mod inserting;
+#[cfg(test)]
+mod tests;
 
 pub use deleting::delete;
 pub use entry::Entry;
