@@ -1,0 +1,2 @@
+pub mod Regrowths
+pub mod Counts
