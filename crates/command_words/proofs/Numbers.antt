@@ -98,12 +98,12 @@ module _ (c : Command) (m : ArgMatches) (p : IsParsedFrom c m) (is : app_of c �
   id_at : (k : ℕ) (d : Arg) → (slice_index_or (args_of c) k d).id.now ≡ (slice_index_or rules k (rule_of d)).id
   id_at k d = ap (λ (r : Rule). r.id) (rule_at k d)
 
-  five : length (args_of c) ≡ 5
-  five = sym (length-map (args_of c) rule_of) ∙ ap length rules_are
+  six : length (args_of c) ≡ 6
+  six = sym (length-map (args_of c) rule_of) ∙ ap length rules_are
 
-  unique : (k : ℕ) (d : Arg) → k < 5 → (j : ℕ) (e : Arg) → j < length (args_of c)
+  unique : (k : ℕ) (d : Arg) → k < 6 → (j : ℕ) (e : Arg) → j < length (args_of c)
       → bytes_eq (slice_index_or (args_of c) j e).id.now (slice_index_or (args_of c) k d).id.now ≡ true → j ≡ k
-  unique k d lk j e lj same = one_place rules j k (rule_of e) (rule_of d) refl (omega (arith, five)) lk (rw (← id_at j e, ← id_at k d) same)
+  unique k d lk j e lj same = one_place rules j k (rule_of e) (rule_of d) refl (omega (arith, six)) lk (rw (← id_at j e, ← id_at k d) same)
 
   no_groups : groups_of p.built ≡ []
   no_groups = (p.from.same_groups (simple_groups c (ap (λ a. list_all (λ (r : Rule). r.is_simple) a.top.rules) is))).1
@@ -113,7 +113,7 @@ module _ (c : Command) (m : ArgMatches) (p : IsParsedFrom c m) (is : app_of c �
   values_pass = (p.parsed (p.from.globals ∙ (plain_fields c (ap (λ a. a.top.is_plain) is)).globals)).values
 
   -- an argument of the built command with the name of one of ours has its parser
-  same_parser : (k : ℕ) (r : Rule) (q : ValueParser) → k < 5 → ((d : Arg) → slice_index_or rules k (rule_of d) ≡ r) → r.parser ≡ Some q
+  same_parser : (k : ℕ) (r : Rule) (q : ValueParser) → k < 6 → ((d : Arg) → slice_index_or rules k (rule_of d) ≡ r) → r.parser ≡ Some q
       → ((r.id ≡ codes "help") ⊎ (r.id ≡ codes "version") → ⊥)
       → (j : ℕ) (x : Arg) → j < length (args_of p.built) → slice_index_or (args_of p.built) j x ≡ x → bytes_eq x.id.now r.id ≡ true
       → parser_of x ≡ q
@@ -121,12 +121,12 @@ module _ (c : Command) (m : ArgMatches) (p : IsParsedFrom c m) (is : app_of c �
       let mine = rule_at k x ∙ at x in
       let id : (slice_index_or (args_of c) k x).id.now ≡ r.id = ap (λ (s : Rule). s.id) mine in
       let found : bytes_eq x.id.now (slice_index_or (args_of c) k x).id.now ≡ true = subst (λ (t : Text). bytes_eq x.id.now t ≡ true) (sym id) same in
-      let stays = same_rules_by_id c m p k x (omega (arith, five)) (unique k x lk)
+      let stays = same_rules_by_id c m p k x (omega (arith, six)) (unique k x lk)
       (λ auto. own (elim auto [ inl h ↦ inl (sym id ∙ h) | inr h ↦ inr (sym id ∙ h) ])) j x lj here found in
       ap parser_of_value (stays.parser q (ap (λ (s : Rule). s.parser) mine ∙ parser))
 
   -- the text of an option with a range lies in that range, where it stands
-  passes : (k low high : ℕ) (r : Rule) → k < 5 → ((d : Arg) → slice_index_or rules k (rule_of d) ≡ r) → r.parser ≡ Some (Unsigned low high)
+  passes : (k low high : ℕ) (r : Rule) → k < 6 → ((d : Arg) → slice_index_or rules k (rule_of d) ≡ r) → r.parser ≡ Some (Unsigned low high)
       → (r.id ≡ [] → ⊥) → ((r.id ≡ codes "help") ⊎ (r.id ≡ codes "version") → ⊥)
       → IfSome (one_text (found_of m) r.id) (IsUnsignedIn low high)
   passes k low high r lk at parser named own = go (matched_of (found_of m) r.id) refl

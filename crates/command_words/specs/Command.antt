@@ -27,9 +27,13 @@ cache_rule = record (option_rule (codes "cache")) { parser = Some (Unsigned 0 65
 abbrev pub text_rule : Rule
 text_rule = option_rule (codes "text")
 
+-- how a full node of the tree is split: any text
+abbrev pub policy_rule : Rule
+policy_rule = option_rule (codes "policy")
+
 -- all that may stand on the line
 abbrev pub rules : List Rule
-rules = store_rule ∷ action_rule ∷ batch_rule ∷ cache_rule ∷ text_rule ∷ []
+rules = store_rule ∷ action_rule ∷ batch_rule ∷ cache_rule ∷ text_rule ∷ policy_rule ∷ []
 
 -- the command with these rules, and no setting of its own
 abbrev pub program : App

@@ -9,17 +9,20 @@ use Rattle.command_words.specs.Command.{refusals, values_on}
 use Rattle.command_words.specs.declared.job.Action.{Action}
 use Rattle.command_words.specs.declared.job.Action.TheVariants.{Run, Load}
 use Rattle.command_words.specs.declared.job.Job.{Job}
+use Rattle.command_words.specs.declared.job.PolicyName.{PolicyName}
+use Rattle.command_words.specs.declared.job.PolicyName.TheVariants.{Quadratic, Halving}
 use Rattle.command_words.specs.declared.job.WordsFault.{WordsFault}
 use Rattle.command_words.specs.declared.job.WordsFault.TheVariants.{Line, Unused, Memory}
 
--- What words ask for: a store, an action, how many places a load stores at a time, how many pages of the store are kept in memory, and
--- the one property that a load reads, or none where it reads all.
+-- What words ask for: a store, an action, how many places a load stores at a time, how many pages of the store are kept in memory, the
+-- one property that a load reads, or none where it reads all, and how a full node of the tree is split.
 pub record Asked : Type 0 where
   pub store : Text
   pub action : Action
   pub batch : ℕ
   pub cache : ℕ
   pub text : Option Text
+  pub policy : PolicyName
 
 -- what a job asks for
 abbrev pub asked_of : Job → Asked
@@ -29,6 +32,7 @@ asked_of job = record {
   batch = job.batch;
   cache = job.cache;
   text = option_map string_bytes job.text;
+  policy = job.policy;
 }
 
 -- the action of a word
@@ -38,14 +42,31 @@ action_of word =
     else if bytes_eq word (codes "load") then Some Load
     else None
 
+-- the policy of a word
+abbrev pub policy_of : Text → Option PolicyName
+policy_of word =
+    if bytes_eq word (codes "quadratic") then Some Quadratic
+    else if bytes_eq word (codes "halving") then Some Halving
+    else None
+
+-- the policy of an option's text, quadratic where the option is absent
+abbrev pub policy_or_quadratic : Option Text → Option PolicyName
+policy_or_quadratic None = Some Quadratic
+policy_or_quadratic (Some word) = policy_of word
+
+-- the policy among the values
+abbrev pub policy_among : List Row → Option PolicyName
+policy_among values = policy_or_quadratic (first_of (codes "policy") values)
+
 -- the options
 abbrev pub options : List Text
-options = codes "batch" ∷ codes "cache" ∷ codes "text" ∷ []
+options = codes "batch" ∷ codes "cache" ∷ codes "text" ∷ codes "policy" ∷ []
 
 -- the action uses the option
 abbrev pub uses : Action → Text → Bool
-uses Run option = bytes_eq option (codes "cache")
-uses Load option = bytes_eq option (codes "batch") || bytes_eq option (codes "cache") || bytes_eq option (codes "text")
+uses Run option = bytes_eq option (codes "cache") || bytes_eq option (codes "policy")
+uses Load option =
+    bytes_eq option (codes "batch") || bytes_eq option (codes "cache") || bytes_eq option (codes "text") || bytes_eq option (codes "policy")
 
 -- an option stands among the values that the action doesn't use
 abbrev pub has_unused : Action → List Row → Bool
@@ -55,26 +76,30 @@ has_unused action values = list_any (λ option. is_some (first_of option values)
 abbrev pub number_or : ℕ → Option Text → ℕ
 number_or absent text = option_map_or (λ digits. digits_value 10 (without_leading_plus digits)) text absent
 
--- the store and the action, with the options among the values, and what is meant by those that are absent: a batch of 1000 places, a
--- cache of 1024 pages, and all properties
-abbrev pub asked_with : List Row → Text → Action → Asked
-asked_with values store action = record {
+-- the store, the action and the policy, with the other options among the values, and what is meant by those that are absent: a batch of
+-- 1000 places, a cache of 1024 pages, and all properties
+abbrev pub asked_with : List Row → Text → Action → PolicyName → Asked
+asked_with values store action policy = record {
   store = store;
   action = action;
   batch = number_or 1000 (one_of (codes "batch") values);
   cache = number_or 1024 (one_of (codes "cache") values);
   text = first_of (codes "text") values;
+  policy = policy;
 }
 
--- what a store and an action ask for, where both stand among the values
-abbrev pub asked_for : List Row → Option Text → Option Action → Result Asked WordsFault
-asked_for values None action = Err Line
-asked_for values (Some store) None = Err Line
-asked_for values (Some store) (Some action) = if has_unused action values then Err Unused else Ok (asked_with values store action)
+-- what a store, an action and a policy ask for, where all stand among the values
+abbrev pub asked_for : List Row → Option Text → Option Action → Option PolicyName → Result Asked WordsFault
+asked_for values None action policy = Err Line
+asked_for values (Some store) None policy = Err Line
+asked_for values (Some store) (Some action) None = Err Line
+asked_for values (Some store) (Some action) (Some policy) =
+    if has_unused action values then Err Unused else Ok (asked_with values store action policy)
 
 -- what the values ask for
 abbrev pub asked_among : List Row → Result Asked WordsFault
-asked_among values = asked_for values (first_of (codes "STORE") values) (option_and_then action_of (first_of (codes "ACTION") values))
+asked_among values =
+    asked_for values (first_of (codes "STORE") values) (option_and_then action_of (first_of (codes "ACTION") values)) (policy_among values)
 
 -- what stands on a line asks for, where the command refuses it for no cause
 abbrev pub asked_unless : Kinds → List Row → Result Asked WordsFault

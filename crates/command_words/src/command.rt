@@ -1,7 +1,7 @@
 //! The command line as a command of `clap`.
 ghost use Rattle.std.specs.Prelude.{◌≡◌, ◌≢◌, [], false, map, IfOk, IfErr, OnOk};
 ghost use Rattle.clap.specs.Words.{app_of, found_of, kind_of, rows_of, rule_of};
-ghost use Rattle.command_words.specs.Command.{HasNumbers, action_rule, batch_rule, cache_rule, program, refusals, store_rule, text_rule, values_on};
+ghost use Rattle.command_words.specs.Command.{HasNumbers, action_rule, batch_rule, cache_rule, policy_rule, program, refusals, store_rule, text_rule, values_on};
 
 use clap::builder::ValueParser;
 use clap::error::ErrorKind;
@@ -25,6 +25,9 @@ pub(crate) const CACHE: &str = "cache";
 
 /// The option of the one property that is read.
 pub(crate) const TEXT: &str = "text";
+
+/// The option of the policy that splits the tree's full nodes.
+pub(crate) const POLICY: &str = "policy";
 
 fn store<'a>(alloc: Global) -> Arg<'a>
     ensures rule { rule_of result ≡ store_rule }
@@ -76,6 +79,16 @@ fn text<'a>(alloc: Global) -> Arg<'a>
     )
 }
 
+fn policy<'a>(alloc: Global) -> Arg<'a>
+    ensures rule { rule_of result ≡ policy_rule }
+    ensures local { result.global ≡ false }
+{
+    Arg::new(alloc, POLICY)
+        .long(POLICY)
+        .value_name("POLICY")
+        .help("How full nodes of the tree are split: quadratic, as if absent, or halving")
+}
+
 // The command with all that may stand on a line.
 fn program<'a>(alloc: Global) -> Result<Command<'a>, AllocError>
     ensures { IfOk result (λ command. app_of command ≡ program) }
@@ -85,7 +98,8 @@ fn program<'a>(alloc: Global) -> Result<Command<'a>, AllocError>
         .arg(action(alloc))?
         .arg(batch(alloc))?
         .arg(cache(alloc))?
-        .arg(text(alloc))
+        .arg(text(alloc))?
+        .arg(policy(alloc))
 }
 
 /// Returns what stands on a line, of which the first word is the program's name, or the explanation of its refusal.

@@ -3,7 +3,7 @@ ghost use Rattle.std.specs.Prelude.{◌≡◌};
 ghost use Rattle.command_words.specs.Job.{uses};
 ghost use Rattle.command_words.specs.declared.job.WordsFault.TheVariants as faults;
 
-use crate::command::{BATCH, CACHE, TEXT};
+use crate::command::{BATCH, CACHE, POLICY, TEXT};
 use std::alloc::AllocError;
 use std::fmt;
 
@@ -22,8 +22,10 @@ impl Action {
         ensures { result ≡ uses self option.now }
     {
         match self {
-            Action::Run => option == CACHE,
-            Action::Load => option == BATCH || option == CACHE || option == TEXT,
+            Action::Run => option == CACHE || option == POLICY,
+            Action::Load => {
+                option == BATCH || option == CACHE || option == TEXT || option == POLICY
+            }
         }
     }
 }
@@ -35,6 +37,15 @@ impl fmt::Display for Action {
             Action::Load => "load",
         })
     }
+}
+
+/// How a full node of the tree is split.
+#[derive(Clone, Copy, Debug, PartialEq, Eq)]
+pub enum PolicyName {
+    /// By the two entries that would waste the most area together.
+    Quadratic,
+    /// In the middle of the axis on which the entries are spread most.
+    Halving,
 }
 
 /// What the words ask for.
@@ -50,6 +61,8 @@ pub struct Job {
     pub cache: u32,
     /// The name of the one property that a load reads, or `None` if it reads all properties with a text.
     pub text: Option<String>,
+    /// How a full node of the tree is split.
+    pub policy: PolicyName,
 }
 
 /// Why words are refused. If several causes apply, the one with the least number is returned.

@@ -13,5 +13,5 @@ mod task;
 mod tests;
 mod values;
 
-pub use job::{Action, Job, WordsFault};
+pub use job::{Action, Job, PolicyName, WordsFault};
 pub use line::{explain_words, read_words};

@@ -25,10 +25,10 @@ fn line_of<'a>(alloc: Global, words: &'a [String]) -> Result<Vec<&'a str>, Alloc
 
 /// Reads the words behind the program's name: a store, an action and options, in any order but that the store stands before the action.
 ///
-/// Returns the job with the values that stand there. An absent option means a batch of 1,000 places, a cache of 1,024 pages, or all
-/// properties. Refuses, the first that applies:
+/// Returns the job with the values that stand there. An absent option means a batch of 1,000 places, a cache of 1,024 pages, all
+/// properties, or the quadratic policy. Refuses, the first that applies:
 ///
-/// - `Line` if the command line refuses the words (`specs/Command.antt`), or the action is unknown. `-h` and `--help` are refused so.
+/// - `Line` if the command line refuses the words (`specs/Command.antt`), or the action or the policy is unknown. `-h` and `--help` are refused so.
 /// - `Unused` if an option stands there that the action doesn't use.
 ///
 /// Returns `Memory` in place of any of these if memory runs out.

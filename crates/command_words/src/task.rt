@@ -1,21 +1,23 @@
 //! The store and the action that stand on a line, and why they are no task.
-ghost use Rattle.std.specs.Prelude.{◌≡◌, ◌&&◌, not, find, is_some, IfErr, IfOk, Ok, Err, option_map};
+ghost use Rattle.std.specs.Prelude.{◌≡◌, ◌&&◌, not, find, is_some, IfErr, IfOk, Ok, Err, Some, None, option_map};
 ghost use Rattle.clap.specs.Words.{first_of, found_of, rows_of};
-ghost use Rattle.command_words.specs.Job.{action_of, asked_among, asked_with, has_unused, uses};
+ghost use Rattle.command_words.specs.Job.{action_of, asked_among, asked_with, has_unused, policy_among, policy_of, uses};
 ghost use Rattle.command_words.specs.Refusals.{fault_of};
+ghost use Rattle.command_words.specs.declared.job.WordsFault.TheVariants as faults;
 
-use crate::command::{ACTION, BATCH, CACHE, STORE, TEXT};
-use crate::{Action, WordsFault};
+use crate::command::{ACTION, BATCH, CACHE, POLICY, STORE, TEXT};
+use crate::{Action, PolicyName, WordsFault};
 use clap::ArgMatches;
 use std::fmt;
 
-static OPTIONS: [&str; 3] = [BATCH, CACHE, TEXT];
+static OPTIONS: [&str; 4] = [BATCH, CACHE, TEXT, POLICY];
 
-/// A store, and what to do with it.
+/// A store, what to do with it, and how its tree is split.
 #[derive(Clone, Copy)]
 pub(crate) struct Task<'a> {
     pub(crate) store: &'a str,
     pub(crate) action: Action,
+    pub(crate) policy: PolicyName,
 }
 
 /// Why what stands on a line is no task. Its `Display` is the text for a person.
@@ -27,6 +29,8 @@ pub(crate) enum Refusal<'a> {
     NoAction,
     /// The word names no action.
     NotAnAction(&'a str),
+    /// The word names no policy.
+    NotAPolicy(&'a str),
     /// The action doesn't use the option.
     Unused(Action, &'static str),
 }
@@ -50,6 +54,9 @@ impl fmt::Display for Refusal<'_> {
             Refusal::NoAction => f.write_str("no action is given"),
             Refusal::NotAnAction(word) => {
                 write!(f, "unknown action '{word}', expected run or load")
+            }
+            Refusal::NotAPolicy(word) => {
+                write!(f, "unknown policy '{word}', expected quadratic or halving")
             }
             Refusal::Unused(action, option) => {
                 write!(f, "the action {action} doesn't use '--{option}'")
@@ -75,6 +82,33 @@ fn action_of(word: &str) -> Option<Action>
         Some(Action::Load)
     } else {
         None
+    }
+}
+
+// The policy of a word.
+fn policy_of(word: &str) -> Option<PolicyName>
+    ensures { result ≡ policy_of word.now }
+{
+    if word == "quadratic" {
+        Some(PolicyName::Quadratic)
+    } else if word == "halving" {
+        Some(PolicyName::Halving)
+    } else {
+        None
+    }
+}
+
+// The policy that stands on the line, quadratic if none does.
+fn policy_on<'a>(matches: &ArgMatches<'a>) -> Result<PolicyName, Refusal<'a>>
+    ensures policy { IfOk result (λ policy. policy_among (rows_of (found_of matches.now)) ≡ Some policy) }
+    ensures refused { IfErr result (λ refusal. (policy_among (rows_of (found_of matches.now)) ≡ None) × (fault_of refusal ≡ faults.Line)) }
+{
+    match value_of(matches, POLICY) {
+        None => Ok(PolicyName::Quadratic),
+        Some(word) => match policy_of(word) {
+            Some(policy) => Ok(policy),
+            None => Err(Refusal::NotAPolicy(word)),
+        },
     }
 }
 
@@ -107,7 +141,7 @@ fn unused(matches: &ArgMatches<'_>, action: Action) -> Option<&'static str>
 
 /// Returns the task that stands on a line.
 pub(crate) fn task_of<'a>(matches: &ArgMatches<'a>) -> Result<Task<'a>, Refusal<'a>>
-    ensures task { IfOk result (λ task. asked_among (rows_of (found_of matches.now)) ≡ Ok (asked_with (rows_of (found_of matches.now)) task.store.now task.action)) }
+    ensures task { IfOk result (λ task. asked_among (rows_of (found_of matches.now)) ≡ Ok (asked_with (rows_of (found_of matches.now)) task.store.now task.action task.policy)) }
     ensures refused { IfErr result (λ refusal. asked_among (rows_of (found_of matches.now)) ≡ Err (fault_of refusal)) }
 {
     let store = match value_of(matches, STORE) {
@@ -122,8 +156,13 @@ pub(crate) fn task_of<'a>(matches: &ArgMatches<'a>) -> Result<Task<'a>, Refusal<
         Some(action) => action,
         None => return Err(Refusal::NotAnAction(word)),
     };
+    let policy = policy_on(matches)?;
     match unused(matches, action) {
         Some(option) => Err(Refusal::Unused(action, option)),
-        None => Ok(Task { store, action }),
+        None => Ok(Task {
+            store,
+            action,
+            policy,
+        }),
     }
 }

@@ -3,17 +3,20 @@ use std::alloc::{AllocError, Global};
 use std::fmt::Write;
 use std::test::Fail;
 
-// Words, and what they ask for: the store, the action, the batch, the cache and the property in brackets.
+// Words, and what they ask for: the store, the action, the batch, the cache, the policy and the property in brackets.
 static LINES: &str = "\
-- run > - run 1000 1024
-town.store load > town.store load 1000 1024
-- load --batch 1 --cache 0 --text name > - load 1 0 [name]
-- load --batch=10000 --cache=65536 --text=name > - load 10000 65536 [name]
---cache 7 - run > - run 1000 7
-- --text= load > - load 1000 1024 []
-- load --text=--batch > - load 1000 1024 [--batch]
-- load --batch +5 --cache 007 > - load 5 7
---cache=3 -- -x run > -x run 1000 3
+- run > - run 1000 1024 Quadratic
+town.store load > town.store load 1000 1024 Quadratic
+- load --batch 1 --cache 0 --text name > - load 1 0 Quadratic [name]
+- load --batch=10000 --cache=65536 --text=name > - load 10000 65536 Quadratic [name]
+--cache 7 - run > - run 1000 7 Quadratic
+- --text= load > - load 1000 1024 Quadratic []
+- load --text=--batch > - load 1000 1024 Quadratic [--batch]
+- load --batch +5 --cache 007 > - load 5 7 Quadratic
+--cache=3 -- -x run > -x run 1000 3 Quadratic
+- run --policy quadratic > - run 1000 1024 Quadratic
+- run --policy=halving > - run 1000 1024 Halving
+--policy halving - load --text name > - load 1000 1024 Halving [name]
 > Line
 - > Line
 - dance > Line
@@ -35,9 +38,16 @@ town.store load > town.store load 1000 1024
 - load --text a --text=b > Line
 - load --bat 5 > Line
 - run --batch 1 --text > Line
+- run --policy > Line
+- run --policy= > Line
+- run --policy Halving > Line
+- load --policy linear > Line
+- run --policy halving --policy halving > Line
+- run --batch 1 --policy linear > Line
 - run --batch 1 > Unused
 --text=name - run > Unused
 - run --cache 1 --text name > Unused
+--policy halving --batch 1 - run > Unused
 ";
 
 // The words that spaces separate.
@@ -59,7 +69,8 @@ fn told(alloc: Global, read: &Result<Job, WordsFault>) -> Result<String, AllocEr
             let action = job.action;
             let batch = job.batch;
             let cache = job.cache;
-            write!(text, "{store} {action} {batch} {cache}")?;
+            let policy = job.policy;
+            write!(text, "{store} {action} {batch} {cache} {policy:?}")?;
             if let Some(property) = &job.text {
                 let property = property.as_str();
                 write!(text, " [{property}]")?;
@@ -87,6 +98,8 @@ fn words_ask_for_their_job(rt: HostRuntime) -> Result<(), Fail> {
 static REFUSALS: &str = "\
 - dance > unknown action 'dance', expected run or load
 - run --batch 1 > the action run doesn't use '--batch'
+- load --policy linear > unknown policy 'linear', expected quadratic or halving
+- run --policy > a value is required for '--policy <POLICY>' but none was supplied
 - load --batch 0 > invalid value '0' for '--batch <PLACES>': 0 is not in 1..=10000
 - load --cach 5 > unexpected argument '--cach' found
 - load --text > a value is required for '--text <PROPERTY>' but none was supplied

@@ -41,7 +41,7 @@ fn copy_of(alloc: Global, value: Option<&str>) -> Result<Option<String>, AllocEr
 // The job of a task, with the options on the line.
 fn job_with(alloc: Global, matches: &ArgMatches<'_>, task: &Task<'_>) -> Result<Job, AllocError>
     requires numbers { HasNumbers (rows_of (found_of matches.now)) }
-    ensures asked { IfOk result (λ job. asked_of job ≡ asked_with (rows_of (found_of matches.now)) task.now.store.now task.now.action) }
+    ensures asked { IfOk result (λ job. asked_of job ≡ asked_with (rows_of (found_of matches.now)) task.now.store.now task.now.action task.now.policy) }
     ensures batch { IfOk result (λ job. (1 ≤ job.batch) × (job.batch ≤ 10000)) }
     ensures cache { IfOk result (λ job. job.cache ≤ 65536) }
 {
@@ -51,6 +51,7 @@ fn job_with(alloc: Global, matches: &ArgMatches<'_>, task: &Task<'_>) -> Result<
         batch: number_of(matches, BATCH, BATCH_ABSENT),
         cache: number_of(matches, CACHE, CACHE_ABSENT),
         text: copy_of(alloc, value_of(matches, TEXT))?,
+        policy: task.policy,
     })
 }
 

@@ -9,4 +9,5 @@ returns c =
     let two = c.in_ok-arg-2.ensures.shape c.action.ensures.local ∙ ap₂ with_rule one c.action.ensures.rule in
     let three = c.in_ok-arg-3.ensures.shape c.batch.ensures.local ∙ ap₂ with_rule two c.batch.ensures.rule in
     let four = c.in_ok-arg-4.ensures.shape c.cache.ensures.local ∙ ap₂ with_rule three c.cache.ensures.rule in
-    IfOk-weaker c.arg-5.result _ _ (λ command added. added.shape c.text.ensures.local ∙ ap₂ with_rule four c.text.ensures.rule) c.arg-5.ensures
+    let five = c.in_ok-arg-5.ensures.shape c.text.ensures.local ∙ ap₂ with_rule four c.text.ensures.rule in
+    IfOk-weaker c.arg-6.result _ _ (λ command added. added.shape c.policy.ensures.local ∙ ap₂ with_rule five c.policy.ensures.rule) c.arg-6.ensures
