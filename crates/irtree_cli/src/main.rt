@@ -5,8 +5,9 @@
 //! of a source and a station is the premise of the program; what is read, kept and said is `run`'s to prove.
 #![tactic(auto)]
 
-use irtree_top::{Ended, WordsFault, explain_words, read_words, run};
+use irtree_top::{Ended, PolicyName, WordsFault, explain_words, read_words, run};
 use spatial_base::Memory;
+use split_policy::{Halving, Quadratic, SplitPolicy};
 use std::alloc::Global;
 use std::io::{ErrorKind, Write};
 use std::process::ExitCode;
@@ -32,20 +33,42 @@ fn words(rt: &HostRuntime) -> Result<Vec<String>, Ended> {
     Ok(words)
 }
 
-// The store that words name, where it is one of files: they are accepted, and it isn't `-`.
-fn store_of(alloc: Global, words: &[String]) -> Result<Option<String>, Memory> {
+// What words choose: the store, where it is one of files, and the policy of its tree.
+#[derive(Drop)]
+struct Choice {
+    store: Option<String>,
+    policy: PolicyName,
+}
+
+// What words choose. Where they are refused, that is no store and the quadratic policy.
+fn choice_of(alloc: Global, words: &[String]) -> Result<Choice, Memory> {
     match read_words(alloc, words) {
-        Ok(job) if job.store.as_str() != "-" => Ok(Some(job.store)),
-        Ok(_) | Err(WordsFault::Line) | Err(WordsFault::Unused) => Ok(None),
+        Ok(job) if job.store.as_str() != "-" => Ok(Choice {
+            policy: job.policy,
+            store: Some(job.store),
+        }),
+        Ok(job) => Ok(Choice {
+            policy: job.policy,
+            store: None,
+        }),
+        Err(WordsFault::Line) | Err(WordsFault::Unused) => Ok(Choice {
+            store: None,
+            policy: PolicyName::Quadratic,
+        }),
         Err(WordsFault::Memory) => Err(Memory),
     }
 }
 
 // Runs over the files of a store. Where a call on them failed it says with which one, why, and what to do.
-fn run_on_files(rt: &HostRuntime, words: &[String], store: &str) -> Result<Told, Memory> {
+fn run_on_files(
+    rt: &HostRuntime,
+    words: &[String],
+    store: &str,
+    policy: Box<dyn SplitPolicy>,
+) -> Result<Told, Memory> {
     let mut source = StdSource::new(rt.stdin());
     let mut station = FileStation::new(rt.alloc(), rt, store, rt.stdout())?;
-    let end = run(rt.alloc(), words, &mut source, &mut station);
+    let end = run(rt.alloc(), words, &mut source, &mut station, policy);
     let why = match end {
         // Where memory is wanting for it, the end's line stands alone.
         Ended::Disk => station.trouble_line(rt.alloc()).unwrap_or(None),
@@ -55,10 +78,10 @@ fn run_on_files(rt: &HostRuntime, words: &[String], store: &str) -> Result<Told,
 }
 
 // Runs over a store in memory, which ends with the run. If the words are refused, it says what is wrong with which of them.
-fn run_in_memory(rt: &HostRuntime, words: &[String]) -> Told {
+fn run_in_memory(rt: &HostRuntime, words: &[String], policy: Box<dyn SplitPolicy>) -> Told {
     let mut source = StdSource::new(rt.stdin());
     let mut station = ScratchStation::new(rt.alloc(), rt.stdout());
-    let end = run(rt.alloc(), words, &mut source, &mut station);
+    let end = run(rt.alloc(), words, &mut source, &mut station, policy);
     let why = match end {
         // If no memory is left for it, the end's line stands alone.
         Ended::Words => explain_words(rt.alloc(), words).unwrap_or(None),
@@ -83,15 +106,36 @@ fn unread(alloc: Global, end: Ended) -> Result<Told, Memory> {
     Ok(Told { end, why })
 }
 
-// Runs on the words given, over the standard streams and the store that they name.
+// Runs over the standard streams and a store, of files where one is named, by a policy.
+fn run_over(
+    rt: &HostRuntime,
+    words: &[String],
+    store: Option<&str>,
+    policy: Box<dyn SplitPolicy>,
+) -> Result<Told, Memory> {
+    match store {
+        Some(store) => run_on_files(rt, words, store, policy),
+        None => Ok(run_in_memory(rt, words, policy)),
+    }
+}
+
+// Runs on the words given, over the standard streams and the store that they name, by the policy that they name.
 fn run_words(rt: &HostRuntime) -> Result<Told, Memory> {
     let words = match words(rt) {
         Ok(words) => words,
         Err(end) => return unread(rt.alloc(), end),
     };
-    match store_of(rt.alloc(), &words)? {
-        Some(store) => run_on_files(rt, &words, &store),
-        None => Ok(run_in_memory(rt, &words)),
+    let choice = choice_of(rt.alloc(), &words)?;
+    let store = choice.store.as_deref();
+    match choice.policy {
+        PolicyName::Quadratic => {
+            let policy = Box::new(rt.alloc(), Quadratic::new()).map_err(|_| Memory)?;
+            run_over(rt, &words, store, policy)
+        }
+        PolicyName::Halving => {
+            let policy = Box::new(rt.alloc(), Halving::new()).map_err(|_| Memory)?;
+            run_over(rt, &words, store, policy)
+        }
     }
 }
 

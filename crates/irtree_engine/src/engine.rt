@@ -12,15 +12,18 @@ use crate::{EngineFault, recover_superblock};
 use disk_model::{Failed, Station};
 use page_face::{Damage, PageFault};
 use page_store::{Store, Superblock};
+use split_policy::SplitPolicy;
 use std::alloc::Global;
 
-/// A store of places on a station that it borrows.
+/// A store of places on a station that it borrows, and the policy that shapes its tree.
 ///
-/// Between calls nothing waits to be committed: where the engine isn't stopped, the station's image stands for its state.
+/// Between calls nothing waits to be committed: where the engine isn't stopped, the station's image stands for its state. The policy is
+/// a box of any [`SplitPolicy`]; it decides the tree's shape, and no answer.
 #[derive(Drop)]
-pub struct Engine<'d, D: Station> {
+pub struct Engine<'d, D: Station, P: Drop = Box<dyn SplitPolicy>> {
     pub(crate) alloc: Global,
     pub(crate) store: Store<'d, D>,
+    pub(crate) policy: P,
     // an earlier commit failed
     pub(crate) stopped: bool,
     ghost clean: { store.overlay.entries ≡ [] },
@@ -29,16 +32,24 @@ pub struct Engine<'d, D: Station> {
 }
 
 impl<'d, D: Station> Engine<'d, D> {
-    /// Recovers the journal and reads page 0. `cache` is the number of pages that the cache may hold; 0 is none.
+    /// Recovers the journal and reads page 0. `cache` is the number of pages that the cache may hold; 0 is none. The tree changes under
+    /// the policy, which a store doesn't keep: another may be handed in at each opening.
     ///
-    /// Refuses as [`recover_superblock`] does, and costs as much. The contract of [`recover_superblock`] says what a refusal leaves: a
-    /// journal that is bad is left alone, and a store that is refused is recovered, and nothing else of it is written.
-    pub fn open(alloc: Global, disk: &'d mut D, cache: u32) -> Result<Engine<'d, D>, EngineFault>
+    /// Refuses as [`recover_superblock`] does, and costs as much; the policy is dropped then. The contract of [`recover_superblock`] says
+    /// what a refusal leaves: a journal that is bad is left alone, and a store that is refused is recovered, and nothing else of it is
+    /// written.
+    pub fn open(
+        alloc: Global,
+        disk: &'d mut D,
+        cache: u32,
+        policy: Box<dyn SplitPolicy>,
+    ) -> Result<Engine<'d, D>, EngineFault>
         ensures same_loan { IfOk result (λ engine. engine.store.disk.ghost_name ≡ disk.entry.ghost_name) }
         ensures holds { IsTrue D.tells → (state : Contents) → HoldsState (D.world disk.old) state → IfOk result (λ engine. HoldsState (D.world engine.store.disk.now) state) }
         ensures any_moment { IsTrue D.tells → (state : Contents) → HoldsState (D.world disk.old) state
             → IfOk result (λ engine. LeavesOnly (D.world disk.old) (D.world engine.store.disk.now) (LeavesState state (D.world disk.old))) }
         ensures fresh { IfOk result (λ engine. engine.stopped ≡ false) }
+        ensures policy { IfOk result (λ engine. engine.policy ≡ policy) }
         ensures not_a_store { IsTrue D.tells → IsErrOf result EngineFault.NotAStore → StandsForNone (D.world disk.old).seen }
         ensures bad { IsTrue D.tells → (at : ℕ) → IsErrOf result (EngineFault.BadJournal at) → IsBad (D.world disk.old).seen at × StandsForNone (D.world disk.old).seen }
         ensures damaged { (damage : Damage) → IsErrOf result (EngineFault.Damaged damage)
@@ -53,29 +64,37 @@ impl<'d, D: Station> Engine<'d, D> {
         ensures room { IfOk result (λ engine. D.room_of engine.store.disk.now ≡ D.room_of disk.old) }
     {
         match recover_superblock(&mut *disk) {
-            Ok(block) => Ok(Engine::over(alloc, disk, block, cache)),
+            Ok(block) => Ok(Engine::over(alloc, disk, block, cache, policy)),
             Err(fault) => Err(fault),
         }
     }
 
     /// The engine over a disk for which [`recover_superblock`] has returned this superblock, with a cache of at most `cache` pages; with
-    /// none if it runs out of memory for it. Makes no call of the disk.
-    pub fn over(alloc: Global, disk: &'d mut D, block: Superblock, cache: u32) -> Engine<'d, D>
+    /// none if it runs out of memory for it. Its tree changes under the policy. Makes no call of the disk.
+    pub fn over(
+        alloc: Global,
+        disk: &'d mut D,
+        block: Superblock,
+        cache: u32,
+        policy: Box<dyn SplitPolicy>,
+    ) -> Engine<'d, D>
         requires in_range { block.first_free < block.counted }
         requires committed { IsTrue D.tells → IsCommitted block 0 (D.world disk.old) }
         ensures same_loan { result.store.disk.ghost_name ≡ disk.entry.ghost_name }
         ensures disk { result.store.disk.now ≡ disk.old }
         ensures block { result.store.last ≡ block }
         ensures fresh { result.stopped ≡ false }
+        ensures policy { result.policy ≡ policy }
     {
         Engine {
             alloc,
             store: Store::over(alloc, disk, block, cache),
+            policy,
             stopped: false,
         }
     }
 
-    /// Gives the loan back. Makes no call of the disk.
+    /// Gives the loan back, and drops the policy. Makes no call of the disk.
     pub fn into_disk(self) -> &'d mut D
         ensures same_loan { result.ghost_name ≡ self.entry.store.disk.ghost_name }
         ensures disk { result.now ≡ self.entry.store.disk.now }
@@ -83,9 +102,28 @@ impl<'d, D: Station> Engine<'d, D> {
         let Engine {
             alloc: _,
             store,
+            policy: _,
             stopped: _,
         } = self;
         store.into_disk()
+    }
+
+    /// Lets the tree change under another policy from now on, and drops the one before. All else stays: the store, its tree, and whether
+    /// the engine is stopped. Makes no call of the disk.
+    pub fn set_policy(&mut self, policy: Box<dyn SplitPolicy>)
+        ensures same_loan { self.new.store.disk.ghost_name ≡ self.old.store.disk.ghost_name }
+        ensures store { self.new.store ≡ self.old.store }
+        ensures stopped { self.new.stopped ≡ self.old.stopped }
+        ensures policy { self.new.policy ≡ policy }
+    {
+        self.policy = policy;
+    }
+
+    /// How many splits the policy has made, as it counts them. Makes no call of the disk.
+    pub fn splits(&self) -> u64
+        ensures { result ≡ count self.now.policy }
+    {
+        self.policy.splits()
     }
 
     /// How many places live. Makes no call of the disk.
@@ -157,7 +195,7 @@ impl<'d, D: Station> Engine<'d, D> {
         }
     }
 
-    /// Ends the engine. Refuses as [`Engine::settle`] does, and costs as much.
+    /// Ends the engine, and drops the policy. Refuses as [`Engine::settle`] does, and costs as much.
     pub fn close(mut self) -> Result<(), EngineFault>
         ensures stopped { IsErrOf result EngineFault.Stopped ↔ IsTrue self.entry.stopped }
         ensures causes { IfErr result IsSettleFault }

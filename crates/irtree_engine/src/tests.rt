@@ -9,6 +9,7 @@ use page_face::Head;
 use page_store::Store;
 use place_map::{Answer, Applied, Query, Update};
 use spatial_base::{Key, Point};
+use split_policy::{Halving, Quadratic, SplitPolicy};
 use std::alloc::Global;
 use std::test::Fail;
 use store_tables::{Stored, Tables};
@@ -68,8 +69,12 @@ fn store_one(alloc: Global, station: &mut MemoryStation) -> Result<(), Fail> {
 }
 
 // How many places live in a store.
-fn count_in(alloc: Global, station: &mut MemoryStation) -> Result<u32, EngineFault> {
-    let engine = Engine::open(alloc, station, 0)?;
+fn count_in(
+    alloc: Global,
+    station: &mut MemoryStation,
+    policy: Box<dyn SplitPolicy>,
+) -> Result<u32, EngineFault> {
+    let engine = Engine::open(alloc, station, 0, policy)?;
     let count = engine.count();
     let _loan = engine.into_disk();
     Ok(count)
@@ -81,7 +86,8 @@ fn a_stored_place_is_shown_with_its_words(rt: HostRuntime) -> Result<(), Fail> {
     let mut station = MemoryStation::new(rt.alloc(), 9);
     store_one(rt.alloc(), &mut station)?;
     let (here, nowhere) = (key("a")?, key("b")?);
-    let mut engine = Engine::open(rt.alloc(), &mut station, 0)?;
+    let policy = Box::new(rt.alloc(), Quadratic::new())?;
+    let mut engine = Engine::open(rt.alloc(), &mut station, 0, policy)?;
     assert_eq!(rt; engine.count(), 1);
     let shown = engine.show(&here);
     let other = engine.show(&nowhere);
@@ -102,10 +108,12 @@ fn a_stored_place_is_shown_with_its_words(rt: HostRuntime) -> Result<(), Fail> {
 #[test]
 fn an_area_of_other_bytes_is_no_store(rt: HostRuntime) -> Result<(), Fail> {
     let mut station = MemoryStation::with_image(rt.alloc(), &[120; 4096], b"", 9)?;
-    let opened = count_in(rt.alloc(), &mut station);
+    let policy = Box::new(rt.alloc(), Quadratic::new())?;
+    let opened = count_in(rt.alloc(), &mut station, policy);
     assert_eq!(rt; opened, Err(EngineFault::NotAStore));
     let mut empty = MemoryStation::new(rt.alloc(), 9);
-    let opened = count_in(rt.alloc(), &mut empty);
+    let policy = Box::new(rt.alloc(), Quadratic::new())?;
+    let opened = count_in(rt.alloc(), &mut empty, policy);
     assert_eq!(rt; opened, Ok(0));
     Ok(())
 }
@@ -126,14 +134,17 @@ fn what_was_applied_stands_after_reopening(rt: HostRuntime) -> Result<(), Fail> 
         filter: None,
     };
     assert!(rt; query.is_within_limits());
-    let mut engine = Engine::open(rt.alloc(), &mut station, 0)?;
+    let policy = Box::new(rt.alloc(), Quadratic::new())?;
+    let another = Box::new(rt.alloc(), Halving::new())?;
+    let mut engine = Engine::open(rt.alloc(), &mut station, 0, policy)?;
     assert_eq!(rt; engine.apply(&first), Ok(Applied::New));
     assert_eq!(rt; engine.apply(&first), Ok(Applied::Replaced));
     assert_eq!(rt; engine.apply(&absent), Ok(Applied::Absent));
     assert_eq!(rt; engine.apply_batch(&batch), Ok(()));
     assert_eq!(rt; engine.settle(), Ok(()));
+    assert_eq!(rt; engine.splits(), 0);
     let _loan = engine.into_disk();
-    let mut engine = Engine::open(rt.alloc(), &mut station, 0)?;
+    let mut engine = Engine::open(rt.alloc(), &mut station, 0, another)?;
     let count = engine.count();
     let shown = engine.show(&gone);
     let answer = engine.answer(&query);

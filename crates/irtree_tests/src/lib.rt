@@ -10,6 +10,8 @@ mod language_tests;
 #[cfg(test)]
 mod load_tests;
 #[cfg(test)]
+mod policy_tests;
+#[cfg(test)]
 mod runs;
 #[cfg(test)]
 mod script_tests;

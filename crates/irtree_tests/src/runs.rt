@@ -6,6 +6,7 @@ use irtree_engine::Engine;
 use irtree_top::{Ended, run};
 use load_run::run_load;
 use run_protocol::ended_by;
+use split_policy::{Quadratic, SplitPolicy};
 use std::alloc::Global;
 use std::test::Fail;
 
@@ -36,7 +37,20 @@ pub(crate) fn run_on(
     station: &mut MemoryStation,
 ) -> Result<Ended, Fail> {
     let mut source = MemorySource::new(alloc, input, piece.max(1), &[]).map_err(|_| "memory")?;
-    Ok(run(alloc, &words(alloc, given)?, &mut source, station))
+    let policy = Box::new(alloc, Quadratic::new())?;
+    Ok(run(alloc, &words(alloc, given)?, &mut source, station, policy))
+}
+
+/// How a run on these words ends over an empty store with a policy, and what it says.
+pub(crate) fn run_by(
+    alloc: Global,
+    given: &[&str],
+    source: &mut impl Source,
+    policy: Box<dyn SplitPolicy>,
+) -> Result<(Ended, Vec<u8>), Fail> {
+    let mut station = MemoryStation::new(alloc, ROOM);
+    let ended = run(alloc, &words(alloc, given)?, source, &mut station, policy);
+    Ok((ended, station.said().to_vec(alloc)?))
 }
 
 /// How a run on these words ends over an empty store, and what it says.
@@ -45,9 +59,8 @@ pub(crate) fn run_over(
     given: &[&str],
     source: &mut impl Source,
 ) -> Result<(Ended, Vec<u8>), Fail> {
-    let mut station = MemoryStation::new(alloc, ROOM);
-    let ended = run(alloc, &words(alloc, given)?, source, &mut station);
-    Ok((ended, station.said().to_vec(alloc)?))
+    let policy = Box::new(alloc, Quadratic::new())?;
+    run_by(alloc, given, source, policy)
 }
 
 /// What a script says over an empty store that comes in such pieces.
@@ -64,7 +77,8 @@ pub(crate) fn load_on(
     station: &mut MemoryStation,
 ) -> Result<Result<(), Ended>, Fail> {
     let mut source = MemorySource::new(alloc, text, 100, &[]).map_err(|_| "memory")?;
-    match Engine::open(alloc, station, 0) {
+    let policy = Box::new(alloc, Quadratic::new())?;
+    match Engine::open(alloc, station, 0, policy) {
         Ok(mut engine) => {
             let ended = run_load(alloc, batch.min(10_000), None, &mut source, &mut engine);
             let _loan = engine.into_disk();
@@ -90,7 +104,8 @@ pub(crate) fn run_with<T: Station>(
     station: &mut T,
 ) -> Result<Ended, Fail> {
     let mut source = MemorySource::new(alloc, input, 65_536, &[]).map_err(|_| "memory")?;
-    Ok(run(alloc, &words(alloc, given)?, &mut source, station))
+    let policy = Box::new(alloc, Quadratic::new())?;
+    Ok(run(alloc, &words(alloc, given)?, &mut source, station, policy))
 }
 
 /// The first bytes of an area.

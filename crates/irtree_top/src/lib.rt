@@ -10,7 +10,7 @@
 mod serve;
 mod top;
 
-pub use command_words::{Action, Job, WordsFault, explain_words, read_words};
+pub use command_words::{Action, Job, PolicyName, WordsFault, explain_words, read_words};
 pub use load_run::LOAD_MAX;
 pub use run_protocol::{Ended, InputFault, LimitFault, StoreFault};
 pub use script_run::INPUT_MAX;

@@ -16,6 +16,7 @@ use irtree_engine::{Engine, EngineFault, recover_superblock};
 use load_run::run_load;
 use run_protocol::{Ended, InputFault, LimitFault, ended_by};
 use script_run::run_script;
+use split_policy::SplitPolicy;
 use std::alloc::Global;
 
 // The name of the one property that a load reads, if the job has one.
@@ -61,7 +62,10 @@ fn act<'d, S: Source, T: Station>(
 }
 
 // Brings what the journal holds to its place. Does nothing where an earlier commit failed.
+//
+// The premise says nothing. Without one the checker doesn't cover the callers, since an engine holds a boxed policy.
 fn settle<'d, T: Station>(engine: &mut Engine<'d, T>) -> Result<(), Failed>
+    requires { Unit {0} }
     ensures same_loan { engine.new.store.disk.ghost_name ≡ engine.old.store.disk.ghost_name }
     ensures holds { IsTrue T.tells → (state : Contents) → HoldsState (T.world engine.old.store.disk.now) state → OnOk result (HoldsState (T.world engine.new.store.disk.now) state) }
     ensures any_moment { IsTrue T.tells → (state : Contents) → HoldsState (T.world engine.old.store.disk.now) state
@@ -108,7 +112,8 @@ fn serve<'d, S: Source, T: Station>(
     }
 }
 
-/// Opens the store of a station with the job's cache of pages, does the job over it and brings what the journal holds then to its place.
+/// Opens the store of a station with the job's cache of pages and a policy for its tree, does the job over it and brings what the
+/// journal holds then to its place.
 ///
 /// Ends `Disk` where the last of these fails, whatever the job ended with.
 pub(crate) fn run_job<S: Source, T: Station>(
@@ -116,6 +121,7 @@ pub(crate) fn run_job<S: Source, T: Station>(
     job: &Job,
     source: &mut S,
     station: &mut T,
+    policy: Box<dyn SplitPolicy>,
 ) -> Result<(), Ended>
     requires few { job.now.batch ≤ 10000 }
     requires some { 1 ≤ job.now.batch }
@@ -135,7 +141,7 @@ pub(crate) fn run_job<S: Source, T: Station>(
         Ok(block) => block,
         Err(fault) => return Err(ended_by(fault)),
     };
-    let mut engine = Engine::over(alloc, station, block, job.cache);
+    let mut engine = Engine::over(alloc, station, block, job.cache, policy);
     let end = serve(alloc, job, source, &mut engine);
     let _station = engine.into_disk();
     end

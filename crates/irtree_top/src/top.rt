@@ -13,6 +13,7 @@ use crate::{Ended, InputFault, LimitFault, StoreFault};
 use command_words::{WordsFault, read_words};
 use disk_model::{Source, Station};
 use geojson_points::{outcome_is_one, outcome_is_some};
+use split_policy::SplitPolicy;
 use std::alloc::Global;
 
 /// Runs the program: does what the words ask for with the input of the source, and says what it does to the station, which keeps the
@@ -20,7 +21,9 @@ use std::alloc::Global;
 ///
 /// The words are read by [`read_words`]; the store is the station's, and its name isn't looked at. `run` is a script, a line at a time.
 /// `load` stores the places of a GeoJSON text, which is read whole before anything is said. The cache has as many pages as the words
-/// say, and no clause depends on it. Returns how it ended:
+/// say. The policy splits the tree's full nodes; it is the caller's, who makes it by the name that the words give
+/// ([`Job`](crate::Job)'s `policy`), and it is dropped in the end, also if the words are refused. No clause depends on the cache or the
+/// policy: the transcript and its states are the same whatever they are. Returns how it ended:
 ///
 /// - `Done` if the input was read to its end, and a script isn't too long or a text gives items. The whole transcript was said, and the
 ///   image stands for its last state.
@@ -52,6 +55,7 @@ pub fn run<S: Source, T: Station>(
     words: &[String],
     source: &mut S,
     station: &mut T,
+    policy: Box<dyn SplitPolicy>,
 ) -> Ended
     // The words are refused: nothing was read, written or said.
     ensures words { result ≡ Ended.Words → ¬ AreAccepted (map string_bytes words.now) }
@@ -118,7 +122,7 @@ pub fn run<S: Source, T: Station>(
 {
     transcript_is_one();
     match read_words(alloc, words) {
-        Ok(job) => match run_job(alloc, &job, source, station) {
+        Ok(job) => match run_job(alloc, &job, source, station, policy) {
             Ok(()) => Ended::Done,
             Err(end) => end,
         },

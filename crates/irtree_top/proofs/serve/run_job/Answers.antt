@@ -15,10 +15,11 @@ use Rattle.irtree_top.proofs.Crashes.{left-from, none-held}
 use Rattle.irtree_top.proofs.Jobs.{job-from}
 use Rattle.irtree_top.proofs.Openings.{IsOpeningEnd, Refuses, given-back, job-alone, job-cause, none-by, opened-image, opened-limit, opened-quiet, opening-end, refused-alone, refused-cause, refused-job}
 use Rattle.irtree_top.proofs.serve.run_job.Given as given
+use Rattle.irtree_top.proofs.serve.run_job.Goals.{After-ended_by}
 use Rattle.irtree_top.proofs.serve.run_job.Goals as goal
 
 -- what the refused opening says of the image
-refuses : (g : given.Over) (c : goal.After-ended_by g) → Refuses g.T.Disk.tells (g.T.Disk.world c.args.station.now) (g.T.Disk.world c.recover_superblock.new.disk) c.in-Err.fault
+refuses : (g : given.Over) (c : After-ended_by g) → Refuses g.T.Disk.tells (g.T.Disk.world c.args.station.now) (g.T.Disk.world c.recover_superblock.new.disk) c.in-Err.fault
 refuses g c = record {
   disk = λ is. let named : IsErrOf c.recover_superblock.result engine.Disk = cc in c.recover_superblock.ensures.disk named;
   none = λ told other. none-by c.in-Err.fault c.in-Err.ensures.causes other
@@ -34,7 +35,7 @@ pub returns-in-Err-clause-told : goal.returns-in-Err-clause-told
 returns-in-Err-clause-told g c = λ tells told state holds.
     let input = g.S.Source.left c.args.source.now in
     rw c.ended_by.ensures
-    (refused-job (Unit {0}) g.T.Disk.tells told (asked_of c.args.job.now) state input input (g.T.Disk.world c.args.station.now) (g.T.Disk.world c.recover_superblock.new.disk) holds (c.recover_superblock.ensures.quiet told).said c.in-Err.fault c.in-Err.ensures.causes (refuses g c))
+    (refused-job (Unit {0}) g.T.Disk.tells told (asked_of c.args.job.now) state input input (g.T.Disk.world c.args.station.now) (g.T.Disk.world c.recover_superblock.new.disk) holds (c.recover_superblock.ensures.quiet told).said c.in-Err.fault c.in-Err.ensures.causes (refuses g (goal.at.returns-in-Err-clause-told g c).After-ended_by))
 
 pub returns-in-Err-clause-any_moment : goal.returns-in-Err-clause-any_moment
 returns-in-Err-clause-any_moment g c = λ tells told state holds.
@@ -43,7 +44,7 @@ returns-in-Err-clause-any_moment g c = λ tells told state holds.
     within (c.in-Err.ensures.any_moment told state holds) (λ image said left whole is. none-held asked.action asked.batch some state whole.turn.changes _ image said left.0 left.1)
 
 -- a refused opening ends by the disk or by the store
-ends-otherwise : (g : given.Over) (c : goal.After-ended_by g) → (end : Ended) → c.ended_by.result ≡ end → IsOpeningEnd end
+ends-otherwise : (g : given.Over) (c : After-ended_by g) → (end : Ended) → c.ended_by.result ≡ end → IsOpeningEnd end
 ends-otherwise g c end is = subst IsOpeningEnd (sym c.ended_by.ensures ∙ is) (opening-end c.in-Err.fault c.in-Err.ensures.causes)
 
 pub returns-in-Err-clause-left_alone : goal.returns-in-Err-clause-left_alone
@@ -52,13 +53,13 @@ returns-in-Err-clause-left_alone g c = λ told.
     (refused-alone (g.T.Disk.world c.args.station.now) (g.T.Disk.world c.recover_superblock.new.disk) c.in-Err.fault (c.in-Err.ensures.left told) (c.recover_superblock.ensures.alike told) (c.recover_superblock.ensures.quiet told).said)
 
 pub returns-in-Err-clause-input : goal.returns-in-Err-clause-input
-returns-in-Err-clause-input g c = λ tells fault is. absurd (ends-otherwise g c (ends.Input fault) (cc is))
+returns-in-Err-clause-input g c = λ tells fault is. absurd (ends-otherwise g (goal.at.returns-in-Err-clause-input g c).After-ended_by (ends.Input fault) (cc is))
 
 pub returns-in-Err-clause-limits : goal.returns-in-Err-clause-limits
-returns-in-Err-clause-limits g c = λ fault is. absurd (ends-otherwise g c (ends.Limit fault) (cc is))
+returns-in-Err-clause-limits g c = λ fault is. absurd (ends-otherwise g (goal.at.returns-in-Err-clause-limits g c).After-ended_by (ends.Limit fault) (cc is))
 
 pub returns-in-Err-clause-reached : goal.returns-in-Err-clause-reached
-returns-in-Err-clause-reached g c = λ tells told fault is. absurd (ends-otherwise g c (ends.Limit fault) (cc is))
+returns-in-Err-clause-reached g c = λ tells told fault is. absurd (ends-otherwise g (goal.at.returns-in-Err-clause-reached g c).After-ended_by (ends.Limit fault) (cc is))
 
 pub returns-in-Err-clause-cause : goal.returns-in-Err-clause-cause
 returns-in-Err-clause-cause g c = record {
@@ -66,7 +67,7 @@ returns-in-Err-clause-cause g c = record {
   faults = c.recover_superblock.ensures.later;
   sink = omega (arith, c.recover_superblock.ensures.sink);
   opened = λ told. tt;
-  cause = rw c.ended_by.ensures (refused-cause g.T.Disk.tells (g.S.Source.faults c.args.source.now) (g.T.Disk.world c.args.station.now) (g.T.Disk.world c.recover_superblock.new.disk) c.in-Err.fault c.in-Err.ensures.causes (refuses g c));
+  cause = rw c.ended_by.ensures (refused-cause g.T.Disk.tells (g.S.Source.faults c.args.source.now) (g.T.Disk.world c.args.station.now) (g.T.Disk.world c.recover_superblock.new.disk) c.in-Err.fault c.in-Err.ensures.causes (refuses g (goal.at.returns-in-Err-clause-cause g c).After-ended_by));
 }
 
 pub returns-clause-told : goal.returns-clause-told

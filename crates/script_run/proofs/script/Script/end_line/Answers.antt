@@ -3,7 +3,8 @@ use Rattle.std.specs.Prelude.{Err}
 use Rattle.std.proofs.lemmas.Result.{err_from_is_err_and}
 use Rattle.script_run.specs.Lines.{RunsLines}
 use Rattle.script_run.proofs.Lines.{line-fresh, line-ended, none-left}
-use Rattle.script_run.proofs.Runs.{runs-alike}
+use Rattle.run_protocol.specs.declared.ended.Ended.TheVariants as ends
+use Rattle.script_run.proofs.Runs.{runs-alike, runs-nothing}
 use Rattle.script_run.proofs.script.Script.end_line.Goals as goal
 
 pub returns-then-is_empty-clause-told : goal.returns-then-is_empty-clause-told
@@ -11,6 +12,13 @@ returns-then-is_empty-clause-told g c = λ front is told state holds.
     let none : c.args.self.now.line.items ≡ [] = none-left _ _ _ (omega arith) c.is_empty.ensures c.if-is_empty.true in
     subst (λ (line : List ℕ). RunsLines state (line ∷ []) (g.T.Disk.world c.args.engine.now.store.disk.now) (g.T.Disk.world c.act.new.engine.store.disk.now) c.act.result)
     (line-fresh c.args.self.now.line.items front c.args.part.now none is) (c.act.ensures.told told state holds)
+
+pub returns-in_err-extend-clause-told : goal.returns-in_err-extend-clause-told
+returns-in_err-extend-clause-told g c = λ front is told state holds.
+    let passed = err_from_is_err_and c.from_residual.result c.from_residual.ensures.1 in
+    let memory : c.in_err-extend.field-0.0 ≡ ends.Memory = c.in_err-extend.ensures.err in
+    let same : c.from_residual.result ≡ Err ends.Memory = cc (passed.1, passed.2, memory) in
+    rw same (runs-nothing (Unit {0}) state ((front ++ c.args.part.now) ∷ []) (g.T.Disk.world c.args.engine.now.store.disk.now))
 
 pub returns-in_err-act-clause-told : goal.returns-in_err-act-clause-told
 returns-in_err-act-clause-told g c = λ front is told state holds.

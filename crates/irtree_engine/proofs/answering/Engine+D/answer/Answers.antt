@@ -21,7 +21,7 @@ use Rattle.irtree_engine.specs.Listing.{rows_of}
 use Rattle.irtree_engine.proofs.Listings.{rows-places, rows-state}
 use Rattle.irtree_engine.proofs.Logs.{logged, logged-none}
 use Rattle.irtree_engine.proofs.Standing.{committed-stand, damaged-from, stand-counted, stand-known, store-told}
-use Rattle.irtree_engine.proofs.engine.Engine.answer.Goals as goal
+use Rattle.irtree_engine.proofs.answering.Engine+D.answer.Goals as goal
 
 pub returns-in_err-rows-clause-honest : goal.returns-in_err-rows-clause-honest
 returns-in_err-rows-clause-honest g c = λ t state holds damage is.

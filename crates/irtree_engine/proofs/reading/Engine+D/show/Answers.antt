@@ -16,7 +16,7 @@ use Rattle.irtree_engine.specs.Holding.{HoldsState}
 use Rattle.irtree_engine.specs.Faults.{fault_of_pages}
 use Rattle.irtree_engine.proofs.Logs.{logged, logged-none}
 use Rattle.irtree_engine.proofs.Standing.{committed-stand, damaged-from, stand-counted, stand-known, store-told}
-use Rattle.irtree_engine.proofs.engine.Engine.show.Goals as goal
+use Rattle.irtree_engine.proofs.reading.Engine+D.show.Goals as goal
 
 pub returns-in_err-place_at-clause-honest : goal.returns-in_err-place_at-clause-honest
 returns-in_err-place_at-clause-honest g c = λ t state holds damage is.

@@ -15,7 +15,7 @@ use Rattle.irtree_engine.proofs.Batches.{all-rise, leaves-all, outcome-is, outco
 use Rattle.irtree_engine.proofs.Commits.{rest-leaves, rest-stands}
 use Rattle.irtree_engine.proofs.Heads.{head-rises, head-stays, made-from}
 use Rattle.irtree_engine.proofs.Standing.{committed-stand, store-told}
-use Rattle.irtree_engine.proofs.engine.Engine.apply_batch.Goals as goal
+use Rattle.irtree_engine.proofs.updating.Engine+D.apply_batch.Goals as goal
 
 pub returns-in-Err-clause-due : goal.returns-in-Err-clause-due
 returns-in-Err-clause-due g c = λ t state holds.

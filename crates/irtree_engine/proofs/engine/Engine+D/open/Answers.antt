@@ -2,7 +2,7 @@ use Rattle.std.proofs.Common.{IsErrOf, sym, subst}
 use Rattle.disk_model.specs.World.{LeavesOnly}
 use Rattle.irtree_engine.specs.Holding.{LeavesState}
 use Rattle.irtree_engine.specs.declared.fault.EngineFault.TheVariants.{BadJournal, Damaged, NotAStore}
-use Rattle.irtree_engine.proofs.engine.Engine.open.Goals as goal
+use Rattle.irtree_engine.proofs.engine.Engine+D.open.Goals as goal
 
 pub returns-in-Ok-clause-any_moment : goal.returns-in-Ok-clause-any_moment
 returns-in-Ok-clause-any_moment g c = λ t state holds.

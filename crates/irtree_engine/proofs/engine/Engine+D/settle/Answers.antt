@@ -1,7 +1,7 @@
 use Rattle.std.proofs.Common.{sym, ◌∙◌}
 use Rattle.disk_model.proofs.Moments.{started}
 use Rattle.irtree_engine.proofs.Openings.{pages-stand, settling-leaves}
-use Rattle.irtree_engine.proofs.engine.Engine.settle.Goals as goal
+use Rattle.irtree_engine.proofs.engine.Engine+D.settle.Goals as goal
 
 pub returns-then-self-clause-any_moment : goal.returns-then-self-clause-any_moment
 returns-then-self-clause-any_moment g c = λ t state holds. started _
