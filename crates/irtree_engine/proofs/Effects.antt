@@ -1,5 +1,5 @@
 -- What an update's tables and page 0's fields stand for, and what it answers.
-use Rattle.std.proofs.Common.{◌≡◌, ◌≢◌, ⊎_elim, inr, ℕ, zero, suc, ◌+◌, ◌*◌, ◌==◌, ◌&&◌, ◌<◌, ◌≤◌, ◌^◌, Bool, true, false, cond, not, is_some, is_none, nat_le, List, length, Option, Ok, Err, refl, sym, ap, subst, ◌∙◌, eq-eqb, arith}
+use Rattle.std.proofs.Common.{◌≡◌, ◌≢◌, ⊎_elim, inr, ℕ, zero, suc, ◌+◌, ◌*◌, ◌==◌, ◌&&◌, ◌<◌, ◌≤◌, ◌^◌, Bool, true, false, cond, not, is_some, is_none, nat_le, List, length, Option, Some, None, option_map, Ok, Err, refl, sym, ap, subst, ◌∙◌, eq-eqb, arith}
 use Rattle.std.proofs.lemmas.Bool.{cases_lt, ne_eqb, le-leb, lt-leb}
 use Rattle.term_impacts.specs.Pairs.{IsWordMap}
 use Rattle.spatial_base.specs.Key.{Name}
@@ -19,6 +19,11 @@ use Rattle.place_map.specs.Restored.{IsSerialAbove}
 use Rattle.place_map.specs.State as states
 use Rattle.place_map.specs.Update.{Effect, put_at, refuses, removed_at}
 use Rattle.row_codec.specs.declared.stored.Stored.{Stored}
+use Rattle.node_inverted.specs.declared.roots.Tree.{Tree}
+use Rattle.rtree_shape.specs.Slots.{Item}
+use Rattle.rtree_shape.specs.Stock as stock
+use Rattle.rtree_nodes.specs.Pages.{node_of}
+use Rattle.tree_updates.specs.Regrown.{IsRegrown, entry_at}
 use Rattle.store_tables.specs.declared.tables.Tables.{Tables}
 use Rattle.store_tables.specs.Entries.{place_of_key, without_place}
 use Rattle.store_tables.specs.Holding.{IsApart, IsChanged, numbers_form, places_form, table_uses, texts_form}
@@ -27,7 +32,8 @@ use Rattle.store_meaning.specs.Stands.{PagesStand, tables_in}
 use Rattle.store_meaning.specs.Updates.{after_put, after_remove, numbered_for}
 use Rattle.store_meaning.proofs.Changes.{lives-before, live-before, next-then, stand-put, stand-remove}
 use Rattle.store_meaning.proofs.Places.{length-without_place}
-use Rattle.irtree_engine.specs.Changes.{block_with, head_with}
+use Rattle.irtree_engine.specs.Changes.{block_with, head_with, tree_in}
+use Rattle.irtree_engine.proofs.Trees.{entry-in, point_in, regrown-range}
 
 -- ---- the same pages
 
@@ -61,22 +67,24 @@ used-counted pages count first free tables apart (suc m) used = ⊎_elim
 -- ---- page 0's fields
 
 module _ (old : Superblock) (range : IsInRange old) (pages : PageMap) (count first : ℕ) (tables : Tables) (live serial : ℕ) where
-  -- after a change page 0's fields are in their ranges
-  after-range : (free : List ℕ) → IsApart (view pages count first free) tables → first < count → old.head.rows ≡ 0 → old.head.tree ≡ 0 → old.head.number < 2 ^ 40
+  -- after a change of the tables page 0's fields are in their ranges
+  after-range : (free : List ℕ) → IsApart (view pages count first free) tables → first < count → old.counted ≤ count → old.head.number < 2 ^ 40
       → old.head.serial ≤ serial → serial ≤ old.head.number + 2 → old.head.next_word ≤ tables.next_word → tables.next_word ≤ 64 * (old.head.number + 1 + 1)
-      → IsInRange (block_with count first (head_with old.head tables live serial))
-  after-range free apart counted no_rows no_tree number later serials words next =
+      → IsInRange (block_with count first (head_with old.head tables (tree_in old.head) live serial))
+  after-range free apart counted more number later serials words next =
       let some = apart.some in
       let was = range.serial in
       let first_word = range.next_word in
+      let rows = range.rows in
+      let tree = range.tree in
       record {
         counted = omega (arith, some);
         first_free = counted;
         places = used-counted pages count first free tables apart tables.places (λ root. (let one = root-used places_form pages tables.places root in omega (arith, one)));
         texts = used-counted pages count first free tables apart tables.texts (λ root. (let one = root-used texts_form pages tables.texts root in omega (arith, one)));
         numbers = used-counted pages count first free tables apart tables.numbers (λ root. (let one = root-used numbers_form pages tables.numbers root in omega (arith, one)));
-        rows = omega (arith, some, no_rows);
-        tree = omega (arith, some, no_tree);
+        rows = omega (arith, rows, more);
+        tree = omega (arith, tree, more);
         serial = omega (arith, was, later);
         serials = omega (arith, serials);
         number = omega (arith, number);
@@ -216,30 +224,42 @@ module _ (head : Head) (count first : ℕ) (pages : PageMap) (state : states.Con
   below-last : head.number ≢ 2 ^ 40 → head.number < 2 ^ 40
   below-last less = ⊎_elim (λ (below : head.number < 2 ^ 40). below) (λ (above : 2 ^ 40 ≤ head.number). absurd (less (let most = stand.tables.range.number in omega (arith, most, above)))) (cases_lt head.number (2 ^ 40))
 
-  module _ (after : PageMap) (count_after first_after : ℕ) (counted : first_after < count_after) (tables : Tables) where
-    -- after a put page 0's fields and the pages stand for the state with the place
+  module _ (between : PageMap) (count_between first_between : ℕ) (counted : first_between < count_between) (more : count ≤ count_between) (tables : Tables)
+      (after : PageMap) (count_after first_after : ℕ) (counted_after : first_after < count_after) (more_after : count_between ≤ count_after) (tree : Tree) (rows : tree.rows ≡ head.rows) where
+    -- after a put of the tables and then of the tree, page 0's fields and the pages stand for the state with the place
     pub put-stands : (point : Position) (words : List (List ℕ × ℕ)) (serial live : ℕ) → IsWordMap words → (is_none found ≡ true → head.live < 200000) → head.live < 2 ^ 32 → head.number ≢ 2 ^ 40
         → head.serial ≤ serial → serial ≤ head.number + 2 → IsSerialAbove serial key → live ≡ cond (is_none found) (head.live + 1) head.live
         → tables.next_word ≡ (numbered_for key words head.next_word stand.entries).next_word
-        → IsChanged (view pages count first stand.tables.free) (tables_in head) after count_after first_after tables (after_put key point words head.next_word stand.entries)
-        → PagesStand (block_with count_after first_after (head_with head tables live serial)) after (put_at state key serial (record { point = point; words = words })).state
-    put-stands point words serial live map_of_words room small less later serials above lives_then next_is changed =
+        → (changed : IsChanged (view pages count first stand.tables.free) (tables_in head) between count_between first_between tables (after_put key point words head.next_word stand.entries))
+        → IsRegrown node_of (stock.view between head.rows count_between first_between changed.free) after tree.rows count_after first_after head.tree tree.root (option_map (entry_at key) (point_in found)) (Some (entry_at key point))
+        → PagesStand (block_with count_after first_after (head_with head tables tree live serial)) after (put_at state key serial (record { point = point; words = words })).state
+    put-stands point words serial live map_of_words room small less later serials above lives_then next_is changed regrown =
         let left = room-left room small in
         let next = next-then (block_with count first head) pages state stand key point words map_of_words left in
         let words_then : head.next_word ≤ tables.next_word = omega (arith, next.0, next_is) in
         let words_most : tables.next_word ≤ 64 * (head.number + 1 + 1) = omega (arith, next.1, next_is) in
-        let range = after-range (block_with count first head) stand.tables.range after count_after first_after tables live serial changed.free changed.apart counted stand.tree.rows stand.tree.tree (below-last less) later serials words_then words_most in
-        subst (λ (e : Effect). PagesStand (block_with count_after first_after (head_with head tables live serial)) after e.state) (sym (put-done serial (record { point = point; words = words }) room less))
-        (stand-put (block_with count first head) pages state stand key point words map_of_words left (block_with count_after first_after (head_with head tables live serial)) after changed range refl refl next_is later above (counts-more live lives_then))
+        let range = after-range (block_with count first head) stand.tables.range between count_between first_between tables live serial changed.free changed.apart counted more (below-last less) later serials words_then words_most in
+        let within = regrown-range head tables live serial count_between first_between range (stock.view between head.rows count_between first_between changed.free) after count_after first_after tree (option_map (entry_at key) (point_in found)) (Some (entry_at key point)) regrown more_after counted_after rows in
+        let gone : option_map (entry_at key) (point_in found) ≡ option_map (λ (stored : Stored). entry_at key stored.point) (place_of_key key stand.entries.places) =
+        entry-in key found ∙ ap (option_map (λ (stored : Stored). entry_at key stored.point)) is_found in
+        subst (λ (e : Effect). PagesStand (block_with count_after first_after (head_with head tables tree live serial)) after e.state) (sym (put-done serial (record { point = point; words = words }) room less))
+        (stand-put (block_with count first head) pages state stand key point words map_of_words left (block_with count_between first_between (head_with head tables (tree_in head) live serial)) between changed range refl refl next_is later above (counts-more live lives_then)
+        (block_with count_after first_after (head_with head tables tree live serial)) after
+        (subst (λ (item : Option Item). IsRegrown node_of (stock.view between head.rows count_between first_between changed.free) after tree.rows count_after first_after head.tree tree.root item (Some (entry_at key point))) gone regrown)
+        within (record { rows = rows; tables = refl; serial = refl; live = refl }))
 
-    -- after a removal they stand for the state without it
-    pub remove-stands : (live : ℕ) → is_some found ≡ true → head.number ≢ 2 ^ 40 → live + 1 ≡ head.live → tables.next_word ≡ head.next_word
-        → IsChanged (view pages count first stand.tables.free) (tables_in head) after count_after first_after tables (after_remove key stand.entries)
-        → PagesStand (block_with count_after first_after (head_with head tables live head.serial)) after (removed_at state key).state
-    remove-stands live some less lives_then next_is changed =
+    -- after a removal from the tables and then from the tree, they stand for the state without the place
+    pub remove-stands : (stored : Stored) (live : ℕ) → found ≡ Some stored → head.number ≢ 2 ^ 40 → live + 1 ≡ head.live → tables.next_word ≡ head.next_word
+        → (changed : IsChanged (view pages count first stand.tables.free) (tables_in head) between count_between first_between tables (after_remove key stand.entries))
+        → IsRegrown node_of (stock.view between head.rows count_between first_between changed.free) after tree.rows count_after first_after head.tree tree.root (Some (entry_at key stored.point)) None
+        → PagesStand (block_with count_after first_after (head_with head tables tree live head.serial)) after (removed_at state key).state
+    remove-stands stored live there less lives_then next_is changed regrown =
+        let some : is_some found ≡ true = ap is_some there in
         let one = counted-as true some in
         let most = stand.tables.range.words in
         let serials = stand.tables.range.serials in
-        let range = after-range (block_with count first head) stand.tables.range after count_after first_after tables live head.serial changed.free changed.apart counted stand.tree.rows stand.tree.tree (below-last less) (omega arith) (omega (arith, serials)) (omega (arith, next_is)) (omega (arith, next_is, most)) in
-        subst (λ (e : Effect). PagesStand (block_with count_after first_after (head_with head tables live head.serial)) after e.state) (sym (remove-done some less))
-        (stand-remove (block_with count first head) pages state stand key (block_with count_after first_after (head_with head tables live head.serial)) after changed range refl refl next_is refl (omega (arith, one, lives_then)))
+        let range = after-range (block_with count first head) stand.tables.range between count_between first_between tables live head.serial changed.free changed.apart counted more (below-last less) (omega arith) (omega (arith, serials)) (omega (arith, next_is)) (omega (arith, next_is, most)) in
+        let within = regrown-range head tables live head.serial count_between first_between range (stock.view between head.rows count_between first_between changed.free) after count_after first_after tree (Some (entry_at key stored.point)) None regrown more_after counted_after rows in
+        subst (λ (e : Effect). PagesStand (block_with count_after first_after (head_with head tables tree live head.serial)) after e.state) (sym (remove-done some less))
+        (stand-remove (block_with count first head) pages state stand key (block_with count_between first_between (head_with head tables (tree_in head) live head.serial)) between changed range refl refl next_is refl (omega (arith, one, lives_then))
+        stored (sym is_found ∙ there) (block_with count_after first_after (head_with head tables tree live head.serial)) after regrown within (record { rows = rows; tables = refl; serial = refl; live = refl }))

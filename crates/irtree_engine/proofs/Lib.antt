@@ -9,3 +9,4 @@ pub mod Logs
 pub mod Named
 pub mod Openings
 pub mod Standing
+pub mod Trees

@@ -1,5 +1,6 @@
 -- Page 0's fields before and after an update.
 use Rattle.std.specs.Prelude.{ℕ, ◌+◌, ◌*◌, ◌≤◌, ◌^◌}
+use Rattle.node_inverted.specs.declared.roots.Tree.{Tree}
 use Rattle.page_face.specs.declared.head.Head.{Head}
 use Rattle.page_store.specs.declared.superblock.Superblock.{Superblock}
 use Rattle.store_tables.specs.declared.tables.Tables.{Tables}
@@ -8,13 +9,19 @@ use Rattle.store_tables.specs.declared.tables.Tables.{Tables}
 abbrev pub block_with : ℕ → ℕ → Head → Superblock
 block_with count first head = record { counted = count; first_free = first; head = head }
 
--- the head after a change: the tables' roots, the live places, the next serial, and the update number raised by one
-abbrev pub head_with : Head → Tables → ℕ → ℕ → Head
-head_with head tables live serial =
+-- the tree's roots, which page 0 has
+abbrev pub tree_in : Head → Tree
+tree_in head = record { root = head.tree; rows = head.rows }
+
+-- the head after a change: the roots of the tables and of the tree, the live places, the next serial, and the update number raised by one
+abbrev pub head_with : Head → Tables → Tree → ℕ → ℕ → Head
+head_with head tables tree live serial =
     record head {
       places = tables.places;
       texts = tables.texts;
       numbers = tables.numbers;
+      rows = tree.rows;
+      tree = tree.root;
       live = live;
       serial = serial;
       number = head.number + 1;

@@ -1,6 +1,7 @@
-//! One update of the tables and of page 0's fields, over any pages.
-ghost use Rattle.std.specs.Prelude.{◌≡◌, ℕ, ◌≤◌, ◌<◌, ◌+◌, ◌^◌, ◌↔◌, Ok, IsTrue, IfOk, IfErr, OnOk, IsErrOf, length};
+//! One update of the tables, the tree and page 0's fields, over any pages.
+ghost use Rattle.std.specs.Prelude.{◌≡◌, ℕ, ◌≤◌, ◌<◌, ◌+◌, ◌^◌, ◌↔◌, Ok, IsTrue, IfOk, IfErr, OnOk, IsErrOf, length, option_map};
 ghost use Rattle.std.specs.List.{AllByRecursion};
+ghost use Rattle.std.specs.Option.{option_copied};
 ghost use Rattle.page_face.specs.Causes.{Rose};
 ghost use Rattle.btree_nodes.specs.Damages.{AreTold};
 ghost use Rattle.place_map.specs.Restored.{IsSerialAbove};
@@ -8,27 +9,31 @@ ghost use Rattle.place_map.specs.State.{Contents};
 ghost use Rattle.place_map.specs.Update.{effect_of, key_for, put_at, removed_at, serial_after};
 ghost use Rattle.store_meaning.specs.Stands.{PagesStand, tables_in};
 ghost use Rattle.irtree_engine.specs.Updates.{NamesText, IsUpdateFault, IsDueTo, IsAtLimit, StandForOutcome, state_after_all};
-ghost use Rattle.irtree_engine.specs.Changes.{block_with, head_with, AreHeadNumbers};
+ghost use Rattle.irtree_engine.specs.Changes.{block_with, head_with, tree_in, AreHeadNumbers};
 
 use crate::EngineFault;
 use crate::fault::broken_by_head;
+use node_inverted::Tree;
 use page_face::{Head, Pages, Rule};
 use place_map::{Applied, NUMBER_MAX, PLACES_MAX, Update};
 use place_updates::{put_place, remove_place};
 use row_codec::PAIRS_MAX;
 use spatial_base::{Key, Point};
+use split_policy::SplitPolicy;
 use std::alloc::Global;
-use store_tables::Tables;
+use store_tables::{Stored, Tables};
 use term_impacts::Words;
+use tree_updates::{put_entry, take_entry};
 
-/// Changes the tables and page 0's fields by one update. A key that a Put names is a text key.
+/// Changes the tables, the tree and page 0's fields by one update. A key that a Put names is a text key.
 ///
-/// Refuses `Full`, `Worn` and what the tables refuse, and `Damaged` where a number of page 0 is out of its range. After a refusal
-/// the fields are as before, and pages may have changed.
+/// Refuses `Full`, `Worn` and what the tables and the tree refuse, and `Damaged` where a number of page 0 is out of its range. After a
+/// refusal the fields are as before, and pages may have changed.
 pub(crate) fn update<P: Pages>(
     alloc: Global,
     pages: &mut P,
     head: &mut Head,
+    policy: &mut dyn SplitPolicy,
     update: &Update,
 ) -> Result<Applied, EngineFault>
     requires { NamesText update.now }
@@ -56,19 +61,20 @@ pub(crate) fn update<P: Pages>(
     match update {
         Update::Put { key, point, words } => {
             let (key, serial) = named(head, key);
-            put(alloc, pages, head, &key, serial, *point, words)
+            put(alloc, pages, head, policy, &key, serial, *point, words)
         }
-        Update::Remove { key } => remove(pages, head, key),
+        Update::Remove { key } => remove(alloc, pages, head, policy, key),
     }
 }
 
-/// Changes the tables and page 0's fields by all updates, one after another. A key that a Put names is a text key.
+/// Changes the tables, the tree and page 0's fields by all updates, one after another. A key that a Put names is a text key.
 ///
 /// Refuses as [`update`], for the first one that is refused.
 pub(crate) fn update_all<P: Pages>(
     alloc: Global,
     pages: &mut P,
     head: &mut Head,
+    policy: &mut dyn SplitPolicy,
     updates: &[Update],
 ) -> Result<(), EngineFault>
     requires { AllByRecursion NamesText updates.now }
@@ -91,7 +97,7 @@ pub(crate) fn update_all<P: Pages>(
 {
     let mut left = updates;
     while let Some((next, rest)) = left.split_first() {
-        update(alloc, pages, head, next)?;
+        update(alloc, pages, head, policy, next)?;
         left = rest;
     }
     Ok(())
@@ -130,17 +136,34 @@ pub(crate) fn tables_of(head: &Head) -> Tables
     }
 }
 
-// Page 0's fields after a change of the tables.
-fn head_after(head: &Head, tables: &Tables, live: u32, serial: u64) -> Head
+// The tree that page 0 names.
+fn tree_of(head: &Head) -> Tree
+    ensures { result ≡ tree_in head.now }
+{
+    Tree {
+        root: head.tree,
+        rows: head.rows,
+    }
+}
+
+// Where the place is that was found.
+fn point_of(found: Option<&Stored>) -> Option<Point>
+    ensures { result ≡ option_map (λ stored. stored.point) (option_copied found.entry) }
+{
+    found.map(|stored| stored.point)
+}
+
+// Page 0's fields after a change of the tables and the tree.
+fn head_after(head: &Head, tables: &Tables, tree: &Tree, live: u32, serial: u64) -> Head
     requires { head.now.number ≤ 2 ^ 40 }
-    ensures { result ≡ head_with head.now tables.now live serial }
+    ensures { result ≡ head_with head.now tables.now tree.now live serial }
 {
     Head {
         places: tables.places,
         texts: tables.texts,
         numbers: tables.numbers,
-        rows: head.rows,
-        tree: head.tree,
+        rows: tree.rows,
+        tree: tree.root,
         live,
         serial,
         number: head.number + 1,
@@ -148,11 +171,12 @@ fn head_after(head: &Head, tables: &Tables, live: u32, serial: u64) -> Head
     }
 }
 
-// Puts a place at a key, and leaves this next serial.
+// Puts a place at a key, and its entry into the tree in place of the old one, and leaves this next serial.
 fn put<P: Pages>(
     alloc: Global,
     pages: &mut P,
     head: &mut Head,
+    policy: &mut dyn SplitPolicy,
     key: &Key,
     serial: u64,
     point: Point,
@@ -190,8 +214,11 @@ fn put<P: Pages>(
     // So the next word number keeps its range.
     prove!(words.pairs().len() <= PAIRS_MAX);
     put_place(alloc, pages, &mut tables, key, old.as_ref(), point, words)?;
+    let mut tree = tree_of(head);
+    let at = point_of(old.as_ref());
+    put_entry(alloc, pages, &mut tree, policy, key, at, point)?;
     let live = if is_new { head.live + 1 } else { head.live };
-    *head = head_after(head, &tables, live, serial);
+    *head = head_after(head, &tables, &tree, live, serial);
     Ok(if is_new {
         Applied::New
     } else {
@@ -199,8 +226,14 @@ fn put<P: Pages>(
     })
 }
 
-// Takes a key out.
-fn remove<P: Pages>(pages: &mut P, head: &mut Head, key: &Key) -> Result<Applied, EngineFault>
+// Takes a key out, and its place's entry out of the tree.
+fn remove<P: Pages>(
+    alloc: Global,
+    pages: &mut P,
+    head: &mut Head,
+    policy: &mut dyn SplitPolicy,
+    key: &Key,
+) -> Result<Applied, EngineFault>
     requires range { AreHeadNumbers head.old }
     ensures updated { (state : Contents) → PagesStand (block_with (P.count pages.old) (P.first pages.old) head.old) (P.pages pages.old) state
         → IfOk result (λ applied. ((removed_at state key.now).answer ≡ Ok applied)
@@ -231,6 +264,8 @@ fn remove<P: Pages>(pages: &mut P, head: &mut Head, key: &Key) -> Result<Applied
         return Err(EngineFault::Damaged(broken_by_head(Rule::Counts)));
     }
     remove_place(pages, &mut tables, key, &old)?;
-    *head = head_after(head, &tables, head.live - 1, head.serial);
+    let mut tree = tree_of(head);
+    take_entry(alloc, pages, &mut tree, policy, key, old.point)?;
+    *head = head_after(head, &tables, &tree, head.live - 1, head.serial);
     Ok(Applied::Gone)
 }

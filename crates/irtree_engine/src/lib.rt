@@ -7,6 +7,10 @@
 //! journal, keeps that state. [`Engine::settle`] brings what the journal holds to its place, and [`Engine::read_log`] names the pages that
 //! the last call asked for.
 //!
+//! Beside the place table the store keeps an R-tree with one entry for each place, which the same commit changes. It grows under the
+//! policy that the engine was handed, a box of any `SplitPolicy`; [`Engine::set_policy`] hands it another. Queries are answered
+//! from the place table, so the policy decides no answer.
+//!
 //! After a refusal the map is as before. A commit that fails stops the engine: from then on each call that reads or changes places
 //! answers `Stopped`, and the store is to be opened again.
 //!

@@ -158,3 +158,40 @@ fn what_was_applied_stands_after_reopening(rt: HostRuntime) -> Result<(), Fail> 
     assert_eq!(rt; hits.as_slice()[0].key, key("b")?);
     Ok(())
 }
+
+// Puts 33 places on a line from west to east, and returns how many splits the policy made before the last of them and after it.
+fn splits_on_a_line(
+    alloc: Global,
+    engine: &mut Engine<'_, MemoryStation>,
+) -> Result<(u64, u64), Fail>
+    ensures { engine.new.store.disk.ghost_name ≡ engine.old.store.disk.ghost_name }
+{
+    let mut before = engine.splits();
+    for x in 0..33u8 {
+        let update = Update::Put {
+            key: None,
+            point: Point::new(i32::from(x), 0).ok_or("off the map")?,
+            words: impacts(alloc, "")?,
+        };
+        before = engine.splits();
+        engine.apply(&update)?;
+    }
+    Ok((before, engine.splits()))
+}
+
+#[test]
+fn the_policy_that_is_handed_in_splits_the_tree(rt: HostRuntime) -> Result<(), Fail> {
+    let mut station = MemoryStation::new(rt.alloc(), 90);
+    let policy = Box::new(rt.alloc(), Quadratic::new())?;
+    let another = Box::new(rt.alloc(), Halving::new())?;
+    let mut engine = Engine::open(rt.alloc(), &mut station, 0, policy)?;
+    let splits = splits_on_a_line(rt.alloc(), &mut engine);
+    engine.set_policy(another);
+    let then = engine.splits();
+    let count = engine.count();
+    let _loan = engine.into_disk();
+    assert_eq!(rt; splits?, (0, 1));
+    assert_eq!(rt; then, 0);
+    assert_eq!(rt; count, 33);
+    Ok(())
+}

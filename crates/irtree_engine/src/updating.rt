@@ -19,7 +19,8 @@ use page_store::Store;
 use place_map::{Applied, Update};
 
 impl<'d, D: Station> Engine<'d, D> {
-    /// Stores one update in one commit. An update that changes nothing makes none. A key that a Put names is a text key.
+    /// Stores one update in one commit, in the place table and in the tree. An update that changes nothing makes none. A key that a Put
+    /// names is a text key.
     ///
     /// Refuses `Stopped` exactly where an earlier commit of this engine failed, before all else; `Full` exactly where 200,000 or
     /// more places live and a Put's key is new; `Worn` exactly where the update number is 2^40 and the update would change the
@@ -30,6 +31,10 @@ impl<'d, D: Station> Engine<'d, D> {
     /// Costs a look-up of the key, a put or a removal in the place table, for each word that the update changes a look-up and a
     /// put in the tables of words, and one commit of the pages that changed: two writes and two syncs. From time to time a checkpoint comes
     /// first, which writes each page of the journal to its place, with two syncs more.
+    ///
+    /// In the tree a new place costs one way down: a page a level is read, and those that change are written. A place that moves costs
+    /// also a search for its old entry, through each node whose rectangle holds the old point, and a removal costs such a search; where a
+    /// node is left with fewer than 12 entries, a way down for each of them. A place that is put where it was costs nothing there.
     pub fn apply(&mut self, update: &Update) -> Result<Applied, EngineFault>
         requires { NamesText update.now }
         ensures same_loan { self.new.store.disk.ghost_name ≡ self.old.store.disk.ghost_name }
@@ -63,7 +68,13 @@ impl<'d, D: Station> Engine<'d, D> {
             return Err(EngineFault::Stopped);
         }
         let mut head = self.store.head();
-        let applied = match change::update(self.alloc, &mut self.store, &mut head, update) {
+        let applied = match change::update(
+            self.alloc,
+            &mut self.store,
+            &mut head,
+            &mut *self.policy,
+            update,
+        ) {
             Ok(applied) => applied,
             Err(fault) => {
                 self.store.abandon();
@@ -79,7 +90,7 @@ impl<'d, D: Station> Engine<'d, D> {
     /// Stores all updates in one commit, or none. There are at most 10,000, and a key that a Put names is a text key; of none nothing is stored.
     ///
     /// Refuses as [`Engine::apply`], for the first update that meets a cause; then none is stored. Costs as much as each update by
-    /// itself, with one commit of the pages that changed.
+    /// itself, in the tables and in the tree, with one commit of the pages that changed.
     pub fn apply_batch(&mut self, updates: &[Update]) -> Result<(), EngineFault>
         requires few { length updates.now ≤ 10000 }
         requires keys { AllByRecursion NamesText updates.now }
@@ -114,7 +125,13 @@ impl<'d, D: Station> Engine<'d, D> {
             return Err(EngineFault::Stopped);
         }
         let mut head = self.store.head();
-        if let Err(fault) = change::update_all(self.alloc, &mut self.store, &mut head, updates) {
+        if let Err(fault) = change::update_all(
+            self.alloc,
+            &mut self.store,
+            &mut head,
+            &mut *self.policy,
+            updates,
+        ) {
             self.store.abandon();
             return Err(fault);
         }

@@ -92,7 +92,7 @@ fn a_sync_that_fails_stores_nothing(rt: HostRuntime) -> Result<(), Fail> {
 
 #[test]
 fn where_no_page_is_left_the_run_ends(rt: HostRuntime) -> Result<(), Fail> {
-    let mut station = MemoryStation::new(rt.alloc(), 2);
+    let mut station = MemoryStation::new(rt.alloc(), 3);
     let ended = run_on(
         rt.alloc(),
         &RUN,

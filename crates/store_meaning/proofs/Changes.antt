@@ -1,5 +1,5 @@
 -- What an update's pages stand for.
-use Rattle.std.proofs.Common.{◌≡◌, ℕ, ◌+◌, ◌*◌, ◌<◌, ◌≤◌, ◌^◌, cond, is_some, List, length, Option, Some, None, option_map, refl, sym, ap, subst, ◌∙◌}
+use Rattle.std.proofs.Common.{◌≡◌, ℕ, ◌+◌, ◌*◌, ◌<◌, ◌≤◌, ◌^◌, cond, is_some, List, length, Option, Some, None, option_map, refl, sym, ap, subst, ◌∙◌, arith}
 use Rattle.std.proofs.lemmas.List.{length-map}
 use Rattle.term_impacts.specs.Pairs.{IsWordMap}
 use Rattle.spatial_base.specs.Key.{Name}
@@ -11,26 +11,22 @@ use Rattle.btree_nodes.specs.Supply.{view}
 use Rattle.place_map.specs.Restored.{IsSerialAbove}
 use Rattle.place_map.specs.State as states
 use Rattle.row_codec.specs.declared.stored.Stored.{Stored}
-use Rattle.store_tables.specs.Entries.{Entries, place_of_key}
+use Rattle.rtree_shape.specs.Slots.{got}
+use Rattle.rtree_shape.specs.Stock as stock
+use Rattle.rtree_nodes.specs.Pages.{node_of}
+use Rattle.tree_updates.specs.Regrown.{IsRegrown, entry_at}
+use Rattle.store_tables.specs.Entries.{Entries, place_of_key, with_place, without_place}
 use Rattle.store_tables.specs.Holding.{IsChanged}
-use Rattle.store_meaning.specs.Stands.{PagesStand, TablesStand, place_in, places_in, state_in, tables_in}
-use Rattle.store_meaning.specs.Updates.{after_put, after_remove, numbered_for}
+use Rattle.store_meaning.specs.Stands.{PagesStand, entry_sum, place_in, places_in, tables_in}
+use Rattle.store_meaning.specs.Updates.{after_put, after_remove, by_number, numbered_for, stored_with}
+use Rattle.store_meaning.proofs.Maps.{ascending-holds}
 use Rattle.store_meaning.proofs.Places.{place-at}
-use Rattle.store_meaning.proofs.Tables.{ArePagesKept, tables-next, tables-put, tables-put-places, tables-remove, tables-remove-places}
-use Rattle.store_meaning.proofs.Trees.{no-tree, tree-kept}
+use Rattle.store_meaning.proofs.Regrowths.{IsRerooted, StandsBetween, between-regrown}
+use Rattle.store_meaning.proofs.Sums.{sum-with, sum-without}
+use Rattle.store_meaning.proofs.Tables.{ArePagesKept, TablesOver, tables-next, tables-put, tables-put-entries, tables-put-places, tables-remove, tables-remove-entries, tables-remove-places}
+use Rattle.store_meaning.proofs.Trees.{tree-kept}
 
 module _ (old : Superblock) (pages : PageMap) (state : states.Contents) (stand : PagesStand old pages state) where
-  -- where the tables stand for new entries beside the tree's pages, which stayed, the pages stand for the state of the new entries
-  pub stand-beside : (block : Superblock) (after : PageMap) (entries : Entries) → TablesStand block after stand.others entries × ArePagesKept stand.others pages after → block.head.rows ≡ old.head.rows → block.head.tree ≡ old.head.tree
-      → PagesStand block after (state_in entries block.head.serial block.head.number)
-  stand-beside block after entries tables rows tree = record {
-    entries = entries;
-    others = stand.others;
-    tables = tables.0;
-    tree = no-tree block.head after stand.entries entries stand.others (tree-kept old.head block.head pages after stand.entries stand.others stand.tree rows tree tables.1);
-    is = refl;
-  }
-
   -- the state's places were those of the entries
   places-before : state.places ≡ places_in stand.entries
   places-before = ap (λ (s : states.Contents). s.places) stand.is
@@ -51,6 +47,15 @@ module _ (old : Superblock) (pages : PageMap) (state : states.Contents) (stand :
   pub live-before : length state.places ≡ old.head.live
   live-before = ap length places-before ∙ length-map stand.entries.places _ ∙ sym stand.tables.live
 
+  -- where the tables stand for new entries beside the tree's pages, which stayed, the tree stands for those before
+  between-kept : (mid : Superblock) (between : PageMap) (new : Entries) (free : List ℕ) → TablesOver mid between stand.others new free × ArePagesKept stand.others pages between → mid.head.rows ≡ old.head.rows → mid.head.tree ≡ old.head.tree
+      → StandsBetween mid between stand.others stand.entries new free
+  between-kept mid between new free tables rows tree = record {
+    tables = tables.0.0;
+    free_is = tables.0.1;
+    tree = tree-kept old.head mid.head pages between stand.entries stand.others stand.tree rows tree tables.1;
+  }
+
   module _ (key : Name) (point : Position) (words : List (List ℕ × ℕ)) (map_of_words : IsWordMap words)
       (room : old.head.live + 1 < 2 ^ 32 + cond (is_some (place_of_key key stand.entries.places)) 1 0) where
     -- the next word number after the place was put
@@ -61,25 +66,55 @@ module _ (old : Superblock) (pages : PageMap) (state : states.Contents) (stand :
     pub next-then : (old.head.next_word ≤ next_then) × (next_then ≤ 64 * (old.head.number + 1 + 1))
     next-then = tables-next old pages stand.others stand.entries stand.tables key point words map_of_words room
 
-    -- after a put the pages stand for the state with the place at the key
-    pub stand-put : (block : Superblock) (after : PageMap)
-        → IsChanged (view pages old.counted old.first_free stand.tables.free) (tables_in old.head) after block.counted block.first_free (tables_in block.head) (after_put key point words old.head.next_word stand.entries)
-        → IsInRange block → block.head.rows ≡ old.head.rows → block.head.tree ≡ old.head.tree → block.head.next_word ≡ next_then → old.head.serial ≤ block.head.serial → IsSerialAbove block.head.serial key
-        → block.head.live + cond (is_some (place_of_key key stand.entries.places)) 1 0 ≡ old.head.live + 1
-        → PagesStand block after (record { places = states.with_place key (record { point = point; words = words }) state.places; serial = block.head.serial; number = block.head.number })
-    stand-put block after changed range rows tree next later below live =
-        let tables = tables-put old pages stand.others stand.entries stand.tables key point words map_of_words room block after changed range next later below live in
-        let is = tables-put-places old pages stand.others stand.entries stand.tables key point words map_of_words room in
-        subst (λ (ps : states.Places). PagesStand block after (record { places = ps; serial = block.head.serial; number = block.head.number })) (is ∙ ap (states.with_place key (record { point = point; words = words })) (sym places-before))
-        (stand-beside block after (after_put key point words old.head.next_word stand.entries) tables rows tree)
+    -- the tables have the place, on pages `between`, and the tree is as before
+    module _ (mid : Superblock) (between : PageMap)
+        (changed : IsChanged (view pages old.counted old.first_free stand.tables.free) (tables_in old.head) between mid.counted mid.first_free (tables_in mid.head) (after_put key point words old.head.next_word stand.entries))
+        (range : IsInRange mid) (rows : mid.head.rows ≡ old.head.rows) (tree : mid.head.tree ≡ old.head.tree) (next : mid.head.next_word ≡ next_then) (later : old.head.serial ≤ mid.head.serial) (below : IsSerialAbove mid.head.serial key)
+        (live : mid.head.live + cond (is_some (place_of_key key stand.entries.places)) 1 0 ≡ old.head.live + 1) where
+      -- the tables stand for the entries with the place, the tree for those before
+      pub mid-put : StandsBetween mid between stand.others stand.entries (after_put key point words old.head.next_word stand.entries) changed.free
+      mid-put = between-kept mid between (after_put key point words old.head.next_word stand.entries) changed.free
+          (tables-put old pages stand.others stand.entries stand.tables key point words map_of_words room mid between changed range next later below live) rows tree
 
-  -- after a remove they stand for the state without the key's place
-  pub stand-remove : (key : Name) (block : Superblock) (after : PageMap) → IsChanged (view pages old.counted old.first_free stand.tables.free) (tables_in old.head) after block.counted block.first_free (tables_in block.head) (after_remove key stand.entries)
-      → IsInRange block → block.head.rows ≡ old.head.rows → block.head.tree ≡ old.head.tree → block.head.next_word ≡ old.head.next_word → block.head.serial ≡ old.head.serial
-      → block.head.live + cond (is_some (place_of_key key stand.entries.places)) 1 0 ≡ old.head.live
-      → PagesStand block after (record { places = states.without_place key state.places; serial = block.head.serial; number = block.head.number })
-  stand-remove key block after changed range rows tree next serial live =
-      let tables = tables-remove old pages stand.others stand.entries stand.tables key block after changed range next serial live in
-      let is = tables-remove-places old pages stand.others stand.entries stand.tables key in
-      subst (λ (ps : states.Places). PagesStand block after (record { places = ps; serial = block.head.serial; number = block.head.number })) (is ∙ ap (states.without_place key) (sym places-before))
-      (stand-beside block after (after_remove key stand.entries) tables rows tree)
+      -- once the tree has the place's entry in place of the old one, the pages stand for the state with the place at the key
+      pub stand-put : (block : Superblock) (after : PageMap)
+          → IsRegrown node_of (stock.view between mid.head.rows mid.counted mid.first_free changed.free) after block.head.rows block.counted block.first_free mid.head.tree block.head.tree
+          (option_map (λ (s : Stored). entry_at key s.point) (place_of_key key stand.entries.places)) (Some (entry_at key point))
+          → IsInRange block → IsRerooted mid.head block.head
+          → PagesStand block after (record { places = states.with_place key (record { point = point; words = words }) state.places; serial = block.head.serial; number = block.head.number })
+      stand-put block after regrown within rerooted =
+          let new : Entries = after_put key point words old.head.next_word stand.entries in
+          let places : new.places ≡ with_place key (stored_with point (by_number (numbered_for key words old.head.next_word stand.entries).pairs)) stand.entries.places
+          = tables-put-entries old pages stand.others stand.entries stand.tables key point words map_of_words room in
+          let is = tables-put-places old pages stand.others stand.entries stand.tables key point words map_of_words room in
+          subst (λ (ps : states.Places). PagesStand block after (record { places = ps; serial = block.head.serial; number = block.head.number })) (is ∙ ap (states.with_place key (record { point = point; words = words })) (sym places-before))
+          (between-regrown mid between stand.others stand.entries new changed.free mid-put block after _ _ regrown within rerooted
+          (λ f. ap (λ (ps : List (Name × Stored)). entry_sum f ps + got f (option_map (λ (s : Stored). entry_at key s.point) (place_of_key key stand.entries.places))) places
+          ∙ sum-with key f _ stand.entries.places (ascending-holds pages (tables_in old.head) stand.entries stand.tables.holds).places))
+
+  -- a key's place is taken out of the tables, on pages `between`, and the tree is as before
+  module _ (key : Name) (mid : Superblock) (between : PageMap) (changed : IsChanged (view pages old.counted old.first_free stand.tables.free) (tables_in old.head) between mid.counted mid.first_free (tables_in mid.head) (after_remove key stand.entries))
+      (range : IsInRange mid) (rows : mid.head.rows ≡ old.head.rows) (tree : mid.head.tree ≡ old.head.tree) (next : mid.head.next_word ≡ old.head.next_word) (serial : mid.head.serial ≡ old.head.serial)
+      (live : mid.head.live + cond (is_some (place_of_key key stand.entries.places)) 1 0 ≡ old.head.live) where
+    -- the tables stand for the entries without the key's place, the tree for those before
+    pub mid-remove : StandsBetween mid between stand.others stand.entries (after_remove key stand.entries) changed.free
+    mid-remove = between-kept mid between (after_remove key stand.entries) changed.free
+        (tables-remove old pages stand.others stand.entries stand.tables key mid between changed range next serial live) rows tree
+
+    module _ (stored : Stored) (is : place_of_key key stand.entries.places ≡ Some stored) where
+      -- once the tree is without that entry, the pages stand for the state without the key's place
+      pub stand-remove : (block : Superblock) (after : PageMap)
+          → IsRegrown node_of (stock.view between mid.head.rows mid.counted mid.first_free changed.free) after block.head.rows block.counted block.first_free mid.head.tree block.head.tree (Some (entry_at key stored.point)) None
+          → IsInRange block → IsRerooted mid.head block.head
+          → PagesStand block after (record { places = states.without_place key state.places; serial = block.head.serial; number = block.head.number })
+      stand-remove block after regrown within rerooted =
+          let new : Entries = after_remove key stand.entries in
+          let places : new.places ≡ without_place key stand.entries.places = tables-remove-entries old pages stand.others stand.entries stand.tables key in
+          let left = tables-remove-places old pages stand.others stand.entries stand.tables key in
+          subst (λ (ps : states.Places). PagesStand block after (record { places = ps; serial = block.head.serial; number = block.head.number })) (left ∙ ap (states.without_place key) (sym places-before))
+          (between-regrown mid between stand.others stand.entries new changed.free mid-remove block after _ _ regrown within rerooted
+          (λ f. let sum = sum-without key f stand.entries.places in
+          let gone : got f (option_map (λ (s : Stored). entry_at key s.point) (place_of_key key stand.entries.places)) ≡ f (entry_at key stored.point)
+          = ap (λ (found : Option Stored). got f (option_map (λ (s : Stored). entry_at key s.point) found)) is in
+          let same = ap (entry_sum f) places in
+          omega (arith, sum, gone, same)))

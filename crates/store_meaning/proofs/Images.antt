@@ -112,7 +112,7 @@ empty-tables pages = record {
 
 -- the empty store has no tree
 empty-tree : (pages : PageMap) → TreeStands empty_store.head pages no_entries (λ n. 0)
-empty-tree pages = record { rows = refl; tree = refl; none = λ n. refl }
+empty-tree pages = record { tree = tt; entries_are = λ f. refl; rows = refl; uses_are = λ n. refl }
 
 -- pages of the empty store stand for the state in which nothing was put
 pub empty-pages : (pages : PageMap) → PagesStand empty_store pages opening

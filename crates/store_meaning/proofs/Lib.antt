@@ -6,9 +6,11 @@ pub mod Ordered
 pub mod Pairs
 pub mod Places
 pub mod Puts
+pub mod Regrowths
 pub mod Releases
 pub mod Removes
 pub mod Steps
+pub mod Sums
 pub mod Chances
 pub mod Tables
 pub mod Trees

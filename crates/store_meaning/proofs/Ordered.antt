@@ -14,7 +14,7 @@ use Rattle.store_tables.proofs.MapLemmas.{IsOrder}
 -- ---- in order
 
 -- a key below another is below all that the other is below
-below_behind : {K : Type 0} {cmp : K → K → Ordering} → IsTotalOrder cmp → (k m : K) (ks : List K) → cmp k m ≡ Less → AllByRecursion (λ y. cmp m y ≡ Less) ks → AllByRecursion (λ y. cmp k y ≡ Less) ks
+pub below_behind : {K : Type 0} {cmp : K → K → Ordering} → IsTotalOrder cmp → (k m : K) (ks : List K) → cmp k m ≡ Less → AllByRecursion (λ y. cmp m y ≡ Less) ks → AllByRecursion (λ y. cmp k y ≡ Less) ks
 below_behind order k m [] less all = tt
 below_behind order k m (x ∷ ks) less all = (order.trans k m x less all.0, below_behind order k m ks less all.1)
 

@@ -1,5 +1,5 @@
 -- What an update leaves of the tables, beside the pages of others.
-use Rattle.std.proofs.Common.{◌≡◌, ℕ, zero, suc, ◌+◌, ◌*◌, ◌<◌, ◌≤◌, ◌^◌, cond, is_some, List, length, sym, ap, subst, subst₂, arith}
+use Rattle.std.proofs.Common.{◌≡◌, ℕ, zero, suc, ◌+◌, ◌*◌, ◌<◌, ◌≤◌, ◌^◌, cond, is_some, List, length, refl, sym, ap, subst, subst₂, arith}
 use Rattle.term_impacts.specs.Pairs.{IsWordMap}
 use Rattle.spatial_base.specs.Key.{Name}
 use Rattle.spatial_base.specs.Point.{Position}
@@ -9,7 +9,7 @@ use Rattle.page_store.specs.declared.superblock.Superblock.{Superblock}
 use Rattle.btree_nodes.specs.Supply.{spare, view}
 use Rattle.place_map.specs.Restored.{IsSerialAbove}
 use Rattle.place_map.specs.State as states
-use Rattle.store_tables.specs.Entries.{Entries, place_of_key, without_place}
+use Rattle.store_tables.specs.Entries.{Entries, place_of_key, with_place, without_place}
 use Rattle.store_tables.specs.Holding.{IsChanged, table_uses}
 use Rattle.store_meaning.specs.Stands.{AreSound, TablesStand, places_in, tables_in}
 use Rattle.store_meaning.specs.Updates.{after_put, after_remove, by_number, numbered_for, stored_with}
@@ -23,6 +23,10 @@ use Rattle.store_meaning.proofs.Steps.{AreAscending}
 abbrev pub ArePagesKept : (ℕ → ℕ) → PageMap → PageMap → Type 0
 ArePagesKept others before after = (n : ℕ) → 0 < others n → after n ≡ before n
 
+-- the tables stand for the entries over this free list
+abbrev pub TablesOver : Superblock → PageMap → (ℕ → ℕ) → Entries → List ℕ → Type 0
+TablesOver block pages others entries free = (tables : TablesStand block pages others entries) × (tables.free ≡ free)
+
 module _ (old : Superblock) (pages : PageMap) (others : ℕ → ℕ) (entries : Entries) (stand : TablesStand old pages others entries) where
   -- a page of others is used by no table, and can't be taken
   pub others-apart : (n : ℕ) → 0 < others n → (table_uses pages (tables_in old.head) n ≡ 0) × (spare stand.free old.counted n ≡ 0)
@@ -30,19 +34,22 @@ module _ (old : Superblock) (pages : PageMap) (others : ℕ → ℕ) (entries : 
   others-apart (suc m) some = let one = stand.every (suc m) (omega arith) in (omega (arith, one, some), omega (arith, one, some))
 
   -- Where the tables changed and no page was lost, they stand for the new entries beside the same pages of others, which stayed.
-  pub tables-changed : (block : Superblock) (after : PageMap) (new : Entries) → IsChanged (view pages old.counted old.first_free stand.free) (tables_in old.head) after block.counted block.first_free (tables_in block.head) new
-      → IsInRange block → AreSound new block.head.next_word block.head.serial → block.head.live ≡ length new.places → TablesStand block after others new × ArePagesKept others pages after
+  pub tables-changed : (block : Superblock) (after : PageMap) (new : Entries) → (changed : IsChanged (view pages old.counted old.first_free stand.free) (tables_in old.head) after block.counted block.first_free (tables_in block.head) new)
+      → IsInRange block → AreSound new block.head.next_word block.head.serial → block.head.live ≡ length new.places → TablesOver block after others new changed.free × ArePagesKept others pages after
   tables-changed block after new changed range sound live = (
-    record {
-      range = range;
-      free = changed.free;
-      holds = changed.holds;
-      apart = changed.apart;
-      every = λ n some. (let kept = changed.moves.kept n in let one = stand.every n some in omega (arith, kept, one));
-      away = stand.away;
-      sound = sound;
-      live = live;
-    },
+    (
+      record {
+        range = range;
+        free = changed.free;
+        holds = changed.holds;
+        apart = changed.apart;
+        every = λ n some. (let kept = changed.moves.kept n in let one = stand.every n some in omega (arith, kept, one));
+        away = stand.away;
+        sound = sound;
+        live = live;
+      },
+      refl,
+    ),
     λ n some. (let apart = others-apart n some in changed.moves.others n apart.0 apart.1),
   )
 
@@ -77,32 +84,40 @@ module _ (old : Superblock) (pages : PageMap) (others : ℕ → ℕ) (entries : 
         let most = stand.range.words in
         (next.0, omega (arith, next.1, few, most))
 
+    -- after a put the table has the place at the key
+    pub tables-put-entries : put.places ≡ with_place key (stored_with point (by_number (numbered_for key words old.head.next_word entries).pairs)) entries.places
+    tables-put-entries = put-entries key point words entries old.head.next_word stand.sound.words ascending stand.holds.places.each map_of_words room_left numbers_left
+
     -- after a put the entries are those of the places with this one at the key
     pub tables-put-places : places_in put ≡ states.with_place key (record { point = point; words = words }) (places_in entries)
     tables-put-places = put-places key point words entries old.head.next_word stand.sound.words ascending stand.holds.places.each map_of_words room_left numbers_left
 
     -- and the tables stand for them beside the same pages of others, which stayed
-    pub tables-put : (block : Superblock) (after : PageMap) → IsChanged (view pages old.counted old.first_free stand.free) (tables_in old.head) after block.counted block.first_free (tables_in block.head) put
+    pub tables-put : (block : Superblock) (after : PageMap) → (changed : IsChanged (view pages old.counted old.first_free stand.free) (tables_in old.head) after block.counted block.first_free (tables_in block.head) put)
         → IsInRange block → block.head.next_word ≡ next_then → old.head.serial ≤ block.head.serial → IsSerialAbove block.head.serial key → block.head.live + cond (is_some (place_of_key key entries.places)) 1 0 ≡ old.head.live + 1
-        → TablesStand block after others put × ArePagesKept others pages after
+        → TablesOver block after others put changed.free × ArePagesKept others pages after
     tables-put block after changed range next later below live =
         let sound = put-sound key point words entries old.head.next_word stand.sound.words ascending stand.holds.places.each map_of_words room_left numbers_left old.head.serial block.head.serial stand.sound.serials later below in
-        let long = ap length (put-entries key point words entries old.head.next_word stand.sound.words ascending stand.holds.places.each map_of_words room_left numbers_left) in
+        let long = ap length tables-put-entries in
         let was = stand.live in
         tables-changed block after put changed range (subst (λ n. AreSound put n block.head.serial) (sym next) sound)
         (omega (arith, live, was, long, length-with_place key (stored_with point (by_number (numbered_for key words old.head.next_word entries).pairs)) entries.places ascending.places))
+
+  -- after a remove the table is without the key's place
+  pub tables-remove-entries : (key : Name) → (after_remove key entries).places ≡ without_place key entries.places
+  tables-remove-entries key = remove-entries key entries old.head.next_word old.head.serial stand.sound ascending stand.holds.places.each
 
   -- after a remove the entries are those of the places without the key's
   pub tables-remove-places : (key : Name) → places_in (after_remove key entries) ≡ states.without_place key (places_in entries)
   tables-remove-places key = remove-places key entries old.head.next_word old.head.serial stand.sound ascending stand.holds.places.each
 
   -- and the tables stand for them beside the same pages of others, which stayed
-  pub tables-remove : (key : Name) (block : Superblock) (after : PageMap) → IsChanged (view pages old.counted old.first_free stand.free) (tables_in old.head) after block.counted block.first_free (tables_in block.head) (after_remove key entries)
+  pub tables-remove : (key : Name) (block : Superblock) (after : PageMap) → (changed : IsChanged (view pages old.counted old.first_free stand.free) (tables_in old.head) after block.counted block.first_free (tables_in block.head) (after_remove key entries))
       → IsInRange block → block.head.next_word ≡ old.head.next_word → block.head.serial ≡ old.head.serial → block.head.live + cond (is_some (place_of_key key entries.places)) 1 0 ≡ old.head.live
-      → TablesStand block after others (after_remove key entries) × ArePagesKept others pages after
+      → TablesOver block after others (after_remove key entries) changed.free × ArePagesKept others pages after
   tables-remove key block after changed range next serial live =
       let sound = remove-sound key entries old.head.next_word old.head.serial stand.sound ascending stand.holds.places.each in
-      let long = ap length (remove-entries key entries old.head.next_word old.head.serial stand.sound ascending stand.holds.places.each) in
+      let long = ap length (tables-remove-entries key) in
       let was = stand.live in
       tables-changed block after (after_remove key entries) changed range (subst₂ (λ n m. AreSound (after_remove key entries) n m) (sym next) (sym serial) sound)
       (omega (arith, live, was, long, length-without_place key entries.places))

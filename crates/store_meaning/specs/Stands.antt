@@ -1,5 +1,5 @@
 -- The state that an image of a store stands for.
-use Rattle.std.specs.Prelude.{◌≡◌, ℕ, ◌+◌, ◌<◌, List, length, map, All}
+use Rattle.std.specs.Prelude.{◌≡◌, ℕ, ◌+◌, ◌<◌, List, length, map, sum_by, All}
 use Rattle.disk_model.specs.World.{Image}
 use Rattle.page_face.specs.FreeList.{PageMap}
 use Rattle.page_face.specs.declared.head.Head.{Head}
@@ -13,6 +13,10 @@ use Rattle.place_map.specs.Restored.{IsSerialAbove}
 use Rattle.place_map.specs.State.{Contents, Places}
 use Rattle.row_codec.specs.declared.counted.Counted.{Counted}
 use Rattle.row_codec.specs.declared.stored.Stored.{Stored}
+use Rattle.rtree_shape.specs.Slots.{Item}
+use Rattle.rtree_shape.specs.Whole.{IsWell, tree_uses, tree_sum}
+use Rattle.rtree_nodes.specs.Pages.{node_of}
+use Rattle.tree_updates.specs.Regrown.{entry_at}
 use Rattle.store_tables.specs.declared.tables.Tables.{Tables}
 use Rattle.store_tables.specs.Entries.{Entries}
 use Rattle.store_tables.specs.Holding.{Holds, IsApart, table_uses}
@@ -53,13 +57,17 @@ pub record TablesStand (block : Superblock) (pages : PageMap) (others : ℕ → 
   pub sound : AreSound entries block.head.next_word block.head.serial
   pub live : block.head.live ≡ length entries.places
 
--- What the tree and its rows are, and which pages belong to them: `uses n` is 1 where page n does, and else 0. There are none yet:
--- both roots are 0, and no page belongs to them. A tree joins here: the entries of its leaves are the places, and its rows hold
--- their words.
+-- the sum of f over the entries that places have in a tree: of each place its key at its point
+abbrev pub entry_sum : (Item → ℕ) → List (Name × Stored) → ℕ
+entry_sum f places = sum_by (λ (e : Name × Stored). f (entry_at e.0 e.1.point)) places
+
+-- What the tree and its rows are, and which pages belong to them: `uses n` is 1 where page n does, and else 0. The tree is well
+-- formed, and the entries of its leaves are the places, each once. There are no rows of words yet: their root is 0.
 pub record TreeStands (head : Head) (pages : PageMap) (entries : Entries) (uses : ℕ → ℕ) : Type 0 where
+  pub tree : IsWell node_of pages head.tree
+  pub entries_are : (f : Item → ℕ) → tree_sum node_of pages head.tree f ≡ entry_sum f entries.places
   pub rows : head.rows ≡ 0
-  pub tree : head.tree ≡ 0
-  pub none : (n : ℕ) → uses n ≡ 0
+  pub uses_are : (n : ℕ) → uses n ≡ tree_uses node_of pages head.tree n
 
 -- Page 0's fields and the pages counted stand for a state: the tables stand for entries beside the pages of the tree and its rows,
 -- these stand for the same entries, and the state is that of the entries.

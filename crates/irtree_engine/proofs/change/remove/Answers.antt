@@ -1,9 +1,14 @@
-use Rattle.std.proofs.Common.{◌≡◌, ◌-◌, ◌^◌, true, false, Option, Some, None, Err, Result, IfErr, is_some, refl, sym, ap, subst, ◌∙◌, arith}
+use Rattle.std.proofs.Common.{◌≡◌, ◌-◌, ◌^◌, true, false, Option, Some, None, IfSome, Err, Result, IfErr, is_some, refl, sym, ap, subst, ◌∙◌, arith}
 use Rattle.std.proofs.lemmas.Result.{err_from_is_err_and}
 use Rattle.page_face.specs.FreeList.{PageMap}
 use Rattle.page_face.specs.declared.head.Head.{Head}
 use Rattle.btree_nodes.specs.Supply.{view}
 use Rattle.paged_map.specs.Maps.{AreCounted}
+use Rattle.node_inverted.specs.declared.roots.Tree.{Tree}
+use Rattle.rtree_shape.specs.Stock as stock
+use Rattle.rtree_shape.specs.Whole.{IsWhole}
+use Rattle.rtree_nodes.specs.Pages.{node_of}
+use Rattle.tree_updates.specs.Regrown.{HasEntry, IsRegrown, entry_at}
 use Rattle.place_map.specs.declared.update.Applied.{Applied}
 use Rattle.place_map.specs.Update.{Effect, removed_at}
 use Rattle.store_meaning.specs.Stands.{PagesStand, tables_in}
@@ -13,11 +18,12 @@ use Rattle.store_tables.specs.declared.tables.Tables.{Tables}
 use Rattle.store_tables.specs.Entries.{place_of_key}
 use Rattle.store_tables.specs.Holding.{Holds, IsApart, IsChanged, table_uses}
 use Rattle.irtree_engine.specs.declared.fault.EngineFault.{EngineFault}
-use Rattle.irtree_engine.specs.Changes.{block_with}
+use Rattle.irtree_engine.specs.Changes.{block_with, tree_in}
 use Rattle.irtree_engine.specs.Updates.{IsDueTo}
 use Rattle.irtree_engine.proofs.Dues.{passed-due}
 use Rattle.irtree_engine.proofs.Effects.{remove-absent, remove-done, remove-stands, remove-worn, stand-same}
 use Rattle.irtree_engine.proofs.Standing.{stand-counted}
+use Rattle.irtree_engine.proofs.Trees.{point_in, tree-has, tree-whole}
 use Rattle.irtree_engine.proofs.change.remove.Goals as goal
 
 -- no place is found where none is the one
@@ -25,7 +31,7 @@ none_there : (found : Option Stored) → ((stored : Stored) → found ≡ Some s
 none_there None none = refl
 none_there (Some stored) none = absurd (none stored refl)
 
--- src/change.rt:220:21
+-- src/change.rt:257:21
 pub returns-in_err-old-clause-due : goal.returns-in_err-old-clause-due
 returns-in_err-old-clause-due g c = λ state stand told.
     let outcome = (removed_at state c.args.key.now).answer in
@@ -37,7 +43,7 @@ returns-in_err-old-clause-due g c = λ state stand told.
     subst (λ (r : Result Applied EngineFault). IfErr r (IsDueTo outcome)) (sym passed.1)
     (passed-due outcome c.in_err-old.field-0.0 passed.0 passed.2 (λ damage is. c.place.ensures.honest stand.entries holds told counted damage (c.in_err-old.was ∙ ap Err is)))
 
--- src/change.rt:221:9
+-- src/change.rt:258:9
 pub returns-in_default-clause-updated : goal.returns-in_default-clause-updated
 returns-in_default-clause-updated g c = λ state stand.
     let head = c.args.head.now in
@@ -54,7 +60,7 @@ returns-in_default-clause-updated g c = λ state stand.
       subst (λ (e : Effect). PagesStand (block_with (g.P.Pages.count mid) (g.P.Pages.first mid) head) (g.P.Pages.pages mid) e.state) (sym absent) there,
     )
 
--- src/change.rt:224:9
+-- src/change.rt:261:9
 pub returns-then-head-eq-NUMBER_MAX-clause-due : goal.returns-then-head-eq-NUMBER_MAX-clause-due
 returns-then-head-eq-NUMBER_MAX-clause-due g c = λ state stand told.
     let head = c.args.head.now in
@@ -67,7 +73,40 @@ returns-then-head-eq-NUMBER_MAX-clause-due g c = λ state stand told.
     let is_found : c.in_ok-old.field-0 ≡ place_of_key c.args.key.now there.entries.places = c.in_ok-old.ensures.found there.entries (subst (λ (p : PageMap). Holds p tables there.entries) c.place.ensures.frame.pages holds) in
     remove-worn head (g.P.Pages.count mid) (g.P.Pages.first mid) (g.P.Pages.pages mid) state there c.args.key.now c.in_ok-old.field-0 is_found (ap is_some c.in-Some.is) (omega arith)
 
--- src/change.rt:199:1
+-- src/change.rt:268:5
+pub returns-in_err-take_entry-clause-due : goal.returns-in_err-take_entry-clause-due
+returns-in_err-take_entry-clause-due g c = λ state stand told.
+    let head = c.args.head.now in
+    let tables = c.tables_of-tables.result in
+    let tables_are : tables ≡ tables_in head = c.tables_of-tables.ensures in
+    let old = c.args.pages.now in
+    let mid = c.place.new.pages in
+    let there = stand-same head (g.P.Pages.pages old) (g.P.Pages.pages mid) (g.P.Pages.count old) (g.P.Pages.count mid) (g.P.Pages.first old) (g.P.Pages.first mid) state c.place.ensures.frame.pages c.place.ensures.frame.count c.place.ensures.frame.first stand in
+    let holds : Holds (g.P.Pages.pages mid) tables there.entries = subst (λ (t : Tables). Holds (g.P.Pages.pages mid) t there.entries) (sym tables_are) there.tables.holds in
+    let is_found : c.in_ok-old.field-0 ≡ place_of_key c.args.key.now there.entries.places = c.in_ok-old.ensures.found there.entries (subst (λ (p : PageMap). Holds p tables there.entries) c.place.ensures.frame.pages holds) in
+    let apart : IsApart (view (g.P.Pages.pages mid) (g.P.Pages.count mid) (g.P.Pages.first mid) there.tables.free) tables =
+    subst (λ (t : Tables). IsApart (view (g.P.Pages.pages mid) (g.P.Pages.count mid) (g.P.Pages.first mid) there.tables.free) t) (sym tables_are) there.tables.apart in
+    let after = c.remove_place.new.pages in
+    let now = c.remove_place.new.tables in
+    let moves : IsChanged (view (g.P.Pages.pages mid) (g.P.Pages.count mid) (g.P.Pages.first mid) there.tables.free) (tables_in head) (g.P.Pages.pages after) (g.P.Pages.count after) (g.P.Pages.first after) now (after_remove c.args.key.now there.entries) =
+    subst (λ (t : Tables). IsChanged (view (g.P.Pages.pages mid) (g.P.Pages.count mid) (g.P.Pages.first mid) there.tables.free) t (g.P.Pages.pages after) (g.P.Pages.count after) (g.P.Pages.first after) now (after_remove c.args.key.now there.entries)) tables_are
+    (c.in_ok-remove_place.ensures.removed there.entries there.tables.free holds apart (sym is_found ∙ c.in-Some.is)) in
+    let tree_is : c.tree_of-tree.result ≡ tree_in head = c.tree_of-tree.ensures in
+    let block = block_with (g.P.Pages.count mid) (g.P.Pages.first mid) head in
+    let whole : IsWhole node_of (stock.view (g.P.Pages.pages after) c.tree_of-tree.result.rows (g.P.Pages.count after) (g.P.Pages.first after) moves.free) c.tree_of-tree.result.root =
+    subst (λ (t : Tree). IsWhole node_of (stock.view (g.P.Pages.pages after) t.rows (g.P.Pages.count after) (g.P.Pages.first after) moves.free) t.root) (sym tree_is)
+    (tree-whole block (g.P.Pages.pages mid) state there (g.P.Pages.pages after) (g.P.Pages.count after) (g.P.Pages.first after) now (after_remove c.args.key.now there.entries) moves) in
+    let has : HasEntry (g.P.Pages.pages after) c.tree_of-tree.result.root c.args.key.now c.in-Some.old.point =
+    subst (λ (t : Tree). HasEntry (g.P.Pages.pages after) t.root c.args.key.now c.in-Some.old.point) (sym tree_is)
+    (subst (λ (found : Option Stored). IfSome (point_in found) (HasEntry (g.P.Pages.pages after) head.tree c.args.key.now)) c.in-Some.is
+    (tree-has block (g.P.Pages.pages mid) state there (g.P.Pages.pages after) (g.P.Pages.count after) (g.P.Pages.first after) now (after_remove c.args.key.now there.entries) moves c.args.key.now c.in_ok-old.field-0 is_found)) in
+    let outcome = (removed_at state c.args.key.now).answer in
+    let passed = err_from_is_err_and c.from_residual-in_err-take_entry.result c.from_residual-in_err-take_entry.ensures.1 in
+    subst (λ (r : Result Applied EngineFault). IfErr r (IsDueTo outcome)) (sym passed.1)
+    (passed-due outcome c.in_err-take_entry.field-0.0 passed.0 passed.2
+    (λ damage is. c.take_entry.ensures.honest moves.free whole has damage (c.in_err-take_entry.was ∙ ap Err is)))
+
+-- src/change.rt:230:1
 pub returns-clause-updated : goal.returns-clause-updated
 returns-clause-updated g c = λ state stand.
     let head = c.args.head.now in
@@ -78,8 +117,6 @@ returns-clause-updated g c = λ state stand.
     let there = stand-same head (g.P.Pages.pages old) (g.P.Pages.pages mid) (g.P.Pages.count old) (g.P.Pages.count mid) (g.P.Pages.first old) (g.P.Pages.first mid) state c.place.ensures.frame.pages c.place.ensures.frame.count c.place.ensures.frame.first stand in
     let holds : Holds (g.P.Pages.pages mid) tables there.entries = subst (λ (t : Tables). Holds (g.P.Pages.pages mid) t there.entries) (sym tables_are) there.tables.holds in
     let is_found : c.in_ok-old.field-0 ≡ place_of_key c.args.key.now there.entries.places = c.in_ok-old.ensures.found there.entries (subst (λ (p : PageMap). Holds p tables there.entries) c.place.ensures.frame.pages holds) in
-    let some : is_some c.in_ok-old.field-0 ≡ true = ap is_some c.in-Some.is in
-    let less : head.number ≡ 2 ^ 40 → ⊥ = λ e. omega arith in
     let apart : IsApart (view (g.P.Pages.pages mid) (g.P.Pages.count mid) (g.P.Pages.first mid) there.tables.free) tables =
     subst (λ (t : Tables). IsApart (view (g.P.Pages.pages mid) (g.P.Pages.count mid) (g.P.Pages.first mid) there.tables.free) t) (sym tables_are) there.tables.apart in
     let after = c.remove_place.new.pages in
@@ -87,10 +124,28 @@ returns-clause-updated g c = λ state stand.
     let moves : IsChanged (view (g.P.Pages.pages mid) (g.P.Pages.count mid) (g.P.Pages.first mid) there.tables.free) (tables_in head) (g.P.Pages.pages after) (g.P.Pages.count after) (g.P.Pages.first after) now (after_remove c.args.key.now there.entries) =
     subst (λ (t : Tables). IsChanged (view (g.P.Pages.pages mid) (g.P.Pages.count mid) (g.P.Pages.first mid) there.tables.free) t (g.P.Pages.pages after) (g.P.Pages.count after) (g.P.Pages.first after) now (after_remove c.args.key.now there.entries)) tables_are
     (c.in_ok-remove_place.ensures.removed there.entries there.tables.free holds apart (sym is_found ∙ c.in-Some.is)) in
+    let tree_is : c.tree_of-tree.result ≡ tree_in head = c.tree_of-tree.ensures in
+    let block = block_with (g.P.Pages.count mid) (g.P.Pages.first mid) head in
+    let whole : IsWhole node_of (stock.view (g.P.Pages.pages after) c.tree_of-tree.result.rows (g.P.Pages.count after) (g.P.Pages.first after) moves.free) c.tree_of-tree.result.root =
+    subst (λ (t : Tree). IsWhole node_of (stock.view (g.P.Pages.pages after) t.rows (g.P.Pages.count after) (g.P.Pages.first after) moves.free) t.root) (sym tree_is)
+    (tree-whole block (g.P.Pages.pages mid) state there (g.P.Pages.pages after) (g.P.Pages.count after) (g.P.Pages.first after) now (after_remove c.args.key.now there.entries) moves) in
+    let has : HasEntry (g.P.Pages.pages after) c.tree_of-tree.result.root c.args.key.now c.in-Some.old.point =
+    subst (λ (t : Tree). HasEntry (g.P.Pages.pages after) t.root c.args.key.now c.in-Some.old.point) (sym tree_is)
+    (subst (λ (found : Option Stored). IfSome (point_in found) (HasEntry (g.P.Pages.pages after) head.tree c.args.key.now)) c.in-Some.is
+    (tree-has block (g.P.Pages.pages mid) state there (g.P.Pages.pages after) (g.P.Pages.count after) (g.P.Pages.first after) now (after_remove c.args.key.now there.entries) moves c.args.key.now c.in_ok-old.field-0 is_found)) in
+    let some : is_some c.in_ok-old.field-0 ≡ true = ap is_some c.in-Some.is in
+    let less : head.number ≡ 2 ^ 40 → ⊥ = λ e. omega arith in
     let next : now.next_word ≡ head.next_word = c.remove_place.ensures.next ∙ ap (λ (t : Tables). t.next_word) tables_are in
+    let last = c.take_entry.new.pages in
+    let tree = c.take_entry.new.tree in
+    let regrown : IsRegrown node_of (stock.view (g.P.Pages.pages after) head.rows (g.P.Pages.count after) (g.P.Pages.first after) moves.free) (g.P.Pages.pages last) tree.rows (g.P.Pages.count last) (g.P.Pages.first last) head.tree tree.root (Some (entry_at c.args.key.now c.in-Some.old.point)) None =
+    subst (λ (t : Tree). IsRegrown node_of (stock.view (g.P.Pages.pages after) t.rows (g.P.Pages.count after) (g.P.Pages.first after) moves.free) (g.P.Pages.pages last) tree.rows (g.P.Pages.count last) (g.P.Pages.first last) t.root tree.root (Some (entry_at c.args.key.now c.in-Some.old.point)) None) tree_is
+    (c.in_ok-take_entry.ensures.taken moves.free whole has) in
+    let rows : tree.rows ≡ head.rows = c.take_entry.ensures.rows ∙ ap (λ (t : Tree). t.rows) tree_is in
     let done = remove-done head (g.P.Pages.count mid) (g.P.Pages.first mid) (g.P.Pages.pages mid) state there c.args.key.now c.in_ok-old.field-0 is_found some less in (
       ap (λ (e : Effect). e.answer) done,
-      subst (λ (h : Head). PagesStand (block_with (g.P.Pages.count after) (g.P.Pages.first after) h) (g.P.Pages.pages after) (removed_at state c.args.key.now).state) (sym c.head_after.ensures)
-          (remove-stands head (g.P.Pages.count mid) (g.P.Pages.first mid) (g.P.Pages.pages mid) state there c.args.key.now c.in_ok-old.field-0 is_found (g.P.Pages.pages after) (g.P.Pages.count after) (g.P.Pages.first after) (g.met.P.Pages.first_is_counted after) now
-          (head.live - 1) some less (omega arith) next moves),
+      subst (λ (h : Head). PagesStand (block_with (g.P.Pages.count last) (g.P.Pages.first last) h) (g.P.Pages.pages last) (removed_at state c.args.key.now).state) (sym c.head_after.ensures)
+          (remove-stands head (g.P.Pages.count mid) (g.P.Pages.first mid) (g.P.Pages.pages mid) state there c.args.key.now c.in_ok-old.field-0 is_found (g.P.Pages.pages after) (g.P.Pages.count after) (g.P.Pages.first after) (g.met.P.Pages.first_is_counted after) c.remove_place.ensures.frame.count now
+          (g.P.Pages.pages last) (g.P.Pages.count last) (g.P.Pages.first last) (g.met.P.Pages.first_is_counted last) c.take_entry.ensures.frame.count tree rows
+          c.in-Some.old (head.live - 1) c.in-Some.is less (omega arith) next moves regrown),
     )

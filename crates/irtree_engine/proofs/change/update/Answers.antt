@@ -11,7 +11,7 @@ use Rattle.irtree_engine.specs.Updates.{IsDueTo, NamesText}
 use Rattle.irtree_engine.proofs.Named.{named-above, put-effect, serial-rises}
 use Rattle.irtree_engine.proofs.change.update.Goals as goal
 
--- src/change.rt:27:1
+-- src/change.rt:32:1
 pub returns-in-Put-clause-updated : goal.returns-in-Put-clause-updated
 returns-in-Put-clause-updated g c = λ state stand.
     let head = c.args.head.now in
@@ -31,7 +31,7 @@ returns-in-Put-clause-updated g c = λ state stand.
     (put-effect state c.args.update.now c.in-Put.key c.in-Put.point c.in-Put.words name serial c.in-Put.is key_is next_is)
     (c.put.ensures.updated state stand later most above)
 
--- src/change.rt:27:1
+-- src/change.rt:32:1
 pub returns-in-Put-clause-due : goal.returns-in-Put-clause-due
 returns-in-Put-clause-due g c = λ state stand told.
     let serial_is : state.serial ≡ c.args.head.now.serial = ap (λ (s : Contents). s.serial) stand.is in
@@ -39,7 +39,7 @@ returns-in-Put-clause-due g c = λ state stand told.
     (put-effect state c.args.update.now c.in-Put.key c.in-Put.point c.in-Put.words c.named-key.result.0 c.named-key.result.1 c.in-Put.is (c.named-key.ensures.key state serial_is) (c.named-key.ensures.serial state serial_is))
     (c.put.ensures.due state stand told)
 
--- src/change.rt:27:1
+-- src/change.rt:32:1
 pub returns-in-Remove-clause-due : goal.returns-in-Remove-clause-due
 returns-in-Remove-clause-due g c = λ state stand told.
     subst (λ (u : Update). IfErr c.remove.result (IsDueTo (effect_of state u).answer)) (sym c.in-Remove.is) (c.remove.ensures.due state stand told)

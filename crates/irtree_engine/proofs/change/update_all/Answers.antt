@@ -7,7 +7,7 @@ use Rattle.irtree_engine.specs.Updates.{IsDueTo, NamesText, state_after_all}
 use Rattle.irtree_engine.proofs.Batches.{updated-all, updated-due, updated-more}
 use Rattle.irtree_engine.proofs.change.update_all.Goals as goal
 
--- src/change.rt:93:9
+-- src/change.rt:100:9
 pub returns-in_err-update-clause-due : goal.returns-in_err-update-clause-due
 returns-in_err-update-clause-due g c = λ state stand told.
     let are = c.loop-next.invariant.stand state stand in
@@ -28,7 +28,7 @@ returns-in_err-update-clause-one_more_each g c =
     let lives = c.loop-next.invariant.lives in
     let numbers = c.loop-next.invariant.numbers in (omega (arith, long, more_live, lives), omega (arith, long, more_number, numbers))
 
--- src/change.rt:92:5
+-- src/change.rt:99:5
 pub loop-next-preserved : goal.loop-next-preserved
 loop-next-preserved g c =
     let is : c.loop-next.left.now ≡ c.in-Some.next.now ∷ c.in-Some.rest.now = search rules in
@@ -53,7 +53,7 @@ loop-next-preserved g c =
       follows = g.met.P.Pages.goes_further _ _ _ invariant.follows c.update.ensures.follows;
     }
 
--- src/change.rt:68:1
+-- src/change.rt:73:1
 pub returns-clause-updated : goal.returns-clause-updated
 returns-clause-updated g c = λ state stand.
     updated-all c.loop-next.left.now (c.loop-next.invariant.stand state stand) c.in_default.ensures.cases
