@@ -1,0 +1,64 @@
+-- Logs of several calls.
+use Rattle.std.proofs.Common.{◌≡◌, ℕ, List, [], ◌∷◌, ◌++◌, sym, ap, ◌∙◌, append_assoc, Result, Ok, Err, refl}
+use Rattle.std.specs.List.{Contains}
+use Rattle.std.proofs.lemmas.List.{append-nil}
+use Rattle.page_face.specs.FreeList.{PageMap}
+use Rattle.page_face.specs.Causes.{asked_after}
+use Rattle.page_face.specs.declared.fault.PageFault.{PageFault}
+use Rattle.page_face.specs.declared.fault.PageFault.TheVariants.{Disk, NoRoom, Stopped, Damaged, Memory}
+use Rattle.btree_nodes.specs.Damages.{AskedSince}
+use Rattle.best_first.specs.Openings.{IsNodePage, AsksNodes}
+use Rattle.best_first.proofs.Lists.{all_weaker, all_append, all_in}
+
+-- asked for in the last call: asked for in all of them
+pub asked_sooner : (old more new : List ℕ) (page : ℕ) → AskedSince (old ++ more) new page → AskedSince old new page
+asked_sooner old more new page a = record {
+  front = more ++ a.front;
+  back = a.back;
+  is = a.is ∙ append_assoc old more (a.front ++ (page ∷ a.back)) ∙ ap (λ x. old ++ x) (sym (append_assoc more a.front (page ∷ a.back)));
+}
+
+-- asked for in an earlier call
+pub asked_before : (old mid more new : List ℕ) (page : ℕ) → AskedSince old mid page → new ≡ mid ++ more → AskedSince old new page
+asked_before old mid more new page a e = record {
+  front = a.front;
+  back = a.back ++ more;
+  is = e ∙ ap (λ x. x ++ more) a.is ∙ append_assoc old (a.front ++ (page ∷ a.back)) more ∙ ap (λ x. old ++ x) (append_assoc a.front (page ∷ a.back) more);
+}
+
+-- other nodes may be asked for, too
+pub asks_wider : (pages : PageMap) (ns ms old new : List ℕ) → ((page : ℕ) → Contains ns page → Contains ms page) → AsksNodes pages ns old new → AsksNodes pages ms old new
+asks_wider pages ns ms old new f a = record {
+  more = a.more;
+  log = a.log;
+  alone = all_weaker (λ page. IsNodePage (pages page) → Contains ns page) (λ page. IsNodePage (pages page) → Contains ms page) (λ page h t. f page (h t)) a.more a.alone;
+}
+
+-- one call after another
+pub asks_then : (pages : PageMap) (ns old mid new : List ℕ) → AsksNodes pages ns old mid → AsksNodes pages ns mid new → AsksNodes pages ns old new
+asks_then pages ns old mid new a b = record {
+  more = a.more ++ b.more;
+  log = b.log ∙ ap (λ l. l ++ b.more) a.log ∙ append_assoc old a.more b.more;
+  alone = all_append (λ page. IsNodePage (pages page) → Contains ns page) a.more b.more a.alone b.alone;
+}
+
+-- no page was asked for
+pub asks_none : (pages : PageMap) (ns old : List ℕ) → AsksNodes pages ns old old
+asks_none pages ns old = record { more = []; log = sym (append-nil old); alone = tt }
+
+-- one page was asked for
+pub asks_one : (pages : PageMap) (page : ℕ) (old : List ℕ) → AsksNodes pages (page ∷ []) old (old ++ page ∷ [])
+asks_one pages page old = record { more = page ∷ []; log = refl; alone = ((λ t. (all_in (page ∷ [])).0), tt) }
+
+-- a look at a page
+pub asks_looked : {T : Type 0} (pages : PageMap) (page : ℕ) (result : Result T PageFault) (old new : List ℕ) → new ≡ asked_after result page old → AsksNodes pages (page ∷ []) old new
+asks_looked pages page (Ok t) old new e = rw e (asks_one pages page old)
+asks_looked pages page (Err Disk) old new e = rw e (asks_one pages page old)
+asks_looked pages page (Err NoRoom) old new e = rw e (asks_one pages page old)
+asks_looked pages page (Err Stopped) old new e = rw e (asks_none pages (page ∷ []) old)
+asks_looked pages page (Err (Damaged damage)) old new e = rw e (asks_one pages page old)
+asks_looked pages page (Err Memory) old new e = rw e (asks_none pages (page ∷ []) old)
+
+-- a look that wasn't refused has asked for its page
+pub since_looked : (page : ℕ) (old new : List ℕ) → new ≡ old ++ page ∷ [] → AskedSince old new page
+since_looked page old new e = record { front = []; back = []; is = e }

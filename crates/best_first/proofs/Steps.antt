@@ -1,0 +1,185 @@
+-- The steps of a search: what was found and what waits lead to all places.
+use Rattle.std.proofs.Common.{◌≡◌, ℕ, zero, suc, ◌+◌, ◌*◌, ◌<◌, ◌≤◌, List, [], ◌∷◌, ◌++◌, take, length, refl, sym, ap, subst, ◌∙◌, arith, false, sum_by, IsPermutation}
+use Rattle.std.specs.List.{AllByRecursion, flat_map}
+use Rattle.std.proofs.lemmas.List.{append-nil}
+use Rattle.std.proofs.lemmas.Grind.{flat_map-append}
+use Rattle.std.proofs.lemmas.List.Sums.{sum_by-cons, sum_by-append}
+use Rattle.std.proofs.lemmas.List.Sorted.{sum_by-IsPermutation, IsPermutation-sym}
+use Rattle.ranking.specs.First.{first, IsRanked}
+use Rattle.ranking.specs.Members.{SameMembers, ranked_same, flat_map_same}
+use Rattle.place_map.specs.declared.hit.Hit.{Hit}
+use Rattle.place_map.specs.Hit.{comes_before, hits_linear}
+use Rattle.best_first.specs.declared.item.Item.{Item}
+use Rattle.best_first.specs.declared.item.Item.TheVariants.{Node, Place}
+use Rattle.best_first.specs.Items.{nodes_of, places_of, bound_of, IsGivenAt}
+use Rattle.best_first.specs.Leads.{led, at_node, below, reached, leads, IsAhead, IsBound, AreBounds, BoundsBelow, Bounds}
+use Rattle.best_first.specs.Queue.{IsNext}
+use Rattle.best_first.specs.Openings.{cheaper}
+use Rattle.best_first.proofs.Lists.{all_weaker, all_append, flat_all, all_moved}
+use Rattle.best_first.proofs.Costs.{all_cheaper, cheaper_some, below_cost}
+use Rattle.best_first.proofs.Firsts.{first_own, first_absorbed, first_front}
+
+module _ (opens : ℕ → ℕ → List Item) where
+  -- The first k of all places are the first k of those found and of those that the queue leads to.
+  pub record Searching (total : List Hit) (k : ℕ) (found : List Hit) (queue : List Item) : Type 0 where
+    pub same : first comes_before k total ≡ first comes_before k (found ++ leads opens queue)
+    pub bounds : Bounds opens queue
+
+  abbrev Sound : Item → Type 0
+  Sound i = IsBound opens i × BoundsBelow opens i
+
+  -- what items lead to: their places, and what their nodes lead to
+  leads_split : (f : Hit → ℕ) (items : List Item) → sum_by f (leads opens items) ≡ sum_by f (places_of items) + sum_by f (leads opens (nodes_of items))
+  leads_split f [] = refl
+  leads_split f (Node page level bound ∷ items) =
+      omega (arith, leads_split f items, sum_by-append f (below opens level page) (leads opens items), sum_by-append f (below opens level page) (leads opens (nodes_of items)))
+  leads_split f (Place hit ∷ items) =
+      omega (arith, leads_split f items, sum_by-cons f hit (leads opens items), sum_by-cons f hit (places_of items))
+
+  same_leads : (level : ℕ) (under : ℕ → List Hit) → ((p l : ℕ) → suc l ≡ level → under p ≡ below opens l p) → (items : List Item) → AllByRecursion (IsGivenAt level) items → flat_map (led under) items ≡ leads opens items
+  same_leads level under agree [] g = refl
+  same_leads zero under agree (Node page l bound ∷ items) g = absurd g.0
+  same_leads (suc level) under agree (Node page l bound ∷ items) g =
+      let q : under page ≡ below opens l page = agree page l (ap suc g.0) in
+      ap (λ x. x ++ flat_map (led under) items) q ∙ ap (λ x. below opens l page ++ x) (same_leads (suc level) under agree items g.1)
+  same_leads level under agree (Place hit ∷ items) g = ap (λ x. hit ∷ x) (same_leads level under agree items g.1)
+
+  -- a node leads to what its items lead to
+  pub below_leads : (level page : ℕ) → AllByRecursion (IsGivenAt level) (opens page level) → below opens level page ≡ leads opens (opens page level)
+  below_leads zero page g = same_leads 0 (λ p. []) (λ p l e. absurd (omega arith)) (opens page 0) g
+  below_leads (suc level) page g = same_leads (suc level) (λ p. below opens level p) (λ p l e. let q : level ≡ l = omega arith in ap (λ n. below opens n p) q) (opens page (suc level)) g
+
+  -- the bounds of what a node gives hold where those below it do
+  sound_given : (level : ℕ) (items : List Item) → AllByRecursion (IsGivenAt (suc level)) items → AllByRecursion (λ (i : Item). IsBound opens i × at_node (λ p. AreBounds opens level p) i) items → Bounds opens items
+  sound_given level [] g b = tt
+  sound_given level (Node page l bound ∷ items) g b = ((b.0.0, subst (λ n. AreBounds opens n page) (sym g.0) b.0.1), sound_given level items g.1 b.1)
+  sound_given level (Place hit ∷ items) g b = absurd g.0
+
+  sound_places : (items : List Item) → AllByRecursion (IsGivenAt 0) items → Bounds opens items
+  sound_places [] g = tt
+  sound_places (Node page l bound ∷ items) g = absurd g.0
+  sound_places (Place hit ∷ items) g = ((tt, tt), sound_places items g.1)
+
+  opened_sound : (level page : ℕ) → AllByRecursion (IsGivenAt level) (opens page level) → AreBounds opens level page → Bounds opens (opens page level)
+  opened_sound zero page g b = sound_places (opens page 0) g
+  opened_sound (suc level) page g b = sound_given level (opens page (suc level)) g b
+
+  -- what holds of all items holds of the nodes among them
+  pub all_nodes : (P : Item → Type 0) (items : List Item) → AllByRecursion P items → AllByRecursion P (nodes_of items)
+  all_nodes P [] h = tt
+  all_nodes P (Node page level bound ∷ items) h = (h.0, all_nodes P items h.1)
+  all_nodes P (Place hit ∷ items) h = all_nodes P items h.1
+
+  -- what holds of all places that items lead to holds of the places among them
+  pub all_places : (P : Hit → Type 0) (items : List Item) → AllByRecursion (λ (i : Item). AllByRecursion P (reached opens i)) items → AllByRecursion P (places_of items)
+  all_places P [] h = tt
+  all_places P (Node page level bound ∷ items) h = all_places P items h.1
+  all_places P (Place hit ∷ items) h = (h.0.0, all_places P items h.1)
+
+  leads_moved : (f : Hit → ℕ) (xs ys : List Item) → IsPermutation xs ys → sum_by f (leads opens ys) ≡ sum_by f (leads opens xs)
+  leads_moved f xs ys p = flat_map_same (reached opens) xs ys (λ g. sum_by-IsPermutation g xs ys p) f
+
+  -- at the start
+  pub started : (starts items : List Item) (k : ℕ) (empty queue : List Item) (none found : List Hit) → empty ≡ [] → none ≡ [] → items ≡ starts → IsPermutation (nodes_of items ++ empty) queue → found ≡ first comes_before k (none ++ places_of items) → Bounds opens starts → Searching (leads opens starts) k found queue
+  started starts items k empty queue none found e n s p f b =
+      let q : IsPermutation (nodes_of starts) queue = subst (λ x. IsPermutation x queue) (ap (λ x. nodes_of items ++ x) e ∙ append-nil (nodes_of items) ∙ ap nodes_of s) p in
+      let g : found ≡ first comes_before k (places_of starts) = f ∙ ap (λ x. first comes_before k (x ++ places_of items)) n ∙ ap (λ x. first comes_before k (places_of x)) s in
+      let moved : SameMembers (leads opens starts) (places_of starts ++ leads opens queue) = λ f. omega (arith, leads_split f starts, sum_by-append f (places_of starts) (leads opens queue), leads_moved f (nodes_of starts) queue q) in
+      record {
+        same = ap (take k) (sym (ranked_same hits_linear (leads opens starts) (places_of starts ++ leads opens queue) moved)) ∙ sym (first_absorbed k (places_of starts) (leads opens queue)) ∙ ap (λ x. first comes_before k (x ++ leads opens queue)) (sym g);
+        bounds = all_moved Sound (nodes_of starts) queue q (all_nodes Sound starts b);
+      }
+
+  -- a node is opened
+  pub node_next : (total : List Hit) (k page level bound : ℕ) (items old rest new : List Item) (now found : List Hit) → Searching total k now old → IsNext (Node page level bound) rest old → items ≡ opens page level → AllByRecursion (IsGivenAt level) items → IsPermutation (nodes_of items ++ rest) new → found ≡ first comes_before k (now ++ places_of items) → Searching total k found new
+  node_next total k page level bound items old rest new now found s n o g p f =
+      let node = Node page level bound in
+      let given : AllByRecursion (IsGivenAt level) (opens page level) = subst (AllByRecursion (IsGivenAt level)) o g in
+      let under : below opens level page ≡ leads opens items = below_leads level page given ∙ ap (leads opens) (sym o) in
+      let bounds : Bounds opens (node ∷ rest) = all_moved Sound old (node ∷ rest) n.members s.bounds in
+      let sound : Bounds opens items = subst (Bounds opens) (sym o) (opened_sound level page given bounds.0.1) in
+      let moved : SameMembers (now ++ leads opens old) ((now ++ places_of items) ++ leads opens new) = λ f. all_sums f under in
+      record {
+        same = s.same ∙ ap (take k) (sym (ranked_same hits_linear (now ++ leads opens old) ((now ++ places_of items) ++ leads opens new) moved)) ∙ sym (first_absorbed k (now ++ places_of items) (leads opens new)) ∙ ap (λ x. first comes_before k (x ++ leads opens new)) (sym f);
+        bounds = all_moved Sound (nodes_of items ++ rest) new p (all_append Sound (nodes_of items) rest (all_nodes Sound items sound) bounds.1);
+      }
+    where
+      all_sums : (f : Hit → ℕ) → below opens level page ≡ leads opens items → sum_by f ((now ++ places_of items) ++ leads opens new) ≡ sum_by f (now ++ leads opens old)
+      all_sums f under =
+          let a = sum_by-append f (now ++ places_of items) (leads opens new) in
+          let b = sum_by-append f now (places_of items) in
+          let c = sum_by-append f now (leads opens old) in
+          let d = leads_moved f old (Node page level bound ∷ rest) n.members in
+          let e = sum_by-append f (below opens level page) (leads opens rest) in
+          let g = leads_moved f (nodes_of items ++ rest) new p in
+          let h : sum_by f (leads opens (nodes_of items ++ rest)) ≡ sum_by f (leads opens (nodes_of items)) + sum_by f (leads opens rest) = ap (sum_by f) (flat_map-append (reached opens) (nodes_of items) rest) ∙ sum_by-append f (leads opens (nodes_of items)) (leads opens rest) in
+          let i : sum_by f (below opens level page) ≡ sum_by f (leads opens items) = ap (sum_by f) under in
+          omega (arith, leads_split f items)
+
+  -- nothing waits any more
+  pub none_waits : (total : List Hit) (k : ℕ) (found : List Hit) (queue : List Item) → queue ≡ [] → Searching total k found queue → IsRanked comes_before found → length found ≤ k → found ≡ first comes_before k total
+  none_waits total k found queue e s r l = sym (s.same ∙ ap (λ q. first comes_before k (found ++ leads opens q)) e ∙ ap (first comes_before k) (append-nil found) ∙ first_own k found r l)
+
+  -- no place that an item leads to costs less than a bound that its own is above
+  pub item_ahead : (bound : ℕ) (i : Item) → bound ≤ bound_of i → IsBound opens i → IsAhead opens bound i
+  item_ahead bound (Node page level b) l h = all_weaker (λ (h : Hit). b ≤ h.cost) (λ (h : Hit). bound ≤ h.cost) (λ h q. omega arith) (below opens level page) h
+  item_ahead bound (Place hit) l h = (l, tt)
+
+  pub items_ahead : (bound : ℕ) (items : List Item) → AllByRecursion (λ (i : Item). bound ≤ bound_of i) items → Bounds opens items → AllByRecursion (IsAhead opens bound) items
+  items_ahead bound [] l b = tt
+  items_ahead bound (i ∷ items) l b = (item_ahead bound i l.0 b.0.0, items_ahead bound items l.1 b.1)
+
+  -- k places cost less than any that waits
+  pub enough : (total : List Hit) (k page level bound : ℕ) (old rest : List Item) (found : List Hit) → Searching total k found old → IsNext (Node page level bound) rest old → IsRanked comes_before found → length found ≤ k → k ≤ cheaper bound found → found ≡ first comes_before k total
+  enough total k page level bound old rest found s n r l c =
+      let node = Node page level bound in
+      let bounds : Bounds opens (node ∷ rest) = all_moved Sound old (node ∷ rest) n.members s.bounds in
+      let later : AllByRecursion (IsAhead opens bound) (node ∷ rest) = (bounds.0.0, items_ahead bound rest n.least bounds.1) in
+      let all_later : AllByRecursion (λ (h : Hit). bound ≤ h.cost) (leads opens old) = flat_all (λ (h : Hit). bound ≤ h.cost) (reached opens) old (all_back (IsAhead opens bound) later) in
+      let some = cheaper_some bound found in
+      let front = all_cheaper bound found (omega arith) in
+      sym (s.same ∙ first_front k found (leads opens old) r (omega arith) (all_weaker (λ (h : Hit). h.cost < bound) (λ (h : Hit). AllByRecursion (λ y. comes_before y h ≡ false) (leads opens old)) (λ h q. all_weaker (λ (y : Hit). bound ≤ y.cost) (λ y. comes_before y h ≡ false) (λ y z. below_cost h y (omega arith)) (leads opens old) all_later) found front))
+    where
+      all_back : (P : Item → Type 0) → AllByRecursion P (Node page level bound ∷ rest) → AllByRecursion P old
+      all_back P h = all_moved P (Node page level bound ∷ rest) old (IsPermutation-sym old (Node page level bound ∷ rest) n.members) h
+
+-- how much work a waiting item is, at most
+abbrev pub node_weight : ℕ → ℕ
+node_weight zero = 1
+node_weight (suc l) = 1 + 32 * node_weight l
+
+abbrev pub weight : Item → ℕ
+weight (Node page level bound) = node_weight level
+weight (Place hit) = 0
+
+abbrev pub work : List Item → ℕ
+work items = sum_by weight items
+
+abbrev pub child_weight : ℕ → ℕ
+child_weight zero = 0
+child_weight (suc l) = node_weight l
+
+node_is : (level : ℕ) → node_weight level ≡ 1 + 32 * child_weight level
+node_is zero = refl
+node_is (suc l) = refl
+
+children_light : (level : ℕ) (items : List Item) → AllByRecursion (IsGivenAt level) items → work (nodes_of items) ≤ length items * child_weight level
+children_light level [] g = omega arith
+children_light zero (Node page l bound ∷ items) g = absurd g.0
+children_light (suc level) (Node page l bound ∷ items) g = omega (arith, sum_by-cons weight (Node page l bound) (nodes_of items), ap node_weight g.0, children_light (suc level) items g.1)
+children_light level (Place hit ∷ items) g = omega (arith, children_light level items g.1)
+
+mul_le : (a b m : ℕ) → a ≤ b → a * m ≤ b * m
+mul_le a b m q = grind arith
+
+-- an opened node leaves less work
+pub node_smaller : (page level bound : ℕ) (items old rest new : List Item) → IsNext (Node page level bound) rest old → length items ≤ 32 → AllByRecursion (IsGivenAt level) items → IsPermutation (nodes_of items ++ rest) new → work new < work old
+node_smaller page level bound items old rest new n f g p =
+    let node = Node page level bound in
+    let a = sum_by-IsPermutation weight old (node ∷ rest) n.members in
+    let b = sum_by-cons weight node rest in
+    let d = sum_by-IsPermutation weight (nodes_of items ++ rest) new p in
+    let e = sum_by-append weight (nodes_of items) rest in
+    let c = children_light level items g in
+    let m = mul_le (length items) 32 (child_weight level) f in
+    omega (arith, node_is level)

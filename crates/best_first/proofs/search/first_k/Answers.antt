@@ -1,0 +1,81 @@
+use Rattle.std.proofs.Common.{◌∙◌, ap, ◌++◌, Err, subst, Vec, Global}
+use Rattle.std.proofs.lemmas.Result.{err_from_is_err_and}
+use Rattle.page_face.proofs.Frames.{reads_then}
+use Rattle.btree_nodes.proofs.Walks.{same-fault}
+use Rattle.place_map.specs.declared.hit.Hit.{Hit}
+use Rattle.best_first.specs.Items.{places_of}
+use Rattle.best_first.proofs.Firsts.{kept_ranked, kept_short}
+use Rattle.best_first.proofs.Steps.{started, node_next, none_waits, enough, node_smaller}
+use Rattle.best_first.proofs.Histories.{begun, opened, ended}
+use Rattle.best_first.proofs.search.first_k.Goals as goal
+
+pub search-init : goal.search-init
+search-init g c =
+    let opens = g.R.Ranked.opens c.args.ranked.now c.args.pages.now in
+    let items = c.deref.result.now in
+    let value = c.deref.ensures.value in
+    let given = c.in_ok-items.ensures in
+    let sorted = c.in_ok-sort_in.ensures in
+    record {
+      opens = c.start.ensures.same_opens;
+      held = given.held ∙ c.requires;
+      fits = c.start.ensures.fits;
+      harms = c.start.ensures.same_harms;
+      frame = c.start.ensures.frame;
+      ranked = kept_ranked c.args.k (c.new-found.result.items ++ places_of items) _ sorted.found;
+      short = kept_short c.args.k (c.new-found.result.items ++ places_of items) _ sorted.found;
+      search = λ f. started opens (g.R.Ranked.starts c.args.ranked.now c.args.pages.now) items c.args.k _ _ c.new-found.result.items _ c.new-queue.ensures c.new-found.ensures.items (value ∙ given.gives f) sorted.queue sorted.found (g.met.R.Ranked.starts_bounded c.args.ranked.now c.args.pages.now f);
+      history = begun _ _ _ _ _ _ items _ _ c.new-found.result.items _ _ _ c.args.k c.new-queue.ensures c.new-found.ensures.items sorted.queue sorted.found (rw value given.alone) (λ f. value ∙ given.gives f) c.start.ensures.asks (λ f. rw value (given.asks_given f));
+    }
+
+pub search-smaller : goal.search-smaller
+search-smaller g c =
+    let value = c.deref-in-Some-2.ensures.value in
+    node_smaller c.in-Some.node.page c.in-Some.node.level c.in-Some.node.bound c.deref-in-Some-2.result.now _ _ _ c.in-Some.ensures.some (rw value c.in_ok-items-2.ensures.few) (rw value c.in_ok-items-2.ensures.children) c.in_ok-sort_in-2.ensures.queue
+
+pub search-preserved : goal.search-preserved
+search-preserved g c =
+    let opens = g.R.Ranked.opens c.args.ranked.now c.args.pages.now in
+    let kept = c.search.invariant in
+    let items = c.deref-in-Some-2.result.now in
+    let value = c.deref-in-Some-2.ensures.value in
+    let node = c.in-Some.node in
+    let given = c.in_ok-items-2.ensures in
+    let sorted = c.in_ok-sort_in-2.ensures in
+    let few = rw c.deref-in-Some.ensures.value at (c.is_settled.ensures.unsettled c.if-is_settled.false) in
+    record {
+      opens = c.open.ensures.same_opens ∙ kept.opens;
+      held = given.held ∙ kept.held;
+      fits = λ f. c.open.ensures.fits (kept.fits f);
+      harms = λ old new damage h. kept.harms old new damage (c.open.ensures.same_harms old new damage h);
+      frame = reads_then g.P.Pages g.met.P.Pages.goes_further g.met.P.Pages.reads_further _ _ _ kept.frame c.open.ensures.frame;
+      ranked = kept_ranked c.args.k (c.search.found.items ++ places_of items) _ sorted.found;
+      short = kept_short c.args.k (c.search.found.items ++ places_of items) _ sorted.found;
+      search = λ f. node_next opens _ c.args.k node.page node.level node.bound items _ _ _ c.search.found.items _ (kept.search f) c.in-Some.ensures.some (value ∙ given.gives (kept.fits f) ∙ ap (λ o. o node.page node.level) kept.opens) (rw value given.children) sorted.queue sorted.found;
+      history = opened _ _ _ opens _ _ _ _ _ c.args.k node.page node.level node.bound items _ _ _ c.search.found.items _ _ few c.in-Some.ensures.some sorted.queue sorted.found (rw (← kept.frame.pages) c.open.ensures.asks) given.asked (rw value (rw (← kept.frame.pages) given.stand)) (rw value given.children) (λ f. value ∙ given.gives (kept.fits f) ∙ ap (λ o. o node.page node.level) kept.opens) kept.search kept.history;
+    }
+
+pub returns-then-is_settled-clause-found : goal.returns-then-is_settled-clause-found
+returns-then-is_settled-clause-found g c = λ f. enough (g.R.Ranked.opens c.args.ranked.now c.args.pages.now) _ c.args.k c.in-Some.node.page c.in-Some.node.level c.in-Some.node.bound _ _ c.search.found.items (c.search.invariant.search f) c.in-Some.ensures.some c.search.invariant.ranked c.search.invariant.short (rw c.deref-in-Some.ensures.value at (c.is_settled.ensures.settled c.if-is_settled.true))
+
+pub returns-then-is_settled-clause-opened : goal.returns-then-is_settled-clause-opened
+returns-then-is_settled-clause-opened g c = ended _ _ _ _ _ _ _ _ _ _ _ c.search.invariant.ranked c.search.invariant.history
+
+pub returns-clause-found : goal.returns-clause-found
+returns-clause-found g c = λ f. none_waits (g.R.Ranked.opens c.args.ranked.now c.args.pages.now) _ c.args.k c.search.found.items _ c.in_default.ensures.none (c.search.invariant.search f) c.search.invariant.ranked c.search.invariant.short
+
+pub returns-clause-opened : goal.returns-clause-opened
+returns-clause-opened g c = ended _ _ _ _ _ _ _ _ _ _ _ c.search.invariant.ranked c.search.invariant.history
+
+pub returns-in_err-sort_in-2-clause-frame : goal.returns-in_err-sort_in-2-clause-frame
+returns-in_err-sort_in-2-clause-frame g c = reads_then g.P.Pages g.met.P.Pages.goes_further g.met.P.Pages.reads_further _ _ _ c.search.invariant.frame c.open.ensures.frame
+
+pub returns-in_err-items-2-clause-damaged : goal.returns-in_err-items-2-clause-damaged
+returns-in_err-items-2-clause-damaged g c =
+    let passed = err_from_is_err_and c.from_residual-in_err-items-2.result c.from_residual-in_err-items-2.ensures.1 in
+    let log = c.search.invariant.history.told.log in
+    rw (passed.1, passed.2) (λ damage e.
+    let harm = c.open.ensures.damaged damage (c.in_err-items-2.was ∙ ap Err (same-fault {T = Vec Hit Global} _ _ e)) in
+    g.met.R.Ranked.harms_sooner c.args.ranked.now c.args.pages.now (g.P.Pages.asked c.args.pages.now) log.more _ damage
+    (subst (λ l. g.R.Ranked.harms c.args.ranked.now c.args.pages.now l (g.P.Pages.asked c.open.new.pages) damage) log.log
+    (c.search.invariant.harms _ _ damage harm)))

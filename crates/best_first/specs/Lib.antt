@@ -1,0 +1,5 @@
+pub mod Items
+pub mod Leads
+pub mod Queue
+pub mod Openings
+pub mod Faults

@@ -1,0 +1,97 @@
+//! What a best-first search goes over.
+ghost use Rattle.std.specs.Prelude.{◌≡◌, ◌≢◌, ℕ, ◌≤◌, List, ◌∷◌, [], ◌++◌, length, Option, Err, IfOk, IsErrOf};
+ghost use Rattle.std.specs.List.{AllByRecursion};
+ghost use Rattle.page_face.specs.Calls.{Reads, FailsReading};
+ghost use Rattle.btree_nodes.specs.Damages.{AskedSince};
+ghost use Rattle.best_first.specs.declared.item.Item.{Item};
+ghost use Rattle.best_first.specs.Items.{IsGivenAt, IsRootAlone, pages_of};
+ghost use Rattle.best_first.specs.Leads.{Bounds};
+ghost use Rattle.best_first.specs.Openings.{AsksNodes};
+ghost use Rattle.best_first.specs.Faults.{held_after};
+
+use crate::Item;
+use page_face::{Damage, PageFault, Pages};
+use std::alloc::Global;
+
+/// Opens the nodes of a tree over pages for one query: it decides which nodes may hold an answer, bounds what the places below each
+/// node cost, and turns the entries of a leaf into hits.
+///
+/// A node's bound, and whether it is given at all, come from its parent, so that a node which isn't opened costs no page.
+pub trait Ranked<P: Pages> {
+    ghost use Rattle.std.specs.Prelude.{ℕ, List, Option};
+    ghost use Rattle.page_face.specs.declared.fault.PageFault.{PageFault};
+    ghost use Rattle.page_face.specs.declared.fault.Damage.{Damage};
+
+    /// Whether the pages hold a tree as it has to be.
+    ghost fits: { Self → P → Type 0 };
+
+    /// What `start` gives where the pages fit.
+    ghost starts: { Self → P → List Item };
+
+    /// What `open` gives for a node's page and level where the pages fit.
+    ghost opens: { Self → P → ℕ → ℕ → List Item };
+
+    /// The root's page.
+    ghost root: { Self → ℕ };
+
+    /// Whether an item stands in the bytes of a page as a node of a level.
+    ghost stands: { List ℕ → ℕ → Item → Type 0 };
+
+    /// What a damage says of the pages that were asked for between two logs.
+    ghost harms: { Self → P → List ℕ → List ℕ → Damage → Type 0 };
+
+    /// The last fault other than want of memory.
+    ghost held: { Self → Option PageFault };
+
+    /// Gives the root, or nothing where no place below it can be an answer. Where the pages fit, the root is asked for only if it is given.
+    ///
+    /// Refuses `Damaged`, `Disk`, `Stopped` and `Memory`.
+    fn start(&mut self, alloc: Global, pages: &mut P) -> Result<Vec<Item>, PageFault>
+        ensures gives { fits self.old pages.old → IfOk result (λ items. items.items ≡ starts self.old pages.old) }
+        ensures alone { IfOk result (λ items. IsRootAlone (root self.old) items.items) }
+        ensures asks { AsksNodes (P.pages pages.old) (root self.old ∷ []) (P.asked pages.old) (P.asked pages.new) }
+        ensures asks_given { fits self.old pages.old → IfOk result (λ items. AsksNodes (P.pages pages.old) (pages_of items.items) (P.asked pages.old) (P.asked pages.new)) }
+        ensures damaged { (damage : Damage) → IsErrOf result (PageFault.Damaged damage) → harms self.old pages.old (P.asked pages.old) (P.asked pages.new) damage }
+        ensures honest { fits self.old pages.old → (damage : Damage) → result ≢ Err (PageFault.Damaged damage) }
+        ensures fails { FailsReading P.Pages pages.old pages.new result }
+        ensures frame { Reads P.Pages pages.old pages.new }
+        ensures held { held self.new ≡ held_after result (held self.old) }
+        ensures fits { fits self.old pages.old → fits self.new pages.new }
+        ensures same_starts { starts self.new pages.new ≡ starts self.old pages.old }
+        ensures same_opens { opens self.new pages.new ≡ opens self.old pages.old }
+        ensures same_harms { (old new : List ℕ) (damage : Damage) → harms self.new pages.new old new damage → harms self.old pages.old old new damage }
+        ensures same_root { root self.new ≡ root self.old };
+
+    /// Opens a node: gives the places of a leaf that may be answers, and of every other node the children below which one may be, each with its bound.
+    ///
+    /// Refuses `Damaged`, `Disk`, `Stopped` and `Memory`.
+    fn open(
+        &mut self,
+        alloc: Global,
+        pages: &mut P,
+        node: u32,
+        level: u8,
+    ) -> Result<Vec<Item>, PageFault>
+        ensures gives { fits self.old pages.old → IfOk result (λ items. items.items ≡ opens self.old pages.old node level) }
+        ensures few { IfOk result (λ items. length items.items ≤ 32) }
+        ensures children { IfOk result (λ items. AllByRecursion (IsGivenAt level) items.items) }
+        ensures stand { IfOk result (λ items. AllByRecursion (stands (P.pages pages.old node) level) items.items) }
+        ensures asked { IfOk result (λ items. AskedSince (P.asked pages.old) (P.asked pages.new) node) }
+        ensures asks { AsksNodes (P.pages pages.old) (node ∷ []) (P.asked pages.old) (P.asked pages.new) }
+        ensures damaged { (damage : Damage) → IsErrOf result (PageFault.Damaged damage) → harms self.old pages.old (P.asked pages.old) (P.asked pages.new) damage }
+        ensures honest { fits self.old pages.old → (damage : Damage) → result ≢ Err (PageFault.Damaged damage) }
+        ensures fails { FailsReading P.Pages pages.old pages.new result }
+        ensures frame { Reads P.Pages pages.old pages.new }
+        ensures held { held self.new ≡ held_after result (held self.old) }
+        ensures fits { fits self.old pages.old → fits self.new pages.new }
+        ensures same_starts { starts self.new pages.new ≡ starts self.old pages.old }
+        ensures same_opens { opens self.new pages.new ≡ opens self.old pages.old }
+        ensures same_harms { (old new : List ℕ) (damage : Damage) → harms self.new pages.new old new damage → harms self.old pages.old old new damage }
+        ensures same_root { root self.new ≡ root self.old };
+
+    /// Where the pages fit, no place costs less than the bound of a node that leads to it.
+    ghost starts_bounded: { (s : Self) (p : P) → fits s p → Bounds (opens s p) (starts s p) };
+
+    /// What a damage says of the pages asked for last, it says of all that were asked for.
+    ghost harms_sooner: { (s : Self) (p : P) (old more new : List ℕ) (damage : Damage) → harms s p (old ++ more) new damage → harms s p old new damage };
+}
