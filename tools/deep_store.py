@@ -31,7 +31,7 @@ def main():
         pages.append(page(2, levels - 1 - depth, cells))
     value = struct.pack(">ii", 10, 20).ljust(VALUE, b"\0")
     pages.append(page(1, 0, [form(name) + value for name in (b"v", b"w", b"x")]))
-    head = b"IRTREE00" + struct.pack(">IIIIIIIIQQQ", levels + 1, 0, 1, 0, 0, 0, 0, 3, 1, 3, 1)
+    head = b"IRTREE01" + struct.pack(">IIIIIIIIQQQ", levels + 1, 0, 1, 0, 0, 0, 0, 3, 1, 3, 1)
     with open(store, "wb") as out:
         out.write(head.ljust(4096, b"\0") + b"".join(pages))
 

@@ -8,10 +8,7 @@ use Rattle.page_face.specs.FreeList.{PageMap}
 use Rattle.page_face.specs.declared.head.Head.{Head}
 use Rattle.page_store.specs.Superblock.{IsInRange}
 use Rattle.page_store.specs.declared.superblock.Superblock.{Superblock}
-use Rattle.btree_nodes.specs.declared.form.Form.{Form}
 use Rattle.btree_nodes.specs.Supply.{view}
-use Rattle.btree_nodes.specs.Tree.{level_of, map_uses, uses}
-use Rattle.btree_nodes.proofs.Supplies.{one_at-same}
 use Rattle.place_map.specs.declared.place.Place.{Place}
 use Rattle.place_map.specs.declared.update.Applied.TheVariants.{New, Replaced, Gone, Absent}
 use Rattle.place_map.specs.declared.update.UpdateFault.TheVariants.{Full, Worn}
@@ -29,11 +26,12 @@ use Rattle.store_tables.specs.Entries.{place_of_key, without_place}
 use Rattle.store_tables.specs.Holding.{IsApart, IsChanged, numbers_form, places_form, table_uses, texts_form}
 use Rattle.store_tables.proofs.ToldLemmas.{apart-counted}
 use Rattle.store_meaning.specs.Stands.{PagesStand, tables_in}
-use Rattle.store_meaning.specs.Updates.{after_put, after_remove, numbered_for}
+use Rattle.store_meaning.specs.Updates.{after_put, after_remove, by_number, numbered_for, stored_with}
 use Rattle.store_meaning.proofs.Changes.{lives-before, live-before, next-then, stand-put, stand-remove}
 use Rattle.store_meaning.proofs.Places.{length-without_place}
 use Rattle.irtree_engine.specs.Changes.{block_with, head_with, tree_in}
-use Rattle.irtree_engine.proofs.Trees.{entry-in, point_in, regrown-range}
+use Rattle.store_meaning.proofs.Trees.{root-used}
+use Rattle.irtree_engine.proofs.Trees.{regrown-range}
 
 -- ---- the same pages
 
@@ -45,16 +43,6 @@ stand-same head p q m n i j state pages count first stand =
     (subst (λ (r : PageMap). PagesStand (block_with m i head) r state) (sym pages) stand))
 
 -- ---- roots
-
--- a tree uses its first page
-top-used : (form : Form) (pages : PageMap) (level page : ℕ) → 1 ≤ uses form pages level page page
-top-used form pages zero page = omega (arith, one_at-same page)
-top-used form pages (suc level) page = omega (arith, one_at-same page)
-
--- a map uses its root
-root-used : (form : Form) (pages : PageMap) (root : ℕ) → 0 < root → 1 ≤ map_uses form pages root root
-root-used form pages zero some = absurd (omega arith)
-root-used form pages (suc m) some = top-used form pages (level_of (pages (suc m))) (suc m)
 
 -- a page that is used is counted, and so is page 0
 used-counted : (pages : PageMap) (count first : ℕ) (free : List ℕ) (tables : Tables) → IsApart (view pages count first free) tables → (n : ℕ) → (0 < n → 0 < table_uses pages tables n) → n < count
@@ -225,13 +213,13 @@ module _ (head : Head) (count first : ℕ) (pages : PageMap) (state : states.Con
   below-last less = ⊎_elim (λ (below : head.number < 2 ^ 40). below) (λ (above : 2 ^ 40 ≤ head.number). absurd (less (let most = stand.tables.range.number in omega (arith, most, above)))) (cases_lt head.number (2 ^ 40))
 
   module _ (between : PageMap) (count_between first_between : ℕ) (counted : first_between < count_between) (more : count ≤ count_between) (tables : Tables)
-      (after : PageMap) (count_after first_after : ℕ) (counted_after : first_after < count_after) (more_after : count_between ≤ count_after) (tree : Tree) (rows : tree.rows ≡ head.rows) where
+      (after : PageMap) (count_after first_after : ℕ) (counted_after : first_after < count_after) (more_after : count_between ≤ count_after) (tree : Tree) where
     -- after a put of the tables and then of the tree, page 0's fields and the pages stand for the state with the place
     pub put-stands : (point : Position) (words : List (List ℕ × ℕ)) (serial live : ℕ) → IsWordMap words → (is_none found ≡ true → head.live < 200000) → head.live < 2 ^ 32 → head.number ≢ 2 ^ 40
         → head.serial ≤ serial → serial ≤ head.number + 2 → IsSerialAbove serial key → live ≡ cond (is_none found) (head.live + 1) head.live
         → tables.next_word ≡ (numbered_for key words head.next_word stand.entries).next_word
         → (changed : IsChanged (view pages count first stand.tables.free) (tables_in head) between count_between first_between tables (after_put key point words head.next_word stand.entries))
-        → IsRegrown node_of (stock.view between head.rows count_between first_between changed.free) after tree.rows count_after first_after head.tree tree.root (option_map (entry_at key) (point_in found)) (Some (entry_at key point))
+        → IsRegrown node_of (stock.view between head.rows count_between first_between changed.free) after tree.rows count_after first_after head.tree tree.root (option_map (entry_at key) found) (Some (entry_at key (stored_with point (by_number (numbered_for key words head.next_word stand.entries).pairs))))
         → PagesStand (block_with count_after first_after (head_with head tables tree live serial)) after (put_at state key serial (record { point = point; words = words })).state
     put-stands point words serial live map_of_words room small less later serials above lives_then next_is changed regrown =
         let left = room-left room small in
@@ -239,19 +227,18 @@ module _ (head : Head) (count first : ℕ) (pages : PageMap) (state : states.Con
         let words_then : head.next_word ≤ tables.next_word = omega (arith, next.0, next_is) in
         let words_most : tables.next_word ≤ 64 * (head.number + 1 + 1) = omega (arith, next.1, next_is) in
         let range = after-range (block_with count first head) stand.tables.range between count_between first_between tables live serial changed.free changed.apart counted more (below-last less) later serials words_then words_most in
-        let within = regrown-range head tables live serial count_between first_between range (stock.view between head.rows count_between first_between changed.free) after count_after first_after tree (option_map (entry_at key) (point_in found)) (Some (entry_at key point)) regrown more_after counted_after rows in
-        let gone : option_map (entry_at key) (point_in found) ≡ option_map (λ (stored : Stored). entry_at key stored.point) (place_of_key key stand.entries.places) =
-        entry-in key found ∙ ap (option_map (λ (stored : Stored). entry_at key stored.point)) is_found in
+        let within = regrown-range head tables live serial count_between first_between range (stock.view between head.rows count_between first_between changed.free) after count_after first_after tree (option_map (entry_at key) found) (Some (entry_at key (stored_with point (by_number (numbered_for key words head.next_word stand.entries).pairs)))) regrown more_after counted_after in
+        let gone : option_map (entry_at key) found ≡ option_map (entry_at key) (place_of_key key stand.entries.places) = ap (option_map (entry_at key)) is_found in
         subst (λ (e : Effect). PagesStand (block_with count_after first_after (head_with head tables tree live serial)) after e.state) (sym (put-done serial (record { point = point; words = words }) room less))
         (stand-put (block_with count first head) pages state stand key point words map_of_words left (block_with count_between first_between (head_with head tables (tree_in head) live serial)) between changed range refl refl next_is later above (counts-more live lives_then)
         (block_with count_after first_after (head_with head tables tree live serial)) after
-        (subst (λ (item : Option Item). IsRegrown node_of (stock.view between head.rows count_between first_between changed.free) after tree.rows count_after first_after head.tree tree.root item (Some (entry_at key point))) gone regrown)
-        within (record { rows = rows; tables = refl; serial = refl; live = refl }))
+        (subst (λ (item : Option Item). IsRegrown node_of (stock.view between head.rows count_between first_between changed.free) after tree.rows count_after first_after head.tree tree.root item (Some (entry_at key (stored_with point (by_number (numbered_for key words head.next_word stand.entries).pairs))))) gone regrown)
+        within (record { tables = refl; serial = refl; live = refl }))
 
     -- after a removal from the tables and then from the tree, they stand for the state without the place
     pub remove-stands : (stored : Stored) (live : ℕ) → found ≡ Some stored → head.number ≢ 2 ^ 40 → live + 1 ≡ head.live → tables.next_word ≡ head.next_word
         → (changed : IsChanged (view pages count first stand.tables.free) (tables_in head) between count_between first_between tables (after_remove key stand.entries))
-        → IsRegrown node_of (stock.view between head.rows count_between first_between changed.free) after tree.rows count_after first_after head.tree tree.root (Some (entry_at key stored.point)) None
+        → IsRegrown node_of (stock.view between head.rows count_between first_between changed.free) after tree.rows count_after first_after head.tree tree.root (Some (entry_at key stored)) None
         → PagesStand (block_with count_after first_after (head_with head tables tree live head.serial)) after (removed_at state key).state
     remove-stands stored live there less lives_then next_is changed regrown =
         let some : is_some found ≡ true = ap is_some there in
@@ -259,7 +246,7 @@ module _ (head : Head) (count first : ℕ) (pages : PageMap) (state : states.Con
         let most = stand.tables.range.words in
         let serials = stand.tables.range.serials in
         let range = after-range (block_with count first head) stand.tables.range between count_between first_between tables live head.serial changed.free changed.apart counted more (below-last less) (omega arith) (omega (arith, serials)) (omega (arith, next_is)) (omega (arith, next_is, most)) in
-        let within = regrown-range head tables live head.serial count_between first_between range (stock.view between head.rows count_between first_between changed.free) after count_after first_after tree (Some (entry_at key stored.point)) None regrown more_after counted_after rows in
+        let within = regrown-range head tables live head.serial count_between first_between range (stock.view between head.rows count_between first_between changed.free) after count_after first_after tree (Some (entry_at key stored)) None regrown more_after counted_after in
         subst (λ (e : Effect). PagesStand (block_with count_after first_after (head_with head tables tree live head.serial)) after e.state) (sym (remove-done some less))
         (stand-remove (block_with count first head) pages state stand key (block_with count_between first_between (head_with head tables (tree_in head) live head.serial)) between changed range refl refl next_is refl (omega (arith, one, lives_then))
-        stored (sym is_found ∙ there) (block_with count_after first_after (head_with head tables tree live head.serial)) after regrown within (record { rows = rows; tables = refl; serial = refl; live = refl }))
+        stored (sym is_found ∙ there) (block_with count_after first_after (head_with head tables tree live head.serial)) after regrown within (record { tables = refl; serial = refl; live = refl }))

@@ -1,7 +1,6 @@
 //! One update of the tables, the tree and page 0's fields, over any pages.
-ghost use Rattle.std.specs.Prelude.{◌≡◌, ℕ, ◌≤◌, ◌<◌, ◌+◌, ◌^◌, ◌↔◌, Ok, IsTrue, IfOk, IfErr, OnOk, IsErrOf, length, option_map};
+ghost use Rattle.std.specs.Prelude.{◌≡◌, ℕ, ◌≤◌, ◌<◌, ◌+◌, ◌^◌, ◌↔◌, Ok, IsTrue, IfOk, IfErr, OnOk, IsErrOf, length};
 ghost use Rattle.std.specs.List.{AllByRecursion};
-ghost use Rattle.std.specs.Option.{option_copied};
 ghost use Rattle.page_face.specs.Causes.{Rose};
 ghost use Rattle.btree_nodes.specs.Damages.{AreTold};
 ghost use Rattle.place_map.specs.Restored.{IsSerialAbove};
@@ -21,7 +20,7 @@ use row_codec::PAIRS_MAX;
 use spatial_base::{Key, Point};
 use split_policy::SplitPolicy;
 use std::alloc::Global;
-use store_tables::{Stored, Tables};
+use store_tables::Tables;
 use term_impacts::Words;
 use tree_updates::{put_entry, take_entry};
 
@@ -146,13 +145,6 @@ fn tree_of(head: &Head) -> Tree
     }
 }
 
-// Where the place is that was found.
-fn point_of(found: Option<&Stored>) -> Option<Point>
-    ensures { result ≡ option_map (λ stored. stored.point) (option_copied found.entry) }
-{
-    found.map(|stored| stored.point)
-}
-
 // Page 0's fields after a change of the tables and the tree.
 fn head_after(head: &Head, tables: &Tables, tree: &Tree, live: u32, serial: u64) -> Head
     requires { head.now.number ≤ 2 ^ 40 }
@@ -213,10 +205,9 @@ fn put<P: Pages>(
     }
     // So the next word number keeps its range.
     prove!(words.pairs().len() <= PAIRS_MAX);
-    put_place(alloc, pages, &mut tables, key, old.as_ref(), point, words)?;
+    let new = put_place(alloc, pages, &mut tables, key, old.as_ref(), point, words)?;
     let mut tree = tree_of(head);
-    let at = point_of(old.as_ref());
-    put_entry(alloc, pages, &mut tree, policy, key, at, point)?;
+    put_entry(alloc, pages, &mut tree, policy, key, old.as_ref(), &new)?;
     let live = if is_new { head.live + 1 } else { head.live };
     *head = head_after(head, &tables, &tree, live, serial);
     Ok(if is_new {
@@ -265,7 +256,7 @@ fn remove<P: Pages>(
     }
     remove_place(pages, &mut tables, key, &old)?;
     let mut tree = tree_of(head);
-    take_entry(alloc, pages, &mut tree, policy, key, old.point)?;
+    take_entry(alloc, pages, &mut tree, policy, key, &old)?;
     *head = head_after(head, &tables, &tree, head.live - 1, head.serial);
     Ok(Applied::Gone)
 }

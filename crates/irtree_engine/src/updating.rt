@@ -32,9 +32,10 @@ impl<'d, D: Station> Engine<'d, D> {
     /// put in the tables of words, and one commit of the pages that changed: two writes and two syncs. From time to time a checkpoint comes
     /// first, which writes each page of the journal to its place, with two syncs more.
     ///
-    /// In the tree a new place costs one way down: a page a level is read, and those that change are written. A place that moves costs
-    /// also a search for its old entry, through each node whose rectangle holds the old point, and a removal costs such a search; where a
-    /// node is left with fewer than 12 entries, a way down for each of them. A place that is put where it was costs nothing there.
+    /// In the tree a new place costs one way down: for each level a page and a row for each of the place's words are read, and those
+    /// that change are written. A place that moves or whose words change costs also a search for its old entry, through each node whose
+    /// rectangle holds the old point, and the rows of its way; a removal costs such a search and its rows; where a node is left with fewer
+    /// than 12 entries, a way down for each of them. A place that is put where it was with the words that it had costs nothing there.
     pub fn apply(&mut self, update: &Update) -> Result<Applied, EngineFault>
         requires { NamesText update.now }
         ensures same_loan { self.new.store.disk.ghost_name ≡ self.old.store.disk.ghost_name }

@@ -111,7 +111,7 @@ fn where_no_page_is_left_the_run_ends(rt: HostRuntime) -> Result<(), Fail> {
 #[test]
 fn an_update_number_that_is_worn_takes_no_change(rt: HostRuntime) -> Result<(), Fail> {
     let mut page =
-        b"IRTREE00\0\0\0\x01\0\0\0\0\0\0\0\0\0\0\0\0\0\0\0\0\0\0\0\0\0\0\0\0\0\0\0\0\0\0\0\0\0\0\0\x01\0\0\x01\0\0\0\0\0\0\0\0\0\0\0\0\x01".to_vec(
+        b"IRTREE01\0\0\0\x01\0\0\0\0\0\0\0\0\0\0\0\0\0\0\0\0\0\0\0\0\0\0\0\0\0\0\0\0\0\0\0\0\0\0\0\x01\0\0\x01\0\0\0\0\0\0\0\0\0\0\0\0\x01".to_vec(
             rt.alloc(),
         )?;
     page.resize(4096, 0)?;

@@ -18,9 +18,9 @@ long_at page at = from_be_bytes w64 (take 8 (drop at page))
 abbrev pub is_zero : List ℕ → Bool
 is_zero = list_all (λ b. b == 0)
 
--- the text IRTREE00
+-- the text IRTREE01
 abbrev pub magic : List ℕ
-magic = 73 ∷ 82 ∷ 84 ∷ 82 ∷ 69 ∷ 69 ∷ 48 ∷ 48 ∷ []
+magic = 73 ∷ 82 ∷ 84 ∷ 82 ∷ 69 ∷ 69 ∷ 48 ∷ 49 ∷ []
 
 -- the page begins with the magic
 abbrev pub HasMagic : List ℕ → Type 0

@@ -2,7 +2,7 @@
 //!
 //! | Bytes | Field |
 //! |---|---|
-//! | 0 to 7 | magic `IRTREE00` |
+//! | 0 to 7 | magic `IRTREE01` |
 //! | 8 to 11 | pages counted, page 0 included, u32, at least 1 |
 //! | 12 to 15 | first free page, u32, 0 for none |
 //! | 16 to 35 | roots of the place map, the words by text, the words by number, the rows' map and the tree, u32 each |
@@ -19,7 +19,7 @@ ghost use Rattle.page_store.specs.Superblock.{IsInRange, HasMagic, KeepsHead, Is
 
 use page_face::{Head, Page};
 
-const MAGIC: [u8; 8] = *b"IRTREE00";
+const MAGIC: [u8; 8] = *b"IRTREE01";
 
 /// The greatest update number.
 const NUMBER_MAX: u64 = 1 << 40;

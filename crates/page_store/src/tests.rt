@@ -27,26 +27,26 @@ static ROWS: [Row; 7] = [
         answer: Some(OpenFault::NotAStore),
     },
     Row {
-        page: b"IRTREE01\0\0\0\x01",
+        page: b"IRTREE00\0\0\0\x01",
         answer: Some(OpenFault::NotAStore),
     },
     // no page counted
     Row {
-        page: b"IRTREE00",
+        page: b"IRTREE01",
         answer: BROKEN,
     },
     // the first free page isn't counted
     Row {
-        page: b"IRTREE00\0\0\0\x02\0\0\0\x02\0\0\0\0\0\0\0\0\0\0\0\0\0\0\0\0\0\0\0\0\0\0\0\0\0\0\0\0\0\0\0\x01\0\0\0\0\0\0\0\0\0\0\0\0\0\0\0\x01",
+        page: b"IRTREE01\0\0\0\x02\0\0\0\x02\0\0\0\0\0\0\0\0\0\0\0\0\0\0\0\0\0\0\0\0\0\0\0\0\0\0\0\0\0\0\0\x01\0\0\0\0\0\0\0\0\0\0\0\0\0\0\0\x01",
         answer: BROKEN,
     },
     // a spare byte
     Row {
-        page: b"IRTREE00\0\0\0\x02\0\0\0\x01\0\0\0\0\0\0\0\0\0\0\0\0\0\0\0\0\0\0\0\0\0\0\0\0\0\0\0\0\0\0\0\x01\0\0\0\0\0\0\0\0\0\0\0\0\0\0\0\x01\x01",
+        page: b"IRTREE01\0\0\0\x02\0\0\0\x01\0\0\0\0\0\0\0\0\0\0\0\0\0\0\0\0\0\0\0\0\0\0\0\0\0\0\0\0\0\0\0\x01\0\0\0\0\0\0\0\0\0\0\0\0\0\0\0\x01\x01",
         answer: BROKEN,
     },
     Row {
-        page: b"IRTREE00\0\0\0\x02\0\0\0\x01\0\0\0\0\0\0\0\0\0\0\0\0\0\0\0\0\0\0\0\0\0\0\0\0\0\0\0\0\0\0\0\x01\0\0\0\0\0\0\0\0\0\0\0\0\0\0\0\x01",
+        page: b"IRTREE01\0\0\0\x02\0\0\0\x01\0\0\0\0\0\0\0\0\0\0\0\0\0\0\0\0\0\0\0\0\0\0\0\0\0\0\0\0\0\0\0\x01\0\0\0\0\0\0\0\0\0\0\0\0\0\0\0\x01",
         answer: None,
     },
 ];
@@ -78,7 +78,7 @@ fn image(alloc: Global, header: &[u8], pages: &[Page]) -> Result<Vec<u8>, AllocE
 fn a_free_list_that_runs_in_a_circle_is_safe(rt: HostRuntime) -> Result<(), Failure> {
     // three pages counted, the first free one 1, which names 2, which names 1
     let header =
-        b"IRTREE00\0\0\0\x03\0\0\0\x01\0\0\0\0\0\0\0\0\0\0\0\0\0\0\0\0\0\0\0\0\0\0\0\0\0\0\0\0\0\0\0\x01\0\0\0\0\0\0\0\0\0\0\0\0\0\0\0\x01";
+        b"IRTREE01\0\0\0\x03\0\0\0\x01\0\0\0\0\0\0\0\0\0\0\0\0\0\0\0\0\0\0\0\0\0\0\0\0\0\0\0\0\0\0\0\x01\0\0\0\0\0\0\0\0\0\0\0\0\0\0\0\x01";
     let image = image(rt.alloc(), header, &[free_page(2), free_page(1)])?;
     let mut station = MemoryStation::with_image(rt.alloc(), &image, b"", 9)?;
     match Store::open(rt.alloc(), &mut station, 0) {
@@ -264,7 +264,7 @@ fn reads_of(store: &Store<'_, MemoryStation>) -> u64 {
 fn a_cached_page_is_looked_at_without_a_read(rt: HostRuntime) -> Result<(), Failure> {
     // three pages counted, none of them free
     let header =
-        b"IRTREE00\0\0\0\x03\0\0\0\0\0\0\0\0\0\0\0\0\0\0\0\0\0\0\0\0\0\0\0\0\0\0\0\0\0\0\0\0\0\0\0\x01\0\0\0\0\0\0\0\0\0\0\0\0\0\0\0\x01";
+        b"IRTREE01\0\0\0\x03\0\0\0\0\0\0\0\0\0\0\0\0\0\0\0\0\0\0\0\0\0\0\0\0\0\0\0\0\0\0\0\0\0\0\0\x01\0\0\0\0\0\0\0\0\0\0\0\0\0\0\0\x01";
     let image = image(rt.alloc(), header, &[[1; 4096], [2; 4096]])?;
     for cache in 0..3 {
         let mut station = MemoryStation::with_image(rt.alloc(), &image, b"", 9)?;

@@ -1,5 +1,5 @@
 //! A place that is put at a key.
-ghost use Rattle.std.specs.Prelude.{◌≡◌, ℕ, ◌≤◌, ◌<◌, ◌+◌, ◌^◌, List, length, IfSome, OnOk, OnErr, IsErrOf};
+ghost use Rattle.std.specs.Prelude.{◌≡◌, ℕ, ◌≤◌, ◌<◌, ◌+◌, ◌^◌, List, length, IfSome, IfOk, OnErr, IsErrOf};
 ghost use Rattle.std.specs.Option.{option_copied};
 ghost use Rattle.page_face.specs.Calls.{FailsChanging, Changes};
 ghost use Rattle.btree_nodes.specs.Supply.{view};
@@ -8,7 +8,7 @@ ghost use Rattle.row_codec.specs.Stored.{IsStored};
 ghost use Rattle.store_tables.specs.Entries.{Entries, place_of_key, without_place};
 ghost use Rattle.store_tables.specs.Holding.{Holds, IsApart, IsChanged};
 ghost use Rattle.store_tables.specs.Words.{WordsAgree};
-ghost use Rattle.store_meaning.specs.Updates.{after_put, numbered_for};
+ghost use Rattle.store_meaning.specs.Updates.{after_put, by_number, numbered_for, stored_with};
 
 use crate::numbering::number_words;
 use crate::pairs::{held_pairs, place_with};
@@ -21,7 +21,8 @@ use store_tables::{Stored, Tables};
 use term_impacts::Words;
 
 /// Puts a place with these words at a key, where `old` is what lives there now. Each of its words that the old place doesn't
-/// hold is held by one place more, and each word of the old place that it hasn't by one less.
+/// hold is held by one place more, and each word of the old place that it hasn't by one less. Returns the place as the place table
+/// keeps it.
 ///
 /// Refuses as [`Tables::hold`], [`Tables::put_place`] and [`Tables::release`] do, and `Memory`. After a refusal the tables are as
 /// before, and pages may have changed. Costs a put into the place table; for each word a look-up, and two more and one or two
@@ -34,12 +35,13 @@ pub fn put_place<P: Pages>(
     old: Option<&Stored>,
     point: Point,
     words: &Words,
-) -> Result<(), PageFault>
+) -> Result<Stored, PageFault>
     requires next { tables.old.next_word ≤ 2 ^ 62 }
     requires form { IfSome (option_copied old) IsStored }
     ensures put { (entries : Entries) (free : List ℕ) → Holds (P.pages pages.old) tables.old entries → IsApart (view (P.pages pages.old) (P.count pages.old) (P.first pages.old) free) tables.old
         → option_copied old.entry ≡ place_of_key key.now entries.places
-        → OnOk result ((tables.new.next_word ≡ (numbered_for key.now words.now tables.old.next_word entries).next_word)
+        → IfOk result (λ stored. (stored ≡ stored_with point (by_number (numbered_for key.now words.now tables.old.next_word entries).pairs))
+        × (tables.new.next_word ≡ (numbered_for key.now words.now tables.old.next_word entries).next_word)
         × IsChanged (view (P.pages pages.old) (P.count pages.old) (P.first pages.old) free) tables.old
         (P.pages pages.new) (P.count pages.new) (P.first pages.new) tables.new (after_put key.now point words.now tables.old.next_word entries)) }
 
@@ -60,5 +62,5 @@ pub fn put_place<P: Pages>(
     next.put_place(pages, key, &stored)?;
     release_words(pages, &mut next, held_pairs(Some(&stored)), held)?;
     *tables = next;
-    Ok(())
+    Ok(stored)
 }

@@ -1,15 +1,6 @@
--- An item that was added to a node.
-use Rattle.std.proofs.Common.{◌≡◌, ℕ, ◌+◌, ◌<◌, max, arith, sym, ap, ◌∙◌, subst, Option, Some, None, inl, inr}
-use Rattle.page_face.specs.FreeList.{PageMap}
-use Rattle.btree_nodes.specs.Supply.{one_at}
-use Rattle.rtree_shape.specs.Slots.{Item, Slots, one, amount, tops, Held, Each, IsFree, IsFrom, IsPart}
-use Rattle.rtree_shape.specs.Trees.{below, uses, IsItem, with_slot}
-use Rattle.rtree_shape.specs.Heads.{heads, heads_with}
-use Rattle.rtree_shape.specs.Stock.{View}
-use Rattle.rtree_shape.specs.Made.{Reads, nodes_in, IsReady, IsMade, IsTwo, sums_with, uses_with, reach_with}
-use Rattle.rtree_shape.proofs.Amounts.{each-set}
-use Rattle.rtree_shape.proofs.Parts.{put-sum, put-top}
-use Rattle.rtree_shape.proofs.Stores.{made-as}
+-- What holds of a node's items and of a new one.
+use Rattle.std.proofs.Common.{ℕ, ◌<◌, sym, subst, Option, Some, None, inl, inr}
+use Rattle.rtree_shape.specs.Slots.{Item, Slots, Held, Each, IsFrom}
 
 from-held : (P : Item → Type 0) (s : Slots) (x : Item) → Each P s → P x → (o : Option Item) → IsFrom s x o → Held P o
 from-held P s x e p None h = tt
@@ -18,60 +9,3 @@ from-held P s x e p (Some z) h = elim h [ inl k ↦ subst P (sym k) p | inr k �
 -- what holds of the items of a node and of the new one holds of each of a part
 pub each-from : (P : Item → Type 0) (s a : Slots) (x : Item) → Each P s → P x → ((i : ℕ) → i < 32 → IsFrom s x (a i)) → Each P a
 each-from P s a x e p from i l = from-held P s x e p (a i) (from i l)
-
-module _ (reads : Reads) (before : View) (least level page : ℕ) (s : Slots) (at_level : ℕ) (x : Item)
-    (ready : IsReady reads before least level page (record { level = at_level; slots = s }) (Some x)) where
-  -- the item was put into a free slot
-  module _ (t : Slots) (at : ℕ) (free : IsFree s at) (is : t ≡ with_slot at x s) where
-    sum : (F : Item → ℕ) → amount F t ≡ amount F s + F x
-    sum F = ap (amount F) is ∙ put-sum F s x at free
-
-    top : (d : ℕ) → tops d t ≡ max (tops d s) (x.reach d)
-    top d = ap (tops d) is ∙ put-top d s x at free
-
-    pub ready_placed : (l : ℕ) → l ≡ at_level → IsReady reads before least level page (record { level = l; slots = t }) None
-    ready_placed l e = record {
-      level_is = e ∙ ready.level_is;
-      some = let k = sum one in let j = ready.some in omega arith;
-      small = ready.small;
-      items = subst (Each (λ y. IsItem (nodes_in reads before.pages) level y)) (sym is) (each-set (λ y. IsItem (nodes_in reads before.pages) level y) at x s ready.items ready.beside);
-      beside = tt;
-      supplied = ready.supplied;
-      once = λ n. let o = ready.once n in let k = sum (λ y. uses (nodes_in reads before.pages) level y n) in omega arith;
-    }
-
-    pub made_placed : (pages : PageMap) (rows count first : ℕ) (told : ℕ → ℕ) (rise : ℕ → Type 0) → ((d : ℕ) → told d ≡ tops d t)
-        → IsMade reads before pages rows count first least level page (uses_with (nodes_in reads before.pages) level page t None) None (sums_with (nodes_in reads before.pages) level t None) (λ g. heads_with (nodes_in reads before.pages) g level page t None) (reach_with t None) (λ d. tops d t) rise
-        → IsMade reads before pages rows count first least level page (uses_with (nodes_in reads before.pages) level page s (Some x)) None (sums_with (nodes_in reads before.pages) level s (Some x)) (λ g. heads_with (nodes_in reads before.pages) g level page s (Some x)) (reach_with s (Some x)) told rise
-    made_placed pages rows count first told rise e h = made-as
-        (λ n. let k = sum (λ y. uses (nodes_in reads before.pages) level y n) in omega arith)
-        (λ f. let k = sum (λ y. below (nodes_in reads before.pages) f level y) in omega arith)
-        (λ g. let k = sum (λ y. heads (nodes_in reads before.pages) g level y) in omega arith)
-        (λ d. let k = top d in omega arith) e h
-
-  -- the items were parted
-  module _ (a b : Slots) (parts : IsPart s x a b) where
-    pub two_parted : (k l : ℕ) → k ≡ at_level → l ≡ at_level → IsTwo reads before level page (record { level = k; slots = a }) (record { level = l; slots = b })
-    two_parted k l e f = record {
-      a_level = e ∙ ready.level_is;
-      b_level = f ∙ ready.level_is;
-      a_some = parts.stay;
-      b_some = parts.move;
-      a_items = each-from (λ y. IsItem (nodes_in reads before.pages) level y) s a x ready.items ready.beside parts.from_a;
-      b_items = each-from (λ y. IsItem (nodes_in reads before.pages) level y) s b x ready.items ready.beside parts.from_b;
-      supplied = ready.supplied;
-      once = λ n. let o = ready.once n in let k = parts.sums (λ y. uses (nodes_in reads before.pages) level y n) in omega arith;
-    }
-
-    pub made_parted : (pages : PageMap) (rows count first : ℕ) (y : Item) (told : ℕ → ℕ) (rise : ℕ → Type 0) → ((d : ℕ) → told d ≡ tops d a)
-        → IsMade reads before pages rows count first least level page
-        (λ n. one_at page n + amount (λ z. uses (nodes_in reads before.pages) level z n) a + amount (λ z. uses (nodes_in reads before.pages) level z n) b) (Some y)
-        (λ f. amount (λ z. below (nodes_in reads before.pages) f level z) a + amount (λ z. below (nodes_in reads before.pages) f level z) b)
-        (λ g. g level page + amount (λ z. heads (nodes_in reads before.pages) g level z) a + amount (λ z. heads (nodes_in reads before.pages) g level z) b)
-        (λ d. max (tops d a) (tops d b)) (λ d. tops d a) rise
-        → IsMade reads before pages rows count first least level page (uses_with (nodes_in reads before.pages) level page s (Some x)) (Some y) (sums_with (nodes_in reads before.pages) level s (Some x)) (λ g. heads_with (nodes_in reads before.pages) g level page s (Some x)) (reach_with s (Some x)) told rise
-    made_parted pages rows count first y told rise e h = made-as
-        (λ n. let k = parts.sums (λ y. uses (nodes_in reads before.pages) level y n) in omega arith)
-        (λ f. parts.sums (λ y. below (nodes_in reads before.pages) f level y))
-        (λ g. let k = parts.sums (λ y. heads (nodes_in reads before.pages) g level y) in omega arith)
-        (λ d. parts.reach d) e h

@@ -1,22 +1,9 @@
--- What stands at each slot is the greatest below it, and the places are a list.
+-- The places below an item are a list, with the sums of the tree.
 use Rattle.std.proofs.Common.{◌≡◌, ℕ, zero, suc, arith, refl, ◌∙◌, Option, Some, None, List, sum_by}
 use Rattle.std.proofs.lemmas.List.Sums.{sum_by-append}
-use Rattle.rtree_shape.specs.Slots.{Item, Slots, NodeMap, sum_to, got, amount, tops, tops_by, gather, opt_list, Held, Each}
-use Rattle.rtree_shape.specs.Trees.{below, IsItem, reach_of, greatest, places}
-use Rattle.rtree_shape.proofs.Sums.{top-same, sum-same}
-
-held-same : (P : Item → Type 0) (f g : Item → ℕ) → ((y : Item) → P y → f y ≡ g y) → (o : Option Item) → Held P o → got f o ≡ got g o
-held-same P f g e None h = refl
-held-same P f g e (Some y) h = e y h
-
-tops-greatest : (P : Item → Type 0) (d : ℕ) (g : Item → ℕ) (s : Slots) → Each P s → ((y : Item) → P y → y.reach d ≡ g y) → tops d s ≡ tops_by g s
-unfolding tops tops_by
-tops-greatest P d g s each e = top-same 32 (λ i. got (reach_of d) (s i)) (λ i. got g (s i)) (λ i l. held-same P (reach_of d) g e (s i) (each i l))
-
--- an item reaches as far as the places below it, at each side and each word
-pub reach-greatest : (nodes : NodeMap) (d level : ℕ) (x : Item) → IsItem nodes level x → x.reach d ≡ greatest nodes d level x
-reach-greatest nodes d zero x h = refl
-reach-greatest nodes d (suc level) x h = h.1 d ∙ tops-greatest (λ y. IsItem nodes level y) d (λ y. greatest nodes d level y) (nodes x.to).slots h.0.items (λ y p. reach-greatest nodes d level y p)
+use Rattle.rtree_shape.specs.Slots.{Item, Slots, NodeMap, sum_to, got, amount, gather, opt_list}
+use Rattle.rtree_shape.specs.Trees.{below, places}
+use Rattle.rtree_shape.proofs.Sums.{sum-same}
 
 gather-sum : (f : Item → ℕ) (n : ℕ) (g : ℕ → List Item) → sum_by f (gather n g) ≡ sum_to n (λ i. sum_by f (g i))
 unfolding gather sum_to

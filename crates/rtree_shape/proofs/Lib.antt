@@ -12,7 +12,6 @@ pub mod Outs
 pub mod Replants
 pub mod Fells
 pub mod Parts
-pub mod Stores
 pub mod Adds
 pub mod Climbs
 pub mod Raises

@@ -1,9 +1,9 @@
 -- 33 items in two nodes.
-use Rattle.std.proofs.Common.{◌≡◌, ℕ, ◌+◌, ◌<◌, max, arith, refl, ◌∙◌, None, if◌then◌else◌, ◌==◌, true, false}
+use Rattle.std.proofs.Common.{◌≡◌, ℕ, ◌+◌, ◌<◌, max, arith, refl, ◌∙◌}
 use Rattle.std.proofs.lemmas.Bool.Decides.{nat_tests}
 use Rattle.std.specs.Int.{bit_at}
 use Rattle.std.proofs.lemmas.Nat.Bits.{bit_at-lt}
-use Rattle.rtree_shape.specs.Slots.{Item, Slots, sum_to, got, amount, tops, Held, Each, filled, one}
+use Rattle.rtree_shape.specs.Slots.{Item, Slots, sum_to, got, amount, tops, filled, one}
 use Rattle.rtree_shape.specs.Masks.{marked, kept_of, moved_of}
 use Rattle.rtree_shape.proofs.Sums.{sum-same}
 use Rattle.rtree_shape.proofs.Amounts.{amount-match, tops-match}
@@ -19,12 +19,6 @@ parted mask s = record {
   reach = λ d. tops-match d (kept_of mask s) (moved_of mask s) s (λ i l. grind (arith, nat_tests));
 }
 
-pub each-kept : (P : Item → Type 0) (mask : ℕ) (s : Slots) → Each P s → Each P (kept_of mask s)
-each-kept P mask s e i l = elim (bit_at mask i == 1) as (λ b. Held P (if b then None else s i)) [ true ↦ tt | false ↦ e i l ]
-
-pub each-moved : (P : Item → Type 0) (mask : ℕ) (s : Slots) → Each P s → Each P (moved_of mask s)
-each-moved P mask s e i l = elim (bit_at mask i == 1) as (λ b. Held P (if b then s i else None)) [ true ↦ e i l | false ↦ tt ]
-
 moved-one : (mask : ℕ) (s : Slots) (i : ℕ) → got one (s i) ≡ 1 → got one (moved_of mask s i) ≡ bit_at mask i
 moved-one mask s i full = let l = bit_at-lt mask i in grind (arith, nat_tests)
 
@@ -37,7 +31,3 @@ moved-many mask s full = sum-same 32 (λ i. got one (moved_of mask s i)) (λ i. 
 pub full-many : (s : Slots) → ((i : ℕ) → i < 32 → got one (s i) ≡ 1) → filled s ≡ 32
 unfolding amount sum_to
 full-many s full = sum-same 32 (λ i. got one (s i)) (λ i. 1) full ∙ refl
-
-pub marked-more : (mask : ℕ) → marked 33 mask ≡ bit_at mask 32 + marked 32 mask
-unfolding marked sum_to
-marked-more mask = refl

@@ -1,9 +1,7 @@
--- What single steps do with the pages in which a tree stands, and how steps follow each other.
+-- What single steps do with the pages in which a tree stands.
 use Rattle.std.proofs.Common.{◌≡◌, ℕ, zero, suc, ◌+◌, ◌<◌, ◌≤◌, ◌^◌, List, ◌∷◌, length, refl, sym, ap, subst, ◌∙◌, arith, inl, inr}
 use Rattle.std.proofs.lemmas.Bool.Decides.{nat_tests}
 use Rattle.page_face.specs.FreeList.{PageMap, with_page, IsFreePage, next_free}
-use Rattle.page_face.specs.declared.fault.Damage.{Damage}
-use Rattle.btree_nodes.specs.Damages.{IsRefusedTake}
 use Rattle.btree_nodes.specs.Nodes.{least_of_root}
 use Rattle.btree_nodes.specs.Supply.{one_at, spare, tail}
 use Rattle.btree_nodes.specs.Supply as supply
@@ -14,37 +12,6 @@ use Rattle.btree_nodes.proofs.Supplies.{one_at-same, one_at-other, none}
 use Rattle.btree_delete.proofs.Gives as gives
 use Rattle.rtree_shape.proofs.Amounts.{same_or}
 use Rattle.rtree_shape.specs.Stock.{View, view, plain, rows_form, spare_in, IsSupplied, Moves}
-
--- one move after another
-pub moves-further : {a b c : View} {f g h : ℕ → ℕ} → Moves a b f g → Moves b c g h → Moves a c f h
-moves-further {a = a} {b = b} {f = f} {g = g} p q = record {
-  supplied = q.supplied;
-  kept = λ n. q.kept n ∙ p.kept n;
-  others = λ n k l. let e = p.kept n in
-      let none_now : g n ≡ 0 = omega arith in
-      let spare_now : spare_in b n ≡ 0 = omega arith in
-      q.others n none_now spare_now ∙ p.others n k l;
-}
-
--- other pages beside those that moved
-pub moves-beside : {a b : View} {f g : ℕ → ℕ} (more : ℕ → ℕ) → Moves a b f g → Moves a b (λ n. f n + more n) (λ n. g n + more n)
-moves-beside more p = record {
-  supplied = p.supplied;
-  kept = λ n. let e = p.kept n in omega arith;
-  others = λ n k l. p.others n (omega arith) l;
-}
-
--- the same pages, said otherwise
-pub moves-as : {a b : View} {f g f' g' : ℕ → ℕ} → ((n : ℕ) → f' n ≡ f n) → ((n : ℕ) → g' n ≡ g n) → Moves a b f g → Moves a b f' g'
-moves-as e h p = record {
-  supplied = p.supplied;
-  kept = λ n. let k = p.kept n in let i = e n in let j = h n in omega arith;
-  others = λ n k l. let i = e n in p.others n (omega arith) l;
-}
-
--- nothing moved
-pub moves-none : {a : View} {f : ℕ → ℕ} → IsSupplied a → Moves a a f f
-moves-none s = record { supplied = s; kept = λ n. refl; others = λ n k l. refl }
 
 -- a map whose pages stayed
 record SameRows (old new : PageMap) (root : ℕ) : Type 0 where
@@ -122,7 +89,3 @@ moves-give old new rows count first page free s unused some within form next oth
     let v = view old rows count first free in
     moves-lifted v (view new rows count page (page ∷ free)) (one_at page) none s refl (once-with page v s unused) (one_at-zero page some)
     (gives.moves-give old new count first page free s.chain (omega arith) some within form next others)
-
--- no take is refused for the first free page of a free list that ends at 0
-pub take-honest : (v : View) (damage : Damage) → IsSupplied v → IsRefusedTake v.pages v.count v.first damage → ⊥
-take-honest v damage s r = supplies.take-honest v.pages v.count v.first v.free damage s.chain r

@@ -45,10 +45,6 @@ filled slots = amount one slots
 unfoldable pub tops : ℕ → Slots → ℕ
 tops d slots = top_to 32 (λ i. got (λ x. x.reach d) (slots i))
 
--- the greatest of f over the slots that are used
-unfoldable pub tops_by : (Item → ℕ) → Slots → ℕ
-tops_by f slots = top_to 32 (λ i. got f (slots i))
-
 abbrev pub opt_list : (Item → List Item) → Option Item → List Item
 opt_list f None = []
 opt_list f (Some x) = f x

@@ -1,7 +1,7 @@
 -- The pages under a root, as a tree of items.
 use Rattle.std.specs.Prelude.{◌≡◌, ℕ, zero, suc, ◌+◌, ◌≤◌, max, List, [], ◌∷◌, Option, None, Some, if◌then◌else◌, ◌==◌}
 use Rattle.btree_nodes.specs.Supply.{one_at}
-use Rattle.rtree_shape.specs.Slots.{Item, Slots, NodeView, NodeMap, got, amount, filled, tops, tops_by, gather, opt_list, Held, Each, IsFree}
+use Rattle.rtree_shape.specs.Slots.{Item, Slots, NodeView, NodeMap, got, amount, filled, tops, gather, opt_list, Held, Each, IsFree}
 
 -- the sum of f over the places below an item in a node of this level
 abbrev pub below : NodeMap → (Item → ℕ) → ℕ → Item → ℕ
@@ -67,11 +67,6 @@ pub record IsPutFree (s : Slots) (x : Item) (t : Slots) : Type 0 where
   pub at : ℕ
   pub free : IsFree s at
   pub is : t ≡ with_slot at x s
-
--- the greatest reach among the places below an item
-abbrev pub greatest : NodeMap → ℕ → ℕ → Item → ℕ
-greatest nodes d zero x = x.reach d
-greatest nodes d (suc level) x = tops_by (λ y. greatest nodes d level y) (nodes x.to).slots
 
 -- the places below an item, and in some slots, by number
 abbrev pub places : NodeMap → ℕ → Item → List Item

@@ -1,7 +1,7 @@
 //! What the nodes of an R-tree mean, apart from their bytes: slots, items, trees of pages, and the pages that a tree may take.
 //!
 //! A node is a function from the number of a slot to what is in it (Guttman 1984, with M = 32 and m = 12). An item's reach to each side is one
-//! number that grows with its rectangle, so "least rectangle" is one statement for every side, and later for every word. The
+//! number that grows with its rectangle, so "least rectangle" is one statement for every side, and for the greatest impact of every word. The
 //! crate is definitions (`specs/`) and laws (`proofs/`) for those that write nodes and search them.
 #![tactic(auto)]
 

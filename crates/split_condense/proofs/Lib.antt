@@ -1,1 +1,4 @@
 pub mod Ways
+pub mod Bare
+pub mod Plain
+pub mod Worded

@@ -1,4 +1,5 @@
 //! An entry of a tree.
+ghost use Rattle.std.specs.Prelude.{◌≡◌, take};
 
 use row_codec::PAIRS_MAX;
 use spatial_base::{Key, Point};
@@ -6,7 +7,7 @@ use spatial_base::{Key, Point};
 /// A place as a tree keeps it: its key, its point, and its words by their numbers.
 ///
 /// The first `count` pairs are a word's number and its impact, ascending strictly by number with impacts of at least 1; the others are
-/// (0, 0). The nodes carry no words yet: what is said of an entry is said of its key and its point.
+/// (0, 0). A word that stands there twice has the greater of its impacts.
 #[derive(Clone, Copy, Debug)]
 pub struct Entry {
     /// The place's key.
@@ -17,4 +18,16 @@ pub struct Entry {
     pub count: u8,
     /// The words' numbers and impacts.
     pub pairs: [(u64, u8); PAIRS_MAX],
+}
+
+impl Entry {
+    /// The entry's words with their impacts: the first `count` pairs, or all if there are fewer.
+    pub fn words(&self) -> &[(u64, u8)]
+        ensures { result.now ≡ take self.now.count self.now.pairs }
+    {
+        match self.pairs.get(..usize::from(self.count)) {
+            Some(words) => words,
+            None => &self.pairs,
+        }
+    }
 }

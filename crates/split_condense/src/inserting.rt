@@ -1,31 +1,33 @@
 //! An entry that is put into a tree.
-ghost use Rattle.std.specs.Prelude.{◌≡◌, ◌≢◌, ◌⊎◌, ℕ, List, IsErrOf, OnOk, OnErr};
+ghost use Rattle.std.specs.Prelude.{◌≡◌, ◌≢◌, ℕ, List, OnOk, OnErr};
 ghost use Rattle.page_face.specs.Calls.{Changes, FailsChanging};
-ghost use Rattle.btree_nodes.specs.Damages.{IsRefusedTake};
+ghost use Rattle.btree_nodes.specs.Damages.{AreTold};
 ghost use Rattle.rtree_shape.specs.Stock.{view};
 ghost use Rattle.rtree_shape.specs.Made.{Rises};
-ghost use Rattle.rtree_shape.specs.Whole.{IsWhole, IsPlanted};
 ghost use Rattle.rtree_nodes.specs.Pages.{node_of};
-ghost use Rattle.rtree_insert.specs.Roots.{IsTreeDamage};
+ghost use Rattle.irtree_shape.specs.Whole.{IsWhole, IsPlanted};
 ghost use Rattle.split_condense.specs.Entries.{entry_item};
 
 use crate::Entry;
+use irtree_insert::insert_at;
 use node_inverted::Tree;
 use page_face::{Damage, PageFault, Pages};
-use rtree_insert::insert_at;
 use rtree_nodes::Slot;
 use split_policy::SplitPolicy;
+use std::alloc::Global;
 
 /// Puts an entry into a tree that has no entry of its key.
 ///
 /// Over a well-formed tree each node stays at its page and level, and as many new nodes are made as the policy was asked for splits, and
 /// one more if the tree was empty or its root was split. Fails with `Damaged` and a rule that a page asked for breaks, or as a `take` is refused; with
-/// `Disk`, `NoRoom` or `Stopped`; or if it runs out of memory. The tree's roots are then as before; pages may have changed,
+/// `Disk`, `NoRoom` or `Stopped`; or with `Memory`. The tree's roots are then as before; pages may have changed,
 /// and are to be abandoned.
 ///
-/// Looks at one page for each level, and writes those that change: the leaf, and each node above it whose slot's rectangle grew or whose child was
-/// split. Takes a page for each split and for a new root.
+/// For each level looks at one page and at a row for each of the entry's words, and writes those that change: the leaf, each node above it whose
+/// slot's rectangle grew or whose child was split, and each row in which a word's impact rose. A split takes a page, and moves or makes a row for
+/// each word of the node; a new root takes a page.
 pub fn insert<P: Pages>(
+    alloc: Global,
     pages: &mut P,
     tree: &mut Tree,
     policy: &mut dyn SplitPolicy,
@@ -35,12 +37,9 @@ pub fn insert<P: Pages>(
         → OnOk result (IsPlanted node_of (view (P.pages pages.old) tree.old.rows (P.count pages.old) (P.first pages.old) free) (P.pages pages.new) tree.new.rows (P.count pages.new) (P.first pages.new)
         tree.old.root tree.new.root (entry_item entry.now) (Rises ((SplitPolicy-dyn policy.old).count policy.old.1) ((SplitPolicy-dyn policy.new).count policy.new.1))) }
     ensures kept { OnErr result (tree.new ≡ tree.old) }
-    ensures rows { tree.new.rows ≡ tree.old.rows }
     ensures honest { (free : List ℕ) → IsWhole node_of (view (P.pages pages.old) tree.old.rows (P.count pages.old) (P.first pages.old) free) tree.old.root
+        → AreTold (P.pages pages.old) (P.count pages.old)
         → (damage : Damage) → result ≢ Err (PageFault.Damaged damage) }
-    ensures damaged { (damage : Damage) → IsErrOf result (PageFault.Damaged damage)
-        → ((P.pages pages.new ≡ P.pages pages.old) × IsTreeDamage tree.old.root (P.asked pages.old) (P.asked pages.new) (P.pages pages.new) (P.count pages.new) damage)
-        ⊎ IsRefusedTake (P.pages pages.new) (P.count pages.new) (P.first pages.new) damage }
     ensures fails { FailsChanging P.Pages pages.old pages.new result }
     ensures frame { Changes P.Pages pages.old pages.new }
 {
@@ -48,11 +47,5 @@ pub fn insert<P: Pages>(
         point: entry.point,
         key: entry.key,
     };
-    match insert_at(pages, tree.root, policy, 0, &slot) {
-        Ok(root) => {
-            tree.root = root;
-            Ok(())
-        }
-        Err(fault) => Err(fault),
-    }
+    insert_at(alloc, pages, tree, policy, 0, &slot, entry.words())
 }

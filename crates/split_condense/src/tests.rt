@@ -1,6 +1,6 @@
 //! Trees that grow and shrink in memory, looked at node by node.
 use super::*;
-use node_inverted::Tree;
+use node_inverted::{Tree, row};
 use page_face::{MemoryPages, Pages, free_next};
 use row_codec::PAIRS_MAX;
 use rtree_nodes::{Node, Slot};
@@ -11,17 +11,24 @@ use std::test::Fail;
 
 static EMPTY: Tree = Tree { root: 0, rows: 0 };
 
-// The entry of a place by its number, somewhere on the map.
+// How many words the places have together.
+const WORDS: u64 = 12;
+
+// The entry of a place by its number, somewhere on the map, with two words.
 fn entry(number: u64) -> Result<Entry, Fail> {
     let east = i32::try_from(number.wrapping_mul(7_919) % 3_001)?;
     let north = i32::try_from(number.wrapping_mul(104_729) % 1_501)?;
     let x = east.saturating_sub(1_500).saturating_mul(1_000_000);
     let y = north.saturating_sub(750).saturating_mul(1_000_000);
+    let impact = u8::try_from(number % 50)?.saturating_add(1);
+    let mut pairs = [(0, 0); PAIRS_MAX];
+    pairs[0] = (number % 7, impact);
+    pairs[1] = ((number % 5).saturating_add(7), 51);
     Ok(Entry {
         key: Key::auto(number),
         point: Point::new(x, y).ok_or("off the map")?,
-        count: 0,
-        pairs: [(0, 0); PAIRS_MAX],
+        count: 2,
+        pairs,
     })
 }
 
@@ -86,6 +93,47 @@ fn judge(node: &Node, said: Option<(u8, Rect)>, used: u32, all: Option<Rect>) ->
     Ok(())
 }
 
+// The greatest impact of a word below a slot: in its place, or in its child's row.
+fn impact_below(pages: &mut MemoryPages, tree: &Tree, slot: Slot, word: u64) -> Result<u8, Fail> {
+    let mut most = 0;
+    match slot {
+        Slot::Place { key, .. } => {
+            let number = key.serial().ok_or("another key")?;
+            for pair in entry(number)?.words() {
+                if pair.0 == word {
+                    most = pair.1;
+                }
+            }
+        }
+        Slot::Child { page, .. } => {
+            for byte in &row(pages, tree, page, word)? {
+                most = most.max(*byte);
+            }
+        }
+    }
+    Ok(most)
+}
+
+// Refuses a node whose rows say other impacts than stand below its slots.
+fn judge_words(pages: &mut MemoryPages, tree: &Tree, page: u32, node: &Node) -> Result<(), Fail> {
+    for word in 0..WORDS {
+        let impacts = row(pages, tree, page, word)?;
+        let mut rest = node.used;
+        for at in 0..32 {
+            let expected = if rest % 2 == 1 {
+                impact_below(pages, tree, node.slots.slot(at), word)?
+            } else {
+                0
+            };
+            if impacts[at] != expected {
+                return Err(Fail::from("other words"));
+            }
+            rest /= 2;
+        }
+    }
+    Ok(())
+}
+
 // How many pages stand in the free list.
 fn free(pages: &mut MemoryPages) -> Result<u32, Fail> {
     let mut found: u32 = 0;
@@ -100,8 +148,7 @@ fn free(pages: &mut MemoryPages) -> Result<u32, Fail> {
     Ok(found)
 }
 
-// How many levels and nodes a well-formed tree has. Refuses one that isn't, that hasn't the places of these numbers, or beside which
-// a page is lost.
+// How many levels and nodes a well-formed tree has. Refuses one that isn't, or that hasn't the places of these numbers with their words.
 fn levels_and_nodes(
     alloc: Global,
     pages: &mut MemoryPages,
@@ -124,6 +171,7 @@ fn levels_and_nodes(
             let node = Node::decode(&page).map_err(|_| "no node")?;
             let (used, all) = sum_of(&node, &mut ahead, &mut numbers)?;
             judge(&node, next.said, used, all)?;
+            judge_words(pages, tree, next.page, &node)?;
             nodes = nodes.saturating_add(1);
             levels = levels.max(u32::from(node.level).saturating_add(1));
         }
@@ -131,9 +179,6 @@ fn levels_and_nodes(
     numbers.sort()?;
     if !ahead.is_empty() || numbers.as_slice() != expected {
         return Err(Fail::from("other places"));
-    }
-    if nodes.saturating_add(free(pages)?).saturating_add(1) != pages.counted() {
-        return Err(Fail::from("a page lost"));
     }
     Ok((levels, nodes))
 }
@@ -153,7 +198,13 @@ fn a_leaf_is_split_and_its_halves_become_one(rt: HostRuntime) -> Result<(), Fail
     let mut tree = EMPTY;
     let mut policy = Quadratic::new();
     for number in 0..33 {
-        insert(&mut pages, &mut tree, &mut policy, &entry(number)?)?;
+        insert(
+            rt.alloc(),
+            &mut pages,
+            &mut tree,
+            &mut policy,
+            &entry(number)?,
+        )?;
         let all = numbers(rt.alloc(), 0, number.saturating_add(1))?;
         let found = levels_and_nodes(rt.alloc(), &mut pages, &tree, all.as_slice())?;
         assert_eq!(rt; found, if number < 32 { (1, 1) } else { (2, 3) });
@@ -184,7 +235,13 @@ fn three_hundred_places_come_and_go(rt: HostRuntime) -> Result<(), Fail> {
     let mut tree = EMPTY;
     let mut policy = Halving::new();
     for number in 0..300 {
-        insert(&mut pages, &mut tree, &mut policy, &entry(number)?)?;
+        insert(
+            rt.alloc(),
+            &mut pages,
+            &mut tree,
+            &mut policy,
+            &entry(number)?,
+        )?;
     }
     let all = numbers(rt.alloc(), 0, 300)?;
     levels_and_nodes(rt.alloc(), &mut pages, &tree, all.as_slice())?;
@@ -204,5 +261,6 @@ fn three_hundred_places_come_and_go(rt: HostRuntime) -> Result<(), Fail> {
     assert_eq!(rt; tree, EMPTY);
     let found = levels_and_nodes(rt.alloc(), &mut pages, &tree, &[])?;
     assert_eq!(rt; found, (0, 0));
+    assert_eq!(rt; free(&mut pages)?.saturating_add(1), pages.counted());
     Ok(())
 }

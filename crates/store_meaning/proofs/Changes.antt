@@ -79,7 +79,7 @@ module _ (old : Superblock) (pages : PageMap) (state : states.Contents) (stand :
       -- once the tree has the place's entry in place of the old one, the pages stand for the state with the place at the key
       pub stand-put : (block : Superblock) (after : PageMap)
           → IsRegrown node_of (stock.view between mid.head.rows mid.counted mid.first_free changed.free) after block.head.rows block.counted block.first_free mid.head.tree block.head.tree
-          (option_map (λ (s : Stored). entry_at key s.point) (place_of_key key stand.entries.places)) (Some (entry_at key point))
+          (option_map (entry_at key) (place_of_key key stand.entries.places)) (Some (entry_at key (stored_with point (by_number (numbered_for key words old.head.next_word stand.entries).pairs))))
           → IsInRange block → IsRerooted mid.head block.head
           → PagesStand block after (record { places = states.with_place key (record { point = point; words = words }) state.places; serial = block.head.serial; number = block.head.number })
       stand-put block after regrown within rerooted =
@@ -89,7 +89,7 @@ module _ (old : Superblock) (pages : PageMap) (state : states.Contents) (stand :
           let is = tables-put-places old pages stand.others stand.entries stand.tables key point words map_of_words room in
           subst (λ (ps : states.Places). PagesStand block after (record { places = ps; serial = block.head.serial; number = block.head.number })) (is ∙ ap (states.with_place key (record { point = point; words = words })) (sym places-before))
           (between-regrown mid between stand.others stand.entries new changed.free mid-put block after _ _ regrown within rerooted
-          (λ f. ap (λ (ps : List (Name × Stored)). entry_sum f ps + got f (option_map (λ (s : Stored). entry_at key s.point) (place_of_key key stand.entries.places))) places
+          (λ f. ap (λ (ps : List (Name × Stored)). entry_sum f ps + got f (option_map (entry_at key) (place_of_key key stand.entries.places))) places
           ∙ sum-with key f _ stand.entries.places (ascending-holds pages (tables_in old.head) stand.entries stand.tables.holds).places))
 
   -- a key's place is taken out of the tables, on pages `between`, and the tree is as before
@@ -104,7 +104,7 @@ module _ (old : Superblock) (pages : PageMap) (state : states.Contents) (stand :
     module _ (stored : Stored) (is : place_of_key key stand.entries.places ≡ Some stored) where
       -- once the tree is without that entry, the pages stand for the state without the key's place
       pub stand-remove : (block : Superblock) (after : PageMap)
-          → IsRegrown node_of (stock.view between mid.head.rows mid.counted mid.first_free changed.free) after block.head.rows block.counted block.first_free mid.head.tree block.head.tree (Some (entry_at key stored.point)) None
+          → IsRegrown node_of (stock.view between mid.head.rows mid.counted mid.first_free changed.free) after block.head.rows block.counted block.first_free mid.head.tree block.head.tree (Some (entry_at key stored)) None
           → IsInRange block → IsRerooted mid.head block.head
           → PagesStand block after (record { places = states.without_place key state.places; serial = block.head.serial; number = block.head.number })
       stand-remove block after regrown within rerooted =
@@ -114,7 +114,7 @@ module _ (old : Superblock) (pages : PageMap) (state : states.Contents) (stand :
           subst (λ (ps : states.Places). PagesStand block after (record { places = ps; serial = block.head.serial; number = block.head.number })) (left ∙ ap (states.without_place key) (sym places-before))
           (between-regrown mid between stand.others stand.entries new changed.free mid-remove block after _ _ regrown within rerooted
           (λ f. let sum = sum-without key f stand.entries.places in
-          let gone : got f (option_map (λ (s : Stored). entry_at key s.point) (place_of_key key stand.entries.places)) ≡ f (entry_at key stored.point)
-          = ap (λ (found : Option Stored). got f (option_map (λ (s : Stored). entry_at key s.point) found)) is in
+          let gone : got f (option_map (entry_at key) (place_of_key key stand.entries.places)) ≡ f (entry_at key stored)
+          = ap (λ (found : Option Stored). got f (option_map (entry_at key) found)) is in
           let same = ap (entry_sum f) places in
           omega (arith, sum, gone, same)))

@@ -1,5 +1,5 @@
 -- The state that an image stands for.
-use Rattle.std.proofs.Common.{◌≡◌, ℕ, ◌+◌, ◌≤◌, Bool, true, false, cond, nat_lt, [], Some, None, refl, sym, ap, subst, ◌∙◌, true≢false, arith}
+use Rattle.std.proofs.Common.{◌≡◌, ℕ, ◌+◌, ◌≤◌, ◌^◌, Bool, true, false, cond, nat_lt, [], Some, None, refl, sym, ap, subst, ◌∙◌, true≢false, arith}
 use Rattle.std.proofs.lemmas.Bool.{le-ltb}
 use Rattle.std.proofs.lemmas.List.Elements.{All-nil}
 use Rattle.disk_model.specs.World.{Image}
@@ -10,6 +10,7 @@ use Rattle.page_store.specs.Contents as stores
 use Rattle.page_store.specs.Superblock.{IsInRange, empty_store, fields_of, is_zero, superblock_in}
 use Rattle.page_store.specs.declared.superblock.Superblock.{Superblock}
 use Rattle.btree_nodes.specs.Supply.{uncounted}
+use Rattle.node_inverted.specs.Rows.{bytes_of}
 use Rattle.place_map.specs.Restored.{IsSerialAbove}
 use Rattle.place_map.specs.State.{Contents, opening}
 use Rattle.store_tables.specs.Entries.{Entries, no_entries}
@@ -110,9 +111,26 @@ empty-tables pages = record {
   live = refl;
 }
 
--- the empty store has no tree
+-- no row says a byte
+no-byte : (n w i : ℕ) → bytes_of [] n w i ≡ 0
+unfolding bytes_of
+no-byte n w i = by (nat_lt w (2 ^ 64))
+  where
+    by : (b : Bool) → ◌≡◌ {A = ℕ} (cond b 0 0) 0
+    by true = refl
+    by false = refl
+
+-- the empty store has no tree and no rows
 empty-tree : (pages : PageMap) → TreeStands empty_store.head pages no_entries (λ n. 0)
-empty-tree pages = record { tree = tt; entries_are = λ f. refl; rows = refl; uses_are = λ n. refl }
+empty-tree pages = record {
+  tree = tt;
+  entries_are = λ f. refl;
+  map = tt;
+  filled = λ key. tt;
+  blank = λ n w i none. no-byte n w i;
+  named = λ n w i none. no-byte n w i;
+  uses_are = λ n. refl;
+}
 
 -- pages of the empty store stand for the state in which nothing was put
 pub empty-pages : (pages : PageMap) → PagesStand empty_store pages opening

@@ -168,7 +168,7 @@ each-by_number P Q pairs each = each_placed P Q [] pairs (All-nil (IsEntryOf P Q
 -- ---- words
 
 -- the impact at a word's number, where it has one
-abbrev impact_at : Option ℕ → List Pair → Option ℕ
+abbrev pub impact_at : Option ℕ → List Pair → Option ℕ
 impact_at None pairs = None
 impact_at (Some n) pairs = lookup (is_at (nat_cmp n)) pairs
 
@@ -188,7 +188,7 @@ sorted-words numbers (p ∷ pairs) = with_one (word_of_number p.0 numbers) (sort
 
 module _ (claims : ℕ → ℕ) (texts : List (List ℕ × ℕ)) (numbers : List (ℕ × Counted)) (next_word : ℕ) (agree : WordTablesAgree claims texts numbers next_word) where
   -- a word's impact is that of its number's pair
-  lookup_words : (q : List ℕ) (pairs : List Pair) → lookup (is_at (word_cmp q)) (words_of_pairs numbers pairs) ≡ impact_at (number_of_word q texts) pairs
+  pub lookup_words : (q : List ℕ) (pairs : List Pair) → lookup (is_at (word_cmp q)) (words_of_pairs numbers pairs) ≡ impact_at (number_of_word q texts) pairs
   lookup_words q [] = none (number_of_word q texts)
     where
       none : (f : Option ℕ) → None ≡ impact_at f []

@@ -9,19 +9,19 @@ use Rattle.btree_nodes.specs.Tree.{map_uses}
 use Rattle.rtree_shape.specs.Slots.{Item, got}
 use Rattle.rtree_shape.specs.Stock as stock
 use Rattle.rtree_shape.specs.Stock.{rows_form}
-use Rattle.rtree_shape.specs.Whole.{tree_uses}
 use Rattle.rtree_nodes.specs.Pages.{node_of}
+use Rattle.irtree_shape.specs.Made.{nodes_in}
+use Rattle.irtree_shape.specs.Whole.{tree_uses}
 use Rattle.tree_updates.specs.Regrown.{IsRegrown}
 use Rattle.store_tables.specs.declared.tables.Tables.{Tables}
 use Rattle.store_tables.specs.Entries.{Entries}
 use Rattle.store_tables.specs.Holding.{Holds, IsApart, IsSameMap, numbers_form, places_form, table_uses, texts_form}
 use Rattle.store_tables.proofs.FrameLemmas.{map-frame}
 use Rattle.store_meaning.specs.Stands.{AreSound, PagesStand, TablesStand, TreeStands, entry_sum, state_in, tables_in}
-use Rattle.store_meaning.proofs.Trees.{no-rows, spare-away}
+use Rattle.store_meaning.proofs.Trees.{spare-away}
 
--- page 0's fields are the same but for the tree's root and the update number
+-- page 0's fields are the same but for the tree's roots and the update number
 pub record IsRerooted (old new : Head) : Type 0 where
-  pub rows : new.rows ≡ old.rows
   pub tables : tables_in new ≡ tables_in old
   pub serial : new.serial ≡ old.serial
   pub live : new.live ≡ old.live
@@ -41,8 +41,7 @@ module _ (block : Superblock) (pages : PageMap) (others : ℕ → ℕ) (entries 
   table-stays (suc m) used =
       let one = tables.every (suc m) (omega arith) in
       let uses = stands.uses_are (suc m) in
-      let rows = no-rows block pages others entries mine tables stands (suc m) in
-      regrown.moves.others (suc m) (omega (arith, used, one, uses)) (omega (arith, used, one, rows))
+      (regrown.moves.others (suc m) (omega (arith, used, one, uses)) (omega (arith, used, one, uses))).page
 
   -- so the place table is the same map
   places-same : IsSameMap places_form pages later block.head.places
@@ -68,16 +67,16 @@ module _ (block : Superblock) (pages : PageMap) (others : ℕ → ℕ) (entries 
   uses-later : (n : ℕ) → table_uses later (tables_in block.head) n ≡ table_uses pages (tables_in block.head) n
   uses-later n = omega (arith, places-same.uses n, texts-same.uses n, numbers-same.uses n)
 
-  -- there are still no rows
-  rows-later : (n : ℕ) → map_uses rows_form later after.head.rows n ≡ 0
-  rows-later n = ap (λ (root : ℕ). map_uses rows_form later root n) (rerooted.rows ∙ stands.rows)
+  -- which pages the tree and its rows use then
+  abbrev others_later : ℕ → ℕ
+  others_later n = tree_uses (nodes_in node_of later after.head.rows) after.head.tree n + map_uses rows_form later after.head.rows n
 
-  -- what the tree and the free list have together is the same
-  kept-later : (n : ℕ) → tree_uses node_of later after.head.tree n + spare regrown.free after.counted n ≡ others n + spare tables.free block.counted n
+  -- what these and the free list have together is the same
+  kept-later : (n : ℕ) → others_later n + spare regrown.free after.counted n ≡ others n + spare tables.free block.counted n
   kept-later n =
       let kept = regrown.moves.kept n in
       let uses = stands.uses_are n in
-      omega (arith, kept, uses, rows-later n, no-rows block pages others entries mine tables stands n)
+      omega (arith, kept, uses)
 
   -- no page of a table is spare now
   once-later : (n : ℕ) → table_uses later (tables_in block.head) n + spare regrown.free after.counted n ≤ 1
@@ -90,14 +89,14 @@ module _ (block : Superblock) (pages : PageMap) (others : ℕ → ℕ) (entries 
   -- and the free list ends at 0
   apart-later : IsApart (view later after.counted after.first_free regrown.free) (tables_in block.head)
   apart-later = record {
-    supplied = regrown.moves.supplied.chain;
+    supplied = regrown.whole.supplied.rows.kept.supplied;
     once = once-later;
     away = uses-later 0 ∙ tables.apart.away;
     some = range.counted;
   }
 
-  -- the tables stand for the entries beside the pages of the new tree
-  tables-later : TablesStand after later (λ n. tree_uses node_of later after.head.tree n) entries
+  -- the tables stand for the entries beside the pages of the new tree and its rows
+  tables-later : TablesStand after later others_later entries
   tables-later = record {
     range = range;
     free = regrown.free;
@@ -106,7 +105,7 @@ module _ (block : Superblock) (pages : PageMap) (others : ℕ → ℕ) (entries 
     every = λ n some. (let one = tables.every n some in
         let uses : table_uses later (tables_in after.head) n ≡ table_uses later (tables_in block.head) n = ap (λ (ts : Tables). table_uses later ts n) rerooted.tables in
         omega (arith, one, uses, uses-later n, kept-later n));
-    away = regrown.whole.away;
+    away = (let tree = regrown.whole.away in let rows = regrown.whole.supplied.rows.kept.away in omega (arith, tree, rows));
     sound = subst₂ (λ n m. AreSound entries n m) (ap (λ (ts : Tables). ts.next_word) (sym rerooted.tables)) (sym rerooted.serial) tables.sound;
     live = rerooted.live ∙ tables.live;
   }
@@ -115,12 +114,15 @@ module _ (block : Superblock) (pages : PageMap) (others : ℕ → ℕ) (entries 
   pub stand-regrown : ((f : Item → ℕ) → entry_sum f entries.places + got f gone ≡ entry_sum f mine.places + got f come) → PagesStand after later (state_in entries after.head.serial after.head.number)
   stand-regrown sums = record {
     entries = entries;
-    others = λ n. tree_uses node_of later after.head.tree n;
+    others = others_later;
     tables = tables-later;
     tree = record {
       tree = regrown.whole.tree;
       entries_are = λ f. (let sum = regrown.sum_is f in let before = stands.entries_are f in omega (arith, sum, before, sums f));
-      rows = rerooted.rows ∙ stands.rows;
+      map = regrown.whole.supplied.rows.kept.map;
+      filled = regrown.whole.supplied.rows.filled;
+      blank = regrown.whole.blank;
+      named = regrown.whole.named;
       uses_are = λ n. refl;
     };
     is = refl;

@@ -7,6 +7,7 @@ use Rattle.page_store.specs.declared.superblock.Superblock.{Superblock}
 use Rattle.page_store.specs.Superblock.{IsInRange}
 use Rattle.page_store.specs.Contents as stores
 use Rattle.btree_nodes.specs.Supply.{view, spare}
+use Rattle.btree_nodes.specs.Tree.{IsMap, map_rows, map_uses}
 use Rattle.spatial_base.specs.Key.{Name}
 use Rattle.place_map.specs.declared.place.Place.{Place}
 use Rattle.place_map.specs.Restored.{IsSerialAbove}
@@ -14,8 +15,11 @@ use Rattle.place_map.specs.State.{Contents, Places}
 use Rattle.row_codec.specs.declared.counted.Counted.{Counted}
 use Rattle.row_codec.specs.declared.stored.Stored.{Stored}
 use Rattle.rtree_shape.specs.Slots.{Item}
-use Rattle.rtree_shape.specs.Whole.{IsWell, tree_uses, tree_sum}
+use Rattle.rtree_shape.specs.Stock.{rows_form}
 use Rattle.rtree_nodes.specs.Pages.{node_of}
+use Rattle.node_inverted.specs.Rows.{AreFilled, bytes_in}
+use Rattle.irtree_shape.specs.Made.{nodes_in, IsBlank}
+use Rattle.irtree_shape.specs.Whole.{IsWell, tree_uses, tree_sum}
 use Rattle.tree_updates.specs.Regrown.{entry_at}
 use Rattle.store_tables.specs.declared.tables.Tables.{Tables}
 use Rattle.store_tables.specs.Entries.{Entries}
@@ -57,17 +61,21 @@ pub record TablesStand (block : Superblock) (pages : PageMap) (others : ℕ → 
   pub sound : AreSound entries block.head.next_word block.head.serial
   pub live : block.head.live ≡ length entries.places
 
--- the sum of f over the entries that places have in a tree: of each place its key at its point
+-- the sum of f over the entries that places have in a tree: of each place its key, its point and its words
 abbrev pub entry_sum : (Item → ℕ) → List (Name × Stored) → ℕ
-entry_sum f places = sum_by (λ (e : Name × Stored). f (entry_at e.0 e.1.point)) places
+entry_sum f places = sum_by (λ (e : Name × Stored). f (entry_at e.0 e.1)) places
 
 -- What the tree and its rows are, and which pages belong to them: `uses n` is 1 where page n does, and else 0. The tree is well
--- formed, and the entries of its leaves are the places, each once. There are no rows of words yet: their root is 0.
+-- formed with its rows, and the entries of its leaves are the places, each once, with its words. The rows' map is well formed, no
+-- row is all zeros, no byte stands at an unused slot, and each row names a node of the tree.
 pub record TreeStands (head : Head) (pages : PageMap) (entries : Entries) (uses : ℕ → ℕ) : Type 0 where
-  pub tree : IsWell node_of pages head.tree
-  pub entries_are : (f : Item → ℕ) → tree_sum node_of pages head.tree f ≡ entry_sum f entries.places
-  pub rows : head.rows ≡ 0
-  pub uses_are : (n : ℕ) → uses n ≡ tree_uses node_of pages head.tree n
+  pub tree : IsWell (nodes_in node_of pages head.rows) head.tree
+  pub entries_are : (f : Item → ℕ) → tree_sum (nodes_in node_of pages head.rows) head.tree f ≡ entry_sum f entries.places
+  pub map : IsMap rows_form pages head.rows
+  pub filled : AreFilled (map_rows rows_form pages head.rows)
+  pub blank : (n : ℕ) → IsBlank node_of pages head.rows n
+  pub named : (n w i : ℕ) → tree_uses (nodes_in node_of pages head.rows) head.tree n ≡ 0 → bytes_in pages head.rows n w i ≡ 0
+  pub uses_are : (n : ℕ) → uses n ≡ tree_uses (nodes_in node_of pages head.rows) head.tree n + map_uses rows_form pages head.rows n
 
 -- Page 0's fields and the pages counted stand for a state: the tables stand for entries beside the pages of the tree and its rows,
 -- these stand for the same entries, and the state is that of the entries.

@@ -1,2 +1,3 @@
 pub mod Regrowths
-pub mod Counts
+pub mod Told
+pub mod Same

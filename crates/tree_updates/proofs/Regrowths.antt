@@ -1,21 +1,26 @@
 -- What an entry that goes and one that comes make of a tree.
-use Rattle.std.proofs.Common.{◌≡◌, ℕ, None, Some, arith, ap, subst, ◌∙◌}
+use Rattle.std.proofs.Common.{◌≡◌, ℕ, List, None, Some, Option, arith, ap, subst}
 use Rattle.page_face.specs.FreeList.{PageMap}
-use Rattle.spatial_base.specs.Key.{Name, form_of}
-use Rattle.spatial_base.specs.Point.{Position}
-use Rattle.rtree_shape.specs.Slots.{Item}
+use Rattle.spatial_base.specs.Key.{Name}
+use Rattle.row_codec.specs.declared.stored.Stored.{Stored}
+use Rattle.rtree_shape.specs.Slots.{Item, got}
 use Rattle.rtree_shape.specs.Stock.{View, view}
-use Rattle.rtree_shape.specs.Whole.{IsPlanted, IsFelled}
-use Rattle.rtree_shape.proofs.Stocks.{moves-further}
 use Rattle.rtree_nodes.specs.Pages.{node_of}
-use Rattle.rtree_nodes.specs.Reach.{place_item}
+use Rattle.irtree_shape.proofs.Stocks.{moves-further, moves-none}
+use Rattle.irtree_shape.specs.Whole.{IsWhole, IsPlanted, IsFelled}
 use Rattle.split_condense.specs.declared.entry.Entry.{Entry}
 use Rattle.split_condense.specs.Entries.{entry_item}
-use Rattle.tree_updates.specs.Regrown.{IsRegrown, entry_at}
+use Rattle.tree_updates.specs.Regrown.{IsRegrown, entry_at, entry_for}
 
--- the item of an entry is that of its key and its point
-pub entry-item : (entry : Entry) (key : Name) (point : Position) → entry.key ≡ key → entry.point ≡ point → entry_item entry ≡ entry_at key point
-entry-item entry key point key_is point_is = ap (λ (k : Name). place_item entry.point (form_of k)) key_is ∙ ap (λ (p : Position). place_item p (form_of key)) point_is
+-- nothing changed
+pub nothing-regrown : (pages : PageMap) (rows count first root : ℕ) (free : List ℕ) (taken put : Option Item) → taken ≡ put → IsWhole node_of (view pages rows count first free) root
+    → IsRegrown node_of (view pages rows count first free) pages rows count first root root taken put
+nothing-regrown pages rows count first root free taken put same whole = record {
+  free = free;
+  whole = whole;
+  moves = moves-none whole.supplied;
+  sum_is = λ f. (let e = ap (got f) same in omega (arith, e));
+}
 
 -- an entry went, and none came
 pub felled-regrown : (before : View) (pages : PageMap) (rows count first old_root root : ℕ) (x : Item) → IsFelled node_of before pages rows count first old_root root x → IsRegrown node_of before pages rows count first old_root root (Some x) None
@@ -26,20 +31,21 @@ felled-regrown before pages rows count first old_root root x h = record {
   sum_is = λ f. let e = h.sum_is f in omega arith;
 }
 
--- and that of a key at a point, if the entry is of these
-pub entry-regrown : (before : View) (pages : PageMap) (rows count first old_root root : ℕ) (entry : Entry) (key : Name) (point : Position) → entry.key ≡ key → entry.point ≡ point
-    → IsFelled node_of before pages rows count first old_root root (entry_item entry) → IsRegrown node_of before pages rows count first old_root root (Some (entry_at key point)) None
-entry-regrown before pages rows count first old_root root entry key point key_is point_is h =
-    felled-regrown before pages rows count first old_root root (entry_at key point)
-    (subst (λ (y : Item). IsFelled node_of before pages rows count first old_root root y) (entry-item entry key point key_is point_is) h)
+-- and that of a key's place, if the entry is its
+pub entry-regrown : (before : View) (pages : PageMap) (rows count first old_root root : ℕ) (entry : Entry) (key : Name) (stored : Stored) → entry ≡ entry_for key stored
+    → IsFelled node_of before pages rows count first old_root root (entry_item entry) → IsRegrown node_of before pages rows count first old_root root (Some (entry_at key stored)) None
+entry-regrown before pages rows count first old_root root entry key stored is h =
+    felled-regrown before pages rows count first old_root root (entry_at key stored)
+    (subst (λ (e : Entry). IsFelled node_of before pages rows count first old_root root (entry_item e)) is h)
 
 -- an entry came, and none went
-pub planted-regrown : (before : View) (pages : PageMap) (rows count first old_root root : ℕ) (x : Item) {rise : ℕ → Type 0} → IsPlanted node_of before pages rows count first old_root root x rise → IsRegrown node_of before pages rows count first old_root root None (Some x)
-planted-regrown before pages rows count first old_root root x h = record {
+pub planted-regrown : (before : View) (pages : PageMap) (rows count first old_root root : ℕ) (entry : Entry) (key : Name) (stored : Stored) {rise : ℕ → Type 0} → entry ≡ entry_for key stored
+    → IsPlanted node_of before pages rows count first old_root root (entry_item entry) rise → IsRegrown node_of before pages rows count first old_root root None (Some (entry_at key stored))
+planted-regrown before pages rows count first old_root root entry key stored is h = record {
   free = h.free;
   whole = h.whole;
   moves = h.moves;
-  sum_is = λ f. let e = h.sum_is f in omega arith;
+  sum_is = λ f. let e = h.sum_is f in let same = ap (λ (d : Entry). f (entry_item d)) is in omega (arith, e, same);
 }
 
 -- an entry went, and then one came

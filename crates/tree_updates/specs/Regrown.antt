@@ -3,25 +3,41 @@ use Rattle.std.specs.Prelude.{◌≡◌, ℕ, ◌+◌, ◌≤◌, List, Option}
 use Rattle.page_face.specs.FreeList.{PageMap}
 use Rattle.spatial_base.specs.Key.{Name, form_of}
 use Rattle.spatial_base.specs.Point.{Position}
-use Rattle.rtree_shape.specs.Slots.{Item, got}
-use Rattle.rtree_shape.specs.Stock.{View, view, Moves}
+use Rattle.row_codec.specs.declared.stored.Stored.{Stored}
+use Rattle.row_codec.specs.Stored.{held_pairs}
+use Rattle.node_inverted.specs.Impacts.{impact_in}
+use Rattle.rtree_shape.specs.Slots.{Item, NodeMap, got}
+use Rattle.rtree_shape.specs.Stock.{View, view}
 use Rattle.rtree_shape.specs.Made.{Reads}
-use Rattle.rtree_shape.specs.Whole.{IsWhole, tree_uses, tree_sum}
-use Rattle.rtree_nodes.specs.Pages.{node_of}
 use Rattle.rtree_nodes.specs.Reach.{place_item}
 use Rattle.rtree_find.specs.Entries.{is_entry}
+use Rattle.irtree_shape.specs.Words.{worded}
+use Rattle.irtree_shape.specs.Stock.{Moves}
+use Rattle.irtree_shape.specs.Made.{nodes_in}
+use Rattle.irtree_shape.specs.Whole.{IsWhole, tree_uses, tree_sum}
+use Rattle.split_condense.specs.declared.entry.Entry.{Entry}
+use Rattle.split_condense.specs.Entries.{AreWorded}
 
--- the entry of a key at a point
-abbrev pub entry_at : Name → Position → Item
-entry_at key point = place_item point (form_of key)
+-- the entry of a key's place, as it is handed to a tree
+abbrev pub entry_for : Name → Stored → Entry
+entry_for key stored = record { key = key; point = stored.point; count = stored.count; pairs = stored.pairs }
 
--- a tree has the entry of a key at a point
-abbrev pub HasEntry : PageMap → ℕ → Name → Position → Type 0
-HasEntry pages root key point = 1 ≤ tree_sum node_of pages root (is_entry point (form_of key))
+-- its item: the place's point, the key and the place's words
+abbrev pub entry_at : Name → Stored → Item
+entry_at key stored = worded (impact_in (held_pairs stored)) (place_item stored.point (form_of key))
+
+-- a tree has an entry of a key at a point
+abbrev pub HasPlace : NodeMap → ℕ → Name → Position → Type 0
+HasPlace nodes root key point = 1 ≤ tree_sum nodes root (is_entry point (form_of key))
+
+-- a tree has the entry of a key's place, and none of its key and point with other words
+pub record HasEntry (nodes : NodeMap) (root : ℕ) (key : Name) (stored : Stored) : Type 0 where
+  pub there : HasPlace nodes root key stored.point
+  pub words : AreWorded nodes root stored.point (form_of key) (impact_in (held_pairs stored))
 
 -- The tree has one entry less and one entry more, where there are such: it is well formed, no page is lost, and every page that was neither its own nor free is as it was.
 pub record IsRegrown (reads : Reads) (before : View) (pages : PageMap) (rows count first old_root root : ℕ) (gone come : Option Item) : Type 0 where
   pub free : List ℕ
   pub whole : IsWhole reads (view pages rows count first free) root
-  pub moves : Moves before (view pages rows count first free) (tree_uses reads before.pages old_root) (tree_uses reads pages root)
-  pub sum_is : (f : Item → ℕ) → tree_sum reads pages root f + got f gone ≡ tree_sum reads before.pages old_root f + got f come
+  pub moves : Moves before (view pages rows count first free) (tree_uses (nodes_in reads before.pages before.rows) old_root) (tree_uses (nodes_in reads pages rows) root)
+  pub sum_is : (f : Item → ℕ) → tree_sum (nodes_in reads pages rows) root f + got f gone ≡ tree_sum (nodes_in reads before.pages before.rows) old_root f + got f come

@@ -1,46 +1,48 @@
 //! The entry of a place that is taken out.
 ghost use Rattle.std.specs.Prelude.{◌≡◌, ◌≢◌, ℕ, List, None, Some, OnOk, OnErr};
 ghost use Rattle.page_face.specs.Calls.{Changes, FailsChanging};
+ghost use Rattle.btree_nodes.specs.Damages.{AreTold};
 ghost use Rattle.rtree_shape.specs.Stock.{view};
-ghost use Rattle.rtree_shape.specs.Whole.{IsWhole};
 ghost use Rattle.rtree_nodes.specs.Pages.{node_of};
-ghost use Rattle.tree_updates.specs.Regrown.{HasEntry, IsRegrown, entry_at};
+ghost use Rattle.irtree_shape.specs.Made.{nodes_in};
+ghost use Rattle.irtree_shape.specs.Whole.{IsWhole};
+ghost use Rattle.tree_updates.specs.Regrown.{HasEntry, HasPlace, IsRegrown, entry_at, entry_for};
 
 use node_inverted::Tree;
 use page_face::{Damage, PageFault, Pages, Rule};
-use row_codec::PAIRS_MAX;
-use spatial_base::{Key, Point};
+use row_codec::Stored;
+use spatial_base::Key;
 use split_condense::{Entry, delete};
 use split_policy::SplitPolicy;
 use std::alloc::Global;
 
-/// Takes the entry of a key at a point out of a tree that has it.
+/// Takes the entry of a key's place out of a tree that has it: the place's point, and its words.
 ///
-/// Fails with `Damaged`, the rule `Entry` and page 0 if the tree has no such entry, and as [`delete`] does. The tree's roots are then as
-/// before; pages may have changed, and are to be abandoned. Costs a [`delete`].
+/// Fails with `Damaged`, the rule `Entry` and page 0 if the tree has no entry of that key at that point, and as [`delete`] does. The tree's
+/// roots are then as before; pages may have changed, and are to be abandoned. Costs a [`delete`].
 pub fn take_entry<P: Pages>(
     alloc: Global,
     pages: &mut P,
     tree: &mut Tree,
     policy: &mut dyn SplitPolicy,
     key: &Key,
-    point: Point,
+    old: &Stored,
 ) -> Result<(), PageFault>
     ensures taken { (free : List ℕ) → IsWhole node_of (view (P.pages pages.old) tree.old.rows (P.count pages.old) (P.first pages.old) free) tree.old.root
-        → HasEntry (P.pages pages.old) tree.old.root key.now point
+        → HasEntry (nodes_in node_of (P.pages pages.old) tree.old.rows) tree.old.root key.now old.now
         → OnOk result (IsRegrown node_of (view (P.pages pages.old) tree.old.rows (P.count pages.old) (P.first pages.old) free) (P.pages pages.new) tree.new.rows (P.count pages.new) (P.first pages.new)
-        tree.old.root tree.new.root (Some (entry_at key.now point)) None) }
+        tree.old.root tree.new.root (Some (entry_at key.now old.now)) None) }
     ensures there { (free : List ℕ) → IsWhole node_of (view (P.pages pages.old) tree.old.rows (P.count pages.old) (P.first pages.old) free) tree.old.root
-        → OnOk result (HasEntry (P.pages pages.old) tree.old.root key.now point) }
+        → OnOk result (HasPlace (nodes_in node_of (P.pages pages.old) tree.old.rows) tree.old.root key.now old.now.point) }
     ensures honest { (free : List ℕ) → IsWhole node_of (view (P.pages pages.old) tree.old.rows (P.count pages.old) (P.first pages.old) free) tree.old.root
-        → HasEntry (P.pages pages.old) tree.old.root key.now point
+        → HasEntry (nodes_in node_of (P.pages pages.old) tree.old.rows) tree.old.root key.now old.now
+        → AreTold (P.pages pages.old) (P.count pages.old)
         → (damage : Damage) → result ≢ Err (PageFault.Damaged damage) }
     ensures kept { OnErr result (tree.new ≡ tree.old) }
-    ensures rows { tree.new.rows ≡ tree.old.rows }
     ensures fails { FailsChanging P.Pages pages.old pages.new result }
     ensures frame { Changes P.Pages pages.old pages.new }
 {
-    match delete(alloc, pages, tree, policy, &entry_of(key, point)) {
+    match delete(alloc, pages, tree, policy, &entry_of(key, old)) {
         Ok(true) => Ok(()),
         Ok(false) => Err(PageFault::Damaged(Damage {
             page: 0,
@@ -50,15 +52,14 @@ pub fn take_entry<P: Pages>(
     }
 }
 
-// The entry of a key at a point.
-pub(crate) fn entry_of(key: &Key, point: Point) -> Entry
-    ensures key { result.key ≡ key.now }
-    ensures point { result.point ≡ point }
+// The entry of a key's place.
+pub(crate) fn entry_of(key: &Key, stored: &Stored) -> Entry
+    ensures { result ≡ entry_for key.now stored.now }
 {
     Entry {
         key: *key,
-        point,
-        count: 0,
-        pairs: [(0, 0); PAIRS_MAX],
+        point: stored.point,
+        count: stored.count,
+        pairs: stored.pairs,
     }
 }

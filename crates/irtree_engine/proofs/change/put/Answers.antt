@@ -1,33 +1,36 @@
 use Rattle.std.proofs.Common.{◌≡◌, ◌+◌, ◌<◌, ◌≤◌, ◌^◌, Bool, true, false, not, cond, Option, Some, IfSome, option_map, Ok, Err, Result, IfErr, is_none, is_some, sym, ap, subst, subst₂, ◌∙◌, true≢false, arith}
+use Rattle.std.specs.Option.{option_copied}
 use Rattle.std.proofs.lemmas.Result.{err_from_is_err_and}
 use Rattle.page_face.specs.FreeList.{PageMap}
 use Rattle.page_face.specs.declared.head.Head.{Head}
 use Rattle.btree_nodes.specs.Damages.{AreTold}
 use Rattle.btree_nodes.specs.Supply.{view}
 use Rattle.paged_map.specs.Maps.{AreCounted}
-use Rattle.spatial_base.specs.Point.{Position}
+use Rattle.row_codec.specs.declared.stored.Stored.{Stored}
 use Rattle.node_inverted.specs.declared.roots.Tree.{Tree}
 use Rattle.rtree_shape.specs.Stock as stock
-use Rattle.rtree_shape.specs.Whole.{IsWhole}
 use Rattle.rtree_nodes.specs.Pages.{node_of}
+use Rattle.irtree_shape.specs.Made.{nodes_in}
+use Rattle.irtree_shape.specs.Whole.{IsWhole}
 use Rattle.tree_updates.specs.Regrown.{HasEntry, IsRegrown, entry_at}
 use Rattle.place_map.specs.declared.place.Place.{Place}
 use Rattle.place_map.specs.declared.update.Applied.{Applied}
 use Rattle.place_map.specs.declared.update.Applied.TheVariants.{New, Replaced}
 use Rattle.place_map.specs.Update.{Effect, put_at}
 use Rattle.store_meaning.specs.Stands.{PagesStand, tables_in}
-use Rattle.store_meaning.specs.Updates.{after_put, numbered_for}
+use Rattle.store_meaning.specs.Updates.{after_put, by_number, numbered_for, stored_with}
 use Rattle.store_tables.specs.declared.tables.Tables.{Tables}
 use Rattle.store_tables.specs.Entries.{place_of_key}
 use Rattle.store_tables.specs.Holding.{Holds, IsApart, IsChanged, table_uses}
 use Rattle.store_tables.specs.Words.{WordsAgree}
+use Rattle.store_tables.proofs.ToldLemmas.{told-changed}
 use Rattle.irtree_engine.specs.declared.fault.EngineFault.{EngineFault}
 use Rattle.irtree_engine.specs.Changes.{block_with, tree_in}
 use Rattle.irtree_engine.specs.Updates.{IsDueTo}
 use Rattle.irtree_engine.proofs.Dues.{passed-due}
 use Rattle.irtree_engine.proofs.Effects.{few-left, put-done, put-full, put-stands, put-worn, stand-same}
 use Rattle.irtree_engine.proofs.Standing.{stand-counted}
-use Rattle.irtree_engine.proofs.Trees.{point_in, tree-has, tree-whole}
+use Rattle.irtree_engine.proofs.Trees.{tree-has, tree-whole}
 use Rattle.irtree_engine.proofs.change.put.Goals as goal
 use Rattle.irtree_engine.proofs.change.put.Goals.{else-is_new-via-then-is_new+else-head-ge-PLACES_MAX, else-is_new-via-else-is_new, then-is_new-2, else-is_new-2}
 
@@ -82,8 +85,8 @@ returns-then-head-eq-NUMBER_MAX-clause-due g c = λ state stand told.
     put-worn head (g.P.Pages.count mid) (g.P.Pages.first mid) (g.P.Pages.pages mid) state there c.args.key.now c.in_ok-old.old is_found c.args.serial (record { point = c.args.point; words = c.args.words.now }) room (omega arith)
 
 -- src/change.rt:216:5
-pub returns-in_err-put_place-clause-due : goal.returns-in_err-put_place-clause-due
-returns-in_err-put_place-clause-due g c = λ state stand told.
+pub returns-in_err-new-clause-due : goal.returns-in_err-new-clause-due
+returns-in_err-new-clause-due g c = λ state stand told.
     let head = c.args.head.now in
     let tables = c.tables_of-tables.result in
     let tables_are : tables ≡ tables_in head = c.tables_of-tables.ensures in
@@ -99,15 +102,15 @@ returns-in_err-put_place-clause-due g c = λ state stand told.
       | else-is_new-via-else-is_new w ↦ absurd (true≢false (sym new ∙ sym new_is ∙ w.if-is_new.false))
     ] in
     let few = few-left head (g.P.Pages.count mid) (g.P.Pages.first mid) (g.P.Pages.pages mid) state there c.args.key.now c.in_ok-old.old is_found room (omega arith) in
-    let passed = err_from_is_err_and c.from_residual-in_err-put_place.result c.from_residual-in_err-put_place.ensures.1 in
+    let passed = err_from_is_err_and c.from_residual-in_err-new.result c.from_residual-in_err-new.ensures.1 in
     let apart : IsApart (view (g.P.Pages.pages mid) (g.P.Pages.count mid) (g.P.Pages.first mid) there.tables.free) tables =
     subst (λ (t : Tables). IsApart (view (g.P.Pages.pages mid) (g.P.Pages.count mid) (g.P.Pages.first mid) there.tables.free) t) (sym tables_are) there.tables.apart in
     let agree : WordsAgree there.entries tables.next_word = subst (λ (t : Tables). WordsAgree there.entries t.next_word) (sym tables_are) there.tables.sound.words in
     let told_there : AreTold (g.P.Pages.pages mid) (g.P.Pages.count mid) =
     subst (λ (p : PageMap). AreTold p (g.P.Pages.count mid)) (sym c.place.ensures.frame.pages) (subst (λ n. AreTold (g.P.Pages.pages old) n) (sym c.place.ensures.frame.count) told) in
     subst (λ (r : Result Applied EngineFault). IfErr r (IsDueTo outcome)) (sym passed.1)
-    (passed-due outcome c.in_err-put_place.field-0.0 passed.0 passed.2
-    (λ damage is. c.put_place.ensures.honest there.entries there.tables.free holds apart (c.as_ref.ensures.value ∙ is_found) agree few told_there damage (c.in_err-put_place.was ∙ ap Err is)))
+    (passed-due outcome c.in_err-new.field-0.0 passed.0 passed.2
+    (λ damage is. c.put_place.ensures.honest there.entries there.tables.free holds apart (c.as_ref.ensures.value ∙ is_found) agree few told_there damage (c.in_err-new.was ∙ ap Err is)))
 
 -- src/change.rt:219:5
 pub returns-in_err-put_entry-clause-due : goal.returns-in_err-put_entry-clause-due
@@ -125,22 +128,24 @@ returns-in_err-put_entry-clause-due g c = λ state stand told.
     subst (λ (t : Tables). IsApart (view (g.P.Pages.pages mid) (g.P.Pages.count mid) (g.P.Pages.first mid) there.tables.free) t) (sym tables_are) there.tables.apart in
     let after = c.put_place.new.pages in
     let now = c.put_place.new.tables in
-    let changed = c.in_ok-put_place.ensures.put there.entries there.tables.free holds apart (c.as_ref.ensures.value ∙ is_found) in
+    let changed = c.in_ok-new.ensures.put there.entries there.tables.free holds apart (c.as_ref.ensures.value ∙ is_found) in
     let moves : IsChanged (view (g.P.Pages.pages mid) (g.P.Pages.count mid) (g.P.Pages.first mid) there.tables.free) (tables_in head) (g.P.Pages.pages after) (g.P.Pages.count after) (g.P.Pages.first after) now (after_put c.args.key.now c.args.point c.args.words.now head.next_word there.entries) =
-    subst (λ (t : Tables). IsChanged (view (g.P.Pages.pages mid) (g.P.Pages.count mid) (g.P.Pages.first mid) there.tables.free) t (g.P.Pages.pages after) (g.P.Pages.count after) (g.P.Pages.first after) now (after_put c.args.key.now c.args.point c.args.words.now t.next_word there.entries)) tables_are changed.1 in
+    subst (λ (t : Tables). IsChanged (view (g.P.Pages.pages mid) (g.P.Pages.count mid) (g.P.Pages.first mid) there.tables.free) t (g.P.Pages.pages after) (g.P.Pages.count after) (g.P.Pages.first after) now (after_put c.args.key.now c.args.point c.args.words.now t.next_word there.entries)) tables_are changed.2 in
     let tree_is : c.tree_of-tree.result ≡ tree_in head = c.tree_of-tree.ensures in
-    let at : c.point_of-at.result ≡ point_in c.in_ok-old.old = c.point_of-at.ensures ∙ ap point_in c.as_ref-2.ensures.value in
     let block = block_with (g.P.Pages.count mid) (g.P.Pages.first mid) head in
     let whole : IsWhole node_of (stock.view (g.P.Pages.pages after) c.tree_of-tree.result.rows (g.P.Pages.count after) (g.P.Pages.first after) moves.free) c.tree_of-tree.result.root =
     subst (λ (t : Tree). IsWhole node_of (stock.view (g.P.Pages.pages after) t.rows (g.P.Pages.count after) (g.P.Pages.first after) moves.free) t.root) (sym tree_is)
     (tree-whole block (g.P.Pages.pages mid) state there (g.P.Pages.pages after) (g.P.Pages.count after) (g.P.Pages.first after) now (after_put c.args.key.now c.args.point c.args.words.now head.next_word there.entries) moves) in
-    let has : IfSome c.point_of-at.result (HasEntry (g.P.Pages.pages after) c.tree_of-tree.result.root c.args.key.now) =
-    subst₂ (λ (found : Option Position) (t : Tree). IfSome found (HasEntry (g.P.Pages.pages after) t.root c.args.key.now)) (sym at) (sym tree_is)
+    let has : IfSome (option_copied c.as_ref-2.result) (HasEntry (nodes_in node_of (g.P.Pages.pages after) c.tree_of-tree.result.rows) c.tree_of-tree.result.root c.args.key.now) =
+    subst₂ (λ (found : Option Stored) (t : Tree). IfSome found (HasEntry (nodes_in node_of (g.P.Pages.pages after) t.rows) t.root c.args.key.now)) (sym c.as_ref-2.ensures.value) (sym tree_is)
     (tree-has block (g.P.Pages.pages mid) state there (g.P.Pages.pages after) (g.P.Pages.count after) (g.P.Pages.first after) now (after_put c.args.key.now c.args.point c.args.words.now head.next_word there.entries) moves c.args.key.now c.in_ok-old.old is_found) in
+    let told_there : AreTold (g.P.Pages.pages mid) (g.P.Pages.count mid) =
+    subst (λ (p : PageMap). AreTold p (g.P.Pages.count mid)) (sym c.place.ensures.frame.pages) (subst (λ n. AreTold (g.P.Pages.pages old) n) (sym c.place.ensures.frame.count) told) in
+    let told_after = told-changed (view (g.P.Pages.pages mid) (g.P.Pages.count mid) (g.P.Pages.first mid) there.tables.free) (tables_in head) (g.P.Pages.pages after) (g.P.Pages.count after) (g.P.Pages.first after) now (after_put c.args.key.now c.args.point c.args.words.now head.next_word there.entries) moves told_there in
     let passed = err_from_is_err_and c.from_residual-in_err-put_entry.result c.from_residual-in_err-put_entry.ensures.1 in
     subst (λ (r : Result Applied EngineFault). IfErr r (IsDueTo outcome)) (sym passed.1)
     (passed-due outcome c.in_err-put_entry.field-0.0 passed.0 passed.2
-    (λ damage is. c.put_entry.ensures.honest moves.free whole has damage (c.in_err-put_entry.was ∙ ap Err is)))
+    (λ damage is. c.put_entry.ensures.honest moves.free whole has told_after damage (c.in_err-put_entry.was ∙ ap Err is)))
 
 -- src/change.rt:175:1
 pub returns-then-is_new-3-clause-updated : goal.returns-then-is_new-3-clause-updated
@@ -164,26 +169,30 @@ returns-then-is_new-3-clause-updated g c = λ state stand later serials above.
     subst (λ (t : Tables). IsApart (view (g.P.Pages.pages mid) (g.P.Pages.count mid) (g.P.Pages.first mid) there.tables.free) t) (sym tables_are) there.tables.apart in
     let after = c.put_place.new.pages in
     let now = c.put_place.new.tables in
-    let changed = c.in_ok-put_place.ensures.put there.entries there.tables.free holds apart (c.as_ref.ensures.value ∙ is_found) in
+    let changed = c.in_ok-new.ensures.put there.entries there.tables.free holds apart (c.as_ref.ensures.value ∙ is_found) in
     let next : now.next_word ≡ (numbered_for c.args.key.now c.args.words.now head.next_word there.entries).next_word =
-    subst (λ (t : Tables). now.next_word ≡ (numbered_for c.args.key.now c.args.words.now t.next_word there.entries).next_word) tables_are changed.0 in
+    subst (λ (t : Tables). now.next_word ≡ (numbered_for c.args.key.now c.args.words.now t.next_word there.entries).next_word) tables_are changed.1 in
     let moves : IsChanged (view (g.P.Pages.pages mid) (g.P.Pages.count mid) (g.P.Pages.first mid) there.tables.free) (tables_in head) (g.P.Pages.pages after) (g.P.Pages.count after) (g.P.Pages.first after) now (after_put c.args.key.now c.args.point c.args.words.now head.next_word there.entries) =
-    subst (λ (t : Tables). IsChanged (view (g.P.Pages.pages mid) (g.P.Pages.count mid) (g.P.Pages.first mid) there.tables.free) t (g.P.Pages.pages after) (g.P.Pages.count after) (g.P.Pages.first after) now (after_put c.args.key.now c.args.point c.args.words.now t.next_word there.entries)) tables_are changed.1 in
+    subst (λ (t : Tables). IsChanged (view (g.P.Pages.pages mid) (g.P.Pages.count mid) (g.P.Pages.first mid) there.tables.free) t (g.P.Pages.pages after) (g.P.Pages.count after) (g.P.Pages.first after) now (after_put c.args.key.now c.args.point c.args.words.now t.next_word there.entries)) tables_are changed.2 in
     let last = c.put_entry.new.pages in
     let tree = c.put_entry.new.tree in
     let tree_is : c.tree_of-tree.result ≡ tree_in head = c.tree_of-tree.ensures in
-    let at : c.point_of-at.result ≡ point_in c.in_ok-old.old = c.point_of-at.ensures ∙ ap point_in c.as_ref-2.ensures.value in
     let block = block_with (g.P.Pages.count mid) (g.P.Pages.first mid) head in
     let whole : IsWhole node_of (stock.view (g.P.Pages.pages after) c.tree_of-tree.result.rows (g.P.Pages.count after) (g.P.Pages.first after) moves.free) c.tree_of-tree.result.root =
     subst (λ (t : Tree). IsWhole node_of (stock.view (g.P.Pages.pages after) t.rows (g.P.Pages.count after) (g.P.Pages.first after) moves.free) t.root) (sym tree_is)
     (tree-whole block (g.P.Pages.pages mid) state there (g.P.Pages.pages after) (g.P.Pages.count after) (g.P.Pages.first after) now (after_put c.args.key.now c.args.point c.args.words.now head.next_word there.entries) moves) in
-    let has : IfSome c.point_of-at.result (HasEntry (g.P.Pages.pages after) c.tree_of-tree.result.root c.args.key.now) =
-    subst₂ (λ (found : Option Position) (t : Tree). IfSome found (HasEntry (g.P.Pages.pages after) t.root c.args.key.now)) (sym at) (sym tree_is)
+    let has : IfSome (option_copied c.as_ref-2.result) (HasEntry (nodes_in node_of (g.P.Pages.pages after) c.tree_of-tree.result.rows) c.tree_of-tree.result.root c.args.key.now) =
+    subst₂ (λ (found : Option Stored) (t : Tree). IfSome found (HasEntry (nodes_in node_of (g.P.Pages.pages after) t.rows) t.root c.args.key.now)) (sym c.as_ref-2.ensures.value) (sym tree_is)
     (tree-has block (g.P.Pages.pages mid) state there (g.P.Pages.pages after) (g.P.Pages.count after) (g.P.Pages.first after) now (after_put c.args.key.now c.args.point c.args.words.now head.next_word there.entries) moves c.args.key.now c.in_ok-old.old is_found) in
-    let regrown : IsRegrown node_of (stock.view (g.P.Pages.pages after) head.rows (g.P.Pages.count after) (g.P.Pages.first after) moves.free) (g.P.Pages.pages last) tree.rows (g.P.Pages.count last) (g.P.Pages.first last) head.tree tree.root (option_map (entry_at c.args.key.now) (point_in c.in_ok-old.old)) (Some (entry_at c.args.key.now c.args.point)) =
-    subst₂ (λ (found : Option Position) (t : Tree). IsRegrown node_of (stock.view (g.P.Pages.pages after) t.rows (g.P.Pages.count after) (g.P.Pages.first after) moves.free) (g.P.Pages.pages last) tree.rows (g.P.Pages.count last) (g.P.Pages.first last) t.root tree.root (option_map (entry_at c.args.key.now) found) (Some (entry_at c.args.key.now c.args.point))) at tree_is
+    let made : c.in_ok-new.new ≡ stored_with c.args.point (by_number (numbered_for c.args.key.now c.args.words.now head.next_word there.entries).pairs) =
+    subst (λ (t : Tables). c.in_ok-new.new ≡ stored_with c.args.point (by_number (numbered_for c.args.key.now c.args.words.now t.next_word there.entries).pairs)) tables_are changed.0 in
+    let grown : IsRegrown node_of (stock.view (g.P.Pages.pages after) head.rows (g.P.Pages.count after) (g.P.Pages.first after) moves.free) (g.P.Pages.pages last) tree.rows (g.P.Pages.count last) (g.P.Pages.first last) head.tree tree.root (option_map (entry_at c.args.key.now) c.in_ok-old.old) (Some (entry_at c.args.key.now c.in_ok-new.new)) =
+    subst₂ (λ (found : Option Stored) (t : Tree). IsRegrown node_of (stock.view (g.P.Pages.pages after) t.rows (g.P.Pages.count after) (g.P.Pages.first after) moves.free) (g.P.Pages.pages last) tree.rows (g.P.Pages.count last) (g.P.Pages.first last) t.root tree.root (option_map (entry_at c.args.key.now) found) (Some (entry_at c.args.key.now c.in_ok-new.new))) c.as_ref-2.ensures.value tree_is
     (c.in_ok-put_entry.ensures.put moves.free whole has) in
-    let rows : tree.rows ≡ head.rows = c.put_entry.ensures.rows ∙ ap (λ (t : Tree). t.rows) tree_is in
+    let regrown : IsRegrown node_of (stock.view (g.P.Pages.pages after) head.rows (g.P.Pages.count after) (g.P.Pages.first after) moves.free) (g.P.Pages.pages last) tree.rows (g.P.Pages.count last) (g.P.Pages.first last) head.tree tree.root (option_map (entry_at c.args.key.now) c.in_ok-old.old)
+    (Some (entry_at c.args.key.now (stored_with c.args.point (by_number (numbered_for c.args.key.now c.args.words.now head.next_word there.entries).pairs)))) =
+    subst (λ (s : Stored). IsRegrown node_of (stock.view (g.P.Pages.pages after) head.rows (g.P.Pages.count after) (g.P.Pages.first after) moves.free) (g.P.Pages.pages last) tree.rows (g.P.Pages.count last) (g.P.Pages.first last) head.tree tree.root (option_map (entry_at c.args.key.now) c.in_ok-old.old) (Some (entry_at c.args.key.now s))) made
+    grown in
     let grows : g.P.Pages.count mid ≤ g.P.Pages.count after = c.put_place.ensures.frame.count in
     let live : c.if-is_new-2.live ≡ cond (is_none c.in_ok-old.old) (head.live + 1) head.live = elim c.if-is_new-2.branch [
       | then-is_new-2 w ↦ w.live-is ∙ ap (λ b. cond b (head.live + 1) head.live) (sym (sym new_is ∙ w.if-is_new-2.true))
@@ -193,7 +202,7 @@ returns-then-is_new-3-clause-updated g c = λ state stand later serials above.
       ap (λ (e : Effect). e.answer) done ∙ ap (λ b. Ok (cond b New Replaced)) (sym new_is ∙ c.if-is_new-3.true),
       subst (λ (h : Head). PagesStand (block_with (g.P.Pages.count last) (g.P.Pages.first last) h) (g.P.Pages.pages last) (put_at state c.args.key.now c.args.serial place).state) (sym c.head_after.ensures)
           (put-stands head (g.P.Pages.count mid) (g.P.Pages.first mid) (g.P.Pages.pages mid) state there c.args.key.now c.in_ok-old.old is_found (g.P.Pages.pages after) (g.P.Pages.count after) (g.P.Pages.first after) (g.met.P.Pages.first_is_counted after) grows now
-          (g.P.Pages.pages last) (g.P.Pages.count last) (g.P.Pages.first last) (g.met.P.Pages.first_is_counted last) c.put_entry.ensures.frame.count tree rows
+          (g.P.Pages.pages last) (g.P.Pages.count last) (g.P.Pages.first last) (g.met.P.Pages.first_is_counted last) c.put_entry.ensures.frame.count tree
           c.args.point c.args.words.now c.args.serial c.if-is_new-2.live c.pairs.ensures.valid room (omega arith) less later serials above live next moves regrown),
     )
 
@@ -219,26 +228,30 @@ returns-else-is_new-3-clause-updated g c = λ state stand later serials above.
     subst (λ (t : Tables). IsApart (view (g.P.Pages.pages mid) (g.P.Pages.count mid) (g.P.Pages.first mid) there.tables.free) t) (sym tables_are) there.tables.apart in
     let after = c.put_place.new.pages in
     let now = c.put_place.new.tables in
-    let changed = c.in_ok-put_place.ensures.put there.entries there.tables.free holds apart (c.as_ref.ensures.value ∙ is_found) in
+    let changed = c.in_ok-new.ensures.put there.entries there.tables.free holds apart (c.as_ref.ensures.value ∙ is_found) in
     let next : now.next_word ≡ (numbered_for c.args.key.now c.args.words.now head.next_word there.entries).next_word =
-    subst (λ (t : Tables). now.next_word ≡ (numbered_for c.args.key.now c.args.words.now t.next_word there.entries).next_word) tables_are changed.0 in
+    subst (λ (t : Tables). now.next_word ≡ (numbered_for c.args.key.now c.args.words.now t.next_word there.entries).next_word) tables_are changed.1 in
     let moves : IsChanged (view (g.P.Pages.pages mid) (g.P.Pages.count mid) (g.P.Pages.first mid) there.tables.free) (tables_in head) (g.P.Pages.pages after) (g.P.Pages.count after) (g.P.Pages.first after) now (after_put c.args.key.now c.args.point c.args.words.now head.next_word there.entries) =
-    subst (λ (t : Tables). IsChanged (view (g.P.Pages.pages mid) (g.P.Pages.count mid) (g.P.Pages.first mid) there.tables.free) t (g.P.Pages.pages after) (g.P.Pages.count after) (g.P.Pages.first after) now (after_put c.args.key.now c.args.point c.args.words.now t.next_word there.entries)) tables_are changed.1 in
+    subst (λ (t : Tables). IsChanged (view (g.P.Pages.pages mid) (g.P.Pages.count mid) (g.P.Pages.first mid) there.tables.free) t (g.P.Pages.pages after) (g.P.Pages.count after) (g.P.Pages.first after) now (after_put c.args.key.now c.args.point c.args.words.now t.next_word there.entries)) tables_are changed.2 in
     let last = c.put_entry.new.pages in
     let tree = c.put_entry.new.tree in
     let tree_is : c.tree_of-tree.result ≡ tree_in head = c.tree_of-tree.ensures in
-    let at : c.point_of-at.result ≡ point_in c.in_ok-old.old = c.point_of-at.ensures ∙ ap point_in c.as_ref-2.ensures.value in
     let block = block_with (g.P.Pages.count mid) (g.P.Pages.first mid) head in
     let whole : IsWhole node_of (stock.view (g.P.Pages.pages after) c.tree_of-tree.result.rows (g.P.Pages.count after) (g.P.Pages.first after) moves.free) c.tree_of-tree.result.root =
     subst (λ (t : Tree). IsWhole node_of (stock.view (g.P.Pages.pages after) t.rows (g.P.Pages.count after) (g.P.Pages.first after) moves.free) t.root) (sym tree_is)
     (tree-whole block (g.P.Pages.pages mid) state there (g.P.Pages.pages after) (g.P.Pages.count after) (g.P.Pages.first after) now (after_put c.args.key.now c.args.point c.args.words.now head.next_word there.entries) moves) in
-    let has : IfSome c.point_of-at.result (HasEntry (g.P.Pages.pages after) c.tree_of-tree.result.root c.args.key.now) =
-    subst₂ (λ (found : Option Position) (t : Tree). IfSome found (HasEntry (g.P.Pages.pages after) t.root c.args.key.now)) (sym at) (sym tree_is)
+    let has : IfSome (option_copied c.as_ref-2.result) (HasEntry (nodes_in node_of (g.P.Pages.pages after) c.tree_of-tree.result.rows) c.tree_of-tree.result.root c.args.key.now) =
+    subst₂ (λ (found : Option Stored) (t : Tree). IfSome found (HasEntry (nodes_in node_of (g.P.Pages.pages after) t.rows) t.root c.args.key.now)) (sym c.as_ref-2.ensures.value) (sym tree_is)
     (tree-has block (g.P.Pages.pages mid) state there (g.P.Pages.pages after) (g.P.Pages.count after) (g.P.Pages.first after) now (after_put c.args.key.now c.args.point c.args.words.now head.next_word there.entries) moves c.args.key.now c.in_ok-old.old is_found) in
-    let regrown : IsRegrown node_of (stock.view (g.P.Pages.pages after) head.rows (g.P.Pages.count after) (g.P.Pages.first after) moves.free) (g.P.Pages.pages last) tree.rows (g.P.Pages.count last) (g.P.Pages.first last) head.tree tree.root (option_map (entry_at c.args.key.now) (point_in c.in_ok-old.old)) (Some (entry_at c.args.key.now c.args.point)) =
-    subst₂ (λ (found : Option Position) (t : Tree). IsRegrown node_of (stock.view (g.P.Pages.pages after) t.rows (g.P.Pages.count after) (g.P.Pages.first after) moves.free) (g.P.Pages.pages last) tree.rows (g.P.Pages.count last) (g.P.Pages.first last) t.root tree.root (option_map (entry_at c.args.key.now) found) (Some (entry_at c.args.key.now c.args.point))) at tree_is
+    let made : c.in_ok-new.new ≡ stored_with c.args.point (by_number (numbered_for c.args.key.now c.args.words.now head.next_word there.entries).pairs) =
+    subst (λ (t : Tables). c.in_ok-new.new ≡ stored_with c.args.point (by_number (numbered_for c.args.key.now c.args.words.now t.next_word there.entries).pairs)) tables_are changed.0 in
+    let grown : IsRegrown node_of (stock.view (g.P.Pages.pages after) head.rows (g.P.Pages.count after) (g.P.Pages.first after) moves.free) (g.P.Pages.pages last) tree.rows (g.P.Pages.count last) (g.P.Pages.first last) head.tree tree.root (option_map (entry_at c.args.key.now) c.in_ok-old.old) (Some (entry_at c.args.key.now c.in_ok-new.new)) =
+    subst₂ (λ (found : Option Stored) (t : Tree). IsRegrown node_of (stock.view (g.P.Pages.pages after) t.rows (g.P.Pages.count after) (g.P.Pages.first after) moves.free) (g.P.Pages.pages last) tree.rows (g.P.Pages.count last) (g.P.Pages.first last) t.root tree.root (option_map (entry_at c.args.key.now) found) (Some (entry_at c.args.key.now c.in_ok-new.new))) c.as_ref-2.ensures.value tree_is
     (c.in_ok-put_entry.ensures.put moves.free whole has) in
-    let rows : tree.rows ≡ head.rows = c.put_entry.ensures.rows ∙ ap (λ (t : Tree). t.rows) tree_is in
+    let regrown : IsRegrown node_of (stock.view (g.P.Pages.pages after) head.rows (g.P.Pages.count after) (g.P.Pages.first after) moves.free) (g.P.Pages.pages last) tree.rows (g.P.Pages.count last) (g.P.Pages.first last) head.tree tree.root (option_map (entry_at c.args.key.now) c.in_ok-old.old)
+    (Some (entry_at c.args.key.now (stored_with c.args.point (by_number (numbered_for c.args.key.now c.args.words.now head.next_word there.entries).pairs)))) =
+    subst (λ (s : Stored). IsRegrown node_of (stock.view (g.P.Pages.pages after) head.rows (g.P.Pages.count after) (g.P.Pages.first after) moves.free) (g.P.Pages.pages last) tree.rows (g.P.Pages.count last) (g.P.Pages.first last) head.tree tree.root (option_map (entry_at c.args.key.now) c.in_ok-old.old) (Some (entry_at c.args.key.now s))) made
+    grown in
     let grows : g.P.Pages.count mid ≤ g.P.Pages.count after = c.put_place.ensures.frame.count in
     let live : c.if-is_new-2.live ≡ cond (is_none c.in_ok-old.old) (head.live + 1) head.live = elim c.if-is_new-2.branch [
       | then-is_new-2 w ↦ w.live-is ∙ ap (λ b. cond b (head.live + 1) head.live) (sym (sym new_is ∙ w.if-is_new-2.true))
@@ -248,6 +261,6 @@ returns-else-is_new-3-clause-updated g c = λ state stand later serials above.
       ap (λ (e : Effect). e.answer) done ∙ ap (λ b. Ok (cond b New Replaced)) (sym new_is ∙ c.if-is_new-3.false),
       subst (λ (h : Head). PagesStand (block_with (g.P.Pages.count last) (g.P.Pages.first last) h) (g.P.Pages.pages last) (put_at state c.args.key.now c.args.serial place).state) (sym c.head_after.ensures)
           (put-stands head (g.P.Pages.count mid) (g.P.Pages.first mid) (g.P.Pages.pages mid) state there c.args.key.now c.in_ok-old.old is_found (g.P.Pages.pages after) (g.P.Pages.count after) (g.P.Pages.first after) (g.met.P.Pages.first_is_counted after) grows now
-          (g.P.Pages.pages last) (g.P.Pages.count last) (g.P.Pages.first last) (g.met.P.Pages.first_is_counted last) c.put_entry.ensures.frame.count tree rows
+          (g.P.Pages.pages last) (g.P.Pages.count last) (g.P.Pages.first last) (g.met.P.Pages.first_is_counted last) c.put_entry.ensures.frame.count tree
           c.args.point c.args.words.now c.args.serial c.if-is_new-2.live c.pairs.ensures.valid room (omega arith) less later serials above live next moves regrown),
     )

@@ -2,12 +2,14 @@ use Rattle.std.proofs.Common.{◌≡◌, ◌-◌, ◌^◌, true, false, Option, 
 use Rattle.std.proofs.lemmas.Result.{err_from_is_err_and}
 use Rattle.page_face.specs.FreeList.{PageMap}
 use Rattle.page_face.specs.declared.head.Head.{Head}
+use Rattle.btree_nodes.specs.Damages.{AreTold}
 use Rattle.btree_nodes.specs.Supply.{view}
 use Rattle.paged_map.specs.Maps.{AreCounted}
 use Rattle.node_inverted.specs.declared.roots.Tree.{Tree}
 use Rattle.rtree_shape.specs.Stock as stock
-use Rattle.rtree_shape.specs.Whole.{IsWhole}
 use Rattle.rtree_nodes.specs.Pages.{node_of}
+use Rattle.irtree_shape.specs.Made.{nodes_in}
+use Rattle.irtree_shape.specs.Whole.{IsWhole}
 use Rattle.tree_updates.specs.Regrown.{HasEntry, IsRegrown, entry_at}
 use Rattle.place_map.specs.declared.update.Applied.{Applied}
 use Rattle.place_map.specs.Update.{Effect, removed_at}
@@ -17,13 +19,14 @@ use Rattle.row_codec.specs.declared.stored.Stored.{Stored}
 use Rattle.store_tables.specs.declared.tables.Tables.{Tables}
 use Rattle.store_tables.specs.Entries.{place_of_key}
 use Rattle.store_tables.specs.Holding.{Holds, IsApart, IsChanged, table_uses}
+use Rattle.store_tables.proofs.ToldLemmas.{told-changed}
 use Rattle.irtree_engine.specs.declared.fault.EngineFault.{EngineFault}
 use Rattle.irtree_engine.specs.Changes.{block_with, tree_in}
 use Rattle.irtree_engine.specs.Updates.{IsDueTo}
 use Rattle.irtree_engine.proofs.Dues.{passed-due}
 use Rattle.irtree_engine.proofs.Effects.{remove-absent, remove-done, remove-stands, remove-worn, stand-same}
 use Rattle.irtree_engine.proofs.Standing.{stand-counted}
-use Rattle.irtree_engine.proofs.Trees.{point_in, tree-has, tree-whole}
+use Rattle.irtree_engine.proofs.Trees.{tree-has, tree-whole}
 use Rattle.irtree_engine.proofs.change.remove.Goals as goal
 
 -- no place is found where none is the one
@@ -96,15 +99,18 @@ returns-in_err-take_entry-clause-due g c = λ state stand told.
     let whole : IsWhole node_of (stock.view (g.P.Pages.pages after) c.tree_of-tree.result.rows (g.P.Pages.count after) (g.P.Pages.first after) moves.free) c.tree_of-tree.result.root =
     subst (λ (t : Tree). IsWhole node_of (stock.view (g.P.Pages.pages after) t.rows (g.P.Pages.count after) (g.P.Pages.first after) moves.free) t.root) (sym tree_is)
     (tree-whole block (g.P.Pages.pages mid) state there (g.P.Pages.pages after) (g.P.Pages.count after) (g.P.Pages.first after) now (after_remove c.args.key.now there.entries) moves) in
-    let has : HasEntry (g.P.Pages.pages after) c.tree_of-tree.result.root c.args.key.now c.in-Some.old.point =
-    subst (λ (t : Tree). HasEntry (g.P.Pages.pages after) t.root c.args.key.now c.in-Some.old.point) (sym tree_is)
-    (subst (λ (found : Option Stored). IfSome (point_in found) (HasEntry (g.P.Pages.pages after) head.tree c.args.key.now)) c.in-Some.is
+    let has : HasEntry (nodes_in node_of (g.P.Pages.pages after) c.tree_of-tree.result.rows) c.tree_of-tree.result.root c.args.key.now c.in-Some.old =
+    subst (λ (t : Tree). HasEntry (nodes_in node_of (g.P.Pages.pages after) t.rows) t.root c.args.key.now c.in-Some.old) (sym tree_is)
+    (subst (λ (found : Option Stored). IfSome found (HasEntry (nodes_in node_of (g.P.Pages.pages after) head.rows) head.tree c.args.key.now)) c.in-Some.is
     (tree-has block (g.P.Pages.pages mid) state there (g.P.Pages.pages after) (g.P.Pages.count after) (g.P.Pages.first after) now (after_remove c.args.key.now there.entries) moves c.args.key.now c.in_ok-old.field-0 is_found)) in
     let outcome = (removed_at state c.args.key.now).answer in
+    let told_there : AreTold (g.P.Pages.pages mid) (g.P.Pages.count mid) =
+    subst (λ (p : PageMap). AreTold p (g.P.Pages.count mid)) (sym c.place.ensures.frame.pages) (subst (λ n. AreTold (g.P.Pages.pages old) n) (sym c.place.ensures.frame.count) told) in
+    let told_after = told-changed (view (g.P.Pages.pages mid) (g.P.Pages.count mid) (g.P.Pages.first mid) there.tables.free) (tables_in head) (g.P.Pages.pages after) (g.P.Pages.count after) (g.P.Pages.first after) now (after_remove c.args.key.now there.entries) moves told_there in
     let passed = err_from_is_err_and c.from_residual-in_err-take_entry.result c.from_residual-in_err-take_entry.ensures.1 in
     subst (λ (r : Result Applied EngineFault). IfErr r (IsDueTo outcome)) (sym passed.1)
     (passed-due outcome c.in_err-take_entry.field-0.0 passed.0 passed.2
-    (λ damage is. c.take_entry.ensures.honest moves.free whole has damage (c.in_err-take_entry.was ∙ ap Err is)))
+    (λ damage is. c.take_entry.ensures.honest moves.free whole has told_after damage (c.in_err-take_entry.was ∙ ap Err is)))
 
 -- src/change.rt:230:1
 pub returns-clause-updated : goal.returns-clause-updated
@@ -129,23 +135,22 @@ returns-clause-updated g c = λ state stand.
     let whole : IsWhole node_of (stock.view (g.P.Pages.pages after) c.tree_of-tree.result.rows (g.P.Pages.count after) (g.P.Pages.first after) moves.free) c.tree_of-tree.result.root =
     subst (λ (t : Tree). IsWhole node_of (stock.view (g.P.Pages.pages after) t.rows (g.P.Pages.count after) (g.P.Pages.first after) moves.free) t.root) (sym tree_is)
     (tree-whole block (g.P.Pages.pages mid) state there (g.P.Pages.pages after) (g.P.Pages.count after) (g.P.Pages.first after) now (after_remove c.args.key.now there.entries) moves) in
-    let has : HasEntry (g.P.Pages.pages after) c.tree_of-tree.result.root c.args.key.now c.in-Some.old.point =
-    subst (λ (t : Tree). HasEntry (g.P.Pages.pages after) t.root c.args.key.now c.in-Some.old.point) (sym tree_is)
-    (subst (λ (found : Option Stored). IfSome (point_in found) (HasEntry (g.P.Pages.pages after) head.tree c.args.key.now)) c.in-Some.is
+    let has : HasEntry (nodes_in node_of (g.P.Pages.pages after) c.tree_of-tree.result.rows) c.tree_of-tree.result.root c.args.key.now c.in-Some.old =
+    subst (λ (t : Tree). HasEntry (nodes_in node_of (g.P.Pages.pages after) t.rows) t.root c.args.key.now c.in-Some.old) (sym tree_is)
+    (subst (λ (found : Option Stored). IfSome found (HasEntry (nodes_in node_of (g.P.Pages.pages after) head.rows) head.tree c.args.key.now)) c.in-Some.is
     (tree-has block (g.P.Pages.pages mid) state there (g.P.Pages.pages after) (g.P.Pages.count after) (g.P.Pages.first after) now (after_remove c.args.key.now there.entries) moves c.args.key.now c.in_ok-old.field-0 is_found)) in
     let some : is_some c.in_ok-old.field-0 ≡ true = ap is_some c.in-Some.is in
     let less : head.number ≡ 2 ^ 40 → ⊥ = λ e. omega arith in
     let next : now.next_word ≡ head.next_word = c.remove_place.ensures.next ∙ ap (λ (t : Tables). t.next_word) tables_are in
     let last = c.take_entry.new.pages in
     let tree = c.take_entry.new.tree in
-    let regrown : IsRegrown node_of (stock.view (g.P.Pages.pages after) head.rows (g.P.Pages.count after) (g.P.Pages.first after) moves.free) (g.P.Pages.pages last) tree.rows (g.P.Pages.count last) (g.P.Pages.first last) head.tree tree.root (Some (entry_at c.args.key.now c.in-Some.old.point)) None =
-    subst (λ (t : Tree). IsRegrown node_of (stock.view (g.P.Pages.pages after) t.rows (g.P.Pages.count after) (g.P.Pages.first after) moves.free) (g.P.Pages.pages last) tree.rows (g.P.Pages.count last) (g.P.Pages.first last) t.root tree.root (Some (entry_at c.args.key.now c.in-Some.old.point)) None) tree_is
+    let regrown : IsRegrown node_of (stock.view (g.P.Pages.pages after) head.rows (g.P.Pages.count after) (g.P.Pages.first after) moves.free) (g.P.Pages.pages last) tree.rows (g.P.Pages.count last) (g.P.Pages.first last) head.tree tree.root (Some (entry_at c.args.key.now c.in-Some.old)) None =
+    subst (λ (t : Tree). IsRegrown node_of (stock.view (g.P.Pages.pages after) t.rows (g.P.Pages.count after) (g.P.Pages.first after) moves.free) (g.P.Pages.pages last) tree.rows (g.P.Pages.count last) (g.P.Pages.first last) t.root tree.root (Some (entry_at c.args.key.now c.in-Some.old)) None) tree_is
     (c.in_ok-take_entry.ensures.taken moves.free whole has) in
-    let rows : tree.rows ≡ head.rows = c.take_entry.ensures.rows ∙ ap (λ (t : Tree). t.rows) tree_is in
     let done = remove-done head (g.P.Pages.count mid) (g.P.Pages.first mid) (g.P.Pages.pages mid) state there c.args.key.now c.in_ok-old.field-0 is_found some less in (
       ap (λ (e : Effect). e.answer) done,
       subst (λ (h : Head). PagesStand (block_with (g.P.Pages.count last) (g.P.Pages.first last) h) (g.P.Pages.pages last) (removed_at state c.args.key.now).state) (sym c.head_after.ensures)
           (remove-stands head (g.P.Pages.count mid) (g.P.Pages.first mid) (g.P.Pages.pages mid) state there c.args.key.now c.in_ok-old.field-0 is_found (g.P.Pages.pages after) (g.P.Pages.count after) (g.P.Pages.first after) (g.met.P.Pages.first_is_counted after) c.remove_place.ensures.frame.count now
-          (g.P.Pages.pages last) (g.P.Pages.count last) (g.P.Pages.first last) (g.met.P.Pages.first_is_counted last) c.take_entry.ensures.frame.count tree rows
+          (g.P.Pages.pages last) (g.P.Pages.count last) (g.P.Pages.first last) (g.met.P.Pages.first_is_counted last) c.take_entry.ensures.frame.count tree
           c.in-Some.old (head.live - 1) c.in-Some.is less (omega arith) next moves regrown),
     )

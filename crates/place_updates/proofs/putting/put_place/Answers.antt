@@ -8,7 +8,7 @@ use Rattle.store_tables.specs.Entries.{Entries, place_of_key}
 use Rattle.store_tables.specs.Holding.{IsChanged}
 use Rattle.store_tables.proofs.FrameLemmas.{changed-further}
 use Rattle.store_tables.proofs.ToldLemmas.{told-changed}
-use Rattle.store_meaning.specs.Updates.{CanNumber, numbered, pairs_of, placed}
+use Rattle.store_meaning.specs.Updates.{CanNumber, by_number, numbered, pairs_of, placed, stored_with}
 use Rattle.store_meaning.proofs.Chances.{can-number-put, can-release-put}
 use Rattle.store_meaning.proofs.Maps.{ascending-holds}
 use Rattle.place_updates.proofs.Turns.{after-puts, can-release-puts}
@@ -69,6 +69,7 @@ returns-clause-put g c entries free holds apart was =
     let rest = c.in_ok-release_words.ensures.released _ put.1.free put.1.holds put.1.apart in
     let after = after-puts key c.args.point words c.pairs.result.now next entries c.held_pairs-held.result.now c.held_pairs.result.now c.place_with-stored.result c.number_words.new.pairs.entries
     pairs c.pairs.ensures.pairs (numbers.1 ∙ begun) c.place_with-stored.ensures.pairs c.held_pairs.ensures.pairs in (
+      c.place_with-stored.ensures.pairs ∙ ap (stored_with c.args.point) (numbers.1 ∙ begun ∙ (λ i. by_number (numbered (pairs i) (c.pairs.ensures.pairs i) next entries).pairs)),
       c.in_ok-release_words.ensures.next ∙ ap (λ (t : Tables). t.next_word) c.put_place.ensures.others ∙ numbers.0 ∙ (λ i. (numbered (pairs i) (c.pairs.ensures.pairs i) next entries).next_word),
       subst (λ (e : Entries). IsChanged before c.args.tables.now (g.P.Pages.pages c.release_words.new.pages) (g.P.Pages.count c.release_words.new.pages) (g.P.Pages.first c.release_words.new.pages) c.release_words.new.tables e) after
           (changed-further numbers.2 (changed-further put.1 rest)),

@@ -1,6 +1,12 @@
-use Rattle.std.proofs.Common.{◌≡◌, ap, Ok}
+use Rattle.std.proofs.Common.{◌≡◌, ap, sym, subst, Ok, Err}
+use Rattle.page_face.specs.declared.fault.PageFault.TheVariants.{Damaged}
 use Rattle.rtree_shape.specs.Stock.{View, view}
-use Rattle.tree_updates.proofs.Counts.{gone-was}
+use Rattle.rtree_nodes.specs.Pages.{node_of}
+use Rattle.spatial_base.specs.Key.{form_of}
+use Rattle.rtree_shape.specs.Slots.{NodeMap}
+use Rattle.irtree_shape.specs.Made.{nodes_in}
+use Rattle.split_condense.specs.declared.entry.Entry.{Entry}
+use Rattle.split_condense.specs.Entries.{AreWorded, impact_of}
 use Rattle.tree_updates.proofs.Regrowths.{entry-regrown}
 use Rattle.tree_updates.proofs.taking.take_entry.Goals as goal
 
@@ -8,17 +14,19 @@ pub returns-in-Ok-true-clause-taken : goal.returns-in-Ok-true-clause-taken
 returns-in-Ok-true-clause-taken g c = λ free whole has.
     let P = g.P.Pages in
     let tree = c.args.tree.now in
+    let nodes : NodeMap = nodes_in node_of (P.pages c.args.pages.now) tree.rows in
     let before : View = view (P.pages c.args.pages.now) tree.rows (P.count c.args.pages.now) (P.first c.args.pages.now) free in
+    let worded : AreWorded nodes tree.root c.entry_of.result.point (form_of c.entry_of.result.key) (impact_of c.entry_of.result) =
+    subst (λ (e : Entry). AreWorded nodes tree.root e.point (form_of e.key) (impact_of e)) (sym c.entry_of.ensures) has.words in
     entry-regrown before (P.pages c.delete.new.pages) c.delete.new.tree.rows (P.count c.delete.new.pages) (P.first c.delete.new.pages) tree.root c.delete.new.tree.root
-    c.entry_of.result c.args.key.now c.args.point c.entry_of.ensures.key c.entry_of.ensures.point
-    (c.in-Ok-true.ensures.felled free whole (ap Ok c.in-Ok-true.field-0-test))
+    c.entry_of.result c.args.key.now c.args.old.now c.entry_of.ensures
+    (c.in-Ok-true.ensures.felled free whole worded (ap Ok c.in-Ok-true.field-0-test))
 
-pub returns-in-Ok-true-clause-there : goal.returns-in-Ok-true-clause-there
-returns-in-Ok-true-clause-there g c = λ free whole.
-    let P = g.P.Pages in
+pub returns-in-Err-clause-honest : goal.returns-in-Err-clause-honest
+returns-in-Err-clause-honest g c = λ free whole has told damage e.
     let tree = c.args.tree.now in
-    let before : View = view (P.pages c.args.pages.now) tree.rows (P.count c.args.pages.now) (P.first c.args.pages.now) free in
-    gone-was before (P.pages c.delete.new.pages) c.delete.new.tree.rows (P.count c.delete.new.pages) (P.first c.delete.new.pages) tree.root c.delete.new.tree.root c.args.key.now c.args.point
-    (entry-regrown before (P.pages c.delete.new.pages) c.delete.new.tree.rows (P.count c.delete.new.pages) (P.first c.delete.new.pages) tree.root c.delete.new.tree.root
-    c.entry_of.result c.args.key.now c.args.point c.entry_of.ensures.key c.entry_of.ensures.point
-    (c.in-Ok-true.ensures.felled free whole (ap Ok c.in-Ok-true.field-0-test)))
+    let nodes : NodeMap = nodes_in node_of (g.P.Pages.pages c.args.pages.now) tree.rows in
+    let worded : AreWorded nodes tree.root c.entry_of.result.point (form_of c.entry_of.result.key) (impact_of c.entry_of.result) =
+    subst (λ (e : Entry). AreWorded nodes tree.root e.point (form_of e.key) (impact_of e)) (sym c.entry_of.ensures) has.words in
+    let fault_is : c.in-Err.fault ≡ Damaged damage = cc in
+    c.in-Err.ensures.honest free whole worded told damage (ap Err fault_is)

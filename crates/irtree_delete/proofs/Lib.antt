@@ -1,0 +1,11 @@
+pub mod Clearings
+pub mod Pushes
+pub mod Forms
+pub mod Dissolves
+pub mod Keeps
+pub mod Takes
+pub mod Leaves
+pub mod Inners
+pub mod Standings
+pub mod Lowers
+pub mod Removes

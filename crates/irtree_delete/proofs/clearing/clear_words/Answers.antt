@@ -1,0 +1,55 @@
+use Rattle.std.proofs.Common.{◌≡◌, ℕ, ◌+◌, ◌<◌, ◌∙◌, ap, sym, take, get_or, List, arith, length, refl, Err}
+use Rattle.std.proofs.lemmas.List.{take_more}
+use Rattle.std.proofs.lemmas.Result.{err_from_is_err_and}
+use Rattle.page_face.specs.declared.fault.PageFault.TheVariants.{Damaged}
+use Rattle.page_face.proofs.Frames.{changes_then}
+use Rattle.btree_nodes.specs.Supply.{View, view}
+use Rattle.node_inverted.specs.Rows.{Bytes, bytes_in}
+use Rattle.node_inverted.specs.Impacts.{with_byte}
+use Rattle.node_inverted.specs.Refreshing.{on_words}
+use Rattle.node_inverted.proofs.Turned.{turns-same, turns-as, turns-further}
+use Rattle.node_inverted.proofs.Told.{told-turned}
+use Rattle.node_inverted.proofs.Faults.{changes-none}
+use Rattle.irtree_delete.specs.Clears.{cleared}
+use Rattle.irtree_delete.proofs.Clearings.{cleared-next}
+use Rattle.irtree_delete.proofs.clearing.clear_words.Goals as goal
+
+pub loop-pair-init : goal.loop-pair-init
+loop-pair-init g c = record {
+  root = refl;
+  turns = λ free rows. turns-same (view (g.P.Pages.pages c.args.pages.now) (g.P.Pages.count c.args.pages.now) (g.P.Pages.first c.args.pages.now) free) c.args.tree.now.rows rows;
+  frame = changes-none g.P.Pages c.args.pages.now (g.met.P.Pages.stays c.args.pages.now);
+}
+
+pub loop-pair-preserved : goal.loop-pair-preserved
+loop-pair-preserved g c = record {
+  root = c.clear_word.ensures.root ∙ c.loop-pair.invariant.root;
+  turns = λ free rows.
+      let before : View = view (g.P.Pages.pages c.args.pages.now) (g.P.Pages.count c.args.pages.now) (g.P.Pages.first c.args.pages.now) free in
+      let b : Bytes = bytes_in (g.P.Pages.pages c.args.pages.now) c.args.tree.now.rows in
+      let turn = c.loop-pair.invariant.turns free rows in
+      let l : c.loop-pair.pair-index < length c.args.words.now = omega arith in
+      let p : ℕ × ℕ = get_or c.args.words.now c.loop-pair.pair-index (0, 0) in
+      let front : List (ℕ × ℕ) = take c.loop-pair.pair-index c.args.words.now in
+      let f : Bytes = cleared c.args.node c.args.slot b in
+      let now : Bytes = bytes_in (g.P.Pages.pages c.loop-pair.pages) c.loop-pair.changed.rows in
+      let d : Bytes = on_words (take (c.loop-pair.pair-index + 1) c.args.words.now) f b in
+      turns-further before c.args.tree.now.rows (g.P.Pages.pages c.loop-pair.pages) (g.P.Pages.count c.loop-pair.pages) (g.P.Pages.first c.loop-pair.pages) c.loop-pair.changed.rows (on_words front f b) turn
+      (g.P.Pages.pages c.clear_word.new.pages) (g.P.Pages.count c.clear_word.new.pages) (g.P.Pages.first c.clear_word.new.pages) c.clear_word.new.tree.rows d
+      (turns-as _ c.loop-pair.changed.rows (g.P.Pages.pages c.clear_word.new.pages) (g.P.Pages.count c.clear_word.new.pages) (g.P.Pages.first c.clear_word.new.pages) c.clear_word.new.tree.rows
+      (with_byte c.args.node p.0 c.args.slot 0 now) d
+      (λ n w i. cleared-next c.args.node c.args.slot b now front turn.is p n w i
+      ∙ ap (λ (ps : List (ℕ × ℕ)). on_words ps f b n w i) (sym (take_more c.args.words.now c.loop-pair.pair-index (0, 0) l)))
+      (c.in_ok-clear_word.ensures.turns turn.free turn.rows));
+  frame = changes_then g.P.Pages g.met.P.Pages.goes_further _ _ _ c.loop-pair.invariant.frame c.clear_word.ensures.frame;
+}
+
+pub returns-in_err-clear_word-clause-honest : goal.returns-in_err-clear_word-clause-honest
+returns-in_err-clear_word-clause-honest g c free rows told damage =
+    let before : View = view (g.P.Pages.pages c.args.pages.now) (g.P.Pages.count c.args.pages.now) (g.P.Pages.first c.args.pages.now) free in
+    let b : Bytes = bytes_in (g.P.Pages.pages c.args.pages.now) c.args.tree.now.rows in
+    let turn = c.loop-pair.invariant.turns free rows in
+    let p = err_from_is_err_and c.from_residual.result c.from_residual.ensures.1 in
+    λ e. (let same : c.in_err-clear_word.field-0.0 ≡ Damaged damage = cc (p.1, p.2, e) in
+    c.in_err-clear_word.ensures.honest turn.free turn.rows (told-turned before c.args.tree.now.rows (g.P.Pages.pages c.loop-pair.pages) (g.P.Pages.count c.loop-pair.pages) (g.P.Pages.first c.loop-pair.pages) c.loop-pair.changed.rows
+    (on_words (take c.loop-pair.pair-index c.args.words.now) (cleared c.args.node c.args.slot b) b) turn told) damage (ap Err same))

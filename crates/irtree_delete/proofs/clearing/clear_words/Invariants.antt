@@ -1,0 +1,20 @@
+use Rattle.std.proofs.Common.{◌≡◌, ℕ, List, take}
+use Rattle.page_face.specs.Calls.{Changes}
+use Rattle.btree_nodes.specs.Supply.{view}
+use Rattle.node_inverted.specs.Rows.{IsRows, bytes_in}
+use Rattle.node_inverted.specs.Turns.{Turns}
+use Rattle.node_inverted.specs.Refreshing.{on_words}
+use Rattle.irtree_delete.specs.Clears.{cleared}
+use Rattle.irtree_delete.proofs.clearing.clear_words.Given as goal
+
+-- the words so far are cleared
+abbrev pub invariant-loop-pair : goal.invariant-loop-pair
+invariant-loop-pair g l =
+    let p = g.P.Pages in
+    record {
+      root : l.changed.root ≡ l.fn.tree.root;
+      turns : (free : List ℕ) → IsRows (view (p.pages l.fn.pages) (p.count l.fn.pages) (p.first l.fn.pages) free) l.fn.tree.rows
+          → Turns (view (p.pages l.fn.pages) (p.count l.fn.pages) (p.first l.fn.pages) free) l.fn.tree.rows (p.pages l.pages) (p.count l.pages) (p.first l.pages) l.changed.rows
+          (on_words (take l.pair-index l.words) (cleared l.node l.slot (bytes_in (p.pages l.fn.pages) l.fn.tree.rows)) (bytes_in (p.pages l.fn.pages) l.fn.tree.rows));
+      frame : Changes p l.fn.pages l.pages;
+    }

@@ -1,0 +1,45 @@
+use Rattle.std.proofs.Common.{◌≡◌, ℕ, List, ap, ◌∙◌, subst, sym, Err, true≢false}
+use Rattle.std.proofs.lemmas.Result.{err_from_is_err_and}
+use Rattle.page_face.specs.declared.fault.PageFault.TheVariants.{Damaged}
+use Rattle.rtree_shape.specs.Stock.{View, view, plain}
+use Rattle.node_inverted.specs.Rows.{bytes_in}
+use Rattle.node_inverted.specs.Turns.{dropped}
+use Rattle.node_inverted.specs.Lifts.{lifted_at}
+use Rattle.node_inverted.specs.declared.taking.NodeRow.{NodeRow}
+use Rattle.node_inverted.proofs.Told.{told-turned}
+use Rattle.irtree_delete.specs.Orphans.{IsUnread}
+use Rattle.irtree_delete.proofs.Dissolves.{moves-dropped, dropped-none}
+use Rattle.irtree_delete.proofs.condensing.dissolve.Goals as goal
+
+pub returns-clause-dissolved : goal.returns-clause-dissolved
+returns-clause-dissolved g c = λ free supplied unused.
+    let v : View = view (g.P.Pages.pages c.args.pages.now) c.args.tree.now.rows (g.P.Pages.count c.args.pages.now) (g.P.Pages.first c.args.pages.now) free in
+    let taken = c.in_ok-rows.ensures.taken free supplied.rows in
+    let b : ℕ → ℕ → ℕ = bytes_in v.pages v.rows c.args.page in
+    let lifted : (w i : ℕ) → lifted_at c.deref.result.now w i ≡ bytes_in v.pages v.rows c.args.page w i = λ w i. ap (λ (rs : List NodeRow). lifted_at rs w i) c.deref.ensures.value ∙ taken.lifted w i in
+    record {
+      free = taken.turn.free;
+      moves = moves-dropped v (g.P.Pages.pages c.take_rows.new.pages) c.take_rows.new.tree.rows (g.P.Pages.count c.take_rows.new.pages) (g.P.Pages.first c.take_rows.new.pages) c.args.page supplied unused taken.turn;
+      none = dropped-none v (bytes_in v.pages v.rows) (g.P.Pages.pages c.take_rows.new.pages) c.take_rows.new.tree.rows c.args.page taken.turn.is;
+      sums = λ F. c.in_ok-let_all_go.ensures.sums F b lifted;
+      items = λ nodes e all. c.in_ok-let_all_go.ensures.items nodes b lifted e all;
+    }
+
+pub returns-clause-told : goal.returns-clause-told
+returns-clause-told g c = λ free rows told.
+    let v : View = view (g.P.Pages.pages c.args.pages.now) c.args.tree.now.rows (g.P.Pages.count c.args.pages.now) (g.P.Pages.first c.args.pages.now) free in
+    let taken = c.in_ok-rows.ensures.taken free rows in
+    told-turned (plain v) v.rows (g.P.Pages.pages c.take_rows.new.pages) (g.P.Pages.count c.take_rows.new.pages) (g.P.Pages.first c.take_rows.new.pages) c.take_rows.new.tree.rows (dropped c.args.page (bytes_in v.pages v.rows)) taken.turn told
+
+pub returns-in_err-rows-clause-honest : goal.returns-in_err-rows-clause-honest
+returns-in_err-rows-clause-honest g c = λ free rows told form damage e.
+    let p = err_from_is_err_and c.from_residual.result c.from_residual.ensures.1 in
+    let same : c.in_err-rows.field-0.0 ≡ Damaged damage = cc (p.1, p.2, e) in
+    c.in_err-rows.ensures.honest free rows told damage (ap Err same)
+
+pub returns-in_err-let_all_go-clause-honest : goal.returns-in_err-let_all_go-clause-honest
+returns-in_err-let_all_go-clause-honest g c = λ free rows told form damage e.
+    let p = err_from_is_err_and c.from_residual-in_err-let_all_go.result c.from_residual-in_err-let_all_go.ensures.1 in
+    let same : c.in_err-let_all_go.field-0.0 ≡ Damaged damage = cc (p.1, p.2, e) in
+    let unread = subst (IsUnread c.args.page c.args.bytes.now) same c.in_err-let_all_go.ensures.refuses in
+    true≢false (sym form ∙ unread.1)

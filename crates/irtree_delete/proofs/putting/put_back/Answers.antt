@@ -1,0 +1,51 @@
+use Rattle.std.proofs.Common.{◌≡◌, ℕ, List, [], ◌∷◌, ◌++◌, Err, ap, sym, subst, rules}
+use Rattle.page_face.proofs.Frames.{changes_then}
+use Rattle.btree_nodes.proofs.Walks.{same-fault}
+use Rattle.rtree_shape.specs.Slots.{Item}
+use Rattle.rtree_shape.specs.Stock.{view, View}
+use Rattle.rtree_shape.specs.Loose.{Loose}
+use Rattle.rtree_nodes.specs.Pages.{node_of}
+use Rattle.rtree_nodes.specs.Reach.{item_of}
+use Rattle.node_inverted.specs.Impacts.{impact_in}
+use Rattle.irtree_shape.specs.Words.{worded}
+use Rattle.irtree_shape.specs.Loose.{IsStanding}
+use Rattle.irtree_shape.proofs.Replants.{standing_popped}
+use Rattle.irtree_delete.specs.declared.orphan.Orphan.{Orphan}
+use Rattle.irtree_delete.specs.Orphans.{loose_of, loose_in}
+use Rattle.irtree_delete.proofs.Pushes.{push-loose}
+use Rattle.irtree_delete.proofs.Standings.{standing-told}
+use Rattle.irtree_delete.proofs.putting.put_back.Goals as goal
+
+-- the last orphan is put back first
+popped : (before now : View) (level root : ℕ) (xs rest : List Orphan) (o : Orphan) (words : List (ℕ × ℕ)) (mine : ℕ → ℕ) (sums : (Item → ℕ) → ℕ) → xs ≡ rest ++ o ∷ [] → words ≡ o.words.items
+    → IsStanding node_of before now level root (loose_in xs) mine sums → IsStanding node_of before now level root ((o.level, worded (impact_in words) (item_of o.slot)) ∷ loose_in rest) mine sums
+popped before now level root xs rest o words mine sums is same h =
+    subst (λ (ws : List (ℕ × ℕ)). IsStanding node_of before now level root ((o.level, worded (impact_in ws) (item_of o.slot)) ∷ loose_in rest) mine sums) (sym same) (
+    let p = subst (λ (os : List Orphan). IsStanding node_of before now level root (loose_in os) mine sums) is h in
+    standing_popped node_of before now level root (loose_in rest) (loose_of o) mine sums (subst (λ (os : Loose). IsStanding node_of before now level root os mine sums) (push-loose rest o) p))
+
+pub loop-orphan-preserved : goal.loop-orphan-preserved
+loop-orphan-preserved g c = record {
+  frame = changes_then g.P.Pages g.met.P.Pages.goes_further _ _ _ c.loop-orphan.invariant.frame c.in-Ok.ensures.frame;
+  standing = λ before free level mine sums start st.
+      let h = c.loop-orphan.invariant.standing before free level mine sums start st in
+      let now : View = view (g.P.Pages.pages c.loop-orphan.pages) c.loop-orphan.tree.rows (g.P.Pages.count c.loop-orphan.pages) (g.P.Pages.first c.loop-orphan.pages) h.free in
+      c.in-Ok.ensures.standing before h.free h.level (loose_in c.pop.new.self.items) mine sums start
+      (popped before now h.level c.loop-orphan.tree.root c.loop-orphan.orphans.items c.pop.new.self.items c.in-Some.orphan c.deref.result.now mine sums c.in-Some.ensures.items c.deref.ensures.value h.standing) c.in-Some.orphan.fits;
+}
+
+pub returns-in-Err-clause-honest : goal.returns-in-Err-clause-honest
+returns-in-Err-clause-honest g c = λ before free level mine sums start st told damage e.
+    let h = c.loop-orphan.invariant.standing before free level mine sums start st in
+    let now : View = view (g.P.Pages.pages c.loop-orphan.pages) c.loop-orphan.tree.rows (g.P.Pages.count c.loop-orphan.pages) (g.P.Pages.first c.loop-orphan.pages) h.free in
+    c.in-Err.ensures.honest_standing before h.free h.level (loose_in c.pop.new.self.items) mine sums start
+    (popped before now h.level c.loop-orphan.tree.root c.loop-orphan.orphans.items c.pop.new.self.items c.in-Some.orphan c.deref.result.now mine sums c.in-Some.ensures.items c.deref.ensures.value h.standing) c.in-Some.orphan.fits
+    (standing-told before now h.level c.loop-orphan.tree.root (loose_in c.loop-orphan.orphans.items) mine sums h.standing told) damage
+    (ap Err (same-fault {T = Unit {0}} _ _ e))
+
+pub returns-clause-standing : goal.returns-clause-standing
+returns-clause-standing g c = λ before free level mine sums start st.
+    let h = c.loop-orphan.invariant.standing before free level mine sums start st in
+    let now : View = view (g.P.Pages.pages c.loop-orphan.pages) c.loop-orphan.tree.rows (g.P.Pages.count c.loop-orphan.pages) (g.P.Pages.first c.loop-orphan.pages) h.free in
+    let none : c.loop-orphan.orphans.items ≡ [] = search rules in
+    record { free = h.free; level = h.level; standing = subst (λ (xs : List Orphan). IsStanding node_of before now h.level c.loop-orphan.tree.root (loose_in xs) mine sums) none h.standing }

@@ -1,0 +1,141 @@
+//! An entry that is taken out of a tree.
+ghost use Rattle.std.specs.Prelude.{◌≡◌, ◌≢◌, ◌<◌, ◌≤◌, ◌+◌, ◌⊎◌, ℕ, suc, List, [], length, OnOk, OnErr, IfErr, MatchOption};
+ghost use Rattle.page_face.specs.Calls.{FailsChanging, Changes};
+ghost use Rattle.page_face.specs.declared.fault.Damage.{Damage};
+ghost use Rattle.btree_nodes.specs.Damages.{AreTold};
+ghost use Rattle.rtree_shape.specs.Slots.{Item};
+ghost use Rattle.rtree_shape.specs.Stock.{view};
+ghost use Rattle.rtree_shape.specs.Loose.{Leads};
+ghost use Rattle.rtree_nodes.specs.Pages.{node_of};
+ghost use Rattle.node_inverted.specs.Impacts.{impact_in};
+ghost use Rattle.irtree_shape.specs.Words.{worded};
+ghost use Rattle.irtree_shape.specs.Made.{nodes_in};
+ghost use Rattle.irtree_shape.specs.Whole.{level_at, IsWhole, IsFelled};
+
+use crate::Orphan;
+use crate::lowering::lower_root;
+use crate::putting::put_back;
+use crate::taking::take_out;
+use btree_nodes::damaged;
+use node_inverted::Tree;
+use page_face::{PageFault, Pages, Rule};
+use rtree_shape::LEVEL_MAX;
+use split_policy::SplitPolicy;
+use std::alloc::Global;
+
+// The level of the root that a path starts at; None if the path has no slot, or more than a tree has levels.
+fn level_of(path: &[u8]) -> Option<u8>
+    ensures { MatchOption result ((length path.now ≡ 0) ⊎ (10 < length path.now)) (λ level. length path.now ≡ level + 1) }
+{
+    if path.is_empty() || path.len() > usize::from(LEVEL_MAX) + 1 {
+        return None;
+    }
+    Some((path.len() - 1) as u8)
+}
+
+// Whether nothing is left of a tree of which no node is. Items that were let go could stand below no root: a tree of which the root
+// has one child only isn't well formed.
+fn check_empty(root: u32, orphans: &[Orphan]) -> Result<(), PageFault>
+    ensures none { OnOk result (orphans.now ≡ []) }
+    ensures refuses { IfErr result (λ fault. (orphans.now ≢ []) × (fault ≡ PageFault.Damaged (record { page = root; rule = Rule.Fill }))) }
+{
+    if orphans.is_empty() {
+        Ok(())
+    } else {
+        Err(damaged(root, Rule::Fill))
+    }
+}
+
+// Takes the entry out, puts the items of dissolved nodes back, and lowers the root. After a refusal `tree` says nothing.
+fn remove_from<P: Pages>(
+    alloc: Global,
+    pages: &mut P,
+    tree: &mut Tree,
+    policy: &mut dyn SplitPolicy,
+    level: u8,
+    path: &[u8],
+    words: &[(u64, u8)],
+) -> Result<(), PageFault>
+    requires path { level < length path.now }
+    ensures felled { (free : List ℕ) (x : Item) → IsWhole node_of (view (P.pages pages.old) tree.old.rows (P.count pages.old) (P.first pages.old) free) tree.old.root
+        → Leads (nodes_in node_of (P.pages pages.old) tree.old.rows) path.now (level_at (nodes_in node_of (P.pages pages.old) tree.old.rows) tree.old.root) tree.old.root (worded (impact_in words.now) x)
+        → OnOk result (IsFelled node_of (view (P.pages pages.old) tree.old.rows (P.count pages.old) (P.first pages.old) free) (P.pages pages.new) tree.new.rows (P.count pages.new) (P.first pages.new) tree.old.root tree.new.root (worded (impact_in words.now) x)) }
+    ensures honest { (free : List ℕ) (x : Item) → IsWhole node_of (view (P.pages pages.old) tree.old.rows (P.count pages.old) (P.first pages.old) free) tree.old.root → 0 < tree.old.root
+        → Leads (nodes_in node_of (P.pages pages.old) tree.old.rows) path.now (level_at (nodes_in node_of (P.pages pages.old) tree.old.rows) tree.old.root) tree.old.root (worded (impact_in words.now) x)
+        → level ≡ level_at (nodes_in node_of (P.pages pages.old) tree.old.rows) tree.old.root → AreTold (P.pages pages.old) (P.count pages.old)
+        → (damage : Damage) → result ≢ Err (PageFault.Damaged damage) }
+    ensures fails { FailsChanging P.Pages pages.old pages.new result }
+    ensures frame { Changes P.Pages pages.old pages.new }
+{
+    let root = tree.root;
+    let mut orphans = Vec::new(alloc);
+    match take_out(
+        alloc,
+        pages,
+        tree,
+        root,
+        level,
+        1,
+        path,
+        words,
+        &mut orphans,
+    ) {
+        Ok(Some(_)) => {}
+        Ok(None) => {
+            tree.root = 0;
+            return check_empty(root, &orphans);
+        }
+        Err(fault) => return Err(fault),
+    }
+    match put_back(alloc, pages, tree, policy, &mut orphans) {
+        Ok(()) => lower_root(pages, tree),
+        Err(fault) => Err(fault),
+    }
+}
+
+/// Takes the entry of these words at the end of a path out of a tree. The tree's root is 0 then if no entry is left.
+///
+/// `path` has the number of a slot for each level: `path[l]` is the slot at level `l`, and the last one that of the root. `words` are the
+/// entry's, each by its number, with its impact. Nodes of which fewer than 12 slots are left are dissolved, and their items are put back with their
+/// words into nodes of their own level (Guttman 1984, `CondenseTree`), for
+/// which `policy` is asked where a node is split. An inner root of which one child is left gives way to it.
+///
+/// Refuses `Damaged` with the rule that a page breaks, with `Value` at a page whose slot on the path isn't used, or with `Level` at the root if the path isn't
+/// as long as the tree has levels; `Disk`; `NoRoom`; `Stopped`; `Memory`. After a refusal `tree` is as before, and pages may have changed: they are to be
+/// abandoned. Reads one page a level and writes one at most. Costs two rows for each of the words a level, or a call of `refresh` above nodes that are
+/// dissolved, and an insertion for each item of a dissolved node.
+pub fn remove_at<P: Pages>(
+    alloc: Global,
+    pages: &mut P,
+    tree: &mut Tree,
+    policy: &mut dyn SplitPolicy,
+    path: &[u8],
+    words: &[(u64, u8)],
+) -> Result<(), PageFault>
+    ensures felled { (free : List ℕ) (x : Item) → IsWhole node_of (view (P.pages pages.old) tree.old.rows (P.count pages.old) (P.first pages.old) free) tree.old.root
+        → Leads (nodes_in node_of (P.pages pages.old) tree.old.rows) path.now (level_at (nodes_in node_of (P.pages pages.old) tree.old.rows) tree.old.root) tree.old.root (worded (impact_in words.now) x)
+        → OnOk result (IsFelled node_of (view (P.pages pages.old) tree.old.rows (P.count pages.old) (P.first pages.old) free) (P.pages pages.new) tree.new.rows (P.count pages.new) (P.first pages.new) tree.old.root tree.new.root (worded (impact_in words.now) x)) }
+    ensures kept { OnErr result (tree.new ≡ tree.old) }
+
+    // On a well-formed tree whose pages are told no page is damaged.
+    ensures honest { (free : List ℕ) (x : Item) → IsWhole node_of (view (P.pages pages.old) tree.old.rows (P.count pages.old) (P.first pages.old) free) tree.old.root → 0 < tree.old.root
+        → Leads (nodes_in node_of (P.pages pages.old) tree.old.rows) path.now (level_at (nodes_in node_of (P.pages pages.old) tree.old.rows) tree.old.root) tree.old.root (worded (impact_in words.now) x)
+        → length path.now ≡ suc (level_at (nodes_in node_of (P.pages pages.old) tree.old.rows) tree.old.root) → AreTold (P.pages pages.old) (P.count pages.old)
+        → (damage : Damage) → result ≢ Err (PageFault.Damaged damage) }
+    ensures fails { FailsChanging P.Pages pages.old pages.new result }
+    ensures frame { Changes P.Pages pages.old pages.new }
+{
+    let _counted = pages.counted();
+    let level = match level_of(path) {
+        Some(level) => level,
+        None => return Err(damaged(tree.root, Rule::Level)),
+    };
+    let mut changed = *tree;
+    match remove_from(alloc, pages, &mut changed, policy, level, path, words) {
+        Ok(()) => {
+            *tree = changed;
+            Ok(())
+        }
+        Err(fault) => Err(fault),
+    }
+}

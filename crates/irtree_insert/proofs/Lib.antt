@@ -1,0 +1,10 @@
+pub mod Counted
+pub mod Loads
+pub mod Rises
+pub mod Links
+pub mod Outlines
+pub mod Halves
+pub mod Splits
+pub mod Descents
+pub mod Tops
+pub mod Lands

@@ -1,0 +1,38 @@
+use Rattle.std.proofs.Common.{◌≡◌, ℕ, Bool, if◌then◌else◌, ap, sym, ◌∙◌, subst}
+use Rattle.std.proofs.lemmas.Result.{IfOk-weaker}
+use Rattle.page_face.specs.FreeList.{PageMap}
+use Rattle.btree_nodes.specs.Supply as supply
+use Rattle.rtree_shape.specs.Stock.{View, view, plain}
+use Rattle.node_inverted.specs.Rows.{bytes_in}
+use Rattle.node_inverted.specs.Turns.{Turns, moved}
+use Rattle.node_inverted.specs.Impacts.{impact_in, raised}
+use Rattle.node_inverted.proofs.Told.{told-turned}
+use Rattle.irtree_shape.proofs.Stepping.{steps-parted}
+use Rattle.irtree_insert.proofs.add.part_words.Goals as goal
+use Rattle.irtree_insert.proofs.add.part_words.Goals.{then-is_moved, else-is_moved}
+
+pub returns-clause-steps : goal.returns-clause-steps
+returns-clause-steps g c = λ free supplied y z apart none.
+    let v : View = view (g.P.Pages.pages c.args.pages.now) c.args.tree.now.rows (g.P.Pages.count c.args.pages.now) (g.P.Pages.first c.args.pages.now) free in
+    let mid : PageMap = g.P.Pages.pages c.move_slots.new.pages in
+    let r1 : ℕ = c.move_slots.new.tree.rows in
+    let turn = c.in_ok-move_slots.ensures.turns free apart supplied.rows none in
+    let home : c.if-is_moved.home ≡ (if c.args.is_moved then c.args.right else c.args.page) =
+    elim c.if-is_moved.branch [
+      | then-is_moved w ↦ w.home-is ∙ ap (λ (b : Bool). if b then c.args.right else c.args.page) (sym w.if-is_moved.true)
+      | else-is_moved w ↦ w.home-is ∙ ap (λ (b : Bool). if b then c.args.right else c.args.page) (sym w.if-is_moved.false)
+    ] in
+    IfOk-weaker c.raise.result _ _
+    (λ u next. steps-parted v mid (g.P.Pages.pages c.raise.new.pages) r1 (g.P.Pages.count c.move_slots.new.pages) (g.P.Pages.first c.move_slots.new.pages)
+    c.raise.new.tree.rows (g.P.Pages.count c.raise.new.pages) (g.P.Pages.first c.raise.new.pages) c.args.page c.args.moves c.args.right c.args.at c.args.is_moved (impact_in c.args.words.now) supplied y z turn
+    (subst (λ (h : ℕ). Turns (supply.view mid (g.P.Pages.count c.move_slots.new.pages) (g.P.Pages.first c.move_slots.new.pages) turn.free) r1 (g.P.Pages.pages c.raise.new.pages) (g.P.Pages.count c.raise.new.pages)
+    (g.P.Pages.first c.raise.new.pages) c.raise.new.tree.rows (raised h c.args.at (impact_in c.args.words.now) (bytes_in mid r1))) home next))
+    (c.raise.ensures.turns turn.free turn.rows)
+
+pub returns-clause-honest : goal.returns-clause-honest
+returns-clause-honest g c = λ free supplied y z apart none told damage.
+    let v : View = view (g.P.Pages.pages c.args.pages.now) c.args.tree.now.rows (g.P.Pages.count c.args.pages.now) (g.P.Pages.first c.args.pages.now) free in
+    let turn = c.in_ok-move_slots.ensures.turns free apart supplied.rows none in
+    let told' = told-turned (plain v) c.args.tree.now.rows (g.P.Pages.pages c.move_slots.new.pages) (g.P.Pages.count c.move_slots.new.pages) (g.P.Pages.first c.move_slots.new.pages) c.move_slots.new.tree.rows
+    (moved c.args.page c.args.moves c.args.right (bytes_in (g.P.Pages.pages c.args.pages.now) c.args.tree.now.rows)) turn told in
+    c.raise.ensures.honest turn.free turn.rows told' damage

@@ -1,0 +1,13 @@
+use Rattle.std.proofs.Common.{◌≡◌, ◌∙◌, ap, arith}
+use Rattle.page_face.specs.FreeList.{PageMap}
+use Rattle.rtree_nodes.specs.Pages.{level_in}
+use Rattle.irtree_insert.proofs.Loads.{some-told}
+use Rattle.irtree_insert.proofs.fetch.fetch_at.Goals as goal
+
+pub returns-else-found-level-clause-honest : goal.returns-else-found-level-clause-honest
+returns-else-found-level-clause-honest g c = λ counted some level damage e.
+    let old : PageMap = g.P.Pages.pages c.args.pages.now in
+    let same = c.in-Ok.ensures.bytes (some-told (old c.args.page) some) in
+    let found : c.in-Ok.found ≡ c.args.level = c.in-Ok.ensures.level ∙ ap level_in same ∙ level in
+    let other = c.if-found-level.false in
+    absurd (omega arith)

@@ -1,0 +1,71 @@
+use Rattle.std.proofs.Common.{◌≡◌, ℕ, ◌∙◌, sym, ap, subst, Err, arith}
+use Rattle.page_face.specs.FreeList.{PageMap}
+use Rattle.btree_nodes.specs.Damages.{AreTold}
+use Rattle.btree_nodes.proofs.Walks.{same-fault}
+use Rattle.rtree_shape.specs.Slots.{Item}
+use Rattle.rtree_shape.specs.Stock.{View, view}
+use Rattle.rtree_shape.proofs.Climbs.{view-same}
+use Rattle.rtree_nodes.specs.Pages.{level_in}
+use Rattle.rtree_nodes.specs.Reach.{item_of}
+use Rattle.node_inverted.specs.Impacts.{impact_in}
+use Rattle.irtree_shape.specs.Words.{worded}
+use Rattle.irtree_insert.specs.declared.insert.Climbed.{Climbed}
+use Rattle.irtree_insert.proofs.Loads.{some-told}
+use Rattle.irtree_insert.proofs.Descents.{open-counted, open-some, open-level, puts-view, loaded}
+use Rattle.irtree_insert.proofs.Tops.{puts-level, open-of-level, open-low}
+use Rattle.irtree_insert.proofs.insert.climb.Goals as goal
+
+pub returns-in-Err-clause-honest : goal.returns-in-Err-clause-honest
+returns-in-Err-clause-honest g c = λ least level free opened fits all_told damage e.
+    let before : View = view (g.P.Pages.pages c.args.pages.now) c.args.tree.now.rows (g.P.Pages.count c.args.pages.now) (g.P.Pages.first c.args.pages.now) free in
+    let x : Item = worded (impact_in c.args.words.now) (item_of c.args.slot.now) in
+    let root : ℕ = c.args.root in
+    let target : ℕ = c.args.goal in
+    c.fetch.ensures.honest (open-counted before least level root target x opened) (open-some before least level root target x opened) damage (c.in-Err.is ∙ ap Err (same-fault {T = Climbed} _ _ e))
+
+pub returns-then-level-gt-LEVEL_MAX-clause-honest : goal.returns-then-level-gt-LEVEL_MAX-clause-honest
+returns-then-level-gt-LEVEL_MAX-clause-honest g c = λ least level free opened fits all_told damage e.
+    let old : PageMap = g.P.Pages.pages c.args.pages.now in
+    let before : View = view old c.args.tree.now.rows (g.P.Pages.count c.args.pages.now) (g.P.Pages.first c.args.pages.now) free in
+    let x : Item = worded (impact_in c.args.words.now) (item_of c.args.slot.now) in
+    let root : ℕ = c.args.root in
+    let target : ℕ = c.args.goal in
+    let told = c.in-Ok.ensures.bytes (some-told (old root) (open-some before least level root target x opened)) in
+    let found : c.in-Ok.level ≡ level = c.in-Ok.ensures.level ∙ ap level_in told ∙ open-level before least level root target x opened in
+    let low = open-low before least level root target x (let a = c.counted-counted.ensures in let b = c.counted-counted.type_inv in omega arith) opened in
+    let high = c.if-level-gt-LEVEL_MAX.true in
+    absurd (omega arith)
+
+pub returns-in-Ok-put_below-clause-made : goal.returns-in-Ok-put_below-clause-made
+returns-in-Ok-put_below-clause-made g c = λ least level free opened fits.
+    let old : PageMap = g.P.Pages.pages c.args.pages.now in
+    let rows : ℕ = c.args.tree.now.rows in
+    let before : View = view old rows (g.P.Pages.count c.args.pages.now) (g.P.Pages.first c.args.pages.now) free in
+    let x : Item = worded (impact_in c.args.words.now) (item_of c.args.slot.now) in
+    let root : ℕ = c.args.root in
+    let target : ℕ = c.args.goal in
+    let fetched = c.in-Ok.ensures in
+    let looks = fetched.looks.frame in
+    let told = fetched.bytes (some-told (old root) (open-some before least level root target x opened)) in
+    let found : c.in-Ok.level ≡ level = fetched.level ∙ ap level_in told ∙ open-level before least level root target x opened in
+    let now : View = view (g.P.Pages.pages c.fetch.new.pages) rows (g.P.Pages.count c.fetch.new.pages) (g.P.Pages.first c.fetch.new.pages) free in
+    let v = view-same (g.P.Pages.pages c.fetch.new.pages) old rows (g.P.Pages.count c.fetch.new.pages) (g.P.Pages.count c.args.pages.now) (g.P.Pages.first c.fetch.new.pages) (g.P.Pages.first c.args.pages.now) free looks.pages looks.count looks.first in
+    let h = loaded before now c.fetch.new.draft least c.in-Ok.level root target x v fetched.bytes fetched.draft (open-of-level (sym found) opened) in
+    (found, puts-level target x found (puts-view target x v (c.in-Ok-put_below.ensures.made least free h.draft_is fetched.used h.bytes_are h.opened fits)))
+
+pub returns-in-Err-put_below-clause-honest : goal.returns-in-Err-put_below-clause-honest
+returns-in-Err-put_below-clause-honest g c = λ least level free opened fits all_told damage e.
+    let old : PageMap = g.P.Pages.pages c.args.pages.now in
+    let rows : ℕ = c.args.tree.now.rows in
+    let before : View = view old rows (g.P.Pages.count c.args.pages.now) (g.P.Pages.first c.args.pages.now) free in
+    let x : Item = worded (impact_in c.args.words.now) (item_of c.args.slot.now) in
+    let root : ℕ = c.args.root in
+    let target : ℕ = c.args.goal in
+    let fetched = c.in-Ok.ensures in
+    let looks = fetched.looks.frame in
+    let told = fetched.bytes (some-told (old root) (open-some before least level root target x opened)) in
+    let found : c.in-Ok.level ≡ level = fetched.level ∙ ap level_in told ∙ open-level before least level root target x opened in
+    let now : View = view (g.P.Pages.pages c.fetch.new.pages) rows (g.P.Pages.count c.fetch.new.pages) (g.P.Pages.first c.fetch.new.pages) free in
+    let v = view-same (g.P.Pages.pages c.fetch.new.pages) old rows (g.P.Pages.count c.fetch.new.pages) (g.P.Pages.count c.args.pages.now) (g.P.Pages.first c.fetch.new.pages) (g.P.Pages.first c.args.pages.now) free looks.pages looks.count looks.first in
+    let h = loaded before now c.fetch.new.draft least c.in-Ok.level root target x v fetched.bytes fetched.draft (open-of-level (sym found) opened) in
+    c.put_below.ensures.honest least free h.draft_is fetched.used h.bytes_are h.opened fits (subst (λ (w : View). AreTold w.pages w.count) (sym v) all_told) damage (c.in-Err-put_below.is ∙ ap Err (same-fault {T = Climbed} _ _ e))

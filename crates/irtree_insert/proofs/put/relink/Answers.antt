@@ -1,0 +1,62 @@
+use Rattle.std.proofs.Common.{◌≡◌, ℕ, ◌∙◌, ap, subst, sym, Err, Global, List, Option}
+use Rattle.std.proofs.lemmas.Result.{err_from_is_err_and}
+use Rattle.std.specs.declared.vec.Vec.{Vec}
+use Rattle.page_face.specs.FreeList.{PageMap}
+use Rattle.btree_nodes.specs.Supply as supply
+use Rattle.btree_nodes.proofs.Walks.{same-fault}
+use Rattle.paged_map.proofs.Maps.{kept-counted}
+use Rattle.rtree_shape.specs.Stock.{View, view, plain, rows_form}
+use Rattle.node_inverted.specs.Rows.{IsRows, bytes_in}
+use Rattle.node_inverted.specs.Turns.{Turns}
+use Rattle.node_inverted.specs.Impacts.{impact_in, raised}
+use Rattle.node_inverted.proofs.Told.{told-turned}
+use Rattle.node_inverted.proofs.Turned.{view-same}
+use Rattle.irtree_shape.proofs.Renewals.{steps-relinked}
+use Rattle.irtree_insert.specs.declared.grown.Beside.{Beside}
+use Rattle.irtree_insert.specs.Grown.{beside_top}
+use Rattle.irtree_insert.proofs.put.relink.Goals as goal
+
+pub returns-in_err-theirs-clause-honest : goal.returns-in_err-theirs-clause-honest
+returns-in_err-theirs-clause-honest g c =
+    let passed = err_from_is_err_and c.from_residual.result c.from_residual.ensures.1 in
+    rw (passed.1, passed.2) (λ free supplied apart told damage e.
+    let before : View = view (g.P.Pages.pages c.args.pages.now) c.args.tree.now.rows (g.P.Pages.count c.args.pages.now) (g.P.Pages.first c.args.pages.now) free in
+    let kept = supplied.rows.kept in
+    c.words_beside.ensures.honest kept.map (kept-counted rows_form (plain before) c.args.tree.now.rows kept) told damage (c.in_err-theirs.was ∙ ap Err (same-fault {T = Vec (ℕ × ℕ) Global} _ _ e)))
+
+pub returns-in_err-renew-clause-honest : goal.returns-in_err-renew-clause-honest
+returns-in_err-renew-clause-honest g c =
+    let passed = err_from_is_err_and c.from_residual-in_err-renew.result c.from_residual-in_err-renew.ensures.1 in
+    rw (passed.1, passed.2) (λ free supplied apart told damage e.
+    let old : PageMap = g.P.Pages.pages c.args.pages.now in
+    let rows : ℕ = c.args.tree.now.rows in
+    let before : View = view old rows (g.P.Pages.count c.args.pages.now) (g.P.Pages.first c.args.pages.now) free in
+    let mid : PageMap = g.P.Pages.pages c.raise.new.pages in
+    let r1 : ℕ = c.raise.new.tree.rows in
+    let c1 : ℕ = g.P.Pages.count c.raise.new.pages in
+    let f1 : ℕ = g.P.Pages.first c.raise.new.pages in
+    let reads = c.in_ok-theirs.ensures.frame in
+    let same = view-same (g.P.Pages.pages c.words_beside.new.pages) old (g.P.Pages.count c.words_beside.new.pages) (g.P.Pages.count c.args.pages.now) (g.P.Pages.first c.words_beside.new.pages) (g.P.Pages.first c.args.pages.now) free reads.pages reads.count reads.first in
+    let Claim : supply.View → Type 0 = λ w. IsRows w rows → Turns w rows mid c1 f1 r1 (raised c.args.page c.args.at (impact_in c.args.words.now) (bytes_in w.pages rows)) in
+    let turn = subst Claim same (c.in_ok-raise.ensures.turns free) supplied.rows in
+    let told' = told-turned (plain before) rows mid c1 f1 r1 (raised c.args.page c.args.at (impact_in c.args.words.now) (bytes_in old rows)) turn told in
+    c.in_err-renew.ensures.honest turn.free turn.rows apart told' damage (ap Err (same-fault {T = Vec (ℕ × ℕ) Global} _ _ e)))
+
+pub returns-clause-steps : goal.returns-clause-steps
+returns-clause-steps g c = λ free supplied unused apart right.
+    let old : PageMap = g.P.Pages.pages c.args.pages.now in
+    let rows : ℕ = c.args.tree.now.rows in
+    let before : View = view old rows (g.P.Pages.count c.args.pages.now) (g.P.Pages.first c.args.pages.now) free in
+    let mid : PageMap = g.P.Pages.pages c.raise.new.pages in
+    let r1 : ℕ = c.raise.new.tree.rows in
+    let c1 : ℕ = g.P.Pages.count c.raise.new.pages in
+    let f1 : ℕ = g.P.Pages.first c.raise.new.pages in
+    let reads = c.in_ok-theirs.ensures.frame in
+    let same = view-same (g.P.Pages.pages c.words_beside.new.pages) old (g.P.Pages.count c.words_beside.new.pages) (g.P.Pages.count c.args.pages.now) (g.P.Pages.first c.words_beside.new.pages) (g.P.Pages.first c.args.pages.now) free reads.pages reads.count reads.first in
+    let Claim : supply.View → Type 0 = λ w. IsRows w rows → Turns w rows mid c1 f1 r1 (raised c.args.page c.args.at (impact_in c.args.words.now) (bytes_in w.pages rows)) in
+    let turn = subst Claim same (c.in_ok-raise.ensures.turns free) supplied.rows in
+    let theirs : List (ℕ × ℕ) = c.deref.result.now in
+    let is : (w : ℕ) → impact_in theirs w ≡ beside_top (bytes_in old rows) c.args.more.now w = λ w. ap (λ (ps : List (ℕ × ℕ)). impact_in ps w) c.deref.ensures.value ∙ c.in_ok-theirs.ensures.words supplied.rows.kept.map w in
+    steps-relinked before mid (g.P.Pages.pages c.renew.new.pages) r1 c1 f1 c.renew.new.tree.rows (g.P.Pages.count c.renew.new.pages) (g.P.Pages.first c.renew.new.pages) c.args.page c.args.at c.args.child
+    c.args.words.now theirs c.args.more.now supplied unused apart (λ e w. is w ∙ ap (λ (o : Option Beside). beside_top (bytes_in old rows) o w) e) (λ w z. right w (sym (is w) ∙ z))
+    turn (c.in_ok-renew.ensures.turns turn.free turn.rows apart)

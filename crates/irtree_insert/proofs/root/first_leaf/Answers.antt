@@ -1,0 +1,48 @@
+use Rattle.std.proofs.Common.{◌≡◌, ◌∙◌, ℕ, List, ap, Err, refl}
+use Rattle.std.proofs.lemmas.Result.{err_from_is_err_and}
+use Rattle.page_face.specs.FreeList.{PageMap}
+use Rattle.btree_nodes.proofs.Walks.{same-fault}
+use Rattle.rtree_shape.specs.Slots.{Item, Slots, NodeView}
+use Rattle.rtree_shape.specs.Stock.{View, view}
+use Rattle.rtree_nodes.specs.Reach.{item_of}
+use Rattle.rtree_nodes.specs.Pages.{node_of, slots_in, level_in}
+use Rattle.node_inverted.specs.Impacts.{impact_in}
+use Rattle.irtree_shape.proofs.Plants.{leaf_spare, leaf_planted}
+use Rattle.irtree_shape.proofs.Stepping.{steps-raised}
+use Rattle.irtree_insert.proofs.Loads.{form-level, leaf-fits}
+use Rattle.irtree_insert.proofs.root.first_leaf.Goals as goal
+
+pub returns-in_err-raise-clause-honest : goal.returns-in_err-raise-clause-honest
+returns-in_err-raise-clause-honest g c =
+    let passed = err_from_is_err_and c.from_residual-in_err-raise.result c.from_residual-in_err-raise.ensures.1 in
+    rw (passed.1, passed.2) (λ free whole told damage e.
+    let take = c.in_ok-top.ensures.taken c.args.tree.now.rows free whole.supplied in
+    c.raise.ensures.honest take.free take.moves.supplied.rows (c.in_ok-top.ensures.told told) damage (c.in_err-raise.was ∙ ap Err (same-fault {T = ℕ} _ _ e)))
+
+pub returns-clause-planted : goal.returns-clause-planted
+returns-clause-planted g c = λ free place whole.
+    let rows : ℕ = c.args.tree.now.rows in
+    let words : List (ℕ × ℕ) = c.args.words.now in
+    let x : Item = item_of c.args.slot.now in
+    let before : View = view (g.P.Pages.pages c.args.pages.now) rows (g.P.Pages.count c.args.pages.now) (g.P.Pages.first c.args.pages.now) free in
+    let s : Slots = slots_in c.new_node-bytes.result in
+    let t : Slots = slots_in c.put_slot.new.page in
+    let none = λ (i : ℕ). ap (λ (v : NodeView). v.slots i) c.new_node-bytes.ensures.node in
+    let low : level_in c.new_node-bytes.result ≡ 0 = c.new_node-bytes.ensures.level in
+    let fits = place ∙ leaf-fits (level_in c.new_node-bytes.result) low in
+    let form = c.put_slot.ensures.form c.new_node-bytes.ensures.form fits in
+    let t_is = c.put_slot.ensures.slots c.new_node-bytes.ensures.form fits in
+    let level_is : (node_of c.put_slot.new.page).level ≡ 0 = form-level c.put_slot.new.page form ∙ c.put_slot.ensures.level ∙ low in
+    let top : ℕ = c.in_ok-top.top in
+    let taken : PageMap = g.P.Pages.pages c.store_new.new.pages in
+    let c0 : ℕ = g.P.Pages.count c.store_new.new.pages in
+    let f0 : ℕ = g.P.Pages.first c.store_new.new.pages in
+    let take = c.in_ok-top.ensures.taken rows free whole.supplied in
+    let some = c.in_ok-top.ensures.some in
+    let unused = leaf_spare node_of before top words x (λ n. n ≡ 0) refl whole taken rows c0 f0 c.put_slot.new.page take some in
+    let pages : PageMap = g.P.Pages.pages c.raise.new.pages in
+    let c1 : ℕ = g.P.Pages.count c.raise.new.pages in
+    let f1 : ℕ = g.P.Pages.first c.raise.new.pages in
+    let steps = steps-raised (view taken rows c0 f0 take.free) pages c.raise.new.tree.rows c1 f1 top 0 (impact_in words) take.moves.supplied unused (c.in_ok-raise.ensures.turns take.free take.moves.supplied.rows) in
+    leaf_planted node_of before top words x (λ n. n ≡ 0) refl whole taken rows c0 f0 c.put_slot.new.page take some pages c.raise.new.tree.rows c1 f1 steps s t none t_is
+    (ap (λ (l : ℕ). record { level = l; slots = t }) level_is)

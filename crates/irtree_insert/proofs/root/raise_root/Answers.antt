@@ -1,0 +1,95 @@
+use Rattle.std.proofs.Common.{◌≡◌, ◌∙◌, ℕ, List, suc, ap, Err, refl, add-one}
+use Rattle.std.proofs.lemmas.Result.{err_from_is_err_and}
+use Rattle.page_face.specs.FreeList.{PageMap}
+use Rattle.btree_nodes.proofs.Walks.{same-fault}
+use Rattle.node_inverted.proofs.Told.{told-turned}
+use Rattle.rtree_shape.specs.Slots.{Item, Slots, NodeView}
+use Rattle.rtree_shape.specs.Trees.{with_slot}
+use Rattle.rtree_shape.specs.Stock.{View, view, plain}
+use Rattle.rtree_nodes.specs.Reach.{reach_of, child_item}
+use Rattle.rtree_nodes.specs.Pages.{node_of, slots_in, level_in}
+use Rattle.irtree_shape.proofs.Raises.{top_spare, root_apart, more_apart, top_spare1, root_stands}
+use Rattle.irtree_shape.proofs.Stepping.{steps-refreshed}
+use Rattle.irtree_insert.specs.Grown.{beside_item}
+use Rattle.irtree_insert.proofs.Loads.{form-level, inner-fits}
+use Rattle.irtree_insert.proofs.root.raise_root.Goals as goal
+
+pub returns-in_err-refresh-clause-honest : goal.returns-in_err-refresh-clause-honest
+returns-in_err-refresh-clause-honest g c =
+    let passed = err_from_is_err_and c.from_residual-in_err-refresh.result c.from_residual-in_err-refresh.ensures.1 in
+    rw (passed.1, passed.2) (λ free sums wide least raised told damage e.
+    let rows : ℕ = c.args.tree.now.rows in
+    let before : View = view (g.P.Pages.pages c.args.pages.now) rows (g.P.Pages.count c.args.pages.now) (g.P.Pages.first c.args.pages.now) free in
+    let left : Item = child_item c.args.rect.now c.args.root in
+    let more : Item = beside_item c.args.more.now in
+    let top : ℕ = c.in_ok-top.top in
+    let taken : PageMap = g.P.Pages.pages c.store_new.new.pages in
+    let c0 : ℕ = g.P.Pages.count c.store_new.new.pages in
+    let f0 : ℕ = g.P.Pages.first c.store_new.new.pages in
+    let take = c.in_ok-top.ensures.taken rows free raised.supplied in
+    c.refresh.ensures.honest take.free take.moves.supplied.rows
+    (root_apart node_of before least c.args.level c.args.root top left more sums wide (reach_of c.args.rect.now) raised refl (λ d. refl) taken rows c0 f0 c.put_slot-2.new.page take)
+    (c.in_ok-top.ensures.told told) damage (c.in_err-refresh.was ∙ ap Err (same-fault {T = ℕ} _ _ e)))
+
+pub returns-in_err-refresh-2-clause-honest : goal.returns-in_err-refresh-2-clause-honest
+returns-in_err-refresh-2-clause-honest g c =
+    let passed = err_from_is_err_and c.from_residual-in_err-refresh-2.result c.from_residual-in_err-refresh-2.ensures.1 in
+    rw (passed.1, passed.2) (λ free sums wide least raised told damage e.
+    let rows : ℕ = c.args.tree.now.rows in
+    let before : View = view (g.P.Pages.pages c.args.pages.now) rows (g.P.Pages.count c.args.pages.now) (g.P.Pages.first c.args.pages.now) free in
+    let left : Item = child_item c.args.rect.now c.args.root in
+    let more : Item = beside_item c.args.more.now in
+    let top : ℕ = c.in_ok-top.top in
+    let taken : PageMap = g.P.Pages.pages c.store_new.new.pages in
+    let c0 : ℕ = g.P.Pages.count c.store_new.new.pages in
+    let f0 : ℕ = g.P.Pages.first c.store_new.new.pages in
+    let take = c.in_ok-top.ensures.taken rows free raised.supplied in
+    let turn = c.in_ok-refresh.ensures.turns take.free take.moves.supplied.rows
+    (root_apart node_of before least c.args.level c.args.root top left more sums wide (reach_of c.args.rect.now) raised refl (λ d. refl) taken rows c0 f0 c.put_slot-2.new.page take) in
+    c.refresh-2.ensures.honest turn.free turn.rows
+    (more_apart node_of before least c.args.level c.args.root top left more sums wide (reach_of c.args.rect.now) raised refl (λ d. refl) taken rows c0 f0 c.put_slot-2.new.page take)
+    (told-turned (plain (view taken rows c0 f0 take.free)) rows (g.P.Pages.pages c.refresh.new.pages) (g.P.Pages.count c.refresh.new.pages) (g.P.Pages.first c.refresh.new.pages) c.refresh.new.tree.rows _ turn (c.in_ok-top.ensures.told told))
+    damage (c.in_err-refresh-2.was ∙ ap Err (same-fault {T = ℕ} _ _ e)))
+
+pub returns-clause-made : goal.returns-clause-made
+returns-clause-made g c = λ free sums wide least raised.
+    let level : ℕ = c.args.level in
+    let root : ℕ = c.args.root in
+    let told : ℕ → ℕ = reach_of c.args.rect.now in
+    let rows : ℕ = c.args.tree.now.rows in
+    let before : View = view (g.P.Pages.pages c.args.pages.now) rows (g.P.Pages.count c.args.pages.now) (g.P.Pages.first c.args.pages.now) free in
+    let left : Item = child_item c.args.rect.now root in
+    let more : Item = beside_item c.args.more.now in
+    let top : ℕ = c.in_ok-top.top in
+    let taken : PageMap = g.P.Pages.pages c.store_new.new.pages in
+    let c0 : ℕ = g.P.Pages.count c.store_new.new.pages in
+    let f0 : ℕ = g.P.Pages.first c.store_new.new.pages in
+    let take = c.in_ok-top.ensures.taken rows free raised.supplied in
+    let bytes : List ℕ = c.put_slot-2.new.page in
+    let s : Slots = slots_in c.new_node-bytes.result in
+    let t : Slots = slots_in c.put_slot.new.page in
+    let u : Slots = slots_in bytes in
+    let none = λ (i : ℕ). ap (λ (v : NodeView). v.slots i) c.new_node-bytes.ensures.node in
+    let low : level_in c.new_node-bytes.result ≡ suc level = c.new_node-bytes.ensures.level ∙ add-one level in
+    let mid : level_in c.put_slot.new.page ≡ suc level = c.put_slot.ensures.level ∙ low in
+    let left_fits = inner-fits (level_in c.new_node-bytes.result) level low in
+    let more_fits = c.slot.ensures.child ∙ inner-fits (level_in c.put_slot.new.page) level mid in
+    let t_form = c.put_slot.ensures.form c.new_node-bytes.ensures.form left_fits in
+    let t_is = c.put_slot.ensures.slots c.new_node-bytes.ensures.form left_fits in
+    let u_form = c.put_slot-2.ensures.form t_form more_fits in
+    let u_is = c.put_slot-2.ensures.slots t_form more_fits ∙ ap (λ (y : Item). with_slot 1 y t) c.slot.ensures.item in
+    let level_is : (node_of bytes).level ≡ suc level = form-level bytes u_form ∙ c.put_slot-2.ensures.level ∙ mid in
+    let m1 : PageMap = g.P.Pages.pages c.refresh.new.pages in
+    let c1 : ℕ = g.P.Pages.count c.refresh.new.pages in
+    let f1 : ℕ = g.P.Pages.first c.refresh.new.pages in
+    let m2 : PageMap = g.P.Pages.pages c.refresh-2.new.pages in
+    let c2 : ℕ = g.P.Pages.count c.refresh-2.new.pages in
+    let f2 : ℕ = g.P.Pages.first c.refresh-2.new.pages in
+    let z0 = top_spare node_of before least level root top left more sums wide told raised refl (λ d. refl) taken rows c0 f0 bytes take in
+    let s1 = steps-refreshed (view taken rows c0 f0 take.free) m1 c.refresh.new.tree.rows c1 f1 top 0 root take.moves.supplied z0
+    (c.in_ok-refresh.ensures.turns take.free take.moves.supplied.rows (root_apart node_of before least level root top left more sums wide told raised refl (λ d. refl) taken rows c0 f0 bytes take)) in
+    let z1 = top_spare1 node_of before least level root top left more sums wide told raised refl (λ d. refl) taken rows c0 f0 bytes take m1 c.refresh.new.tree.rows c1 f1 s1 in
+    let s2 = steps-refreshed (view m1 c.refresh.new.tree.rows c1 f1 s1.free) m2 c.refresh-2.new.tree.rows c2 f2 top 1 more.to s1.moves.supplied z1
+    (c.in_ok-refresh-2.ensures.turns s1.free s1.moves.supplied.rows (more_apart node_of before least level root top left more sums wide told raised refl (λ d. refl) taken rows c0 f0 bytes take)) in
+    root_stands node_of before least level root top left more sums wide told raised refl (λ d. refl) taken rows c0 f0 bytes take m1 c.refresh.new.tree.rows c1 f1 s1 m2 c.refresh-2.new.tree.rows c2 f2 s2
+    (node_of bytes).level s t u none t_is u_is level_is refl (λ n. n ≡ 1) refl

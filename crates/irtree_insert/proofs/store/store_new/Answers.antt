@@ -1,0 +1,19 @@
+use Rattle.std.proofs.lemmas.Result.{err_from_is_err_and}
+use Rattle.std.proofs.Common.{◌∙◌}
+use Rattle.rtree_shape.specs.Stock.{view}
+use Rattle.irtree_shape.proofs.Stocks.{take-honest}
+use Rattle.irtree_shape.proofs.Stepping.{steps-take}
+use Rattle.irtree_insert.proofs.store.store_new.Goals as goal
+
+pub returns-in_err-page-clause-honest : goal.returns-in_err-page-clause-honest
+returns-in_err-page-clause-honest g c =
+    let passed = err_from_is_err_and c.from_residual.result c.from_residual.ensures.1 in
+    rw (passed.1, passed.2) (λ rows free supplied damage e. take-honest (view (g.P.Pages.pages c.args.pages.now) rows (g.P.Pages.count c.args.pages.now) (g.P.Pages.first c.args.pages.now) free) damage supplied
+    (c.take.ensures.damaged damage (c.in_err-page.was ∙ e)))
+
+pub returns-clause-taken : goal.returns-clause-taken
+returns-clause-taken g c = λ rows free supplied.
+    let t = c.in_ok-page.ensures in
+    steps-take (g.P.Pages.pages c.args.pages.now) (g.P.Pages.pages c.take.new.self) (g.P.Pages.pages c.store.new.pages) c.args.bytes.now rows
+    (g.P.Pages.count c.args.pages.now) (g.P.Pages.count c.take.new.self) (g.P.Pages.first c.args.pages.now) (g.P.Pages.first c.take.new.self) _ _ c.in_ok-page.page free
+    supplied t.counts_one t.takes_free t.others t.counted.0 c.in_ok-store.ensures.written c.in_ok-store.ensures.frame.count c.in_ok-store.ensures.first

@@ -1,0 +1,11 @@
+use Rattle.rtree_shape.specs.Stock.{view}
+use Rattle.irtree_shape.proofs.Stepping.{steps-paired}
+use Rattle.irtree_insert.proofs.Counted.{counted-some}
+use Rattle.irtree_insert.proofs.store.store_two.Goals as goal
+
+pub returns-clause-split : goal.returns-clause-split
+returns-clause-split g c = λ rows free supplied unused.
+    steps-paired (view (g.P.Pages.pages c.args.pages.now) rows (g.P.Pages.count c.args.pages.now) (g.P.Pages.first c.args.pages.now) free)
+    (g.P.Pages.pages c.store_new.new.pages) (g.P.Pages.pages c.store.new.pages) c.args.front.now c.args.back.now (g.P.Pages.count c.store_new.new.pages) (g.P.Pages.first c.store_new.new.pages)
+    (g.P.Pages.count c.store.new.pages) (g.P.Pages.first c.store.new.pages) c.args.page c.in_ok-right.right supplied unused (counted-some _ c.args.page c.requires.counted)
+    (c.in_ok-right.ensures.taken rows free supplied) c.in_ok-store.ensures.written c.in_ok-store.ensures.frame.count c.in_ok-store.ensures.first

@@ -1,0 +1,150 @@
+//! An item that is added to a node, with its words.
+ghost use Rattle.std.specs.Prelude.{◌≡◌, ◌≢◌, ◌+◌, ◌<◌, ◌≤◌, ℕ, Bool, List, Option, Some, option_map, if◌then◌else◌, IfOk, OnOk};
+ghost use Rattle.page_face.specs.Calls.{FailsChanging, Changes};
+ghost use Rattle.page_face.specs.Causes.{IsUncounted};
+ghost use Rattle.btree_nodes.specs.Damages.{AreTold};
+ghost use Rattle.btree_nodes.specs.Supply.{one_at};
+ghost use Rattle.rtree_shape.specs.Slots.{IsFull};
+ghost use Rattle.rtree_shape.specs.Stock.{view, spare_in};
+ghost use Rattle.rtree_shape.specs.Made.{Rises};
+ghost use Rattle.rtree_nodes.specs.Reach.{reach_of, item_of};
+ghost use Rattle.rtree_nodes.specs.Pages.{node_of, slots_in};
+ghost use Rattle.node_inverted.specs.Rows.{bytes_in};
+ghost use Rattle.node_inverted.specs.Turns.{HasNone, moved};
+ghost use Rattle.node_inverted.specs.Impacts.{impact_in, raised};
+ghost use Rattle.irtree_shape.specs.Words.{joined, worded, words_on};
+ghost use Rattle.irtree_shape.specs.Stock.{IsSupplied};
+ghost use Rattle.irtree_shape.specs.Made.{nodes_in, IsReady, Makes};
+ghost use Rattle.irtree_shape.specs.Steps.{Steps, crowned_in};
+ghost use Rattle.irtree_insert.specs.Fits.{Fits};
+ghost use Rattle.irtree_insert.specs.Drafts.{IsDraft};
+ghost use Rattle.irtree_insert.specs.Grown.{beside_item};
+
+use crate::draft::Draft;
+use crate::grown::{Beside, Grown};
+use crate::part::{ask, part};
+use crate::store::{store, store_two};
+use node_inverted::{Tree, move_slots, raise};
+use page_face::{Damage, PageFault, Pages};
+use rtree_nodes::{Slot, free_slot};
+use split_policy::SplitPolicy;
+
+// Moves the words of some slots of a node to one without rows, and raises a slot of one of the two by an entry's words.
+fn part_words<P: Pages>(
+    pages: &mut P,
+    tree: &mut Tree,
+    page: u32,
+    right: u32,
+    moves: u32,
+    is_moved: bool,
+    at: usize,
+    words: &[(u64, u8)],
+) -> Result<(), PageFault>
+    requires { at < 32 }
+    ensures steps { (free : List ℕ) → IsSupplied (view (P.pages pages.old) tree.old.rows (P.count pages.old) (P.first pages.old) free)
+        → spare_in (view (P.pages pages.old) tree.old.rows (P.count pages.old) (P.first pages.old) free) page ≡ 0 → spare_in (view (P.pages pages.old) tree.old.rows (P.count pages.old) (P.first pages.old) free) right ≡ 0
+        → (page ≡ right → ⊥) → HasNone (bytes_in (P.pages pages.old) tree.old.rows) right
+        → OnOk result (Steps (view (P.pages pages.old) tree.old.rows (P.count pages.old) (P.first pages.old) free) (P.pages pages.new) tree.new.rows (P.count pages.new) (P.first pages.new) (λ n. one_at page n + one_at right n) (λ n. one_at page n + one_at right n)
+        (raised (if is_moved then right else page) at (impact_in words.now) (moved page moves right (bytes_in (P.pages pages.old) tree.old.rows))) (P.pages pages.old)) }
+    ensures root { tree.new.root ≡ tree.old.root }
+
+    ensures honest { (free : List ℕ) → IsSupplied (view (P.pages pages.old) tree.old.rows (P.count pages.old) (P.first pages.old) free)
+        → spare_in (view (P.pages pages.old) tree.old.rows (P.count pages.old) (P.first pages.old) free) page ≡ 0 → spare_in (view (P.pages pages.old) tree.old.rows (P.count pages.old) (P.first pages.old) free) right ≡ 0
+        → (page ≡ right → ⊥) → HasNone (bytes_in (P.pages pages.old) tree.old.rows) right → AreTold (P.pages pages.old) (P.count pages.old)
+        → (damage : Damage) → result ≢ Err (PageFault.Damaged damage) }
+    ensures fails { FailsChanging P.Pages pages.old pages.new result }
+    ensures frame { Changes P.Pages pages.old pages.new }
+{
+    move_slots(pages, tree, page, moves, right)?;
+    let home = if is_moved { right } else { page };
+    raise(pages, tree, home, at, words)
+}
+
+// Splits a full node and one item more, and writes both nodes and their words.
+fn split<P: Pages>(
+    pages: &mut P,
+    tree: &mut Tree,
+    policy: &mut dyn SplitPolicy,
+    page: u32,
+    draft: &mut Draft,
+    slot: &Slot,
+    words: &[(u64, u8)],
+) -> Result<Grown, PageFault>
+    requires counted { IsUncounted (P.count pages.old) page → ⊥ }
+    ensures made { (least level : ℕ) (free : List ℕ) → IsReady node_of (view (P.pages pages.old) tree.old.rows (P.count pages.old) (P.first pages.old) free) least level page (joined (node_of draft.old.bytes) (bytes_in (P.pages pages.old) tree.old.rows page)) (Some (worded (impact_in words.now) (item_of slot.now)))
+        → IsDraft draft.old → Fits level slot.now → IsFull (slots_in draft.old.bytes)
+        → IfOk result (λ g. Makes node_of (view (P.pages pages.old) tree.old.rows (P.count pages.old) (P.first pages.old) free) (P.pages pages.new) tree.new.rows (P.count pages.new) (P.first pages.new) least level page
+        (words_on (bytes_in (P.pages pages.old) tree.old.rows page) (slots_in draft.old.bytes)) (Some (worded (impact_in words.now) (item_of slot.now))) (crowned_in (nodes_in node_of (P.pages pages.new) tree.new.rows) (option_map beside_item g.more)) (reach_of g.rect) (Rises ((SplitPolicy-dyn policy.old).count policy.old.1) ((SplitPolicy-dyn policy.new).count policy.new.1))) }
+    ensures root { tree.new.root ≡ tree.old.root }
+
+    ensures honest { (least level : ℕ) (free : List ℕ) → IsReady node_of (view (P.pages pages.old) tree.old.rows (P.count pages.old) (P.first pages.old) free) least level page (joined (node_of draft.old.bytes) (bytes_in (P.pages pages.old) tree.old.rows page)) (Some (worded (impact_in words.now) (item_of slot.now)))
+        → IsDraft draft.old → Fits level slot.now → IsFull (slots_in draft.old.bytes) → AreTold (P.pages pages.old) (P.count pages.old)
+        → (damage : Damage) → result ≢ Err (PageFault.Damaged damage) }
+    ensures fails { FailsChanging P.Pages pages.old pages.new result }
+    ensures frame { Changes P.Pages pages.old pages.new }
+{
+    let mask = ask(pages, tree, policy, page, draft, &slot.rect(), words)?;
+    let parted = part(mask, draft, slot);
+    let right = store_two(pages, page, &draft.bytes, &parted.other.bytes)?;
+    part_words(
+        pages,
+        tree,
+        page,
+        right,
+        parted.moves,
+        parted.is_moved,
+        parted.at,
+        words,
+    )?;
+    Ok(Grown {
+        rect: draft.bounds(),
+        more: Some(Beside {
+            rect: parted.other.bounds(),
+            page: right,
+        }),
+    })
+}
+
+/// Adds an item with its words to a node that stands at a counted page, in its lowest free slot, and writes it and the words' rows;
+/// or splits it if it is full.
+///
+/// It writes one page and the rows of the words. A split goes through the node's rows, takes one page and writes two, and moves the
+/// rows of the entries that move.
+///
+/// Refuses as `take`, `raise`, `like` and `move_slots` do; no page is damaged where the node may be written and the pages are told.
+/// After a failure pages may have changed: they are to be abandoned.
+pub(crate) fn add<P: Pages>(
+    pages: &mut P,
+    tree: &mut Tree,
+    policy: &mut dyn SplitPolicy,
+    page: u32,
+    draft: &mut Draft,
+    slot: &Slot,
+    words: &[(u64, u8)],
+) -> Result<Grown, PageFault>
+    requires counted { IsUncounted (P.count pages.old) page → ⊥ }
+    ensures made { (least level : ℕ) (free : List ℕ) → IsReady node_of (view (P.pages pages.old) tree.old.rows (P.count pages.old) (P.first pages.old) free) least level page (joined (node_of draft.old.bytes) (bytes_in (P.pages pages.old) tree.old.rows page)) (Some (worded (impact_in words.now) (item_of slot.now)))
+        → IsDraft draft.old → Fits level slot.now
+        → IfOk result (λ g. Makes node_of (view (P.pages pages.old) tree.old.rows (P.count pages.old) (P.first pages.old) free) (P.pages pages.new) tree.new.rows (P.count pages.new) (P.first pages.new) least level page
+        (words_on (bytes_in (P.pages pages.old) tree.old.rows page) (slots_in draft.old.bytes)) (Some (worded (impact_in words.now) (item_of slot.now))) (crowned_in (nodes_in node_of (P.pages pages.new) tree.new.rows) (option_map beside_item g.more)) (reach_of g.rect) (Rises ((SplitPolicy-dyn policy.old).count policy.old.1) ((SplitPolicy-dyn policy.new).count policy.new.1))) }
+    ensures root { tree.new.root ≡ tree.old.root }
+
+    ensures honest { (least level : ℕ) (free : List ℕ) → IsReady node_of (view (P.pages pages.old) tree.old.rows (P.count pages.old) (P.first pages.old) free) least level page (joined (node_of draft.old.bytes) (bytes_in (P.pages pages.old) tree.old.rows page)) (Some (worded (impact_in words.now) (item_of slot.now)))
+        → IsDraft draft.old → Fits level slot.now → AreTold (P.pages pages.old) (P.count pages.old)
+        → (damage : Damage) → result ≢ Err (PageFault.Damaged damage) }
+    ensures fails { FailsChanging P.Pages pages.old pages.new result }
+    ensures frame { Changes P.Pages pages.old pages.new }
+{
+    match free_slot(&draft.bytes) {
+        Some(at) => {
+            draft.put(at, slot);
+            raise(pages, tree, page, at, words)?;
+            store(pages, page, &draft.bytes)?;
+            Ok(Grown {
+                rect: draft.bounds(),
+                more: None,
+            })
+        }
+        None => split(pages, tree, policy, page, draft, slot, words),
+    }
+}

@@ -1,0 +1,6 @@
+pub mod Words
+pub mod Stock
+pub mod Steps
+pub mod Made
+pub mod Whole
+pub mod Loose

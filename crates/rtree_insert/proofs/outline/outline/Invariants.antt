@@ -1,7 +1,0 @@
-use Rattle.rtree_shape.specs.Slots.{Slots}
-use Rattle.rtree_insert.specs.Drafts.{AreOutlined}
-use Rattle.rtree_insert.proofs.Outlines.{IsRound}
-use Rattle.rtree_insert.proofs.outline.outline.Given as goal
-
-abbrev pub invariant-loop-i : goal.invariant-loop-i
-invariant-loop-i l = (s : Slots) → AreOutlined l.used l.rects s → IsRound s l.i l.bounds

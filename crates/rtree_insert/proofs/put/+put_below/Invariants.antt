@@ -1,4 +1,0 @@
-use Rattle.rtree_insert.proofs.put.+put_below.Given as goal
-
-abbrev pub decreases-put_below : goal.decreases-put_below
-decreases-put_below g l = l.level
