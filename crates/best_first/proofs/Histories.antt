@@ -39,16 +39,16 @@ root_places root (Node page level bound ∷ []) r = refl
 root_places root (Node page level bound ∷ i ∷ items) r = absurd r
 root_places root (Place hit ∷ items) r = absurd r
 
-module _ (stands : List ℕ → ℕ → Item → Type 0) (pages : PageMap) (fits : Type 0) (opens : ℕ → ℕ → List Item) (starts : List Item) (root : ℕ) where
+module _ (stands : List ℕ → ℕ → Item → Type 0) (pages : PageMap) (is_node : ℕ → Type 0) (fits : Type 0) (opens : ℕ → ℕ → List Item) (starts : List Item) (root : ℕ) where
   -- What is told of the openings so far, and of what waits: it was given, no place that it leads to costs less than the bound of a
   -- node opened before, and fewer than k places found cost less than that.
   pub record Underway (old_log new_log : List ℕ) (k : ℕ) (found : List Hit) (queue : List Item) : Type 0 where
-    pub told : Told stands pages fits opens starts root old_log new_log found
+    pub told : Told stands pages is_node fits opens starts root old_log new_log found
     pub queued : AllByRecursion (Contains (given_by told.start told.openings)) queue
     pub ahead : fits → AllByRecursion (λ (o : Opening). AllByRecursion (IsAhead opens o.bound) queue) told.openings
     pub fewer : fits → AllByRecursion (λ (o : Opening). cheaper o.bound found < k) told.openings
 
-  pub begun : (items empty queue : List Item) (none found : List Hit) (old new : List ℕ) (k : ℕ) → empty ≡ [] → none ≡ [] → IsPermutation (nodes_of items ++ empty) queue → found ≡ first comes_before k (none ++ places_of items) → IsRootAlone root items → (fits → items ≡ starts) → AsksNodes pages (root ∷ []) old new → (fits → AsksNodes pages (pages_of items) old new) → Underway old new k found queue
+  pub begun : (items empty queue : List Item) (none found : List Hit) (old new : List ℕ) (k : ℕ) → empty ≡ [] → none ≡ [] → IsPermutation (nodes_of items ++ empty) queue → found ≡ first comes_before k (none ++ places_of items) → IsRootAlone root items → (fits → items ≡ starts) → AsksNodes is_node (root ∷ []) old new → (fits → AsksNodes is_node (pages_of items) old new) → Underway old new k found queue
   begun items empty queue none found old new k e n p f r b a g =
       let q : IsPermutation (nodes_of items) queue = subst (λ x. IsPermutation x queue) (ap (λ x. nodes_of items ++ x) e ∙ append-nil (nodes_of items)) p in
       let h : found ≡ first comes_before k [] = f ∙ ap (λ x. first comes_before k (x ++ places_of items)) n ∙ ap (first comes_before k) (root_places root items r) in
@@ -64,7 +64,7 @@ module _ (stands : List ℕ → ℕ → Item → Type 0) (pages : PageMap) (fits
           gave = λ _. tt;
           read = tt;
           log = a;
-          log_given = λ t. asks_wider pages (pages_of items) (pages_of items ++ []) old new (λ page c. Contains-append_left (pages_of items) [] page c) (g t);
+          log_given = λ t. asks_wider is_node (pages_of items) (pages_of items ++ []) old new (λ page c. Contains-append_left (pages_of items) [] page c) (g t);
           from_leaf = rw h (all_first (IsFromLeaf []) k [] tt);
         };
         queued = all_moved (Contains items) (nodes_of items) queue q (all_nodes opens (Contains items) items (all_in items));
@@ -74,7 +74,7 @@ module _ (stands : List ℕ → ℕ → Item → Type 0) (pages : PageMap) (fits
 
   module _ (old mid new : List ℕ) (k page level bound : ℕ) (items queue rest next : List Item) (now found : List Hit) (total : List Hit) where
     -- a node is opened
-    pub opened : cheaper bound now < k → IsNext (Node page level bound) rest queue → IsPermutation (nodes_of items ++ rest) next → found ≡ first comes_before k (now ++ places_of items) → AsksNodes pages (page ∷ []) mid new → AskedSince mid new page → AllByRecursion (stands (pages page) level) items → AllByRecursion (IsGivenAt level) items → (fits → items ≡ opens page level) → (fits → Searching opens total k now queue) → Underway old mid k now queue → Underway old new k found next
+    pub opened : cheaper bound now < k → IsNext (Node page level bound) rest queue → IsPermutation (nodes_of items ++ rest) next → found ≡ first comes_before k (now ++ places_of items) → AsksNodes is_node (page ∷ []) mid new → AskedSince mid new page → AllByRecursion (stands (pages page) level) items → AllByRecursion (IsGivenAt level) items → (fits → items ≡ opens page level) → (fits → Searching opens total k now queue) → Underway old mid k now queue → Underway old new k found next
     opened few n p f a since st g o se u =
         let t = u.told in
         let node = Node page level bound in
@@ -123,13 +123,13 @@ module _ (stands : List ℕ → ℕ → Item → Type 0) (pages : PageMap) (fits
         both P Q R f [] p q = tt
         both P Q R f (o ∷ os) p q = (f o p.0 q.0, both P Q R f os p.1 q.1)
 
-        more_logged : (front ps : List ℕ) → AsksNodes pages (front ++ ps) old mid → AsksNodes pages (page ∷ []) mid new → AsksNodes pages (front ++ page ∷ ps) old new
-        more_logged front ps l a = asks_then pages (front ++ page ∷ ps) old mid new
-            (asks_wider pages (front ++ ps) (front ++ page ∷ ps) old mid (λ z h. ⊎_elim (λ (h : Contains front z). Contains-append_left front (page ∷ ps) z h) (λ (h : Contains ps z). Contains-append_right front (page ∷ ps) z (Contains-append_right (page ∷ []) ps z h)) (Contains-append_cases front ps z h)) l)
-            (asks_wider pages (page ∷ []) (front ++ page ∷ ps) mid new (λ z h. Contains-append_right front (page ∷ ps) z (Contains-append_left (page ∷ []) ps z h)) a)
+        more_logged : (front ps : List ℕ) → AsksNodes is_node (front ++ ps) old mid → AsksNodes is_node (page ∷ []) mid new → AsksNodes is_node (front ++ page ∷ ps) old new
+        more_logged front ps l a = asks_then is_node (front ++ page ∷ ps) old mid new
+            (asks_wider is_node (front ++ ps) (front ++ page ∷ ps) old mid (λ z h. ⊎_elim (λ (h : Contains front z). Contains-append_left front (page ∷ ps) z h) (λ (h : Contains ps z). Contains-append_right front (page ∷ ps) z (Contains-append_right (page ∷ []) ps z h)) (Contains-append_cases front ps z h)) l)
+            (asks_wider is_node (page ∷ []) (front ++ page ∷ ps) mid new (λ z h. Contains-append_right front (page ∷ ps) z (Contains-append_left (page ∷ []) ps z h)) a)
 
   -- the search ends
-  pub ended : (old new : List ℕ) (k : ℕ) (found : List Hit) (queue : List Item) → IsRanked comes_before found → Underway old new k found queue → Opened stands pages fits opens starts root old new k found
+  pub ended : (old new : List ℕ) (k : ℕ) (found : List Hit) (queue : List Item) → IsRanked comes_before found → Underway old new k found queue → Opened stands pages is_node fits opens starts root old new k found
   ended old new k found queue r u = record {
     told = u.told;
     few = λ w l. all_weaker (λ (o : Opening). cheaper o.bound found < k) (λ (o : Opening). o.bound ≤ last_cost found) (λ o c. last_above o.bound found r (omega arith)) u.told.openings (u.fewer w);

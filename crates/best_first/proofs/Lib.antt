@@ -6,3 +6,4 @@ pub mod Queued
 pub mod Steps
 pub mod Logs
 pub mod Histories
+pub mod Insides

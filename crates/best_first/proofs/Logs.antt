@@ -2,12 +2,11 @@
 use Rattle.std.proofs.Common.{◌≡◌, ℕ, List, [], ◌∷◌, ◌++◌, sym, ap, ◌∙◌, append_assoc, Result, Ok, Err, refl}
 use Rattle.std.specs.List.{Contains}
 use Rattle.std.proofs.lemmas.List.{append-nil}
-use Rattle.page_face.specs.FreeList.{PageMap}
 use Rattle.page_face.specs.Causes.{asked_after}
 use Rattle.page_face.specs.declared.fault.PageFault.{PageFault}
 use Rattle.page_face.specs.declared.fault.PageFault.TheVariants.{Disk, NoRoom, Stopped, Damaged, Memory}
 use Rattle.btree_nodes.specs.Damages.{AskedSince}
-use Rattle.best_first.specs.Openings.{IsNodePage, AsksNodes}
+use Rattle.best_first.specs.Openings.{AsksNodes}
 use Rattle.best_first.proofs.Lists.{all_weaker, all_append, all_in}
 
 -- asked for in the last call: asked for in all of them
@@ -27,37 +26,45 @@ asked_before old mid more new page a e = record {
 }
 
 -- other nodes may be asked for, too
-pub asks_wider : (pages : PageMap) (ns ms old new : List ℕ) → ((page : ℕ) → Contains ns page → Contains ms page) → AsksNodes pages ns old new → AsksNodes pages ms old new
-asks_wider pages ns ms old new f a = record {
+pub asks_wider : (is_node : ℕ → Type 0) (ns ms old new : List ℕ) → ((page : ℕ) → Contains ns page → Contains ms page) → AsksNodes is_node ns old new → AsksNodes is_node ms old new
+asks_wider is_node ns ms old new f a = record {
   more = a.more;
   log = a.log;
-  alone = all_weaker (λ page. IsNodePage (pages page) → Contains ns page) (λ page. IsNodePage (pages page) → Contains ms page) (λ page h t. f page (h t)) a.more a.alone;
+  alone = all_weaker (λ page. is_node page → Contains ns page) (λ page. is_node page → Contains ms page) (λ page h t. f page (h t)) a.more a.alone;
+}
+
+-- fewer pages may be nodes
+pub asks_of : (are is_node : ℕ → Type 0) (ns old new : List ℕ) → ((page : ℕ) → is_node page → are page) → AsksNodes are ns old new → AsksNodes is_node ns old new
+asks_of are is_node ns old new f a = record {
+  more = a.more;
+  log = a.log;
+  alone = all_weaker (λ page. are page → Contains ns page) (λ page. is_node page → Contains ns page) (λ page h t. h (f page t)) a.more a.alone;
 }
 
 -- one call after another
-pub asks_then : (pages : PageMap) (ns old mid new : List ℕ) → AsksNodes pages ns old mid → AsksNodes pages ns mid new → AsksNodes pages ns old new
-asks_then pages ns old mid new a b = record {
+pub asks_then : (is_node : ℕ → Type 0) (ns old mid new : List ℕ) → AsksNodes is_node ns old mid → AsksNodes is_node ns mid new → AsksNodes is_node ns old new
+asks_then is_node ns old mid new a b = record {
   more = a.more ++ b.more;
   log = b.log ∙ ap (λ l. l ++ b.more) a.log ∙ append_assoc old a.more b.more;
-  alone = all_append (λ page. IsNodePage (pages page) → Contains ns page) a.more b.more a.alone b.alone;
+  alone = all_append (λ page. is_node page → Contains ns page) a.more b.more a.alone b.alone;
 }
 
 -- no page was asked for
-pub asks_none : (pages : PageMap) (ns old : List ℕ) → AsksNodes pages ns old old
-asks_none pages ns old = record { more = []; log = sym (append-nil old); alone = tt }
+pub asks_none : (is_node : ℕ → Type 0) (ns old : List ℕ) → AsksNodes is_node ns old old
+asks_none is_node ns old = record { more = []; log = sym (append-nil old); alone = tt }
 
 -- one page was asked for
-pub asks_one : (pages : PageMap) (page : ℕ) (old : List ℕ) → AsksNodes pages (page ∷ []) old (old ++ page ∷ [])
-asks_one pages page old = record { more = page ∷ []; log = refl; alone = ((λ t. (all_in (page ∷ [])).0), tt) }
+pub asks_one : (is_node : ℕ → Type 0) (page : ℕ) (old : List ℕ) → AsksNodes is_node (page ∷ []) old (old ++ page ∷ [])
+asks_one is_node page old = record { more = page ∷ []; log = refl; alone = ((λ t. (all_in (page ∷ [])).0), tt) }
 
 -- a look at a page
-pub asks_looked : {T : Type 0} (pages : PageMap) (page : ℕ) (result : Result T PageFault) (old new : List ℕ) → new ≡ asked_after result page old → AsksNodes pages (page ∷ []) old new
-asks_looked pages page (Ok t) old new e = rw e (asks_one pages page old)
-asks_looked pages page (Err Disk) old new e = rw e (asks_one pages page old)
-asks_looked pages page (Err NoRoom) old new e = rw e (asks_one pages page old)
-asks_looked pages page (Err Stopped) old new e = rw e (asks_none pages (page ∷ []) old)
-asks_looked pages page (Err (Damaged damage)) old new e = rw e (asks_one pages page old)
-asks_looked pages page (Err Memory) old new e = rw e (asks_none pages (page ∷ []) old)
+pub asks_looked : {T : Type 0} (is_node : ℕ → Type 0) (page : ℕ) (result : Result T PageFault) (old new : List ℕ) → new ≡ asked_after result page old → AsksNodes is_node (page ∷ []) old new
+asks_looked is_node page (Ok t) old new e = rw e (asks_one is_node page old)
+asks_looked is_node page (Err Disk) old new e = rw e (asks_one is_node page old)
+asks_looked is_node page (Err NoRoom) old new e = rw e (asks_one is_node page old)
+asks_looked is_node page (Err Stopped) old new e = rw e (asks_none is_node (page ∷ []) old)
+asks_looked is_node page (Err (Damaged damage)) old new e = rw e (asks_one is_node page old)
+asks_looked is_node page (Err Memory) old new e = rw e (asks_none is_node (page ∷ []) old)
 
 -- a look that wasn't refused has asked for its page
 pub since_looked : (page : ℕ) (old new : List ℕ) → new ≡ old ++ page ∷ [] → AskedSince old new page

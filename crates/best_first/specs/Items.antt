@@ -44,6 +44,11 @@ IsGivenAt zero (Place hit) = Unit {0}
 IsGivenAt (suc l) (Node page level bound) = level ≡ l
 IsGivenAt (suc l) (Place hit) = ⊥
 
+-- what holds of the item's page and level, where it is a node
+abbrev pub OfNode : (ℕ → ℕ → Type 0) → Item → Type 0
+OfNode P (Node page level bound) = P page level
+OfNode P (Place hit) = Unit {0}
+
 -- nothing, or a node of this page alone
 abbrev pub IsRootAlone : ℕ → List Item → Type 0
 IsRootAlone root [] = Unit {0}

@@ -4,7 +4,7 @@ ghost use Rattle.std.specs.List.{AllByRecursion};
 ghost use Rattle.page_face.specs.Calls.{Reads, FailsReading};
 ghost use Rattle.btree_nodes.specs.Damages.{AskedSince};
 ghost use Rattle.best_first.specs.declared.item.Item.{Item};
-ghost use Rattle.best_first.specs.Items.{IsGivenAt, IsRootAlone, pages_of};
+ghost use Rattle.best_first.specs.Items.{IsGivenAt, IsRootAlone, OfNode, pages_of};
 ghost use Rattle.best_first.specs.Leads.{Bounds};
 ghost use Rattle.best_first.specs.Openings.{AsksNodes};
 ghost use Rattle.best_first.specs.Faults.{held_after};
@@ -25,14 +25,23 @@ pub trait Ranked<P: Pages> {
     /// Whether the pages hold a tree as it has to be.
     ghost fits: { Self → P → Type 0 };
 
+    /// Whether the pages tell their bytes, as they don't over files. What is said of damage and of the pages asked for is said of told ones.
+    ghost told: { Self → P → Type 0 };
+
     /// What `start` gives where the pages fit.
     ghost starts: { Self → P → List Item };
+
+    /// Whether a node of the tree, of this level, stands at a page.
+    ghost has_node: { Self → P → ℕ → ℕ → Type 0 };
 
     /// What `open` gives for a node's page and level where the pages fit.
     ghost opens: { Self → P → ℕ → ℕ → List Item };
 
     /// The root's page.
     ghost root: { Self → ℕ };
+
+    /// Whether a page is a tree's node, and none that the opener reads beside the nodes.
+    ghost is_node: { Self → P → ℕ → Type 0 };
 
     /// Whether an item stands in the bytes of a page as a node of a level.
     ghost stands: { List ℕ → ℕ → Item → Type 0 };
@@ -49,17 +58,20 @@ pub trait Ranked<P: Pages> {
     fn start(&mut self, alloc: Global, pages: &mut P) -> Result<Vec<Item>, PageFault>
         ensures gives { fits self.old pages.old → IfOk result (λ items. items.items ≡ starts self.old pages.old) }
         ensures alone { IfOk result (λ items. IsRootAlone (root self.old) items.items) }
-        ensures asks { AsksNodes (P.pages pages.old) (root self.old ∷ []) (P.asked pages.old) (P.asked pages.new) }
-        ensures asks_given { fits self.old pages.old → IfOk result (λ items. AsksNodes (P.pages pages.old) (pages_of items.items) (P.asked pages.old) (P.asked pages.new)) }
-        ensures damaged { (damage : Damage) → IsErrOf result (PageFault.Damaged damage) → harms self.old pages.old (P.asked pages.old) (P.asked pages.new) damage }
+        ensures asks { told self.old pages.old → AsksNodes (is_node self.old pages.old) (root self.old ∷ []) (P.asked pages.old) (P.asked pages.new) }
+        ensures asks_given { fits self.old pages.old → IfOk result (λ items. AsksNodes (is_node self.old pages.old) (pages_of items.items) (P.asked pages.old) (P.asked pages.new)) }
+        ensures damaged { told self.old pages.old → (damage : Damage) → IsErrOf result (PageFault.Damaged damage) → harms self.old pages.old (P.asked pages.old) (P.asked pages.new) damage }
         ensures honest { fits self.old pages.old → (damage : Damage) → result ≢ Err (PageFault.Damaged damage) }
         ensures fails { FailsReading P.Pages pages.old pages.new result }
         ensures frame { Reads P.Pages pages.old pages.new }
         ensures held { held self.new ≡ held_after result (held self.old) }
         ensures fits { fits self.old pages.old → fits self.new pages.new }
+        ensures same_told { told self.old pages.old → told self.new pages.new }
         ensures same_starts { starts self.new pages.new ≡ starts self.old pages.old }
         ensures same_opens { opens self.new pages.new ≡ opens self.old pages.old }
         ensures same_harms { (old new : List ℕ) (damage : Damage) → harms self.new pages.new old new damage → harms self.old pages.old old new damage }
+        ensures same_tree { (page level : ℕ) → has_node self.old pages.old page level → has_node self.new pages.new page level }
+        ensures same_nodes { (page : ℕ) → is_node self.old pages.old page → is_node self.new pages.new page }
         ensures same_root { root self.new ≡ root self.old };
 
     /// Opens a node: gives the places of a leaf that may be answers, and of every other node the children below which one may be, each with its bound.
@@ -72,25 +84,34 @@ pub trait Ranked<P: Pages> {
         node: u32,
         level: u8,
     ) -> Result<Vec<Item>, PageFault>
-        ensures gives { fits self.old pages.old → IfOk result (λ items. items.items ≡ opens self.old pages.old node level) }
+        ensures gives { fits self.old pages.old → has_node self.old pages.old node level → IfOk result (λ items. items.items ≡ opens self.old pages.old node level) }
         ensures few { IfOk result (λ items. length items.items ≤ 32) }
         ensures children { IfOk result (λ items. AllByRecursion (IsGivenAt level) items.items) }
         ensures stand { IfOk result (λ items. AllByRecursion (stands (P.pages pages.old node) level) items.items) }
-        ensures asked { IfOk result (λ items. AskedSince (P.asked pages.old) (P.asked pages.new) node) }
-        ensures asks { AsksNodes (P.pages pages.old) (node ∷ []) (P.asked pages.old) (P.asked pages.new) }
-        ensures damaged { (damage : Damage) → IsErrOf result (PageFault.Damaged damage) → harms self.old pages.old (P.asked pages.old) (P.asked pages.new) damage }
-        ensures honest { fits self.old pages.old → (damage : Damage) → result ≢ Err (PageFault.Damaged damage) }
+        ensures asked { told self.old pages.old → IfOk result (λ items. AskedSince (P.asked pages.old) (P.asked pages.new) node) }
+        ensures asks { told self.old pages.old → AsksNodes (is_node self.old pages.old) (node ∷ []) (P.asked pages.old) (P.asked pages.new) }
+        ensures damaged { told self.old pages.old → (damage : Damage) → IsErrOf result (PageFault.Damaged damage) → harms self.old pages.old (P.asked pages.old) (P.asked pages.new) damage }
+        ensures honest { fits self.old pages.old → has_node self.old pages.old node level → (damage : Damage) → result ≢ Err (PageFault.Damaged damage) }
         ensures fails { FailsReading P.Pages pages.old pages.new result }
         ensures frame { Reads P.Pages pages.old pages.new }
         ensures held { held self.new ≡ held_after result (held self.old) }
         ensures fits { fits self.old pages.old → fits self.new pages.new }
+        ensures same_told { told self.old pages.old → told self.new pages.new }
         ensures same_starts { starts self.new pages.new ≡ starts self.old pages.old }
         ensures same_opens { opens self.new pages.new ≡ opens self.old pages.old }
         ensures same_harms { (old new : List ℕ) (damage : Damage) → harms self.new pages.new old new damage → harms self.old pages.old old new damage }
+        ensures same_tree { (page level : ℕ) → has_node self.old pages.old page level → has_node self.new pages.new page level }
+        ensures same_nodes { (page : ℕ) → is_node self.old pages.old page → is_node self.new pages.new page }
         ensures same_root { root self.new ≡ root self.old };
 
     /// Where the pages fit, no place costs less than the bound of a node that leads to it.
     ghost starts_bounded: { (s : Self) (p : P) → fits s p → Bounds (opens s p) (starts s p) };
+
+    /// Where the pages fit, `start` gives a node of the tree.
+    ghost starts_in: { (s : Self) (p : P) → fits s p → AllByRecursion (OfNode (has_node s p)) (starts s p) };
+
+    /// So does `open` for one.
+    ghost opens_in: { (s : Self) (p : P) (page level : ℕ) → fits s p → has_node s p page level → AllByRecursion (OfNode (has_node s p)) (opens s p page level) };
 
     /// What a damage says of the pages asked for last, it says of all that were asked for.
     ghost harms_sooner: { (s : Self) (p : P) (old more new : List ℕ) (damage : Damage) → harms s p (old ++ more) new damage → harms s p old new damage };

@@ -93,11 +93,11 @@ pub fn first_k<P: Pages, R: Ranked<P>>(
     requires { R.held ranked.old ≡ None }
     ensures found { R.fits ranked.old pages.old → IfOk result (λ found.
         found.items ≡ first comes_before k (leads (R.opens ranked.old pages.old) (R.starts ranked.old pages.old))) }
-    ensures opened { IfOk result (λ found.
-        Opened R.stands (P.pages pages.old) (R.fits ranked.old pages.old) (R.opens ranked.old pages.old) (R.starts ranked.old pages.old)
+    ensures opened { R.told ranked.old pages.old → IfOk result (λ found.
+        Opened R.stands (P.pages pages.old) (R.is_node ranked.old pages.old) (R.fits ranked.old pages.old) (R.opens ranked.old pages.old) (R.starts ranked.old pages.old)
         (R.root ranked.old) (P.asked pages.old) (P.asked pages.new) k found.items) }
     ensures cause { IfErr result (λ fault. (fault ≡ PageFault.Memory) ⊎ (R.held ranked.new ≡ Some fault)) }
-    ensures damaged { (damage : Damage) → IsErrOf result (PageFault.Damaged damage)
+    ensures damaged { R.told ranked.old pages.old → (damage : Damage) → IsErrOf result (PageFault.Damaged damage)
         → R.harms ranked.old pages.old (P.asked pages.old) (P.asked pages.new) damage }
     ensures honest { R.fits ranked.old pages.old → (damage : Damage) → result ≢ Err (PageFault.Damaged damage) }
     ensures fails { FailsReading P.Pages pages.old pages.new result }

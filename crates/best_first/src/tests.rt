@@ -67,11 +67,17 @@ impl<P: Pages> Ranked<P> for Table {
 
     ghost fits = { λ s p. ⊥ };
 
+    ghost told = { λ s p. Unit {0} };
+
     ghost starts = { λ s p. [] };
 
     ghost opens = { λ s p page level. [] };
 
     ghost root = { λ s. s.root };
+
+    ghost has_node = { λ s p page level. ⊥ };
+
+    ghost is_node = { λ s p page. Unit {0} };
 
     ghost stands = { λ bytes level item. Unit {0} };
 
@@ -80,6 +86,10 @@ impl<P: Pages> Ranked<P> for Table {
     ghost held = { λ s. s.held };
 
     ghost starts_bounded = { λ s p f. tt };
+
+    ghost starts_in = { λ s p f. tt };
+
+    ghost opens_in = { λ s p page level f h. tt };
 
     ghost harms_sooner = { λ s p old more new damage h. tt };
 

@@ -1,11 +1,16 @@
-use Rattle.std.proofs.Common.{◌∙◌, ap, ◌++◌, Err, subst, Vec, Global}
+use Rattle.std.proofs.Common.{◌∙◌, ap, ◌≡◌, ◌++◌, Err, sym, subst, Vec, Global}
+use Rattle.std.specs.BinaryHeap.{heap_items}
+use Rattle.std.specs.List.{AllByRecursion}
 use Rattle.std.proofs.lemmas.Result.{err_from_is_err_and}
 use Rattle.page_face.proofs.Frames.{reads_then}
 use Rattle.btree_nodes.proofs.Walks.{same-fault}
 use Rattle.place_map.specs.declared.hit.Hit.{Hit}
-use Rattle.best_first.specs.Items.{places_of}
+use Rattle.best_first.specs.Items.{places_of, OfNode}
+use Rattle.best_first.specs.Queue.{item_of, waiting}
 use Rattle.best_first.proofs.Firsts.{kept_ranked, kept_short}
 use Rattle.best_first.proofs.Steps.{started, node_next, none_waits, enough, node_smaller}
+use Rattle.best_first.proofs.Insides.{first_inside, next_inside, opened_inside}
+use Rattle.best_first.proofs.Logs.{asks_of}
 use Rattle.best_first.proofs.Histories.{begun, opened, ended}
 use Rattle.best_first.proofs.search.first_k.Goals as goal
 
@@ -18,6 +23,11 @@ search-init g c =
     let sorted = c.in_ok-sort_in.ensures in
     record {
       opens = c.start.ensures.same_opens;
+      told = c.start.ensures.same_told;
+      stays = c.start.ensures.same_tree;
+      inside = λ f. first_inside (OfNode (g.R.Ranked.has_node c.args.ranked.now c.args.pages.now)) items _ _ c.new-queue.ensures sorted.queue
+          (subst (AllByRecursion (OfNode (g.R.Ranked.has_node c.args.ranked.now c.args.pages.now))) (sym (value ∙ given.gives f)) (g.met.R.Ranked.starts_in c.args.ranked.now c.args.pages.now f));
+      nodes = c.start.ensures.same_nodes;
       held = given.held ∙ c.requires;
       fits = c.start.ensures.fits;
       harms = c.start.ensures.same_harms;
@@ -25,7 +35,7 @@ search-init g c =
       ranked = kept_ranked c.args.k (c.new-found.result.items ++ places_of items) _ sorted.found;
       short = kept_short c.args.k (c.new-found.result.items ++ places_of items) _ sorted.found;
       search = λ f. started opens (g.R.Ranked.starts c.args.ranked.now c.args.pages.now) items c.args.k _ _ c.new-found.result.items _ c.new-queue.ensures c.new-found.ensures.items (value ∙ given.gives f) sorted.queue sorted.found (g.met.R.Ranked.starts_bounded c.args.ranked.now c.args.pages.now f);
-      history = begun _ _ _ _ _ _ items _ _ c.new-found.result.items _ _ _ c.args.k c.new-queue.ensures c.new-found.ensures.items sorted.queue sorted.found (rw value given.alone) (λ f. value ∙ given.gives f) c.start.ensures.asks (λ f. rw value (given.asks_given f));
+      history = λ w. begun _ _ _ _ _ _ _ items _ _ c.new-found.result.items _ _ _ c.args.k c.new-queue.ensures c.new-found.ensures.items sorted.queue sorted.found (rw value given.alone) (λ f. value ∙ given.gives f) (c.start.ensures.asks w) (λ f. rw value (given.asks_given f));
     }
 
 pub search-smaller : goal.search-smaller
@@ -42,30 +52,39 @@ search-preserved g c =
     let node = c.in-Some.node in
     let given = c.in_ok-items-2.ensures in
     let sorted = c.in_ok-sort_in-2.ensures in
+    let has = g.R.Ranked.has_node c.args.ranked.now c.args.pages.now in
+    let waits : (f : g.R.Ranked.fits c.args.ranked.now c.args.pages.now) → OfNode has (item_of node) × AllByRecursion (OfNode has) (waiting (heap_items c.next.new.self.heap)) =
+    λ f. next_inside (OfNode has) (item_of node) _ _ c.in-Some.ensures.some (kept.inside f) in
+    let gives : g.R.Ranked.fits c.args.ranked.now c.args.pages.now → items ≡ opens node.page node.level =
+    λ f. value ∙ given.gives (kept.fits f) (kept.stays node.page node.level (waits f).0) ∙ ap (λ o. o node.page node.level) kept.opens in
     let few = rw c.deref-in-Some.ensures.value at (c.is_settled.ensures.unsettled c.if-is_settled.false) in
     record {
       opens = c.open.ensures.same_opens ∙ kept.opens;
+      told = λ w. c.open.ensures.same_told (kept.told w);
+      stays = λ page level h. c.open.ensures.same_tree page level (kept.stays page level h);
+      inside = λ f. opened_inside (OfNode has) items _ _ sorted.queue (subst (AllByRecursion (OfNode has)) (sym (gives f)) (g.met.R.Ranked.opens_in c.args.ranked.now c.args.pages.now node.page node.level f (waits f).0)) (waits f).1;
+      nodes = λ page n. c.open.ensures.same_nodes page (kept.nodes page n);
       held = given.held ∙ kept.held;
       fits = λ f. c.open.ensures.fits (kept.fits f);
       harms = λ old new damage h. kept.harms old new damage (c.open.ensures.same_harms old new damage h);
       frame = reads_then g.P.Pages g.met.P.Pages.goes_further g.met.P.Pages.reads_further _ _ _ kept.frame c.open.ensures.frame;
       ranked = kept_ranked c.args.k (c.search.found.items ++ places_of items) _ sorted.found;
       short = kept_short c.args.k (c.search.found.items ++ places_of items) _ sorted.found;
-      search = λ f. node_next opens _ c.args.k node.page node.level node.bound items _ _ _ c.search.found.items _ (kept.search f) c.in-Some.ensures.some (value ∙ given.gives (kept.fits f) ∙ ap (λ o. o node.page node.level) kept.opens) (rw value given.children) sorted.queue sorted.found;
-      history = opened _ _ _ opens _ _ _ _ _ c.args.k node.page node.level node.bound items _ _ _ c.search.found.items _ _ few c.in-Some.ensures.some sorted.queue sorted.found (rw (← kept.frame.pages) c.open.ensures.asks) given.asked (rw value (rw (← kept.frame.pages) given.stand)) (rw value given.children) (λ f. value ∙ given.gives (kept.fits f) ∙ ap (λ o. o node.page node.level) kept.opens) kept.search kept.history;
+      search = λ f. node_next opens _ c.args.k node.page node.level node.bound items _ _ _ c.search.found.items _ (kept.search f) c.in-Some.ensures.some (gives f) (rw value given.children) sorted.queue sorted.found;
+      history = λ w. opened _ _ _ _ opens _ _ _ _ _ c.args.k node.page node.level node.bound items _ _ _ c.search.found.items _ _ few c.in-Some.ensures.some sorted.queue sorted.found (asks_of (g.R.Ranked.is_node c.search.ranked c.search.pages) (g.R.Ranked.is_node c.args.ranked.now c.args.pages.now) _ _ _ kept.nodes (c.open.ensures.asks (kept.told w))) (given.asked (kept.told w)) (rw value (rw (← kept.frame.pages) given.stand)) (rw value given.children) gives kept.search (kept.history w);
     }
 
 pub returns-then-is_settled-clause-found : goal.returns-then-is_settled-clause-found
 returns-then-is_settled-clause-found g c = λ f. enough (g.R.Ranked.opens c.args.ranked.now c.args.pages.now) _ c.args.k c.in-Some.node.page c.in-Some.node.level c.in-Some.node.bound _ _ c.search.found.items (c.search.invariant.search f) c.in-Some.ensures.some c.search.invariant.ranked c.search.invariant.short (rw c.deref-in-Some.ensures.value at (c.is_settled.ensures.settled c.if-is_settled.true))
 
 pub returns-then-is_settled-clause-opened : goal.returns-then-is_settled-clause-opened
-returns-then-is_settled-clause-opened g c = ended _ _ _ _ _ _ _ _ _ _ _ c.search.invariant.ranked c.search.invariant.history
+returns-then-is_settled-clause-opened g c = λ w. ended _ _ _ _ _ _ _ _ _ _ _ _ c.search.invariant.ranked (c.search.invariant.history w)
 
 pub returns-clause-found : goal.returns-clause-found
 returns-clause-found g c = λ f. none_waits (g.R.Ranked.opens c.args.ranked.now c.args.pages.now) _ c.args.k c.search.found.items _ c.in_default.ensures.none (c.search.invariant.search f) c.search.invariant.ranked c.search.invariant.short
 
 pub returns-clause-opened : goal.returns-clause-opened
-returns-clause-opened g c = ended _ _ _ _ _ _ _ _ _ _ _ c.search.invariant.ranked c.search.invariant.history
+returns-clause-opened g c = λ w. ended _ _ _ _ _ _ _ _ _ _ _ _ c.search.invariant.ranked (c.search.invariant.history w)
 
 pub returns-in_err-sort_in-2-clause-frame : goal.returns-in_err-sort_in-2-clause-frame
 returns-in_err-sort_in-2-clause-frame g c = reads_then g.P.Pages g.met.P.Pages.goes_further g.met.P.Pages.reads_further _ _ _ c.search.invariant.frame c.open.ensures.frame
@@ -73,9 +92,19 @@ returns-in_err-sort_in-2-clause-frame g c = reads_then g.P.Pages g.met.P.Pages.g
 pub returns-in_err-items-2-clause-damaged : goal.returns-in_err-items-2-clause-damaged
 returns-in_err-items-2-clause-damaged g c =
     let passed = err_from_is_err_and c.from_residual-in_err-items-2.result c.from_residual-in_err-items-2.ensures.1 in
-    let log = c.search.invariant.history.told.log in
-    rw (passed.1, passed.2) (λ damage e.
-    let harm = c.open.ensures.damaged damage (c.in_err-items-2.was ∙ ap Err (same-fault {T = Vec Hit Global} _ _ e)) in
+    rw (passed.1, passed.2) (λ w damage e.
+    let log = (c.search.invariant.history w).told.log in
+    let harm = c.open.ensures.damaged (c.search.invariant.told w) damage (c.in_err-items-2.was ∙ ap Err (same-fault {T = Vec Hit Global} _ _ e)) in
     g.met.R.Ranked.harms_sooner c.args.ranked.now c.args.pages.now (g.P.Pages.asked c.args.pages.now) log.more _ damage
     (subst (λ l. g.R.Ranked.harms c.args.ranked.now c.args.pages.now l (g.P.Pages.asked c.open.new.pages) damage) log.log
     (c.search.invariant.harms _ _ damage harm)))
+
+pub returns-in_err-items-2-clause-honest : goal.returns-in_err-items-2-clause-honest
+returns-in_err-items-2-clause-honest g c =
+    let passed = err_from_is_err_and c.from_residual-in_err-items-2.result c.from_residual-in_err-items-2.ensures.1 in
+    let kept = c.search.invariant in
+    let node = c.in-Some.node in
+    let has = g.R.Ranked.has_node c.args.ranked.now c.args.pages.now in
+    rw (passed.1, passed.2) (λ f damage e.
+    c.open.ensures.honest (kept.fits f) (kept.stays node.page node.level (next_inside (OfNode has) (item_of node) _ _ c.in-Some.ensures.some (kept.inside f)).0) damage
+    (c.in_err-items-2.was ∙ ap Err (same-fault {T = Vec Hit Global} _ _ e)))

@@ -1,0 +1,11 @@
+pub mod Results
+pub mod Lists
+pub mod Logs
+pub mod Items
+pub mod Opened
+pub mod Fine
+pub mod Walks
+pub mod Histories
+pub mod Subtrees
+pub mod Covers
+pub mod Leads

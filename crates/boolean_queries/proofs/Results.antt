@@ -1,0 +1,18 @@
+-- What holds of a result whatever it is.
+use Rattle.std.proofs.Common.{Result, Ok, Err}
+use Rattle.std.specs.Prelude.{IfOk, OnOk}
+
+-- what holds of each value
+pub ok-always : {A B : Type 0} (r : Result A B) (P : A → Type 0) → ((a : A) → P a) → IfOk r P
+ok-always (Ok a) P h = h a
+ok-always (Err e) P h = tt
+
+-- what follows from it
+pub ok-then : {A B : Type 0} (r : Result A B) (P Q : A → Type 0) → ((a : A) → P a → Q a) → IfOk r P → IfOk r Q
+ok-then (Ok a) P Q f h = f a h
+ok-then (Err e) P Q f h = tt
+
+-- what holds at any rate
+pub on-always : {A B : Type 0} (r : Result A B) (P : Type 0) → P → OnOk r P
+on-always (Ok a) P h = h
+on-always (Err e) P h = tt

@@ -1,0 +1,37 @@
+use Rattle.std.proofs.Common.{◌≡◌, ℕ, ◌∙◌, Vec, Global, Option, Some, None, refl, sym, ap, subst}
+use Rattle.std.specs.Borrow.{Bor}
+use Rattle.std.specs.List.{flat_map}
+use Rattle.page_face.specs.FreeList.{PageMap}
+use Rattle.ranking.specs.First.{first}
+use Rattle.place_map.specs.declared.hit.Hit.{Hit}
+use Rattle.place_map.specs.declared.query.Expr.{Expr}
+use Rattle.place_map.specs.Hit.{comes_before}
+use Rattle.node_inverted.specs.declared.roots.Tree.{Tree}
+use Rattle.tree_entries.specs.Entries.{tree_places}
+use Rattle.tree_entries.specs.Hits.{near_item}
+use Rattle.tree_ranking.specs.Asks.{filter_of}
+use Rattle.tree_ranking.specs.Fits.{FitsTree, nodes_at}
+use Rattle.tree_ranking.specs.Laws.{near-first}
+use Rattle.tree_ranking.proofs.Outcomes.{ok-weaker}
+use Rattle.boolean_queries.specs.Opens.{filter_in}
+use Rattle.boolean_queries.proofs.nearest_query.nearest.Goals as goal
+
+-- the filter that is lent is one and the same to a search and to a walk
+same-filter : (filter : Option (Bor Expr)) → filter_of filter ≡ filter_in filter
+same-filter None = refl
+same-filter (Some lent) = refl
+
+pub returns-clause-found : goal.returns-clause-found
+returns-clause-found g c = λ fits.
+    let p : PageMap = g.P.Pages.pages c.args.pages.now in
+    let n : ℕ = g.P.Pages.count c.args.pages.now in
+    let b : ℕ = g.P.Pages.first c.args.pages.now in
+    let r = c.nearest-ranking.result in
+    let made = c.nearest-ranking.ensures in
+    let still : FitsTree p n b r.tree = subst (λ (t : Tree). FitsTree p n b t) (sym made.tree) fits in
+    let same = ap (λ (f : Option Expr). first comes_before c.args.k (flat_map (near_item c.args.ids.now c.args.at.now f) (tree_places (nodes_at p c.args.tree.now) c.args.tree.now.root))) (same-filter c.args.filter) in
+    ok-weaker _
+    (λ (found : Vec Hit Global). found.items ≡ first comes_before c.args.k (flat_map (near_item c.args.ids.now c.args.at.now (filter_in c.args.filter)) (tree_places (nodes_at p c.args.tree.now) c.args.tree.now.root)))
+    c.first_k.result
+    (λ found e. e ∙ near-first c.args.k p n b r.tree c.args.tree.now r.ids.now c.args.ids.now r.at c.args.at.now c.args.filter r.ask r.on_map still made.tree made.ids made.at made.ask ∙ same)
+    (c.first_k.ensures.found still)

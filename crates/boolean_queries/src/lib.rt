@@ -1,0 +1,24 @@
+//! The places of an IR-tree that pass a filter on their words: those at most so far from a point, those in a rectangle, and the k nearest
+//! to a point.
+//!
+//! A walk goes down from the root to the places of a region (Guttman 1984, section 3.1). Below a node it looks only at the children whose
+//! rectangle meets the region and below which a place may pass the filter, as the node's own rectangles and rows of words say. So a child
+//! that can't hold an answer costs no page. The nearest places are found by a best-first search, which opens nodes in the order of their
+//! distance and stops once no nearer place can be found.
+#![tactic(auto)]
+
+mod entering;
+mod near;
+mod nearest_query;
+mod node;
+mod query;
+mod region;
+mod region_queries;
+mod sorting;
+mod walk;
+
+pub use nearest_query::nearest;
+pub use region_queries::{inside, range};
+
+#[cfg(test)]
+mod tests;

@@ -1,0 +1,85 @@
+//! A region of the map in which places are asked for.
+ghost use Rattle.std.specs.Prelude.{◌≡◌};
+ghost use Rattle.spatial_base.specs.Key.{IsName};
+ghost use Rattle.spatial_base.specs.Point.{IsOnMap};
+ghost use Rattle.boolean_queries.specs.Regions.{have_common, overlaps, meets, has_point, hit_in};
+
+use place_map::Hit;
+use spatial_base::{Key, Point, Rect, dist};
+
+/// A region of the map in which places are asked for, its border included.
+#[derive(Clone, Copy, Debug)]
+pub(crate) enum Region {
+    /// The points at most so far from a point.
+    Within {
+        /// From where distances are taken.
+        at: Point,
+        /// The greatest distance, in degrees times 10^7.
+        radius: u64,
+    },
+    /// A rectangle.
+    Inside {
+        /// The rectangle.
+        rect: Rect,
+    },
+}
+
+// Whether two ranges of numbers have one in common.
+fn are_common(low: i32, high: i32, other_low: i32, other_high: i32) -> bool
+    ensures { result ≡ have_common low high other_low other_high }
+{
+    low <= other_high && other_low <= high
+}
+
+// Whether two rectangles have a point in common.
+fn overlap(a: &Rect, b: &Rect) -> bool
+    ensures { result ≡ overlaps a.now b.now }
+{
+    are_common(a.west(), a.east(), b.west(), b.east())
+        && are_common(a.south(), a.north(), b.south(), b.north())
+}
+
+impl Region {
+    /// Whether the region has a point that a rectangle has.
+    pub(crate) fn meets(&self, rect: &Rect) -> bool
+        ensures { result ≡ meets self.now rect.now }
+    {
+        match self {
+            Region::Within { at, radius } => rect.mindist(at) <= *radius,
+            Region::Inside { rect: asked } => overlap(asked, rect),
+        }
+    }
+
+    /// Whether the region has a point.
+    pub(crate) fn has(&self, point: &Point) -> bool
+        ensures has { result ≡ has_point self.now point.now }
+        ensures on { IsOnMap point.now.x point.now.y }
+    {
+        // Its point is on the map: `x` and `y` say so.
+        let (_x, _y) = (point.x(), point.y());
+        match self {
+            Region::Within { at, radius } => dist(at, point) <= *radius,
+            Region::Inside { rect } => rect.holds(point),
+        }
+    }
+
+    /// The hit of a place: a place in a rectangle costs nothing, any other its distance.
+    pub(crate) fn hit(&self, point: &Point, key: &Key) -> Hit
+        ensures hit { result ≡ hit_in self.now point.now key.now }
+        ensures name { IsName key.now }
+    {
+        // A key's text is one: `bytes` says so.
+        let _bytes = key.bytes();
+        let dist = match self {
+            Region::Within { at, .. } => dist(at, point),
+            Region::Inside { .. } => 0,
+        };
+        Hit {
+            cost: dist,
+            key: *key,
+            dist,
+            text: 0,
+            point: *point,
+        }
+    }
+}

@@ -1,0 +1,9 @@
+//! The places that a query's words and its point rank first, found in an IR-tree (Cong, Jensen and Wu, VLDB 2009) by a best-first search.
+#![tactic(auto)]
+
+mod query;
+
+pub use query::top;
+
+#[cfg(test)]
+mod tests;

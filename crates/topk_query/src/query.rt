@@ -1,0 +1,56 @@
+//! Top queries.
+ghost use Rattle.std.specs.Prelude.{◌≡◌, ◌≢◌, Err, IfOk, IsErrOf};
+ghost use Rattle.std.specs.List.{flat_map};
+ghost use Rattle.page_face.specs.Calls.{Reads, FailsReading};
+ghost use Rattle.btree_nodes.specs.Damages.{AreTold};
+ghost use Rattle.ranking.specs.First.{first};
+ghost use Rattle.place_map.specs.Hit.{comes_before};
+ghost use Rattle.place_map.specs.Query.{IsScale, IsWeights};
+ghost use Rattle.tree_entries.specs.Entries.{tree_places};
+ghost use Rattle.tree_entries.specs.Hits.{top_item};
+ghost use Rattle.tree_ranking.specs.Fits.{FitsTree, nodes_at};
+ghost use Rattle.tree_ranking.specs.Harms.{IsHarm};
+
+use best_first::first_k;
+use node_inverted::Tree;
+use page_face::{Damage, PageFault, Pages};
+use place_map::Hit;
+use spatial_base::Point;
+use std::alloc::Global;
+use term_impacts::Word;
+use tree_entries::Ids;
+use tree_ranking::Ranking;
+
+/// Returns the first k places by cost and then by key, of the tree's entries that hold one of the words. `alpha` thousandths of a place's cost
+/// are its distance and the rest its missing relevance, such that the distance `reach` weighs as much as all the relevance. `ids` has the
+/// numbers of the words that the store knows.
+///
+/// Refuses `Damaged` with a rule that a page looked at breaks, never over a whole tree; `Disk`, `Stopped`, and `Memory` if it runs out of
+/// memory.
+///
+/// Looks at the root's rows first, and at the rows and the page of each node that it opens: one row a word that the store knows. A node is
+/// opened only while fewer than k places were found that cost less than its bound.
+pub fn top<P: Pages>(
+    alloc: Global,
+    pages: &mut P,
+    tree: &Tree,
+    ids: &Ids,
+    at: &Point,
+    k: u16,
+    alpha: u16,
+    reach: u64,
+    words: &[(Word, u8)],
+) -> Result<Vec<Hit>, PageFault>
+    requires scale { IsScale alpha reach }
+    requires words { IsWeights words.now }
+    ensures found { FitsTree (P.pages pages.old) (P.count pages.old) (P.first pages.old) tree.now → IfOk result (λ found. found.items
+        ≡ first comes_before k (flat_map (top_item ids.now at.now alpha reach words.now) (tree_places (nodes_at (P.pages pages.old) tree.now) tree.now.root))) }
+    ensures damaged { AreTold (P.pages pages.old) (P.count pages.old) → (damage : Damage) → IsErrOf result (PageFault.Damaged damage)
+        → IsHarm (P.pages pages.old) (P.count pages.old) tree.now.rows (P.asked pages.old) (P.asked pages.new) damage }
+    ensures honest { FitsTree (P.pages pages.old) (P.count pages.old) (P.first pages.old) tree.now → (damage : Damage) → result ≢ Err (PageFault.Damaged damage) }
+    ensures fails { FailsReading P.Pages pages.old pages.new result }
+    ensures frame { Reads P.Pages pages.old pages.new }
+{
+    let mut ranking = Ranking::top(tree, ids, at, alpha, reach, words);
+    first_k(alloc, pages, &mut ranking, k)
+}

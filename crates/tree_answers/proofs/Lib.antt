@@ -1,0 +1,5 @@
+pub mod Lookups
+pub mod Impacts
+pub mod Words
+pub mod Kept
+pub mod Members

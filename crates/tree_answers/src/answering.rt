@@ -1,0 +1,107 @@
+//! The hits of a query.
+ghost use Rattle.std.specs.Prelude.{◌≡◌, ◌≢◌, ℕ, List, IfOk, IsErrOf};
+ghost use Rattle.std.specs.List.{flat_map};
+ghost use Rattle.page_face.specs.Calls.{Reads, FailsReading};
+ghost use Rattle.btree_nodes.specs.Damages.{AreTold};
+ghost use Rattle.place_map.specs.Answer.{answer_of};
+ghost use Rattle.place_map.specs.Query.{IsWithinLimits};
+ghost use Rattle.place_map.specs.State.{Contents};
+ghost use Rattle.rtree_shape.specs.Stock.{view};
+ghost use Rattle.rtree_nodes.specs.Pages.{node_of};
+ghost use Rattle.irtree_shape.specs.Made.{nodes_in};
+ghost use Rattle.irtree_shape.specs.Whole.{IsWhole};
+ghost use Rattle.tree_entries.specs.Entries.{tree_places};
+ghost use Rattle.tree_answers.specs.Answers.{cut_by, hits_by, IsAnswer};
+ghost use Rattle.tree_answers.specs.Damages.{IsAnswerHarm, IsTreeHarm};
+ghost use Rattle.tree_answers.specs.Standing.{RootsStand};
+
+use crate::known::ids_of;
+use boolean_queries::{inside, nearest, range};
+use node_inverted::Tree;
+use page_face::{Damage, PageFault, Pages};
+use place_map::{Hit, Query};
+use std::alloc::Global;
+use store_tables::Tables;
+use topk_query::top;
+use tree_entries::Ids;
+
+// The hits that a tree's entries give to a query, where the words have these numbers.
+fn tree_hits<P: Pages>(
+    alloc: Global,
+    pages: &mut P,
+    tree: &Tree,
+    ids: &Ids,
+    query: &Query,
+) -> Result<Vec<Hit>, PageFault>
+    requires { IsWithinLimits query.now }
+    ensures found { (free : List ℕ) → IsWhole node_of (view (P.pages pages.old) tree.now.rows (P.count pages.old) (P.first pages.old) free) tree.now.root → AreTold (P.pages pages.old) (P.count pages.old)
+        → IfOk result (λ found. found.items ≡ cut_by query.now (flat_map (hits_by ids.now query.now) (tree_places (nodes_in node_of (P.pages pages.old) tree.now.rows) tree.now.root))) }
+    ensures damaged { AreTold (P.pages pages.old) (P.count pages.old) → (damage : Damage) → IsErrOf result (PageFault.Damaged damage)
+        → IsTreeHarm (P.pages pages.old) (P.count pages.old) tree.now (P.asked pages.old) (P.asked pages.new) damage }
+    ensures honest { (free : List ℕ) → IsWhole node_of (view (P.pages pages.old) tree.now.rows (P.count pages.old) (P.first pages.old) free) tree.now.root → AreTold (P.pages pages.old) (P.count pages.old)
+        → (damage : Damage) → result ≢ Err (PageFault.Damaged damage) }
+    ensures fails { FailsReading P.Pages pages.old pages.new result }
+    ensures frame { Reads P.Pages pages.old pages.new }
+{
+    match query {
+        Query::Range { at, radius, filter } => {
+            range(alloc, pages, tree, ids, at, *radius, filter.as_ref())
+        }
+        Query::Inside { rect, filter } => inside(alloc, pages, tree, ids, rect, filter.as_ref()),
+        Query::Nearest { at, k, filter } => {
+            nearest(alloc, pages, tree, ids, at, *k, filter.as_ref())
+        }
+        Query::Top {
+            at,
+            k,
+            alpha,
+            reach,
+            words,
+        } => top(
+            alloc,
+            pages,
+            tree,
+            ids,
+            at,
+            *k,
+            *alpha,
+            *reach,
+            words.as_slice(),
+        ),
+        Query::Group { at: _, words: _ } => Ok(Vec::new(alloc)),
+    }
+}
+
+/// Returns the hits of a range, box, nearest or top query over a store's tables and tree, in order. A group query has no hits.
+///
+/// Where the tables and the tree stand for the same places, these are the hits that a scan of all places gives.
+///
+/// Refuses `Damaged` by a rule that a page of the words by text, of the tree or of its rows breaks; `Disk`, `Stopped` and `Memory` as the
+/// pages do. No page is damaged where the tables and the tree stand.
+///
+/// Looks at one page a level of the words by text for each word of the query. Then it opens the nodes of the tree that may hold an answer:
+/// each costs a look at its page and, for each word of the query that the store knows, at one page a level of the rows.
+pub fn hits<P: Pages>(
+    alloc: Global,
+    pages: &mut P,
+    tables: &Tables,
+    tree: &Tree,
+    query: &Query,
+) -> Result<Vec<Hit>, PageFault>
+    requires { IsWithinLimits query.now }
+    ensures answered { (state : Contents) → RootsStand (P.pages pages.old) (P.count pages.old) (P.first pages.old) tables.now tree.now state
+        → AreTold (P.pages pages.old) (P.count pages.old)
+        → IfOk result (λ hits. IsAnswer query.now (answer_of state query.now) hits.items) }
+    ensures honest { (state : Contents) → RootsStand (P.pages pages.old) (P.count pages.old) (P.first pages.old) tables.now tree.now state
+        → AreTold (P.pages pages.old) (P.count pages.old) → (damage : Damage) → result ≢ Err (PageFault.Damaged damage) }
+    ensures damaged { AreTold (P.pages pages.old) (P.count pages.old) → (damage : Damage) → IsErrOf result (PageFault.Damaged damage)
+        → IsAnswerHarm (P.pages pages.old) (P.count pages.old) tables.now tree.now (P.asked pages.old) (P.asked pages.new) damage }
+    ensures fails { FailsReading P.Pages pages.old pages.new result }
+    ensures frame { Reads P.Pages pages.old pages.new }
+{
+    let ids = match ids_of(alloc, pages, tables, query) {
+        Ok(ids) => ids,
+        Err(fault) => return Err(fault),
+    };
+    tree_hits(alloc, pages, tree, &ids, query)
+}

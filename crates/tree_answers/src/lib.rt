@@ -1,0 +1,14 @@
+//! What the tree of a store answers to a query: the hits of a range, box, nearest or top query, by the tree's entries and the words by
+//! text.
+//!
+//! A query names words by their texts, and the tree's rows know them by number: [`ids_of`] looks up each word of a query once, in the words
+//! by text. [`hits`] then asks the tree. Where tables and tree stand for the same places, its hits are those that a scan of all places
+//! gives.
+#![tactic(auto)]
+
+mod answering;
+mod asked;
+mod known;
+
+pub use answering::hits;
+pub use known::ids_of;

@@ -1,0 +1,5 @@
+pub mod Sides
+pub mod Spreads
+pub mod Asking
+pub mod Outcomes
+pub mod Starts

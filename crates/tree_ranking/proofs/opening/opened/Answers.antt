@@ -1,0 +1,82 @@
+use Rattle.std.proofs.Common.{◌≡◌, ℕ, ◌<◌, ◌∙◌, List, length, Vec, Global, Err, ap, subst}
+use Rattle.std.specs.Prelude.{IfOk}
+use Rattle.std.specs.List.{AllByRecursion}
+use Rattle.page_face.specs.FreeList.{PageMap}
+use Rattle.btree_nodes.specs.Damages.{AskedSince}
+use Rattle.btree_nodes.specs.Tree.{map_uses}
+use Rattle.btree_nodes.proofs.Harms.{asked-before}
+use Rattle.btree_nodes.proofs.Walks.{same-fault}
+use Rattle.rtree_shape.specs.Stock.{rows_form}
+use Rattle.rtree_nodes.specs.Pages.{stored_in}
+use Rattle.rtree_find.specs.Harms.{BreaksPlace}
+use Rattle.node_inverted.specs.Rows.{bytes_in}
+use Rattle.best_first.specs.declared.item.Item.{Item}
+use Rattle.best_first.proofs.Lists.{all_weaker}
+use Rattle.tree_entries.specs.Numbers.{byte_of}
+use Rattle.tree_ranking.specs.Openings.{given_by, given_at, spread, IsIn, StandsIn}
+use Rattle.tree_ranking.proofs.Asking.{asks-both}
+use Rattle.tree_ranking.proofs.Outcomes.{ok-weaker, ok-always, value-harm, place-harm, sound-fine}
+use Rattle.tree_ranking.proofs.opening.opened.Goals as goal
+
+pub returns-in-Ok-enter_at-clause-given : goal.returns-in-Ok-enter_at-clause-given
+returns-in-Ok-enter_at-clause-given g c = λ map some.
+    let old : PageMap = g.P.Pages.pages c.args.pages.now in
+    let F : ℕ → List ℕ → ℕ = byte_of c.args.ids.now (bytes_in old c.args.tree.now.rows c.args.node) in
+    let same : c.looked.result.now ≡ old c.args.node =
+    c.looked.ensures ∙ subst (λ (p : PageMap). 0 < length (p c.args.node) → g.P.Pages.looked c.enter_at.new.pages ≡ p c.args.node) c.marks.ensures.rows.frame.pages c.in-Ok-enter_at.ensures.gives some in
+    subst (λ (bytes : List ℕ). IfOk c.gather.result (λ items. items.items ≡ spread 32 (λ i. given_at (given_by c.args.from.now c.args.ask.now c.args.level (F i)) (stored_in bytes i)))) same
+    (c.gather.ensures.given F (c.in-Ok.ensures.slots map) (c.in-Ok.ensures.texts map))
+
+pub returns-in-Ok-enter_at-clause-stand : goal.returns-in-Ok-enter_at-clause-stand
+returns-in-Ok-enter_at-clause-stand g c =
+    let old : PageMap = g.P.Pages.pages c.args.pages.now in
+    ok-weaker (λ (items : Vec Item Global). AllByRecursion (IsIn (stored_in c.looked.result.now)) items.items) (λ (items : Vec Item Global). AllByRecursion (StandsIn (old c.args.node) c.args.level) items.items) c.gather.result
+    (λ items h. all_weaker (IsIn (stored_in c.looked.result.now)) (StandsIn (old c.args.node) c.args.level)
+    (λ i k some. (let same : c.looked.result.now ≡ old c.args.node =
+    c.looked.ensures ∙ subst (λ (p : PageMap). 0 < length (p c.args.node) → g.P.Pages.looked c.enter_at.new.pages ≡ p c.args.node) c.marks.ensures.rows.frame.pages c.in-Ok-enter_at.ensures.gives some in
+    subst (λ (bytes : List ℕ). IsIn (stored_in bytes) i) same k)) items.items h)
+    c.gather.ensures.stand
+
+pub returns-in-Ok-enter_at-clause-asked : goal.returns-in-Ok-enter_at-clause-asked
+returns-in-Ok-enter_at-clause-asked g c = λ told.
+    let old : PageMap = g.P.Pages.pages c.args.pages.now in
+    ok-always (λ (items : Vec Item Global). AskedSince (g.P.Pages.asked c.args.pages.now) (g.P.Pages.asked c.enter_at.new.pages) c.args.node) c.gather.result
+    (λ items. asked-before (map_uses rows_form old c.args.tree.now.rows) (g.P.Pages.asked c.args.pages.now) (g.P.Pages.asked c.marks.new.pages) (g.P.Pages.asked c.enter_at.new.pages) c.args.node (c.marks.ensures.rows.own told) c.in-Ok-enter_at.ensures.here)
+
+pub returns-in-Ok-enter_at-clause-asks : goal.returns-in-Ok-enter_at-clause-asks
+returns-in-Ok-enter_at-clause-asks g c = λ told.
+    asks-both (g.P.Pages.pages c.args.pages.now) c.args.tree.now.rows c.args.node _ _ _ (c.marks.ensures.rows.own told) c.enter_at.ensures.asks
+
+pub returns-in-Err-enter_at-clause-asks : goal.returns-in-Err-enter_at-clause-asks
+returns-in-Err-enter_at-clause-asks g c = λ told.
+    asks-both (g.P.Pages.pages c.args.pages.now) c.args.tree.now.rows c.args.node _ _ _ (c.marks.ensures.rows.own told) c.enter_at.ensures.asks
+
+pub returns-in-Ok-enter_at-clause-damaged : goal.returns-in-Ok-enter_at-clause-damaged
+returns-in-Ok-enter_at-clause-damaged g c = λ told damage e.
+    let old : PageMap = g.P.Pages.pages c.args.pages.now in
+    let count : ℕ = g.P.Pages.count c.args.pages.now in
+    let there = asked-before (map_uses rows_form old c.args.tree.now.rows) (g.P.Pages.asked c.args.pages.now) (g.P.Pages.asked c.marks.new.pages) (g.P.Pages.asked c.enter_at.new.pages) c.args.node (c.marks.ensures.rows.own told) c.in-Ok-enter_at.ensures.here in
+    value-harm old count c.args.tree.now.rows c.args.node (g.P.Pages.asked c.args.pages.now) (g.P.Pages.asked c.enter_at.new.pages) c.looked.result.now c.gather.result damage e there
+    (λ some. c.looked.ensures ∙ subst (λ (p : PageMap). 0 < length (p c.args.node) → g.P.Pages.looked c.enter_at.new.pages ≡ p c.args.node) c.marks.ensures.rows.frame.pages c.in-Ok-enter_at.ensures.gives some)
+    c.gather.ensures.cause
+
+pub returns-in-Err-enter_at-clause-damaged : goal.returns-in-Err-enter_at-clause-damaged
+returns-in-Err-enter_at-clause-damaged g c = λ told damage e.
+    let old : PageMap = g.P.Pages.pages c.args.pages.now in
+    let count : ℕ = g.P.Pages.count c.args.pages.now in
+    let f = c.marks.ensures.rows.frame in
+    let d = c.enter_at.ensures.damaged damage (c.in-Err-enter_at.is ∙ ap Err (same-fault {T = Vec Item Global} _ _ e)) in
+    let there = asked-before (map_uses rows_form old c.args.tree.now.rows) (g.P.Pages.asked c.args.pages.now) (g.P.Pages.asked c.marks.new.pages) (g.P.Pages.asked c.enter_at.new.pages) c.args.node (c.marks.ensures.rows.own told) d.1 in
+    let broken : BreaksPlace damage.rule old count c.args.node (λ found. found ≡ c.args.level → ⊥) =
+    subst (λ (k : ℕ). BreaksPlace damage.rule old k c.args.node (λ found. found ≡ c.args.level → ⊥)) f.count (subst (λ (x : PageMap). BreaksPlace damage.rule x (g.P.Pages.count c.marks.new.pages) c.args.node (λ found. found ≡ c.args.level → ⊥)) f.pages d.2) in
+    place-harm old count c.args.tree.now.rows c.args.node c.args.level (g.P.Pages.asked c.args.pages.now) (g.P.Pages.asked c.enter_at.new.pages) damage d.0 there broken
+
+pub returns-in-Err-enter_at-clause-honest : goal.returns-in-Err-enter_at-clause-honest
+returns-in-Err-enter_at-clause-honest g c = λ map counted told sound damage e.
+    let old : PageMap = g.P.Pages.pages c.args.pages.now in
+    let count : ℕ = g.P.Pages.count c.args.pages.now in
+    let f = c.marks.ensures.rows.frame in
+    let d = c.enter_at.ensures.damaged damage (c.in-Err-enter_at.is ∙ ap Err (same-fault {T = Vec Item Global} _ _ e)) in
+    let broken : BreaksPlace damage.rule old count c.args.node (λ found. found ≡ c.args.level → ⊥) =
+    subst (λ (k : ℕ). BreaksPlace damage.rule old k c.args.node (λ found. found ≡ c.args.level → ⊥)) f.count (subst (λ (x : PageMap). BreaksPlace damage.rule x (g.P.Pages.count c.marks.new.pages) c.args.node (λ found. found ≡ c.args.level → ⊥)) f.pages d.2) in
+    sound-fine damage.rule old count c.args.node c.args.level sound broken

@@ -1,0 +1,25 @@
+use Rattle.std.proofs.Common.{◌∙◌, ℕ}
+use Rattle.page_face.specs.FreeList.{PageMap}
+use Rattle.node_inverted.specs.declared.roots.Tree.{Tree}
+use Rattle.node_inverted.specs.Rows.{bytes_in}
+use Rattle.tree_ranking.specs.Leaves.{page-given}
+use Rattle.tree_ranking.specs.Laws.{fits-map, fits-counted, node-sound, node-told}
+use Rattle.tree_ranking.proofs.searching.RankingRanked.open.Goals as goal
+
+pub returns-in-Ok-clause-gives : goal.returns-in-Ok-clause-gives
+returns-in-Ok-clause-gives g c = λ fits has.
+    let p : PageMap = g.P.Pages.pages c.args.pages.now in
+    let n : ℕ = g.P.Pages.count c.args.pages.now in
+    let b : ℕ = g.P.Pages.first c.args.pages.now in
+    let t : Tree = c.args.self.now.tree in
+    let sound = node-sound p n t c.args.node c.args.level has in
+    c.in-Ok.ensures.given (fits-map p n b t fits) (node-told p n t c.args.node c.args.level has)
+    ∙ page-given c.args.self.now.ids.now c.args.self.now.at c.args.self.now.ask c.args.level (p c.args.node) (bytes_in p t.rows c.args.node) sound.form
+
+pub returns-in-Err-clause-honest : goal.returns-in-Err-clause-honest
+returns-in-Err-clause-honest g c = λ fits has damage e.
+    let p : PageMap = g.P.Pages.pages c.args.pages.now in
+    let n : ℕ = g.P.Pages.count c.args.pages.now in
+    let b : ℕ = g.P.Pages.first c.args.pages.now in
+    let t : Tree = c.args.self.now.tree in
+    c.in-Err.ensures.honest (fits-map p n b t fits) (fits-counted p n b t fits) fits.2 (node-sound p n t c.args.node c.args.level has) damage e

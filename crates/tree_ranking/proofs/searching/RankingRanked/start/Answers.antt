@@ -1,0 +1,28 @@
+use Rattle.std.proofs.Common.{◌∙◌, ℕ}
+use Rattle.page_face.specs.FreeList.{PageMap}
+use Rattle.node_inverted.specs.declared.roots.Tree.{Tree}
+use Rattle.node_inverted.specs.Rows.{bytes_in}
+use Rattle.irtree_shape.specs.Whole.{level_at}
+use Rattle.tree_entries.specs.Numbers.{byte_of}
+use Rattle.tree_ranking.specs.Asks.{qualifies}
+use Rattle.tree_ranking.specs.Openings.{some_below}
+use Rattle.tree_ranking.specs.Fits.{nodes_at}
+use Rattle.tree_ranking.specs.Laws.{fits-map, fits-counted, root-sound, root-told, root-level}
+use Rattle.tree_ranking.proofs.searching.RankingRanked.start.Goals as goal
+
+pub returns-in-Ok-clause-gives : goal.returns-in-Ok-clause-gives
+returns-in-Ok-clause-gives g c = λ fits.
+    let p : PageMap = g.P.Pages.pages c.args.pages.now in
+    let n : ℕ = g.P.Pages.count c.args.pages.now in
+    let b : ℕ = g.P.Pages.first c.args.pages.now in
+    let t : Tree = c.args.self.now.tree in
+    c.in-Ok.ensures.given (fits-map p n b t fits) (root-told p n b t fits)
+    ∙ root-level p n b t (some_below 32 (λ i. qualifies c.args.self.now.ask 1 (byte_of c.args.self.now.ids.now (bytes_in p t.rows t.root) i))) fits
+
+pub returns-in-Err-clause-honest : goal.returns-in-Err-clause-honest
+returns-in-Err-clause-honest g c = λ fits damage e.
+    let p : PageMap = g.P.Pages.pages c.args.pages.now in
+    let n : ℕ = g.P.Pages.count c.args.pages.now in
+    let b : ℕ = g.P.Pages.first c.args.pages.now in
+    let t : Tree = c.args.self.now.tree in
+    c.in-Err.ensures.honest (fits-map p n b t fits) (fits-counted p n b t fits) fits.2 (λ some. (level_at (nodes_at p t) t.root, root-sound p n b t fits some)) damage e
