@@ -105,7 +105,7 @@ le-int (negsuc a) (pos b) h = refl
 le-int (negsuc a) (negsuc b) h = le-leb b a (omega (arith, ints))
 
 -- a place stands in the rectangle of an item that it is under
-under-holds : (x y : Item) → IsPlace x → IsUnder x y → Holds (rect_of_item y) (point_of x)
+pub under-holds : (x y : Item) → IsPlace x → IsUnder x y → Holds (rect_of_item y) (point_of x)
 under-holds x y place u =
     let w = u 0 in
     let s = u 1 in

@@ -5,10 +5,14 @@ ghost use Rattle.page_face.specs.Calls.{Reads, FailsReading};
 ghost use Rattle.btree_nodes.specs.Damages.{AreTold};
 ghost use Rattle.ranking.specs.First.{first};
 ghost use Rattle.place_map.specs.Hit.{comes_before};
+ghost use Rattle.node_inverted.specs.Rows.{bytes_in};
+ghost use Rattle.best_first.specs.Openings.{Opened};
 ghost use Rattle.tree_entries.specs.Entries.{tree_places};
 ghost use Rattle.tree_entries.specs.Hits.{near_item};
+ghost use Rattle.tree_ranking.specs.declared.ask.Ask.TheVariants.{Nearest};
 ghost use Rattle.tree_ranking.specs.Fits.{FitsTree, nodes_at};
-ghost use Rattle.tree_ranking.specs.Harms.{IsHarm};
+ghost use Rattle.tree_ranking.specs.Harms.{IsHarm, IsNodePage};
+ghost use Rattle.tree_ranking.specs.Openings.{StandsIn, opened_in, started_in};
 ghost use Rattle.boolean_queries.specs.Opens.{filter_in};
 
 use best_first::first_k;
@@ -40,6 +44,11 @@ pub fn nearest<P: Pages>(
 ) -> Result<Vec<Hit>, PageFault>
     ensures found { FitsTree (P.pages pages.old) (P.count pages.old) (P.first pages.old) tree.now → IfOk result (λ found. found.items
         ≡ first comes_before k (flat_map (near_item ids.now at.now (filter_in filter.entry)) (tree_places (nodes_at (P.pages pages.old) tree.now) tree.now.root))) }
+    ensures opened { AreTold (P.pages pages.old) (P.count pages.old) → IfOk result (λ found.
+        Opened StandsIn (P.pages pages.old) (IsNodePage (P.pages pages.old) tree.now.rows) (FitsTree (P.pages pages.old) (P.count pages.old) (P.first pages.old) tree.now)
+        (opened_in ids.now at.now (Nearest filter.entry) (nodes_at (P.pages pages.old) tree.now))
+        (started_in ids.now (Nearest filter.entry) (nodes_at (P.pages pages.old) tree.now) (bytes_in (P.pages pages.old) tree.now.rows) tree.now.root)
+        tree.now.root (P.asked pages.old) (P.asked pages.new) k found.items) }
     ensures damaged { AreTold (P.pages pages.old) (P.count pages.old) → (damage : Damage) → IsErrOf result (PageFault.Damaged damage)
         → IsHarm (P.pages pages.old) (P.count pages.old) tree.now.rows (P.asked pages.old) (P.asked pages.new) damage }
     ensures honest { FitsTree (P.pages pages.old) (P.count pages.old) (P.first pages.old) tree.now → (damage : Damage) → result ≢ Err (PageFault.Damaged damage) }

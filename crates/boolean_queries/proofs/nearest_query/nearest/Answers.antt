@@ -1,16 +1,25 @@
 use Rattle.std.proofs.Common.{◌≡◌, ℕ, ◌∙◌, Vec, Global, Option, Some, None, refl, sym, ap, subst}
 use Rattle.std.specs.Borrow.{Bor}
+use Rattle.std.specs.Prelude.{IfOk}
 use Rattle.std.specs.List.{flat_map}
 use Rattle.page_face.specs.FreeList.{PageMap}
+use Rattle.spatial_base.specs.Point.{Position}
 use Rattle.ranking.specs.First.{first}
 use Rattle.place_map.specs.declared.hit.Hit.{Hit}
 use Rattle.place_map.specs.declared.query.Expr.{Expr}
 use Rattle.place_map.specs.Hit.{comes_before}
 use Rattle.node_inverted.specs.declared.roots.Tree.{Tree}
+use Rattle.node_inverted.specs.Rows.{bytes_in}
+use Rattle.best_first.specs.Openings.{Opened}
+use Rattle.tree_entries.specs.Numbers.{Numbers}
 use Rattle.tree_entries.specs.Entries.{tree_places}
 use Rattle.tree_entries.specs.Hits.{near_item}
+use Rattle.tree_ranking.specs.declared.ask.Ask.{Ask}
+use Rattle.tree_ranking.specs.declared.ask.Ask.TheVariants.{Nearest}
 use Rattle.tree_ranking.specs.Asks.{filter_of}
 use Rattle.tree_ranking.specs.Fits.{FitsTree, nodes_at}
+use Rattle.tree_ranking.specs.Harms.{IsNodePage}
+use Rattle.tree_ranking.specs.Openings.{StandsIn, opened_in, started_in}
 use Rattle.tree_ranking.specs.Laws.{near-first}
 use Rattle.tree_ranking.proofs.Outcomes.{ok-weaker}
 use Rattle.boolean_queries.specs.Opens.{filter_in}
@@ -35,3 +44,17 @@ returns-clause-found g c = λ fits.
     c.first_k.result
     (λ found e. e ∙ near-first c.args.k p n b r.tree c.args.tree.now r.ids.now c.args.ids.now r.at c.args.at.now c.args.filter r.ask r.on_map still made.tree made.ids made.at made.ask ∙ same)
     (c.first_k.ensures.found still)
+
+pub returns-clause-opened : goal.returns-clause-opened
+returns-clause-opened g c = λ told.
+    let p : PageMap = g.P.Pages.pages c.args.pages.now in
+    let n : ℕ = g.P.Pages.count c.args.pages.now in
+    let b : ℕ = g.P.Pages.first c.args.pages.now in
+    let r = c.nearest-ranking.result in
+    let made = c.nearest-ranking.ensures in
+    let So : Tree → Numbers → Position → Ask → Type 0 = λ t ids at ask. IfOk c.first_k.result (λ found. Opened StandsIn p (IsNodePage p t.rows) (FitsTree p n b t) (opened_in ids at ask (nodes_at p t)) (started_in ids ask (nodes_at p t) (bytes_in p t.rows) t.root) t.root (g.P.Pages.asked c.args.pages.now) (g.P.Pages.asked c.first_k.new.pages) c.args.k found.items) in
+    subst (λ (t : Tree). So t c.args.ids.now c.args.at.now (Nearest c.args.filter)) made.tree
+    (subst (λ (ids : Numbers). So r.tree ids c.args.at.now (Nearest c.args.filter)) made.ids
+    (subst (λ (at : Position). So r.tree r.ids.now at (Nearest c.args.filter)) made.at
+    (subst (λ (ask : Ask). So r.tree r.ids.now r.at ask) made.ask
+    (c.first_k.ensures.opened told))))
