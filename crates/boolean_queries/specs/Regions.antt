@@ -7,6 +7,16 @@ use Rattle.place_map.specs.declared.hit.Hit.{Hit}
 use Rattle.boolean_queries.specs.declared.region.Region.{Region}
 use Rattle.boolean_queries.specs.declared.region.Region.TheVariants.{Within, Inside}
 
+-- a region, the one of the points at most so far from a point, and a rectangle, for crates that say of a walk which nodes it opened
+abbrev pub Area : Type 0
+Area = Region
+
+abbrev pub circle : Position → ℕ → Area
+circle at radius = Within at radius
+
+abbrev pub rectangle : Bounds → Area
+rectangle asked = Inside asked
+
 -- two ranges of numbers have one in common
 abbrev pub have_common : ℤ → ℤ → ℤ → ℤ → Bool
 have_common low high other_low other_high = int_le low other_high && int_le other_low high

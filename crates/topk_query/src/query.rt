@@ -6,10 +6,15 @@ ghost use Rattle.btree_nodes.specs.Damages.{AreTold};
 ghost use Rattle.ranking.specs.First.{first};
 ghost use Rattle.place_map.specs.Hit.{comes_before};
 ghost use Rattle.place_map.specs.Query.{IsScale, IsWeights};
+ghost use Rattle.node_inverted.specs.Rows.{bytes_in};
+ghost use Rattle.best_first.specs.Openings.{Opened};
 ghost use Rattle.tree_entries.specs.Entries.{tree_places};
 ghost use Rattle.tree_entries.specs.Hits.{top_item};
+ghost use Rattle.tree_ranking.specs.declared.ask.Ask.{Ask};
+ghost use Rattle.tree_ranking.specs.Asks.{IsTopFor};
 ghost use Rattle.tree_ranking.specs.Fits.{FitsTree, nodes_at};
-ghost use Rattle.tree_ranking.specs.Harms.{IsHarm};
+ghost use Rattle.tree_ranking.specs.Harms.{IsHarm, IsNodePage};
+ghost use Rattle.tree_ranking.specs.Openings.{StandsIn, opened_in, started_in};
 
 use best_first::first_k;
 use node_inverted::Tree;
@@ -45,6 +50,11 @@ pub fn top<P: Pages>(
     requires words { IsWeights words.now }
     ensures found { FitsTree (P.pages pages.old) (P.count pages.old) (P.first pages.old) tree.now → IfOk result (λ found. found.items
         ≡ first comes_before k (flat_map (top_item ids.now at.now alpha reach words.now) (tree_places (nodes_at (P.pages pages.old) tree.now) tree.now.root))) }
+    ensures opened { AreTold (P.pages pages.old) (P.count pages.old) → IfOk result (λ found. (ask : Ask) × IsTopFor alpha reach words.now ask
+        × Opened StandsIn (P.pages pages.old) (IsNodePage (P.pages pages.old) tree.now.rows) (FitsTree (P.pages pages.old) (P.count pages.old) (P.first pages.old) tree.now)
+        (opened_in ids.now at.now ask (nodes_at (P.pages pages.old) tree.now))
+        (started_in ids.now ask (nodes_at (P.pages pages.old) tree.now) (bytes_in (P.pages pages.old) tree.now.rows) tree.now.root)
+        tree.now.root (P.asked pages.old) (P.asked pages.new) k found.items) }
     ensures damaged { AreTold (P.pages pages.old) (P.count pages.old) → (damage : Damage) → IsErrOf result (PageFault.Damaged damage)
         → IsHarm (P.pages pages.old) (P.count pages.old) tree.now.rows (P.asked pages.old) (P.asked pages.new) damage }
     ensures honest { FitsTree (P.pages pages.old) (P.count pages.old) (P.first pages.old) tree.now → (damage : Damage) → result ≢ Err (PageFault.Damaged damage) }
