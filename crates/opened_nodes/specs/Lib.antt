@@ -1,0 +1,3 @@
+pub mod Crowns
+pub mod Bounds
+pub mod Logs
