@@ -109,7 +109,7 @@ head-up bound (h ∷ hs) some low up = up.0 bound low.0
 
 module _ (ids : Numbers) (at : Position) (ask : Ask) where
   -- no place costs less than the bound of an item that it is under
-  under-cost : IsOnMap at.x at.y → (y x : Item) → IsPlace y → IsUnder y x → bound_by at ask (impact_of ids x) x ≤ (hit_by at ask (impact_of ids y) y).cost
+  pub under-cost : IsOnMap at.x at.y → (y x : Item) → IsPlace y → IsUnder y x → bound_by at ask (impact_of ids x) x ≤ (hit_by at ask (impact_of ids y) y).cost
   under-cost on y x place u =
       cost-under ask (impact_of ids y) (impact_of ids x) (mindist_of (rect_of_item x) at) (distance at (point_of y)) (impact-under ids x y u)
       (mindist-below (rect_of_item x) at (point_of y) on place.on (under-holds y x place u))

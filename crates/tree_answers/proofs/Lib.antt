@@ -3,3 +3,4 @@ pub mod Impacts
 pub mod Words
 pub mod Kept
 pub mod Members
+pub mod Opened

@@ -13,6 +13,7 @@ ghost use Rattle.irtree_shape.specs.Whole.{IsWhole};
 ghost use Rattle.tree_entries.specs.Entries.{tree_places};
 ghost use Rattle.tree_answers.specs.Answers.{cut_by, hits_by, IsAnswer};
 ghost use Rattle.tree_answers.specs.Damages.{IsAnswerHarm, IsTreeHarm};
+ghost use Rattle.tree_answers.specs.Opened.{AreFewOpened, FewOpened, IsRowsPage};
 ghost use Rattle.tree_answers.specs.Standing.{RootsStand};
 
 use crate::known::ids_of;
@@ -36,6 +37,8 @@ fn tree_hits<P: Pages>(
     requires { IsWithinLimits query.now }
     ensures found { (free : List ℕ) → IsWhole node_of (view (P.pages pages.old) tree.now.rows (P.count pages.old) (P.first pages.old) free) tree.now.root → AreTold (P.pages pages.old) (P.count pages.old)
         → IfOk result (λ found. found.items ≡ cut_by query.now (flat_map (hits_by ids.now query.now) (tree_places (nodes_in node_of (P.pages pages.old) tree.now.rows) tree.now.root))) }
+    ensures opened { (free : List ℕ) → IsWhole node_of (view (P.pages pages.old) tree.now.rows (P.count pages.old) (P.first pages.old) free) tree.now.root → AreTold (P.pages pages.old) (P.count pages.old)
+        → IfOk result (λ found. FewOpened (IsRowsPage (P.pages pages.old) tree.now) (P.pages pages.old) tree.now ids.now query.now (P.asked pages.old) (P.asked pages.new) found.items) }
     ensures damaged { AreTold (P.pages pages.old) (P.count pages.old) → (damage : Damage) → IsErrOf result (PageFault.Damaged damage)
         → IsTreeHarm (P.pages pages.old) (P.count pages.old) tree.now (P.asked pages.old) (P.asked pages.new) damage }
     ensures honest { (free : List ℕ) → IsWhole node_of (view (P.pages pages.old) tree.now.rows (P.count pages.old) (P.first pages.old) free) tree.now.root → AreTold (P.pages pages.old) (P.count pages.old)
@@ -49,6 +52,8 @@ fn tree_hits<P: Pages>(
         }
         Query::Inside { rect, filter } => inside(alloc, pages, tree, ids, rect, filter.as_ref()),
         Query::Nearest { at, k, filter } => {
+            // The point is on the map.
+            let (_x, _y) = (at.x(), at.y());
             nearest(alloc, pages, tree, ids, at, *k, filter.as_ref())
         }
         Query::Top {
@@ -57,17 +62,21 @@ fn tree_hits<P: Pages>(
             alpha,
             reach,
             words,
-        } => top(
-            alloc,
-            pages,
-            tree,
-            ids,
-            at,
-            *k,
-            *alpha,
-            *reach,
-            words.as_slice(),
-        ),
+        } => {
+            // The point is on the map.
+            let (_x, _y) = (at.x(), at.y());
+            top(
+                alloc,
+                pages,
+                tree,
+                ids,
+                at,
+                *k,
+                *alpha,
+                *reach,
+                words.as_slice(),
+            )
+        }
         Query::Group { at: _, words: _ } => Ok(Vec::new(alloc)),
     }
 }
@@ -79,8 +88,10 @@ fn tree_hits<P: Pages>(
 /// Refuses `Damaged` by a rule that a page of the words by text, of the tree or of its rows breaks; `Disk`, `Stopped` and `Memory` as the
 /// pages do. No page is damaged where the tables and the tree stand.
 ///
-/// Looks at one page a level of the words by text for each word of the query. Then it opens the nodes of the tree that may hold an answer:
-/// each costs a look at its page and, for each word of the query that the store knows, at one page a level of the rows.
+/// Looks at one page a level of the words by text for each word of the query. Then it opens only nodes of the tree that the query calls for:
+/// the root, and children below which an answer may be, by the least rectangle and the greatest impacts of their places. Range and box leave
+/// out those that are too far away or off the rectangle, nearest and top those whose bound is above the last hit's cost. Each opened node costs
+/// a look at its page and, for each word of the query that the store knows, at one page a level of the rows; the root of a range or box two.
 pub fn hits<P: Pages>(
     alloc: Global,
     pages: &mut P,
@@ -92,6 +103,9 @@ pub fn hits<P: Pages>(
     ensures answered { (state : Contents) → RootsStand (P.pages pages.old) (P.count pages.old) (P.first pages.old) tables.now tree.now state
         → AreTold (P.pages pages.old) (P.count pages.old)
         → IfOk result (λ hits. IsAnswer query.now (answer_of state query.now) hits.items) }
+    ensures opened { (state : Contents) → RootsStand (P.pages pages.old) (P.count pages.old) (P.first pages.old) tables.now tree.now state
+        → AreTold (P.pages pages.old) (P.count pages.old)
+        → IfOk result (λ hits. AreFewOpened (P.pages pages.old) tables.now tree.now query.now (P.asked pages.old) (P.asked pages.new) hits.items) }
     ensures honest { (state : Contents) → RootsStand (P.pages pages.old) (P.count pages.old) (P.first pages.old) tables.now tree.now state
         → AreTold (P.pages pages.old) (P.count pages.old) → (damage : Damage) → result ≢ Err (PageFault.Damaged damage) }
     ensures damaged { AreTold (P.pages pages.old) (P.count pages.old) → (damage : Damage) → IsErrOf result (PageFault.Damaged damage)

@@ -12,6 +12,8 @@ use Rattle.rtree_nodes.specs.Pages.{node_of}
 use Rattle.irtree_shape.specs.Made.{nodes_in}
 use Rattle.tree_entries.specs.Entries.{tree_places}
 use Rattle.boolean_queries.specs.Opens.{Fits}
+use Rattle.opened_nodes.proofs.Behinds.{few-behind}
+use Rattle.tree_answers.specs.Opened.{AreFewOpened, FewOpened, IsRowsPage, IsTextsPage}
 use Rattle.tree_answers.specs.Damages.{IsTreeHarm}
 use Rattle.tree_answers.specs.Answers.{cut_by, hits_by, IsAnswer}
 use Rattle.tree_answers.proofs.Kept.{roots-kept}
@@ -69,3 +71,32 @@ returns-clause-honest g c = λ state roots told damage.
     let fits : Fits (P.pages c.ids_of.new.pages) tree.rows (P.count c.ids_of.new.pages) (P.first c.ids_of.new.pages) tree.root = rw (f.pages, f.count, f.first) kept.whole in
     let still : AreTold (P.pages c.ids_of.new.pages) (P.count c.ids_of.new.pages) = rw (f.pages, f.count) told in
     c.tree_hits.ensures.honest fits.0 fits.1 still damage
+
+pub returns-clause-opened : goal.returns-clause-opened
+returns-clause-opened g c = λ state roots told.
+    let P = g.P.Pages in
+    let old : PageMap = P.pages c.args.pages.now in
+    let tree = c.args.tree.now in
+    let tables = c.args.tables.now in
+    let query = c.args.query.now in
+    let kept = roots-kept old (P.count c.args.pages.now) (P.first c.args.pages.now) tables tree state roots in
+    let f = c.ids_of.ensures.frame in
+    let ids = c.in-Ok.ids in
+    let before : List ℕ = P.asked c.args.pages.now in
+    let between : List ℕ = P.asked c.ids_of.new.pages in
+    let after : List ℕ = P.asked c.tree_hits.new.pages in
+    let own = c.ids_of.ensures.own told in
+    let fits : Fits (P.pages c.ids_of.new.pages) tree.rows (P.count c.ids_of.new.pages) (P.first c.ids_of.new.pages) tree.root = rw (f.pages, f.count, f.first) kept.whole in
+    let still : AreTold (P.pages c.ids_of.new.pages) (P.count c.ids_of.new.pages) = rw (f.pages, f.count) told in
+    IfOk-weaker c.tree_hits.result
+    (λ (found : Vec Hit Global). FewOpened (IsRowsPage (P.pages c.ids_of.new.pages) tree) (P.pages c.ids_of.new.pages) tree ids query between after found.items)
+    (λ (found : Vec Hit Global). AreFewOpened old tables tree query before after found.items)
+    (λ (found : Vec Hit Global) few. record {
+      entries = kept.entries;
+      holds = kept.holds;
+      ids = ids;
+      known = c.in-Ok.ensures.known kept.entries kept.holds;
+      few = few-behind (IsTextsPage old tables) (IsRowsPage old tree) (hits_by ids query) ids query (nodes_in node_of old tree.rows) tree.root before between after own.more found.items own.is own.own
+          (subst (λ (pages : PageMap). FewOpened (IsRowsPage pages tree) pages tree ids query between after found.items) f.pages few);
+    })
+    (c.tree_hits.ensures.opened fits.0 fits.1 still)

@@ -1,0 +1,38 @@
+-- Which nodes a query over tables and a tree opened.
+use Rattle.std.specs.Prelude.{◌⊎◌, ℕ, ◌<◌, List}
+use Rattle.page_face.specs.FreeList.{PageMap}
+use Rattle.btree_nodes.specs.Tree.{map_uses}
+use Rattle.place_map.specs.declared.hit.Hit.{Hit}
+use Rattle.place_map.specs.declared.query.Query.{Query}
+use Rattle.rtree_shape.specs.Stock.{rows_form}
+use Rattle.rtree_nodes.specs.Pages.{node_of}
+use Rattle.node_inverted.specs.declared.roots.Tree.{Tree}
+use Rattle.irtree_shape.specs.Made.{nodes_in}
+use Rattle.store_tables.specs.declared.tables.Tables.{Tables}
+use Rattle.store_tables.specs.Entries.{Entries}
+use Rattle.store_tables.specs.Holding.{Holds, texts_form}
+use Rattle.tree_entries.specs.Numbers.{Numbers}
+use Rattle.opened_nodes.specs.Logs.{OpensFew}
+use Rattle.tree_answers.specs.Answers.{hits_by}
+use Rattle.tree_answers.specs.Asked.{AreKnown, asked_in}
+
+-- a page of the rows' map of a tree
+abbrev pub IsRowsPage : PageMap → Tree → ℕ → Type 0
+IsRowsPage pages tree page = 0 < map_uses rows_form pages tree.rows page
+
+-- a page of the words by text
+abbrev pub IsTextsPage : PageMap → Tables → ℕ → Type 0
+IsTextsPage pages tables page = 0 < map_uses texts_form pages tables.texts page
+
+-- Few nodes of a tree were opened, where its words have these numbers: beside them pages of this kind alone were asked for.
+abbrev pub FewOpened : (ℕ → Type 0) → PageMap → Tree → Numbers → Query → List ℕ → List ℕ → List Hit → Type 0
+FewOpened beside pages tree ids query old new found = OpensFew beside (hits_by ids query) ids query (nodes_in node_of pages tree.rows) tree.root old new found
+
+-- Few nodes were opened for a query, each of whose words has the number that the words by text have for it. beside the nodes pages of the words
+-- by text and of the tree's rows were asked for, and no others.
+pub record AreFewOpened (pages : PageMap) (tables : Tables) (tree : Tree) (query : Query) (old new : List ℕ) (found : List Hit) : Type 0 where
+  pub entries : Entries
+  pub holds : Holds pages tables entries
+  pub ids : Numbers
+  pub known : AreKnown ids entries.texts (asked_in query)
+  pub few : FewOpened (λ page. IsTextsPage pages tables page ⊎ IsRowsPage pages tree page) pages tree ids query old new found
