@@ -1,0 +1,122 @@
+//! The choices of a pick for each word, and the search among them for the one that costs least.
+ghost use Rattle.std.specs.Prelude.{◌≡◌, ◌++◌, ◌∷◌, [], ◌≤◌, ℕ, List, Vec, Some, OnOk};
+ghost use Rattle.std.specs.List.{AllByRecursion};
+ghost use Rattle.std.specs.Cmp.Lexicographic.{slice_cmp};
+ghost use Rattle.std.specs.Ordering.{nat_cmp, ordering_then};
+ghost use Rattle.std.specs.declared.alloc.Global.{Global};
+ghost use Rattle.spatial_base.specs.Point.{Position};
+ghost use Rattle.place_map.specs.declared.query.Pick.{Pick};
+ghost use Rattle.place_map.specs.Group.{product, farthest, diameter, choice_cost, pick_cmp, least_of};
+ghost use Rattle.place_map.specs.Search.{lists_in, fronted};
+ghost use Rattle.collective_query.specs.Picks.{AreNear, AreSorted};
+
+use place_map::{Chosen, Pick, Picks};
+use spatial_base::{Point, dist};
+use std::alloc::{AllocError, Global};
+use std::cmp::Ordering;
+
+/// Returns the greatest distance from a point to a pick.
+pub(crate) fn farthest_of(point: &Point, picks: &[Pick]) -> u64
+    ensures value { result ≡ farthest point.now picks.now }
+    ensures far { result ≤ 4024922359 }
+{
+    let mut most = 0;
+    for pick in picks {
+        most = most.max(dist(point, &pick.point));
+    }
+    most
+}
+
+// The greatest distance between two picks.
+fn diameter_of(picks: &[Pick]) -> u64
+    ensures value { result ≡ diameter picks.now }
+    ensures far { result ≤ 4024922359 }
+{
+    match picks.split_first() {
+        Some((pick, others)) => farthest_of(&pick.point, others).max(diameter_of(others)),
+        None => 0,
+    }
+}
+
+/// Returns what a choice costs: the greatest distance from the point to a pick, plus the greatest distance between two picks.
+pub(crate) fn cost_of(at: &Point, picks: &[Pick]) -> u64
+    ensures { result ≡ choice_cost at.now picks.now }
+{
+    farthest_of(at, picks) + diameter_of(picks)
+}
+
+// A choice of this cost against the best one: by cost, and then by the keys in the words' order.
+fn against(picks: &[Pick], cost: u64, best: &Chosen) -> Ordering
+    ensures { result ≡ ordering_then (nat_cmp cost best.now.cost) (slice_cmp pick_cmp picks.now best.now.picks) }
+{
+    cost.cmp(&best.cost).then(picks.cmp(best.picks.as_slice()))
+}
+
+/// Keeps a choice of this cost if it comes before the best one.
+pub(crate) fn offer(
+    alloc: Global,
+    picks: &[Pick],
+    cost: u64,
+    best: &mut Chosen,
+) -> Result<(), AllocError>
+    ensures { OnOk result ((at : Position) → cost ≡ choice_cost at picks.now → (tried : List (List Pick)) → Some best.old ≡ least_of at tried → Some best.new ≡ least_of at (tried ++ picks.now ∷ [])) }
+{
+    if against(picks, cost, &*best).is_lt() {
+        let picks = Picks::from_vec(Vec::from_slice(alloc, picks)?);
+        *best = Chosen { cost, picks };
+    }
+    Ok(())
+}
+
+// Offers each choice that begins so and goes on with one of each list. `far` is the greatest distance to a pick of the front and `wide` the
+// greatest one between two. A front that comes after the best choice is left, since what completes it does too; and so are the picks from
+// the first one on that lies farther than the best choice costs.
+fn extend(
+    alloc: Global,
+    lists: &[Vec<Pick>],
+    front: &mut Vec<Pick>,
+    far: u64,
+    wide: u64,
+    best: &mut Chosen,
+) -> Result<(), AllocError>
+    requires near { AllByRecursion (λ (list : Vec Pick Global). AreNear list.items) lists.now }
+    requires far { far ≤ 4024922359 }
+    requires wide { wide ≤ 4024922359 }
+    ensures same { OnOk result (front.new.items ≡ front.old.items) }
+    ensures least { OnOk result ((at : Position) → far ≡ farthest at front.old.items → wide ≡ diameter front.old.items
+        → AllByRecursion (λ (list : Vec Pick Global). AreSorted at list.items) lists.now → (tried : List (List Pick)) → Some best.old ≡ least_of at tried
+        → Some best.new ≡ least_of at (tried ++ fronted front.old.items (product (lists_in lists.now)))) }
+{
+    let cost = far + wide;
+    if against(&*front, cost, &*best).is_gt() {
+        return Ok(());
+    }
+    let Some((list, others)) = lists.split_first() else {
+        return offer(alloc, &*front, cost, best);
+    };
+    for pick in list {
+        if pick.dist > best.cost {
+            return Ok(());
+        }
+        let further = far.max(pick.dist);
+        let wider = wide.max(farthest_of(&pick.point, &*front));
+        front.push(*pick)?;
+        extend(alloc, others, front, further, wider, best)?;
+        front.pop();
+    }
+    Ok(())
+}
+
+/// Leaves the least of the best choice so far and all choices of one pick of each list. The lists are sorted by distance.
+pub fn least_choice(
+    alloc: Global,
+    lists: &[Vec<Pick>],
+    best: &mut Chosen,
+) -> Result<(), AllocError>
+    requires { AllByRecursion (λ (list : Vec Pick Global). AreNear list.items) lists.now }
+    ensures { OnOk result ((at : Position) → AllByRecursion (λ (list : Vec Pick Global). AreSorted at list.items) lists.now → (tried : List (List Pick)) → Some best.old ≡ least_of at tried
+        → Some best.new ≡ least_of at (tried ++ product (lists_in lists.now))) }
+{
+    let mut front = Vec::new(alloc);
+    extend(alloc, lists, &mut front, 0, 0, best)
+}
