@@ -15,7 +15,8 @@ greatest-from : (f : Pick → ℕ) (first : ℕ) (picks : List Pick) → fold (�
 greatest-from f first [] = omega arith
 greatest-from f first (pick ∷ picks) = omega (arith, greatest-from f (max first (f pick)) picks, greatest-from f (max 0 (f pick)) picks)
 
-farthest-cons : (point : Position) (pick : Pick) (picks : List Pick) → farthest point (pick ∷ picks) ≡ max (distance point pick.point) (farthest point picks)
+-- and to one more in front
+pub farthest-cons : (point : Position) (pick : Pick) (picks : List Pick) → farthest point (pick ∷ picks) ≡ max (distance point pick.point) (farthest point picks)
 farthest-cons point pick picks = omega (arith, greatest-from (λ p. distance point p.point) (max 0 (distance point pick.point)) picks)
 
 -- the greatest distance between two of one more

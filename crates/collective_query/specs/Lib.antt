@@ -1,1 +1,5 @@
+pub mod Choices
 pub mod Picks
+pub mod TreePicks
+pub mod Tried
+pub mod Searches

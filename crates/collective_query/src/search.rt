@@ -108,7 +108,7 @@ fn extend(
 }
 
 /// Leaves the least of the best choice so far and all choices of one pick of each list. The lists are sorted by distance.
-pub fn least_choice(
+pub(crate) fn least_choice(
     alloc: Global,
     lists: &[Vec<Pick>],
     best: &mut Chosen,

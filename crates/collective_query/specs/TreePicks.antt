@@ -1,0 +1,46 @@
+-- What the entries of a tree give to a group query, as the places of a map do.
+use Rattle.std.specs.Prelude.{ℕ, nat_lt, if◌then◌else◌, List, [], ◌∷◌, map, Some}
+use Rattle.std.specs.List.{flat_map}
+use Rattle.ranking.specs.First.{ranked}
+use Rattle.spatial_base.specs.Point.{Position, distance}
+use Rattle.place_map.specs.declared.hit.Hit.{Hit}
+use Rattle.place_map.specs.declared.query.Expr.TheVariants.{Has}
+use Rattle.place_map.specs.declared.query.Pick.{Pick}
+use Rattle.place_map.specs.Group.{product}
+use Rattle.place_map.specs.Hit.{comes_before}
+use Rattle.rtree_shape.specs.Slots.{Item, NodeMap}
+use Rattle.tree_entries.specs.Numbers.{Numbers, impact_of}
+use Rattle.tree_entries.specs.Entries.{point_of, name_of, tree_places}
+use Rattle.tree_entries.specs.Hits.{near_item, range_item}
+
+-- a place's item as the pick for a word
+abbrev pub pick_in : Position → List ℕ → Item → Pick
+pick_in at word x = record { key = name_of x; word = word; dist = distance at (point_of x); point = point_of x }
+
+-- what a place's item gives to a word: its pick where it holds the word
+abbrev pub pick_item : Numbers → Position → List ℕ → Item → List Pick
+pick_item ids at word x = if nat_lt 0 (impact_of ids x word) then pick_in at word x ∷ [] else []
+
+-- the picks of a tree's entries for a word
+abbrev pub tree_picks : Numbers → Position → NodeMap → ℕ → List ℕ → List Pick
+tree_picks ids at nodes root word = flat_map (pick_item ids at word) (tree_places nodes root)
+
+-- all choices: a pick of the tree's entries for each word, in the words' order
+abbrev pub tree_choices : Numbers → Position → NodeMap → ℕ → List (List ℕ) → List (List Pick)
+tree_choices ids at nodes root words = product (map (tree_picks ids at nodes root) words)
+
+-- the place of a hit as the pick for a word
+abbrev pub pick_from : Position → List ℕ → Hit → Pick
+pick_from at word hit = record { key = hit.key; word = word; dist = distance at hit.point; point = hit.point }
+
+-- the hits of the tree's entries that hold a word, from a point
+abbrev pub word_hits : Numbers → Position → NodeMap → ℕ → List ℕ → List Hit
+word_hits ids from nodes root word = flat_map (near_item ids from (Some (Has word))) (tree_places nodes root)
+
+-- of those that are at most so far, in order
+abbrev pub hits_within : Numbers → Position → ℕ → NodeMap → ℕ → List ℕ → List Hit
+hits_within ids from radius nodes root word = ranked comes_before (flat_map (range_item ids from radius (Some (Has word))) (tree_places nodes root))
+
+-- the picks for a word at most so far from the point, by distance and then by key
+abbrev pub near_picks : Numbers → Position → ℕ → NodeMap → ℕ → List ℕ → List Pick
+near_picks ids at radius nodes root word = map (pick_from at word) (hits_within ids at radius nodes root word)
