@@ -4,6 +4,7 @@ use Rattle.std.proofs.lemmas.Bool.{cases_Bool}
 use Rattle.std.specs.List.{AllByRecursion, Contains}
 use Rattle.ranking.specs.First.{ranked, IsRanked}
 use Rattle.ranking.specs.Laws.{ranked_is}
+use Rattle.ranking.specs.Members.{SameMembers, ranked_same}
 use Rattle.best_first.proofs.Lists.{all_in}
 use Rattle.spatial_base.specs.Point.{Position}
 use Rattle.place_map.specs.declared.query.Pick.{Pick}
@@ -60,3 +61,7 @@ module _ (at : Position) (choices : List (List Pick)) where
           let not_before = all-among (λ other. is_cheaper at other first ≡ false) (first ∷ rest) picks (itself at first, ranks.0) c in
           let same : first ≡ picks = (choices_linear at).same first picks all.0 not_before in
           ap (λ p. Some (costed at p)) same
+
+-- the same choices have the same least one
+pub least-same : (at : Position) (choices others : List (List Pick)) → SameMembers choices others → least_of at others ≡ least_of at choices
+least-same at choices others same = ap (λ in_order. head_of at (take 1 in_order)) (ranked_same (choices_linear at) choices others same)

@@ -6,3 +6,4 @@ pub mod Least
 pub mod Cuts
 pub mod Searches
 pub mod TreePicks
+pub mod Agreements

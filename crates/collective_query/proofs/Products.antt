@@ -1,6 +1,8 @@
 -- A product has just the choices of one member of each list.
-use Rattle.std.proofs.Common.{◌≡◌, List, [], ◌∷◌, ◌++◌, map, refl, subst, ⊎_elim}
+use Rattle.std.proofs.Common.{ℕ, ◌+◌, sum_by, arith, ◌∙◌, ◌≡◌, List, [], ◌∷◌, ◌++◌, map, refl, subst, ⊎_elim}
+use Rattle.std.proofs.lemmas.List.Sums.{sum_by-cons, sum_by-append}
 use Rattle.std.specs.List.{AllByRecursion, Contains, flat_map}
+use Rattle.ranking.specs.Members.{SameMembers, flat_map_same}
 use Rattle.best_first.proofs.Lists.{all_in, all_weaker, flat_all}
 use Rattle.place_map.specs.Group.{product}
 use Rattle.collective_query.specs.Choices.{IsChoice}
@@ -47,3 +49,36 @@ product-none {X} lists none = nothing (product lists) (all-choices lists)
     nothing : (choices : List (List X)) → AllByRecursion (IsChoice lists) choices → choices ≡ []
     nothing [] all = refl
     nothing (choice ∷ choices) all = absurd (no-choice lists none choice all.0)
+
+-- lists of the same members, one by one
+abbrev pub AreSame : {X : Type 0} → List (List X) → List (List X) → Type 0
+AreSame [] [] = Unit {0}
+AreSame [] (ys ∷ others) = ⊥
+AreSame (xs ∷ lists) [] = ⊥
+AreSame (xs ∷ lists) (ys ∷ others) = SameMembers xs ys × AreSame lists others
+
+-- a weight of what is put together
+weight-mapped : {X Y : Type 0} (weight : Y → ℕ) (f : X → Y) (xs : List X) → sum_by weight (map f xs) ≡ sum_by (λ x. weight (f x)) xs
+weight-mapped weight f [] = refl
+weight-mapped weight f (x ∷ xs) = omega (arith, sum_by-cons weight (f x) (map f xs), sum_by-cons (λ y. weight (f y)) x xs, weight-mapped weight f xs)
+
+-- each member goes on with the same members
+same-behind : {X : Type 0} (rest more : List (List X)) → SameMembers rest more → (xs : List X) → SameMembers (flat_map (λ x. map (λ others. x ∷ others) rest) xs) (flat_map (λ x. map (λ others. x ∷ others) more) xs)
+same-behind rest more same [] = λ weight. refl
+same-behind rest more same (x ∷ xs) = λ weight.
+    let a = sum_by-append weight (map (λ others. x ∷ others) rest) (flat_map (λ y. map (λ others. y ∷ others) rest) xs) in
+    let b = sum_by-append weight (map (λ others. x ∷ others) more) (flat_map (λ y. map (λ others. y ∷ others) more) xs) in
+    let c = weight-mapped weight (λ others. x ∷ others) rest in
+    let d = weight-mapped weight (λ others. x ∷ others) more in
+    let e = same (λ others. weight (x ∷ others)) in
+    let f = same-behind rest more same xs weight in
+    omega arith
+
+-- the products of lists of the same members have the same members
+pub product-same : {X : Type 0} (lists others : List (List X)) → AreSame lists others → SameMembers (product lists) (product others)
+product-same [] [] same = λ weight. refl
+product-same [] (ys ∷ others) same = absurd same
+product-same (xs ∷ lists) [] same = absurd same
+product-same (xs ∷ lists) (ys ∷ others) same = λ weight.
+    same-behind (product lists) (product others) (product-same lists others same.1) ys weight
+    ∙ flat_map_same (λ x. map (λ behind. x ∷ behind) (product lists)) xs ys same.0 weight
