@@ -14,3 +14,6 @@ mod query;
 mod search;
 
 pub use query::group;
+
+#[cfg(test)]
+mod tests;

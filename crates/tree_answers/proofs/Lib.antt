@@ -4,3 +4,4 @@ pub mod Words
 pub mod Kept
 pub mod Members
 pub mod Opened
+pub mod Choices

@@ -50,12 +50,12 @@ sum-mapped f g [] = refl
 sum-mapped f g (x ∷ xs) = omega (arith, sum_by-cons f (g x) (map g xs), sum_by-cons (λ y. f (g y)) x xs, sum-mapped f g xs)
 
 -- a tree's entries are the places' where all sums over them are
-same-entries : (nodes : NodeMap) (root : ℕ) (places : List (Name × Stored)) → ((f : Item → ℕ) → tree_sum nodes root f ≡ entry_sum f places)
+pub same-entries : (nodes : NodeMap) (root : ℕ) (places : List (Name × Stored)) → ((f : Item → ℕ) → tree_sum nodes root f ≡ entry_sum f places)
     → SameMembers (map item_at places) (tree_places nodes root)
 same-entries nodes root places are f = sym (tree-sum nodes f root) ∙ are f ∙ sym (sum-mapped f item_at places)
 
 -- what each member gives the one way it gives the other way
-given-same : {X Y Z A : Type 0} (p : X → Y) (q : X → Z) (g : Y → List A) (h : Z → List A) (P : X → Type 0) → ((x : X) → P x → g (p x) ≡ h (q x))
+pub given-same : {X Y Z A : Type 0} (p : X → Y) (q : X → Z) (g : Y → List A) (h : Z → List A) (P : X → Type 0) → ((x : X) → P x → g (p x) ≡ h (q x))
     → (xs : List X) → All P xs → flat_map g (map p xs) ≡ flat_map h (map q xs)
 given-same p q g h P same [] all = refl
 given-same p q g h P same (x ∷ xs) all = λ i. same x (All-head P x xs all) i ++ given-same p q g h P same xs (All-tail P x xs all) i
@@ -67,7 +67,7 @@ no-hits (x ∷ xs) = no-hits xs
 
 module _ (ids : Numbers) (entries : Entries) (next_word : ℕ) (agree : WordsAgree entries next_word) where
   -- the impacts of an entry's words by number are those of its place by text
-  impacts-agree : (words : List (List ℕ)) → AreKnown ids entries.texts words → (e : Name × Stored) → IsPlaceEntry e
+  pub impacts-agree : (words : List (List ℕ)) → AreKnown ids entries.texts words → (e : Name × Stored) → IsPlaceEntry e
       → AgreeAmong (impact_of ids (item_at e)) (texts.impact_in (words_of_place entries.numbers e.1)) words
   impacts-agree words known e is word among =
       worded-impact ids (impact_in (held_pairs e.1)) (place_item e.1.point (form_of e.0)) word

@@ -1,20 +1,14 @@
-use Rattle.std.proofs.Common.{◌≡◌, ℕ, List, ap, subst, ◌∙◌}
-use Rattle.std.proofs.lemmas.List.Elements.{All-contains, All-from_recursion}
-use Rattle.std.specs.List.{AllByRecursion, Contains, flat_map}
-use Rattle.std.specs.Map.{lookup}
-use Rattle.std.specs.Str.{bytes_eq}
-use Rattle.term_impacts.specs.Form.{IsWordText, word_form}
+use Rattle.std.proofs.Common.{ℕ, List, sym, subst}
+use Rattle.std.proofs.lemmas.Result.{IfOk-weaker}
+use Rattle.std.specs.List.{Contains}
 use Rattle.tree_entries.specs.Numbers.{Numbers}
-use Rattle.tree_answers.specs.Asked.{id_in}
-use Rattle.tree_answers.proofs.Lookups.{found-known}
+use Rattle.tree_answers.specs.Asked.{AreKnown, asked_in}
 use Rattle.tree_answers.proofs.known.ids_of.Goals as goal
 
-pub returns-in-Ok-numbers_of-clause-known : goal.returns-in-Ok-numbers_of-clause-known
-returns-in-Ok-numbers_of-clause-known g c = λ entries holds word among.
-    let words : List (List ℕ) = c.in-Ok.words.items in
-    let inside : Contains words word = c.in-Ok.ensures.every word among in
-    let texts : AllByRecursion IsWordText words = subst (AllByRecursion IsWordText) c.as_slice.ensures.value c.in-Ok-numbers_of.ensures.texts in
-    let listed : c.from_vec.result ≡ flat_map (id_in entries.texts) words =
-    c.from_vec.ensures ∙ c.in-Ok-numbers_of.ensures.found entries holds ∙ ap (flat_map (id_in entries.texts)) c.as_slice.ensures.value in
-    ap (λ (ids : Numbers). lookup (bytes_eq (word_form word)) ids) listed
-    ∙ found-known entries.texts word (All-contains IsWordText words word (All-from_recursion IsWordText words texts) inside) words texts inside
+pub returns-clause-known : goal.returns-clause-known
+returns-clause-known g c = λ entries holds.
+    IfOk-weaker c.ids_among.result
+    (λ (ids : Numbers). AreKnown ids entries.texts c.as_slice.result.now)
+    (λ (ids : Numbers). AreKnown ids entries.texts (asked_in c.args.query.now))
+    (λ (ids : Numbers) known word among. known word (subst (λ (words : List (List ℕ)). Contains words word) (sym c.as_slice.ensures.value) (c.in-Ok.ensures.every word among)))
+    (c.ids_among.ensures.known entries holds)

@@ -1,0 +1,67 @@
+use Rattle.std.proofs.Common.{◌≡◌, ℕ, List, Option, Err, inr, ap, subst, ◌∙◌}
+use Rattle.std.proofs.lemmas.Result.{IfOk-weaker}
+use Rattle.page_face.specs.FreeList.{PageMap}
+use Rattle.page_face.specs.declared.fault.PageFault.TheVariants.{Damaged}
+use Rattle.btree_nodes.specs.Damages.{AreTold}
+use Rattle.place_map.specs.declared.query.Chosen.{Chosen}
+use Rattle.place_map.specs.Group.{group_of, least_of}
+use Rattle.tree_ranking.specs.Fits.{nodes_at}
+use Rattle.boolean_queries.specs.Opens.{Fits}
+use Rattle.collective_query.specs.TreePicks.{tree_choices}
+use Rattle.tree_answers.specs.Damages.{IsTreeHarm}
+use Rattle.tree_answers.proofs.Choices.{kept-least}
+use Rattle.tree_answers.proofs.Kept.{roots-kept}
+use Rattle.tree_answers.proofs.choosing.chosen.Goals as goal
+
+pub returns-clause-answered : goal.returns-clause-answered
+returns-clause-answered g c = λ state roots told.
+    let P = g.P.Pages in
+    let kept = roots-kept (P.pages c.args.pages.now) (P.count c.args.pages.now) (P.first c.args.pages.now) c.args.tables.now c.args.tree.now state roots in
+    let f = c.ids_of_words.ensures.frame in
+    let tree = c.args.tree.now in
+    let at = c.args.at.now in
+    let words : List (List ℕ) = c.args.words.now in
+    let ids = c.in-Ok.ids in
+    let fits : Fits (P.pages c.ids_of_words.new.pages) tree.rows (P.count c.ids_of_words.new.pages) (P.first c.ids_of_words.new.pages) tree.root = rw (f.pages, f.count, f.first) kept.whole in
+    let still : AreTold (P.pages c.ids_of_words.new.pages) (P.count c.ids_of_words.new.pages) = rw (f.pages, f.count) told in
+    IfOk-weaker c.group.result
+    (λ (chosen : Option Chosen). chosen ≡ least_of at (tree_choices ids at (nodes_at (P.pages c.ids_of_words.new.pages) tree) tree.root words))
+    (λ (chosen : Option Chosen). chosen ≡ group_of state.places at words)
+    (λ (chosen : Option Chosen) is.
+    is
+    ∙ ap (λ (pages : PageMap). least_of at (tree_choices ids at (nodes_at pages tree) tree.root words)) f.pages
+    ∙ kept-least (P.pages c.args.pages.now) (P.count c.args.pages.now) (P.first c.args.pages.now) c.args.tables.now tree state kept ids at words (c.in-Ok.ensures.known kept.entries kept.holds))
+    (c.group.ensures.chosen (fits.0, fits.1, still))
+
+pub returns-clause-damaged : goal.returns-clause-damaged
+returns-clause-damaged g c = λ told damage is.
+    let P = g.P.Pages in
+    let f = c.ids_of_words.ensures.frame in
+    let old : PageMap = P.pages c.args.pages.now in
+    let tree = c.args.tree.now in
+    let between : List ℕ = P.asked c.ids_of_words.new.pages in
+    let after : List ℕ = P.asked c.group.new.pages in
+    let still : AreTold (P.pages c.ids_of_words.new.pages) (P.count c.ids_of_words.new.pages) = rw (f.pages, f.count) told in
+    let harm = c.group.ensures.damaged still damage is in
+    inr (
+      between,
+      c.ids_of_words.ensures.own told,
+      subst (λ (count : ℕ). IsTreeHarm old count tree between after damage) f.count
+          (subst (λ (pages : PageMap). IsTreeHarm pages (P.count c.ids_of_words.new.pages) tree between after damage) f.pages harm),
+    )
+
+pub returns-in-Err-clause-honest : goal.returns-in-Err-clause-honest
+returns-in-Err-clause-honest g c = λ state roots told damage.
+    let P = g.P.Pages in
+    let kept = roots-kept (P.pages c.args.pages.now) (P.count c.args.pages.now) (P.first c.args.pages.now) c.args.tables.now c.args.tree.now state roots in
+    λ e. (let same : c.in-Err.fault ≡ Damaged damage = cc e in c.in-Err.ensures.honest kept.entries kept.holds told kept.counted damage (ap Err same))
+
+pub returns-clause-honest : goal.returns-clause-honest
+returns-clause-honest g c = λ state roots told damage.
+    let P = g.P.Pages in
+    let f = c.ids_of_words.ensures.frame in
+    let tree = c.args.tree.now in
+    let kept = roots-kept (P.pages c.args.pages.now) (P.count c.args.pages.now) (P.first c.args.pages.now) c.args.tables.now tree state roots in
+    let fits : Fits (P.pages c.ids_of_words.new.pages) tree.rows (P.count c.ids_of_words.new.pages) (P.first c.ids_of_words.new.pages) tree.root = rw (f.pages, f.count, f.first) kept.whole in
+    let still : AreTold (P.pages c.ids_of_words.new.pages) (P.count c.ids_of_words.new.pages) = rw (f.pages, f.count) told in
+    c.group.ensures.honest (fits.0, fits.1, still) damage
