@@ -29,9 +29,9 @@ IsReadFault Memory = Unit {0}
 IsReadFault _ = ⊥
 
 -- what an answer over places that were read may be refused for
-abbrev pub IsOwnFault : EngineFault → Type 0
-IsOwnFault (Damaged damage) = Unit {0}
-IsOwnFault Memory = Unit {0}
+abbrev pub IsOwnFault : PageFault → Type 0
+IsOwnFault (pages.Damaged damage) = Unit {0}
+IsOwnFault pages.Memory = Unit {0}
 IsOwnFault _ = ⊥
 
 -- what settling may be refused for

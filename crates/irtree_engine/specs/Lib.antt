@@ -4,4 +4,5 @@ pub mod Faults
 pub mod Holding
 pub mod Listing
 pub mod Opening
+pub mod Queries
 pub mod Updates

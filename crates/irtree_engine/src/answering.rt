@@ -1,34 +1,31 @@
 //! What a query is answered.
-ghost use Rattle.std.specs.Prelude.{◌≡◌, ◌≤◌, ◌<◌, ◌^◌, length, IsTrue, IfOk, IfErr, IsErrOf, ◌↔◌, []};
+ghost use Rattle.std.specs.Prelude.{◌≡◌, ◌≤◌, IsTrue, IfOk, IfErr, IsErrOf, ◌↔◌, []};
 ghost use Rattle.disk_model.specs.World.{Rose};
 ghost use Rattle.page_store.specs.Store.{Rests, ReadsOnly};
 ghost use Rattle.place_map.specs.Answer.{answer_of};
 ghost use Rattle.place_map.specs.Query.{IsWithinLimits};
-ghost use Rattle.place_map.specs.Restored.{AreStatePlaces, places_in};
 ghost use Rattle.place_map.specs.State.{Contents};
-ghost use Rattle.store_meaning.specs.Stands.{tables_in};
-ghost use Rattle.irtree_engine.specs.Damages.{IsListedDamage, miscount};
+ghost use Rattle.irtree_engine.specs.Damages.{IsQueryDamage};
 ghost use Rattle.irtree_engine.specs.Holding.{HoldsState};
-ghost use Rattle.irtree_engine.specs.Faults.{IsReadFault, IsOwnFault};
+ghost use Rattle.irtree_engine.specs.Faults.{IsReadFault};
 
-use crate::change::tables_of;
-use crate::fault::broken_by_head;
-use crate::places::list_places;
+use crate::queries::answer_in;
 use crate::{Engine, EngineFault};
 use disk_model::Station;
-use page_face::{Damage, Head, Pages, Rule};
+use page_face::{Damage, Pages};
 use page_store::Store;
-use place_map::{Answer, Query, State};
-use spatial_base::{Key, Point};
-use std::alloc::Global;
-use term_impacts::Words;
+use place_map::{Answer, Query};
 
 impl<'d, D: Station> Engine<'d, D> {
-    /// The answer to a query over the places of the state, which are read from the place table.
+    /// Returns the answer to a query over the places of the state. A range, box, nearest or top query is answered by the tree, and a group
+    /// query by a scan of the place table.
     ///
     /// Refuses `Stopped` exactly where an earlier commit of this engine failed, before all else; `Disk`; `Damaged`, never where
-    /// the image stands for a state; `Memory`. It reads the whole place table, and for each word of each place a page a level of
-    /// the words by number.
+    /// the image stands for a state; `Memory`.
+    ///
+    /// By the tree it looks at one page a level of the words by text for each word of the query. Then it opens the nodes that may hold an
+    /// answer: each costs a look at its page and, for each word of the query that the store knows, at one page a level of the rows of
+    /// words. A group query looks at the whole place table, and for each word of each place at one page a level of the words by number.
     pub fn answer(&mut self, query: &Query) -> Result<Answer, EngineFault>
         requires { IsWithinLimits query.now }
         ensures same_loan { self.new.store.disk.ghost_name ≡ self.old.store.disk.ghost_name }
@@ -37,9 +34,9 @@ impl<'d, D: Station> Engine<'d, D> {
         ensures honest { IsTrue D.tells → (state : Contents) → HoldsState (D.world self.old.store.disk.now) state
             → (damage : Damage) → ¬ IsErrOf result (EngineFault.Damaged damage) }
 
-        // The table or the words by number break a rule, as reads give them, or page 0 counts other places.
+        // A page of the log breaks a rule, as reads give it; for a group query a page of the place table or of the words by number, or page 0.
         ensures damaged { IsTrue D.tells → (damage : Damage) → IsErrOf result (EngineFault.Damaged damage)
-            → IsListedDamage (⟦<Store<'d, D> as Pages>⟧.pages self.old.store) self.old.store.current.counted (tables_in self.old.store.current.head) damage }
+            → IsQueryDamage query.now (⟦<Store<'d, D> as Pages>⟧.pages self.old.store) self.old.store.current [] self.new.store.asked.items damage }
         ensures stopped { IsErrOf result EngineFault.Stopped ↔ IsTrue self.old.stopped }
         ensures causes { IfErr result IsReadFault }
         ensures disk { IsErrOf result EngineFault.Disk → Rose (D.world self.old.store.disk.now).faults (D.world self.new.store.disk.now).faults }
@@ -61,31 +58,6 @@ impl<'d, D: Station> Engine<'d, D> {
             return Err(EngineFault::Stopped);
         }
         let head = self.store.head();
-        let rows = list_places(self.alloc, &mut self.store, &tables_of(&head), head.live)?;
-        answer_over(self.alloc, &head, rows, query)
-    }
-}
-
-// The answer to a query over these places, with page 0's serial and update number.
-fn answer_over(
-    alloc: Global,
-    head: &Head,
-    rows: Vec<(Key, Point, Words)>,
-    query: &Query,
-) -> Result<Answer, EngineFault>
-    requires limits { IsWithinLimits query.now }
-    requires few { length rows.items < 2 ^ 32 }
-    ensures answered { IfOk result (λ answer. answer ≡ answer_of (record { places = places_in rows.items; serial = head.now.serial; number = head.now.number }) query.now) }
-    ensures honest { AreStatePlaces rows.items head.now.serial head.now.number → (damage : Damage) → ¬ IsErrOf result (EngineFault.Damaged damage) }
-    ensures damaged { (damage : Damage) → IsErrOf result (EngineFault.Damaged damage) → damage ≡ miscount }
-    ensures causes { IfErr result IsOwnFault }
-{
-    match State::with_places(alloc, head.serial, head.number, rows) {
-        Ok(Some(state)) => match state.answer(query) {
-            Ok(answer) => Ok(answer),
-            Err(_) => Err(EngineFault::Memory),
-        },
-        Ok(None) => Err(EngineFault::Damaged(broken_by_head(Rule::Counts))),
-        Err(_) => Err(EngineFault::Memory),
+        Ok(answer_in(self.alloc, &mut self.store, &head, query)?)
     }
 }

@@ -136,7 +136,7 @@ pub(crate) fn tables_of(head: &Head) -> Tables
 }
 
 // The tree that page 0 names.
-fn tree_of(head: &Head) -> Tree
+pub(crate) fn tree_of(head: &Head) -> Tree
     ensures { result ≡ tree_in head.now }
 {
     Tree {

@@ -19,7 +19,7 @@ use store_tables::Tables;
 use term_impacts::Words;
 
 // The fault of a number of live places that isn't that of the place table.
-fn miscounted() -> PageFault
+pub(crate) fn miscounted() -> PageFault
     ensures { result ≡ PageFault.Damaged miscount }
 {
     PageFault::Damaged(broken_by_head(Rule::Counts))

@@ -159,8 +159,9 @@ fn what_was_applied_stands_after_reopening(rt: HostRuntime) -> Result<(), Fail> 
     Ok(())
 }
 
-// Puts 33 places on a line from west to east, and returns how many splits the policy made before the last of them and after it.
-fn splits_on_a_line(
+// Puts 33 places on a line from west to east, a degree apart, and returns how many splits the policy made before the last of them and
+// after it. Each has the word "x", and t00 is at longitude 0.
+pub(crate) fn splits_on_a_line(
     alloc: Global,
     engine: &mut Engine<'_, MemoryStation>,
 ) -> Result<(u64, u64), Fail>
@@ -168,10 +169,11 @@ fn splits_on_a_line(
 {
     let mut before = engine.splits();
     for x in 0..33u8 {
+        let name = format!(in alloc; "t{x:02}")?;
         let update = Update::Put {
-            key: None,
-            point: Point::new(i32::from(x), 0).ok_or("off the map")?,
-            words: impacts(alloc, "")?,
+            key: Some(key(name.as_str())?),
+            point: Point::new(10_000_000 * i32::from(x), 0).ok_or("off the map")?,
+            words: impacts(alloc, "x")?,
         };
         before = engine.splits();
         engine.apply(&update)?;

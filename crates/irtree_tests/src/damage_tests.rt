@@ -6,14 +6,17 @@ use page_face::{Damage, Rule};
 use std::alloc::Global;
 use std::test::Fail;
 
-// A page of the store: page 0, the root of the places, which is an inner page, its first leaf, the root of the words by number, or
-// the page that the root names where the first byte of that leaf's number is 127.
+// A page of the store: page 0, the root of the places, which is an inner page, its first leaf, the root of the words by number, of the words
+// by text, of the rows of words or of the tree, or the page that the root names where the first byte of that leaf's number is 127.
 #[derive(Clone, Copy)]
 enum Spot {
     Head,
     Root,
     Leaf,
     Numbers,
+    Texts,
+    Rows,
+    Tree,
     Uncounted,
 }
 
@@ -24,25 +27,26 @@ struct Broken {
     byte: u8,
     named: Spot,
     rule: Rule,
-    met: [bool; 4],
+    met: [bool; 5],
 }
 
-// Eight places with two words each: `show` reads a place and its words, `nearest` all of them; an update and a load put another word
-// in their place at the first.
+// Eight places with two words each: `show` reads a place and its words; an update and a load put another word in their place at the first,
+// in the tree too; `top` reads a word's number, the tree and the rows of words; `group` reads all places and their words.
 static STORE: &[u8] =
     b"add p0 1 1 x y\nadd p1 1 1 x y\nadd p2 1 1 x y\nadd p3 1 1 x y\nadd p4 1 1 x y\nadd p5 1 1 x y\nadd p6 1 1 x y\nadd p7 1 1 x y\n";
 
-static ACTIONS: [(&[&str; 2], &[u8]); 4] = [
+static ACTIONS: [(&[&str; 2], &[u8]); 5] = [
     (&["-", "run"], b"show p0\n"),
-    (&["-", "run"], b"nearest 0 0 3\n"),
     (&["-", "run"], b"add p0 2 2 z\n"),
     (
         &["-", "load"],
         b"{\"type\":\"Feature\",\"id\":\"p0\",\"geometry\":{\"type\":\"Point\",\"coordinates\":[1,2]},\"properties\":{\"t\":\"z\"}}",
     ),
+    (&["-", "run"], b"top 0 0 3 500 1 words x\n"),
+    (&["-", "run"], b"group 0 0 words x y\n"),
 ];
 
-static BROKEN: [Broken; 10] = [
+static BROKEN: [Broken; 13] = [
     // The root names a page that isn't counted.
     Broken {
         page: Spot::Root,
@@ -50,7 +54,7 @@ static BROKEN: [Broken; 10] = [
         byte: 127,
         named: Spot::Uncounted,
         rule: Rule::Link,
-        met: [true; 4],
+        met: [true, true, true, false, true],
     },
     // The leaf is of no kind.
     Broken {
@@ -59,7 +63,7 @@ static BROKEN: [Broken; 10] = [
         byte: 9,
         named: Spot::Leaf,
         rule: Rule::Kind,
-        met: [true; 4],
+        met: [true, true, true, false, true],
     },
     // The leaf has no row.
     Broken {
@@ -68,7 +72,7 @@ static BROKEN: [Broken; 10] = [
         byte: 0,
         named: Spot::Leaf,
         rule: Rule::Fill,
-        met: [true; 4],
+        met: [true, true, true, false, true],
     },
     // The leaf's first key is `p9`.
     Broken {
@@ -77,7 +81,7 @@ static BROKEN: [Broken; 10] = [
         byte: b'9',
         named: Spot::Leaf,
         rule: Rule::Order,
-        met: [true; 4],
+        met: [true, true, true, false, true],
     },
     // A spare byte isn't zero.
     Broken {
@@ -86,7 +90,7 @@ static BROKEN: [Broken; 10] = [
         byte: 1,
         named: Spot::Leaf,
         rule: Rule::Spare,
-        met: [true; 4],
+        met: [true, true, true, false, true],
     },
     // The leaf stands on level 1.
     Broken {
@@ -95,7 +99,7 @@ static BROKEN: [Broken; 10] = [
         byte: 1,
         named: Spot::Leaf,
         rule: Rule::Level,
-        met: [true; 4],
+        met: [true, true, true, false, true],
     },
     // The first place stands behind 180 degrees.
     Broken {
@@ -104,7 +108,7 @@ static BROKEN: [Broken; 10] = [
         byte: 127,
         named: Spot::Leaf,
         rule: Rule::Value,
-        met: [true; 4],
+        met: [true, true, true, false, true],
     },
     // The root names page 3, its first leaf, twice, and the second time the leaf's keys are below their separator.
     Broken {
@@ -113,7 +117,7 @@ static BROKEN: [Broken; 10] = [
         byte: 3,
         named: Spot::Leaf,
         rule: Rule::Order,
-        met: [false, true, false, false],
+        met: [false, false, false, false, true],
     },
     // The first word's number isn't that of its text.
     Broken {
@@ -122,7 +126,7 @@ static BROKEN: [Broken; 10] = [
         byte: 0,
         named: Spot::Head,
         rule: Rule::Words,
-        met: [true; 4],
+        met: [true, true, true, false, true],
     },
     // Nine places live.
     Broken {
@@ -131,7 +135,34 @@ static BROKEN: [Broken; 10] = [
         byte: 9,
         named: Spot::Head,
         rule: Rule::Counts,
-        met: [false, true, false, false],
+        met: [false, false, false, false, true],
+    },
+    // The root of the tree is of no kind.
+    Broken {
+        page: Spot::Tree,
+        at: 0,
+        byte: 9,
+        named: Spot::Tree,
+        rule: Rule::Kind,
+        met: [false, true, true, true, false],
+    },
+    // A spare byte of the rows of words isn't zero.
+    Broken {
+        page: Spot::Rows,
+        at: 5,
+        byte: 1,
+        named: Spot::Rows,
+        rule: Rule::Spare,
+        met: [false, true, true, true, false],
+    },
+    // The words by text have no row.
+    Broken {
+        page: Spot::Texts,
+        at: 3,
+        byte: 0,
+        named: Spot::Texts,
+        rule: Rule::Fill,
+        met: [false, true, true, true, false],
     },
 ];
 
@@ -152,6 +183,9 @@ fn page_of(pages: &[u8], spot: Spot) -> Result<u32, Fail> {
         Spot::Root => Ok(root),
         Spot::Leaf => number_at(pages, root, 82),
         Spot::Numbers => number_at(pages, 0, 24),
+        Spot::Texts => number_at(pages, 0, 20),
+        Spot::Rows => number_at(pages, 0, 28),
+        Spot::Tree => number_at(pages, 0, 32),
         Spot::Uncounted => Ok(number_at(pages, root, 82)? | 0x7f00_0000),
     }
 }

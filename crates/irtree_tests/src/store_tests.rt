@@ -61,6 +61,27 @@ fn a_cache_of_pages_spares_reads(rt: HostRuntime) -> Result<(), Fail> {
 }
 
 #[test]
+fn a_query_asked_again_reads_nothing_more(rt: HostRuntime) -> Result<(), Fail> {
+    let empty = MemoryStation::new(rt.alloc(), ROOM);
+    let (ended, loaded) = said_on(rt.alloc(), &LOAD, FOUR, &empty)?;
+    assert!(rt; ended == Ended::Done);
+    for query in [
+        "range 12 55 9 where bar",
+        "box 0 0 90 90",
+        "nearest 12 55 3",
+        "top 12 55 3 500 1 words bar",
+        "group 12 55 words bar ny",
+    ] {
+        let once = format!(in rt.alloc(); "{query}\n")?;
+        let twice = format!(in rt.alloc(); "{query}\n{query}\n")?;
+        let first = reads_with(rt.alloc(), "64", once.as_bytes(), &loaded)?;
+        let both = reads_with(rt.alloc(), "64", twice.as_bytes(), &loaded)?;
+        assert_eq!(rt; first, both);
+    }
+    Ok(())
+}
+
+#[test]
 fn other_bytes_are_no_store(rt: HostRuntime) -> Result<(), Fail> {
     for given in [&RUN, &LOAD] {
         let mut station = MemoryStation::with_image(rt.alloc(), &[120; 4096], &[0, 7], ROOM)?;

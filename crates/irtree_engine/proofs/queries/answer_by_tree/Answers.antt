@@ -1,0 +1,65 @@
+use Rattle.std.proofs.Common.{◌≡◌, ℕ, List, Err, refl, sym, ap, subst, ◌∙◌}
+use Rattle.page_face.specs.FreeList.{PageMap}
+use Rattle.page_face.specs.declared.head.Head.{Head}
+use Rattle.page_face.specs.declared.fault.PageFault.TheVariants.{Damaged}
+use Rattle.place_map.specs.Answer.{answer_of}
+use Rattle.place_map.specs.State.{Contents}
+use Rattle.place_map.specs.declared.hit.Hit.{Hit}
+use Rattle.place_map.specs.declared.query.Query.{Query}
+use Rattle.place_map.specs.declared.query.Query.TheVariants.{Range, Inside, Nearest, Top, Group}
+use Rattle.place_map.specs.declared.query.Answer.{Answer}
+use Rattle.place_map.specs.declared.query.Answer.TheVariants as answers
+use Rattle.node_inverted.specs.declared.roots.Tree.{Tree}
+use Rattle.store_tables.specs.declared.tables.Tables.{Tables}
+use Rattle.store_meaning.specs.Stands.{PagesStand, tables_in}
+use Rattle.tree_answers.specs.Answers.{IsAnswer}
+use Rattle.tree_answers.specs.Damages.{IsAnswerHarm}
+use Rattle.tree_answers.specs.Standing.{RootsStand}
+use Rattle.irtree_engine.specs.Changes.{block_with, tree_in}
+use Rattle.irtree_engine.specs.Queries.{AsksForHits}
+use Rattle.irtree_engine.proofs.queries.answer_by_tree.Goals as goal
+
+-- page 0's fields stand with the tables and the tree that they name
+roots-stand : (pages : PageMap) (count first : ℕ) (head : Head) (tables : Tables) (tree : Tree) (state : Contents) → tables ≡ tables_in head → tree ≡ tree_in head → PagesStand (block_with count first head) pages state → RootsStand pages count first tables tree state
+roots-stand pages count first head tables tree state tables_are tree_is stand = record {
+  block = block_with count first head;
+  stand = stand;
+  count_is = refl;
+  first_is = refl;
+  tables_are = sym tables_are;
+  tree_is = sym tree_is;
+}
+
+-- the answer to a query that asks for hits is its hits
+answer-hits : (query : Query) (answer : Answer) (hits : List Hit) → AsksForHits query → IsAnswer query answer hits → answers.Hits hits ≡ answer
+answer-hits (Range at radius filter) answer hits asks is = sym is
+answer-hits (Inside rect filter) answer hits asks is = sym is
+answer-hits (Nearest at k filter) answer hits asks is = sym is
+answer-hits (Top at k alpha reach words) answer hits asks is = sym is
+answer-hits (Group at words) answer hits asks is = absurd asks
+
+pub returns-in-Ok-clause-answered : goal.returns-in-Ok-clause-answered
+returns-in-Ok-clause-answered g c = λ state stand told.
+    let P = g.P.Pages in
+    let old = c.args.pages.now in
+    let query = c.args.query.now in
+    let roots = roots-stand (P.pages old) (P.count old) (P.first old) c.args.head.now c.tables_of-tables.result c.tree_of-tree.result state c.tables_of-tables.ensures c.tree_of-tree.ensures stand in
+    ap (λ (hits : List Hit). answers.Hits hits) c.from_vec.ensures ∙ answer-hits query (answer_of state query) c.in-Ok.found.items c.requires.hits (c.in-Ok.ensures.answered state roots told)
+
+pub returns-in-Err-clause-honest : goal.returns-in-Err-clause-honest
+returns-in-Err-clause-honest g c = λ state stand told damage.
+    let P = g.P.Pages in
+    let old = c.args.pages.now in
+    let roots = roots-stand (P.pages old) (P.count old) (P.first old) c.args.head.now c.tables_of-tables.result c.tree_of-tree.result state c.tables_of-tables.ensures c.tree_of-tree.ensures stand in
+    λ e. (let same : c.in-Err.fault ≡ Damaged damage = cc e in c.in-Err.ensures.honest state roots told damage (ap Err same))
+
+pub returns-in-Err-clause-damaged : goal.returns-in-Err-clause-damaged
+returns-in-Err-clause-damaged g c = λ told damage is.
+    let P = g.P.Pages in
+    let old = c.args.pages.now in
+    let before : List ℕ = P.asked old in
+    let after : List ℕ = P.asked c.hits.new.pages in
+    let same : c.in-Err.fault ≡ Damaged damage = cc is in
+    subst (λ (tables : Tables). IsAnswerHarm (P.pages old) (P.count old) tables (tree_in c.args.head.now) before after damage) c.tables_of-tables.ensures
+    (subst (λ (tree : Tree). IsAnswerHarm (P.pages old) (P.count old) c.tables_of-tables.result tree before after damage) c.tree_of-tree.ensures
+    (c.in-Err.ensures.damaged told damage (ap Err same)))
