@@ -5,7 +5,6 @@ use crate::Engine;
 use crate::tests::splits_on_a_line;
 use disk_model::MemoryStation;
 use page_face::Pages;
-use page_store::Store;
 use place_map::{Answer, Query, Weights};
 use rtree_nodes::child_at;
 use spatial_base::Point;
@@ -24,11 +23,11 @@ struct Nodes {
 }
 
 // The nodes of a tree that was split once: the root's first slot has the node that was split, which kept the places in the west.
-fn nodes_of(store: &mut Store<'_, MemoryStation>) -> Result<Nodes, Fail>
-    ensures { store.new.disk.ghost_name ≡ store.old.disk.ghost_name }
+fn nodes_of(engine: &mut Engine<'_, MemoryStation>) -> Result<Nodes, Fail>
+    ensures { engine.new.store.disk.ghost_name ≡ engine.old.store.disk.ghost_name }
 {
-    let root = store.head().tree;
-    let page = store.read(root)?;
+    let root = engine.store.head().tree;
+    let page = engine.store.read(root)?;
     Ok(Nodes {
         root,
         west: child_at(&page, 0),
@@ -101,7 +100,7 @@ fn searches_on_a_line(
     ensures { engine.new.store.disk.ghost_name ≡ engine.old.store.disk.ghost_name }
 {
     splits_on_a_line(alloc, engine)?;
-    let nodes = nodes_of(&mut engine.store)?;
+    let nodes = nodes_of(engine)?;
     Ok([
         searched(alloc, engine, nodes, &nearest_three()?)?,
         searched(alloc, engine, nodes, &top_three(alloc, "x")?)?,
