@@ -1,10 +1,9 @@
 -- An entry of a tree gives to a word what the place that it stands for does.
-use Rattle.std.proofs.Common.{◌≡◌, ℕ, nat_lt, if◌then◌else◌, Bool, List, [], ◌∷◌, ap}
+use Rattle.std.proofs.Common.{◌≡◌, ℕ, nat_lt, if◌then◌else◌, List, [], ◌∷◌, ap}
 use Rattle.spatial_base.specs.Key.{Name, IsName, form_of}
 use Rattle.spatial_base.specs.Point.{Position, IsOnMap, distance}
 use Rattle.term_impacts.specs.Pairs.{impact_in}
 use Rattle.place_map.specs.declared.place.Place.{Place}
-use Rattle.place_map.specs.declared.query.Pick.{Pick}
 use Rattle.place_map.specs.Filter.{has_word}
 use Rattle.place_map.specs.Group.{pick_of, word_picks}
 use Rattle.rtree_shape.specs.Slots.{Item}

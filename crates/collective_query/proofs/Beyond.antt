@@ -1,17 +1,18 @@
 -- Picks that lie farther than the best choice costs: no choice that has one comes before it.
-use Rattle.std.proofs.Common.{◌≡◌, ℕ, zero, suc, ◌+◌, ◌<◌, ◌≤◌, false, List, [], ◌∷◌, ◌++◌, take, drop, length, get_or, Vec, Option, Some, refl, sym, ap, subst, ◌∙◌, arith}
+use Rattle.std.proofs.Common.{◌≡◌, ℕ, zero, suc, ◌<◌, ◌≤◌, false, List, [], ◌∷◌, ◌++◌, take, drop, length, get_or, Vec, Some, sym, ap, subst, ◌∙◌, arith}
 use Rattle.std.proofs.lemmas.List.{append_assoc, take-append-drop}
 use Rattle.std.proofs.lemmas.List.Concat.{flat_map-append}
-use Rattle.std.specs.List.{AllByRecursion, flat_map}
+use Rattle.std.specs.List.{AllByRecursion}
 use Rattle.std.specs.Cmp.{nat_cmp_is}
 use Rattle.std.specs.Cmp.Lexicographic.{slice_cmp}
-use Rattle.std.specs.Ordering.{nat_cmp, ordering_then, is_lt}
-use Rattle.std.specs.declared.cmp.Ordering.TheVariants.{Less, Equal, Greater}
+use Rattle.std.specs.Ordering.{ordering_then}
+use Rattle.std.specs.declared.cmp.Ordering.TheVariants.{Greater}
 use Rattle.std.specs.declared.alloc.Global.{Global}
+use Rattle.best_first.proofs.Lists.{all_append}
 use Rattle.spatial_base.specs.Point.{Position, distance}
 use Rattle.place_map.specs.declared.query.Pick.{Pick}
 use Rattle.place_map.specs.declared.query.Chosen.{Chosen}
-use Rattle.place_map.specs.Group.{product, farthest, choice_cost, choice_cmp, pick_cmp, is_cheaper, least_of}
+use Rattle.place_map.specs.Group.{product, choice_cost, choice_cmp, pick_cmp, is_cheaper, least_of}
 use Rattle.place_map.specs.GroupLaws.{gone_on, fronted_product, least_kept, least_cost, all_hopeless}
 use Rattle.place_map.specs.Search.{lists_in, fronted}
 use Rattle.collective_query.specs.Picks.{Ascends, AreSorted}
@@ -32,12 +33,8 @@ beyond-each : (at : Position) (front best : List Pick) (others : List (List Pick
     → AllByRecursion (λ choice. is_cheaper at choice best ≡ false) (gone_on front others picks)
 beyond-each at front best others [] beyond = tt
 beyond-each at front best others (pick ∷ picks) beyond =
-    all-append (λ choice. is_cheaper at choice best ≡ false) (fronted (front ++ pick ∷ []) (product others)) (gone_on front others picks)
+    all_append (λ choice. is_cheaper at choice best ≡ false) (fronted (front ++ pick ∷ []) (product others)) (gone_on front others picks)
     (beyond-all at front best pick (product others) beyond.0) (beyond-each at front best others picks beyond.1)
-  where
-    all-append : (P : List Pick → Type 0) (xs ys : List (List Pick)) → AllByRecursion P xs → AllByRecursion P ys → AllByRecursion P (xs ++ ys)
-    all-append P [] ys h k = k
-    all-append P (x ∷ xs) ys h k = (h.0, all-append P xs ys h.1 k)
 
 -- from the first pick beyond a distance on all are
 beyond-behind : (at : Position) (most : ℕ) (picks : List Pick) (i : ℕ) (d : Pick) → i < length picks → most < (get_or picks i d).dist → AllByRecursion (λ (pick : Pick). pick.dist ≡ distance at pick.point) picks → Ascends picks

@@ -1,16 +1,16 @@
 -- The least choice lies in lists that are cut at the cost of a choice.
-use Rattle.std.proofs.Common.{◌≡◌, ℕ, ◌+◌, ◌<◌, ◌≤◌, max, false, List, [], ◌∷◌, ◌++◌, Option, Some, sym, ap, subst, ◌∙◌, arith, ⊎_elim}
+use Rattle.std.proofs.Common.{◌≡◌, ℕ, ◌<◌, ◌≤◌, false, List, [], ◌∷◌, ◌++◌, Some, sym, ap, ◌∙◌, arith, ⊎_elim}
 use Rattle.std.proofs.lemmas.Bool.{cases_lt}
-use Rattle.std.proofs.lemmas.List.Elements.{Contains-append_left, Contains-append_right}
+use Rattle.std.proofs.lemmas.List.Elements.{Contains-append_left, Contains-append_right, Contains-append_cases}
 use Rattle.std.specs.List.{AllByRecursion, Contains}
 use Rattle.std.specs.Ordering.{is_lt}
-use Rattle.best_first.proofs.Lists.{all_weaker, all_append}
-use Rattle.spatial_base.specs.Point.{Position, distance}
+use Rattle.best_first.proofs.Lists.{all_in, all_weaker}
+use Rattle.spatial_base.specs.Point.{Position}
 use Rattle.place_map.specs.declared.query.Pick.{Pick}
 use Rattle.place_map.specs.declared.query.Chosen.{Chosen}
-use Rattle.place_map.specs.Group.{product, farthest, diameter, choice_cost, is_cheaper, least_of}
+use Rattle.place_map.specs.Group.{product, farthest, choice_cost, is_cheaper, least_of}
 use Rattle.place_map.specs.GroupLaws.{choices_linear, least_cost}
-use Rattle.collective_query.specs.Choices.{IsChoice, IsCut, AreCut}
+use Rattle.collective_query.specs.Choices.{IsChoice, AreCut}
 use Rattle.collective_query.proofs.Beyond.{dearer-after}
 use Rattle.collective_query.proofs.Costs.{farthest-cons}
 use Rattle.collective_query.proofs.Least.{costed, least-among, least-first, least-some, least-is}
@@ -35,27 +35,54 @@ near-choice at most (l ∷ lists) (c ∷ cuts) (pick ∷ picks) cut is near =
     let far = farthest-cons at pick picks in
     (cut.0.near pick is.0 (omega arith), near-choice at most lists cuts picks cut.1 is.1 (omega arith))
 
+-- the least of some choices has its own cost
+own-cost : (at : Position) (choices : List (List Pick)) (found : Chosen) → least_of at choices ≡ Some found → Some found ≡ Some (costed at found.picks)
+own-cost at choices found is = let own = least_cost at choices found is in λ i. Some record { cost = own i; picks = found.picks }
+
+-- Choices that cost more than one that was tried needn't be searched.
+pub fewer-least : (at : Position) (tried some all : List (List Pick)) (best : Chosen) → Some best ≡ least_of at tried → ((choice : List Pick) → Contains some choice → Contains all choice)
+    → ((choice : List Pick) → Contains all choice → choice_cost at choice ≤ best.cost → Contains some choice) → least_of at (tried ++ some) ≡ least_of at (tried ++ all)
+fewer-least at tried some all best was own cheap =
+    let whole : List (List Pick) = tried ++ some in
+    let more : List (List Pick) = tried ++ all in
+    let best_among : Contains whole best.picks = Contains-append_left tried some best.picks (least-among at tried best (sym was)) in
+    let least = least-some at whole best.picks best_among in
+    let found : Chosen = least.0 in
+    let first = least-first at whole found least.1 in
+    let not_before : (choice : List Pick) → Contains whole choice → is_cheaper at choice found.picks ≡ false = λ choice c. all-among (λ picks. is_cheaper at picks found.picks ≡ false) whole choice first c in
+    let among : Contains more found.picks = ⊎_elim (λ (c : Contains tried found.picks). Contains-append_left tried all found.picks c) (λ (c : Contains some found.picks). Contains-append_right tried all found.picks (own found.picks c))
+    (Contains-append_cases tried some found.picks (least-among at whole found least.1)) in
+    let none_before : (choice : List Pick) → Contains more choice → is_cheaper at choice found.picks ≡ false = λ choice c. ⊎_elim
+    (λ (here : Contains tried choice). not_before choice (Contains-append_left tried some choice here))
+    (λ (there : Contains all choice). ⊎_elim
+    (λ (dear : best.cost < choice_cost at choice).
+    let costs = least_cost at tried best (sym was) in
+    (choices_linear at).chain found.picks best.picks choice (not_before best.picks best_among) (ap is_lt (dearer-after at choice best.picks (omega arith))))
+    (λ (near : choice_cost at choice ≤ best.cost). not_before choice (Contains-append_right tried some choice (cheap choice there near)))
+    (cases_lt best.cost (choice_cost at choice)))
+    (Contains-append_cases tried all choice c) in
+    least.1 ∙ own-cost at whole found least.1 ∙ sym (least-is at more found.picks among (all_weaker (Contains more) (λ choice. is_cheaper at choice found.picks ≡ false) none_before more (all_in more)))
+
+-- choices that are tried twice count once
+within-least : (at : Position) (tried all : List (List Pick)) (picks : List Pick) → Contains tried picks → ((choice : List Pick) → Contains tried choice → Contains all choice) → least_of at (tried ++ all) ≡ least_of at all
+within-least at tried all picks c own =
+    let whole : List (List Pick) = tried ++ all in
+    let least = least-some at whole picks (Contains-append_left tried all picks c) in
+    let found : Chosen = least.0 in
+    let first = least-first at whole found least.1 in
+    let among : Contains all found.picks = ⊎_elim (λ (here : Contains tried found.picks). own found.picks here) (λ (there : Contains all found.picks). there) (Contains-append_cases tried all found.picks (least-among at whole found least.1)) in
+    least.1 ∙ own-cost at whole found least.1
+    ∙ sym (least-is at all found.picks among
+    (all_weaker (Contains all) (λ choice. is_cheaper at choice found.picks ≡ false)
+    (λ choice there. all-among (λ picks. is_cheaper at picks found.picks ≡ false) whole choice first (Contains-append_right tried all choice there)) all (all_in all)))
+
 -- The least of some choices that were tried and of all of the cut lists is the least of all, where the lists are cut at what the best that
 -- was tried costs.
 pub cut-least : (at : Position) (lists cuts tried : List (List Pick)) (best : Chosen) → AllByRecursion (IsChoice lists) tried → Some best ≡ least_of at tried → AreCut at best.cost lists cuts
     → least_of at (tried ++ product cuts) ≡ least_of at (product lists)
 cut-least at lists cuts tried best each was cut =
-    let whole : List (List Pick) = tried ++ product cuts in
-    let best_among : Contains whole best.picks = Contains-append_left tried (product cuts) best.picks (least-among at tried best (sym was)) in
-    let least = least-some at whole best.picks best_among in
-    let found : Chosen = least.0 in
-    let first = least-first at whole found least.1 in
-    let choices : AllByRecursion (IsChoice lists) whole =
-    all_append (IsChoice lists) tried (product cuts) each (all_weaker (IsChoice cuts) (IsChoice lists) (λ choice is. cut-choice at best.cost lists cuts choice cut is) (product cuts) (all-choices cuts)) in
-    let is : IsChoice lists found.picks = all-among (IsChoice lists) whole found.picks choices (least-among at whole found least.1) in
-    let none_before : (choice : List Pick) → IsChoice lists choice → is_cheaper at choice found.picks ≡ false = λ choice one. ⊎_elim
-    (λ (beyond : best.cost < farthest at choice).
-    let costs = least_cost at tried best (sym was) in
-    (choices_linear at).chain found.picks best.picks choice (all-among (λ picks. is_cheaper at picks found.picks ≡ false) whole best.picks first best_among)
-    (ap is_lt (dearer-after at choice best.picks (omega arith))))
-    (λ (near : farthest at choice ≤ best.cost).
-    all-among (λ picks. is_cheaper at picks found.picks ≡ false) whole choice first (Contains-append_right tried (product cuts) choice (choice-among cuts choice (near-choice at best.cost lists cuts choice cut one near))))
-    (cases_lt best.cost (farthest at choice)) in
-    let all = least-is at (product lists) found.picks (choice-among lists found.picks is) (all_weaker (IsChoice lists) (λ choice. is_cheaper at choice found.picks ≡ false) none_before (product lists) (all-choices lists)) in
-    let own = least_cost at whole found least.1 in
-    least.1 ∙ (λ i. Some record { cost = own i; picks = found.picks }) ∙ sym all
+    let own : (choice : List Pick) → IsChoice lists choice → Contains (product lists) choice = choice-among lists in
+    fewer-least at tried (product cuts) (product lists) best was
+    (λ choice c. own choice (cut-choice at best.cost lists cuts choice cut (all-among (IsChoice cuts) (product cuts) choice (all-choices cuts) c)))
+    (λ choice c cheap. choice-among cuts choice (near-choice at best.cost lists cuts choice cut (all-among (IsChoice lists) (product lists) choice (all-choices lists) c) (omega arith)))
+    ∙ within-least at tried (product lists) best.picks (least-among at tried best (sym was)) (λ choice c. own choice (all-among (IsChoice lists) tried choice each c))

@@ -1,5 +1,5 @@
 -- The least of some choices, by what it is compared with.
-use Rattle.std.proofs.Common.{◌≡◌, true, false, List, [], ◌∷◌, take, Option, Some, None, refl, sym, subst, ◌∙◌, ap, ⊎_elim}
+use Rattle.std.proofs.Common.{◌≡◌, true, false, List, [], ◌∷◌, take, Some, refl, subst, ap, ⊎_elim}
 use Rattle.std.proofs.lemmas.Bool.{cases_Bool}
 use Rattle.std.specs.List.{AllByRecursion, Contains}
 use Rattle.ranking.specs.First.{ranked, IsRanked}

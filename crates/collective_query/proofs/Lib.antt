@@ -7,3 +7,4 @@ pub mod Cuts
 pub mod Searches
 pub mod TreePicks
 pub mod Agreements
+pub mod Joins

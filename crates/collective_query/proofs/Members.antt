@@ -1,5 +1,5 @@
 -- What is in a list that is put together, and in a list in order.
-use Rattle.std.proofs.Common.{◌≡◌, ◌⊎◌, ℕ, zero, suc, ◌<◌, Bool, true, false, List, [], ◌∷◌, ◌++◌, map, length, refl, subst, sym, ap, inl, inr, ⊎_elim, arith}
+use Rattle.std.proofs.Common.{◌≡◌, ◌⊎◌, zero, suc, Bool, true, false, List, [], ◌∷◌, map, refl, subst, sym, inl, inr, ⊎_elim, arith}
 use Rattle.std.proofs.lemmas.Bool.{cases_Bool}
 use Rattle.std.proofs.lemmas.List.Elements.{Contains-append_left, Contains-append_right, All-contains, All-from_recursion}
 use Rattle.std.specs.List.{AllByRecursion, Contains, flat_map}
@@ -43,6 +43,16 @@ contains-map f (z ∷ xs) x c = ⊎_elim
     (λ (same : z ≡ x). subst (λ w. Contains (f z ∷ map f xs) (f w)) same (contains-here (f z) (map f xs)))
     (λ (later : Contains xs x). contains-later (f z) (map f xs) (f x) (contains-map f xs x later))
     (contains-cases z xs x c)
+
+-- what holds of what each becomes holds of all that they become
+pub map-all : {X Y : Type 0} (P : Y → Type 0) (f : X → Y) (xs : List X) → AllByRecursion (λ x. P (f x)) xs → AllByRecursion P (map f xs)
+map-all P f [] all = tt
+map-all P f (x ∷ xs) all = (all.0, map-all P f xs all.1)
+
+-- and the other way round
+pub all-map : {X Y : Type 0} (P : Y → Type 0) (f : X → Y) (xs : List X) → AllByRecursion P (map f xs) → AllByRecursion (λ x. P (f x)) xs
+all-map P f [] all = tt
+all-map P f (x ∷ xs) all = (all.0, all-map P f xs all.1)
 
 module _ {X : Type 0} {before : X → X → Bool} (o : IsLinear before) where
   -- what holds of all holds of them in order

@@ -1,5 +1,5 @@
 -- A product has just the choices of one member of each list.
-use Rattle.std.proofs.Common.{ℕ, ◌+◌, sum_by, arith, ◌∙◌, ◌≡◌, List, [], ◌∷◌, ◌++◌, map, refl, subst, ⊎_elim}
+use Rattle.std.proofs.Common.{ℕ, sum_by, arith, ◌∙◌, ◌≡◌, List, [], ◌∷◌, ◌++◌, map, refl, subst, ⊎_elim}
 use Rattle.std.proofs.lemmas.List.Sums.{sum_by-cons, sum_by-append}
 use Rattle.std.specs.List.{AllByRecursion, Contains, flat_map}
 use Rattle.ranking.specs.Members.{SameMembers, flat_map_same}

@@ -1,5 +1,5 @@
 -- Several searches of a tree, one after another.
-use Rattle.std.proofs.Common.{◌≡◌, ℕ, List, [], ◌++◌, ◌∙◌, append_assoc, append-nil, ap, subst, sym, refl, Result, Ok, Err, arith, inl, inr, ⊎_elim}
+use Rattle.std.proofs.Common.{◌≡◌, ℕ, List, [], ◌++◌, ◌∙◌, append_assoc, append-nil, ap, subst, sym, Result, Ok, Err, arith, inl, inr, ⊎_elim}
 use Rattle.std.specs.Prelude.{IsErrOf, IfOk, OnOk}
 use Rattle.page_face.specs.FreeList.{PageMap}
 use Rattle.page_face.specs.Calls.{FailsReading}
@@ -14,7 +14,6 @@ use Rattle.btree_nodes.proofs.Walks.{same-fault}
 use Rattle.node_inverted.specs.declared.roots.Tree.{Tree}
 use Rattle.node_inverted.proofs.Faults.{reads-none}
 use Rattle.best_first.proofs.Logs.{asked_sooner}
-use Rattle.tree_ranking.specs.Fits.{FitsTree}
 use Rattle.tree_ranking.specs.Harms.{IsHarm}
 use Rattle.boolean_queries.specs.Harms.{IsQueryHarm}
 use Rattle.boolean_queries.proofs.Histories.{harm-sooner}

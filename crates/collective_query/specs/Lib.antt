@@ -1,4 +1,5 @@
 pub mod Choices
+pub mod Joins
 pub mod Picks
 pub mod TreePicks
 pub mod Tried

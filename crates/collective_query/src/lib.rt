@@ -4,10 +4,12 @@
 //! A choice has a place for each word. It costs the greatest distance to the point plus the greatest distance between two of its places. Two
 //! choices of near places are tried first: the places nearest to the point, and those nearest to the farthest of these. No place that is farther
 //! from the point than the better of the two costs can be in a choice that costs less, so the places at most so far away that hold a word are
-//! the candidates for it. All choices of candidates are searched, but for those that begin like one that costs too much already.
+//! the candidates for it. Those that can't be in so cheap a choice with any candidate for the rarest word are dropped. All choices of the
+//! others are searched, but for those that begin like one that costs too much already.
 #![tactic(auto)]
 
 mod candidates;
+mod joining;
 mod nearest;
 mod picks;
 mod query;

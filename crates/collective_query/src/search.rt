@@ -10,6 +10,7 @@ ghost use Rattle.place_map.specs.Group.{product, farthest, diameter, choice_cost
 ghost use Rattle.place_map.specs.Search.{lists_in, fronted};
 ghost use Rattle.collective_query.specs.Picks.{AreNear, AreSorted};
 
+use crate::joining::joined_lists;
 use place_map::{Chosen, Pick, Picks};
 use spatial_base::{Point, dist};
 use std::alloc::{AllocError, Global};
@@ -108,6 +109,8 @@ fn extend(
 }
 
 /// Leaves the least of the best choice so far and all choices of one pick of each list. The lists are sorted by distance.
+///
+/// Drops first the picks that can't be in a choice of the best one's cost with any pick of the shortest list.
 pub(crate) fn least_choice(
     alloc: Global,
     lists: &[Vec<Pick>],
@@ -117,6 +120,7 @@ pub(crate) fn least_choice(
     ensures { OnOk result ((at : Position) → AllByRecursion (λ (list : Vec Pick Global). AreSorted at list.items) lists.now → (tried : List (List Pick)) → Some best.old ≡ least_of at tried
         → Some best.new ≡ least_of at (tried ++ product (lists_in lists.now))) }
 {
+    let kept = joined_lists(alloc, lists, best.cost)?;
     let mut front = Vec::new(alloc);
-    extend(alloc, lists, &mut front, 0, 0, best)
+    extend(alloc, &kept, &mut front, 0, 0, best)
 }

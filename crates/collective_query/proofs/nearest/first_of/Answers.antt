@@ -1,9 +1,7 @@
-use Rattle.std.proofs.Common.{◌≡◌, ℕ, ◌∙◌, List, Vec, Global, Some, Result, Ok, Err, inr, sym, subst}
+use Rattle.std.proofs.Common.{◌≡◌, ℕ, ◌∙◌, List, Vec, Global, Some, inr, sym, subst}
 use Rattle.std.specs.List.{flat_map}
-use Rattle.std.specs.Prelude.{IfOk, OnOk}
 use Rattle.page_face.specs.FreeList.{PageMap}
 use Rattle.ranking.specs.First.{first}
-use Rattle.best_first.specs.Openings.{Opened}
 use Rattle.place_map.specs.declared.hit.Hit.{Hit}
 use Rattle.place_map.specs.Hit.{comes_before}
 use Rattle.node_inverted.specs.declared.roots.Tree.{Tree}

@@ -1,4 +1,4 @@
-use Rattle.std.proofs.Common.{◌≡◌, ◌+◌, ◌<◌, ◌++◌, ◌∷◌, [], ◌∙◌, ℕ, List, ap, sym, subst, arith, take, length, map}
+use Rattle.std.proofs.Common.{◌≡◌, ◌+◌, ◌++◌, ◌∷◌, [], ◌∙◌, ℕ, List, ap, sym, subst, take, map}
 use Rattle.std.proofs.lemmas.List.{map-append, take_more}
 use Rattle.std.proofs.lemmas.List.Elements.{Contains-get_or}
 use Rattle.std.specs.List.{Contains}
@@ -9,7 +9,7 @@ use Rattle.collective_query.specs.Choices.{IsChoice}
 use Rattle.collective_query.specs.TreePicks.{tree_picks, pick_from}
 use Rattle.collective_query.proofs.Members.{contains-map}
 use Rattle.collective_query.proofs.Products.{choice-push, product-none}
-use Rattle.collective_query.proofs.Searches.{searches-give, searches-memory, searches-ok, searches-refused, searches-then}
+use Rattle.collective_query.proofs.Searches.{searches-give, searches-memory, searches-refused, searches-then}
 use Rattle.collective_query.proofs.TreePicks.{none-nearest, one-nearest}
 use Rattle.collective_query.proofs.nearest.nearest_each.Goals as goal
 

@@ -1,4 +1,4 @@
-use Rattle.std.proofs.Common.{◌≡◌, ◌++◌, ◌∷◌, [], ◌∙◌, ℕ, List, Some, None, ap, sym, subst, map}
+use Rattle.std.proofs.Common.{◌∷◌, [], ◌∙◌, ℕ, List, Some, None, ap, sym, subst, map}
 use Rattle.page_face.specs.FreeList.{PageMap}
 use Rattle.place_map.specs.declared.query.Pick.{Pick}
 use Rattle.place_map.specs.Group.{choice_cost, least_of}

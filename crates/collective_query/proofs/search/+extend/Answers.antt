@@ -9,7 +9,7 @@ use Rattle.place_map.specs.declared.query.Pick.{Pick}
 use Rattle.place_map.specs.Group.{pick_cmp, product}
 use Rattle.place_map.specs.Search.{lists_in}
 use Rattle.place_map.specs.GroupLaws.{gone_on, tried_more, all_tried, popped, hopeless_kept}
-use Rattle.collective_query.specs.Picks.{AreSorted, AreNear}
+use Rattle.collective_query.specs.Picks.{AreSorted}
 use Rattle.collective_query.proofs.Costs.{far-pushed, wide-pushed, front-cost}
 use Rattle.collective_query.proofs.Beyond.{rest-beyond}
 use Rattle.collective_query.proofs.search.+extend.Goals as goal

@@ -1,4 +1,4 @@
-use Rattle.std.proofs.Common.{◌≡◌, ◌≤◌, List, Some, Vec, ◌++◌, take, length}
+use Rattle.std.proofs.Common.{◌≡◌, List, Some, Vec, ◌++◌, take, length}
 use Rattle.std.specs.List.{AllByRecursion}
 use Rattle.std.specs.declared.alloc.Global.{Global}
 use Rattle.spatial_base.specs.Point.{Position}
