@@ -1,12 +1,11 @@
 pub mod Batches
 pub mod Commits
-pub mod Damages
 pub mod Dues
 pub mod Effects
 pub mod Heads
-pub mod Listings
 pub mod Logs
 pub mod Named
 pub mod Openings
+pub mod Roots
 pub mod Standing
 pub mod Trees

@@ -28,12 +28,6 @@ IsReadFault Stopped = Unit {0}
 IsReadFault Memory = Unit {0}
 IsReadFault _ = ⊥
 
--- what an answer over places that were read may be refused for
-abbrev pub IsOwnFault : PageFault → Type 0
-IsOwnFault (pages.Damaged damage) = Unit {0}
-IsOwnFault pages.Memory = Unit {0}
-IsOwnFault _ = ⊥
-
 -- what settling may be refused for
 abbrev pub IsSettleFault : EngineFault → Type 0
 IsSettleFault Disk = Unit {0}

@@ -2,7 +2,6 @@ pub mod Changes
 pub mod Damages
 pub mod Faults
 pub mod Holding
-pub mod Listing
 pub mod Opening
 pub mod Queries
 pub mod Updates

@@ -8,6 +8,7 @@ ghost use Rattle.place_map.specs.State.{Contents};
 ghost use Rattle.irtree_engine.specs.Damages.{IsQueryDamage};
 ghost use Rattle.irtree_engine.specs.Holding.{HoldsState};
 ghost use Rattle.irtree_engine.specs.Faults.{IsReadFault};
+ghost use Rattle.irtree_engine.specs.Queries.{IsFoundByFew};
 
 use crate::queries::answer_in;
 use crate::{Engine, EngineFault};
@@ -17,15 +18,14 @@ use page_store::Store;
 use place_map::{Answer, Query};
 
 impl<'d, D: Station> Engine<'d, D> {
-    /// Returns the answer to a query over the places of the state. A range, box, nearest or top query is answered by the tree, and a group
-    /// query by a scan of the place table.
+    /// Returns the answer to a query over the places of the state. The tree answers it, and no call of it reads the place table.
     ///
     /// Refuses `Stopped` exactly where an earlier commit of this engine failed, before all else; `Disk`; `Damaged`, never where
     /// the image stands for a state; `Memory`.
     ///
     /// By the tree it looks at one page a level of the words by text for each word of the query. Then it opens the nodes that may hold an
     /// answer: each costs a look at its page and, for each word of the query that the store knows, at one page a level of the rows of
-    /// words. A group query looks at the whole place table, and for each word of each place at one page a level of the words by number.
+    /// words. A group query makes three searches for each of its words.
     pub fn answer(&mut self, query: &Query) -> Result<Answer, EngineFault>
         requires { IsWithinLimits query.now }
         ensures same_loan { self.new.store.disk.ghost_name ≡ self.old.store.disk.ghost_name }
@@ -34,9 +34,13 @@ impl<'d, D: Station> Engine<'d, D> {
         ensures honest { IsTrue D.tells → (state : Contents) → HoldsState (D.world self.old.store.disk.now) state
             → (damage : Damage) → ¬ IsErrOf result (EngineFault.Damaged damage) }
 
-        // A page of the log breaks a rule, as reads give it; for a group query a page of the place table or of the words by number, or page 0.
+        // Few nodes were opened for hits: each page of the log is one of the words by text or of the rows of words, or a node that the query calls for.
+        ensures opened { IsTrue D.tells → (state : Contents) → HoldsState (D.world self.old.store.disk.now) state
+            → IfOk result (IsFoundByFew (⟦<Store<'d, D> as Pages>⟧.pages self.old.store) self.old.store.current query.now [] self.new.store.asked.items) }
+
+        // A page of the log breaks a rule, as reads give it.
         ensures damaged { IsTrue D.tells → (damage : Damage) → IsErrOf result (EngineFault.Damaged damage)
-            → IsQueryDamage query.now (⟦<Store<'d, D> as Pages>⟧.pages self.old.store) self.old.store.current [] self.new.store.asked.items damage }
+            → IsQueryDamage (⟦<Store<'d, D> as Pages>⟧.pages self.old.store) self.old.store.current [] self.new.store.asked.items damage }
         ensures stopped { IsErrOf result EngineFault.Stopped ↔ IsTrue self.old.stopped }
         ensures causes { IfErr result IsReadFault }
         ensures disk { IsErrOf result EngineFault.Disk → Rose (D.world self.old.store.disk.now).faults (D.world self.new.store.disk.now).faults }

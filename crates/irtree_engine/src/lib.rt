@@ -8,9 +8,8 @@
 //! the last call asked for.
 //!
 //! Beside the place table the store keeps an R-tree with one entry for each place, which the same commit changes. It grows under the
-//! policy that the engine was handed, a box of any `SplitPolicy`; [`Engine::set_policy`] hands it another. Range, box, nearest and
-//! top queries are answered by the tree, and group queries by a scan of the place table; the policy decides how much of the tree a query
-//! looks at, and no answer.
+//! policy that the engine was handed, a box of any `SplitPolicy`; [`Engine::set_policy`] hands it another. Queries are
+//! answered by the tree; the policy decides how much of the tree a query looks at, and no answer.
 //!
 //! After a refusal the map is as before. A commit that fails stops the engine: from then on each call that reads or changes places
 //! answers `Stopped`, and the store is to be opened again.
@@ -24,7 +23,6 @@ mod change;
 mod engine;
 mod fault;
 mod opening;
-mod places;
 mod queries;
 mod reading;
 #[cfg(test)]

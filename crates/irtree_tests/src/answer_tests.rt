@@ -28,15 +28,15 @@ static SHARES: [&str; 4] = ["0", "300", "500", "1000"];
 
 static REACHES: [&str; 4] = ["0.0000001", "1", "50", "402.4922359"];
 
-// Numbers that follow from a seed, by a linear congruence.
+/// Numbers that follow from a seed, by a linear congruence.
 #[derive(Drop)]
-struct Dice {
-    seed: u64,
+pub(crate) struct Dice {
+    pub(crate) seed: u64,
 }
 
 impl Dice {
-    // The next number below this one.
-    fn below(&mut self, most: u32) -> u32
+    /// The next number below this one.
+    pub(crate) fn below(&mut self, most: u32) -> u32
         requires { 0 < most }
         ensures { result < most }
     {

@@ -31,7 +31,7 @@ struct Broken {
 }
 
 // Eight places with two words each: `show` reads a place and its words; an update and a load put another word in their place at the first,
-// in the tree too; `top` reads a word's number, the tree and the rows of words; `group` reads all places and their words.
+// in the tree too; `top` and `group` read a word's number, the tree and the rows of words.
 static STORE: &[u8] =
     b"add p0 1 1 x y\nadd p1 1 1 x y\nadd p2 1 1 x y\nadd p3 1 1 x y\nadd p4 1 1 x y\nadd p5 1 1 x y\nadd p6 1 1 x y\nadd p7 1 1 x y\n";
 
@@ -54,7 +54,7 @@ static BROKEN: [Broken; 13] = [
         byte: 127,
         named: Spot::Uncounted,
         rule: Rule::Link,
-        met: [true, true, true, false, true],
+        met: [true, true, true, false, false],
     },
     // The leaf is of no kind.
     Broken {
@@ -63,7 +63,7 @@ static BROKEN: [Broken; 13] = [
         byte: 9,
         named: Spot::Leaf,
         rule: Rule::Kind,
-        met: [true, true, true, false, true],
+        met: [true, true, true, false, false],
     },
     // The leaf has no row.
     Broken {
@@ -72,7 +72,7 @@ static BROKEN: [Broken; 13] = [
         byte: 0,
         named: Spot::Leaf,
         rule: Rule::Fill,
-        met: [true, true, true, false, true],
+        met: [true, true, true, false, false],
     },
     // The leaf's first key is `p9`.
     Broken {
@@ -81,7 +81,7 @@ static BROKEN: [Broken; 13] = [
         byte: b'9',
         named: Spot::Leaf,
         rule: Rule::Order,
-        met: [true, true, true, false, true],
+        met: [true, true, true, false, false],
     },
     // A spare byte isn't zero.
     Broken {
@@ -90,7 +90,7 @@ static BROKEN: [Broken; 13] = [
         byte: 1,
         named: Spot::Leaf,
         rule: Rule::Spare,
-        met: [true, true, true, false, true],
+        met: [true, true, true, false, false],
     },
     // The leaf stands on level 1.
     Broken {
@@ -99,7 +99,7 @@ static BROKEN: [Broken; 13] = [
         byte: 1,
         named: Spot::Leaf,
         rule: Rule::Level,
-        met: [true, true, true, false, true],
+        met: [true, true, true, false, false],
     },
     // The first place stands behind 180 degrees.
     Broken {
@@ -108,16 +108,16 @@ static BROKEN: [Broken; 13] = [
         byte: 127,
         named: Spot::Leaf,
         rule: Rule::Value,
-        met: [true, true, true, false, true],
+        met: [true, true, true, false, false],
     },
-    // The root names page 3, its first leaf, twice, and the second time the leaf's keys are below their separator.
+    // No action sees this: the root names page 3, its first leaf, twice, and the second time the leaf's keys are below their separator.
     Broken {
         page: Spot::Root,
         at: 155,
         byte: 3,
         named: Spot::Leaf,
         rule: Rule::Order,
-        met: [false, false, false, false, true],
+        met: [false; 5],
     },
     // The first word's number isn't that of its text.
     Broken {
@@ -126,16 +126,16 @@ static BROKEN: [Broken; 13] = [
         byte: 0,
         named: Spot::Head,
         rule: Rule::Words,
-        met: [true, true, true, false, true],
+        met: [true, true, true, false, false],
     },
-    // Nine places live.
+    // Nor this: nine places live.
     Broken {
         page: Spot::Head,
         at: 39,
         byte: 9,
         named: Spot::Head,
         rule: Rule::Counts,
-        met: [false, false, false, false, true],
+        met: [false; 5],
     },
     // The root of the tree is of no kind.
     Broken {
@@ -144,7 +144,7 @@ static BROKEN: [Broken; 13] = [
         byte: 9,
         named: Spot::Tree,
         rule: Rule::Kind,
-        met: [false, true, true, true, false],
+        met: [false, true, true, true, true],
     },
     // A spare byte of the rows of words isn't zero.
     Broken {
@@ -153,7 +153,7 @@ static BROKEN: [Broken; 13] = [
         byte: 1,
         named: Spot::Rows,
         rule: Rule::Spare,
-        met: [false, true, true, true, false],
+        met: [false, true, true, true, true],
     },
     // The words by text have no row.
     Broken {
@@ -162,7 +162,7 @@ static BROKEN: [Broken; 13] = [
         byte: 0,
         named: Spot::Texts,
         rule: Rule::Fill,
-        met: [false, true, true, true, false],
+        met: [false, true, true, true, true],
     },
 ];
 

@@ -8,6 +8,8 @@ mod crash_tests;
 #[cfg(test)]
 mod damage_tests;
 #[cfg(test)]
+mod group_tests;
+#[cfg(test)]
 mod language_tests;
 #[cfg(test)]
 mod load_tests;

@@ -12,6 +12,7 @@ use Rattle.irtree_engine.specs.Changes.{block_with}
 use Rattle.irtree_engine.specs.Damages.{IsQueryDamage}
 use Rattle.irtree_engine.specs.Holding.{HoldsState}
 use Rattle.irtree_engine.specs.Faults.{fault_of_pages}
+use Rattle.irtree_engine.specs.Queries.{IsFoundByFew}
 use Rattle.irtree_engine.proofs.Logs.{logged, logged-none}
 use Rattle.irtree_engine.proofs.Standing.{committed-stand, damaged-from, store-told}
 use Rattle.irtree_engine.proofs.answering.Engine+D.answer.Goals as goal
@@ -29,6 +30,27 @@ returns-clause-answered g c = λ t state holds.
     subst (λ (h : Head). PagesStand (block_with store.current.counted store.current.first_free h) held state) (sym c.head-head.ensures) committed in
     let told = store-told g.D.Disk.tells (applied (g.D.Disk.world store.disk.now).seen) store.overlay store.current.counted t store.sized in
     c.in_ok-answer_in.ensures.answered state stand told
+
+pub returns-clause-opened : goal.returns-clause-opened
+returns-clause-opened g c = λ t state holds.
+    let on = c.clear_log.ensures.stopped ∙ sym c.args.self.now.stops ∙ c.if-self.false in
+    let clean = ap (λ (o : Overlay). o.entries) c.clear_log.ensures.overlay ∙ c.args.self.now.clean in
+    let settled = c.clear_log.ensures.current ∙ c.args.self.now.settled ∙ sym c.clear_log.ensures.last in
+    let here = subst (λ disk. HoldsState (g.D.Disk.world disk) state) (λ i. (sym c.clear_log.ensures.disk i).now) holds in
+    let store = c.clear_log.new.self in
+    let held : PageMap = counted_pages store.current.counted (shown g.D.Disk.tells (applied (g.D.Disk.world store.disk.now).seen) store.overlay) in
+    let committed = committed-stand g.D.Disk.tells (g.D.Disk.world store.disk.now) store.overlay store.current store.last store.end state t clean settled (store.ready t on) here in
+    let stand : PagesStand (block_with store.current.counted store.current.first_free c.head-head.result) held state =
+    subst (λ (h : Head). PagesStand (block_with store.current.counted store.current.first_free h) held state) (sym c.head-head.ensures) committed in
+    let told = store-told g.D.Disk.tells (applied (g.D.Disk.world store.disk.now).seen) store.overlay store.current.counted t store.sized in
+    let query = c.args.query.now in
+    let log = c.answer_in.new.pages.asked.items in
+    let found = c.in_ok-answer_in.ensures.opened state stand told in
+    let same : ◌≡◌ {A = stores.Contents} (record { block = store.current; pages = held }) (record { block = c.args.self.now.store.current; pages = counted_pages c.args.self.now.store.current.counted (shown g.D.Disk.tells (applied (g.D.Disk.world c.args.self.now.store.disk.now).seen) c.args.self.now.store.overlay) }) =
+    λ i. record { block = c.clear_log.ensures.current i; pages = counted_pages (c.clear_log.ensures.current i).counted (shown g.D.Disk.tells (applied (g.D.Disk.world (c.clear_log.ensures.disk i).now).seen) (c.clear_log.ensures.overlay i)) } in
+    subst (λ (s : stores.Contents). IsFoundByFew s.pages s.block query [] log c.in_ok-answer_in.field-0) same
+    (subst (λ (before : List ℕ). IsFoundByFew held store.current query before log c.in_ok-answer_in.field-0) c.clear_log.ensures.log
+    (subst (λ (h : Head). IsFoundByFew held (block_with store.current.counted store.current.first_free h) query store.asked.items log c.in_ok-answer_in.field-0) c.head-head.ensures found))
 
 pub returns-in_err-answer_in-clause-honest : goal.returns-in_err-answer_in-clause-honest
 returns-in_err-answer_in-clause-honest g c = λ t state holds damage is.
@@ -62,9 +84,9 @@ returns-in_err-answer_in-clause-damaged g c = λ t damage is.
     let found = c.answer_in.ensures.damaged told damage (c.in_err-answer_in.was ∙ ap Err (damaged-from _ damage was)) in
     let same : ◌≡◌ {A = stores.Contents} (record { block = store.current; pages = held }) (record { block = c.args.self.now.store.current; pages = counted_pages c.args.self.now.store.current.counted (shown g.D.Disk.tells (applied (g.D.Disk.world c.args.self.now.store.disk.now).seen) c.args.self.now.store.overlay) }) =
     λ i. record { block = c.clear_log.ensures.current i; pages = counted_pages (c.clear_log.ensures.current i).counted (shown g.D.Disk.tells (applied (g.D.Disk.world (c.clear_log.ensures.disk i).now).seen) (c.clear_log.ensures.overlay i)) } in
-    subst (λ (s : stores.Contents). IsQueryDamage query s.pages s.block [] log damage) same
-    (subst (λ (before : List ℕ). IsQueryDamage query held store.current before log damage) c.clear_log.ensures.log
-    (subst (λ (h : Head). IsQueryDamage query held (block_with store.current.counted store.current.first_free h) store.asked.items log damage) c.head-head.ensures found))
+    subst (λ (s : stores.Contents). IsQueryDamage s.pages s.block [] log damage) same
+    (subst (λ (before : List ℕ). IsQueryDamage held store.current before log damage) c.clear_log.ensures.log
+    (subst (λ (h : Head). IsQueryDamage held (block_with store.current.counted store.current.first_free h) store.asked.items log damage) c.head-head.ensures found))
 
 pub returns-then-self-clause-log : goal.returns-then-self-clause-log
 returns-then-self-clause-log g c = logged-none g.D.Disk.tells g.D.Disk.world c.clear_log.ensures.disk c.clear_log.ensures.log c.clear_log.new.self.overlay

@@ -14,21 +14,12 @@ use Rattle.store_tables.specs.declared.tables.Tables.{Tables}
 use Rattle.store_meaning.specs.Stands.{PagesStand, tables_in}
 use Rattle.tree_answers.specs.Answers.{IsAnswer}
 use Rattle.tree_answers.specs.Damages.{IsAnswerHarm}
+use Rattle.tree_answers.specs.Opened.{AreFewOpened}
 use Rattle.tree_answers.specs.Standing.{RootsStand}
 use Rattle.irtree_engine.specs.Changes.{block_with, tree_in}
 use Rattle.irtree_engine.specs.Queries.{AsksForHits}
-use Rattle.irtree_engine.proofs.queries.answer_by_tree.Goals as goal
-
--- page 0's fields stand with the tables and the tree that they name
-roots-stand : (pages : PageMap) (count first : ℕ) (head : Head) (tables : Tables) (tree : Tree) (state : Contents) → tables ≡ tables_in head → tree ≡ tree_in head → PagesStand (block_with count first head) pages state → RootsStand pages count first tables tree state
-roots-stand pages count first head tables tree state tables_are tree_is stand = record {
-  block = block_with count first head;
-  stand = stand;
-  count_is = refl;
-  first_is = refl;
-  tables_are = sym tables_are;
-  tree_is = sym tree_is;
-}
+use Rattle.irtree_engine.proofs.Roots.{roots-stand}
+use Rattle.irtree_engine.proofs.queries.hits_in.Goals as goal
 
 -- the answer to a query that asks for hits is its hits
 answer-hits : (query : Query) (answer : Answer) (hits : List Hit) → AsksForHits query → IsAnswer query answer hits → answers.Hits hits ≡ answer
@@ -45,6 +36,19 @@ returns-in-Ok-clause-answered g c = λ state stand told.
     let query = c.args.query.now in
     let roots = roots-stand (P.pages old) (P.count old) (P.first old) c.args.head.now c.tables_of-tables.result c.tree_of-tree.result state c.tables_of-tables.ensures c.tree_of-tree.ensures stand in
     ap (λ (hits : List Hit). answers.Hits hits) c.from_vec.ensures ∙ answer-hits query (answer_of state query) c.in-Ok.found.items c.requires.hits (c.in-Ok.ensures.answered state roots told)
+
+pub returns-in-Ok-clause-opened : goal.returns-in-Ok-clause-opened
+returns-in-Ok-clause-opened g c = λ state stand told.
+    let P = g.P.Pages in
+    let old = c.args.pages.now in
+    let query = c.args.query.now in
+    let before : List ℕ = P.asked old in
+    let after : List ℕ = P.asked c.hits.new.pages in
+    let roots = roots-stand (P.pages old) (P.count old) (P.first old) c.args.head.now c.tables_of-tables.result c.tree_of-tree.result state c.tables_of-tables.ensures c.tree_of-tree.ensures stand in
+    subst (λ (hits : List Hit). AreFewOpened (P.pages old) (tables_in c.args.head.now) (tree_in c.args.head.now) query before after hits) (sym c.from_vec.ensures)
+    (subst (λ (tables : Tables). AreFewOpened (P.pages old) tables (tree_in c.args.head.now) query before after c.in-Ok.found.items) c.tables_of-tables.ensures
+    (subst (λ (tree : Tree). AreFewOpened (P.pages old) c.tables_of-tables.result tree query before after c.in-Ok.found.items) c.tree_of-tree.ensures
+    (c.in-Ok.ensures.opened state roots told)))
 
 pub returns-in-Err-clause-honest : goal.returns-in-Err-clause-honest
 returns-in-Err-clause-honest g c = λ state stand told damage.

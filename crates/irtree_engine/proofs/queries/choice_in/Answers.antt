@@ -1,0 +1,34 @@
+use Rattle.std.proofs.Common.{◌≡◌, ℕ, List, Err, sym, ap, subst}
+use Rattle.page_face.specs.declared.fault.PageFault.TheVariants.{Damaged}
+use Rattle.store_tables.specs.declared.tables.Tables.{Tables}
+use Rattle.node_inverted.specs.declared.roots.Tree.{Tree}
+use Rattle.place_map.specs.declared.query.Answer.TheVariants.{Group}
+use Rattle.tree_answers.specs.Damages.{IsAnswerHarm}
+use Rattle.irtree_engine.specs.Changes.{tree_in}
+use Rattle.irtree_engine.proofs.Roots.{roots-stand}
+use Rattle.irtree_engine.proofs.queries.choice_in.Goals as goal
+
+pub returns-in-Ok-clause-answered : goal.returns-in-Ok-clause-answered
+returns-in-Ok-clause-answered g c = λ state stand told.
+    let P = g.P.Pages in
+    let old = c.args.pages.now in
+    let roots = roots-stand (P.pages old) (P.count old) (P.first old) c.args.head.now c.tables_of-tables.result c.tree_of-tree.result state c.tables_of-tables.ensures c.tree_of-tree.ensures stand in
+    ap Group (c.in-Ok.ensures.answered state roots told)
+
+pub returns-in-Err-clause-honest : goal.returns-in-Err-clause-honest
+returns-in-Err-clause-honest g c = λ state stand told damage.
+    let P = g.P.Pages in
+    let old = c.args.pages.now in
+    let roots = roots-stand (P.pages old) (P.count old) (P.first old) c.args.head.now c.tables_of-tables.result c.tree_of-tree.result state c.tables_of-tables.ensures c.tree_of-tree.ensures stand in
+    λ e. (let same : c.in-Err.fault ≡ Damaged damage = cc e in c.in-Err.ensures.honest state roots told damage (ap Err same))
+
+pub returns-in-Err-clause-damaged : goal.returns-in-Err-clause-damaged
+returns-in-Err-clause-damaged g c = λ told damage is.
+    let P = g.P.Pages in
+    let old = c.args.pages.now in
+    let before : List ℕ = P.asked old in
+    let after : List ℕ = P.asked c.chosen.new.pages in
+    let same : c.in-Err.fault ≡ Damaged damage = cc is in
+    subst (λ (tables : Tables). IsAnswerHarm (P.pages old) (P.count old) tables (tree_in c.args.head.now) before after damage) c.tables_of-tables.ensures
+    (subst (λ (tree : Tree). IsAnswerHarm (P.pages old) (P.count old) c.tables_of-tables.result tree before after damage) c.tree_of-tree.ensures
+    (c.in-Err.ensures.damaged told damage (ap Err same)))
