@@ -7,13 +7,15 @@ use Rattle.place_map.specs.declared.hit.Hit.{Hit}
 use Rattle.boolean_queries.specs.declared.region.Region.{Region}
 use Rattle.boolean_queries.specs.declared.region.Region.TheVariants.{Within, Inside}
 
--- a region, the one of the points at most so far from a point, and a rectangle, for crates that say of a walk which nodes it opened
+-- a region, by a name that other crates may use
 abbrev pub Area : Type 0
 Area = Region
 
+-- the points at most so far from a point
 abbrev pub circle : Position → ℕ → Area
 circle at radius = Within at radius
 
+-- the points of a rectangle
 abbrev pub rectangle : Bounds → Area
 rectangle asked = Inside asked
 

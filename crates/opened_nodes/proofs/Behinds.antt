@@ -1,7 +1,6 @@
 -- Few nodes opened, behind pages of another kind.
-use Rattle.std.proofs.Common.{◌≡◌, ℕ, List, [], ◌++◌, ap, ◌∙◌, append_assoc, ◌⊎◌, inl, inr, ⊎_elim, sym}
+use Rattle.std.proofs.Common.{◌≡◌, ℕ, List, ◌++◌, ap, ◌∙◌, append_assoc, ◌⊎◌, inl, inr, ⊎_elim}
 use Rattle.std.specs.List.{AllByRecursion}
-use Rattle.std.proofs.lemmas.List.{append-nil}
 use Rattle.std.proofs.lemmas.List.Elements.{Contains-append_right}
 use Rattle.place_map.specs.declared.hit.Hit.{Hit}
 use Rattle.place_map.specs.declared.query.Query.{Query}
@@ -35,7 +34,3 @@ few-behind First Then gives ids query nodes root old mid new more found log firs
       (λ page h. ⊎_elim (λ (t : Then page). inl (inr t)) (λ (o : IsOpened ids query nodes root few.asked found page). inr (opened-later gives ids query nodes root found more few.asked page o)) h) few.asked few.each);
   from = all_weaker (IsFromAsked nodes few.asked gives) (IsFromAsked nodes (more ++ few.asked) gives) (found-later gives ids query nodes root found more few.asked) found few.from;
 }
-
--- nothing was asked for, and nothing found
-pub few-none : (beside : ℕ → Type 0) (gives : Item → List Hit) (ids : Numbers) (query : Query) (nodes : NodeMap) (root : ℕ) (old : List ℕ) → OpensFew beside gives ids query nodes root old old []
-few-none beside gives ids query nodes root old = record { asked = []; log = sym (append-nil old); each = tt; from = tt }

@@ -1,5 +1,5 @@
 -- Few nodes are opened for each kind of query.
-use Rattle.std.proofs.Common.{◌≡◌, ℤ, ◌≤◌, Option, Some, None, Result, Ok, Err, refl, subst, unsigned_abs}
+use Rattle.std.proofs.Common.{◌≡◌, Option, Some, None, Result, Ok, Err, refl}
 use Rattle.std.specs.Borrow.{Bor}
 use Rattle.std.specs.Option.{option_copied}
 use Rattle.std.specs.Prelude.{IfOk}

@@ -3,14 +3,10 @@ use Rattle.std.specs.List.{flat_map}
 use Rattle.std.specs.Prelude.{IfOk}
 use Rattle.std.proofs.lemmas.Result.{IfOk-weaker}
 use Rattle.page_face.specs.FreeList.{PageMap}
-use Rattle.btree_nodes.specs.Tree.{map_uses}
-use Rattle.spatial_base.specs.Point.{IsOnMap}
-use Rattle.ranking.specs.First.{first}
 use Rattle.place_map.specs.declared.hit.Hit.{Hit}
 use Rattle.place_map.specs.declared.query.Expr.{Expr}
 use Rattle.place_map.specs.declared.query.Query.{Query}
 use Rattle.place_map.specs.declared.query.Query.TheVariants.{Range, Inside, Nearest, Top}
-use Rattle.place_map.specs.Hit.{comes_before}
 use Rattle.place_map.specs.Query.{IsWithinLimits}
 use Rattle.place_map.specs.Top.{Weighted}
 use Rattle.boolean_queries.specs.Opens.{filter_in}
