@@ -26,30 +26,34 @@ use Rattle.clap.proofs.CallerLemmas.{entry_by_id, same_rules_by_id}
 use Rattle.clap.proofs.FactLemmas.{any_true}
 use Rattle.clap.proofs.SimpleLemmas.{is_false, plain_fields, simple_groups}
 use Rattle.clap.proofs.WalkLemmas.{both, one_text-rows}
-use Rattle.command_words.specs.Command.{HasNumbers, batch_rule, cache_rule, program, rules}
+use Rattle.command_words.specs.Command.{HasNumbers, batch_rule, cache_rule, count_rule, from_rule, program, rules}
 use Rattle.command_words.specs.Job.{number_or}
 
 -- ---- a number that is read
 
 -- the number that a parse of an option's text gives, or the one for an absent option, is what the text spells
 pub number_read : (E : Type 0) (G : List ℕ → Result ℕ E → Type 0) (absent : ℕ) (o p : Option Text) (r : Option ℕ) → o ≡ p
-    → (o ≡ None → r ≡ None) → ((t : Text) → o ≡ Some t → ReadsOne G t r) → ((u : List ℕ) (x : Result ℕ E) → G u x → ParsesUnsigned 32 10 u x)
-    → IfSome p (IsUnsignedIn 0 4294967295) → unwrap_or r absent ≡ number_or absent p
+    → (o ≡ None → r ≡ None) → ((t : Text) → o ≡ Some t → ReadsOne G t r) → ((u : List ℕ) (x : Result ℕ E) → G u x → ParsesUnsigned 64 10 u x)
+    → IfSome p (IsUnsignedIn 0 18446744073709551615) → unwrap_or r absent ≡ number_or absent p
 number_read E G absent None p r same none value only fits = rw (← same, none refl) refl
 number_read E G absent (Some t) p (Some n) same none value only fits = rw (← same) (only t (Ok n) (value t refl)).1
 number_read E G absent (Some t) p None same none value only fits =
     let read = value t refl in
-    let spelled : IsUnsignedIn 0 4294967295 t = rw (← same) at fits in
+    let spelled : IsUnsignedIn 0 18446744073709551615 t = rw (← same) at fits in
     absurd (only t (Err read.0) read.1 (spelled.0, omega arith))
 
--- a number of a batch, and of a cache, fits
-pub fits_batch : (o : Option Text) → IfSome o (IsUnsignedIn 1 10000) → IfSome o (IsUnsignedIn 0 4294967295)
+-- a number of each option fits
+pub fits_batch : (o : Option Text) → IfSome o (IsUnsignedIn 1 10000) → IfSome o (IsUnsignedIn 0 18446744073709551615)
 fits_batch None h = tt
 fits_batch (Some t) h = (h.0, omega arith, omega arith, omega arith)
 
-pub fits_cache : (o : Option Text) → IfSome o (IsUnsignedIn 0 65536) → IfSome o (IsUnsignedIn 0 4294967295)
+pub fits_cache : (o : Option Text) → IfSome o (IsUnsignedIn 0 65536) → IfSome o (IsUnsignedIn 0 18446744073709551615)
 fits_cache None h = tt
 fits_cache (Some t) h = (h.0, omega arith, omega arith, omega arith)
+
+pub fits_count : (o : Option Text) → IfSome o (IsUnsignedIn 1 100000) → IfSome o (IsUnsignedIn 0 18446744073709551615)
+fits_count None h = tt
+fits_count (Some t) h = (h.0, omega arith, omega arith, omega arith)
 
 -- such a number, and the one for an absent option, lie in the range
 pub batch_in : (o : Option Text) → IfSome o (IsUnsignedIn 1 10000) → (1 ≤ number_or 1000 o) × (number_or 1000 o ≤ 10000)
@@ -59,6 +63,14 @@ batch_in (Some t) h = (h.2, h.3)
 pub cache_in : (o : Option Text) → IfSome o (IsUnsignedIn 0 65536) → number_or 1024 o ≤ 65536
 cache_in None h = omega arith
 cache_in (Some t) h = h.3
+
+pub from_in : (o : Option Text) → IfSome o (IsUnsignedIn 0 18446744073709551615) → number_or 0 o ≤ 18446744073709551615
+from_in None h = omega arith
+from_in (Some t) h = h.3
+
+pub count_in : (o : Option Text) → IfSome o (IsUnsignedIn 1 100000) → (1 ≤ number_or 1000 o) × (number_or 1000 o ≤ 100000)
+count_in None h = (omega arith, omega arith)
+count_in (Some t) h = (h.2, h.3)
 
 -- ---- the arguments of the command
 
@@ -98,12 +110,12 @@ module _ (c : Command) (m : ArgMatches) (p : IsParsedFrom c m) (is : app_of c �
   id_at : (k : ℕ) (d : Arg) → (slice_index_or (args_of c) k d).id.now ≡ (slice_index_or rules k (rule_of d)).id
   id_at k d = ap (λ (r : Rule). r.id) (rule_at k d)
 
-  six : length (args_of c) ≡ 6
-  six = sym (length-map (args_of c) rule_of) ∙ ap length rules_are
+  eight : length (args_of c) ≡ 8
+  eight = sym (length-map (args_of c) rule_of) ∙ ap length rules_are
 
-  unique : (k : ℕ) (d : Arg) → k < 6 → (j : ℕ) (e : Arg) → j < length (args_of c)
+  unique : (k : ℕ) (d : Arg) → k < 8 → (j : ℕ) (e : Arg) → j < length (args_of c)
       → bytes_eq (slice_index_or (args_of c) j e).id.now (slice_index_or (args_of c) k d).id.now ≡ true → j ≡ k
-  unique k d lk j e lj same = one_place rules j k (rule_of e) (rule_of d) refl (omega (arith, six)) lk (rw (← id_at j e, ← id_at k d) same)
+  unique k d lk j e lj same = one_place rules j k (rule_of e) (rule_of d) refl (omega (arith, eight)) lk (rw (← id_at j e, ← id_at k d) same)
 
   no_groups : groups_of p.built ≡ []
   no_groups = (p.from.same_groups (simple_groups c (ap (λ a. list_all (λ (r : Rule). r.is_simple) a.top.rules) is))).1
@@ -113,7 +125,7 @@ module _ (c : Command) (m : ArgMatches) (p : IsParsedFrom c m) (is : app_of c �
   values_pass = (p.parsed (p.from.globals ∙ (plain_fields c (ap (λ a. a.top.is_plain) is)).globals)).values
 
   -- an argument of the built command with the name of one of ours has its parser
-  same_parser : (k : ℕ) (r : Rule) (q : ValueParser) → k < 6 → ((d : Arg) → slice_index_or rules k (rule_of d) ≡ r) → r.parser ≡ Some q
+  same_parser : (k : ℕ) (r : Rule) (q : ValueParser) → k < 8 → ((d : Arg) → slice_index_or rules k (rule_of d) ≡ r) → r.parser ≡ Some q
       → ((r.id ≡ codes "help") ⊎ (r.id ≡ codes "version") → ⊥)
       → (j : ℕ) (x : Arg) → j < length (args_of p.built) → slice_index_or (args_of p.built) j x ≡ x → bytes_eq x.id.now r.id ≡ true
       → parser_of x ≡ q
@@ -121,12 +133,12 @@ module _ (c : Command) (m : ArgMatches) (p : IsParsedFrom c m) (is : app_of c �
       let mine = rule_at k x ∙ at x in
       let id : (slice_index_or (args_of c) k x).id.now ≡ r.id = ap (λ (s : Rule). s.id) mine in
       let found : bytes_eq x.id.now (slice_index_or (args_of c) k x).id.now ≡ true = subst (λ (t : Text). bytes_eq x.id.now t ≡ true) (sym id) same in
-      let stays = same_rules_by_id c m p k x (omega (arith, six)) (unique k x lk)
+      let stays = same_rules_by_id c m p k x (omega (arith, eight)) (unique k x lk)
       (λ auto. own (elim auto [ inl h ↦ inl (sym id ∙ h) | inr h ↦ inr (sym id ∙ h) ])) j x lj here found in
       ap parser_of_value (stays.parser q (ap (λ (s : Rule). s.parser) mine ∙ parser))
 
   -- the text of an option with a range lies in that range, where it stands
-  passes : (k low high : ℕ) (r : Rule) → k < 6 → ((d : Arg) → slice_index_or rules k (rule_of d) ≡ r) → r.parser ≡ Some (Unsigned low high)
+  passes : (k low high : ℕ) (r : Rule) → k < 8 → ((d : Arg) → slice_index_or rules k (rule_of d) ≡ r) → r.parser ≡ Some (Unsigned low high)
       → (r.id ≡ [] → ⊥) → ((r.id ≡ codes "help") ⊎ (r.id ≡ codes "version") → ⊥)
       → IfSome (one_text (found_of m) r.id) (IsUnsignedIn low high)
   passes k low high r lk at parser named own = go (matched_of (found_of m) r.id) refl
@@ -180,7 +192,15 @@ numbers_pass c m p is =
     let cache = passes c m p is 3 0 65536 cache_rule (omega arith) (λ d. refl) refl
     (other_first (codes "cache") [] (omega arith))
     (λ auto. elim auto [ inl h ↦ other_first (codes "cache") (codes "help") (omega arith) h | inr h ↦ other_first (codes "cache") (codes "version") (omega arith) h ]) in
+    let from = passes c m p is 6 0 18446744073709551615 from_rule (omega arith) (λ d. refl) refl
+    (other_first (codes "from") [] (omega arith))
+    (λ auto. elim auto [ inl h ↦ other_first (codes "from") (codes "help") (omega arith) h | inr h ↦ other_first (codes "from") (codes "version") (omega arith) h ]) in
+    let count = passes c m p is 7 1 100000 count_rule (omega arith) (λ d. refl) refl
+    (other_first (codes "count") [] (omega arith))
+    (λ auto. elim auto [ inl h ↦ other_first (codes "count") (codes "help") (omega arith) h | inr h ↦ other_first (codes "count") (codes "version") (omega arith) h ]) in
     record {
       batch = subst (λ (o : Option Text). IfSome o (IsUnsignedIn 1 10000)) (one_text-rows (found_of m) (codes "batch")) batch;
       cache = subst (λ (o : Option Text). IfSome o (IsUnsignedIn 0 65536)) (one_text-rows (found_of m) (codes "cache")) cache;
+      from = subst (λ (o : Option Text). IfSome o (IsUnsignedIn 0 18446744073709551615)) (one_text-rows (found_of m) (codes "from")) from;
+      count = subst (λ (o : Option Text). IfSome o (IsUnsignedIn 1 100000)) (one_text-rows (found_of m) (codes "count")) count;
     }

@@ -15,7 +15,7 @@ action_rule = record (new_rule (codes "ACTION")) { required = true }
 abbrev pub option_rule : Text → Rule
 option_rule name = record (new_rule name) { long = Some name; value_names = 1 }
 
--- how many places a load stores at a time: 1 to 10,000
+-- how many places are stored at a time: 1 to 10,000
 abbrev pub batch_rule : Rule
 batch_rule = record (option_rule (codes "batch")) { parser = Some (Unsigned 1 10000) }
 
@@ -31,9 +31,17 @@ text_rule = option_rule (codes "text")
 abbrev pub policy_rule : Rule
 policy_rule = option_rule (codes "policy")
 
+-- the seed that places are made from: any number below 2^64
+abbrev pub from_rule : Rule
+from_rule = record (option_rule (codes "from")) { parser = Some (Unsigned 0 18446744073709551615) }
+
+-- how many places are made: 1 to 100,000
+abbrev pub count_rule : Rule
+count_rule = record (option_rule (codes "count")) { parser = Some (Unsigned 1 100000) }
+
 -- all that may stand on the line
 abbrev pub rules : List Rule
-rules = store_rule ∷ action_rule ∷ batch_rule ∷ cache_rule ∷ text_rule ∷ policy_rule ∷ []
+rules = store_rule ∷ action_rule ∷ batch_rule ∷ cache_rule ∷ text_rule ∷ policy_rule ∷ from_rule ∷ count_rule ∷ []
 
 -- the command with these rules, and no setting of its own
 abbrev pub program : App
@@ -51,3 +59,5 @@ values_on line = matches_of program line
 pub record HasNumbers (values : List Row) : Type 0 where
   pub batch : IfSome (one_of (codes "batch") values) (IsUnsignedIn 1 10000)
   pub cache : IfSome (one_of (codes "cache") values) (IsUnsignedIn 0 65536)
+  pub from : IfSome (one_of (codes "from") values) (IsUnsignedIn 0 18446744073709551615)
+  pub count : IfSome (one_of (codes "count") values) (IsUnsignedIn 1 100000)

@@ -7,15 +7,15 @@ use Rattle.std.specs.Str.Parse.{digits_value, without_leading_plus}
 use Rattle.clap.specs.Words.{Kinds, Row, Text, first_of, one_of}
 use Rattle.command_words.specs.Command.{refusals, values_on}
 use Rattle.command_words.specs.declared.job.Action.{Action}
-use Rattle.command_words.specs.declared.job.Action.TheVariants.{Run, Load}
+use Rattle.command_words.specs.declared.job.Action.TheVariants.{Run, Load, Make}
 use Rattle.command_words.specs.declared.job.Job.{Job}
 use Rattle.command_words.specs.declared.job.PolicyName.{PolicyName}
 use Rattle.command_words.specs.declared.job.PolicyName.TheVariants.{Quadratic, Halving}
 use Rattle.command_words.specs.declared.job.WordsFault.{WordsFault}
 use Rattle.command_words.specs.declared.job.WordsFault.TheVariants.{Line, Unused, Memory}
 
--- What words ask for: a store, an action, how many places a load stores at a time, how many pages of the store are kept in memory, the
--- one property that a load reads, or none where it reads all, and how a full node of the tree is split.
+-- What words ask for: a store, an action, how many places are stored at a time, how many pages of the store are kept in memory, the one
+-- property that a load reads, or none where it reads all, how a full node of the tree is split, and from which seed how many places are made.
 pub record Asked : Type 0 where
   pub store : Text
   pub action : Action
@@ -23,6 +23,8 @@ pub record Asked : Type 0 where
   pub cache : ℕ
   pub text : Option Text
   pub policy : PolicyName
+  pub from : ℕ
+  pub count : ℕ
 
 -- what a job asks for
 abbrev pub asked_of : Job → Asked
@@ -33,6 +35,8 @@ asked_of job = record {
   cache = job.cache;
   text = option_map string_bytes job.text;
   policy = job.policy;
+  from = job.from;
+  count = job.count;
 }
 
 -- the action of a word
@@ -40,6 +44,7 @@ abbrev pub action_of : Text → Option Action
 action_of word =
     if bytes_eq word (codes "run") then Some Run
     else if bytes_eq word (codes "load") then Some Load
+    else if bytes_eq word (codes "make") then Some Make
     else None
 
 -- the policy of a word
@@ -60,13 +65,16 @@ policy_among values = policy_or_quadratic (first_of (codes "policy") values)
 
 -- the options
 abbrev pub options : List Text
-options = codes "batch" ∷ codes "cache" ∷ codes "text" ∷ codes "policy" ∷ []
+options = codes "batch" ∷ codes "cache" ∷ codes "text" ∷ codes "policy" ∷ codes "from" ∷ codes "count" ∷ []
 
 -- the action uses the option
 abbrev pub uses : Action → Text → Bool
 uses Run option = bytes_eq option (codes "cache") || bytes_eq option (codes "policy")
 uses Load option =
     bytes_eq option (codes "batch") || bytes_eq option (codes "cache") || bytes_eq option (codes "text") || bytes_eq option (codes "policy")
+uses Make option =
+    bytes_eq option (codes "batch") || bytes_eq option (codes "cache") || bytes_eq option (codes "policy") || bytes_eq option (codes "from")
+    || bytes_eq option (codes "count")
 
 -- an option stands among the values that the action doesn't use
 abbrev pub has_unused : Action → List Row → Bool
@@ -77,7 +85,7 @@ abbrev pub number_or : ℕ → Option Text → ℕ
 number_or absent text = option_map_or (λ digits. digits_value 10 (without_leading_plus digits)) text absent
 
 -- the store, the action and the policy, with the other options among the values, and what is meant by those that are absent: a batch of
--- 1000 places, a cache of 1024 pages, and all properties
+-- 1000 places, a cache of 1024 pages, all properties, the seed 0, and 1000 places that are made
 abbrev pub asked_with : List Row → Text → Action → PolicyName → Asked
 asked_with values store action policy = record {
   store = store;
@@ -86,6 +94,8 @@ asked_with values store action policy = record {
   cache = number_or 1024 (one_of (codes "cache") values);
   text = first_of (codes "text") values;
   policy = policy;
+  from = number_or 0 (one_of (codes "from") values);
+  count = number_or 1000 (one_of (codes "count") values);
 }
 
 -- what a store, an action and a policy ask for, where all stand among the values

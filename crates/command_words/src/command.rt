@@ -1,7 +1,7 @@
 //! The command line as a command of `clap`.
 ghost use Rattle.std.specs.Prelude.{◌≡◌, ◌≢◌, [], false, map, IfOk, IfErr, OnOk};
 ghost use Rattle.clap.specs.Words.{app_of, found_of, kind_of, rows_of, rule_of};
-ghost use Rattle.command_words.specs.Command.{HasNumbers, action_rule, batch_rule, cache_rule, policy_rule, program, refusals, store_rule, text_rule, values_on};
+ghost use Rattle.command_words.specs.Command.{HasNumbers, action_rule, batch_rule, cache_rule, count_rule, from_rule, policy_rule, program, refusals, store_rule, text_rule, values_on};
 
 use clap::builder::ValueParser;
 use clap::error::ErrorKind;
@@ -29,6 +29,12 @@ pub(crate) const TEXT: &str = "text";
 /// The option of the policy that splits the tree's full nodes.
 pub(crate) const POLICY: &str = "policy";
 
+/// The option of the seed that places are made from.
+pub(crate) const FROM: &str = "from";
+
+/// The option of how many places are made.
+pub(crate) const COUNT: &str = "count";
+
 fn store<'a>(alloc: Global) -> Arg<'a>
     ensures rule { rule_of result ≡ store_rule }
     ensures local { result.global ≡ false }
@@ -44,7 +50,7 @@ fn action<'a>(alloc: Global) -> Arg<'a>
     ensures local { result.global ≡ false }
 {
     Arg::new(alloc, ACTION).required(true).help(
-        "run: a script from standard input; load: GeoJSON from standard input",
+        "run: a script from standard input; load: GeoJSON from standard input; make: places from a seed",
     )
 }
 
@@ -56,7 +62,7 @@ fn batch<'a>(alloc: Global) -> Arg<'a>
         .long(BATCH)
         .value_name("PLACES")
         .value_parser(ValueParser::Unsigned(1, 10_000))
-        .help("How many places a load stores at a time, 1000 if absent")
+        .help("How many places are stored at a time, 1000 if absent")
 }
 
 fn cache<'a>(alloc: Global) -> Arg<'a>
@@ -89,6 +95,28 @@ fn policy<'a>(alloc: Global) -> Arg<'a>
         .help("How full nodes of the tree are split: quadratic, as if absent, or halving")
 }
 
+fn from<'a>(alloc: Global) -> Arg<'a>
+    ensures rule { rule_of result ≡ from_rule }
+    ensures local { result.global ≡ false }
+{
+    Arg::new(alloc, FROM)
+        .long(FROM)
+        .value_name("SEED")
+        .value_parser(ValueParser::Unsigned(0, 18_446_744_073_709_551_615))
+        .help("The seed that places are made from, 0 if absent")
+}
+
+fn count<'a>(alloc: Global) -> Arg<'a>
+    ensures rule { rule_of result ≡ count_rule }
+    ensures local { result.global ≡ false }
+{
+    Arg::new(alloc, COUNT)
+        .long(COUNT)
+        .value_name("NUMBER")
+        .value_parser(ValueParser::Unsigned(1, 100_000))
+        .help("How many places are made, 1000 if absent")
+}
+
 // The command with all that may stand on a line.
 fn program<'a>(alloc: Global) -> Result<Command<'a>, AllocError>
     ensures { IfOk result (λ command. app_of command ≡ program) }
@@ -99,7 +127,9 @@ fn program<'a>(alloc: Global) -> Result<Command<'a>, AllocError>
         .arg(batch(alloc))?
         .arg(cache(alloc))?
         .arg(text(alloc))?
-        .arg(policy(alloc))
+        .arg(policy(alloc))?
+        .arg(from(alloc))?
+        .arg(count(alloc))
 }
 
 /// Returns what stands on a line, of which the first word is the program's name, or the explanation of its refusal.

@@ -3,7 +3,7 @@ ghost use Rattle.std.specs.Prelude.{◌≡◌};
 ghost use Rattle.command_words.specs.Job.{uses};
 ghost use Rattle.command_words.specs.declared.job.WordsFault.TheVariants as faults;
 
-use crate::command::{BATCH, CACHE, POLICY, TEXT};
+use crate::command::{BATCH, CACHE, COUNT, FROM, POLICY, TEXT};
 use std::alloc::AllocError;
 use std::fmt;
 
@@ -14,6 +14,8 @@ pub enum Action {
     Run,
     /// The places of a GeoJSON text from the source.
     Load,
+    /// Places made from a seed, and queries over them.
+    Make,
 }
 
 impl Action {
@@ -26,6 +28,13 @@ impl Action {
             Action::Load => {
                 option == BATCH || option == CACHE || option == TEXT || option == POLICY
             }
+            Action::Make => {
+                option == BATCH
+                    || option == CACHE
+                    || option == POLICY
+                    || option == FROM
+                    || option == COUNT
+            }
         }
     }
 }
@@ -35,6 +44,7 @@ impl fmt::Display for Action {
         f.write_str(match self {
             Action::Run => "run",
             Action::Load => "load",
+            Action::Make => "make",
         })
     }
 }
@@ -55,7 +65,7 @@ pub struct Job {
     pub store: String,
     /// What to do.
     pub action: Action,
-    /// How many places a load stores at a time: 1 to 10,000.
+    /// How many places a load or a make stores at a time: 1 to 10,000.
     pub batch: u32,
     /// How many pages of the store are kept in memory: 0 to 65,536.
     pub cache: u32,
@@ -63,6 +73,10 @@ pub struct Job {
     pub text: Option<String>,
     /// How a full node of the tree is split.
     pub policy: PolicyName,
+    /// The seed that places are made from.
+    pub from: u64,
+    /// How many places are made: 1 to 100,000.
+    pub count: u32,
 }
 
 /// Why words are refused. If several causes apply, the one with the least number is returned.

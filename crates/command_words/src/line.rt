@@ -26,7 +26,7 @@ fn line_of<'a>(alloc: Global, words: &'a [String]) -> Result<Vec<&'a str>, Alloc
 /// Reads the words behind the program's name: a store, an action and options, in any order but that the store stands before the action.
 ///
 /// Returns the job with the values that stand there. An absent option means a batch of 1,000 places, a cache of 1,024 pages, all
-/// properties, or the quadratic policy. Refuses, the first that applies:
+/// properties, the quadratic policy, the seed 0, or 1,000 places that are made. Refuses, the first that applies:
 ///
 /// - `Line` if the command line refuses the words (`specs/Command.antt`), or the action or the policy is unknown. `-h` and `--help` are refused so.
 /// - `Unused` if an option stands there that the action doesn't use.
@@ -36,6 +36,7 @@ pub fn read_words(alloc: Global, words: &[String]) -> Result<Job, WordsFault>
     ensures reading { IsReading result (reading (map string_bytes words.now)) }
     ensures batch { IfOk result (λ job. (1 ≤ job.batch) × (job.batch ≤ 10000)) }
     ensures cache { IfOk result (λ job. job.cache ≤ 65536) }
+    ensures count { IfOk result (λ job. (1 ≤ job.count) × (job.count ≤ 100000)) }
 {
     let line = line_of(alloc, words)?;
     match parse(alloc, line.as_slice()) {

@@ -5,12 +5,12 @@ ghost use Rattle.command_words.specs.Job.{action_of, asked_among, asked_with, ha
 ghost use Rattle.command_words.specs.Refusals.{fault_of};
 ghost use Rattle.command_words.specs.declared.job.WordsFault.TheVariants as faults;
 
-use crate::command::{ACTION, BATCH, CACHE, POLICY, STORE, TEXT};
+use crate::command::{ACTION, BATCH, CACHE, COUNT, FROM, POLICY, STORE, TEXT};
 use crate::{Action, PolicyName, WordsFault};
 use clap::ArgMatches;
 use std::fmt;
 
-static OPTIONS: [&str; 4] = [BATCH, CACHE, TEXT, POLICY];
+static OPTIONS: [&str; 6] = [BATCH, CACHE, TEXT, POLICY, FROM, COUNT];
 
 /// A store, what to do with it, and how its tree is split.
 #[derive(Clone, Copy)]
@@ -53,7 +53,7 @@ impl fmt::Display for Refusal<'_> {
             Refusal::NoStore => f.write_str("no store is given"),
             Refusal::NoAction => f.write_str("no action is given"),
             Refusal::NotAnAction(word) => {
-                write!(f, "unknown action '{word}', expected run or load")
+                write!(f, "unknown action '{word}', expected run, load or make")
             }
             Refusal::NotAPolicy(word) => {
                 write!(f, "unknown policy '{word}', expected quadratic or halving")
@@ -80,6 +80,8 @@ fn action_of(word: &str) -> Option<Action>
         Some(Action::Run)
     } else if word == "load" {
         Some(Action::Load)
+    } else if word == "make" {
+        Some(Action::Make)
     } else {
         None
     }

@@ -4,25 +4,31 @@ ghost use Rattle.clap.specs.Words.{IsUnsignedIn, found_of, one_of, rows_of};
 ghost use Rattle.command_words.specs.Command.{HasNumbers};
 ghost use Rattle.command_words.specs.Job.{IsReading, asked_among, asked_of, asked_with, number_or};
 
-use crate::command::{BATCH, CACHE, TEXT};
+use crate::command::{BATCH, CACHE, COUNT, FROM, TEXT};
 use crate::task::{Task, task_of, value_of};
 use crate::{Job, WordsFault};
 use clap::ArgMatches;
 use std::alloc::{AllocError, Global};
 
-// How many places a load stores at a time if no option says another number.
-const BATCH_ABSENT: u32 = 1_000;
+// How many places are stored at a time if no option says another number.
+const BATCH_ABSENT: u64 = 1_000;
 
 // How many pages of the store are kept if no option says another number: 4 MiB, enough for the upper levels of every map of a large
 // store.
-const CACHE_ABSENT: u32 = 1_024;
+const CACHE_ABSENT: u64 = 1_024;
+
+// The seed that places are made from if no option says another one.
+const FROM_ABSENT: u64 = 0;
+
+// How many places are made if no option says another number.
+const COUNT_ABSENT: u64 = 1_000;
 
 // The number of an option that stands on the line, or the one for an absent option.
-fn number_of(matches: &ArgMatches<'_>, name: &str, absent: u32) -> u32
-    requires fits { IfSome (one_of name.now (rows_of (found_of matches.now))) (IsUnsignedIn 0 4294967295) }
+fn number_of(matches: &ArgMatches<'_>, name: &str, absent: u64) -> u64
+    requires fits { IfSome (one_of name.now (rows_of (found_of matches.now))) (IsUnsignedIn 0 18446744073709551615) }
     ensures { result ≡ number_or absent (one_of name.now (rows_of (found_of matches.now))) }
 {
-    match matches.get_one::<u32>(name) {
+    match matches.get_one::<u64>(name) {
         Some(number) => number,
         None => absent,
     }
@@ -44,14 +50,17 @@ fn job_with(alloc: Global, matches: &ArgMatches<'_>, task: &Task<'_>) -> Result<
     ensures asked { IfOk result (λ job. asked_of job ≡ asked_with (rows_of (found_of matches.now)) task.now.store.now task.now.action task.now.policy) }
     ensures batch { IfOk result (λ job. (1 ≤ job.batch) × (job.batch ≤ 10000)) }
     ensures cache { IfOk result (λ job. job.cache ≤ 65536) }
+    ensures count { IfOk result (λ job. (1 ≤ job.count) × (job.count ≤ 100000)) }
 {
     Ok(Job {
         store: task.store.to_string(alloc)?,
         action: task.action,
-        batch: number_of(matches, BATCH, BATCH_ABSENT),
-        cache: number_of(matches, CACHE, CACHE_ABSENT),
+        batch: number_of(matches, BATCH, BATCH_ABSENT) as u32,
+        cache: number_of(matches, CACHE, CACHE_ABSENT) as u32,
         text: copy_of(alloc, value_of(matches, TEXT))?,
         policy: task.policy,
+        from: number_of(matches, FROM, FROM_ABSENT),
+        count: number_of(matches, COUNT, COUNT_ABSENT) as u32,
     })
 }
 
@@ -61,6 +70,7 @@ pub(crate) fn job_of(alloc: Global, matches: &ArgMatches<'_>) -> Result<Job, Wor
     ensures reading { IsReading result (asked_among (rows_of (found_of matches.now))) }
     ensures batch { IfOk result (λ job. (1 ≤ job.batch) × (job.batch ≤ 10000)) }
     ensures cache { IfOk result (λ job. job.cache ≤ 65536) }
+    ensures count { IfOk result (λ job. (1 ≤ job.count) × (job.count ≤ 100000)) }
 {
     match task_of(matches) {
         Ok(task) => Ok(job_with(alloc, matches, &task)?),

@@ -14,4 +14,5 @@ returns c =
       reading = refused_reads (map string_bytes c.args.words.now) _ line (c.in-Err.ensures.refused (λ memory. c.in_default.not-OutOfMemory (c.kind.ensures ∙ memory)));
       batch = tt;
       cache = tt;
+      count = tt;
     }
