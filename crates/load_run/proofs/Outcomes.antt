@@ -1,5 +1,5 @@
 -- How a load ends, from what its text gives.
-use Rattle.std.proofs.Common.{◌≡◌, ◌≢◌, ℕ, ◌+◌, ◌<◌, ◌≤◌, inl, inr, ⊎_elim, List, [], ◌∷◌, ◌++◌, length, take, refl, sym, ap, subst, ◌∙◌, arith, append_assoc, length-append, length-take}
+use Rattle.std.proofs.Common.{◌≡◌, ◌≢◌, ◌⊎◌, ℕ, ◌+◌, ◌<◌, ◌≤◌, inl, inr, ⊎_elim, List, [], ◌∷◌, ◌++◌, length, take, refl, sym, ap, subst, ◌∙◌, arith, append_assoc, length-append, length-take}
 use Rattle.std.specs.Prelude.{Option, Result, Ok, Err, OnOk, IfErr, IsErrOf}
 use Rattle.std.proofs.lemmas.List.{append-nil, take-take, take-append-le}
 use Rattle.disk_model.specs.World.{World, LeavesOnly}
@@ -18,10 +18,10 @@ use Rattle.run_protocol.specs.declared.ended.InputFault.TheVariants as inputs
 use Rattle.run_protocol.specs.declared.ended.LimitFault.{LimitFault}
 use Rattle.run_protocol.specs.declared.ended.LimitFault.TheVariants as limits
 use Rattle.run_protocol.specs.Left.{LeftBySteps, LeftByLoad, StopsAtBatch}
-use Rattle.run_protocol.specs.Load.{load_max, IsTaken, load_transcript, steps}
+use Rattle.run_protocol.specs.Load.{Closing, load, load_max, IsTaken, says_loaded, steps}
 use Rattle.run_protocol.specs.Said.{EndsAs, SaysFrontOf}
 use Rattle.run_protocol.specs.Turn.{End}
-use Rattle.load_run.specs.Loading.{IsUnread, RefusesSo, EndsLoad, IsConcluded, Reaches, LeftFrom, stage_at_start}
+use Rattle.load_run.specs.Loading.{IsUnread, RefusesSo, EndsLoad, EndsSteps, IsConcluded, Reaches, LeftFrom, stage_at_start}
 use Rattle.load_run.proofs.Fronts.{front-empty}
 
 -- the greatest number of bytes, as a numeral
@@ -58,36 +58,53 @@ refused-ends T batch only state input left bytes now fault end holds same short 
     by_fault loads.NotFeatures takes so = says inputs.NotFeatures (short, takes (λ e. absurd (cc))) so
     by_fault loads.Memory takes so = lacks so
 
--- all of the text of a load was said
-reaches-ends : (wanted : End) (batch : ℕ) (state : Contents) (items : List Item) (old new : World) → Reaches wanted (stage_at_start batch state items) old new → EndsAs wanted (load_transcript batch state (Ok items)) old new
-reaches-ends wanted batch state items old new reaches = record { end = reaches.end; said = reaches.said; holds = reaches.holds }
+module _ (closing : Closing) (batch : ℕ) (state : Contents) (items : List Item) (old new : World) where
+  -- all of the text of the steps was said
+  reaches-ends : (wanted : End) → Reaches wanted (stage_at_start closing batch state items) old new → EndsAs wanted (load closing state 0 0 (steps batch [] items)) old new
+  reaches-ends wanted reaches = record { end = reaches.end; said = reaches.said; holds = reaches.holds }
+
+  -- the steps ended as they were concluded
+  pub concluded-ends : (T : Type 0) (result : Result T Ended) → IsConcluded (stage_at_start closing batch state items) old new result → EndsSteps closing state (steps batch [] items) old new result
+  concluded-ends T (Ok done) ended = reaches-ends _ ended
+  concluded-ends T (Err ends.Memory) ended = ended
+  concluded-ends T (Err ends.Disk) ended = ended
+  concluded-ends T (Err ends.Sink) ended = ended
+  concluded-ends T (Err (ends.Limit limits.Full)) ended = reaches-ends _ ended
+  concluded-ends T (Err (ends.Limit limits.Worn)) ended = reaches-ends _ ended
+  concluded-ends T (Err (ends.Limit limits.NoRoom)) ended = subst (λ b. StopsAtBatch state 0 0 (steps batch [] items) b new) (append-nil old.said) ended
+  concluded-ends T (Err _) ended = absurd ended
+
+  -- what a crash left meanwhile: the state at the start and nothing said, or what is around one of the steps
+  pub started-left : LeavesOnly old new (LeftFrom (stage_at_start closing batch state items) old.said)
+      → LeavesOnly old new (λ image said. (Stands image state × (said ≡ old.said)) ⊎ LeftBySteps closing state 0 0 (steps batch [] items) old.said image said)
+  started-left left = within left (λ image said may. ⊎_elim
+      (λ (h : Stands image state × SaysFrontOf [] old.said said). inl (h.0, front-empty old.said said h.1))
+      (λ (h : LeftBySteps closing state 0 0 (steps batch [] items) (old.said ++ []) image said). inr (subst (λ b. LeftBySteps closing state 0 0 (steps batch [] items) b image said) (append-nil old.said) h))
+      may)
 
 -- the text gives items, which were acted on
 pub taken-ends : (T : Type 0) (batch : ℕ) (only : Option (List ℕ)) (state : Contents) (input left bytes : List ℕ) (items : List Item) (old new : World) (result : Result T Ended) → bytes ≡ input → left ≡ [] → length bytes ≤ load_max → Takes bytes only (Ok items)
-    → IsConcluded (stage_at_start batch state items) old new result → EndsLoad batch only state input left old new result
+    → IsConcluded (stage_at_start says_loaded batch state items) old new result → EndsLoad batch only state input left old new result
 taken-ends T batch only state input left bytes items old new result same none short takes concluded =
-    subst (λ (b : List ℕ). EndsLoad batch only state b left old new result) same (by_result result concluded)
+    subst (λ (b : List ℕ). EndsLoad batch only state b left old new result) same (by_result result (concluded-ends says_loaded batch state items old new T result concluded))
   where
     is : IsTaken only bytes (Ok items)
     is = (short, takes)
 
-    by_result : (result : Result T Ended) → IsConcluded (stage_at_start batch state items) old new result → EndsLoad batch only state bytes left old new result
-    by_result (Ok done) ended = ((items, is, reaches-ends _ batch state items old new ended), none)
+    by_result : (result : Result T Ended) → EndsSteps says_loaded state (steps batch [] items) old new result → EndsLoad batch only state bytes left old new result
+    by_result (Ok done) ended = ((items, is, ended), none)
     by_result (Err ends.Memory) ended = inr (items, is, ended)
     by_result (Err ends.Disk) ended = inr (items, is, ended)
     by_result (Err ends.Sink) ended = inr (items, is, ended)
-    by_result (Err (ends.Limit limits.Full)) ended = inr (items, is, reaches-ends _ batch state items old new ended)
-    by_result (Err (ends.Limit limits.Worn)) ended = inr (items, is, reaches-ends _ batch state items old new ended)
-    by_result (Err (ends.Limit limits.NoRoom)) ended = inr (items, is, subst (λ b. StopsAtBatch state 0 0 (steps batch [] items) b new) (append-nil old.said) ended)
+    by_result (Err (ends.Limit fault)) ended = inr (items, is, ended)
     by_result (Err _) ended = absurd ended
 
 -- and what a crash left meanwhile
 pub taken-left : (batch : ℕ) (only : Option (List ℕ)) (state : Contents) (input bytes : List ℕ) (items : List Item) (old new : World) → bytes ≡ input → length bytes ≤ load_max → Takes bytes only (Ok items)
-    → LeavesOnly old new (LeftFrom (stage_at_start batch state items) old.said) → LeavesOnly old new (LeftByLoad batch only state input old.said)
-taken-left batch only state input bytes items old new same short takes left = within left (λ image said may. ⊎_elim
-    (λ (h : Stands image state × SaysFrontOf [] old.said said). inl (h.0, front-empty old.said said h.1))
-    (λ (h : LeftBySteps state 0 0 (steps batch [] items) (old.said ++ []) image said).
-    inr (items, subst (λ (b : List ℕ). IsTaken only b (Ok items)) same (short, takes), subst (λ b. LeftBySteps state 0 0 (steps batch [] items) b image said) (append-nil old.said) h))
+    → LeavesOnly old new (LeftFrom (stage_at_start says_loaded batch state items) old.said) → LeavesOnly old new (LeftByLoad batch only state input old.said)
+taken-left batch only state input bytes items old new same short takes left = within (started-left says_loaded batch state items old new left) (λ image said may. ⊎_elim
+    (λ none. inl none)
+    (λ some. inr (items, subst (λ (b : List ℕ). IsTaken only b (Ok items)) same (short, takes), some))
     may)
 
 -- ---- reading the whole input

@@ -3,7 +3,8 @@ use Rattle.std.proofs.Common.{◌≡◌, inl, inr, ⊎_elim, ℕ, ◌+◌, List,
 use Rattle.std.specs.Prelude.{Result, Ok, Err}
 use Rattle.std.proofs.lemmas.List.{append-nil}
 use Rattle.disk_model.specs.World.{World, Image}
-use Rattle.disk_model.proofs.Moments.{started, then, within}
+use Rattle.disk_model.proofs.Moments.{rested, started, then, within}
+use Rattle.page_store.specs.Store.{Rests}
 use Rattle.place_map.specs.State.{Contents}
 use Rattle.place_map.specs.declared.update.UpdateFault.{UpdateFault}
 use Rattle.store_meaning.specs.Stands.{Stands}
@@ -17,7 +18,7 @@ use Rattle.run_protocol.specs.Left.{StopsAtBatch, StopsBehind}
 use Rattle.run_protocol.specs.Said.{SaysFrontOf}
 use Rattle.run_protocol.specs.Turn.{End}
 use Rattle.load_run.proofs.Fronts.{front-behind, front-none}
-use Rattle.load_run.specs.Loading.{Stage, text_to_say, StopsFrom, moment_of, Goes, Reaches, IsConcluded, Concludes, Moves}
+use Rattle.load_run.specs.Loading.{LeftFrom, Stage, text_to_say, StopsFrom, moment_of, Goes, Reaches, IsConcluded, Concludes, Moves}
 
 -- ---- where a load stops for want of room
 
@@ -115,3 +116,17 @@ goes-moves first w after (Err end) next = goes-concludes first next
 -- a load ended for want of memory, with nothing done
 pub lacks-memory : (at : Stage) (now : World) (T : Type 0) → Concludes {T = T} at now now (Err ends.Memory)
 lacks-memory at now T = record { left = started now; ends = front-none (text_to_say at) now.said now.said refl }
+
+-- the engine was only read: the load stands where it stood
+pub goes-read : (at : Stage) (old new : World) → Rests old new → HoldsState old at.state → Goes at at old new
+goes-read at old new rests holds = record {
+  done = [];
+  text = refl;
+  end = refl;
+  state = refl;
+  said = rests.said ∙ sym (append-nil old.said);
+  holds = subst (λ (i : Image). Stands i at.state) (sym rests.seen) holds;
+  left = rested rests.adds;
+  leads = λ image said left. subst (λ b. LeftFrom at b image said) rests.said left;
+  stops = λ image said stops. subst (λ b. StopsFrom at b (moment_of image said)) rests.said stops;
+}

@@ -10,7 +10,7 @@ use Rattle.geojson_points.specs.Takes.{Item, Placed, Skipped}
 use Rattle.geojson_points.specs.declared.taken.SkipReason.{SkipReason}
 use Rattle.irtree_engine.specs.Updates.{state_after_all}
 use Rattle.run_protocol.specs.Turn.{continued, Done, Limit}
-use Rattle.run_protocol.specs.Load.{Step, Skip, Store, steps, load, stores, ends_at, put_of, limit_of, skip_line, stored_line, loaded_line}
+use Rattle.run_protocol.specs.Load.{Closing, Step, Skip, Store, steps, load, stores, ends_at, put_of, limit_of, skip_line, stored_line}
 use Rattle.run_protocol.specs.Left.{batch_turn}
 
 -- an item is passed over
@@ -55,24 +55,24 @@ unfolding steps
 steps-none batch waiting none = ap (λ w. steps batch w []) none
 
 -- what passing over says, in front of the rest
-pub load-skip : (state : Contents) (stored skipped : ℕ) (index : ℕ) (reason : SkipReason) (rest : List Step)
-    → load state stored skipped (Skip index reason ∷ rest) ≡ continued (record { text = skip_line index reason; changes = []; state = state }) (load state stored (skipped + 1) rest)
+pub load-skip : (closing : Closing) (state : Contents) (stored skipped : ℕ) (index : ℕ) (reason : SkipReason) (rest : List Step)
+    → load closing state stored skipped (Skip index reason ∷ rest) ≡ continued (record { text = skip_line index reason; changes = []; state = state }) (load closing state stored (skipped + 1) rest)
 unfolding load
-load-skip state stored skipped index reason rest = refl
+load-skip closing state stored skipped index reason rest = refl
 
 -- what storing says, in front of the rest
-pub load-stored : (state after : Contents) (stored skipped : ℕ) (updates : List Update) (rest : List Step) → state_after_all state updates ≡ Ok after
-    → load state stored skipped (Store updates ∷ rest) ≡ continued (batch_turn updates stored after) (load after (stored + length updates) skipped rest)
+pub load-stored : (closing : Closing) (state after : Contents) (stored skipped : ℕ) (updates : List Update) (rest : List Step) → state_after_all state updates ≡ Ok after
+    → load closing state stored skipped (Store updates ∷ rest) ≡ continued (batch_turn updates stored after) (load closing after (stored + length updates) skipped rest)
 unfolding load
-load-stored state after stored skipped updates rest is = ap (λ r. stores state updates (stored_line (stored + length updates)) r (λ next. load next (stored + length updates) skipped rest)) is
+load-stored closing state after stored skipped updates rest is = ap (λ r. stores state updates (stored_line (stored + length updates)) r (λ next. load closing next (stored + length updates) skipped rest)) is
 
 -- or a limit ends it
-pub load-refused : (state : Contents) (stored skipped : ℕ) (updates : List Update) (rest : List Step) (fault : UpdateFault) → state_after_all state updates ≡ Err fault
-    → load state stored skipped (Store updates ∷ rest) ≡ ends_at state [] (Limit (limit_of fault))
+pub load-refused : (closing : Closing) (state : Contents) (stored skipped : ℕ) (updates : List Update) (rest : List Step) (fault : UpdateFault) → state_after_all state updates ≡ Err fault
+    → load closing state stored skipped (Store updates ∷ rest) ≡ ends_at state [] (Limit (limit_of fault))
 unfolding load
-load-refused state stored skipped updates rest fault is = ap (λ r. stores state updates (stored_line (stored + length updates)) r (λ next. load next (stored + length updates) skipped rest)) is
+load-refused closing state stored skipped updates rest fault is = ap (λ r. stores state updates (stored_line (stored + length updates)) r (λ next. load closing next (stored + length updates) skipped rest)) is
 
--- behind all steps the last line is said
-pub load-none : (state : Contents) (stored skipped : ℕ) → load state stored skipped [] ≡ ends_at state (loaded_line stored skipped) Done
+-- behind all steps comes what is said last
+pub load-none : (closing : Closing) (state : Contents) (stored skipped : ℕ) → load closing state stored skipped [] ≡ ends_at state (closing state stored skipped) Done
 unfolding load
-load-none state stored skipped = refl
+load-none closing state stored skipped = refl

@@ -14,7 +14,7 @@ use Rattle.store_meaning.specs.Stands.{Stands}
 use Rattle.irtree_engine.specs.Holding.{HoldsState}
 use Rattle.irtree_engine.specs.Updates.{NamesText, LeavesAllOrNone, StandsForOutcome, state_after_all}
 use Rattle.run_protocol.specs.Left.{LeftBySteps, StopsAtBatch}
-use Rattle.run_protocol.specs.Load.{IsTaken, Step, load, load_max, load_transcript, steps}
+use Rattle.run_protocol.specs.Load.{Closing, IsTaken, Step, load, load_max, load_transcript, says_loaded, steps}
 use Rattle.run_protocol.specs.Said.{EndsAs, SaysFrontOf}
 use Rattle.run_protocol.specs.Turn.{Transcript, End, Done, Limit}
 use Rattle.run_protocol.specs.declared.ended.Ended.{Ended}
@@ -54,9 +54,10 @@ pub record HasStored (count : ℕ) (old new : Load) : Type 0 where
   pub stored : new.stored ≡ old.stored + count
   pub skipped : new.skipped ≡ old.skipped
 
--- Where a load stands: the state that the image stands for, how many places were stored and how many items were skipped, the steps
--- that are still to come, and the text that waits to be said.
+-- Where a load stands: what it says last, the state that the image stands for, how many places were stored and how many items were skipped,
+-- the steps that are still to come, and the text that waits to be said.
 pub record Stage : Type 0 where
+  pub closing : Closing
   pub state : Contents
   pub stored : ℕ
   pub skipped : ℕ
@@ -64,20 +65,24 @@ pub record Stage : Type 0 where
   pub waits : List ℕ
 
 -- a load that stands in this state, in front of these steps
-abbrev pub stage : Load → Contents → List Step → Stage
-stage at state rest = record { state = state; stored = at.stored; skipped = at.skipped; rest = rest; waits = at.text.items }
+abbrev pub stage : Closing → Load → Contents → List Step → Stage
+stage closing at state rest = record { closing = closing; state = state; stored = at.stored; skipped = at.skipped; rest = rest; waits = at.text.items }
 
 -- and in front of these items
-abbrev pub stage_before : Load → Contents → List Item → Stage
-stage_before at state items = stage at state (steps at.batch at.waiting.items items)
+abbrev pub stage_before : Closing → Load → Contents → List Item → Stage
+stage_before closing at state items = stage closing at state (steps at.batch at.waiting.items items)
 
 -- a load that has acted on no item
-abbrev pub stage_at_start : ℕ → Contents → List Item → Stage
-stage_at_start batch state items = record { state = state; stored = 0; skipped = 0; rest = steps batch [] items; waits = [] }
+abbrev pub stage_at_start : Closing → ℕ → Contents → List Item → Stage
+stage_at_start closing batch state items = record { closing = closing; state = state; stored = 0; skipped = 0; rest = steps batch [] items; waits = [] }
+
+-- what a load says last that stands so in this state
+abbrev pub closing_of : Closing → Load → Contents → List ℕ
+closing_of closing at state = closing state at.stored at.skipped
 
 -- what the steps to come say and do
 abbrev pub to_come : Stage → Transcript
-to_come at = load at.state at.stored at.skipped at.rest
+to_come at = load at.closing at.state at.stored at.skipped at.rest
 
 -- the text to be said from there on
 abbrev pub text_to_say : Stage → List ℕ
@@ -87,7 +92,7 @@ text_to_say at = at.waits ++ (to_come at).turn.text
 abbrev pub LeftFrom : Stage → List ℕ → Image → List ℕ → Type 0
 LeftFrom at before image said =
     (Stands image at.state × SaysFrontOf at.waits before said)
-    ⊎ LeftBySteps at.state at.stored at.skipped at.rest (before ++ at.waits) image said
+    ⊎ LeftBySteps at.closing at.state at.stored at.skipped at.rest (before ++ at.waits) image said
 
 -- where a load stops for want of room from there on
 abbrev pub StopsFrom : Stage → List ℕ → World → Type 0
@@ -177,15 +182,24 @@ pub record RisesBy {T : Type 0} (count waits_old waits_new : ℕ) (old new : Hea
 
 -- ---- the whole
 
+-- how steps stopped, in the state at their start, and what was said of them
+abbrev pub StopsSteps : Closing → Contents → List Step → World → World → Ended → Type 0
+StopsSteps closing state steps first now ends.Memory = SaysFrontOf (load closing state 0 0 steps).turn.text first.said now.said
+StopsSteps closing state steps first now ends.Disk = SaysFrontOf (load closing state 0 0 steps).turn.text first.said now.said
+StopsSteps closing state steps first now ends.Sink = SaysFrontOf (load closing state 0 0 steps).turn.text first.said now.said
+StopsSteps closing state steps first now (ends.Limit limits.Full) = EndsAs (Limit limits.Full) (load closing state 0 0 steps) first now
+StopsSteps closing state steps first now (ends.Limit limits.Worn) = EndsAs (Limit limits.Worn) (load closing state 0 0 steps) first now
+StopsSteps closing state steps first now (ends.Limit limits.NoRoom) = StopsAtBatch state 0 0 steps first.said now
+StopsSteps closing state steps first now _ = ⊥
+
+-- how they ended
+abbrev pub EndsSteps : {T : Type 0} → Closing → Contents → List Step → World → World → Result T Ended → Type 0
+EndsSteps closing state steps first now (Ok done) = EndsAs Done (load closing state 0 0 steps) first now
+EndsSteps closing state steps first now (Err end) = StopsSteps closing state steps first now end
+
 -- how the items of a load stopped, in the state at its start, and what was said of them
 abbrev pub StopsItems : ℕ → Contents → List Item → World → World → Ended → Type 0
-StopsItems batch state items first now ends.Memory = SaysFrontOf (load_transcript batch state (Ok items)).turn.text first.said now.said
-StopsItems batch state items first now ends.Disk = SaysFrontOf (load_transcript batch state (Ok items)).turn.text first.said now.said
-StopsItems batch state items first now ends.Sink = SaysFrontOf (load_transcript batch state (Ok items)).turn.text first.said now.said
-StopsItems batch state items first now (ends.Limit limits.Full) = EndsAs (Limit limits.Full) (load_transcript batch state (Ok items)) first now
-StopsItems batch state items first now (ends.Limit limits.Worn) = EndsAs (Limit limits.Worn) (load_transcript batch state (Ok items)) first now
-StopsItems batch state items first now (ends.Limit limits.NoRoom) = StopsAtBatch state 0 0 (steps batch [] items) first.said now
-StopsItems batch state items first now _ = ⊥
+StopsItems batch state items first now end = StopsSteps says_loaded state (steps batch [] items) first now end
 
 -- nothing was said, and the image stands for the state
 abbrev pub SaysNothingYet : Contents → World → World → Type 0

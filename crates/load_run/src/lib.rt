@@ -9,4 +9,5 @@ mod lines;
 mod load;
 mod run;
 
+pub use load::Load;
 pub use run::{LOAD_MAX, run_load};

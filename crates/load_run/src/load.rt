@@ -7,16 +7,16 @@ ghost use Rattle.geojson_points.specs.Takes.{Item, Placed, Skipped, HasTextKey, 
 ghost use Rattle.irtree_engine.specs.Holding.{HoldsState};
 ghost use Rattle.irtree_engine.specs.Updates.{NamesText};
 ghost use Rattle.run_protocol.specs.Causes.{HasEngineEnd};
-ghost use Rattle.run_protocol.specs.Load.{Step, Store, places_among, put_of};
+ghost use Rattle.run_protocol.specs.Load.{Closing, Step, Store, places_among, put_of, says_loaded};
 ghost use Rattle.run_protocol.specs.Said.{SaysAll};
-ghost use Rattle.load_run.specs.Loading.{CanWait, Concludes, HasStored, Moves, RisesBy, StoresAll, acted_on, stage, stage_at_start, stage_before};
+ghost use Rattle.load_run.specs.Loading.{CanWait, Concludes, HasStored, Moves, RisesBy, StoresAll, acted_on, closing_of, stage, stage_at_start, stage_before};
 
 use crate::lines::{write_loaded, write_skip, write_stored};
 use disk_model::Station;
 use geojson_points::{Draft, SkipReason, Taken};
 use irtree_engine::Engine;
 use place_map::Update;
-use run_protocol::{Ended, ended_by, say_all};
+use run_protocol::{Ended, ended_by, say_all, write_bytes};
 use std::alloc::Global;
 use std::mem;
 use term_impacts::impacts;
@@ -24,9 +24,9 @@ use term_impacts::impacts;
 /// How many bytes of skips wait to be said at most, but for the last line.
 const TEXT_KEPT: usize = 65_536;
 
-/// The places that wait for a full batch, how many items were acted on, and the text that waits to be said.
+/// A load between two of its items: the places that wait for a full batch, how many items were acted on, and the text that waits to be said.
 #[derive(Drop)]
-pub(crate) struct Load {
+pub struct Load {
     alloc: Global,
     batch: u32,
     waiting: Vec<Update>,
@@ -89,10 +89,10 @@ fn update_of(alloc: Global, draft: Draft) -> Result<Update, Ended>
 }
 
 impl Load {
-    /// A load that has acted on no item.
-    pub(crate) fn new(alloc: Global, batch: u32) -> Load
+    /// A load that has acted on no item, with this many places in a batch.
+    pub fn new(alloc: Global, batch: u32) -> Load
         requires { batch ≤ 10000 }
-        ensures stage { (state : Contents) (items : List Item) → stage_before result state items ≡ stage_at_start batch state items }
+        ensures stage { (closing : Closing) (state : Contents) (items : List Item) → stage_before closing result state items ≡ stage_at_start closing batch state items }
         ensures none { acted_on result ≡ 0 }
         ensures waits { CanWait result }
     {
@@ -117,8 +117,8 @@ impl Load {
         requires waits { CanWait self.old }
         requires key { HasTextKey (item_of item) }
         ensures same_loan { engine.new.store.disk.ghost_name ≡ engine.old.store.disk.ghost_name }
-        ensures told { IsTrue T.tells → (state : Contents) (items : List Item) → HoldsState (T.world engine.old.store.disk.now) state
-            → Moves (stage_before self.old state (item_of item ∷ items)) (λ after. stage_before self.new after items)
+        ensures told { IsTrue T.tells → (closing : Closing) (state : Contents) (items : List Item) → HoldsState (T.world engine.old.store.disk.now) state
+            → Moves (stage_before closing self.old state (item_of item ∷ items)) (λ after. stage_before closing self.new after items)
             (T.world engine.old.store.disk.now) (T.world engine.new.store.disk.now) result }
         ensures on { OnOk result (engine.new.stopped ≡ false) }
         ensures count { OnOk result (acted_on self.new ≡ acted_on self.old + 1) }
@@ -143,8 +143,8 @@ impl Load {
         requires count { acted_on self.old < 2 ^ 32 }
         requires waits { CanWait self.old }
         ensures same_loan { engine.new.store.disk.ghost_name ≡ engine.old.store.disk.ghost_name }
-        ensures told { IsTrue T.tells → (state : Contents) (items : List Item) → HoldsState (T.world engine.old.store.disk.now) state
-            → Moves (stage_before self.old state (Skipped index reason ∷ items)) (λ after. stage_before self.new after items)
+        ensures told { IsTrue T.tells → (closing : Closing) (state : Contents) (items : List Item) → HoldsState (T.world engine.old.store.disk.now) state
+            → Moves (stage_before closing self.old state (Skipped index reason ∷ items)) (λ after. stage_before closing self.new after items)
             (T.world engine.old.store.disk.now) (T.world engine.new.store.disk.now) result }
         ensures on { OnOk result (engine.new.stopped ≡ false) }
         ensures count { OnOk result (acted_on self.new ≡ acted_on self.old + 1) }
@@ -163,8 +163,11 @@ impl Load {
         say_text(&mut self.text, engine)
     }
 
-    // Lets a place wait, and stores all that wait where they are a batch.
-    fn place<'d, T: Station>(
+    /// Lets a place wait, and stores all that wait if they are a batch: in one commit, which is said once it is safe.
+    ///
+    /// Fails as `Memory`; or, if a batch is stored, as `Sink`, as `Disk`, as `Limit` if the batch meets one, of which nothing is stored then,
+    /// or as `Store(Damaged)`, never if the image stands for a state.
+    pub fn place<'d, T: Station>(
         &mut self,
         engine: &mut Engine<'d, T>,
         draft: Draft,
@@ -174,8 +177,8 @@ impl Load {
         requires waits { CanWait self.old }
         requires key { HasTextKey (Placed (place_of draft)) }
         ensures same_loan { engine.new.store.disk.ghost_name ≡ engine.old.store.disk.ghost_name }
-        ensures told { IsTrue T.tells → (state : Contents) (items : List Item) → HoldsState (T.world engine.old.store.disk.now) state
-            → Moves (stage_before self.old state (Placed (place_of draft) ∷ items)) (λ after. stage_before self.new after items)
+        ensures told { IsTrue T.tells → (closing : Closing) (state : Contents) (items : List Item) → HoldsState (T.world engine.old.store.disk.now) state
+            → Moves (stage_before closing self.old state (Placed (place_of draft) ∷ items)) (λ after. stage_before closing self.new after items)
             (T.world engine.old.store.disk.now) (T.world engine.new.store.disk.now) result }
         ensures on { OnOk result (engine.new.stopped ≡ false) }
         ensures count { OnOk result (acted_on self.new ≡ acted_on self.old + 1) }
@@ -210,8 +213,8 @@ impl Load {
         requires few { length updates.now ≤ 10000 }
         requires keys { AllByRecursion NamesText updates.now }
         ensures same_loan { engine.new.store.disk.ghost_name ≡ engine.old.store.disk.ghost_name }
-        ensures told { IsTrue T.tells → (state : Contents) (rest : List Step) → HoldsState (T.world engine.old.store.disk.now) state
-            → Moves (stage self.old state (Store updates.now ∷ rest)) (λ after. stage self.new after rest)
+        ensures told { IsTrue T.tells → (closing : Closing) (state : Contents) (rest : List Step) → HoldsState (T.world engine.old.store.disk.now) state
+            → Moves (stage closing self.old state (Store updates.now ∷ rest)) (λ after. stage closing self.new after rest)
             (T.world engine.old.store.disk.now) (T.world engine.new.store.disk.now) result }
         ensures on { OnOk result (engine.new.stopped ≡ false) }
         ensures counts { OnOk result (HasStored (length updates.now) self.old self.new) }
@@ -233,6 +236,49 @@ impl Load {
         }
     }
 
+    /// Stores the places that are left over behind the last item, if there are any, and says so.
+    ///
+    /// Fails as [`place`](Load::place) does. It costs one commit or none.
+    pub fn store_rest<'d, T: Station>(&mut self, engine: &mut Engine<'d, T>) -> Result<(), Ended>
+        requires on { engine.old.stopped ≡ false }
+        requires count { acted_on self.old < 2 ^ 33 }
+        requires waits { CanWait self.old }
+        ensures same_loan { engine.new.store.disk.ghost_name ≡ engine.old.store.disk.ghost_name }
+        ensures told { IsTrue T.tells → (closing : Closing) (state : Contents) → HoldsState (T.world engine.old.store.disk.now) state
+            → Moves (stage_before closing self.old state []) (λ after. stage closing self.new after [])
+            (T.world engine.old.store.disk.now) (T.world engine.new.store.disk.now) result }
+        ensures on { OnOk result (engine.new.stopped ≡ false) }
+        ensures cause { HasEngineEnd T.tells (T.world engine.old.store.disk.now) (T.world engine.new.store.disk.now) result }
+        ensures rises { RisesBy 0 (length self.old.waiting.items) 0 engine.old.store.current.head engine.new.store.current.head result }
+    {
+        let updates = mem::replace(&mut self.waiting, Vec::new(self.alloc));
+        if updates.is_empty() {
+            return Ok(());
+        }
+        self.store(engine, &updates)
+    }
+
+    /// Says what waits to be said, and this line behind it, which is what is said last.
+    ///
+    /// Fails as `Memory` or `Sink`, behind a front of that text. What the engine holds stays.
+    pub fn say_last<'d, T: Station>(
+        &mut self,
+        engine: &mut Engine<'d, T>,
+        line: &[u8],
+    ) -> Result<(), Ended>
+        requires on { engine.old.stopped ≡ false }
+        ensures same_loan { engine.new.store.disk.ghost_name ≡ engine.old.store.disk.ghost_name }
+        ensures told { IsTrue T.tells → (closing : Closing) (state : Contents) → HoldsState (T.world engine.old.store.disk.now) state → line.now ≡ closing_of closing self.old state
+            → Concludes (stage closing self.old state []) (T.world engine.old.store.disk.now) (T.world engine.new.store.disk.now) result }
+        ensures cause { HasEngineEnd T.tells (T.world engine.old.store.disk.now) (T.world engine.new.store.disk.now) result }
+        ensures rises { RisesBy 0 0 0 engine.old.store.current.head engine.new.store.current.head result }
+    {
+        match write_bytes(line, &mut self.text) {
+            Ok(()) => say_text(&mut self.text, engine),
+            Err(_) => Err(Ended::Memory),
+        }
+    }
+
     /// Stores the places that are left over, and says how many were stored and passed over.
     pub(crate) fn end<'d, T: Station>(&mut self, engine: &mut Engine<'d, T>) -> Result<(), Ended>
         requires on { engine.old.stopped ≡ false }
@@ -240,15 +286,11 @@ impl Load {
         requires waits { CanWait self.old }
         ensures same_loan { engine.new.store.disk.ghost_name ≡ engine.old.store.disk.ghost_name }
         ensures told { IsTrue T.tells → (state : Contents) → HoldsState (T.world engine.old.store.disk.now) state
-            → Concludes (stage_before self.old state []) (T.world engine.old.store.disk.now) (T.world engine.new.store.disk.now) result }
+            → Concludes (stage_before says_loaded self.old state []) (T.world engine.old.store.disk.now) (T.world engine.new.store.disk.now) result }
         ensures cause { HasEngineEnd T.tells (T.world engine.old.store.disk.now) (T.world engine.new.store.disk.now) result }
         ensures rises { RisesBy 0 (length self.old.waiting.items) 0 engine.old.store.current.head engine.new.store.current.head result }
     {
-        let updates = mem::replace(&mut self.waiting, Vec::new(self.alloc));
-        if updates.is_empty() {
-            return self.conclude(engine);
-        }
-        match self.store(&mut *engine, &updates) {
+        match self.store_rest(&mut *engine) {
             Ok(()) => self.conclude(engine),
             Err(end) => Err(end),
         }
@@ -259,12 +301,13 @@ impl Load {
         requires on { engine.old.stopped ≡ false }
         ensures same_loan { engine.new.store.disk.ghost_name ≡ engine.old.store.disk.ghost_name }
         ensures told { IsTrue T.tells → (state : Contents) → HoldsState (T.world engine.old.store.disk.now) state
-            → Concludes (stage self.old state []) (T.world engine.old.store.disk.now) (T.world engine.new.store.disk.now) result }
+            → Concludes (stage says_loaded self.old state []) (T.world engine.old.store.disk.now) (T.world engine.new.store.disk.now) result }
         ensures cause { HasEngineEnd T.tells (T.world engine.old.store.disk.now) (T.world engine.new.store.disk.now) result }
         ensures rises { RisesBy 0 0 0 engine.old.store.current.head engine.new.store.current.head result }
     {
-        match write_loaded(self.stored, self.skipped, &mut self.text) {
-            Ok(()) => say_text(&mut self.text, engine),
+        let mut line = Vec::new(self.alloc);
+        match write_loaded(self.stored, self.skipped, &mut line) {
+            Ok(()) => self.say_last(engine, &line),
             Err(_) => Err(Ended::Memory),
         }
     }

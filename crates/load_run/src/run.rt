@@ -7,7 +7,7 @@ ghost use Rattle.geojson_points.specs.Takes.{HasTextKey, item_of};
 ghost use Rattle.irtree_engine.specs.Holding.{HoldsState};
 ghost use Rattle.run_protocol.specs.Causes.{HasEngineEnd, HasJobEnd};
 ghost use Rattle.run_protocol.specs.Left.{LeftByLoad};
-ghost use Rattle.run_protocol.specs.Load.{GivesItems, IsTaken, ReachesLimit, places_among};
+ghost use Rattle.run_protocol.specs.Load.{GivesItems, IsTaken, ReachesLimit, places_among, says_loaded};
 ghost use Rattle.load_run.specs.Loading.{Concludes, EndsLoad, HasReadEnd, HasText, RefusesSo, RisesBy, stage_at_start};
 
 use crate::load::Load;
@@ -67,7 +67,7 @@ fn store_items<'d, T: Station>(
     requires keys { All (λ item. HasTextKey (item_of item)) items.items }
     ensures same_loan { engine.new.store.disk.ghost_name ≡ engine.old.store.disk.ghost_name }
     ensures told { IsTrue T.tells → (state : Contents) → HoldsState (T.world engine.old.store.disk.now) state
-        → Concludes (stage_at_start batch state (map item_of items.items)) (T.world engine.old.store.disk.now) (T.world engine.new.store.disk.now) result }
+        → Concludes (stage_at_start says_loaded batch state (map item_of items.items)) (T.world engine.old.store.disk.now) (T.world engine.new.store.disk.now) result }
     ensures cause { HasEngineEnd T.tells (T.world engine.old.store.disk.now) (T.world engine.new.store.disk.now) result }
     ensures rises { RisesBy (places_among (map item_of items.items)) 0 0 engine.old.store.current.head engine.new.store.current.head result }
 {

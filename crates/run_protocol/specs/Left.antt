@@ -13,7 +13,7 @@ use Rattle.irtree_engine.specs.Updates.{state_after_all}
 use Rattle.run_protocol.specs.Turn.{Turn}
 use Rattle.run_protocol.specs.Said.{SaysFrontOf, LeftByTurn}
 use Rattle.run_protocol.specs.Script.{turn}
-use Rattle.run_protocol.specs.Load.{IsTaken, Step, Skip, Store, steps, skip_line, stored_line, loaded_line}
+use Rattle.run_protocol.specs.Load.{Closing, IsTaken, Step, Skip, Store, says_loaded, steps, skip_line, stored_line}
 
 -- ---- scripts
 
@@ -48,21 +48,22 @@ LeftByBatch state updates stored (Ok after) Behind before image said =
     ⊎ Behind after (before ++ stored_line (stored + length updates)) image said
 LeftByBatch state updates stored (Err fault) Behind before image said = Stands image state × (said ≡ before)
 
--- Around one of the steps, after so many places stored and so many items skipped: of the steps before it all was said.
-abbrev pub LeftBySteps : Contents → ℕ → ℕ → List Step → List ℕ → Image → List ℕ → Type 0
-LeftBySteps state stored skipped [] before image said = Stands image state × SaysFrontOf (loaded_line stored skipped) before said
-LeftBySteps state stored skipped (Skip index reason ∷ rest) before image said =
+-- Around one of the steps, after so many places stored and so many items skipped: of the steps before it all was said. Behind them a front
+-- of what is said last.
+abbrev pub LeftBySteps : Closing → Contents → ℕ → ℕ → List Step → List ℕ → Image → List ℕ → Type 0
+LeftBySteps closing state stored skipped [] before image said = Stands image state × SaysFrontOf (closing state stored skipped) before said
+LeftBySteps closing state stored skipped (Skip index reason ∷ rest) before image said =
     (Stands image state × SaysFrontOf (skip_line index reason) before said)
-    ⊎ LeftBySteps state stored (skipped + 1) rest (before ++ skip_line index reason) image said
-LeftBySteps state stored skipped (Store updates ∷ rest) before image said =
+    ⊎ LeftBySteps closing state stored (skipped + 1) rest (before ++ skip_line index reason) image said
+LeftBySteps closing state stored skipped (Store updates ∷ rest) before image said =
     LeftByBatch state updates stored (state_after_all state updates)
-    (λ after. LeftBySteps after (stored + length updates) skipped rest) before image said
+    (λ after. LeftBySteps closing after (stored + length updates) skipped rest) before image said
 
 -- before the text was taken, or around one of its steps
 abbrev pub LeftByLoad : ℕ → Option (List ℕ) → Contents → List ℕ → List ℕ → Image → List ℕ → Type 0
 LeftByLoad batch only state input before image said =
     (Stands image state × (said ≡ before))
-    ⊎ ((items : List Item) × IsTaken only input (Ok items) × LeftBySteps state 0 0 (steps batch [] items) before image said)
+    ⊎ ((items : List Item) × IsTaken only input (Ok items) × LeftBySteps says_loaded state 0 0 (steps batch [] items) before image said)
 
 -- behind a batch that is accepted
 abbrev pub StopsBehind : Result Contents UpdateFault → (Contents → Type 0) → Type 0

@@ -79,14 +79,23 @@ abbrev pub stores : Contents → List Update → List ℕ → Result Contents Up
 stores state updates line (Ok after) rest = continued (record { text = line; changes = updates; state = after }) (rest after)
 stores state updates line (Err fault) rest = ends_at state [] (Limit (limit_of fault))
 
--- the steps, each in the state that those before it leave, after so many places stored and so many items skipped
-unfoldable pub load : Contents → ℕ → ℕ → List Step → Transcript
-load state stored skipped [] = ends_at state (loaded_line stored skipped) Done
-load state stored skipped (Skip index reason ∷ rest) =
-    continued (record { text = skip_line index reason; changes = []; state = state }) (load state stored (skipped + 1) rest)
-load state stored skipped (Store updates ∷ rest) =
+-- what is said behind all steps, by the state, how many places were stored and how many items were skipped
+abbrev pub Closing : Type 0
+Closing = Contents → ℕ → ℕ → List ℕ
+
+-- in a load the line of these numbers
+abbrev pub says_loaded : Closing
+says_loaded state stored skipped = loaded_line stored skipped
+
+-- The steps, each in the state that those before it leave, after so many places stored and so many items skipped, and what is said behind
+-- them.
+unfoldable pub load : Closing → Contents → ℕ → ℕ → List Step → Transcript
+load closing state stored skipped [] = ends_at state (closing state stored skipped) Done
+load closing state stored skipped (Skip index reason ∷ rest) =
+    continued (record { text = skip_line index reason; changes = []; state = state }) (load closing state stored (skipped + 1) rest)
+load closing state stored skipped (Store updates ∷ rest) =
     stores state updates (stored_line (stored + length updates)) (state_after_all state updates)
-    (λ after. load after (stored + length updates) skipped rest)
+    (λ after. load closing after (stored + length updates) skipped rest)
 
 -- ---- the whole
 
@@ -121,5 +130,5 @@ ReachesLimit NoRoom live number only input = Unit {0}
 
 -- all that a load says and does
 abbrev pub load_transcript : ℕ → Contents → Result (List Item) InputFault → Transcript
-load_transcript batch state (Ok items) = load state 0 0 (steps batch [] items)
+load_transcript batch state (Ok items) = load says_loaded state 0 0 (steps batch [] items)
 load_transcript batch state (Err fault) = ends_at state [] (Input fault)

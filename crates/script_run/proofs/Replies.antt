@@ -28,16 +28,13 @@ use Rattle.irtree_engine.specs.declared.fault.EngineFault.TheVariants as engine
 use Rattle.irtree_engine.specs.Faults.{IsReadFault}
 use Rattle.irtree_engine.specs.Holding.{HoldsState}
 use Rattle.irtree_engine.specs.Updates.{LeavesOneOf, IsUpdateFault, IsDueTo}
+use Rattle.run_protocol.proofs.Reading.{RefusedRead, holds-same, rests-still}
 use Rattle.run_protocol.specs.Causes.{HasEngineEnd, end_of_engine}
 use Rattle.run_protocol.specs.Script.{state_after}
 use Rattle.run_protocol.specs.declared.ended.Ended.{Ended}
 use Rattle.run_protocol.specs.declared.ended.Ended.TheVariants as ends
 use Rattle.run_protocol.specs.declared.ended.LimitFault.TheVariants as limits
 use Rattle.script_run.specs.Lines.{refused_by, StopsBeforeReply, RepliesTo}
-
--- an image that is as it was stands for the same state
-pub holds-same : (old new : World) (state : Contents) → new.seen ≡ old.seen → HoldsState old state → HoldsState new state
-holds-same old new state same holds = subst (λ (image : Image). Stands image state) (sym same) holds
 
 -- ---- updates
 
@@ -163,10 +160,6 @@ module _ (tells : Bool) (update : Update) (old new : World) where
 
 -- ---- reads
 
--- an engine that wasn't called
-pub rests-still : (now : World) → Rests now now
-rests-still now = record { seen = refl; crash = λ image may. may; adds = started now; said = refl }
-
 -- a line that only reads was answered
 pub read-replies : (state : Contents) (read : Result Line LineFault) (old new : World) (reply : Reply) → Rests old new → HoldsState old state → state_after state read ≡ state
     → text_of_reply reply ≡ text_of_reply (reply_of state read) → RepliesTo state read old new (Ok reply)
@@ -177,25 +170,6 @@ read-replies state read old new reply rests holds same is = record {
   said = rests.said;
   left_by = rested rests.adds;
 }
-
--- and the run goes on
-pub read-goes_on : (tells : Bool) (old new : World) (reply : Reply) → (IsTrue tells → Rests old new) → old.faults ≤ new.faults → new.sink_faults ≡ old.sink_faults → HasEngineEnd tells old new (Ok reply)
-read-goes_on tells old new reply rests faults sink = record {
-  faults = faults;
-  sink = omega (arith, sink);
-  stands = λ told state holds. (state, holds-same old new state (rests told).seen holds);
-  cause = tt;
-}
-
--- what is known of a read that was refused
-pub record RefusedRead (tells : Bool) (old new : World) (fault : EngineFault) : Type 0 where
-  pub causes : IsReadFault fault
-  pub faults : old.faults ≤ new.faults
-  pub sink : new.sink_faults ≡ old.sink_faults
-  pub on : fault ≡ engine.Stopped → ⊥
-  pub disk : fault ≡ engine.Disk → Rose old.faults new.faults
-  pub honest : IsTrue tells → (state : Contents) → HoldsState old state → (damage : Damage) → fault ≡ engine.Damaged damage → ⊥
-  pub rests : IsTrue tells → Rests old new
 
 module _ (tells : Bool) (old new : World) where
   -- a read that is refused stops the run before its reply
@@ -219,19 +193,6 @@ module _ (tells : Bool) (old new : World) where
     said = (refused.rests told).said;
     left_by = rested (refused.rests told).adds;
   }
-
-  -- and each end has its cause
-  pub refused-read-cause : (T : Type 0) (fault : EngineFault) → RefusedRead tells old new fault → HasEngineEnd {T = T} tells old new (Err (end_of_engine fault))
-  refused-read-cause T engine.Disk refused = record { faults = refused.faults; sink = omega (arith, refused.sink); stands = λ told. tt; cause = refused.disk refl }
-  refused-read-cause T (engine.Damaged damage) refused =
-      record { faults = refused.faults; sink = omega (arith, refused.sink); stands = λ told. tt; cause = λ told state stands. refused.honest told state stands damage refl }
-  refused-read-cause T engine.Stopped refused = absurd (refused.on refl)
-  refused-read-cause T engine.Memory refused = record { faults = refused.faults; sink = omega (arith, refused.sink); stands = λ told. tt; cause = tt }
-  refused-read-cause T engine.Full refused = absurd refused.causes
-  refused-read-cause T engine.Worn refused = absurd refused.causes
-  refused-read-cause T engine.NoRoom refused = absurd refused.causes
-  refused-read-cause T engine.NotAStore refused = absurd refused.causes
-  refused-read-cause T (engine.BadJournal at) refused = absurd refused.causes
 
 -- ---- what is read
 

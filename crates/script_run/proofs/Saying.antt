@@ -21,7 +21,7 @@ use Rattle.run_protocol.specs.declared.ended.Ended.{Ended}
 use Rattle.run_protocol.specs.declared.ended.Ended.TheVariants as ends
 use Rattle.run_protocol.specs.declared.ended.LimitFault.TheVariants as limits
 use Rattle.script_run.specs.Lines.{StopsBeforeReply, RepliesTo, StopsAmong, RunsLines}
-use Rattle.script_run.proofs.Replies.{holds-same}
+use Rattle.run_protocol.proofs.Reading.{holds-same}
 
 -- what is said leaves the image, and a station that said it goes on
 pub say-goes_on : (tells : Bool) (old new : World) (bytes : List ℕ) {A T : Type 0} (value : A) (other : T) → (IsTrue tells → SaysAll {E = Failed} bytes old new (Ok value)) → HasSinkCause {T = A} old new (Ok value) → HasEngineEnd tells old new (Ok other)

@@ -5,7 +5,7 @@ use Rattle.std.specs.Vec.Iter.{into_iter_items}
 use Rattle.std.proofs.lemmas.List.Elements.{All-tail}
 use Rattle.geojson_points.specs.Takes.{HasTextKey, item_of}
 use Rattle.geojson_points.specs.declared.taken.Taken.{Taken}
-use Rattle.run_protocol.specs.Load.{places_among}
+use Rattle.run_protocol.specs.Load.{places_among, says_loaded}
 use Rattle.load_run.specs.Loading.{stage_at_start}
 use Rattle.load_run.proofs.Causes.{engine-none, engine-then}
 use Rattle.load_run.proofs.Stages.{goes-as, goes-concludes, goes-then}
@@ -30,7 +30,7 @@ loop-item-init g c =
       waits = c.new-load.ensures.waits;
       keys = subst (λ (xs : List Taken). All (λ item. HasTextKey (item_of item)) xs) (sym gives.0) c.requires.keys;
       told = λ told state holds.
-          let same = c.new-load.ensures.stage state _ ∙ ap (λ (xs : List Taken). stage_at_start c.args.batch state (map item_of xs)) gives.0 in
+          let same = c.new-load.ensures.stage says_loaded state _ ∙ ap (λ (xs : List Taken). stage_at_start says_loaded c.args.batch state (map item_of xs)) gives.0 in
           (state, goes-as _ _ old (sym same) holds);
       rises = record { live = omega (arith, starts); number = omega (arith, starts); limit = tt };
       cause = engine-none g.T.Disk.tells old (Unit {0}) tt;
@@ -50,8 +50,8 @@ loop-item-preserved g c =
       keys = All-tail (λ (item : Taken). HasTextKey (item_of item)) _ _ keys;
       told = λ told state holds.
           let sofar = c.loop-item.invariant.told told state holds in
-          let here = goes-items _ c.loop-item.load sofar.0 _ _ _ _ c.in-Some.ensures.steps.0 sofar.1 in
-          let next = c.in-Ok.ensures.told told sofar.0 (map item_of (into_iter_items c.next.new.self)) here.holds in
+          let here = goes-items says_loaded _ c.loop-item.load sofar.0 _ _ _ _ c.in-Some.ensures.steps.0 sofar.1 in
+          let next = c.in-Ok.ensures.told told says_loaded sofar.0 (map item_of (into_iter_items c.next.new.self)) here.holds in
           (next.0, goes-then here next.1);
       rises = rises-item _ _ _ _ _ _ _ c.loop-item.invariant.rises _ _ _ c.in-Some.ensures.steps.0 c.in-Ok.ensures.rises;
       cause = engine-then c.loop-item.invariant.cause _ c.in-Ok.ensures.cause;
@@ -60,8 +60,8 @@ loop-item-preserved g c =
 pub returns-in-Err-clause-told : goal.returns-in-Err-clause-told
 returns-in-Err-clause-told g c = λ told state holds.
     let sofar = c.loop-item.invariant.told told state holds in
-    let here = goes-items _ c.loop-item.load sofar.0 _ _ _ _ c.in-Some.ensures.steps.0 sofar.1 in
-    goes-concludes here (c.in-Err.ensures.told told sofar.0 (map item_of (into_iter_items c.next.new.self)) here.holds)
+    let here = goes-items says_loaded _ c.loop-item.load sofar.0 _ _ _ _ c.in-Some.ensures.steps.0 sofar.1 in
+    goes-concludes here (c.in-Err.ensures.told told says_loaded sofar.0 (map item_of (into_iter_items c.next.new.self)) here.holds)
 
 pub returns-in-Err-clause-cause : goal.returns-in-Err-clause-cause
 returns-in-Err-clause-cause g c = engine-then c.loop-item.invariant.cause _ c.in-Err.ensures.cause
@@ -70,7 +70,7 @@ pub returns-clause-told : goal.returns-clause-told
 returns-clause-told g c = λ told state holds.
     let sofar = c.loop-item.invariant.told told state holds in
     let none = empty-list (into_iter_items c.loop-item.item-iterator) _ c.loop-item.invariant.count c.in-None.ensures.steps.0 in
-    let here = goes-items _ c.loop-item.load sofar.0 _ _ _ _ none sofar.1 in
+    let here = goes-items says_loaded _ c.loop-item.load sofar.0 _ _ _ _ none sofar.1 in
     goes-concludes here (c.end.ensures.told told sofar.0 here.holds)
 
 pub returns-clause-cause : goal.returns-clause-cause

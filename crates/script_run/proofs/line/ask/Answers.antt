@@ -9,7 +9,8 @@ use Rattle.run_protocol.specs.Causes.{HasEngineEnd}
 use Rattle.run_protocol.specs.declared.ended.Ended.{Ended}
 use Rattle.script_run.specs.Lines.{IsLineEnd, RepliesTo}
 use Rattle.script_run.proofs.Ends.{read-ends}
-use Rattle.script_run.proofs.Replies.{RefusedRead, read-replies, refused-read, refused-read-cause}
+use Rattle.run_protocol.proofs.Reading.{RefusedRead, refused-read-cause}
+use Rattle.script_run.proofs.Replies.{read-replies, refused-read}
 use Rattle.script_run.proofs.line.ask.Goals as goal
 
 pub returns-in-Ok-clause-told : goal.returns-in-Ok-clause-told

@@ -1,22 +1,17 @@
-use Rattle.std.proofs.Common.{ap, arith}
-use Rattle.page_store.specs.declared.superblock.Superblock.{Superblock}
+use Rattle.std.proofs.Common.{◌≡◌, ◌∙◌, ◌++◌, [], ap, rules}
+use Rattle.run_protocol.specs.Load.{loaded_line, says_loaded}
 use Rattle.load_run.specs.Loading.{stage}
 use Rattle.load_run.proofs.Stages.{lacks-memory}
-use Rattle.load_run.proofs.Moves.{concludes-said}
-use Rattle.load_run.proofs.Numbers.{rises-said}
 use Rattle.load_run.proofs.load.Load.conclude.Goals as goal
 
 pub returns-in-Ok-clause-told : goal.returns-in-Ok-clause-told
 returns-in-Ok-clause-told g c = λ told state holds.
     let s = c.args.self.now in
-    concludes-said state s.stored s.skipped s.text.items _ (g.T.Disk.world c.args.engine.now.store.disk.now) (g.T.Disk.world c.say_text.new.engine.store.disk.now) c.in-Ok.ensures holds c.say_text.result (c.say_text.ensures.said told) c.say_text.ensures.ends
+    let empty : c.new-line.result.items ≡ [] = search rules in
+    c.say_last.ensures.told told says_loaded state holds (c.deref.ensures.value ∙ c.in-Ok.ensures ∙ ap (λ t. t ++ loaded_line s.stored s.skipped) empty)
 
-pub returns-in-Err-clause-told : goal.returns-in-Err-clause-told
-returns-in-Err-clause-told g c = λ told state holds. lacks-memory (stage c.args.self.now state _) (g.T.Disk.world c.args.engine.now.store.disk.now) (Unit {0})
+pub returns-clause-told : goal.returns-clause-told
+returns-clause-told g c = λ told state holds. lacks-memory (stage says_loaded c.args.self.now state _) (g.T.Disk.world c.args.engine.now.store.disk.now) (Unit {0})
 
-pub returns-in-Ok-clause-rises : goal.returns-in-Ok-clause-rises
-returns-in-Ok-clause-rises g c = rises-said 0 0 0 c.args.engine.now.store.current.head c.args.engine.now.store.current.head c.say_text.new.engine.store.current.head c.say_text.result
-    (omega arith) (omega arith) (ap (λ (b : Superblock). b.head) c.say_text.ensures.head) c.say_text.ensures.ends
-
-pub returns-in-Err-clause-rises : goal.returns-in-Err-clause-rises
-returns-in-Err-clause-rises g c = record { live = tt; number = tt; limit = tt }
+pub returns-clause-rises : goal.returns-clause-rises
+returns-clause-rises g c = record { live = tt; number = tt; limit = tt }

@@ -11,10 +11,10 @@ use Rattle.load_run.proofs.Steps.{steps-fills, steps-waits}
 use Rattle.load_run.proofs.load.Load.place.Goals as goal
 
 pub returns-in-Err-clause-told : goal.returns-in-Err-clause-told
-returns-in-Err-clause-told g c = λ told state items holds. rw c.in-Err.ensures.err (lacks-memory (stage_before c.args.self.now state _) (g.T.Disk.world c.args.engine.now.store.disk.now) (Unit {0}))
+returns-in-Err-clause-told g c = λ told closing state items holds. rw c.in-Err.ensures.err (lacks-memory (stage_before closing c.args.self.now state _) (g.T.Disk.world c.args.engine.now.store.disk.now) (Unit {0}))
 
 pub returns-then-len-self-clause-told : goal.returns-then-len-self-clause-told
-returns-then-len-self-clause-told g c = λ told state items holds.
+returns-then-len-self-clause-told g c = λ told closing state items holds.
     let s : Load = c.args.self.now in
     let same : c.replace-updates.result.items ≡ s.waiting.items = search rules in
     let more : c.push.new.self.items ≡ s.waiting.items ++ put_of (place_of c.args.draft) ∷ [] =
@@ -22,12 +22,12 @@ returns-then-len-self-clause-told g c = λ told state items holds.
     let few : length c.push.new.self.items < s.batch = omega (arith, c.len.ensures, c.if-len-self.true) in
     let after : Load = record s { waiting = c.push.new.self } in (
       state,
-      goes-as (stage_before s state (Placed (place_of c.args.draft) ∷ items)) (stage_before after state items) (g.T.Disk.world c.args.engine.now.store.disk.now)
-          (ap (λ (r : List Step). stage s state r) (steps-waits s.batch s.waiting.items c.push.new.self.items (place_of c.args.draft) items more few)) holds,
+      goes-as (stage_before closing s state (Placed (place_of c.args.draft) ∷ items)) (stage_before closing after state items) (g.T.Disk.world c.args.engine.now.store.disk.now)
+          (ap (λ (r : List Step). stage closing s state r) (steps-waits s.batch s.waiting.items c.push.new.self.items (place_of c.args.draft) items more few)) holds,
     )
 
 pub returns-clause-told : goal.returns-clause-told
-returns-clause-told g c = λ told state items holds.
+returns-clause-told g c = λ told closing state items holds.
     let s : Load = c.args.self.now in
     let same : c.replace-updates.result.items ≡ s.waiting.items = search rules in
     let empty : c.replace-updates.new.dest.items ≡ [] = search rules in
@@ -35,10 +35,10 @@ returns-clause-told g c = λ told state items holds.
     appended c.deref.result.now c.replace-updates.result.items s.waiting.items c.in-Ok.update (put_of (place_of c.args.draft)) (c.deref.ensures.value ∙ c.in-Ok-push.ensures.items) same c.in-Ok.ensures.ok in
     let full : s.batch ≤ length c.deref.result.now = omega (arith, c.len.ensures, c.if-len-self.false, ap length c.deref.ensures.value) in
     let mid : Load = record s { waiting = c.replace-updates.new.dest } in
-    moves-as s state (steps s.batch s.waiting.items (Placed (place_of c.args.draft) ∷ items)) (Store c.deref.result.now ∷ steps s.batch [] items) _ _ _ c.store.result
+    moves-as closing s state (steps s.batch s.waiting.items (Placed (place_of c.args.draft) ∷ items)) (Store c.deref.result.now ∷ steps s.batch [] items) _ _ _ c.store.result
     (steps-fills s.batch s.waiting.items c.deref.result.now (place_of c.args.draft) items more full)
-    (moves-before (stage s state (Store c.deref.result.now ∷ steps s.batch [] items)) mid c.store.new.self items (length c.deref.result.now) _ _ c.store.result empty c.store.ensures.counts
-    (c.store.ensures.told told state (steps s.batch [] items) holds))
+    (moves-before closing (stage closing s state (Store c.deref.result.now ∷ steps s.batch [] items)) mid c.store.new.self items (length c.deref.result.now) _ _ c.store.result empty c.store.ensures.counts
+    (c.store.ensures.told told closing state (steps s.batch [] items) holds))
 
 pub returns-in-Err-clause-rises : goal.returns-in-Err-clause-rises
 returns-in-Err-clause-rises g c = rises-lacks {T = Unit {0}} 1 (length c.args.self.now.waiting.items) _ c.args.engine.now.store.current.head c.args.engine.now.store.current.head c.in-Err.end c.in-Err.ensures.err

@@ -11,17 +11,17 @@ use Rattle.load_run.proofs.Moves.{goes-said, goes-stored, concludes-unsaid, conc
 use Rattle.load_run.proofs.load.Load.store.Goals as goal
 
 pub returns-in-Err-clause-told : goal.returns-in-Err-clause-told
-returns-in-Err-clause-told g c = λ told state rest holds.
-    concludes-unsaid (stage c.args.self.now state _) [] (g.T.Disk.world c.args.engine.now.store.disk.now) (g.T.Disk.world c.say_text.new.engine.store.disk.now) holds c.in-Err.end (c.in-Err.ensures.said told) c.in-Err.ensures.ends
+returns-in-Err-clause-told g c = λ told closing state rest holds.
+    concludes-unsaid (stage closing c.args.self.now state _) [] (g.T.Disk.world c.args.engine.now.store.disk.now) (g.T.Disk.world c.say_text.new.engine.store.disk.now) holds c.in-Err.end (c.in-Err.ensures.said told) c.in-Err.ensures.ends
 
 pub returns-in-Err-store_batch-clause-told : goal.returns-in-Err-store_batch-clause-told
-returns-in-Err-store_batch-clause-told g c = λ told state rest holds.
+returns-in-Err-store_batch-clause-told g c = λ told closing state rest holds.
     let s = c.args.self.now in
     let old = g.T.Disk.world c.args.engine.now.store.disk.now in
     let mid = g.T.Disk.world c.say_text.new.engine.store.disk.now in
     let new = g.T.Disk.world c.store_batch.new.engine.store.disk.now in
-    let said = goes-said (stage s state _) [] old mid holds _ (c.in-Ok.ensures.said told) refl in
-    goes-concludes said (concludes-unstored state s.stored s.skipped c.args.updates.now rest mid new c.in-Err-store_batch.end (c.in-Err-store_batch.ensures.told told state said.holds))
+    let said = goes-said (stage closing s state _) [] old mid holds _ (c.in-Ok.ensures.said told) refl in
+    goes-concludes said (concludes-unstored closing state s.stored s.skipped c.args.updates.now rest mid new c.in-Err-store_batch.end (c.in-Err-store_batch.ensures.told told state said.holds))
 
 pub returns-in-Err-store_batch-clause-cause : goal.returns-in-Err-store_batch-clause-cause
 returns-in-Err-store_batch-clause-cause g c = engine-then c.in-Ok.ensures.cause _ c.in-Err-store_batch.ensures.cause
@@ -30,15 +30,15 @@ pub returns-in-Ok-write_stored-clause-cause : goal.returns-in-Ok-write_stored-cl
 returns-in-Ok-write_stored-clause-cause g c = engine-then c.in-Ok.ensures.cause _ (engine-then c.in-Ok-store_batch.ensures.cause _ c.say_text-in-Ok-write_stored.ensures.cause)
 
 pub returns-in-Ok-write_stored-clause-told : goal.returns-in-Ok-write_stored-clause-told
-returns-in-Ok-write_stored-clause-told g c = λ told state rest holds.
+returns-in-Ok-write_stored-clause-told g c = λ told closing state rest holds.
     let s = c.args.self.now in
     let old = g.T.Disk.world c.args.engine.now.store.disk.now in
     let mid = g.T.Disk.world c.say_text.new.engine.store.disk.now in
     let new = g.T.Disk.world c.store_batch.new.engine.store.disk.now in
     let last = g.T.Disk.world c.say_text-in-Ok-write_stored.new.engine.store.disk.now in
-    let said = goes-said (stage s state _) [] old mid holds _ (c.in-Ok.ensures.said told) refl in
-    let stored = goes-stored state s.stored s.skipped c.args.updates.now rest mid new _ (c.in-Ok-store_batch.ensures.told told state said.holds) in
-    let at = behind_batch state s.stored s.skipped c.args.updates.now rest mid new stored.0 in
+    let said = goes-said (stage closing s state _) [] old mid holds _ (c.in-Ok.ensures.said told) refl in
+    let stored = goes-stored closing state s.stored s.skipped c.args.updates.now rest mid new _ (c.in-Ok-store_batch.ensures.told told state said.holds) in
+    let at = behind_batch closing state s.stored s.skipped c.args.updates.now rest mid new stored.0 in
     let adds : c.write_stored.new.out.items ≡ stored_line (s.stored + length c.args.updates.now) =
     c.in-Ok-write_stored.ensures ∙ ap (λ t. t ++ stored_line (s.stored + length c.args.updates.now)) c.in-Ok.ensures.none in
     let behind : Stage = record at { waits = c.write_stored.new.out.items } in
@@ -48,14 +48,14 @@ returns-in-Ok-write_stored-clause-told g c = λ told state rest holds.
     (moves-said behind c.say_text-in-Ok-write_stored.new.text.items new last stored.1.holds c.say_text-in-Ok-write_stored.result (says.said told) says.none says.ends)
 
 pub returns-in-Err-write_stored-clause-told : goal.returns-in-Err-write_stored-clause-told
-returns-in-Err-write_stored-clause-told g c = λ told state rest holds.
+returns-in-Err-write_stored-clause-told g c = λ told closing state rest holds.
     let s = c.args.self.now in
     let old = g.T.Disk.world c.args.engine.now.store.disk.now in
     let mid = g.T.Disk.world c.say_text.new.engine.store.disk.now in
     let new = g.T.Disk.world c.store_batch.new.engine.store.disk.now in
-    let said = goes-said (stage s state _) [] old mid holds _ (c.in-Ok.ensures.said told) refl in
-    let stored = goes-stored state s.stored s.skipped c.args.updates.now rest mid new _ (c.in-Ok-store_batch.ensures.told told state said.holds) in
-    goes-concludes said (goes-concludes stored.1 (lacks-memory (behind_batch state s.stored s.skipped c.args.updates.now rest mid new stored.0) new (Unit {0})))
+    let said = goes-said (stage closing s state _) [] old mid holds _ (c.in-Ok.ensures.said told) refl in
+    let stored = goes-stored closing state s.stored s.skipped c.args.updates.now rest mid new _ (c.in-Ok-store_batch.ensures.told told state said.holds) in
+    goes-concludes said (goes-concludes stored.1 (lacks-memory (behind_batch closing state s.stored s.skipped c.args.updates.now rest mid new stored.0) new (Unit {0})))
 
 pub returns-in-Err-clause-rises : goal.returns-in-Err-clause-rises
 returns-in-Err-clause-rises g c = rises-said {T = Unit {0}} (length c.args.updates.now) 0 0 c.args.engine.now.store.current.head c.args.engine.now.store.current.head c.say_text.new.engine.store.current.head (Err c.in-Err.end)

@@ -8,14 +8,14 @@ use Rattle.load_run.proofs.Moves.{moves-as}
 use Rattle.load_run.proofs.load.Load.take_item.Goals as goal
 
 pub returns-in-Place-clause-told : goal.returns-in-Place-clause-told
-returns-in-Place-clause-told g c = λ told state items holds.
+returns-in-Place-clause-told g c = λ told closing state items holds.
     let s : Load = c.args.self.now in
-    moves-as s state _ _ _ _ _ c.place.result (ap (λ (item : Taken). steps s.batch s.waiting.items (item_of item ∷ items)) c.in-Place.is) (c.place.ensures.told told state items holds)
+    moves-as closing s state _ _ _ _ _ c.place.result (ap (λ (item : Taken). steps s.batch s.waiting.items (item_of item ∷ items)) c.in-Place.is) (c.place.ensures.told told closing state items holds)
 
 pub returns-in-Skipped-clause-told : goal.returns-in-Skipped-clause-told
-returns-in-Skipped-clause-told g c = λ told state items holds.
+returns-in-Skipped-clause-told g c = λ told closing state items holds.
     let s : Load = c.args.self.now in
-    moves-as s state _ _ _ _ _ c.skip.result (ap (λ (item : Taken). steps s.batch s.waiting.items (item_of item ∷ items)) c.in-Skipped.is) (c.skip.ensures.told told state items holds)
+    moves-as closing s state _ _ _ _ _ c.skip.result (ap (λ (item : Taken). steps s.batch s.waiting.items (item_of item ∷ items)) c.in-Skipped.is) (c.skip.ensures.told told closing state items holds)
 
 pub returns-in-Place-clause-rises : goal.returns-in-Place-clause-rises
 returns-in-Place-clause-rises g c =
