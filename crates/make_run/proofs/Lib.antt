@@ -1,0 +1,4 @@
+pub mod Ends
+pub mod Hits
+pub mod Items
+pub mod Queries

@@ -1,0 +1,105 @@
+//! A make, from its first place to its last line.
+ghost use Rattle.std.specs.Prelude.{◌≡◌, ◌≤◌, [], false, IsErrOf, IsTrue};
+ghost use Rattle.disk_model.specs.World.{LeavesOnly};
+ghost use Rattle.place_map.specs.State.{Contents};
+ghost use Rattle.irtree_engine.specs.Holding.{HoldsState};
+ghost use Rattle.run_protocol.specs.Causes.{HasEngineEnd};
+ghost use Rattle.load_run.specs.Loading.{Concludes, RisesBy, stage, stage_at_start};
+ghost use Rattle.make_run.specs.Making.{EndsMake, LeftByMake, ReachLimit, items_from, says_made};
+
+use crate::asking::ask_places;
+use crate::line::write_made;
+use crate::storing::store_places;
+use disk_model::Station;
+use irtree_engine::Engine;
+use load_run::Load;
+use run_protocol::{Ended, LimitFault};
+use std::alloc::Global;
+
+/// For how many places a make asks at most.
+const QUERIES_MAX: u32 = 100;
+
+// Asks for the first places, and says how many were made and what was found.
+fn conclude<'d, T: Station>(
+    alloc: Global,
+    seed: u64,
+    count: u32,
+    load: &mut Load,
+    engine: &mut Engine<'d, T>,
+) -> Result<(), Ended>
+    requires on { engine.old.stopped ≡ false }
+    ensures same_loan { engine.new.store.disk.ghost_name ≡ engine.old.store.disk.ghost_name }
+    ensures told { IsTrue T.tells → (state : Contents) → HoldsState (T.world engine.old.store.disk.now) state
+        → Concludes (stage (says_made seed count) load.old state []) (T.world engine.old.store.disk.now) (T.world engine.new.store.disk.now) result }
+    ensures cause { HasEngineEnd T.tells (T.world engine.old.store.disk.now) (T.world engine.new.store.disk.now) result }
+    ensures rises { RisesBy 0 0 0 engine.old.store.current.head engine.new.store.current.head result }
+{
+    let queries = count.min(QUERIES_MAX);
+    let found = match ask_places(alloc, seed, queries, &mut *engine) {
+        Ok(found) => found,
+        Err(end) => return Err(end),
+    };
+    let mut line = Vec::new(alloc);
+    match write_made(count, queries, &found, &mut line) {
+        Ok(()) => load.say_last(engine, &line),
+        Err(_) => Err(Ended::Memory),
+    }
+}
+
+// Makes places, stores them and asks for some of them.
+fn make_places<'d, T: Station>(
+    alloc: Global,
+    batch: u32,
+    seed: u64,
+    count: u32,
+    engine: &mut Engine<'d, T>,
+) -> Result<(), Ended>
+    requires on { engine.old.stopped ≡ false }
+    requires few { batch ≤ 10000 }
+    requires count { count ≤ 100000 }
+    ensures same_loan { engine.new.store.disk.ghost_name ≡ engine.old.store.disk.ghost_name }
+    ensures told { IsTrue T.tells → (state : Contents) → HoldsState (T.world engine.old.store.disk.now) state
+        → Concludes (stage_at_start (says_made seed count) batch state (items_from seed 0 count)) (T.world engine.old.store.disk.now) (T.world engine.new.store.disk.now) result }
+    ensures cause { HasEngineEnd T.tells (T.world engine.old.store.disk.now) (T.world engine.new.store.disk.now) result }
+    ensures rises { RisesBy count 0 0 engine.old.store.current.head engine.new.store.current.head result }
+{
+    let mut load = Load::new(alloc, batch);
+    match store_places(alloc, seed, count, &mut load, &mut *engine) {
+        Ok(()) => conclude(alloc, seed, count, &mut load, engine),
+        Err(end) => Err(end),
+    }
+}
+
+/// Runs a make to its end, over an engine that isn't stopped: makes the first `count` places of a seed and stores them, `batch` in a batch,
+/// each batch in one commit that is said once it is safe; then asks for the first of them, a hundred at most, and says how many hits they have
+/// and what these cost.
+///
+/// Returns `Ok` if all of that was done and said. Errors:
+///
+/// - `Limit(Full)` or `Limit(Worn)` if a batch meets that limit; then the places are enough to reach it. `Limit(NoRoom)` if no page is left
+///   for a batch. Nothing of that batch is stored, and all text before its line was said.
+/// - `Disk`, `Sink` and `Memory` if one of them fails, after a prefix of the text.
+/// - `Store(Damaged)` if a page breaks a rule; never if the image stands for a state.
+pub fn run_make<'d, T: Station>(
+    alloc: Global,
+    batch: u32,
+    seed: u64,
+    count: u32,
+    engine: &mut Engine<'d, T>,
+) -> Result<(), Ended>
+    requires on { engine.old.stopped ≡ false }
+    requires few { batch ≤ 10000 }
+    requires count { count ≤ 100000 }
+    ensures same_loan { engine.new.store.disk.ghost_name ≡ engine.old.store.disk.ghost_name }
+    ensures told { IsTrue T.tells → (state : Contents) → HoldsState (T.world engine.old.store.disk.now) state
+        → EndsMake batch seed count state (T.world engine.old.store.disk.now) (T.world engine.new.store.disk.now) result }
+    // A crash at any moment leaves one of the states around a batch, and what comes before it was said whole.
+    ensures any_moment { IsTrue T.tells → (state : Contents) → HoldsState (T.world engine.old.store.disk.now) state
+        → LeavesOnly (T.world engine.old.store.disk.now) (T.world engine.new.store.disk.now) (LeftByMake batch seed count state (T.world engine.old.store.disk.now).said) }
+    ensures cause { HasEngineEnd T.tells (T.world engine.old.store.disk.now) (T.world engine.new.store.disk.now) result }
+    // Whatever the image stands for, a limit ends it only where the places reach it.
+    ensures limit { (fault : LimitFault) → IsErrOf result (Ended.Limit fault)
+        → ReachLimit count fault engine.old.store.current.head.live engine.old.store.current.head.number }
+{
+    make_places(alloc, batch, seed, count, engine)
+}

@@ -1,0 +1,70 @@
+// Places made from a seed, stored batch by batch.
+ghost use Rattle.std.specs.Prelude.{◌≡◌, ◌≤◌, [], length, false, IsTrue, OnOk};
+ghost use Rattle.made_places.specs.Makers.{place_in};
+ghost use Rattle.place_map.specs.State.{Contents};
+ghost use Rattle.geojson_points.specs.Takes.{place_of};
+ghost use Rattle.irtree_engine.specs.Holding.{HoldsState};
+ghost use Rattle.run_protocol.specs.Causes.{HasEngineEnd};
+ghost use Rattle.run_protocol.specs.Load.{Closing};
+ghost use Rattle.load_run.specs.Loading.{CanWait, Moves, RisesBy, acted_on, stage, stage_before};
+ghost use Rattle.make_run.specs.Making.{given, items_from};
+
+use disk_model::Station;
+use geojson_points::Draft;
+use irtree_engine::Engine;
+use load_run::Load;
+use made_places::{Made, Maker};
+use run_protocol::Ended;
+use spatial_base::Memory;
+use std::alloc::Global;
+
+// A place that was made, as a text gives one.
+fn draft_of(made: Made) -> Draft
+    ensures { place_of result ≡ given (place_in made) }
+{
+    let Made {
+        key,
+        point,
+        text,
+        ..
+    } = made;
+    Draft {
+        id: Some(key),
+        point,
+        text,
+    }
+}
+
+/// Makes the first places of a seed, one after another, and stores them batch by batch.
+pub(crate) fn store_places<'d, T: Station>(
+    alloc: Global,
+    seed: u64,
+    count: u32,
+    load: &mut Load,
+    engine: &mut Engine<'d, T>,
+) -> Result<(), Ended>
+    requires on { engine.old.stopped ≡ false }
+    requires fresh { acted_on load.old ≡ 0 }
+    requires waits { CanWait load.old }
+    requires count { count ≤ 100000 }
+    ensures same_loan { engine.new.store.disk.ghost_name ≡ engine.old.store.disk.ghost_name }
+    ensures told { IsTrue T.tells → (closing : Closing) (state : Contents) → HoldsState (T.world engine.old.store.disk.now) state
+        → Moves (stage_before closing load.old state (items_from seed 0 count)) (λ after. stage closing load.new after [])
+        (T.world engine.old.store.disk.now) (T.world engine.new.store.disk.now) result }
+    ensures on { OnOk result (engine.new.stopped ≡ false) }
+    ensures cause { HasEngineEnd T.tells (T.world engine.old.store.disk.now) (T.world engine.new.store.disk.now) result }
+    ensures rises { RisesBy count 0 0 engine.old.store.current.head engine.new.store.current.head result }
+{
+    let mut maker = Maker::new(seed);
+    for _number in 0..count {
+        let made = match maker.make(alloc) {
+            Ok(made) => made,
+            Err(Memory) => return Err(Ended::Memory),
+        };
+        match load.place(&mut *engine, draft_of(made)) {
+            Ok(()) => {}
+            Err(end) => return Err(end),
+        }
+    }
+    load.store_rest(engine)
+}
