@@ -1,9 +1,8 @@
 -- What the engine's answers make of a line, before its reply is said.
 use Rattle.std.proofs.Common.{◌≡◌, ◌≤◌, ◌+◌, ◌^◌, ◌==◌, ◌&&◌, nat_le, length, is_some, is_none, Bool, true, false, refl, sym, ap, subst, ◌∙◌, arith}
 use Rattle.std.specs.Prelude.{Result, Ok, Err, IsTrue, if◌then◌else◌}
-use Rattle.disk_model.specs.World.{World, Image, LeavesOnly, Rose}
+use Rattle.disk_model.specs.World.{World, LeavesOnly, Rose}
 use Rattle.disk_model.proofs.Moments.{started, rested}
-use Rattle.page_face.specs.declared.fault.Damage.{Damage}
 use Rattle.page_store.specs.Store.{Rests}
 use Rattle.place_map.specs.declared.update.Applied.{Applied}
 use Rattle.place_map.specs.declared.update.Applied.TheVariants.{New, Replaced, Gone, Absent}
@@ -22,10 +21,8 @@ use Rattle.query_replies.specs.declared.fault.LineFault.{LineFault}
 use Rattle.query_replies.specs.declared.reply.Reply.{Reply}
 use Rattle.query_replies.specs.declared.reply.Reply.TheVariants as replies
 use Rattle.query_replies.specs.Reply.{text_of_reply}
-use Rattle.store_meaning.specs.Stands.{Stands}
 use Rattle.irtree_engine.specs.declared.fault.EngineFault.{EngineFault}
 use Rattle.irtree_engine.specs.declared.fault.EngineFault.TheVariants as engine
-use Rattle.irtree_engine.specs.Faults.{IsReadFault}
 use Rattle.irtree_engine.specs.Holding.{HoldsState}
 use Rattle.irtree_engine.specs.Updates.{LeavesOneOf, IsUpdateFault, IsDueTo}
 use Rattle.run_protocol.proofs.Reading.{RefusedRead, holds-same, rests-still}

@@ -6,7 +6,8 @@ use Rattle.query_lang.specs.Reply.{reply_of}
 use Rattle.query_replies.specs.declared.reply.Reply.TheVariants as replies
 use Rattle.query_replies.specs.Reply.{text_of_reply}
 use Rattle.script_run.specs.Lines.{RepliesTo}
-use Rattle.script_run.proofs.Replies.{rests-still, read-replies}
+use Rattle.run_protocol.proofs.Reading.{rests-still}
+use Rattle.script_run.proofs.Replies.{read-replies}
 use Rattle.script_run.proofs.line.answer.Goals as goal
 
 pub returns-in-Nothing-clause-told : goal.returns-in-Nothing-clause-told
