@@ -9,15 +9,16 @@ use Rattle.place_map.specs.declared.update.Update.{Update}
 use Rattle.store_meaning.specs.Stands.{Stands}
 use Rattle.irtree_top.specs.Prefix.{HoldsAcked}
 use Rattle.run_protocol.specs.Left.{LeftByLines, LeftByLoad}
-use Rattle.run_protocol.specs.Load.{load_transcript}
+use Rattle.run_protocol.specs.Load.{load_transcript, says_loaded}
+use Rattle.make_run.specs.Making.{LeftByMake, items_from, make_transcript, says_made}
 use Rattle.run_protocol.specs.Script.{script_lines, script_transcript}
 use Rattle.run_protocol.specs.Turn.{Transcript}
 use Rattle.command_words.specs.declared.job.Action.{Action}
-use Rattle.command_words.specs.declared.job.Action.TheVariants.{Run, Load}
+use Rattle.command_words.specs.declared.job.Action.TheVariants.{Run, Load, Make}
 use Rattle.irtree_top.specs.Run.{HoldsPrefix, IsNear, acked}
 use Rattle.command_words.specs.Job.{Asked}
-use Rattle.irtree_top.proofs.Jobs.{script-only, load-only}
-use Rattle.irtree_top.proofs.Loads.{load-prefix}
+use Rattle.irtree_top.proofs.Jobs.{script-only, load-only, make-only}
+use Rattle.irtree_top.proofs.Loads.{load-prefix, loaded-passed, made-passed}
 use Rattle.irtree_top.proofs.Scripts.{script-prefix}
 use Rattle.irtree_top.proofs.Transcripts.{OutcomeIsOne}
 
@@ -25,11 +26,13 @@ use Rattle.irtree_top.proofs.Transcripts.{OutcomeIsOne}
 acked-none : (action : Action) → acked action [] ≤ 0
 acked-none Run = omega arith
 acked-none Load = omega arith
+acked-none Make = omega arith
 
 -- and no update is as many as are acknowledged
 near-none : (action : Action) (batch all : ℕ) → 1 ≤ batch → IsNear action batch 0 (acked action []) all
 near-none Run batch all some = omega arith
 near-none Load batch all some = (omega arith, inl (omega arith))
+near-none Make batch all some = (omega arith, inl (omega arith))
 
 -- Where nothing was said, and the image stands for the state at the start, it holds every acknowledged update: none.
 pub none-held : (action : Action) (batch : ℕ) → 1 ≤ batch → (state : Contents) (changes : List Update) (before : List ℕ) (image : Image) (said : List ℕ) → Stands image state → said ≡ before
@@ -59,7 +62,17 @@ module _ (asked : Asked) (state : Contents) (input : List ℕ) (some : 1 ≤ ask
       (λ items.
       subst (λ (t : Transcript). HoldsAcked (acked asked.action) (IsNear asked.action asked.batch) state t.turn.changes old.said image said) (sym (load-only law asked state input loads (Ok items.0) items.1 whole is))
       (subst (λ a. HoldsAcked (acked a) (IsNear a asked.batch) state (load_transcript asked.batch state (Ok items.0)).turn.changes old.said image said) (sym loads)
-      (load-prefix asked.batch some state items.0 old.said image said items.2)))
+      (load-prefix says_loaded loaded-passed asked.batch some state items.0 old.said image said items.2)))
+      left)
+
+  -- and of a make
+  pub make-left : asked.action ≡ Make → (old new : World) → LeavesOnly old new (LeftByMake asked.batch asked.from asked.count state old.said) → LeavesOnly old new (HoldsPrefix asked state input old)
+  make-left makes old new leaves = within leaves (λ image said left whole is. ⊎_elim
+      (λ none. none-held asked.action asked.batch some state whole.turn.changes old.said image said none.0 none.1)
+      (λ steps.
+      subst (λ (t : Transcript). HoldsAcked (acked asked.action) (IsNear asked.action asked.batch) state t.turn.changes old.said image said) (sym (make-only asked state input makes whole is))
+      (subst (λ a. HoldsAcked (acked a) (IsNear a asked.batch) state (make_transcript asked.batch asked.from asked.count state).turn.changes old.said image said) (sym makes)
+      (load-prefix (says_made asked.from asked.count) (made-passed asked.from asked.count) asked.batch some state (items_from asked.from 0 asked.count) old.said image said steps)))
       left)
 
   -- from where as much was said

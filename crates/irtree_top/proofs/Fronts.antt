@@ -7,7 +7,7 @@ use Rattle.place_map.specs.State.{Contents}
 use Rattle.place_map.specs.declared.update.UpdateFault.{UpdateFault}
 use Rattle.irtree_engine.specs.Updates.{state_after_all}
 use Rattle.run_protocol.specs.Left.{StopsAtBatch, StopsAtLine, StopsBehind}
-use Rattle.run_protocol.specs.Load.{Step, Skip, Store, load, skip_line, stored_line, stores}
+use Rattle.run_protocol.specs.Load.{Closing, Step, Skip, Store, load, skip_line, stored_line, stores}
 use Rattle.run_protocol.specs.Said.{EndsAs, SaysFrontOf}
 use Rattle.run_protocol.specs.Script.{script, turn}
 use Rattle.run_protocol.specs.Turn.{Transcript, End}
@@ -44,21 +44,21 @@ line-front state (line ∷ lines) before now stops = ⊎_elim
     stops
 
 -- and so it is with a load
-pub batch-front : (state : Contents) (stored skipped : ℕ) (steps : List Step) (before : List ℕ) (now : World) → StopsAtBatch state stored skipped steps before now → SaysFrontOf (load state stored skipped steps).turn.text before now.said
+pub batch-front : (closing : Closing) (state : Contents) (stored skipped : ℕ) (steps : List Step) (before : List ℕ) (now : World) → StopsAtBatch state stored skipped steps before now → SaysFrontOf (load closing state stored skipped steps).turn.text before now.said
 unfolding load
-batch-front state stored skipped [] before now stops = absurd stops
-batch-front state stored skipped (Skip index reason ∷ rest) before now stops =
-    front-behind (skip_line index reason) (load state stored (skipped + 1) rest).turn.text before now.said (batch-front state stored (skipped + 1) rest (before ++ skip_line index reason) now stops)
-batch-front state stored skipped (Store updates ∷ rest) before now stops = ⊎_elim
+batch-front closing state stored skipped [] before now stops = absurd stops
+batch-front closing state stored skipped (Skip index reason ∷ rest) before now stops =
+    front-behind (skip_line index reason) (load closing state stored (skipped + 1) rest).turn.text before now.said (batch-front closing state stored (skipped + 1) rest (before ++ skip_line index reason) now stops)
+batch-front closing state stored skipped (Store updates ∷ rest) before now stops = ⊎_elim
     (λ here. none-said _ before now.said here.0)
-    (behind (λ after next. batch-front after (stored + length updates) skipped rest (before ++ stored_line (stored + length updates)) now next) (state_after_all state updates))
+    (behind (λ after next. batch-front closing after (stored + length updates) skipped rest (before ++ stored_line (stored + length updates)) now next) (state_after_all state updates))
     stops
   where
     line : List ℕ
     line = stored_line (stored + length updates)
 
-    behind : ((after : Contents) → StopsAtBatch after (stored + length updates) skipped rest (before ++ line) now → SaysFrontOf (load after (stored + length updates) skipped rest).turn.text (before ++ line) now.said)
+    behind : ((after : Contents) → StopsAtBatch after (stored + length updates) skipped rest (before ++ line) now → SaysFrontOf (load closing after (stored + length updates) skipped rest).turn.text (before ++ line) now.said)
         → (outcome : Result Contents UpdateFault) → StopsBehind outcome (λ after. StopsAtBatch after (stored + length updates) skipped rest (before ++ line) now)
-        → SaysFrontOf (stores state updates line outcome (λ after. load after (stored + length updates) skipped rest)).turn.text before now.said
-    behind rests (Ok after) next = front-behind line (load after (stored + length updates) skipped rest).turn.text before now.said (rests after next)
+        → SaysFrontOf (stores state updates line outcome (λ after. load closing after (stored + length updates) skipped rest)).turn.text before now.said
+    behind rests (Ok after) next = front-behind line (load closing after (stored + length updates) skipped rest).turn.text before now.said (rests after next)
     behind rests (Err fault) next = absurd next

@@ -1,13 +1,17 @@
 -- How a job ends, and what a crash leaves of it.
 use Rattle.std.proofs.Common.{◌≡◌, ℕ, ⊎_elim, List, [], ◌++◌, take, refl, sym, ap, subst, ◌∙◌}
-use Rattle.std.specs.Prelude.{Option, Result, Ok, Err}
+use Rattle.std.specs.Prelude.{Bool, Result, Ok, Err, IfErr}
 use Rattle.std.proofs.lemmas.List.{append-nil}
 use Rattle.disk_model.specs.World.{World}
 use Rattle.place_map.specs.State.{Contents}
 use Rattle.geojson_points.specs.Takes.{Item}
 use Rattle.load_run.specs.Loading.{EndsLoad, StopsItems}
+use Rattle.irtree_engine.specs.declared.fault.EngineFault.{EngineFault}
+use Rattle.irtree_engine.specs.declared.fault.EngineFault.TheVariants as engine
+use Rattle.run_protocol.specs.Causes.{IsEngineEnd, end_of_engine}
 use Rattle.run_protocol.specs.Left.{StopsAtBatch, StopsAtLine}
-use Rattle.run_protocol.specs.Load.{IsTaken, load_transcript, steps}
+use Rattle.run_protocol.specs.Load.{IsTaken, load_transcript, says_loaded, steps}
+use Rattle.make_run.specs.Making.{EndsMake, make_steps, make_transcript, says_made}
 use Rattle.run_protocol.specs.Said.{EndsAs, SaysFrontOf}
 use Rattle.run_protocol.specs.Script.{cut, script, script_lines, script_transcript}
 use Rattle.run_protocol.specs.Turn.{Transcript, End}
@@ -18,8 +22,8 @@ use Rattle.run_protocol.specs.declared.ended.LimitFault.{LimitFault}
 use Rattle.run_protocol.specs.declared.ended.LimitFault.TheVariants as limits
 use Rattle.script_run.specs.Standing.{EndsScript}
 use Rattle.command_words.specs.declared.job.Action.{Action}
-use Rattle.command_words.specs.declared.job.Action.TheVariants.{Run, Load}
-use Rattle.irtree_top.specs.Run.{EndsBy, EndsJob, SaysFront, SaysWhatWasRead, StopsAtLimit, StopsForRoom}
+use Rattle.command_words.specs.declared.job.Action.TheVariants.{Run, Load, Make}
+use Rattle.irtree_top.specs.Run.{EndsBy, EndsJob, IsUnreadEnd, LeavesInput, SaysFront, SaysWhatWasRead, StopsAtLimit, StopsForRoom}
 use Rattle.irtree_top.specs.Transcript.{IsTranscript, IsTranscriptBy}
 use Rattle.command_words.specs.Job.{Asked}
 use Rattle.irtree_top.proofs.Fronts.{batch-front, line-front, none-said, whole-said}
@@ -30,11 +34,11 @@ use Rattle.irtree_top.proofs.Transcripts.{OutcomeIsOne, taken-one}
 module _ (asked : Asked) (state : Contents) (input : List ℕ) (runs : asked.action ≡ Run) where
   -- its transcript
   script-is : IsTranscript state asked input (script_transcript state input)
-  script-is = subst (λ a. IsTranscriptBy a asked.batch asked.text state input (script_transcript state input)) (sym runs) refl
+  script-is = subst (λ a. IsTranscriptBy a asked state input (script_transcript state input)) (sym runs) refl
 
   -- and no other
   pub script-only : (whole : Transcript) → IsTranscript state asked input whole → whole ≡ script_transcript state input
-  script-only whole is = subst (λ a. IsTranscriptBy a asked.batch asked.text state input whole) runs is
+  script-only whole is = subst (λ a. IsTranscriptBy a asked state input whole) runs is
 
   script-front : (old new : World) → SaysFrontOf (script_transcript state input).turn.text old.said new.said → SaysFront asked state input old new
   script-front old new says whole is = subst (λ (t : Transcript). SaysFrontOf t.turn.text old.said new.said) (sym (script-only whole is)) says
@@ -44,7 +48,7 @@ module _ (asked : Asked) (state : Contents) (input : List ℕ) (runs : asked.act
 
   -- a script ends as a job that runs one
   pub script-ends : {T : Type 0} (left : List ℕ) (old new : World) (result : Result T Ended) → EndsScript state input left old new result → EndsJob asked state input left old new result
-  script-ends left old new (Ok done) says = (script-by _ old new says.0, says.1)
+  script-ends left old new (Ok done) says = (script-by _ old new says.0, subst (λ a. LeavesInput a input left) (sym runs) says.1)
   script-ends left old new (Err ends.Memory) says = script-front old new says
   script-ends left old new (Err ends.Disk) says = script-front old new says
   script-ends left old new (Err ends.Sink) says = script-front old new says
@@ -53,7 +57,7 @@ module _ (asked : Asked) (state : Contents) (input : List ℕ) (runs : asked.act
   script-ends left old new (Err (ends.Limit limits.Full)) says = absurd says
   script-ends left old new (Err (ends.Limit limits.Worn)) says = absurd says
   script-ends left old new (Err (ends.Limit limits.NoRoom)) says =
-      (subst (λ a. StopsForRoom a asked.batch asked.text state input old new) (sym runs) says, script-front old new (line-front state (script_lines input) old.said new says))
+      (subst (λ a. StopsForRoom a asked state input old new) (sym runs) says, script-front old new (line-front state (script_lines input) old.said new says))
   script-ends left old new (Err (ends.Store fault)) says = absurd says
   script-ends left old new (Err ends.Done) says = absurd says
   script-ends left old new (Err ends.Words) says = absurd says
@@ -63,12 +67,12 @@ module _ (asked : Asked) (state : Contents) (input : List ℕ) (runs : asked.act
 module _ (law : OutcomeIsOne) (asked : Asked) (state : Contents) (input : List ℕ) (loads : asked.action ≡ Load) where
   -- its transcript, by what its text gives
   load-is : (taken : Result (List Item) InputFault) → IsTaken asked.text input taken → IsTranscript state asked input (load_transcript asked.batch state taken)
-  load-is taken is = subst (λ a. IsTranscriptBy a asked.batch asked.text state input (load_transcript asked.batch state taken)) (sym loads) (taken, is, refl)
+  load-is taken is = subst (λ a. IsTranscriptBy a asked state input (load_transcript asked.batch state taken)) (sym loads) (taken, is, refl)
 
   -- and no other
   pub load-only : (taken : Result (List Item) InputFault) → IsTaken asked.text input taken → (whole : Transcript) → IsTranscript state asked input whole → whole ≡ load_transcript asked.batch state taken
   load-only taken is whole also =
-      let given : IsTranscriptBy Load asked.batch asked.text state input whole = subst (λ a. IsTranscriptBy a asked.batch asked.text state input whole) loads also in
+      let given : IsTranscriptBy Load asked state input whole = subst (λ a. IsTranscriptBy a asked state input whole) loads also in
       given.2 ∙ ap (load_transcript asked.batch state) (taken-one law asked.text input given.0 taken given.1 is)
 
   load-front : (taken : Result (List Item) InputFault) → IsTaken asked.text input taken → (old new : World) → SaysFrontOf (load_transcript asked.batch state taken).turn.text old.said new.said → SaysFront asked state input old new
@@ -88,7 +92,7 @@ module _ (law : OutcomeIsOne) (asked : Asked) (state : Contents) (input : List �
   items-stop T items is left old new (ends.Limit limits.Full) says = load-by (Ok items) is _ old new says
   items-stop T items is left old new (ends.Limit limits.Worn) says = load-by (Ok items) is _ old new says
   items-stop T items is left old new (ends.Limit limits.NoRoom) says =
-      (subst (λ a. StopsForRoom a asked.batch asked.text state input old new) (sym loads) (items, is, says), load-front (Ok items) is old new (batch-front state 0 0 (steps asked.batch [] items) old.said new says))
+      (subst (λ a. StopsForRoom a asked state input old new) (sym loads) (items, is, says), load-front (Ok items) is old new (batch-front says_loaded state 0 0 (steps asked.batch [] items) old.said new says))
   items-stop T items is left old new (ends.Input fault) says = absurd says
   items-stop T items is left old new (ends.Store fault) says = absurd says
   items-stop T items is left old new ends.Source says = absurd says
@@ -97,7 +101,7 @@ module _ (law : OutcomeIsOne) (asked : Asked) (state : Contents) (input : List �
 
   -- a load ends as a job that is one
   pub load-ends : (T : Type 0) (left : List ℕ) (old new : World) (result : Result T Ended) → EndsLoad asked.batch asked.text state input left old new result → EndsJob asked state input left old new result
-  load-ends T left old new (Ok done) says = (load-by (Ok says.0.0) says.0.1 _ old new says.0.2, says.1)
+  load-ends T left old new (Ok done) says = (load-by (Ok says.0.0) says.0.1 _ old new says.0.2, subst (λ a. LeavesInput a input left) (sym loads) says.1)
   load-ends T left old new (Err ends.Source) says = (subst (λ a. SaysWhatWasRead a state input left old new) (sym loads) says, no-front old new says.0)
   load-ends T left old new (Err (ends.Input fault)) says =
       load-by (Err fault) says.0 _ old new (record { end = refl; said = says.1.0 ∙ sym (append-nil old.said); holds = says.1.1 })
@@ -108,6 +112,66 @@ module _ (law : OutcomeIsOne) (asked : Asked) (state : Contents) (input : List �
   load-ends T left old new (Err (ends.Store fault)) says = absurd says
   load-ends T left old new (Err ends.Done) says = absurd says
   load-ends T left old new (Err ends.Words) says = absurd says
+
+-- ---- a make
+
+module _ (asked : Asked) (state : Contents) (input : List ℕ) (makes : asked.action ≡ Make) where
+  -- its transcript
+  abbrev of_make : Transcript
+  of_make = make_transcript asked.batch asked.from asked.count state
+
+  make-is : IsTranscript state asked input of_make
+  make-is = subst (λ a. IsTranscriptBy a asked state input of_make) (sym makes) refl
+
+  -- and no other
+  pub make-only : (whole : Transcript) → IsTranscript state asked input whole → whole ≡ make_transcript asked.batch asked.from asked.count state
+  make-only whole is = subst (λ a. IsTranscriptBy a asked state input whole) makes is
+
+  make-front : (old new : World) → SaysFrontOf of_make.turn.text old.said new.said → SaysFront asked state input old new
+  make-front old new says whole is = subst (λ (t : Transcript). SaysFrontOf t.turn.text old.said new.said) (sym (make-only whole is)) says
+
+  make-by : (wanted : End) (old new : World) → EndsAs wanted of_make old new → EndsBy wanted asked state input old new
+  make-by wanted old new says = record { whole = of_make; is = make-is; ends = says }
+
+  -- a make ends as a job that is one
+  pub make-ends : (T : Type 0) (left : List ℕ) (old new : World) (result : Result T Ended) → left ≡ input → EndsMake asked.batch asked.from asked.count state old new result → EndsJob asked state input left old new result
+  make-ends T left old new (Ok done) same says = (make-by _ old new says, subst (λ a. LeavesInput a input left) (sym makes) same)
+  make-ends T left old new (Err ends.Memory) same says = make-front old new says
+  make-ends T left old new (Err ends.Disk) same says = make-front old new says
+  make-ends T left old new (Err ends.Sink) same says = make-front old new says
+  make-ends T left old new (Err (ends.Limit limits.Full)) same says = make-by _ old new says
+  make-ends T left old new (Err (ends.Limit limits.Worn)) same says = make-by _ old new says
+  make-ends T left old new (Err (ends.Limit limits.NoRoom)) same says = (
+    subst (λ a. StopsForRoom a asked state input old new) (sym makes) says,
+    make-front old new (batch-front (says_made asked.from asked.count) state 0 0 (make_steps asked.batch asked.from asked.count) old.said new says),
+  )
+  make-ends T left old new (Err ends.Source) same says = absurd says
+  make-ends T left old new (Err (ends.Input fault)) same says = absurd says
+  make-ends T left old new (Err (ends.Store fault)) same says = absurd says
+  make-ends T left old new (Err ends.Done) same says = absurd says
+  make-ends T left old new (Err ends.Words) same says = absurd says
+
+-- a call over an engine ends by no source and by no input
+pub engine-unread : (tells : Bool) (old new : World) (T : Type 0) (result : Result T Ended) → IfErr result (IsEngineEnd tells old new) → IfErr result IsUnreadEnd
+engine-unread tells old new T (Ok done) cause = tt
+engine-unread tells old new T (Err ends.Memory) cause = tt
+engine-unread tells old new T (Err ends.Disk) cause = tt
+engine-unread tells old new T (Err ends.Sink) cause = tt
+engine-unread tells old new T (Err (ends.Store fault)) cause = tt
+engine-unread tells old new T (Err (ends.Limit fault)) cause = tt
+engine-unread tells old new T (Err _) cause = absurd cause
+
+-- nor does an opening that is refused
+pub fault-unread : (fault : EngineFault) → IsUnreadEnd (end_of_engine fault)
+fault-unread engine.Disk = tt
+fault-unread engine.NotAStore = tt
+fault-unread (engine.BadJournal at) = tt
+fault-unread (engine.Damaged damage) = tt
+fault-unread engine.Full = tt
+fault-unread engine.Worn = tt
+fault-unread engine.NoRoom = tt
+fault-unread engine.Stopped = tt
+fault-unread engine.Memory = tt
 
 -- ---- what was said before
 
@@ -125,10 +189,12 @@ module _ (asked : Asked) (state : Contents) (input : List ℕ) (old was new : Wo
   read-from : (action : Action) (left : List ℕ) → SaysWhatWasRead action state input left was new → SaysWhatWasRead action state input left old new
   read-from Run left says = record { read = says.read; came = says.came; said = says.said ∙ ap (λ s. s ++ (script state (cut says.read).lines).text) same; holds = says.holds }
   read-from Load left says = (says.0 ∙ same, says.1)
+  read-from Make left says = absurd says
 
-  room-from : (action : Action) (batch : ℕ) (only : Option (List ℕ)) → StopsForRoom action batch only state input was new → StopsForRoom action batch only state input old new
-  room-from Run batch only stops = subst (λ s. StopsAtLine state (script_lines input) s new) same stops
-  room-from Load batch only stops = (stops.0, stops.1, subst (λ s. StopsAtBatch state 0 0 (steps batch [] stops.0) s new) same stops.2)
+  room-from : (action : Action) → StopsForRoom action asked state input was new → StopsForRoom action asked state input old new
+  room-from Run stops = subst (λ s. StopsAtLine state (script_lines input) s new) same stops
+  room-from Load stops = (stops.0, stops.1, subst (λ s. StopsAtBatch state 0 0 (steps asked.batch [] stops.0) s new) same stops.2)
+  room-from Make stops = subst (λ s. StopsAtBatch state 0 0 (make_steps asked.batch asked.from asked.count) s new) same stops
 
   -- how a job ended, from where as much was said
   pub job-from : (T : Type 0) (left : List ℕ) (result : Result T Ended) → EndsJob asked state input left was new result → EndsJob asked state input left old new result
@@ -140,7 +206,7 @@ module _ (asked : Asked) (state : Contents) (input : List ℕ) (old was new : Wo
   job-from T left (Err (ends.Input fault)) says = by-from _ says
   job-from T left (Err (ends.Limit limits.Full)) says = by-from _ says
   job-from T left (Err (ends.Limit limits.Worn)) says = by-from _ says
-  job-from T left (Err (ends.Limit limits.NoRoom)) says = (room-from asked.action asked.batch asked.text says.0, front-from says.1)
+  job-from T left (Err (ends.Limit limits.NoRoom)) says = (room-from asked.action says.0, front-from says.1)
   job-from T left (Err (ends.Store fault)) says = absurd says
   job-from T left (Err ends.Done) says = absurd says
   job-from T left (Err ends.Words) says = absurd says

@@ -21,7 +21,8 @@ use Rattle.geojson_points.specs.declared.taken.SkipReason.TheVariants as reasons
 use Rattle.store_meaning.specs.Stands.{Stands}
 use Rattle.irtree_engine.specs.Updates.{accepted, state_after_all}
 use Rattle.run_protocol.specs.Left.{LeftBySteps, LeftByBatch}
-use Rattle.run_protocol.specs.Load.{Step, Skip, Store, steps, load, stores, put_of, reason_text, skip_line, stored_line, loaded_line}
+use Rattle.run_protocol.specs.Load.{Closing, Step, Skip, Store, steps, load, stores, put_of, reason_text, says_loaded, skip_line, stored_line, loaded_line}
+use Rattle.make_run.specs.Making.{made_line, says_made}
 use Rattle.run_protocol.specs.Said.{SaysFrontOf}
 use Rattle.run_protocol.specs.Script.{Cut, cut}
 use Rattle.irtree_top.specs.Acked.{number_of_digits, stored_in, acked_by_load}
@@ -76,7 +77,7 @@ reason-in reasons.OutOfRange = refl
 reason-in reasons.BadId = refl
 
 -- a line that acknowledges nothing
-record IsPassed (text : List ℕ) : Type 0 where
+pub record IsPassed (text : List ℕ) : Type 0 where
   line : List ℕ
   is : IsLine text line
   passed : (stored : ℕ) → stored_in stored line ≡ stored
@@ -94,9 +95,9 @@ skip-passed index reason = record {
 }
 
 -- the last line of a load
-loaded-passed : (stored skipped : ℕ) → IsPassed (loaded_line stored skipped)
+pub loaded-passed : (state : Contents) (stored skipped : ℕ) → IsPassed (says_loaded state stored skipped)
 unfolding loaded_line
-loaded-passed stored skipped = record {
+loaded-passed state stored skipped = record {
   line = codes "loaded " ++ (decimal stored ++ (codes " skipped " ++ decimal skipped));
   is = record {
     within = in_line-append (decimal stored) (codes " skipped " ++ decimal skipped) (decimal-in stored) (decimal-in skipped);
@@ -104,6 +105,30 @@ loaded-passed stored skipped = record {
   };
   passed = λ before. refl;
 }
+
+-- a line of four numbers
+line-of-made : (count queries hits cost : ℕ) → IsPassed (made_line count queries hits cost)
+unfolding made_line
+line-of-made count queries hits cost =
+    let end : List ℕ = 10 ∷ [] in
+    let sum : List ℕ = codes " hits sum " ++ decimal cost in
+    let found : List ℕ = codes " queries " ++ (decimal hits ++ sum) in
+    let asked : List ℕ = codes " places " ++ (decimal queries ++ found) in
+    record {
+      line = codes "made " ++ (decimal count ++ asked);
+      is = record {
+        within = in_line-append (decimal count) asked (decimal-in count) (in_line-append (decimal queries) found (decimal-in queries) (in_line-append (decimal hits) sum (decimal-in hits) (decimal-in cost)));
+        is = ap (λ t. codes "made " ++ (decimal count ++ (codes " places " ++ (decimal queries ++ (codes " queries " ++ t))))) (sym (append_assoc (decimal hits) sum end))
+            ∙ ap (λ t. codes "made " ++ (decimal count ++ (codes " places " ++ t))) (sym (append_assoc (decimal queries) found end))
+            ∙ ap (λ t. codes "made " ++ t) (sym (append_assoc (decimal count) asked end));
+      };
+      passed = λ before. refl;
+    }
+
+-- the last line of a make
+pub made-passed : (seed count : ℕ) (state : Contents) (stored skipped : ℕ) → IsPassed (says_made seed count state stored skipped)
+unfolding says_made
+made-passed seed count state stored skipped = line-of-made count _ _ _
 
 -- a number is read again
 number-decimal : (n : ℕ) → n < 10 ^ 64 → number_of_digits (decimal n) ≡ n
@@ -317,18 +342,18 @@ module _ (batch : ℕ) (state : Contents) (stored : ℕ) (changes : List Update)
         }
 
 -- no step changes nothing
-load-none : (state : Contents) (stored skipped : ℕ) → length (load state stored skipped []).turn.changes ≡ 0
+load-none : (closing : Closing) (state : Contents) (stored skipped : ℕ) → length (load closing state stored skipped []).turn.changes ≡ 0
 unfolding load
-load-none state stored skipped = refl
+load-none closing state stored skipped = refl
 
-module _ (batch : ℕ) (updates : List Update) (rest : List Step) (are : AreBatches batch (Store updates ∷ rest)) (state : Contents) (stored skipped : ℕ) where
+module _ (closing : Closing) (batch : ℕ) (updates : List Update) (rest : List Step) (are : AreBatches batch (Store updates ∷ rest)) (state : Contents) (stored skipped : ℕ) where
   -- the number behind the batch
   abbrev last : ℕ
   last = stored + length updates
 
   -- what is changed behind the batch, from a state
   abbrev behind : Contents → List Update
-  behind after = (load after last skipped rest).turn.changes
+  behind after = (load closing after last skipped rest).turn.changes
 
   -- the batch has no more updates than a batch may
   fits : length updates ≤ batch
@@ -342,16 +367,16 @@ module _ (batch : ℕ) (updates : List Update) (rest : List Step) (are : AreBatc
   whole : (after : Contents) → (length updates ≡ batch) ⊎ (length (behind after) ≡ 0)
   whole after = elim are.1 [
     | inl full ↦ inl full.0
-    | inr end ↦ inr (ap (λ (r : List Step). length (load after last skipped r).turn.changes) end.1 ∙ load-none after last skipped)
+    | inr end ↦ inr (ap (λ (r : List Step). length (load closing after last skipped r).turn.changes) end.1 ∙ load-none closing after last skipped)
   ]
 
   module _ (before : List ℕ) (image : Image) (said : List ℕ) (counted : stored ≤ state.number)
-      (go : (after : Contents) → last ≤ after.number → LeftBySteps after last skipped rest (before ++ stored_line last) image said
+      (go : (after : Contents) → last ≤ after.number → LeftBySteps closing after last skipped rest (before ++ stored_line last) image said
       → HoldsFrom batch last after (behind after) (before ++ stored_line last) image said) where
     -- A crash left what it may around the batch, which comes to this outcome.
     batch-left : (outcome : Result Contents UpdateFault) → IsAfter state updates outcome
-        → LeftByBatch state updates stored outcome (λ after. LeftBySteps after last skipped rest) before image said
-        → HoldsFrom batch stored state (stores state updates (stored_line last) outcome (λ after. load after last skipped rest)).turn.changes before image said
+        → LeftByBatch state updates stored outcome (λ after. LeftBySteps closing after last skipped rest) before image said
+        → HoldsFrom batch stored state (stores state updates (stored_line last) outcome (λ after. load closing after last skipped rest)).turn.changes before image said
     batch-left (Err fault) gives left = none-held batch state stored [] before image said left.0 left.1
     batch-left (Ok after) gives (inl (inl left)) = none-held batch state stored (updates ++ behind after) before image said left.0 left.1
     batch-left (Ok after) gives (inl (inr left)) =
@@ -359,29 +384,33 @@ module _ (batch : ℕ) (updates : List Update) (rest : List Step) (are : AreBatc
     batch-left (Ok after) gives (inr left) =
         later-held batch state stored (behind after) before image said updates after gives counted fits (whole after) (go after (omega (arith, gives.1)) left)
 
+-- What is said last acknowledges nothing.
+abbrev pub ClosesSo : Closing → Type 0
+ClosesSo closing = (state : Contents) (stored skipped : ℕ) → IsPassed (closing state stored skipped)
+
 -- Whatever a crash leaves of steps, so it is.
-steps-held : (batch : ℕ) (steps : List Step) → AreBatches batch steps → (state : Contents) (stored skipped : ℕ) (before : List ℕ) (image : Image) (said : List ℕ) → stored ≤ state.number
-    → LeftBySteps state stored skipped steps before image said → HoldsFrom batch stored state (load state stored skipped steps).turn.changes before image said
+steps-held : (closing : Closing) → ClosesSo closing → (batch : ℕ) (steps : List Step) → AreBatches batch steps → (state : Contents) (stored skipped : ℕ) (before : List ℕ) (image : Image) (said : List ℕ) → stored ≤ state.number
+    → LeftBySteps closing state stored skipped steps before image said → HoldsFrom batch stored state (load closing state stored skipped steps).turn.changes before image said
 unfolding load
-steps-held batch [] are state stored skipped before image said counted left =
-    front-held batch state stored [] before image said (loaded_line stored skipped) (loaded-passed stored skipped) left.0 left.1
-steps-held batch (Skip index reason ∷ rest) are state stored skipped before image said counted (inl left) =
+steps-held closing closes batch [] are state stored skipped before image said counted left =
+    front-held batch state stored [] before image said (closing state stored skipped) (closes state stored skipped) left.0 left.1
+steps-held closing closes batch (Skip index reason ∷ rest) are state stored skipped before image said counted (inl left) =
     front-held batch state stored _ before image said (skip_line index reason) (skip-passed index reason) left.0 left.1
-steps-held batch (Skip index reason ∷ rest) are state stored skipped before image said counted (inr left) =
+steps-held closing closes batch (Skip index reason ∷ rest) are state stored skipped before image said counted (inr left) =
     passed-held batch state stored _ before image said (skip_line index reason) (skip-passed index reason)
-    (steps-held batch rest are state stored (skipped + 1) (before ++ skip_line index reason) image said counted left)
-steps-held batch (Store updates ∷ rest) are state stored skipped before image said counted left =
-    batch-left batch updates rest are state stored skipped before image said counted
-    (λ after more later. steps-held batch rest (rest-batches batch updates rest are state stored skipped) after (stored + length updates) skipped (before ++ stored_line (stored + length updates)) image said more later)
+    (steps-held closing closes batch rest are state stored (skipped + 1) (before ++ skip_line index reason) image said counted left)
+steps-held closing closes batch (Store updates ∷ rest) are state stored skipped before image said counted left =
+    batch-left closing batch updates rest are state stored skipped before image said counted
+    (λ after more later. steps-held closing closes batch rest (rest-batches closing batch updates rest are state stored skipped) after (stored + length updates) skipped (before ++ stored_line (stored + length updates)) image said more later)
     (state_after_all state updates) (all-after state updates are.0) left
 
 -- Whatever a crash leaves of a load, the last `stored N` that was said acknowledges a prefix of its places, and the image stands for the map
 -- after that prefix, or after at most a batch more; and in whole batches, but for the last.
-pub load-prefix : (batch : ℕ) → 1 ≤ batch → (start : Contents) (items : List Item) (before : List ℕ) (image : Image) (said : List ℕ)
-    → LeftBySteps start 0 0 (steps batch [] items) before image said
-    → HoldsAcked acked_by_load (IsNearInLoad batch) start (load start 0 0 (steps batch [] items)).turn.changes before image said
-load-prefix batch positive start items before image said left =
-    let held = steps-held batch (steps batch [] items) (steps-batches batch positive [] items tt (omega arith)) start 0 0 before image said (omega arith) left in
+pub load-prefix : (closing : Closing) → ClosesSo closing → (batch : ℕ) → 1 ≤ batch → (start : Contents) (items : List Item) (before : List ℕ) (image : Image) (said : List ℕ)
+    → LeftBySteps closing start 0 0 (steps batch [] items) before image said
+    → HoldsAcked acked_by_load (IsNearInLoad batch) start (load closing start 0 0 (steps batch [] items)).turn.changes before image said
+load-prefix closing closes batch positive start items before image said left =
+    let held = steps-held closing closes batch (steps batch [] items) (steps-batches batch positive [] items tt (omega arith)) start 0 0 before image said (omega arith) left in
     record {
       spoken = held.spoken;
       is = held.is;

@@ -1,7 +1,7 @@
 -- A job behind the opening of its store.
 use Rattle.std.proofs.Common.{◌≡◌, ℕ, zero, ◌≤◌, ◌==◌, Bool, false, List, [], ◌∷◌, slice_index, inl, inr, refl, sym, ap, subst, arith}
 use Rattle.std.proofs.lemmas.Bool.{and_left, ne_eqb}
-use Rattle.std.specs.Prelude.{Option, Result, Ok, Err, IfErr, IsTrue}
+use Rattle.std.specs.Prelude.{Result, Ok, Err, IfErr, IsTrue}
 use Rattle.disk_model.specs.World.{World, Image, LeavesOnly, LeavesOnlySeen, Rose}
 use Rattle.page_face.specs.declared.fault.Damage.{Damage}
 use Rattle.place_map.specs.State.{Contents}
@@ -11,7 +11,6 @@ use Rattle.irtree_engine.specs.Opening.{LeavesRefused}
 use Rattle.irtree_engine.specs.declared.fault.EngineFault.{EngineFault}
 use Rattle.irtree_engine.specs.declared.fault.EngineFault.TheVariants as engine
 use Rattle.run_protocol.specs.Causes.{end_of_engine, HasJobEnd, IsJobEnd, IsStoreEnd}
-use Rattle.run_protocol.specs.Load.{ReachesLimit}
 use Rattle.run_protocol.specs.declared.ended.LimitFault.{LimitFault}
 use Rattle.run_protocol.specs.declared.ended.StoreFault.{StoreFault}
 use Rattle.run_protocol.specs.declared.ended.StoreFault.TheVariants as stores
@@ -24,7 +23,7 @@ use Rattle.page_store.specs.Superblock.{HasMagic, IsStorePage, is_zero}
 use Rattle.page_store.specs.declared.superblock.Superblock.{Superblock}
 use Rattle.store_meaning.proofs.Images.{area-one}
 use Rattle.command_words.specs.declared.job.Action.{Action}
-use Rattle.irtree_top.specs.Run.{EndsJob, HasRunEnd, IsLimitReached, IsBehindOpening, IsBroken, IsCompleteEnd, IsLimitOf, IsOpenable, IsRunEnd, LeavesAlone}
+use Rattle.irtree_top.specs.Run.{EndsJob, HasRunEnd, IsLimitReached, ReachesLimitBy, IsBehindOpening, IsBroken, IsCompleteEnd, IsLimitOf, IsOpenable, IsRunEnd, LeavesAlone}
 use Rattle.command_words.specs.Job.{Asked}
 use Rattle.irtree_top.proofs.Fronts.{none-said}
 
@@ -133,11 +132,11 @@ pub opened-quiet : (block : Superblock) (old new : World) → IsOpened block old
 opened-quiet block old new opened = opened.committed.ready.safe
 
 -- and a limit that is reached from the numbers of its page 0
-pub opened-limit : (block : Superblock) (old new : World) → IsOpened block old new → (fault : LimitFault) (only : Option (List ℕ)) (input : List ℕ) → ReachesLimit fault block.head.live block.head.number only input → IsLimitReached fault only input old.seen
-opened-limit block old new opened fault only input reaches = record {
+pub opened-limit : (block : Superblock) (old new : World) → IsOpened block old new → (fault : LimitFault) (asked : Asked) (input : List ℕ) → ReachesLimitBy asked.action asked fault block.head.live block.head.number input → IsLimitReached fault asked input old.seen
+opened-limit block old new opened fault asked input reaches = record {
   area = _;
   stands = opened.stands;
-  reaches = subst (λ (b : Superblock). ReachesLimit fault b.head.live b.head.number only input) (sym opened.committed.head) reaches;
+  reaches = subst (λ (b : Superblock). ReachesLimitBy asked.action asked fault b.head.live b.head.number input) (sym opened.committed.head) reaches;
 }
 
 -- how an opening that is refused ends a run

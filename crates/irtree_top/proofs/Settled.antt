@@ -1,6 +1,6 @@
 -- A job, and the settling of its engine behind it.
 use Rattle.std.proofs.Common.{◌≡◌, ℕ, ◌+◌, ◌≤◌, ⊎_elim, inl, inr, Bool, List, [], ◌∷◌, ◌++◌, length, take, subst, sym, ◌∙◌, arith}
-use Rattle.std.specs.Prelude.{IsTrue, Option, Result, Ok, Err}
+use Rattle.std.specs.Prelude.{IsTrue, Result, Ok, Err}
 use Rattle.disk_model.specs.World.{World, Image, LeavesOnly, LeavesOnlySeen}
 use Rattle.disk_model.proofs.Moments.{then, within}
 use Rattle.place_map.specs.State.{Contents}
@@ -11,12 +11,13 @@ use Rattle.run_protocol.specs.Causes.{HasJobEnd, IsJobEnd}
 use Rattle.run_protocol.specs.Left.{StopsAtBatch, StopsAtLine, StopsBehind}
 use Rattle.run_protocol.specs.Load.{Step, Skip, Store, skip_line, steps, stored_line}
 use Rattle.run_protocol.specs.Script.{script_lines, turn}
+use Rattle.make_run.specs.Making.{make_steps}
 use Rattle.run_protocol.specs.Turn.{Transcript, End}
 use Rattle.run_protocol.specs.declared.ended.Ended.{Ended}
 use Rattle.run_protocol.specs.declared.ended.Ended.TheVariants as ends
 use Rattle.run_protocol.specs.declared.ended.LimitFault.TheVariants as limits
 use Rattle.command_words.specs.declared.job.Action.{Action}
-use Rattle.command_words.specs.declared.job.Action.TheVariants.{Run, Load}
+use Rattle.command_words.specs.declared.job.Action.TheVariants.{Run, Load, Make}
 use Rattle.irtree_top.specs.Prefix.{HoldsAcked, state_after_updates}
 use Rattle.irtree_top.specs.Run.{EndsBy, EndsJob, HoldsPrefix, IsNear, SaysFront, SaysWhatWasRead, StopsForRoom, acked}
 use Rattle.irtree_top.specs.Transcript.{IsTranscript}
@@ -55,6 +56,7 @@ module _ (asked : Asked) (state : Contents) (input : List ℕ) (old mid new : Wo
     settled-read : (action : Action) (left : List ℕ) → SaysWhatWasRead action state input left old mid → SaysWhatWasRead action state input left old new
     settled-read Run left says = record { read = says.read; came = says.came; said = same ∙ says.said; holds = stands _ says.holds }
     settled-read Load left says = (same ∙ says.0, stands state says.1)
+    settled-read Make left says = absurd says
 
     line-settled : (at : Contents) (lines : List (List ℕ)) (before : List ℕ) → StopsAtLine at lines before mid → StopsAtLine at lines before new
     line-settled at [] before stops = absurd stops
@@ -74,9 +76,10 @@ module _ (asked : Asked) (state : Contents) (input : List ℕ) (old mid new : Wo
         (λ after next. batch-settled after (stored + length updates) skipped rest (before ++ stored_line (stored + length updates)) next) behind))
         stops
 
-    settled-room : (action : Action) (batch : ℕ) (only : Option (List ℕ)) → StopsForRoom action batch only state input old mid → StopsForRoom action batch only state input old new
-    settled-room Run batch only stops = line-settled state (script_lines input) old.said stops
-    settled-room Load batch only stops = (stops.0, stops.1, batch-settled state 0 0 (steps batch [] stops.0) old.said stops.2)
+    settled-room : (action : Action) → StopsForRoom action asked state input old mid → StopsForRoom action asked state input old new
+    settled-room Run stops = line-settled state (script_lines input) old.said stops
+    settled-room Load stops = (stops.0, stops.1, batch-settled state 0 0 (steps asked.batch [] stops.0) old.said stops.2)
+    settled-room Make stops = batch-settled state 0 0 (make_steps asked.batch asked.from asked.count) old.said stops
 
     -- the job ended as it did before it was settled
     pub settled-job : (T : Type 0) (left : List ℕ) (result : Result T Ended) → EndsJob asked state input left old mid result → EndsJob asked state input left old new result
@@ -88,7 +91,7 @@ module _ (asked : Asked) (state : Contents) (input : List ℕ) (old mid new : Wo
     settled-job T left (Err (ends.Input fault)) says = settled-by _ says
     settled-job T left (Err (ends.Limit limits.Full)) says = settled-by _ says
     settled-job T left (Err (ends.Limit limits.Worn)) says = settled-by _ says
-    settled-job T left (Err (ends.Limit limits.NoRoom)) says = (settled-room asked.action asked.batch asked.text says.0, settled-front says.1)
+    settled-job T left (Err (ends.Limit limits.NoRoom)) says = (settled-room asked.action says.0, settled-front says.1)
     settled-job T left (Err (ends.Store fault)) says = absurd says
     settled-job T left (Err ends.Done) says = absurd says
     settled-job T left (Err ends.Words) says = absurd says

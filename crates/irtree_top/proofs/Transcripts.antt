@@ -12,8 +12,9 @@ use Rattle.run_protocol.specs.declared.ended.InputFault.TheVariants as inputs
 use Rattle.run_protocol.specs.Turn.{Transcript}
 use Rattle.run_protocol.specs.Load.{load_max, IsTaken, load_transcript}
 use Rattle.run_protocol.specs.Script.{script_transcript}
+use Rattle.make_run.specs.Making.{make_transcript}
 use Rattle.command_words.specs.declared.job.Action.{Action}
-use Rattle.command_words.specs.declared.job.Action.TheVariants.{Run, Load}
+use Rattle.command_words.specs.declared.job.Action.TheVariants.{Run, Load, Make}
 use Rattle.irtree_top.specs.Transcript.{IsTranscriptBy, IsTranscript}
 use Rattle.command_words.specs.Job.{Asked}
 
@@ -81,8 +82,8 @@ taken-one law only input one other is also = ⊎_elim
     (cases_lt load_max (length input))
 
 -- so a load has one transcript
-load-one : OutcomeIsOne → (batch : ℕ) (only : Option (List ℕ)) (state : Contents) (input : List ℕ) (one other : Transcript) → IsTranscriptBy Load batch only state input one → IsTranscriptBy Load batch only state input other → one ≡ other
-load-one law batch only state input one other is also = is.2 ∙ ap (load_transcript batch state) (taken-one law only input is.0 also.0 is.1 also.1) ∙ sym also.2
+load-one : OutcomeIsOne → (asked : Asked) (state : Contents) (input : List ℕ) (one other : Transcript) → IsTranscriptBy Load asked state input one → IsTranscriptBy Load asked state input other → one ≡ other
+load-one law asked state input one other is also = is.2 ∙ ap (load_transcript asked.batch state) (taken-one law asked.text input is.0 also.0 is.1 also.1) ∙ sym also.2
 
 -- the law that each text gives an outcome
 abbrev pub OutcomeIsSome : Type 0
@@ -99,28 +100,30 @@ outcome-taken only input short (Err loads.NotFeatures) takes = (Err inputs.NotFe
 outcome-taken only input short (Err loads.Memory) takes = absurd takes
 
 -- so each load has a transcript
-load-some : OutcomeIsSome → (batch : ℕ) (only : Option (List ℕ)) (state : Contents) (input : List ℕ) → (whole : Transcript) × IsTranscriptBy Load batch only state input whole
-load-some law batch only state input =
-    let given : (taken : Result (List Item) InputFault) × IsTaken only input taken = ⊎_elim
+load-some : OutcomeIsSome → (asked : Asked) (state : Contents) (input : List ℕ) → (whole : Transcript) × IsTranscriptBy Load asked state input whole
+load-some law asked state input =
+    let given : (taken : Result (List Item) InputFault) × IsTaken asked.text input taken = ⊎_elim
     (λ (long : load_max < length input). (Err inputs.Long, long))
-    (λ (short : length input ≤ load_max). let outcome = law input only in outcome-taken only input short outcome.0 outcome.1)
+    (λ (short : length input ≤ load_max). let outcome = law input asked.text in outcome-taken asked.text input short outcome.0 outcome.1)
     (cases_lt load_max (length input)) in
-    (load_transcript batch state given.0, (given.0, given.1, refl))
+    (load_transcript asked.batch state given.0, (given.0, given.1, refl))
 
 -- what is asked for, by its action
-one-by : OutcomeIsOne → (action : Action) (batch : ℕ) (only : Option (List ℕ)) (state : Contents) (input : List ℕ) (one other : Transcript) → IsTranscriptBy action batch only state input one → IsTranscriptBy action batch only state input other → one ≡ other
-one-by law Run batch only state input one other is also = is ∙ sym also
-one-by law Load batch only state input one other is also = load-one law batch only state input one other is also
+one-by : OutcomeIsOne → (action : Action) (asked : Asked) (state : Contents) (input : List ℕ) (one other : Transcript) → IsTranscriptBy action asked state input one → IsTranscriptBy action asked state input other → one ≡ other
+one-by law Run asked state input one other is also = is ∙ sym also
+one-by law Load asked state input one other is also = load-one law asked state input one other is also
+one-by law Make asked state input one other is also = is ∙ sym also
 
 -- what is asked for has one transcript
 pub transcript-one : OutcomeIsOne → (state : Contents) (asked : Asked) (input : List ℕ) (one other : Transcript) → IsTranscript state asked input one → IsTranscript state asked input other → one ≡ other
-transcript-one law state asked input one other is also = one-by law asked.action asked.batch asked.text state input one other is also
+transcript-one law state asked input one other is also = one-by law asked.action asked state input one other is also
 
 -- by its action
-some-by : OutcomeIsSome → (action : Action) (batch : ℕ) (only : Option (List ℕ)) (state : Contents) (input : List ℕ) → (whole : Transcript) × IsTranscriptBy action batch only state input whole
-some-by law Run batch only state input = (script_transcript state input, refl)
-some-by law Load batch only state input = load-some law batch only state input
+some-by : OutcomeIsSome → (action : Action) (asked : Asked) (state : Contents) (input : List ℕ) → (whole : Transcript) × IsTranscriptBy action asked state input whole
+some-by law Run asked state input = (script_transcript state input, refl)
+some-by law Load asked state input = load-some law asked state input
+some-by law Make asked state input = (make_transcript asked.batch asked.from asked.count state, refl)
 
 -- and it has one at least
 pub transcript-some : OutcomeIsSome → (state : Contents) (asked : Asked) (input : List ℕ) → (whole : Transcript) × IsTranscript state asked input whole
-transcript-some law state asked input = some-by law asked.action asked.batch asked.text state input
+transcript-some law state asked input = some-by law asked.action asked state input

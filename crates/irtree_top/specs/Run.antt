@@ -13,6 +13,7 @@ use Rattle.geojson_points.specs.Takes.{Item}
 use Rattle.irtree_top.specs.Acked.{acked_by_script, acked_by_load}
 use Rattle.irtree_top.specs.Prefix.{HoldsAcked, IsNearInScript, IsNearInLoad}
 use Rattle.load_run.specs.Loading.{SaysNothingYet}
+use Rattle.make_run.specs.Making.{ReachLimit, make_steps}
 use Rattle.run_protocol.specs.Left.{StopsAtBatch, StopsAtLine}
 use Rattle.run_protocol.specs.Load.{GivesItems, IsTaken, ReachesLimit, steps}
 use Rattle.run_protocol.specs.Said.{EndsAs, SaysFrontOf}
@@ -27,7 +28,7 @@ use Rattle.run_protocol.specs.declared.ended.StoreFault.{StoreFault}
 use Rattle.run_protocol.specs.declared.ended.StoreFault.TheVariants as stores
 use Rattle.script_run.specs.Standing.{SaysRepliesOf}
 use Rattle.command_words.specs.declared.job.Action.{Action}
-use Rattle.command_words.specs.declared.job.Action.TheVariants.{Run, Load}
+use Rattle.command_words.specs.declared.job.Action.TheVariants.{Run, Load, Make}
 use Rattle.irtree_top.specs.Transcript.{IsTranscript}
 use Rattle.command_words.specs.Job.{Asked}
 
@@ -42,32 +43,36 @@ pub record EndsBy (wanted : End) (asked : Asked) (state : Contents) (input : Lis
   pub ends : EndsAs wanted whole old new
 
 -- What was said where the source failed, and what the image stands for: in a script the replies of what was read, and the state after
--- these lines; in a load nothing, and the state at the start.
+-- these lines; in a load nothing, and the state at the start. A make reads no source.
 abbrev pub SaysWhatWasRead : Action → Contents → List ℕ → List ℕ → World → World → Type 0
 SaysWhatWasRead Run state input left old new = SaysRepliesOf state input left old new
 SaysWhatWasRead Load state input left old new = SaysNothingYet state old new
+SaysWhatWasRead Make state input left old new = ⊥
 
 -- Where no page was left: what comes before the reply to an update, or before a batch's line, was said whole and nothing else, and the
 -- image stands for the state before it.
-abbrev pub StopsForRoom : Action → ℕ → Option (List ℕ) → Contents → List ℕ → World → World → Type 0
-StopsForRoom Run batch only state input old new = StopsAtLine state (script_lines input) old.said new
-StopsForRoom Load batch only state input old new = (items : List Item) × IsTaken only input (Ok items) × StopsAtBatch state 0 0 (steps batch [] items) old.said new
+abbrev pub StopsForRoom : Action → Asked → Contents → List ℕ → World → World → Type 0
+StopsForRoom Run asked state input old new = StopsAtLine state (script_lines input) old.said new
+StopsForRoom Load asked state input old new = (items : List Item) × IsTaken asked.text input (Ok items) × StopsAtBatch state 0 0 (steps asked.batch [] items) old.said new
+StopsForRoom Make asked state input old new = StopsAtBatch state 0 0 (make_steps asked.batch asked.from asked.count) old.said new
 
 -- how a run stops at a limit
 abbrev pub StopsAtLimit : LimitFault → Asked → Contents → List ℕ → World → World → Type 0
 StopsAtLimit limits.Full asked state input old new = EndsBy (Limit limits.Full) asked state input old new
 StopsAtLimit limits.Worn asked state input old new = EndsBy (Limit limits.Worn) asked state input old new
-StopsAtLimit limits.NoRoom asked state input old new = StopsForRoom asked.action asked.batch asked.text state input old new × SaysFront asked state input old new
+StopsAtLimit limits.NoRoom asked state input old new = StopsForRoom asked.action asked state input old new × SaysFront asked state input old new
 
 -- how many updates the bytes said acknowledge
 abbrev pub acked : Action → List ℕ → ℕ
 acked Run spoken = acked_by_script spoken
 acked Load spoken = acked_by_load spoken
+acked Make spoken = acked_by_load spoken
 
 -- how many updates more may be held than are acknowledged
 abbrev pub IsNear : Action → ℕ → ℕ → ℕ → ℕ → Type 0
 IsNear Run batch some acked all = IsNearInScript some acked all
 IsNear Load batch some acked all = IsNearInLoad batch some acked all
+IsNear Make batch some acked all = IsNearInLoad batch some acked all
 
 -- The image stands for the state after a prefix of the transcript's updates that holds every acknowledged one.
 abbrev pub HoldsPrefix : Asked → Contents → List ℕ → World → Image → List ℕ → Type 0
@@ -75,9 +80,15 @@ HoldsPrefix asked state input old image said =
     (whole : Transcript) → IsTranscript state asked input whole
     → HoldsAcked (acked asked.action) (IsNear asked.action asked.batch) state whole.turn.changes old.said image said
 
+-- What an action leaves of an input that it takes whole: a script and a load read it to its end, and a make leaves it as it was.
+abbrev pub LeavesInput : Action → List ℕ → List ℕ → Type 0
+LeavesInput Run input left = left ≡ []
+LeavesInput Load input left = left ≡ []
+LeavesInput Make input left = left ≡ input
+
 -- how a job ended: what it had said, and what the image stands for
 abbrev pub EndsJob : {T : Type 0} → Asked → Contents → List ℕ → List ℕ → World → World → Result T Ended → Type 0
-EndsJob asked state input left old new (Ok done) = EndsBy Done asked state input old new × (left ≡ [])
+EndsJob asked state input left old new (Ok done) = EndsBy Done asked state input old new × LeavesInput asked.action input left
 EndsJob asked state input left old new (Err ends.Source) = SaysWhatWasRead asked.action state input left old new × SaysFront asked state input old new
 EndsJob asked state input left old new (Err ends.Memory) = SaysFront asked state input old new
 EndsJob asked state input left old new (Err ends.Disk) = SaysFront asked state input old new
@@ -128,26 +139,36 @@ pub record HasRunEnd {T : Type 0} (tells : Bool) (source_old source_new : ℕ) (
 
 -- ---- what the input says of an end
 
--- why an input ends an action: that of a script is too long, and that of a load gives no items, for this cause
+-- why an input ends an action: that of a script is too long, and that of a load gives no items, for this cause; none ends a make
 abbrev pub IsInputEnd : Action → Option (List ℕ) → List ℕ → InputFault → Type 0
 IsInputEnd Run only input fault = IsScriptInput input fault
 IsInputEnd Load only input fault = IsTaken only input (Err fault)
+IsInputEnd Make only input fault = ⊥
 
--- an input that an action takes whole: a script is no longer than it may be, and the text of a load gives items
+-- an input that an action takes whole: a script is no longer than it may be, and the text of a load gives items; to a make it is all the same
 abbrev pub IsWholeInput : Action → Option (List ℕ) → List ℕ → Type 0
 IsWholeInput Run only input = FitsScript input
 IsWholeInput Load only input = GivesItems only input
+IsWholeInput Make only input = Unit {0}
 
 -- the limits that end an action: a script ends for want of room alone, since it says the limits of the map and goes on
 abbrev pub IsLimitOf : Action → LimitFault → Type 0
 IsLimitOf Run fault = fault ≡ limits.NoRoom
 IsLimitOf Load fault = Unit {0}
+IsLimitOf Make fault = Unit {0}
 
--- The image stands for pages whose page 0 has numbers that reach the limit, with the number of places of the input added.
-pub record IsLimitReached (fault : LimitFault) (only : Option (List ℕ)) (input : List ℕ) (image : Image) : Type 0 where
+-- The places of an action reach the limit, from so many live places and this update number on: those of the text of a load, or those that
+-- are made.
+abbrev pub ReachesLimitBy : Action → Asked → LimitFault → ℕ → ℕ → List ℕ → Type 0
+ReachesLimitBy Run asked fault live number input = fault ≡ limits.NoRoom
+ReachesLimitBy Load asked fault live number input = ReachesLimit fault live number asked.text input
+ReachesLimitBy Make asked fault live number input = ReachLimit asked.count fault live number
+
+-- The image stands for pages whose page 0 has numbers that reach the limit, with the number of the action's places added.
+pub record IsLimitReached (fault : LimitFault) (asked : Asked) (input : List ℕ) (image : Image) : Type 0 where
   pub area : ℕ → ℕ
   pub stands : StandsFor image area
-  pub reaches : ReachesLimit fault (superblock_in (page_bytes area 0)).head.live (superblock_in (page_bytes area 0)).head.number only input
+  pub reaches : ReachesLimitBy asked.action asked fault (superblock_in (page_bytes area 0)).head.live (superblock_in (page_bytes area 0)).head.number input
 
 -- ---- which ends there are
 
@@ -182,6 +203,13 @@ IsCompleteEnd action ends.Memory = Unit {0}
 IsCompleteEnd action (ends.Input fault) = Unit {0}
 IsCompleteEnd action (ends.Limit fault) = IsLimitOf action fault
 IsCompleteEnd action _ = ⊥
+
+-- an end that a make may have: neither its source nor an input ends it
+abbrev pub IsUnreadEnd : Ended → Type 0
+IsUnreadEnd ends.Words = ⊥
+IsUnreadEnd ends.Source = ⊥
+IsUnreadEnd (ends.Input fault) = ⊥
+IsUnreadEnd _ = Unit {0}
 
 -- ---- a store that is refused
 

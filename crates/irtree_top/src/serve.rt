@@ -1,11 +1,10 @@
 //! A job, over a store that is opened.
-ghost use Rattle.std.specs.Prelude.{◌≡◌, ◌≤◌, false, [], option_copied, option_map, string_bytes, IfErr, IsErrOf, IsTrue, OnOk};
+ghost use Rattle.std.specs.Prelude.{◌≡◌, ◌≤◌, false, option_copied, option_map, string_bytes, IfErr, IsErrOf, IsTrue, OnOk};
 ghost use Rattle.disk_model.specs.World.{HasDiskCause, LeavesOnly, LeavesOnlySeen};
 ghost use Rattle.place_map.specs.State.{Contents};
 ghost use Rattle.irtree_engine.specs.Holding.{HoldsState, LeavesState};
 ghost use Rattle.run_protocol.specs.Causes.{HasJobEnd};
-ghost use Rattle.run_protocol.specs.Load.{ReachesLimit};
-ghost use Rattle.irtree_top.specs.Run.{EndsJob, HasRunEnd, HoldsPrefix, IsLimitReached, IsInputEnd, IsLimitOf, IsWholeInput, LeavesAlone};
+ghost use Rattle.irtree_top.specs.Run.{EndsJob, HasRunEnd, HoldsPrefix, IsLimitReached, IsInputEnd, IsLimitOf, IsUnreadEnd, IsWholeInput, LeavesAlone, LeavesInput, ReachesLimitBy};
 ghost use Rattle.command_words.specs.Job.{asked_of};
 
 use crate::{transcript_is_one, transcript_is_some};
@@ -14,6 +13,7 @@ use disk_model::{Failed, Source, Station};
 use geojson_points::outcome_is_one;
 use irtree_engine::{Engine, EngineFault, recover_superblock};
 use load_run::run_load;
+use make_run::run_make;
 use run_protocol::{Ended, InputFault, LimitFault, ended_by};
 use script_run::run_script;
 use split_policy::SplitPolicy;
@@ -39,6 +39,7 @@ fn act<'d, S: Source, T: Station>(
     requires on { engine.old.stopped ≡ false }
     requires few { job.now.batch ≤ 10000 }
     requires some { 1 ≤ job.now.batch }
+    requires count { job.now.count ≤ 100000 }
     ensures same_loan { engine.new.store.disk.ghost_name ≡ engine.old.store.disk.ghost_name }
     ensures told { IsTrue S.tells → IsTrue T.tells → (state : Contents) → HoldsState (T.world engine.old.store.disk.now) state
         → EndsJob (asked_of job.now) state (S.left source.old) (S.left source.new) (T.world engine.old.store.disk.now) (T.world engine.new.store.disk.now) result }
@@ -46,10 +47,11 @@ fn act<'d, S: Source, T: Station>(
         → LeavesOnly (T.world engine.old.store.disk.now) (T.world engine.new.store.disk.now) (HoldsPrefix (asked_of job.now) state (S.left source.old) (T.world engine.old.store.disk.now)) }
     ensures cause { HasJobEnd T.tells (S.faults source.old) (S.faults source.new) (T.world engine.old.store.disk.now) (T.world engine.new.store.disk.now) result }
     ensures input { IsTrue S.tells → (fault : InputFault) → IsErrOf result (Ended.Input fault) → IsInputEnd job.now.action (option_map string_bytes job.now.text) (S.left source.old) fault }
-    ensures whole { IsTrue S.tells → OnOk result ((S.left source.new ≡ []) × IsWholeInput job.now.action (option_map string_bytes job.now.text) (S.left source.old)) }
+    ensures whole { IsTrue S.tells → OnOk result (LeavesInput job.now.action (S.left source.old) (S.left source.new) × IsWholeInput job.now.action (option_map string_bytes job.now.text) (S.left source.old)) }
+    ensures unread { job.now.action ≡ Action.Make → (source.new ≡ source.old) × IfErr result IsUnreadEnd }
     ensures limits { (fault : LimitFault) → IsErrOf result (Ended.Limit fault) → IsLimitOf job.now.action fault }
     ensures reached { IsTrue S.tells → (fault : LimitFault) → IsErrOf result (Ended.Limit fault)
-        → ReachesLimit fault engine.old.store.current.head.live engine.old.store.current.head.number (option_map string_bytes job.now.text) (S.left source.old) }
+        → ReachesLimitBy job.now.action (asked_of job.now) fault engine.old.store.current.head.live engine.old.store.current.head.number (S.left source.old) }
 {
     match job.action {
         Action::Run => run_script(alloc, source, engine),
@@ -58,6 +60,7 @@ fn act<'d, S: Source, T: Station>(
             let only = property_of(job);
             run_load(alloc, job.batch, only, source, engine)
         }
+        Action::Make => run_make(alloc, job.batch, job.from, job.count, engine),
     }
 }
 
@@ -90,6 +93,7 @@ fn serve<'d, S: Source, T: Station>(
     requires on { engine.old.stopped ≡ false }
     requires few { job.now.batch ≤ 10000 }
     requires some { 1 ≤ job.now.batch }
+    requires count { job.now.count ≤ 100000 }
     requires quiet { IsTrue T.tells → LeavesOnlySeen (T.world engine.old.store.disk.now) }
     ensures same_loan { engine.new.store.disk.ghost_name ≡ engine.old.store.disk.ghost_name }
     ensures told { IsTrue S.tells → IsTrue T.tells → (state : Contents) → HoldsState (T.world engine.old.store.disk.now) state
@@ -98,10 +102,11 @@ fn serve<'d, S: Source, T: Station>(
         → LeavesOnly (T.world engine.old.store.disk.now) (T.world engine.new.store.disk.now) (HoldsPrefix (asked_of job.now) state (S.left source.old) (T.world engine.old.store.disk.now)) }
     ensures cause { HasJobEnd T.tells (S.faults source.old) (S.faults source.new) (T.world engine.old.store.disk.now) (T.world engine.new.store.disk.now) result }
     ensures input { IsTrue S.tells → (fault : InputFault) → IsErrOf result (Ended.Input fault) → IsInputEnd job.now.action (option_map string_bytes job.now.text) (S.left source.old) fault }
-    ensures whole { IsTrue S.tells → OnOk result ((S.left source.new ≡ []) × IsWholeInput job.now.action (option_map string_bytes job.now.text) (S.left source.old)) }
+    ensures whole { IsTrue S.tells → OnOk result (LeavesInput job.now.action (S.left source.old) (S.left source.new) × IsWholeInput job.now.action (option_map string_bytes job.now.text) (S.left source.old)) }
+    ensures unread { job.now.action ≡ Action.Make → (source.new ≡ source.old) × IfErr result IsUnreadEnd }
     ensures limits { (fault : LimitFault) → IsErrOf result (Ended.Limit fault) → IsLimitOf job.now.action fault }
     ensures reached { IsTrue S.tells → (fault : LimitFault) → IsErrOf result (Ended.Limit fault)
-        → ReachesLimit fault engine.old.store.current.head.live engine.old.store.current.head.number (option_map string_bytes job.now.text) (S.left source.old) }
+        → ReachesLimitBy job.now.action (asked_of job.now) fault engine.old.store.current.head.live engine.old.store.current.head.number (S.left source.old) }
 {
     transcript_is_one();
     transcript_is_some();
@@ -125,6 +130,7 @@ pub(crate) fn run_job<S: Source, T: Station>(
 ) -> Result<(), Ended>
     requires few { job.now.batch ≤ 10000 }
     requires some { 1 ≤ job.now.batch }
+    requires count { job.now.count ≤ 100000 }
     ensures told { IsTrue S.tells → IsTrue T.tells → (state : Contents) → HoldsState (T.world station.old) state
         → EndsJob (asked_of job.now) state (S.left source.old) (S.left source.new) (T.world station.old) (T.world station.new) result }
     ensures any_moment { IsTrue S.tells → IsTrue T.tells → (state : Contents) → HoldsState (T.world station.old) state
@@ -132,10 +138,11 @@ pub(crate) fn run_job<S: Source, T: Station>(
     ensures cause { HasRunEnd T.tells (S.faults source.old) (S.faults source.new) (T.world station.old) (T.world station.new) result }
     ensures left_alone { IsTrue T.tells → IfErr result (λ end. LeavesAlone end (T.world station.old) (T.world station.new)) }
     ensures input { IsTrue S.tells → (fault : InputFault) → IsErrOf result (Ended.Input fault) → IsInputEnd job.now.action (option_map string_bytes job.now.text) (S.left source.old) fault }
-    ensures whole { IsTrue S.tells → OnOk result ((S.left source.new ≡ []) × IsWholeInput job.now.action (option_map string_bytes job.now.text) (S.left source.old)) }
+    ensures whole { IsTrue S.tells → OnOk result (LeavesInput job.now.action (S.left source.old) (S.left source.new) × IsWholeInput job.now.action (option_map string_bytes job.now.text) (S.left source.old)) }
+    ensures unread { job.now.action ≡ Action.Make → (source.new ≡ source.old) × IfErr result IsUnreadEnd }
     ensures limits { (fault : LimitFault) → IsErrOf result (Ended.Limit fault) → IsLimitOf job.now.action fault }
     ensures reached { IsTrue S.tells → IsTrue T.tells → (fault : LimitFault) → IsErrOf result (Ended.Limit fault)
-        → IsLimitReached fault (option_map string_bytes job.now.text) (S.left source.old) (T.world station.old).seen }
+        → IsLimitReached fault (asked_of job.now) (S.left source.old) (T.world station.old).seen }
 {
     let block = match recover_superblock(&mut *station) {
         Ok(block) => block,

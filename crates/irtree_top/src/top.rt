@@ -1,16 +1,16 @@
 //! The top call.
-ghost use Rattle.std.specs.Prelude.{◌≡◌, ◌≤◌, ◌⊎◌, [], ℕ, List, map, string_bytes, IsTrue, Err};
+ghost use Rattle.std.specs.Prelude.{◌≡◌, ◌≤◌, ◌⊎◌, ℕ, List, map, string_bytes, IsTrue, Err};
 ghost use Rattle.disk_model.specs.World.{LeavesOnly, Rose};
 ghost use Rattle.place_map.specs.State.{Contents};
 ghost use Rattle.irtree_engine.specs.Holding.{HoldsState};
 ghost use Rattle.run_protocol.specs.Turn.{Transcript, Done, Input};
-ghost use Rattle.irtree_top.specs.Run.{EndsBy, HoldsPrefix, IsLimitReached, IsBehindOpening, IsBroken, IsCompleteEnd, IsInputEnd, IsLimitOf, IsOpenable, IsSettled, IsWholeInput, LeavesAlone, SaysFront, SaysWhatWasRead, StopsAtLimit};
+ghost use Rattle.irtree_top.specs.Run.{EndsBy, HoldsPrefix, IsLimitReached, IsBehindOpening, IsBroken, IsCompleteEnd, IsInputEnd, IsLimitOf, IsOpenable, IsSettled, IsUnreadEnd, IsWholeInput, LeavesAlone, LeavesInput, SaysFront, SaysWhatWasRead, StopsAtLimit};
 ghost use Rattle.irtree_top.specs.Transcript.{IsTranscript};
 ghost use Rattle.command_words.specs.Job.{Asked, AskFor, AreAccepted};
 
 use crate::serve::run_job;
 use crate::{Ended, InputFault, LimitFault, StoreFault};
-use command_words::{WordsFault, read_words};
+use command_words::{Action, WordsFault, read_words};
 use disk_model::{Source, Station};
 use geojson_points::{outcome_is_one, outcome_is_some};
 use split_policy::SplitPolicy;
@@ -20,24 +20,24 @@ use std::alloc::Global;
 /// places.
 ///
 /// The words are read by [`read_words`]; the store is the station's, and its name isn't looked at. `run` is a script, a line at a time.
-/// `load` stores the places of a GeoJSON text, which is read whole before anything is said. The cache has as many pages as the words
-/// say. The policy splits the tree's full nodes; it is the caller's, who makes it by the name that the words give
+/// `load` stores the places of a GeoJSON text, which is read whole before anything is said. `make` stores the places of a seed, asks for
+/// some of them, and reads nothing. The cache has as many pages as the words say. The policy splits the tree's full nodes; it is the caller's, who makes it by the name that the words give
 /// ([`Job`](crate::Job)'s `policy`), and it is dropped in the end, also if the words are refused. No clause depends on the cache or the
 /// policy: the transcript and its states are the same whatever they are. Returns how it ended:
 ///
-/// - `Done` if the input was read to its end, and a script isn't too long or a text gives items. The whole transcript was said, and the
-///   image stands for its last state.
+/// - `Done` if the input was read to its end, and a script isn't too long or a text gives items; or if a make is through, with the source as
+///   it was. The whole transcript was said, and the image stands for its last state.
 /// - `Words` if the words are refused for another cause than memory. Nothing was read, written or said.
 /// - `Input` if a script is too long, or a text gives no items, for its first offence. The whole transcript was said: of a script the
 ///   replies to the lines that are whole within the bytes it may have, of a load nothing.
 /// - `Limit(NoRoom)` if no page is left for an update or a batch. All that comes before its reply was said, and the image stands for the
 ///   state before it.
-/// - `Limit(Full)` and `Limit(Worn)` in a load alone, if a batch meets that limit. The whole transcript was said; the live places or
-///   the update number of page 0, with the places of the text added, reach the limit.
+/// - `Limit(Full)` and `Limit(Worn)` in a load or a make alone, if a batch meets that limit. The whole transcript was said; the live places
+///   or the update number of page 0, with the places of the text or those to be made added, reach the limit.
 /// - `Store` if the image at the start is no well-formed store: `NotAStore` if its page 0 is foreign; `BadJournal` with the first byte of
 ///   its journal that breaks a rule; `Damaged` with the rule Head at page 0 if that breaks it, or with what is met behind the opening.
 ///   A store that is refused as it is opened is left alone: a bad journal as it was, the others recovered and nothing else.
-/// - `Source` if the source fails, after the replies to all lines that were read, and in a load with nothing said.
+/// - `Source` if the source fails, after the replies to all lines that were read, and in a load with nothing said; never in a make.
 /// - `Disk`, `Sink` and `Memory` if one of them fails, after a prefix of the transcript's text.
 ///
 /// All ends but `Store`, `Disk`, `Words` and `Memory` come only if page 0 of the recovered store is zeros, or begins with the magic and
@@ -47,7 +47,7 @@ use std::alloc::Global;
 /// transcript's updates that holds every acknowledged one, or one that a crash could have left before the call. After the job, what the
 /// journal still holds is brought to its place; if that fails the run ends `Disk`, however the job ended.
 ///
-/// Memory: for a script one line and one reply, for a load its text and what it gives; the pages of one commit; a query reads all live
+/// Memory: for a script one line and one reply, for a load its text and what it gives, for a make one batch of places; the pages of one commit; a query reads all live
 /// places. Each reply is said whole before the next line is acted on, in one call if the station takes it at once. Opening costs a
 /// recovery and one page read; each update that changes the map one commit.
 pub fn run<S: Source, T: Station>(
@@ -62,10 +62,10 @@ pub fn run<S: Source, T: Station>(
     ensures refused { ¬ AreAccepted (map string_bytes words.now) → (result ≡ Ended.Words) ⊎ (result ≡ Ended.Memory) }
     ensures untouched { result ≡ Ended.Words → (source.new ≡ source.old) × (station.new ≡ station.old) }
 
-    // The whole text was said, the input was read to its end, and the image stands for the last state.
+    // The whole text was said, the input was read to its end, in a make left as it was, and the image stands for the last state.
     ensures done { (asked : Asked) → AskFor (map string_bytes words.now) asked → IsTrue S.tells → IsTrue T.tells
         → (state : Contents) → HoldsState (T.world station.old) state → result ≡ Ended.Done
-        → EndsBy Done asked state (S.left source.old) (T.world station.old) (T.world station.new) × (S.left source.new ≡ []) }
+        → EndsBy Done asked state (S.left source.old) (T.world station.old) (T.world station.new) × LeavesInput asked.action (S.left source.old) (S.left source.new) }
     // The whole text was said, its transcript ends so, and the image stands for the last state.
     ensures input { (asked : Asked) → AskFor (map string_bytes words.now) asked → IsTrue S.tells → IsTrue T.tells
         → (state : Contents) → HoldsState (T.world station.old) state → (fault : InputFault) → result ≡ Ended.Input fault
@@ -90,13 +90,15 @@ pub fn run<S: Source, T: Station>(
 
     // The input was read to its end and is taken whole, or it is refused for this cause, whatever the image stands for.
     ensures whole { (asked : Asked) → AskFor (map string_bytes words.now) asked → IsTrue S.tells → result ≡ Ended.Done
-        → (S.left source.new ≡ []) × IsWholeInput asked.action asked.text (S.left source.old) }
+        → LeavesInput asked.action (S.left source.old) (S.left source.new) × IsWholeInput asked.action asked.text (S.left source.old) }
     ensures input_end { (asked : Asked) → AskFor (map string_bytes words.now) asked → IsTrue S.tells → (fault : InputFault) → result ≡ Ended.Input fault
         → IsInputEnd asked.action asked.text (S.left source.old) fault }
     // So is a limit one that ends the action, and reached by the numbers of page 0.
     ensures limits { (asked : Asked) → AskFor (map string_bytes words.now) asked → (fault : LimitFault) → result ≡ Ended.Limit fault → IsLimitOf asked.action fault }
     ensures reached { (asked : Asked) → AskFor (map string_bytes words.now) asked → IsTrue S.tells → IsTrue T.tells → (fault : LimitFault) → result ≡ Ended.Limit fault
-        → IsLimitReached fault asked.text (S.left source.old) (T.world station.old).seen }
+        → IsLimitReached fault asked (S.left source.old) (T.world station.old).seen }
+    // A make reads nothing, and ends by no input.
+    ensures unread { (asked : Asked) → AskFor (map string_bytes words.now) asked → asked.action ≡ Action.Make → (source.new ≡ source.old) × IsUnreadEnd result }
 
     // Each end has its cause, and no count falls.
     ensures store { (fault : StoreFault) → result ≡ Ended.Store fault → IsTrue T.tells → IsBroken fault (T.world station.old).seen }

@@ -1,14 +1,18 @@
-use Rattle.std.proofs.Common.{◌≡◌, ℕ, [], List, OnOk, sym, subst}
-use Rattle.std.specs.Prelude.{Option, Err, option_map, string_bytes}
+use Rattle.std.proofs.Common.{◌≡◌, ℕ, [], List, OnOk, refl, sym, subst, arith}
+use Rattle.std.specs.Prelude.{Option, Result, Err, IfErr, option_map, string_bytes}
 use Rattle.disk_model.specs.World.{LeavesOnly}
 use Rattle.load_run.specs.Loading.{EndsLoad}
+use Rattle.run_protocol.specs.Causes.{IsEngineEnd}
 use Rattle.run_protocol.specs.Left.{LeftByLoad}
+use Rattle.run_protocol.specs.declared.ended.Ended.{Ended}
 use Rattle.run_protocol.specs.Load.{GivesItems, IsTaken, ReachesLimit}
 use Rattle.command_words.specs.Job.{asked_of}
 use Rattle.command_words.specs.declared.job.Action.{Action}
-use Rattle.irtree_top.specs.Run.{IsInputEnd, IsLimitOf, IsWholeInput}
-use Rattle.irtree_top.proofs.Crashes.{load-left, script-left}
-use Rattle.irtree_top.proofs.Jobs.{load-ends, script-ends}
+use Rattle.irtree_top.specs.Run.{IsInputEnd, IsLimitOf, IsWholeInput, LeavesInput, ReachesLimitBy}
+use Rattle.load_run.proofs.Causes.{job-of-engine}
+use Rattle.load_run.proofs.Outcomes.{on_ok-held}
+use Rattle.irtree_top.proofs.Crashes.{load-left, make-left, script-left}
+use Rattle.irtree_top.proofs.Jobs.{engine-unread, load-ends, make-ends, script-ends}
 use Rattle.irtree_top.proofs.serve.act.Goals as goal
 
 pub returns-in-Run-clause-told : goal.returns-in-Run-clause-told
@@ -40,13 +44,15 @@ returns-in-Run-clause-input g c = λ tells fault is.
 
 pub returns-in-Run-clause-whole : goal.returns-in-Run-clause-whole
 returns-in-Run-clause-whole g c = λ tells.
-    subst (λ (a : Action). OnOk c.run_script.result ((g.S.Source.left c.run_script.new.source ≡ []) × IsWholeInput a (option_map string_bytes c.args.job.now.text) (g.S.Source.left c.args.source.now))) (sym c.in-Run.is) (c.run_script.ensures.whole tells)
+    subst (λ (a : Action). OnOk c.run_script.result (LeavesInput a (g.S.Source.left c.args.source.now) (g.S.Source.left c.run_script.new.source) × IsWholeInput a (option_map string_bytes c.args.job.now.text) (g.S.Source.left c.args.source.now))) (sym c.in-Run.is) (c.run_script.ensures.whole tells)
 
 pub returns-in-Run-clause-limits : goal.returns-in-Run-clause-limits
 returns-in-Run-clause-limits g c = λ fault is. subst (λ (a : Action). IsLimitOf a fault) (sym c.in-Run.is) (c.run_script.ensures.limit fault is)
 
 pub returns-in-Run-clause-reached : goal.returns-in-Run-clause-reached
-returns-in-Run-clause-reached g c = λ tells fault is. rw (c.run_script.ensures.limit fault is) tt
+returns-in-Run-clause-reached g c = λ tells fault is.
+    let head = c.args.engine.now.store.current.head in
+    subst (λ (a : Action). ReachesLimitBy a (asked_of c.args.job.now) fault head.live head.number (g.S.Source.left c.args.source.now)) (sym c.in-Run.is) (c.run_script.ensures.limit fault is)
 
 pub returns-in-Load-clause-input : goal.returns-in-Load-clause-input
 returns-in-Load-clause-input g c = λ tells fault is.
@@ -56,7 +62,7 @@ returns-in-Load-clause-input g c = λ tells fault is.
 pub returns-in-Load-clause-whole : goal.returns-in-Load-clause-whole
 returns-in-Load-clause-whole g c = λ tells.
     let given = subst (λ (only : Option (List ℕ)). OnOk c.run_load.result ((g.S.Source.left c.run_load.new.source ≡ []) × GivesItems only (g.S.Source.left c.args.source.now))) c.property_of-only.ensures (c.run_load.ensures.whole tells) in
-    subst (λ (a : Action). OnOk c.run_load.result ((g.S.Source.left c.run_load.new.source ≡ []) × IsWholeInput a (option_map string_bytes c.args.job.now.text) (g.S.Source.left c.args.source.now))) (sym c.in-Load.is) given
+    subst (λ (a : Action). OnOk c.run_load.result (LeavesInput a (g.S.Source.left c.args.source.now) (g.S.Source.left c.run_load.new.source) × IsWholeInput a (option_map string_bytes c.args.job.now.text) (g.S.Source.left c.args.source.now))) (sym c.in-Load.is) given
 
 pub returns-in-Load-clause-limits : goal.returns-in-Load-clause-limits
 returns-in-Load-clause-limits g c = λ fault is. subst (λ (a : Action). IsLimitOf a fault) (sym c.in-Load.is) tt
@@ -64,4 +70,42 @@ returns-in-Load-clause-limits g c = λ fault is. subst (λ (a : Action). IsLimit
 pub returns-in-Load-clause-reached : goal.returns-in-Load-clause-reached
 returns-in-Load-clause-reached g c = λ tells fault is.
     let head = c.args.engine.now.store.current.head in
-    subst (λ (only : Option (List ℕ)). ReachesLimit fault head.live head.number only (g.S.Source.left c.args.source.now)) c.property_of-only.ensures (c.run_load.ensures.limit tells fault is)
+    let reaches = subst (λ (only : Option (List ℕ)). ReachesLimit fault head.live head.number only (g.S.Source.left c.args.source.now)) c.property_of-only.ensures (c.run_load.ensures.limit tells fault is) in
+    subst (λ (a : Action). ReachesLimitBy a (asked_of c.args.job.now) fault head.live head.number (g.S.Source.left c.args.source.now)) (sym c.in-Load.is) reaches
+
+-- ---- a make
+
+pub returns-in-Make-clause-told : goal.returns-in-Make-clause-told
+returns-in-Make-clause-told g c = λ tells told state holds.
+    let input = g.S.Source.left c.args.source.now in
+    make-ends (asked_of c.args.job.now) state input c.in-Make.is (Unit {0}) input (g.T.Disk.world c.args.engine.now.store.disk.now) (g.T.Disk.world c.run_make.new.engine.store.disk.now) c.run_make.result refl
+    (c.run_make.ensures.told told state holds)
+
+pub returns-in-Make-clause-any_moment : goal.returns-in-Make-clause-any_moment
+returns-in-Make-clause-any_moment g c = λ tells told state holds.
+    make-left (asked_of c.args.job.now) state (g.S.Source.left c.args.source.now) c.requires.some c.in-Make.is (g.T.Disk.world c.args.engine.now.store.disk.now) (g.T.Disk.world c.run_make.new.engine.store.disk.now) (c.run_make.ensures.any_moment told state holds)
+
+pub returns-in-Make-clause-cause : goal.returns-in-Make-clause-cause
+returns-in-Make-clause-cause g c =
+    let faults = g.S.Source.faults c.args.source.now in
+    job-of-engine g.T.Disk.tells faults faults (g.T.Disk.world c.args.engine.now.store.disk.now) (g.T.Disk.world c.run_make.new.engine.store.disk.now) c.run_make.result (omega arith) c.run_make.ensures.cause
+
+pub returns-in-Make-clause-input : goal.returns-in-Make-clause-input
+returns-in-Make-clause-input g c = λ tells fault is.
+    absurd (subst (λ (r : Result (Unit {0}) Ended). IfErr r (IsEngineEnd g.T.Disk.tells (g.T.Disk.world c.args.engine.now.store.disk.now) (g.T.Disk.world c.run_make.new.engine.store.disk.now))) is c.run_make.ensures.cause.cause)
+
+pub returns-in-Make-clause-whole : goal.returns-in-Make-clause-whole
+returns-in-Make-clause-whole g c = λ tells.
+    let input = g.S.Source.left c.args.source.now in
+    on_ok-held c.run_make.result (subst (λ (a : Action). LeavesInput a input input × IsWholeInput a (option_map string_bytes c.args.job.now.text) input) (sym c.in-Make.is) (refl, tt))
+
+pub returns-in-Make-clause-limits : goal.returns-in-Make-clause-limits
+returns-in-Make-clause-limits g c = λ fault is. subst (λ (a : Action). IsLimitOf a fault) (sym c.in-Make.is) tt
+
+pub returns-in-Make-clause-reached : goal.returns-in-Make-clause-reached
+returns-in-Make-clause-reached g c = λ tells fault is.
+    let head = c.args.engine.now.store.current.head in
+    subst (λ (a : Action). ReachesLimitBy a (asked_of c.args.job.now) fault head.live head.number (g.S.Source.left c.args.source.now)) (sym c.in-Make.is) (c.run_make.ensures.limit fault is)
+
+pub returns-in-Make-clause-unread : goal.returns-in-Make-clause-unread
+returns-in-Make-clause-unread g c = λ makes. (refl, engine-unread g.T.Disk.tells (g.T.Disk.world c.args.engine.now.store.disk.now) (g.T.Disk.world c.run_make.new.engine.store.disk.now) (Unit {0}) c.run_make.result c.run_make.ensures.cause.cause)

@@ -1,5 +1,5 @@
-use Rattle.std.proofs.Common.{◌≡◌, ◌≤◌, rules, sym, ap, subst, ◌∙◌, arith}
-use Rattle.std.specs.Prelude.{IsErrOf, option_map, string_bytes}
+use Rattle.std.proofs.Common.{◌≡◌, rules, refl, sym, ap, subst, ◌∙◌, arith}
+use Rattle.std.specs.Prelude.{IsErrOf}
 use Rattle.command_words.specs.Job.{asked_of}
 use Rattle.irtree_engine.specs.declared.fault.EngineFault.TheVariants as engine
 use Rattle.disk_model.specs.World.{LeavesOnly, LeavesOnlySeen}
@@ -7,12 +7,11 @@ use Rattle.disk_model.proofs.Moments.{then, within}
 use Rattle.irtree_engine.specs.Holding.{HoldsState}
 use Rattle.page_store.specs.declared.superblock.Superblock.{Superblock}
 use Rattle.run_protocol.specs.Causes.{HasJobEnd}
-use Rattle.run_protocol.specs.Load.{ReachesLimit}
 use Rattle.run_protocol.specs.declared.ended.Ended.{Ended}
 use Rattle.run_protocol.specs.declared.ended.Ended.TheVariants as ends
-use Rattle.irtree_top.specs.Run.{EndsJob, HasRunEnd, HoldsPrefix}
+use Rattle.irtree_top.specs.Run.{EndsJob, HasRunEnd, HoldsPrefix, ReachesLimitBy}
 use Rattle.irtree_top.proofs.Crashes.{left-from, none-held}
-use Rattle.irtree_top.proofs.Jobs.{job-from}
+use Rattle.irtree_top.proofs.Jobs.{fault-unread, job-from}
 use Rattle.irtree_top.proofs.Openings.{IsOpeningEnd, Refuses, given-back, job-alone, job-cause, none-by, opened-image, opened-limit, opened-quiet, opening-end, refused-alone, refused-cause, refused-job}
 use Rattle.irtree_top.proofs.serve.run_job.Given as given
 use Rattle.irtree_top.proofs.serve.run_job.Goals.{After-ended_by}
@@ -60,6 +59,9 @@ returns-in-Err-clause-limits g c = λ fault is. absurd (ends-otherwise g (goal.a
 
 pub returns-in-Err-clause-reached : goal.returns-in-Err-clause-reached
 returns-in-Err-clause-reached g c = λ tells told fault is. absurd (ends-otherwise g (goal.at.returns-in-Err-clause-reached g c).After-ended_by (ends.Limit fault) (cc is))
+
+pub returns-in-Err-clause-unread : goal.returns-in-Err-clause-unread
+returns-in-Err-clause-unread g c = λ makes. (refl, rw c.ended_by.ensures (fault-unread c.in-Err.fault))
 
 pub returns-in-Err-clause-cause : goal.returns-in-Err-clause-cause
 returns-in-Err-clause-cause g c = record {
@@ -121,5 +123,5 @@ returns-clause-reached g c = λ tells told fault is.
     let world = g.T.Disk.world in
     let input = g.S.Source.left c.args.source.now in
     let block : c.over-engine.result.store.current ≡ c.in-Ok.block = c.over-engine.result.settled ∙ c.over-engine.ensures.block in
-    opened-limit c.in-Ok.block (world c.args.station.now) (world c.recover_superblock.new.disk) (c.in-Ok.ensures.opened told) fault (option_map string_bytes c.args.job.now.text) input
-    (subst (λ (b : Superblock). ReachesLimit fault b.head.live b.head.number (option_map string_bytes c.args.job.now.text) input) block (c.serve-end.ensures.reached tells fault is))
+    opened-limit c.in-Ok.block (world c.args.station.now) (world c.recover_superblock.new.disk) (c.in-Ok.ensures.opened told) fault (asked_of c.args.job.now) input
+    (subst (λ (b : Superblock). ReachesLimitBy c.args.job.now.action (asked_of c.args.job.now) fault b.head.live b.head.number input) block (c.serve-end.ensures.reached tells fault is))

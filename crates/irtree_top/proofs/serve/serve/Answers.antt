@@ -1,4 +1,4 @@
-use Rattle.std.proofs.Common.{◌≡◌, ◌≤◌, IsTrue, refl, arith}
+use Rattle.std.proofs.Common.{IsTrue, refl, arith}
 use Rattle.disk_model.specs.World.{LeavesOnly}
 use Rattle.place_map.specs.State.{Contents}
 use Rattle.irtree_engine.specs.Holding.{HoldsState}

@@ -1,9 +1,9 @@
-use Rattle.std.proofs.Common.{◌≡◌, [], subst}
+use Rattle.std.proofs.Common.{◌≡◌, ◌∙◌, ap, subst}
 use Rattle.std.specs.Prelude.{Err, IsErrOf}
 use Rattle.run_protocol.specs.declared.ended.Ended.{Ended}
 use Rattle.run_protocol.specs.declared.ended.Ended.TheVariants as ends
 use Rattle.disk_model.specs.World.{LeavesOnly}
-use Rattle.irtree_top.specs.Run.{EndsBy, EndsJob, HoldsPrefix, IsInputEnd, IsLimitOf, IsLimitReached, IsWholeInput, SaysFront}
+use Rattle.irtree_top.specs.Run.{EndsBy, EndsJob, HoldsPrefix, IsInputEnd, IsLimitOf, IsLimitReached, IsWholeInput, LeavesInput, SaysFront}
 use Rattle.run_protocol.specs.Turn.{Done}
 use Rattle.command_words.specs.Job.{Asked, asked_of}
 use Rattle.irtree_top.proofs.Jobs.{decided-front, job-front}
@@ -13,7 +13,7 @@ use Rattle.irtree_top.proofs.top.run.Goals as goal
 pub returns-in-Ok-run_job-clause-done : goal.returns-in-Ok-run_job-clause-done
 returns-in-Ok-run_job-clause-done g c = λ asked wants tells told state holds is.
     let same : asked_of c.in-Ok.job ≡ asked = cc (c.in-Ok.ensures.reading) in
-    subst (λ (a : Asked). EndsBy Done a state (g.S.Source.left c.args.source.now) (g.T.Disk.world c.args.station.now) (g.T.Disk.world c.run_job.new.station) × (g.S.Source.left c.run_job.new.source ≡ [])) same (c.in-Ok-run_job.ensures.told tells told state holds)
+    subst (λ (a : Asked). EndsBy Done a state (g.S.Source.left c.args.source.now) (g.T.Disk.world c.args.station.now) (g.T.Disk.world c.run_job.new.station) × LeavesInput a.action (g.S.Source.left c.args.source.now) (g.S.Source.left c.run_job.new.source)) same (c.in-Ok-run_job.ensures.told tells told state holds)
 
 pub returns-in-Ok-run_job-clause-front : goal.returns-in-Ok-run_job-clause-front
 returns-in-Ok-run_job-clause-front g c = λ asked wants tells told state holds.
@@ -65,8 +65,7 @@ returns-in-Ok-clause-opened g c = λ behind tells.
 pub returns-in-Ok-run_job-clause-whole : goal.returns-in-Ok-run_job-clause-whole
 returns-in-Ok-run_job-clause-whole g c = λ asked wants tells is.
     let same : asked_of c.in-Ok.job ≡ asked = cc (c.in-Ok.ensures.reading) in
-    let whole = c.in-Ok-run_job.ensures.whole tells in
-    (whole.0, subst (λ (a : Asked). IsWholeInput a.action a.text (g.S.Source.left c.args.source.now)) same whole.1)
+    subst (λ (a : Asked). LeavesInput a.action (g.S.Source.left c.args.source.now) (g.S.Source.left c.run_job.new.source) × IsWholeInput a.action a.text (g.S.Source.left c.args.source.now)) same (c.in-Ok-run_job.ensures.whole tells)
 
 pub returns-in-Ok-clause-input_end : goal.returns-in-Ok-clause-input_end
 returns-in-Ok-clause-input_end g c = λ asked wants tells fault is.
@@ -84,7 +83,17 @@ pub returns-in-Ok-clause-reached : goal.returns-in-Ok-clause-reached
 returns-in-Ok-clause-reached g c = λ asked wants tells told fault is.
     let same : asked_of c.in-Ok.job ≡ asked = cc (c.in-Ok.ensures.reading) in
     let named : IsErrOf c.run_job.result (ends.Limit fault) = cc in
-    subst (λ (a : Asked). IsLimitReached fault a.text (g.S.Source.left c.args.source.now) (g.T.Disk.world c.args.station.now).seen) same (c.run_job.ensures.reached tells told fault named)
+    subst (λ (a : Asked). IsLimitReached fault a (g.S.Source.left c.args.source.now) (g.T.Disk.world c.args.station.now).seen) same (c.run_job.ensures.reached tells told fault named)
+
+pub returns-in-Ok-run_job-clause-unread : goal.returns-in-Ok-run_job-clause-unread
+returns-in-Ok-run_job-clause-unread g c = λ asked wants makes.
+    let same : asked_of c.in-Ok.job ≡ asked = cc (c.in-Ok.ensures.reading) in
+    ((c.in-Ok-run_job.ensures.unread (ap (λ (a : Asked). a.action) same ∙ makes)).0, tt)
+
+pub returns-in-Ok-clause-unread : goal.returns-in-Ok-clause-unread
+returns-in-Ok-clause-unread g c = λ asked wants makes.
+    let same : asked_of c.in-Ok.job ≡ asked = cc (c.in-Ok.ensures.reading) in
+    c.in-Err.ensures.unread (ap (λ (a : Asked). a.action) same ∙ makes)
 
 pub returns-in-Ok-clause-complete : goal.returns-in-Ok-clause-complete
 returns-in-Ok-clause-complete g c = λ asked wants told state holds source disk sink.
