@@ -1,5 +1,5 @@
 //! What is found after a crash.
-use crate::runs::{ROOM, RUN, bytes_of, load_on, plan, run_on};
+use crate::runs::{ROOM, RUN, bytes_of, plan, run_on};
 use disk_model::{Area, CallKind, MemoryStation, Tear};
 use irtree_top::{Ended, StoreFault};
 use std::alloc::Global;
@@ -172,7 +172,7 @@ fn any_call_that_fails_leaves_every_acknowledged_update(rt: HostRuntime) -> Resu
 static THREE: &[u8] =
     b"{\"type\":\"FeatureCollection\",\"features\":[{\"type\":\"Feature\",\"geometry\":{\"type\":\"Point\",\"coordinates\":[1,2]},\"properties\":{\"t\":\"x\"}},{\"type\":\"Feature\",\"geometry\":{\"type\":\"Point\",\"coordinates\":[2,3]},\"properties\":{\"t\":\"x y\"}},{\"type\":\"Feature\",\"geometry\":{\"type\":\"Point\",\"coordinates\":[3,4]}}]}";
 
-// What a load of three batches may have said, and how many places it acknowledges.
+// What a run of three batches may have said, and how many places it acknowledges.
 static STORED: [&[u8]; 4] = [
     b"",
     b"stored 1\n",
@@ -182,30 +182,38 @@ static STORED: [&[u8]; 4] = [
 
 static COUNTS: [&[u8]; 4] = [b"count 0\n", b"count 1\n", b"count 2\n", b"count 3\n"];
 
+// Words that store three batches, and their input.
+static BATCHES: [(&[&str], &[u8]); 2] = [
+    (&["-", "load", "--batch=1"], THREE),
+    (&["-", "make", "--batch=1", "--count=3"], b""),
+];
+
 #[test]
-fn a_crash_in_a_load_leaves_whole_batches(rt: HostRuntime) -> Result<(), Fail> {
-    for calls in 0..200 {
-        let mut station = MemoryStation::new(rt.alloc(), ROOM);
-        station.stop_after(calls);
-        let ended = load_on(rt.alloc(), 1, THREE, &mut station)?;
-        let mut acknowledged = 0;
-        for (at, stored) in STORED.iter().enumerate() {
-            if station.said().starts_with(stored) {
-                acknowledged = at;
+fn a_crash_in_a_load_or_a_make_leaves_whole_batches(rt: HostRuntime) -> Result<(), Fail> {
+    for (given, input) in &BATCHES {
+        for calls in 0..200 {
+            let mut station = MemoryStation::new(rt.alloc(), ROOM);
+            station.stop_after(calls);
+            let ended = run_on(rt.alloc(), given, input, 100, &mut station)?;
+            let mut acknowledged = 0;
+            for (at, stored) in STORED.iter().enumerate() {
+                if station.said().starts_with(stored) {
+                    acknowledged = at;
+                }
             }
-        }
-        for tear in &TEARS {
-            let answer = answer_after(rt.alloc(), &station, *tear, b"count\n")?;
-            let is_at = |at: usize| COUNTS
-                .get(at)
-                .is_some_and(|wanted| *wanted == answer.as_slice());
-            assert!(rt;
-                is_at(acknowledged) || is_at(acknowledged.saturating_add(1)),
-                "after {calls} calls"
-            );
-        }
-        if ended.is_ok() {
-            break;
+            for tear in &TEARS {
+                let answer = answer_after(rt.alloc(), &station, *tear, b"count\n")?;
+                let is_at = |at: usize| COUNTS
+                    .get(at)
+                    .is_some_and(|wanted| *wanted == answer.as_slice());
+                assert!(rt;
+                    is_at(acknowledged) || is_at(acknowledged.saturating_add(1)),
+                    "after {calls} calls"
+                );
+            }
+            if ended == Ended::Done {
+                break;
+            }
         }
     }
     Ok(())

@@ -1,4 +1,4 @@
-//! Tests of the whole library: what scripts and loads say from bytes to bytes, and what a store keeps over runs, faults and crashes.
+//! Tests of the whole library: what scripts, loads and makes say from bytes to bytes, and what a store keeps over runs, faults and crashes.
 #![tactic(auto)]
 
 #[cfg(test)]
@@ -13,6 +13,8 @@ mod group_tests;
 mod language_tests;
 #[cfg(test)]
 mod load_tests;
+#[cfg(test)]
+mod make_tests;
 #[cfg(test)]
 mod policy_tests;
 #[cfg(test)]
