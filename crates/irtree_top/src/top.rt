@@ -47,9 +47,9 @@ use std::alloc::Global;
 /// transcript's updates that holds every acknowledged one, or one that a crash could have left before the call. After the job, what the
 /// journal still holds is brought to its place; if that fails the run ends `Disk`, however the job ended.
 ///
-/// Memory: for a script one line and one reply, for a load its text and what it gives, for a make one batch of places; the pages of one commit; a query reads all live
-/// places. Each reply is said whole before the next line is acted on, in one call if the station takes it at once. Opening costs a
-/// recovery and one page read; each update that changes the map one commit.
+/// Memory: for a script one line and one reply, for a load its text and what it gives, for a make one batch of places; the pages of one
+/// commit; a query its hits and what waits to be looked at. Each reply is said whole before the next line is acted on, in one call if the
+/// station takes it at once. Opening costs a recovery and one page read; each update that changes the map one commit.
 pub fn run<S: Source, T: Station>(
     alloc: Global,
     words: &[String],
