@@ -1,4 +1,7 @@
 //! What scripts say to groups over small random maps, against the scan of all choices.
+ghost use Rattle.std.specs.Prelude.{IfOk};
+ghost use Rattle.query_replies.specs.Reply.{HasReason};
+
 use crate::answer_tests::Dice;
 use crate::runs::said;
 use irtree_top::Ended;
@@ -67,7 +70,9 @@ fn small_map(alloc: Global, dice: &mut Dice) -> Result<Vec<String>, Fail> {
 }
 
 // The reply to a line by the scan of a state.
-fn scanned(alloc: Global, state: &mut State, line: &[u8]) -> Result<Reply, Fail> {
+fn scanned(alloc: Global, state: &mut State, line: &[u8]) -> Result<Reply, Fail>
+    ensures { IfOk result HasReason }
+{
     match read_line(alloc, line).map_err(|_| "no line")? {
         Line::Do(update) => {
             state.apply(update).map_err(|_| "refused")?;

@@ -4,6 +4,8 @@
 #[cfg(test)]
 mod answer_tests;
 #[cfg(test)]
+mod call_tests;
+#[cfg(test)]
 mod crash_tests;
 #[cfg(test)]
 mod damage_tests;
