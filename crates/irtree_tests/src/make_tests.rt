@@ -47,10 +47,10 @@ fn a_make_says_its_batches_and_what_is_found(rt: HostRuntime) -> Result<(), Fail
 }
 
 // More places than are asked for.
-static MANY: [&str; 4] = ["-", "make", "--from=7", "--count=300"];
+static MANY: [&str; 4] = ["-", "make", "--from=7", "--count=5000"];
 
 static MANY_SAID: &[u8] =
-    b"stored 300\nmade 300 places 100 queries 1000 hits sum 40095639573340000\n";
+    b"stored 1000\nstored 2000\nstored 3000\nstored 4000\nstored 5000\nmade 5000 places 100 queries 1000 hits sum 12123419615187500\n";
 
 #[test]
 fn a_make_says_the_same_under_both_policies(rt: HostRuntime) -> Result<(), Fail> {
@@ -118,6 +118,6 @@ fn a_sink_that_fails_ends_a_make(rt: HostRuntime) -> Result<(), Fail> {
     plan(&mut station, CallKind::Say, 2)?;
     let ended = run_on(rt.alloc(), &MANY, b"", 1, &mut station)?;
     assert!(rt; ended == Ended::Sink);
-    assert!(rt; station.said() == b"stored 300\n".as_slice());
+    assert!(rt; station.said() == b"stored 1000\n".as_slice());
     Ok(())
 }
