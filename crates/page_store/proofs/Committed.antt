@@ -2,10 +2,13 @@
 use Rattle.std.proofs.Common.{◌≡◌, sym, ap, subst, ◌∙◌, ℕ}
 use Rattle.disk_model.specs.World.{World, Image}
 use Rattle.disk_model.specs.declared.disk.Area.TheVariants.{Journal}
-use Rattle.page_journal.specs.Record.{IsJournal, IsReady, applied, Batch, AreLastImages, journal_end}
+use Rattle.disk_model.proofs.Moments.{reads_then}
+use Rattle.page_journal.specs.Record.{IsJournal, IsReady, SaysNothing, applied, journal_end}
 use Rattle.page_store.specs.declared.superblock.Superblock.{Superblock}
 use Rattle.page_store.specs.Superblock.{superblock_in, IsStorePage}
 use Rattle.page_store.specs.Contents.{page_bytes, IsCommitted}
+use Rattle.held_pages.specs.Pages.{PageTable}
+use Rattle.page_store.specs.Held.{AreImages}
 use Rattle.page_store.specs.Store.{Rests}
 
 -- calls that change no area leave the journal ready
@@ -24,9 +27,9 @@ committed_rests committed rests = record {
   page = λ range. subst (λ (m : Image). IsStorePage (page_bytes (applied m) 0)) (sym rests.seen) (committed.page range);
 }
 
--- and the pages that are kept are still the last images
-pub images_rest : {batch : Batch} {old new : World} → AreLastImages batch old.seen → Rests old new → AreLastImages batch new.seen
-images_rest {batch = batch} images rests = subst (λ (m : Image). AreLastImages batch m) (sym rests.seen) images
+-- and the journal's pages are still those that the disk stands for
+pub images_rest : {journal : PageTable} {old new : World} → AreImages journal old.seen → Rests old new → AreImages journal new.seen
+images_rest {journal = journal} images rests = subst (λ (m : Image). AreImages journal m) (sym rests.seen) images
 
 -- and so they do once the disk stands for the same pages from another record on
 pub committed_later : {block : Superblock} {at next : ℕ} {old new : World} → IsCommitted block at old → IsReady next new → applied new.seen ≡ applied old.seen → IsCommitted block next new
@@ -35,3 +38,7 @@ committed_later committed ready same = record {
   head = ap (λ (p : ℕ → ℕ). superblock_in (page_bytes p 0)) same ∙ committed.head;
   page = λ range. subst (λ (p : ℕ → ℕ). IsStorePage (page_bytes p 0)) (sym same) (committed.page range);
 }
+
+-- calls that said nothing, one behind the other
+pub says_then : {a b c : World} → SaysNothing a b → SaysNothing b c → SaysNothing a c
+says_then ab bc = record { said = bc.said ∙ ab.said; reads = reads_then ab.reads bc.reads }

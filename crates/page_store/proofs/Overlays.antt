@@ -1,35 +1,30 @@
 -- What a commit of an overlay leaves.
-use Rattle.std.proofs.Common.{◌≡◌, ◌≢◌, ◌⊎◌, inl, inr, ⊎_elim, ℕ, zero, suc, ◌+◌, ◌*◌, ◌<◌, ◌≤◌, Bool, true, false, List, [], ◌∷◌, length, get_or, slice_index, nat_lt, ◌==◌, if◌then◌else◌, Option, Some, None, is_some, option_map, Box, refl, sym, ◌∙◌, ap, subst, arith}
+use Rattle.std.proofs.Common.{◌≡◌, ◌≢◌, ◌⊎◌, inl, inr, ⊎_elim, ℕ, zero, suc, ◌+◌, ◌*◌, ◌<◌, ◌≤◌, Bool, true, false, List, [], ◌∷◌, length, get_or, slice_index, nat_eq, nat_lt, ◌==◌, if◌then◌else◌, Option, Some, None, is_some, option_map, Box, refl, sym, ◌∙◌, ap, subst, arith}
 use Rattle.std.specs.Map.{keys_of, lookup}
 use Rattle.std.specs.BTreeMap.{is_at, IsOrdered}
 use Rattle.std.specs.List.Sorted.{IsStrictlySortedBy}
-use Rattle.std.specs.Ordering.{nat_cmp, is_eq}
-use Rattle.std.specs.declared.cmp.Ordering.TheVariants.{Less, Equal, Greater}
-use Rattle.std.specs.Cmp.{nat_cmp_is}
+use Rattle.std.specs.Ordering.{nat_cmp}
 use Rattle.std.specs.declared.alloc.Global.{Global}
 use Rattle.std.proofs.lemmas.Map.Keys.{below_from_sorted}
-use Rattle.std.proofs.lemmas.Bool.{cases_lt, cases_eq, cond-true, cond-false, false≢true}
+use Rattle.std.proofs.lemmas.Bool.{cases_eq, cond-true, cond-false, false≢true}
 use mathlib.Core.Path.{fun_ext}
 use Rattle.disk_model.specs.World.{World, LeavesOnly}
 use Rattle.disk_model.proofs.Moments.{then, within}
 use Rattle.page_face.specs.FreeList.{PageMap}
 use Rattle.page_journal.specs.Record.{IsAscending, applied, batch_of, given, with_batch, IsBeforeOrAfter, IsReady, LeavesPages, StandsFor}
 use Rattle.page_journal.proofs.Batches.{page_here, page_elsewhere, length_given}
+use Rattle.held_pages.specs.Rooms.{Ordered, ordered_page}
+use Rattle.held_pages.proofs.Tables.{same_key, other_key}
 use Rattle.page_store.specs.declared.superblock.Superblock.{Superblock}
 use Rattle.page_store.specs.Superblock.{superblock_in, IsInRange, IsStorePage}
 use Rattle.page_store.specs.Contents.{page_bytes, Overlay, page_in, IsSized, first_of, shown, counted_pages, contents_in, contents_of, HoldsOneOf}
 use Rattle.page_store.specs.Contents.{IsCommitted}
+use Rattle.page_store.specs.Held.{IsRecordOfTable}
 use Rattle.page_store.proofs.Bytes.{page_bytes-read, page_bytes-same}
 
--- the test of a look-up answers whether the keys are equal
-pub same_key : (n k : ℕ) → n ≡ k → is_at (nat_cmp n) k ≡ true
-same_key n k e = ap is_eq (sym (nat_cmp_is n k Equal e))
-
-pub other_key : (n k : ℕ) → (n ≡ k → ⊥) → is_at (nat_cmp n) k ≡ false
-other_key n k ne = ⊎_elim
-    (λ (l : n < k). ap is_eq (sym (nat_cmp_is n k Less l)))
-    (λ (g : k ≤ n). let above : k < n = omega arith in ap is_eq (sym (nat_cmp_is n k Greater above)))
-    (cases_lt n k)
+-- each page of an ordered map has 4,096 bytes
+abbrev pub AreSized : Ordered → Type 0
+AreSized ordered = (n : ℕ) (page : List ℕ) → ordered_page ordered n ≡ Some page → length page ≡ 4096
 
 -- the place of a page among the entries
 pub record Found (entries : List (ℕ × Box (List ℕ) Global)) (n : ℕ) : Type 0 where
@@ -108,11 +103,26 @@ page_bytes-with_entries entries area n sorted sized =
     ∙ sym (ap (λ (o : Option (Box (List ℕ) Global)). first_of (option_map (λ (p : Box (List ℕ) Global). p.value) o) (page_bytes area n)) m.at))
     (found_or_missing entries n)
 
--- after a commit a page is the overlay's, and else the one from before
-pub page_bytes-with_batch : (overlay : Overlay) (area : ℕ → ℕ) (n : ℕ) → IsOrdered nat_cmp overlay → IsSized overlay
-    → page_bytes (with_batch (batch_of (given overlay.entries)) area) n ≡ first_of (page_in overlay n) (page_bytes area n)
-page_bytes-with_batch overlay area n ordered sized =
-    page_bytes-with_entries overlay.entries area n ordered (λ page is. sized n page.value (ap (λ (o : Option (Box (List ℕ) Global)). option_map (λ (p : Box (List ℕ) Global). p.value) o) is))
+-- after a commit a page is the record's, and else the one from before
+pub page_bytes-with_batch : (whole : Ordered) (area : ℕ → ℕ) (n : ℕ) → IsOrdered nat_cmp whole → AreSized whole
+    → page_bytes (with_batch (batch_of (given whole.entries)) area) n ≡ first_of (ordered_page whole n) (page_bytes area n)
+page_bytes-with_batch whole area n ordered sized =
+    page_bytes-with_entries whole.entries area n ordered (λ page is. sized n page.value (ap (λ (o : Option (Box (List ℕ) Global)). option_map (λ (p : Box (List ℕ) Global). p.value) o) is))
+
+-- The pages of a record are those of an overlay, with a page 0 in the place of its own.
+pub record IsWhole (overlay : Overlay) (head : List ℕ) (whole : Ordered) : Type 0 where
+  pub sized : AreSized whole
+  pub at_0 : ordered_page whole 0 ≡ Some head
+  pub others : (n : ℕ) → n ≢ 0 → ordered_page whole n ≡ page_in overlay n
+
+-- so are those of the table that page 0 was put into
+pub whole_of : (overlay written : Overlay) (head bytes : List ℕ) → IsSized written → page_in written 0 ≡ Some head → ((n : ℕ) → n ≢ 0 → page_in written n ≡ page_in overlay n)
+    → (r : IsRecordOfTable written bytes) → IsWhole overlay head r.ordered
+whole_of overlay written head bytes sized at_0 others r = record {
+  sized = λ n page is. sized n page (sym (r.same n) ∙ is);
+  at_0 = r.same 0 ∙ at_0;
+  others = λ n ne. r.same n ∙ others n ne;
+}
 
 -- a map that has a page has an entry
 pub has_entries : (entries : List (ℕ × Box (List ℕ) Global)) (n : ℕ) (page : List ℕ) → option_map (λ (p : Box (List ℕ) Global). p.value) (lookup (is_at (nat_cmp n)) entries) ≡ Some page → 0 < length entries
@@ -120,8 +130,8 @@ has_entries [] n page is = absurd (false≢true (ap is_some is))
 has_entries (e ∷ entries) n page is = omega arith
 
 -- a commit of an overlay with page 0 leaves the contents that the overlay and page 0's fields hold
-pub committed_contents : (overlay whole : Overlay) (area : ℕ → ℕ) (block : Superblock) (head : List ℕ) → IsOrdered nat_cmp whole → IsSized whole → page_in whole 0 ≡ Some head → superblock_in head ≡ block
-    → ((n : ℕ) → n ≢ 0 → page_in whole n ≡ page_in overlay n) → contents_in (with_batch (batch_of (given whole.entries)) area) ≡ contents_of area overlay block
+pub committed_contents : (overlay : Overlay) (whole : Ordered) (area : ℕ → ℕ) (block : Superblock) (head : List ℕ) → IsOrdered nat_cmp whole → AreSized whole → ordered_page whole 0 ≡ Some head → superblock_in head ≡ block
+    → ((n : ℕ) → n ≢ 0 → ordered_page whole n ≡ page_in overlay n) → contents_in (with_batch (batch_of (given whole.entries)) area) ≡ contents_of area overlay block
 committed_contents overlay whole area block head ordered sized at_0 law others =
     let after = with_batch (batch_of (given whole.entries)) area in
     let block_is : superblock_in (page_bytes after 0) ≡ block =
@@ -135,7 +145,7 @@ committed_contents overlay whole area block head ordered sized at_0 law others =
         (page_bytes-with_batch whole area (suc m) ordered sized ∙ ap (λ (o : Option (List ℕ)). first_of o (page_bytes area (suc m))) (others (suc m) (λ e. omega arith)))
 
 -- and the pages stay, once the overlay is cleared
-pub committed_pages : (tells : Bool) (cleared overlay whole : Overlay) (area : ℕ → ℕ) (count : ℕ) → tells ≡ true → cleared.entries ≡ [] → IsOrdered nat_cmp whole → IsSized whole → ((n : ℕ) → n ≢ 0 → page_in whole n ≡ page_in overlay n)
+pub committed_pages : (tells : Bool) (cleared overlay : Overlay) (whole : Ordered) (area : ℕ → ℕ) (count : ℕ) → tells ≡ true → cleared.entries ≡ [] → IsOrdered nat_cmp whole → AreSized whole → ((n : ℕ) → n ≢ 0 → ordered_page whole n ≡ page_in overlay n)
     → counted_pages count (shown tells (with_batch (batch_of (given whole.entries)) area) cleared) ≡ counted_pages count (shown tells area overlay)
 committed_pages tells cleared overlay whole area count is_told none ordered sized others =
     let after = with_batch (batch_of (given whole.entries)) area in
@@ -145,7 +155,7 @@ committed_pages tells cleared overlay whole area count is_told none ordered size
     pages : (n : ℕ) → counted_pages count (shown true (with_batch (batch_of (given whole.entries)) area) cleared) n ≡ counted_pages count (shown true area overlay) n
     pages zero = refl
     pages (suc m) =
-        let empty : page_in cleared (suc m) ≡ None = ap (λ (es : List (ℕ × Box (List ℕ) Global)). option_map (λ (p : Box (List ℕ) Global). p.value) (lookup (is_at (nat_cmp (suc m))) es)) none in
+        let empty : page_in cleared (suc m) ≡ None = ap (λ (es : List (ℕ × Box (List ℕ) Global)). option_map (λ (p : Box (List ℕ) Global). p.value) (lookup (nat_eq (suc m)) es)) none in
         ap (λ (l : List ℕ). if suc m == 0 then [] else if nat_lt (suc m) count then l else [])
         (ap (λ (o : Option (List ℕ)). first_of o (page_bytes (with_batch (batch_of (given whole.entries)) area) (suc m))) empty
         ∙ page_bytes-with_batch whole area (suc m) ordered sized ∙ ap (λ (o : Option (List ℕ)). first_of o (page_bytes area (suc m))) (others (suc m) (λ e. omega arith)))
@@ -158,15 +168,15 @@ cleared_contents cleared area block none head =
   where
     pages : (n : ℕ) → counted_pages block.counted (shown true area cleared) n ≡ counted_pages block.counted (page_bytes area) n
     pages n =
-        let empty : page_in cleared n ≡ None = ap (λ (es : List (ℕ × Box (List ℕ) Global)). option_map (λ (p : Box (List ℕ) Global). p.value) (lookup (is_at (nat_cmp n)) es)) none in
+        let empty : page_in cleared n ≡ None = ap (λ (es : List (ℕ × Box (List ℕ) Global)). option_map (λ (p : Box (List ℕ) Global). p.value) (lookup (nat_eq n) es)) none in
         ap (λ (o : Option (List ℕ)). if n == 0 then [] else if nat_lt n block.counted then first_of o (page_bytes area n) else []) empty
 
 -- page 0 after a commit is the one in the overlay
-pub page_0 : (whole : Overlay) (area : ℕ → ℕ) (head : List ℕ) → IsOrdered nat_cmp whole → IsSized whole → page_in whole 0 ≡ Some head → page_bytes (with_batch (batch_of (given whole.entries)) area) 0 ≡ head
+pub page_0 : (whole : Ordered) (area : ℕ → ℕ) (head : List ℕ) → IsOrdered nat_cmp whole → AreSized whole → ordered_page whole 0 ≡ Some head → page_bytes (with_batch (batch_of (given whole.entries)) area) 0 ≡ head
 page_0 whole area head ordered sized at_0 = page_bytes-with_batch whole area 0 ordered sized ∙ ap (λ (o : Option (List ℕ)). first_of o (page_bytes area 0)) at_0
 
 -- once the overlay's record is written the disk is as a commit leaves it
-pub committed_by : (whole : Overlay) (area : ℕ → ℕ) (block : Superblock) (head : List ℕ) (at : ℕ) (new : World) → IsOrdered nat_cmp whole → IsSized whole → page_in whole 0 ≡ Some head → superblock_in head ≡ block
+pub committed_by : (whole : Ordered) (area : ℕ → ℕ) (block : Superblock) (head : List ℕ) (at : ℕ) (new : World) → IsOrdered nat_cmp whole → AreSized whole → ordered_page whole 0 ≡ Some head → superblock_in head ≡ block
     → (IsInRange block → IsStorePage head) → IsReady at new → applied new.seen ≡ with_batch (batch_of (given whole.entries)) area → IsCommitted block at new
 committed_by whole area block head at new ordered sized at_0 law store ready written =
     let page : page_bytes (applied new.seen) 0 ≡ head = ap (λ (p : ℕ → ℕ). page_bytes p 0) written ∙ page_0 whole area head ordered sized at_0 in
@@ -185,8 +195,8 @@ room_leaves block last at overlay old new committed leaves = within leaves (λ i
 ))
 
 -- and then, while the record is written, those from before or those of the overlay
-pub commit_leaves : (overlay whole : Overlay) (block last : Superblock) (head : List ℕ) (at : ℕ) (old mid new : World) → IsOrdered nat_cmp whole → IsSized whole → page_in whole 0 ≡ Some head → superblock_in head ≡ block
-    → ((n : ℕ) → n ≢ 0 → page_in whole n ≡ page_in overlay n) → (IsInRange block → IsStorePage head)
+pub commit_leaves : (overlay : Overlay) (whole : Ordered) (block last : Superblock) (head : List ℕ) (at : ℕ) (old mid new : World) → IsOrdered nat_cmp whole → AreSized whole → ordered_page whole 0 ≡ Some head → superblock_in head ≡ block
+    → ((n : ℕ) → n ≢ 0 → ordered_page whole n ≡ page_in overlay n) → (IsInRange block → IsStorePage head)
     → IsCommitted last at old → LeavesOnly old mid (LeavesPages (applied old.seen) old) → applied mid.seen ≡ applied old.seen → mid.said ≡ old.said → LeavesOnly mid new (IsBeforeOrAfter (batch_of (given whole.entries)) mid)
     → LeavesOnly old new (HoldsOneOf (contents_in (applied old.seen)) (contents_of (applied old.seen) overlay block) old)
 commit_leaves overlay whole block last head at old mid new ordered sized at_0 law others store committed room same quiet leaves =
@@ -212,5 +222,5 @@ commit_leaves overlay whole block last head at old mid new ordered sized at_0 la
 -- an overlay without a page holds none of another length
 pub cleared_sized : (overlay : Overlay) → overlay.entries ≡ [] → IsSized overlay
 cleared_sized overlay none n page is =
-    let empty : page_in overlay n ≡ None = ap (λ (es : List (ℕ × Box (List ℕ) Global)). option_map (λ (p : Box (List ℕ) Global). p.value) (lookup (is_at (nat_cmp n)) es)) none in
+    let empty : page_in overlay n ≡ None = ap (λ (es : List (ℕ × Box (List ℕ) Global)). option_map (λ (p : Box (List ℕ) Global). p.value) (lookup (nat_eq n) es)) none in
     cc

@@ -1,12 +1,10 @@
 -- What a store holds: page 0's fields and the pages counted.
-use Rattle.std.specs.Prelude.{◌≡◌, ◌⊎◌, ℕ, ◌+◌, ◌*◌, Bool, true, List, [], length, map, Option, Some, None, IsSome, option_map, option_and_then, cond, nat_lt, ◌==◌, if◌then◌else◌}
+pub use Rattle.held_pages.specs.Pages.{IsSized, first_of, first_page, page_in}
+use Rattle.std.specs.Prelude.{◌≡◌, ◌⊎◌, ℕ, ◌+◌, ◌*◌, Bool, true, List, [], map, cond, nat_lt, ◌==◌, if◌then◌else◌}
 use Rattle.std.specs.List.{range_with_len}
-use Rattle.std.specs.BTreeMap.{BTreeMap, get, IsOrdered}
-use Rattle.std.specs.Ordering.{nat_cmp}
-use Rattle.std.specs.declared.boxed.Box.{Box}
-use Rattle.std.specs.declared.alloc.Global.{Global}
 use Rattle.disk_model.specs.World.{World, Image}
 use Rattle.page_face.specs.FreeList.{PageMap}
+use Rattle.held_pages.specs.Pages.{PageTable}
 use Rattle.page_journal.specs.Record.{StandsFor, IsReady, applied}
 use Rattle.page_store.specs.declared.superblock.Superblock.{Superblock}
 use Rattle.page_store.specs.Superblock.{superblock_in, IsInRange, IsStorePage}
@@ -32,42 +30,7 @@ contents_in area =
 
 -- pages that are written and not yet committed
 abbrev pub Overlay : Type 0
-Overlay = BTreeMap ℕ (Box (List ℕ) Global)
-
--- the page of an overlay
-abbrev pub page_in : Overlay → ℕ → Option (List ℕ)
-page_in overlay n = option_map (λ page. page.value) (get nat_cmp overlay n)
-
--- each page of the overlay has 4,096 bytes
-abbrev pub IsSized : Overlay → Type 0
-IsSized overlay = (n : ℕ) (page : List ℕ) → page_in overlay n ≡ Some page → length page ≡ 4096
-
--- the pages that the journal wrote last, as they are kept in memory; the room of one that is to come may be there already
-abbrev pub Journaled : Type 0
-Journaled = BTreeMap ℕ (Option (Box (List ℕ) Global))
-
--- the page that is kept, or none
-abbrev pub journaled_page : Journaled → ℕ → Option (List ℕ)
-journaled_page journal n = option_and_then (option_map (λ page. page.value)) (get nat_cmp journal n)
-
--- the page where there is one, else another that may be there
-abbrev pub first_page : Option (List ℕ) → Option (List ℕ) → Option (List ℕ)
-first_page (Some page) other = Some page
-first_page None other = other
-
--- The numbers of the pages that are kept ascend, and each of the pages has 4,096 bytes.
-pub record AreKept (journal : Journaled) : Type 0 where
-  pub ordered : IsOrdered nat_cmp journal
-  pub sized : (n : ℕ) (page : List ℕ) → journaled_page journal n ≡ Some page → length page ≡ 4096
-
--- the room of each page of the overlay is there
-abbrev pub HasRoomFor : Overlay → Journaled → Type 0
-HasRoomFor overlay journal = (n : ℕ) → IsSome (get nat_cmp overlay n) → IsSome (get nat_cmp journal n)
-
--- the page where there is one, else another
-abbrev pub first_of : Option (List ℕ) → List ℕ → List ℕ
-first_of (Some page) other = page
-first_of None other = other
+Overlay = PageTable
 
 -- the pages of an overlay, and behind them those that the disk stands for, where it tells them
 abbrev pub shown : Bool → (ℕ → ℕ) → Overlay → PageMap

@@ -1,15 +1,17 @@
 //! Making the overlay safe, or dropping it, and bringing the journal's pages to their places.
-ghost use Rattle.std.specs.Prelude.{◌≡◌, ◌≢◌, ◌↔◌, ◌≤◌, ◌^◌, ℕ, IsTrue, false, true, [], OnOk, OnErr, IfErr, IsErrOf, ◌⊎◌};
+ghost use Rattle.std.specs.Prelude.{◌≡◌, ◌≢◌, ◌↔◌, ◌≤◌, ◌^◌, ℕ, IsTrue, false, true, [], OnOk, OnErr, IfErr, IsErrOf, ◌⊎◌, length};
 ghost use Rattle.disk_model.specs.World.{LeavesOnly, Rose};
 ghost use Rattle.page_journal.specs.Record.{SaysNothing, LeavesPages, applied};
-ghost use Rattle.page_store.specs.Contents.{contents_in, contents_of, HasRoomFor, HoldsOneOf, page_in};
+ghost use Rattle.held_pages.specs.Pages.{spare};
+ghost use Rattle.held_pages.specs.Rooms.{HasRoomFor};
+ghost use Rattle.page_store.specs.Contents.{contents_in, contents_of, HoldsOneOf, page_in};
 
-use crate::held::Place;
+use crate::gathering::{gather, take_room};
 use crate::store::Store;
-use crate::{held, journaled};
 use disk_model::Disk;
+use held_pages::{PageTable, Place};
 use page_face::{PageFault, Pages};
-use page_journal::{Record, append, checkpoint};
+use page_journal::{append, checkpoint};
 use std::collections::BTreeMap;
 
 /// The length of the journal, in bytes, behind which a commit makes a checkpoint first: so many that a checkpoint's two syncs are shared by
@@ -59,14 +61,14 @@ impl<'d, D: Disk> Store<'d, D> {
             return Err(PageFault::Stopped);
         }
         self.place = Place::Spare;
-        held::put(
+        held_pages::write(
             self.alloc,
             &mut self.overlay,
             &mut self.seals,
             0,
             &self.current.encode(),
         )?;
-        let Ok(gathered) = Record::gather(self.alloc, &self.overlay) else {
+        let Ok(gathered) = gather(self.alloc, &mut self.overlay) else {
             return Err(PageFault::Memory);
         };
         self.make_room()?;
@@ -76,7 +78,7 @@ impl<'d, D: Disk> Store<'d, D> {
             return Err(PageFault::Disk);
         };
         self.place = Place::Spare;
-        journaled::keep(&mut self.journal, &mut self.overlay);
+        held_pages::move_all(&mut self.overlay, &mut self.journal);
         self.end = end;
         self.last = self.current;
         self.stopped = false;
@@ -90,7 +92,8 @@ impl<'d, D: Disk> Store<'d, D> {
         ensures any_moment { IsTrue D.tells → LeavesOnly (D.world self.old.disk.now) (D.world self.new.disk.now)
             (LeavesPages (applied (D.world self.old.disk.now).seen) (D.world self.old.disk.now)) }
         ensures same { IsTrue D.tells → OnOk result (applied (D.world self.new.disk.now).seen ≡ applied (D.world self.old.disk.now).seen) }
-        ensures has_room { OnOk result (HasRoomFor self.new.overlay self.new.journal) }
+        ensures has_rooms { OnOk result (HasRoomFor self.new.overlay self.new.rooms) }
+        ensures has_spare { OnOk result (length self.new.overlay.entries ≤ spare self.new.journal) }
         ensures short { OnOk result (self.new.end ≤ 2 ^ 24) }
         ensures on { OnOk result (self.new.stopped ≡ false) }
 
@@ -112,14 +115,16 @@ impl<'d, D: Disk> Store<'d, D> {
     {
         self.place = Place::Spare;
         if self.end <= JOURNAL_MAX {
-            return journaled::make_room(&mut self.journal, &self.overlay);
+            return take_room(&mut self.rooms, &mut self.journal, &self.overlay);
         }
-        let mut fresh = BTreeMap::new(self.alloc);
-        journaled::make_room(&mut fresh, &self.overlay)?;
+        let mut rooms = BTreeMap::new(self.alloc);
+        let mut journal = PageTable::new(self.alloc);
+        take_room(&mut rooms, &mut journal, &self.overlay)?;
         match self.settle() {
             Ok(()) => {
                 self.place = Place::Spare;
-                self.journal = fresh;
+                self.rooms = rooms;
+                self.journal = journal;
                 Ok(())
             }
             Err(fault) => Err(fault),
@@ -166,11 +171,14 @@ impl<'d, D: Disk> Store<'d, D> {
         }
         // Until the checkpoint has succeeded the store is stopped.
         self.stopped = true;
-        let Ok(()) = checkpoint(&mut *self.disk, &self.journal) else {
+        self.place = Place::Spare;
+        held_pages::fill(&mut self.rooms, &mut self.journal);
+        let Ok(()) = checkpoint(&mut *self.disk, &self.rooms) else {
+            // An older page that is cached may have the seal of the journal's.
+            self.seals.clear();
             return Err(PageFault::Disk);
         };
-        self.place = Place::Spare;
-        held::retire(&mut self.journal, &mut self.cache);
+        held_pages::retire(&mut self.rooms, &mut self.cache);
         self.end = 0;
         self.stopped = false;
         Ok(())
@@ -192,7 +200,7 @@ impl<'d, D: Disk> Store<'d, D> {
         ensures refused { self.new.refused ≡ self.old.refused }
     {
         self.place = Place::Spare;
-        held::clear(&mut self.overlay, &mut self.seals);
+        held_pages::clear(&mut self.overlay, &mut self.seals);
         self.current = self.last;
     }
 }

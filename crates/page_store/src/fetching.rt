@@ -4,21 +4,20 @@ ghost use Rattle.disk_model.specs.World.{HasDiskCause};
 ghost use Rattle.disk_model.specs.declared.disk.Area.TheVariants as areas;
 ghost use Rattle.page_journal.specs.Record.{applied};
 ghost use Rattle.page_store.specs.Contents.{page_bytes, shown};
-ghost use Rattle.page_store.specs.Held.{held_page, looked_page};
+ghost use Rattle.held_pages.specs.Places.{held_page, looked_page};
 ghost use Rattle.page_store.specs.Store.{ReadsPage};
 
-use crate::held;
-use crate::held::Place;
 use crate::page::read_page;
 use crate::store::Store;
 use disk_model::{Disk, Failed};
+use held_pages::Place;
 
 impl<'d, D: Disk> Store<'d, D> {
     // Looks at a page and doesn't note it in the log. A page that memory holds costs no call of the disk.
     pub(crate) fn fetch(&mut self, page: u32) -> Result<(), Failed>
         requires on { self.old.stopped ≡ false }
         ensures gives { OnOk result (0 < length (shown D.tells (applied (D.world self.old.disk.now).seen) self.old.overlay page)
-            → looked_page self.new.place self.new.at self.new.overlay self.new.journal self.new.cache self.new.spare ≡ shown D.tells (applied (D.world self.old.disk.now).seen) self.old.overlay page) }
+            → looked_page self.new.place self.new.overlay self.new.journal self.new.cache self.new.spare ≡ shown D.tells (applied (D.world self.old.disk.now).seen) self.old.overlay page) }
         ensures in_memory { IsSome (held_page self.old.overlay self.old.journal self.old.cache page) → self.new.disk ≡ self.old.disk }
         ensures same_loan { self.new.disk.ghost_name ≡ self.old.disk.ghost_name }
         ensures reads { IsTrue D.tells → ReadsPage page (D.world self.old.disk.now) (D.world self.new.disk.now) }
@@ -41,7 +40,7 @@ impl<'d, D: Disk> Store<'d, D> {
     fn find(&mut self, page: u32) -> bool
         ensures found { result ≡ is_some (held_page self.old.overlay self.old.journal self.old.cache page) }
         ensures gives { IsTrue result → held_page self.old.overlay self.old.journal self.old.cache page
-            ≡ Some (looked_page self.new.place self.new.at self.new.overlay self.new.journal self.new.cache self.new.spare) }
+            ≡ Some (looked_page self.new.place self.new.overlay self.new.journal self.new.cache self.new.spare) }
         ensures none { result ≡ false → held_page self.new.overlay self.new.journal self.new.cache page ≡ None }
         ensures disk { self.new.disk ≡ self.old.disk }
         ensures overlay { self.new.overlay ≡ self.old.overlay }
@@ -52,14 +51,14 @@ impl<'d, D: Disk> Store<'d, D> {
         ensures stopped { self.new.stopped ≡ self.old.stopped }
     {
         self.at = page;
-        self.place = held::find(&self.overlay, &self.journal, &mut self.cache, page);
+        self.place = held_pages::find(&self.overlay, &self.journal, &mut self.cache, page);
         self.place.is_held()
     }
 
     // Looks at a page that memory doesn't hold: reads it from the disk, and keeps it in the cache.
     fn load(&mut self, page: u32) -> Result<(), Failed>
         requires none { held_page self.old.overlay self.old.journal self.old.cache page ≡ None }
-        ensures gives { OnOk result (IsTrue D.tells → looked_page self.new.place self.new.at self.new.overlay self.new.journal self.new.cache self.new.spare
+        ensures gives { OnOk result (IsTrue D.tells → looked_page self.new.place self.new.overlay self.new.journal self.new.cache self.new.spare
             ≡ page_bytes ((D.world self.old.disk.now).seen areas.Pages) page) }
         ensures same_loan { self.new.disk.ghost_name ≡ self.old.disk.ghost_name }
         ensures reads { IsTrue D.tells → ReadsPage page (D.world self.old.disk.now) (D.world self.new.disk.now) }
@@ -77,7 +76,7 @@ impl<'d, D: Disk> Store<'d, D> {
             Ok(()) => {
                 self.seals.forget(page);
                 self.at = page;
-                self.place = held::keep(&mut self.cache, page, &self.spare);
+                self.place = held_pages::keep(&mut self.cache, page, &self.spare);
                 Ok(())
             }
             Err(failed) => Err(failed),

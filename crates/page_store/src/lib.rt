@@ -13,13 +13,10 @@
 
 mod committing;
 mod fetching;
-mod held;
-mod journaled;
+mod gathering;
 mod opening;
-mod overlay;
 mod page;
 mod pages;
-mod seals;
 mod store;
 mod superblock;
 #[cfg(test)]

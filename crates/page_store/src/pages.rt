@@ -3,10 +3,9 @@ ghost use Rattle.std.specs.Prelude.{◌≡◌, ◌≢◌, ◌↔◌, ◌≤◌, 
 ghost use Rattle.page_face.specs.Causes.{IsUncounted, Rose, unlinked as link};
 ghost use Rattle.page_store.specs.Store.{kept_of};
 
-use crate::held::{Place, or_spare};
 use crate::store::Store;
-use crate::{held, journaled, overlay};
 use disk_model::Disk;
+use held_pages::Place;
 use page_face::{Damage, Page, PageFault, Pages, Rule, Seal, free_next, free_page};
 
 fn unlinked(page: u32) -> PageFault
@@ -28,7 +27,7 @@ impl<'d, D: Disk> Pages for Store<'d, D> {
     ghost use Rattle.std.specs.Prelude.{◌≡◌, ◌≤◌, refl};
     ghost use Rattle.page_journal.specs.Record.{applied};
     ghost use Rattle.page_store.specs.Contents.{shown, counted_pages};
-    ghost use Rattle.page_store.specs.Held.{looked_page};
+    ghost use Rattle.held_pages.specs.Places.{looked_page};
     ghost use Rattle.page_store.specs.Store.{GoesOn, OnlyReads, goes_nowhere, goes_further, reads_nothing, reads_further};
 
     ghost pages = { λ s. counted_pages s.current.counted (shown D.tells (applied (D.world s.disk.now).seen) s.overlay) };
@@ -41,7 +40,7 @@ impl<'d, D: Disk> Pages for Store<'d, D> {
 
     ghost asked = { λ s. s.asked.items };
 
-    ghost looked = { λ s. looked_page s.place s.at s.overlay s.journal s.cache s.spare };
+    ghost looked = { λ s. looked_page s.place s.overlay s.journal s.cache s.spare };
 
     ghost faults = { λ s. (D.world s.disk.now).faults };
 
@@ -97,12 +96,13 @@ impl<'d, D: Disk> Pages for Store<'d, D> {
     }
 
     fn looked(&self) -> &Page {
-        match self.place {
-            Place::Overlay => or_spare(overlay::page_of(&self.overlay, self.at), &self.spare),
-            Place::Journal => or_spare(journaled::page_of(&self.journal, self.at), &self.spare),
-            Place::Cache => or_spare(self.cache.looked(), &self.spare),
-            Place::Spare => &self.spare,
-        }
+        held_pages::lend(
+            self.place,
+            &self.overlay,
+            &self.journal,
+            &self.cache,
+            &self.spare,
+        )
     }
 
     fn is_sealed(&self, seal: Seal) -> bool {
@@ -123,7 +123,7 @@ impl<'d, D: Disk> Pages for Store<'d, D> {
             return Err(unlinked(page));
         }
         self.place = Place::Spare;
-        held::put(self.alloc, &mut self.overlay, &mut self.seals, page, bytes)
+        held_pages::write(self.alloc, &mut self.overlay, &mut self.seals, page, bytes)
     }
 
     fn take(&mut self) -> Result<u32, PageFault> {
@@ -157,7 +157,7 @@ impl<'d, D: Disk> Pages for Store<'d, D> {
             return Err(unlinked(page));
         }
         self.place = Place::Spare;
-        held::put(
+        held_pages::write(
             self.alloc,
             &mut self.overlay,
             &mut self.seals,

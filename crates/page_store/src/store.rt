@@ -1,20 +1,22 @@
 //! The store as one object.
-ghost use Rattle.std.specs.Prelude.{◌≡◌, ◌≢◌, ℕ, Some, IsErrOf, ◌<◌, ◌≤◌, ◌-◌, ◌^◌, IsTrue, false, [], IfOk, length};
+ghost use Rattle.std.specs.Prelude.{◌≡◌, ◌≢◌, ℕ, Some, IsErrOf, ◌<◌, ◌≤◌, ◌-◌, ◌^◌, ◌⊎◌, IsTrue, None, false, [], IfOk, length};
 ghost use Rattle.std.proofs.Props.{props};
 ghost use Rattle.disk_model.specs.World.{LeavesOnly, HasSaid, HasSinkCause};
-ghost use Rattle.page_journal.specs.Record.{AreLastImages, IsBad, StandsAlike, batch_of, kept};
+ghost use Rattle.page_journal.specs.Record.{IsBad, StandsAlike};
 ghost use Rattle.page_store.specs.declared.superblock.HeadFault.TheVariants as heads;
-ghost use Rattle.page_cache.specs.Pairs.{pairs_of};
-ghost use Rattle.page_store.specs.Contents.{AreKept, IsCommitted, IsSized};
-ghost use Rattle.page_store.specs.declared.held.Place.TheVariants as places;
-ghost use Rattle.page_store.specs.Held.{AreCached, AreTrue, held_page, looked_page};
+ghost use Rattle.page_cache.specs.Pairs.{pairs_of, room_of};
+ghost use Rattle.held_pages.specs.Pages.{IsSized};
+ghost use Rattle.held_pages.specs.Places.{AreTrue, held_page, looked_page};
+ghost use Rattle.held_pages.specs.Rooms.{room_page};
+ghost use Rattle.held_pages.specs.declared.place.Place.TheVariants as places;
+ghost use Rattle.page_store.specs.Contents.{IsCommitted};
+ghost use Rattle.page_store.specs.Held.{AreCached, AreImages, AreKept};
 ghost use Rattle.page_store.specs.Opening.{IsOpened, IsNoStore, SaysNothingReadsHead, head_damage};
 
-use crate::held::Place;
 use crate::opening::{OpenFault, recover_superblock};
-use crate::seals::Seals;
 use crate::superblock::Superblock;
 use disk_model::{Disk, Failed, Station};
+use held_pages::{PageTable, Place, Seals};
 use page_cache::Cache;
 use page_face::{Damage, Head, Page};
 use std::alloc::Global;
@@ -39,9 +41,11 @@ pub struct Store<'d, D: Disk> {
     pub(crate) alloc: Global,
     pub(crate) disk: &'d mut D,
     // pages written since the last commit
-    pub(crate) overlay: BTreeMap<u32, Box<Page>>,
+    pub(crate) overlay: PageTable,
     // the last image of each page of the journal
-    pub(crate) journal: BTreeMap<u32, Option<Box<Page>>>,
+    pub(crate) journal: PageTable,
+    // rooms for the journal's pages, in which a checkpoint puts them in order
+    pub(crate) rooms: BTreeMap<u32, Option<Box<Page>>>,
     // where the next record of the journal begins
     pub(crate) end: u64,
     // page 0 as it stands, and as it was committed last
@@ -61,17 +65,19 @@ pub struct Store<'d, D: Disk> {
     ghost last_first: { last.first_free < last.counted },
     ghost few: { length overlay.entries < 2 ^ 32 - 1 },
     ghost sized: { IsSized overlay },
-    ghost in_order: { AreKept journal } by { Prim.hlevel props },
+    ghost in_order: { AreKept journal rooms } by { Prim.hlevel props },
+    ghost bare: { stopped ≡ false → (n : ℕ) → room_page rooms n ≡ None },
     ghost ready: { IsTrue D.tells → stopped ≡ false → IsCommitted last end (D.world disk.now) },
-    ghost images: { IsTrue D.tells → stopped ≡ false → AreLastImages (batch_of (kept journal.entries)) (D.world disk.now).seen },
+    ghost images: { IsTrue D.tells → stopped ≡ false → AreImages journal (D.world disk.now).seen } by { Prim.hlevel props },
     ghost cached: { IsTrue D.tells → stopped ≡ false → AreCached journal cache (D.world disk.now).seen } by { Prim.hlevel props },
     ghost sealed: { AreTrue seals overlay journal cache } by { Prim.hlevel props },
-    ghost lies: { place ≢ places.Spare → held_page overlay journal cache at ≡ Some (looked_page place at overlay journal cache spare) },
+    ghost lies: { place ≢ places.Spare → held_page overlay journal cache at ≡ Some (looked_page place overlay journal cache spare) },
 }
 
 // A cache of so many pages, or of none if there is no memory for it.
 fn cache_of(alloc: Global, pages: u32) -> Cache
-    ensures { pairs_of result ≡ [] }
+    ensures pairs { pairs_of result ≡ [] }
+    ensures room { (room_of result ≡ pages) ⊎ (room_of result ≡ 0) }
 {
     match Cache::new(alloc, pages) {
         Ok(cache) => cache,
@@ -96,6 +102,9 @@ impl<'d, D: Disk> Store<'d, D> {
         ensures opened { IsTrue D.tells → IfOk result (λ store. IsOpened store.last (D.world disk.old) (D.world store.disk.now)) }
         ensures clean { IfOk result (λ store. (store.overlay.entries ≡ []) × (store.current ≡ store.last)) }
         ensures fresh { IfOk result (λ store. (store.asked.items ≡ []) × (store.refused ≡ 0) × (store.stopped ≡ false)) }
+
+        // The cache may hold so many pages as were asked for, or none if memory ran out for it.
+        ensures cache_room { IfOk result (λ store. (room_of store.cache ≡ cache) ⊎ (room_of store.cache ≡ 0)) }
         ensures not_a_store { IsTrue D.tells → IsErrOf result OpenFault.NotAStore → IsNoStore heads.NotAStore (D.world disk.old).seen }
         ensures damaged { (damage : Damage) → IsErrOf result (OpenFault.Damaged damage)
             → (damage ≡ head_damage) × (IsTrue D.tells → IsNoStore heads.Broken (D.world disk.old).seen) }
@@ -116,12 +125,14 @@ impl<'d, D: Disk> Store<'d, D> {
         ensures block { result.last ≡ block }
         ensures clean { (result.overlay.entries ≡ []) × (result.current ≡ result.last) }
         ensures fresh { (result.asked.items ≡ []) × (result.refused ≡ 0) × (result.stopped ≡ false) }
+        ensures cache_room { (room_of result.cache ≡ cache) ⊎ (room_of result.cache ≡ 0) }
     {
         Store {
             alloc,
             disk,
-            overlay: BTreeMap::new(alloc),
-            journal: BTreeMap::new(alloc),
+            overlay: PageTable::new(alloc),
+            journal: PageTable::new(alloc),
+            rooms: BTreeMap::new(alloc),
             end: 0,
             current: block,
             last: block,
@@ -146,6 +157,7 @@ impl<'d, D: Disk> Store<'d, D> {
             disk,
             overlay: _,
             journal: _,
+            rooms: _,
             end: _,
             current: _,
             last: _,

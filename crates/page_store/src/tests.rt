@@ -1,8 +1,7 @@
 //! Stores that are opened, committed, dropped, stopped and cut off.
-use crate::seals::Seals;
 use crate::{OpenFault, Store};
 use disk_model::{CallKind, Fail, MemoryStation, Tear};
-use page_face::{Damage, Page, PageFault, Pages, Rule, Seal, free_page};
+use page_face::{Damage, Page, PageFault, Pages, Rule, free_page};
 use std::alloc::{AllocError, Global};
 use std::test::Fail as Failure;
 
@@ -308,24 +307,5 @@ fn a_look_lends_what_was_written_or_committed_last(rt: HostRuntime) -> Result<()
         }
         Err(_) => assert!(rt; false),
     }
-    Ok(())
-}
-
-#[test]
-fn a_seal_stays_until_it_is_dropped(rt: HostRuntime) -> Result<(), Failure> {
-    let seal = Seal {
-        map: 1,
-        key: 12,
-        value: 32,
-        level: 0,
-    };
-    let mut seals = Seals::new(rt.alloc());
-    assert!(rt; !seals.has(1, seal));
-    seals.note(1, seal);
-    assert!(rt; seals.has(1, seal));
-    assert!(rt; !seals.has(1, Seal { level: 1, ..seal }));
-    assert!(rt; !seals.has(2, seal));
-    seals.forget(1);
-    assert!(rt; !seals.has(1, seal));
     Ok(())
 }

@@ -1,4 +1,5 @@
-use Rattle.page_store.proofs.Holds.{cached_same, true_same}
+use Rattle.held_pages.proofs.Sealed.{true_same}
+use Rattle.page_store.proofs.Holds.{cached_same}
 use Rattle.page_store.proofs.store.Store.find.Goals as goal
 
 pub invariant_of-self : goal.invariant_of-self
@@ -8,6 +9,7 @@ invariant_of-self g c = let self = c.args.self.now in record {
   few = self.few;
   sized = self.sized;
   in_order = self.in_order;
+  bare = self.bare;
   ready = self.ready;
   images = self.images;
   cached = λ t on. cached_same self.journal self.cache c.find-self.new.cache _ c.find-self.ensures.same (self.cached t on);

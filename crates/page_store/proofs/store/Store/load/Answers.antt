@@ -1,5 +1,6 @@
 use Rattle.page_store.proofs.Committed.{committed_rests, images_rest}
-use Rattle.page_store.proofs.Holds.{cached_alike, cached_read, true_read, kept_lies}
+use Rattle.held_pages.proofs.Sealed.{kept_lies, true_read}
+use Rattle.page_store.proofs.Holds.{cached_alike, cached_read}
 use Rattle.page_store.proofs.store.Store.load.Goals as goal
 
 pub invariant_of-self : goal.invariant_of-self
@@ -9,6 +10,7 @@ invariant_of-self g c = let self = c.args.self.now in let kept = c.keep-self.new
   few = self.few;
   sized = self.sized;
   in_order = self.in_order;
+  bare = self.bare;
   ready = λ t on. committed_rests (self.ready t on) (c.read_page.ensures.reads t).rests;
   images = λ t on. images_rest (self.images t on) (c.read_page.ensures.reads t).rests;
   cached = λ t on. cached_alike self.journal kept _ _ (c.read_page.ensures.reads t).rests.seen

@@ -1,7 +1,7 @@
 //! What pages in memory were found to be.
 ghost use Rattle.std.specs.Prelude.{◌≡◌, ◌≢◌, ◌⊎◌, ℕ, None, Some, IsTrue};
 ghost use Rattle.page_face.specs.declared.seal.Seal.{Seal as Sealed};
-ghost use Rattle.page_store.specs.Held.{seal_of};
+ghost use Rattle.held_pages.specs.Places.{seal_of};
 
 use page_face::Seal;
 use std::alloc::Global;
@@ -11,9 +11,9 @@ use std::collections::HashMap;
 // many, all are dropped: a page without one is checked again.
 const SEALS_MAX: usize = 65_536;
 
-// A seal for some of the pages, by their numbers.
+/// A seal for some of the pages, by their numbers.
 #[derive(Drop)]
-pub(crate) struct Seals {
+pub struct Seals {
     by_page: HashMap<u32, Seal>,
 }
 
@@ -24,7 +24,8 @@ fn is_same(one: Seal, other: Seal) -> bool
 }
 
 impl Seals {
-    pub(crate) fn new(alloc: Global) -> Seals
+    /// No seal.
+    pub fn new(alloc: Global) -> Seals
         ensures { (n : ℕ) → seal_of result n ≡ None }
     {
         Seals {
@@ -32,8 +33,8 @@ impl Seals {
         }
     }
 
-    // Whether the page is sealed so.
-    pub(crate) fn has(&self, page: u32, seal: Seal) -> bool
+    /// Whether the page is sealed so. Costs one look-up.
+    pub fn has(&self, page: u32, seal: Seal) -> bool
         ensures { IsTrue result → seal_of self.now page ≡ Some seal }
     {
         match self.by_page.get(&page) {
@@ -42,8 +43,8 @@ impl Seals {
         }
     }
 
-    // Notes a seal, unless memory is wanting.
-    pub(crate) fn note(&mut self, page: u32, seal: Seal)
+    /// Notes a seal, unless memory is wanting.
+    pub fn note(&mut self, page: u32, seal: Seal)
         ensures { (n : ℕ) (known : Sealed) → seal_of self.new n ≡ Some known → ((n ≡ page) × (known ≡ seal)) ⊎ (seal_of self.old n ≡ Some known) }
     {
         if self.by_page.len() >= SEALS_MAX {
@@ -53,16 +54,16 @@ impl Seals {
         let _noted = self.by_page.insert(page, seal);
     }
 
-    // Drops the seal of a page.
-    pub(crate) fn forget(&mut self, page: u32)
+    /// Drops the seal of a page.
+    pub fn forget(&mut self, page: u32)
         ensures gone { seal_of self.new page ≡ None }
         ensures others { (n : ℕ) → n ≢ page → seal_of self.new n ≡ seal_of self.old n }
     {
         let _seal = self.by_page.remove(&page);
     }
 
-    // Drops all seals.
-    pub(crate) fn clear(&mut self)
+    /// Drops all seals.
+    pub fn clear(&mut self)
         ensures { (n : ℕ) → seal_of self.new n ≡ None }
     {
         self.by_page.clear();

@@ -1,0 +1,23 @@
+//! Seals that are noted and dropped.
+use crate::Seals;
+use page_face::Seal;
+use std::test::Fail as Failure;
+
+#[test]
+fn a_seal_stays_until_it_is_dropped(rt: HostRuntime) -> Result<(), Failure> {
+    let seal = Seal {
+        map: 1,
+        key: 12,
+        value: 32,
+        level: 0,
+    };
+    let mut seals = Seals::new(rt.alloc());
+    assert!(rt; !seals.has(1, seal));
+    seals.note(1, seal);
+    assert!(rt; seals.has(1, seal));
+    assert!(rt; !seals.has(1, Seal { level: 1, ..seal }));
+    assert!(rt; !seals.has(2, seal));
+    seals.forget(1);
+    assert!(rt; !seals.has(1, seal));
+    Ok(())
+}

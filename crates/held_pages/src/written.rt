@@ -1,0 +1,51 @@
+//! Pages that are written or dropped, and their seals.
+ghost use Rattle.std.specs.Prelude.{◌≡◌, ◌≢◌, ◌<◌, ◌-◌, ◌^◌, ℕ, Some, [], OnOk, OnErr, IfErr, length};
+ghost use Rattle.page_cache.specs.declared.cache.Cache.{Cache as Cached};
+ghost use Rattle.held_pages.specs.Pages.{IsSized, PageTable as Table, page_in};
+ghost use Rattle.held_pages.specs.Places.{AreTrue};
+
+use crate::seals::Seals;
+use crate::table;
+use crate::table::PageTable;
+use page_face::{Page, PageFault};
+use std::alloc::Global;
+
+/// Puts a page into an overlay of fewer than 2^32 - 1 pages, and keeps it so. The page has no seal then.
+///
+/// Refuses `Memory`, and then the overlay is as before. Costs two or three look-ups and a copy of the page; a page that is there already is
+/// written in place.
+pub fn write(
+    alloc: Global,
+    overlay: &mut PageTable,
+    seals: &mut Seals,
+    number: u32,
+    bytes: &Page,
+) -> Result<(), PageFault>
+    requires few { length overlay.old.entries < 2 ^ 32 - 1 }
+    requires sized { IsSized overlay.old }
+    ensures put { OnOk result (page_in overlay.new number ≡ Some bytes.now) }
+    ensures others { (n : ℕ) → n ≢ number → page_in overlay.new n ≡ page_in overlay.old n }
+    ensures kept { OnErr result (overlay.new.entries ≡ overlay.old.entries) }
+    ensures few { length overlay.new.entries < 2 ^ 32 - 1 }
+    ensures sized { IsSized overlay.new }
+    ensures memory { IfErr result (λ fault. fault ≡ PageFault.Memory) }
+    ensures sealed { (journal : Table) (cache : Cached) → AreTrue seals.old overlay.old journal cache → AreTrue seals.new overlay.new journal cache }
+{
+    seals.forget(number);
+    table::put(alloc, overlay, number, bytes)
+}
+
+/// Drops the pages of an overlay, and with them all seals, since what is held behind them was sealed before they were written. Drops no
+/// seal where there is no page.
+pub fn clear(overlay: &mut PageTable, seals: &mut Seals)
+    ensures empty { overlay.new.entries ≡ [] }
+    ensures few { length overlay.new.entries < 2 ^ 32 - 1 }
+    ensures sized { IsSized overlay.new }
+    ensures sealed { (journal : Table) (cache : Cached) → AreTrue seals.old overlay.old journal cache → AreTrue seals.new overlay.new journal cache }
+{
+    if overlay.is_empty() {
+        return;
+    }
+    overlay.clear();
+    seals.clear();
+}
