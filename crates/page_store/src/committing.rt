@@ -25,8 +25,8 @@ impl<'d, D: Disk> Store<'d, D> {
     /// a call of the disk fails, and then the store is stopped. The memory is taken before the first write. Where the journal has grown
     /// past [`JOURNAL_MAX`] a checkpoint comes first.
     ///
-    /// Costs two writes, one of n + 1 pages where n are in the overlay and one of a byte, and two syncs; and from time to time a
-    /// checkpoint, which writes each page of the journal once, with two syncs more.
+    /// Costs two writes, one of n + 1 pages where n are in the overlay and one of a byte, two syncs, and two searches of ordered maps for each
+    /// page; and from time to time a checkpoint, which writes each page of the journal once, with two syncs more.
     pub fn commit_all(&mut self) -> Result<(), PageFault>
         ensures same_loan { self.new.disk.ghost_name ≡ self.old.disk.ghost_name }
 
@@ -135,8 +135,8 @@ impl<'d, D: Disk> Store<'d, D> {
     ///
     /// Returns `Stopped` if an earlier commit or checkpoint failed, and `Disk` if a call of the disk fails; then the store is stopped. At
     /// every moment an image that a crash may leave stands for the same pages. Takes no memory. Costs a write for each page of the journal,
-    /// one of a byte, and two syncs; and no call of the disk where the journal holds no record. The pages move into the cache, uncopied, as far
-    /// as it has room for them.
+    /// one of a byte, two syncs, and a search of an ordered map for each page; and no call of the disk where the journal holds no record. The
+    /// pages move into the cache, uncopied, as far as it has room for them.
     pub fn settle(&mut self) -> Result<(), PageFault>
         ensures same_loan { self.new.disk.ghost_name ≡ self.old.disk.ghost_name }
         ensures any_moment { IsTrue D.tells → self.old.stopped ≡ false → LeavesOnly (D.world self.old.disk.now) (D.world self.new.disk.now)

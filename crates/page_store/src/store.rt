@@ -29,13 +29,15 @@ use std::collections::BTreeMap;
 /// commit or a checkpoint that fails stops the store: from then on every call of the pages returns `Stopped`, and the store is to be
 /// opened again. No call of the pages changes the head.
 ///
-/// Cost: `look` of a page of the overlay is one look-up there, of one of the journal one more among its pages, and of a cached one a third in
-/// the cache; none of these calls the disk or copies a page. A page that is in none is read from the disk, where that is one call, and copied
-/// once into the cache. `looked` is one look-up for a page of the overlay or the journal and none for another, `read` both and a copy of the
-/// page, and a `take` of a free page a `look` at it. `write` and `give_back` put one page into the overlay and make no call of the disk.
+/// Cost: `look` is one look-up in a hash table for a page of the overlay, one more, among the journal's pages, for one of those, and a third,
+/// in the cache, for a cached one; none of these calls the disk or copies a page. A page that is in none is read from the disk, where that is
+/// one call, and copied once into the cache. `looked` makes no look-up, since `look` notes where the page lies; `is_sealed` and `seal` make
+/// one. `read` is a `look` and a copy of the page, and a `take` of a free page a `look` at it. `write` and `give_back` put one page into the
+/// overlay, where that is three look-ups at most, and make no call of the disk.
 ///
 /// The overlay holds each page written since the last commit once, the journal's pages take some 16 MiB at most beside those of one commit,
-/// and the cache holds as many pages as it was made for. A checkpoint moves the journal's pages into the cache.
+/// and the cache holds as many pages as it was made for. Pages are put in the order of their numbers for a commit and for a checkpoint, which
+/// is a search of an ordered map for each. A checkpoint moves the journal's pages into the cache.
 #[derive(Drop)]
 pub struct Store<'d, D: Disk> {
     pub(crate) alloc: Global,

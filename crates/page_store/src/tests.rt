@@ -2,7 +2,7 @@
 use crate::{OpenFault, Store};
 use disk_model::{CallKind, Fail, MemoryStation, Tear};
 use page_face::{Damage, Page, PageFault, Pages, Rule, free_page};
-use std::alloc::{AllocError, Global};
+use std::alloc::Global;
 use std::test::Fail as Failure;
 
 // What page 0 begins with, and the answer of `open`; None is Ok.
@@ -63,36 +63,6 @@ fn open_answers_by_page_0(rt: HostRuntime) -> Result<(), Failure> {
     Ok(())
 }
 
-// The bytes of pages one behind the other.
-fn image(alloc: Global, header: &[u8], pages: &[Page]) -> Result<Vec<u8>, AllocError> {
-    let mut bytes = header.to_vec(alloc)?;
-    bytes.resize(4096, 0)?;
-    for page in pages {
-        bytes.extend_from_slice(page)?;
-    }
-    Ok(bytes)
-}
-
-#[test]
-fn a_free_list_that_runs_in_a_circle_is_safe(rt: HostRuntime) -> Result<(), Failure> {
-    // three pages counted, the first free one 1, which names 2, which names 1
-    let header =
-        b"IRTREE01\0\0\0\x03\0\0\0\x01\0\0\0\0\0\0\0\0\0\0\0\0\0\0\0\0\0\0\0\0\0\0\0\0\0\0\0\0\0\0\0\x01\0\0\0\0\0\0\0\0\0\0\0\0\0\0\0\x01";
-    let image = image(rt.alloc(), header, &[free_page(2), free_page(1)])?;
-    let mut station = MemoryStation::with_image(rt.alloc(), &image, b"", 9)?;
-    match Store::open(rt.alloc(), &mut station, 0) {
-        Ok(mut store) => {
-            assert_eq!(rt; store.take(), Ok(1));
-            assert_eq!(rt; store.take(), Ok(2));
-            assert_eq!(rt; store.take(), Ok(1));
-            assert_eq!(rt; store.counted(), 3);
-            assert!(rt; store.read_log().is_empty());
-        }
-        Err(_) => assert!(rt; false),
-    }
-    Ok(())
-}
-
 // Opens a store, and writes one page and one field of the head in a commit. Whether it succeeded.
 fn write_one(alloc: Global, station: &mut MemoryStation, byte: u8) -> Result<bool, OpenFault> {
     let mut store = Store::open(alloc, station, 0)?;
@@ -140,172 +110,319 @@ fn a_commit_cut_off_leaves_the_store_before_or_after(rt: HostRuntime) -> Result<
     Ok(())
 }
 
-#[test]
-fn a_commit_that_fails_stops_the_store(rt: HostRuntime) -> Result<(), Failure> {
-    let mut station = MemoryStation::new(rt.alloc(), 9);
-    station.fail_at(&[Fail {
-        kind: CallKind::Sync,
-        nth: 3,
-    }])?;
-    match Store::open(rt.alloc(), &mut station, 0) {
-        Ok(mut store) => {
-            assert_eq!(rt; store.take(), Ok(1));
-            assert_eq!(rt; store.commit_all(), Err(PageFault::Disk));
-            assert_eq!(rt; store.write(1, &[1; 4096]), Err(PageFault::Stopped));
-            assert_eq!(rt; store.read(1), Err(PageFault::Stopped));
-            assert_eq!(rt; store.commit_all(), Err(PageFault::Stopped));
-        }
-        Err(_) => assert!(rt; false),
-    }
-    assert_eq!(rt; station.faults(), (1, 0));
-    assert_eq!(rt; held(rt.alloc(), &mut station), Ok((1, 0, 0)));
-    Ok(())
+// A call of a store.
+#[derive(Clone, Copy, Debug)]
+enum Call {
+    Take,
+    // a page that is filled with a byte
+    Write(u32, u8),
+    Read(u32),
+    Look(u32),
+    Commit,
+    Settle,
+    Abandon,
+    Counted,
+    Say,
 }
 
-#[test]
-fn what_is_abandoned_is_as_committed(rt: HostRuntime) -> Result<(), Failure> {
-    let mut station = MemoryStation::new(rt.alloc(), 3);
-    assert_eq!(rt; write_one(rt.alloc(), &mut station, 7), Ok(true));
-    match Store::open(rt.alloc(), &mut station, 0) {
-        Ok(mut store) => {
-            assert_eq!(rt; store.write(1, &[9; 4096]), Ok(()));
-            assert_eq!(rt; store.read(1).map(|page| page[0]), Ok(9));
-            assert_eq!(rt; store.take(), Ok(2));
-            assert_eq!(rt; store.take(), Err(PageFault::NoRoom));
+// What a call answers.
+#[derive(Clone, Copy, Debug, PartialEq, Eq)]
+enum Answer {
+    Done,
+    Number(u32),
+    // the first byte of a page that was read
+    First(u8),
+    // the first byte of a page that is lent, and how often the disk was read for it
+    Lent(u8, u64),
+    Refused(PageFault),
+    NotSaid,
+}
+
+fn done(ended: Result<(), PageFault>) -> Answer {
+    match ended {
+        Ok(()) => Answer::Done,
+        Err(fault) => Answer::Refused(fault),
+    }
+}
+
+// Looks at a page.
+fn looked_at(store: &mut Store<'_, MemoryStation>, page: u32) -> Answer {
+    let before = store.disk.reads();
+    match store.look(page) {
+        Ok(()) => Answer::Lent(store.looked()[0], store.disk.reads().saturating_sub(before)),
+        Err(fault) => Answer::Refused(fault),
+    }
+}
+
+// Makes a call.
+fn answer_of(store: &mut Store<'_, MemoryStation>, call: Call) -> Answer {
+    match call {
+        Call::Take => match store.take() {
+            Ok(page) => Answer::Number(page),
+            Err(fault) => Answer::Refused(fault),
+        },
+        Call::Write(page, byte) => done(store.write(page, &[byte; 4096])),
+        Call::Read(page) => match store.read(page) {
+            Ok(bytes) => Answer::First(bytes[0]),
+            Err(fault) => Answer::Refused(fault),
+        },
+        Call::Look(page) => looked_at(store, page),
+        Call::Commit => done(store.commit_all()),
+        Call::Settle => done(store.settle()),
+        Call::Abandon => {
             store.abandon();
-            assert_eq!(rt; store.read(1).map(|page| page[0]), Ok(7));
-            assert_eq!(rt; store.counted(), 2);
-            assert_eq!(rt; store.read_log(), [1, 1].as_slice());
-            store.clear_log();
-            assert_eq!(rt; store.say(b"ok"), Ok(2));
+            Answer::Done
         }
-        Err(_) => assert!(rt; false),
+        Call::Counted => Answer::Number(store.counted()),
+        Call::Say => match store.say(b"ok") {
+            Ok(count) => Answer::Number(count as u32),
+            Err(_) => Answer::NotSaid,
+        },
     }
-    Ok(())
 }
 
-#[test]
-fn a_page_is_read_as_committed_last_from_the_journal_and_from_its_place(
-    rt: HostRuntime,
-) -> Result<(), Failure> {
-    let mut station = MemoryStation::new(rt.alloc(), 9);
-    match Store::open(rt.alloc(), &mut station, 0) {
-        Ok(mut store) => {
-            assert_eq!(rt; store.take(), Ok(1));
-            assert_eq!(rt; store.write(1, &[6; 4096]), Ok(()));
-            assert_eq!(rt; store.commit_all(), Ok(()));
-            assert_eq!(rt; store.read(1).map(|page| page[0]), Ok(6));
-            assert_eq!(rt; store.write(1, &[7; 4096]), Ok(()));
-            assert_eq!(rt; store.commit_all(), Ok(()));
-            assert_eq!(rt; store.read(1).map(|page| page[0]), Ok(7));
-            assert_eq!(rt; store.settle(), Ok(()));
-            assert_eq!(rt; store.read(1).map(|page| page[0]), Ok(7));
-            assert_eq!(rt; store.settle(), Ok(()));
-            assert_eq!(rt; store.write(1, &[8; 4096]), Ok(()));
-            assert_eq!(rt; store.commit_all(), Ok(()));
-        }
-        Err(_) => assert!(rt; false),
-    }
-    let mut crashed = station.crashed(Tear::Lost)?;
-    assert_eq!(rt; held(rt.alloc(), &mut crashed), Ok((2, 0, 8)));
-    Ok(())
+// What stands on the disk before a run.
+#[derive(Clone, Copy, Debug)]
+enum Image {
+    Empty,
+    // the free list names 2, which names 1
+    Circle,
+    // pages 1 and 2, filled with their numbers
+    Filled,
+    // page 1, filled with 7, in a record of the journal, with room for one page more
+    Committed,
+}
+
+// A store's calls with their answers, the log that they leave, and what the store then holds after a crash.
+struct Run {
+    image: Image,
+    cache: u32,
+    // the sync that fails, or 0
+    fail: u64,
+    calls: &'static [(Call, Answer)],
+    log: &'static [u32],
+    holds: (u32, u32, u8),
 }
 
 // Opening makes two syncs, a commit two and a checkpoint two.
-#[test]
-fn a_checkpoint_that_fails_stops_the_store(rt: HostRuntime) -> Result<(), Failure> {
-    let mut station = MemoryStation::new(rt.alloc(), 9);
-    station.fail_at(&[Fail {
-        kind: CallKind::Sync,
-        nth: 7,
-    }])?;
-    match Store::open(rt.alloc(), &mut station, 0) {
-        Ok(mut store) => {
-            assert_eq!(rt; store.take(), Ok(1));
-            assert_eq!(rt; store.write(1, &[7; 4096]), Ok(()));
-            assert_eq!(rt; store.commit_all(), Ok(()));
-            assert_eq!(rt; store.commit_all(), Ok(()));
-            assert_eq!(rt; store.settle(), Err(PageFault::Disk));
-            assert_eq!(rt; store.settle(), Err(PageFault::Stopped));
-            assert_eq!(rt; store.commit_all(), Err(PageFault::Stopped));
-            assert_eq!(rt; store.read(1), Err(PageFault::Stopped));
-        }
-        Err(_) => assert!(rt; false),
-    }
-    assert_eq!(rt; held(rt.alloc(), &mut station), Ok((2, 0, 7)));
-    Ok(())
-}
-
-// Looks at a page; the first byte that is lent of it, or None where the look is refused.
-fn looked_at(store: &mut Store<'_, MemoryStation>, page: u32) -> Option<u8> {
-    match store.look(page) {
-        Ok(()) => Some(store.looked()[0]),
-        Err(_) => None,
-    }
-}
-
-// Looks at the pages of a store of two, each filled with its number: the page, and the reads of the disk made in all with a cache of 0, 1
-// and 2 pages.
-static LOOKS: [(u32, [u64; 3]); 5] = [
-    (1, [1, 1, 1]),
-    (1, [2, 1, 1]),
-    (2, [3, 2, 2]),
-    (1, [4, 3, 2]),
-    (1, [5, 3, 2]),
+static RUNS: [Run; 9] = [
+    Run {
+        image: Image::Circle,
+        cache: 0,
+        fail: 0,
+        calls: &[
+            (Call::Take, Answer::Number(1)),
+            (Call::Take, Answer::Number(2)),
+            (Call::Take, Answer::Number(1)),
+            (Call::Counted, Answer::Number(3)),
+        ],
+        log: &[],
+        holds: (3, 0, 4),
+    },
+    // a commit that fails
+    Run {
+        image: Image::Empty,
+        cache: 0,
+        fail: 3,
+        calls: &[
+            (Call::Take, Answer::Number(1)),
+            (Call::Commit, Answer::Refused(PageFault::Disk)),
+            (Call::Write(1, 1), Answer::Refused(PageFault::Stopped)),
+            (Call::Read(1), Answer::Refused(PageFault::Stopped)),
+            (Call::Commit, Answer::Refused(PageFault::Stopped)),
+        ],
+        log: &[],
+        holds: (1, 0, 0),
+    },
+    // what is abandoned is as committed
+    Run {
+        image: Image::Committed,
+        cache: 0,
+        fail: 0,
+        calls: &[
+            (Call::Write(1, 9), Answer::Done),
+            (Call::Read(1), Answer::First(9)),
+            (Call::Take, Answer::Number(2)),
+            (Call::Take, Answer::Refused(PageFault::NoRoom)),
+            (Call::Abandon, Answer::Done),
+            (Call::Read(1), Answer::First(7)),
+            (Call::Counted, Answer::Number(2)),
+            (Call::Say, Answer::Number(2)),
+        ],
+        log: &[1, 1],
+        holds: (2, 7, 7),
+    },
+    // a page from the overlay, the journal, and its place
+    Run {
+        image: Image::Empty,
+        cache: 0,
+        fail: 0,
+        calls: &[
+            (Call::Take, Answer::Number(1)),
+            (Call::Write(1, 6), Answer::Done),
+            (Call::Commit, Answer::Done),
+            (Call::Read(1), Answer::First(6)),
+            (Call::Write(1, 7), Answer::Done),
+            (Call::Commit, Answer::Done),
+            (Call::Read(1), Answer::First(7)),
+            (Call::Settle, Answer::Done),
+            (Call::Read(1), Answer::First(7)),
+            (Call::Settle, Answer::Done),
+            (Call::Write(1, 8), Answer::Done),
+            (Call::Commit, Answer::Done),
+        ],
+        log: &[1, 1, 1],
+        holds: (2, 0, 8),
+    },
+    // a checkpoint that fails
+    Run {
+        image: Image::Empty,
+        cache: 0,
+        fail: 7,
+        calls: &[
+            (Call::Take, Answer::Number(1)),
+            (Call::Write(1, 7), Answer::Done),
+            (Call::Commit, Answer::Done),
+            (Call::Commit, Answer::Done),
+            (Call::Settle, Answer::Refused(PageFault::Disk)),
+            (Call::Settle, Answer::Refused(PageFault::Stopped)),
+            (Call::Commit, Answer::Refused(PageFault::Stopped)),
+            (Call::Read(1), Answer::Refused(PageFault::Stopped)),
+        ],
+        log: &[],
+        holds: (2, 0, 7),
+    },
+    // caches of 0, 1 and 2 pages
+    Run {
+        image: Image::Filled,
+        cache: 0,
+        fail: 0,
+        calls: &[
+            (Call::Look(1), Answer::Lent(1, 1)),
+            (Call::Look(1), Answer::Lent(1, 1)),
+            (Call::Look(2), Answer::Lent(2, 1)),
+            (Call::Look(1), Answer::Lent(1, 1)),
+            (Call::Look(1), Answer::Lent(1, 1)),
+        ],
+        log: &[1, 1, 2, 1, 1],
+        holds: (3, 0, 1),
+    },
+    Run {
+        image: Image::Filled,
+        cache: 1,
+        fail: 0,
+        calls: &[
+            (Call::Look(1), Answer::Lent(1, 1)),
+            (Call::Look(1), Answer::Lent(1, 0)),
+            (Call::Look(2), Answer::Lent(2, 1)),
+            (Call::Look(1), Answer::Lent(1, 1)),
+            (Call::Look(1), Answer::Lent(1, 0)),
+        ],
+        log: &[1, 1, 2, 1, 1],
+        holds: (3, 0, 1),
+    },
+    Run {
+        image: Image::Filled,
+        cache: 2,
+        fail: 0,
+        calls: &[
+            (Call::Look(1), Answer::Lent(1, 1)),
+            (Call::Look(1), Answer::Lent(1, 0)),
+            (Call::Look(2), Answer::Lent(2, 1)),
+            (Call::Look(1), Answer::Lent(1, 0)),
+            (Call::Look(1), Answer::Lent(1, 0)),
+        ],
+        log: &[1, 1, 2, 1, 1],
+        holds: (3, 0, 1),
+    },
+    // a look lends what was written or committed last
+    Run {
+        image: Image::Empty,
+        cache: 1,
+        fail: 0,
+        calls: &[
+            (Call::Take, Answer::Number(1)),
+            (Call::Take, Answer::Number(2)),
+            (Call::Write(2, 5), Answer::Done),
+            (Call::Write(1, 6), Answer::Done),
+            (Call::Look(1), Answer::Lent(6, 0)),
+            (Call::Commit, Answer::Done),
+            (Call::Look(1), Answer::Lent(6, 0)),
+            (Call::Look(2), Answer::Lent(5, 0)),
+            (Call::Settle, Answer::Done),
+            (Call::Look(2), Answer::Lent(5, 0)),
+            (Call::Look(1), Answer::Lent(6, 1)),
+            (Call::Write(1, 7), Answer::Done),
+            (Call::Look(1), Answer::Lent(7, 0)),
+            (Call::Abandon, Answer::Done),
+            (Call::Look(1), Answer::Lent(6, 0)),
+            (Call::Write(1, 8), Answer::Done),
+            (Call::Commit, Answer::Done),
+            (Call::Settle, Answer::Done),
+            (Call::Look(1), Answer::Lent(8, 0)),
+        ],
+        log: &[1, 1, 2, 2, 1, 1, 1, 1],
+        holds: (3, 0, 8),
+    },
 ];
 
-// How many reads of the disk were made.
-fn reads_of(store: &Store<'_, MemoryStation>) -> u64 {
-    store.disk.reads()
+// Three pages counted, and the first free one of them.
+const CIRCLE: &[u8] =
+    b"IRTREE01\0\0\0\x03\0\0\0\x01\0\0\0\0\0\0\0\0\0\0\0\0\0\0\0\0\0\0\0\0\0\0\0\0\0\0\0\0\0\0\0\x01\0\0\0\0\0\0\0\0\0\0\0\0\0\0\0\x01";
+
+const FILLED: &[u8] =
+    b"IRTREE01\0\0\0\x03\0\0\0\0\0\0\0\0\0\0\0\0\0\0\0\0\0\0\0\0\0\0\0\0\0\0\0\0\0\0\0\0\0\0\0\x01\0\0\0\0\0\0\0\0\0\0\0\0\0\0\0\x01";
+
+// A station with a header and two pages.
+fn station_of(
+    alloc: Global,
+    header: &[u8],
+    one: &Page,
+    two: &Page,
+) -> Result<MemoryStation, Failure> {
+    let mut bytes = header.to_vec(alloc)?;
+    bytes.resize(4096, 0)?;
+    bytes.extend_from_slice(one)?;
+    bytes.extend_from_slice(two)?;
+    Ok(MemoryStation::with_image(alloc, &bytes, b"", 9)?)
+}
+
+fn station(alloc: Global, image: Image) -> Result<MemoryStation, Failure> {
+    match image {
+        Image::Empty => Ok(MemoryStation::new(alloc, 9)),
+        Image::Circle => station_of(alloc, CIRCLE, &free_page(2), &free_page(1)),
+        Image::Filled => station_of(alloc, FILLED, &[1; 4096], &[2; 4096]),
+        Image::Committed => {
+            let mut station = MemoryStation::new(alloc, 3);
+            let _written = write_one(alloc, &mut station, 7);
+            Ok(station)
+        }
+    }
 }
 
 #[test]
-fn a_cached_page_is_looked_at_without_a_read(rt: HostRuntime) -> Result<(), Failure> {
-    // three pages counted, none of them free
-    let header =
-        b"IRTREE01\0\0\0\x03\0\0\0\0\0\0\0\0\0\0\0\0\0\0\0\0\0\0\0\0\0\0\0\0\0\0\0\0\0\0\0\0\0\0\0\x01\0\0\0\0\0\0\0\0\0\0\0\0\0\0\0\x01";
-    let image = image(rt.alloc(), header, &[[1; 4096], [2; 4096]])?;
-    for cache in 0..3 {
-        let mut station = MemoryStation::with_image(rt.alloc(), &image, b"", 9)?;
-        match Store::open(rt.alloc(), &mut station, cache as u32) {
+fn calls_answer_as_the_pages_stand(rt: HostRuntime) -> Result<(), Failure> {
+    for run in &RUNS {
+        let mut station = station(rt.alloc(), run.image)?;
+        station.fail_at(&[Fail {
+            kind: CallKind::Sync,
+            nth: run.fail,
+        }])?;
+        match Store::open(rt.alloc(), &mut station, run.cache) {
             Ok(mut store) => {
-                let opening = reads_of(&store);
-                for (page, reads) in &LOOKS {
-                    assert_eq!(rt; looked_at(&mut store, *page), Some(*page as u8));
-                    assert_eq!(rt; reads_of(&store), opening.saturating_add(reads[cache]));
+                for (call, expected) in run.calls {
+                    let answered = answer_of(&mut store, *call);
+                    assert_eq!(rt; answered, *expected, "{call:?} over {:?}", run.image);
                 }
-                assert_eq!(rt; store.read_log(), [1, 1, 2, 1, 1].as_slice());
+                assert_eq!(rt; store.read_log(), run.log);
+                store.clear_log();
+                assert!(rt; store.read_log().is_empty());
             }
             Err(_) => assert!(rt; false),
         }
-    }
-    Ok(())
-}
-
-#[test]
-fn a_look_lends_what_was_written_or_committed_last(rt: HostRuntime) -> Result<(), Failure> {
-    let mut station = MemoryStation::new(rt.alloc(), 9);
-    match Store::open(rt.alloc(), &mut station, 1) {
-        Ok(mut store) => {
-            assert_eq!(rt; store.take(), Ok(1));
-            assert_eq!(rt; store.write(1, &[6; 4096]), Ok(()));
-            assert_eq!(rt; looked_at(&mut store, 1), Some(6));
-            assert_eq!(rt; store.commit_all(), Ok(()));
-            assert_eq!(rt; looked_at(&mut store, 1), Some(6));
-            assert_eq!(rt; store.settle(), Ok(()));
-            let settled = reads_of(&store);
-            assert_eq!(rt; looked_at(&mut store, 1), Some(6));
-            assert_eq!(rt; reads_of(&store), settled);
-            assert_eq!(rt; store.write(1, &[7; 4096]), Ok(()));
-            assert_eq!(rt; looked_at(&mut store, 1), Some(7));
-            store.abandon();
-            assert_eq!(rt; looked_at(&mut store, 1), Some(6));
-            assert_eq!(rt; store.write(1, &[8; 4096]), Ok(()));
-            assert_eq!(rt; store.commit_all(), Ok(()));
-            assert_eq!(rt; store.settle(), Ok(()));
-            assert_eq!(rt; looked_at(&mut store, 1), Some(8));
-        }
-        Err(_) => assert!(rt; false),
+        assert_eq!(rt; station.faults(), (run.fail.min(1), 0));
+        let mut crashed = station.crashed(Tear::Lost)?;
+        assert_eq!(rt; held(rt.alloc(), &mut crashed), Ok(run.holds));
     }
     Ok(())
 }
