@@ -13,3 +13,4 @@ pub mod Refreshes
 pub mod Lifts
 pub mod Counts
 pub mod Takes
+pub mod Copies

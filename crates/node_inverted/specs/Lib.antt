@@ -6,3 +6,4 @@ pub mod Impacts
 pub mod Refreshing
 pub mod Lifts
 pub mod Counts
+pub mod Copies

@@ -13,6 +13,7 @@ mod columns;
 mod dropping;
 mod key;
 mod layout;
+mod leaf;
 mod moving;
 mod next;
 mod pairing;
