@@ -115,6 +115,10 @@ next-on b d node from at (Some found) le same quiet next =
       ];
     }
 
+-- the first row from a word on, in bytes that are the same from there on
+pub next-now : (b now : Bytes) (node at : ℕ) (o : Option (ℕ × List ℕ)) → ((w i : ℕ) → at ≤ w → now node w i ≡ b node w i) → Next b node at o → Next now node at o
+next-now b now node at o same next = next-on now b node at at o (omega arith) (λ w i l. sym (same w i l)) (λ w i l m. absurd (omega arith)) next
+
 -- an empty map has no bytes
 pub bytes-empty : (pages : PageMap) (root n w i : ℕ) → root ≡ 0 → bytes_in pages root n w i ≡ 0
 bytes-empty pages root n w i e = ap (λ (rows : List Row). bytes_of rows n w i) (map-none rows_form pages root e) ∙ elim (less_or w (2 ^ 64)) [

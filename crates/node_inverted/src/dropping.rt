@@ -5,11 +5,12 @@ ghost use Rattle.btree_nodes.specs.Damages.{AreTold};
 ghost use Rattle.btree_nodes.specs.Supply.{View, view};
 ghost use Rattle.node_inverted.specs.Rows.{Bytes, IsRows, bytes_in};
 ghost use Rattle.node_inverted.specs.Turns.{Turns, dropped};
+ghost use Rattle.node_inverted.specs.Copies.{IsCopy};
 ghost use Rattle.node_inverted.specs.Ascents.{until, reached};
 
 use crate::Tree;
 use crate::ascent::after;
-use crate::next::next_row;
+use crate::leaf::{LeafCopy, next_in};
 use crate::rows::set_row;
 use crate::slots::clear_row;
 use page_face::{Damage, PageFault, Pages};
@@ -20,9 +21,12 @@ fn drop_next<P: Pages>(
     tree: &mut Tree,
     node: u32,
     at: u64,
+    copy: &mut LeafCopy,
 ) -> Result<Option<u64>, PageFault>
-    ensures turns { (before : View) (root : ℕ) (b : Bytes) → Turns before root (P.pages pages.old) (P.count pages.old) (P.first pages.old) tree.old.rows (until at (dropped node b) b)
+    ensures turns { (before : View) (root : ℕ) (b : Bytes) → IsCopy b node copy.old → Turns before root (P.pages pages.old) (P.count pages.old) (P.first pages.old) tree.old.rows (until at (dropped node b) b)
         → IfOk result (λ next. Turns before root (P.pages pages.new) (P.count pages.new) (P.first pages.new) tree.new.rows (until (reached next) (dropped node b) b)) }
+    ensures copy { (before : View) (root : ℕ) (b : Bytes) → Turns before root (P.pages pages.old) (P.count pages.old) (P.first pages.old) tree.old.rows (until at (dropped node b) b)
+        → IsCopy b node copy.old → OnOk result (IsCopy b node copy.new) }
     ensures onto { IfOk result (λ next. IfSome next (λ word. at < word)) }
     ensures root { tree.new.root ≡ tree.old.root }
     ensures honest { (free : List ℕ) → IsRows (view (P.pages pages.old) (P.count pages.old) (P.first pages.old) free) tree.old.rows → AreTold (P.pages pages.old) (P.count pages.old)
@@ -30,7 +34,7 @@ fn drop_next<P: Pages>(
     ensures fails { FailsChanging P.Pages pages.old pages.new result }
     ensures frame { Changes P.Pages pages.old pages.new }
 {
-    let Some(found) = next_row(pages, tree, node, at)? else {
+    let Some(found) = next_in(copy, pages, tree, node, at)? else {
         return Ok(None);
     };
     set_row(pages, tree, node, found.0, &clear_row())?;
@@ -39,7 +43,7 @@ fn drop_next<P: Pages>(
 
 /// Removes all rows of a node.
 ///
-/// Returns `Damaged`, `Disk`, `NoRoom`, `Stopped`, or `Memory` as [`next_row`] and [`set_row`] do; on a well-formed map whose pages are
+/// Returns `Damaged`, `Disk`, `NoRoom`, `Stopped`, or `Memory` as [`next_row`](crate::next_row) and [`set_row`] do; on a well-formed map whose pages are
 /// told no page is damaged. After a failure `tree` is as before, and pages may have changed: they are to be abandoned.
 ///
 /// For a node of W words, costs W + 1 calls of [`next_row`], and W removals by [`set_row`].
@@ -57,9 +61,10 @@ pub fn drop_node<P: Pages>(pages: &mut P, tree: &mut Tree, node: u32) -> Result<
     ensures frame { Changes P.Pages pages.old pages.new }
 {
     let mut changed = *tree;
+    let mut copy = LeafCopy::none();
     let mut from = Some(0);
     while let Some(at) = from {
-        from = drop_next(pages, &mut changed, node, at)?;
+        from = drop_next(pages, &mut changed, node, at, &mut copy)?;
     }
     *tree = changed;
     Ok(())

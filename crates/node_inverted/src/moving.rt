@@ -5,11 +5,12 @@ ghost use Rattle.btree_nodes.specs.Damages.{AreTold};
 ghost use Rattle.btree_nodes.specs.Supply.{View, view};
 ghost use Rattle.node_inverted.specs.Rows.{Bytes, HasBytes, IsRows, bytes_in};
 ghost use Rattle.node_inverted.specs.Turns.{Turns, HasNone, moved};
+ghost use Rattle.node_inverted.specs.Copies.{IsCopy};
 ghost use Rattle.node_inverted.specs.Ascents.{on_word, until, reached};
 
 use crate::Tree;
 use crate::ascent::after;
-use crate::next::next_row;
+use crate::leaf::{LeafCopy, next_in};
 use crate::rows::set_row;
 use crate::slots::{is_clear, moving, staying};
 use page_face::{Damage, PageFault, Pages};
@@ -51,10 +52,13 @@ fn move_next<P: Pages>(
     slots: u32,
     to: u32,
     at: u64,
+    copy: &mut LeafCopy,
 ) -> Result<Option<u64>, PageFault>
-    ensures turns { (before : View) (root : ℕ) (b : Bytes) → (node ≡ to → ⊥) → HasNone b to
+    ensures turns { (before : View) (root : ℕ) (b : Bytes) → (node ≡ to → ⊥) → HasNone b to → IsCopy b node copy.old
         → Turns before root (P.pages pages.old) (P.count pages.old) (P.first pages.old) tree.old.rows (until at (moved node slots to b) b)
         → IfOk result (λ next. Turns before root (P.pages pages.new) (P.count pages.new) (P.first pages.new) tree.new.rows (until (reached next) (moved node slots to b) b)) }
+    ensures copy { (before : View) (root : ℕ) (b : Bytes) → Turns before root (P.pages pages.old) (P.count pages.old) (P.first pages.old) tree.old.rows (until at (moved node slots to b) b)
+        → IsCopy b node copy.old → OnOk result (IsCopy b node copy.new) }
     ensures onto { IfOk result (λ next. IfSome next (λ word. at < word)) }
     ensures root { tree.new.root ≡ tree.old.root }
     ensures honest { (free : List ℕ) → IsRows (view (P.pages pages.old) (P.count pages.old) (P.first pages.old) free) tree.old.rows → AreTold (P.pages pages.old) (P.count pages.old)
@@ -62,7 +66,7 @@ fn move_next<P: Pages>(
     ensures fails { FailsChanging P.Pages pages.old pages.new result }
     ensures frame { Changes P.Pages pages.old pages.new }
 {
-    let Some(found) = next_row(pages, tree, node, at)? else {
+    let Some(found) = next_in(copy, pages, tree, node, at)? else {
         return Ok(None);
     };
     let row = found.1;
@@ -73,7 +77,7 @@ fn move_next<P: Pages>(
 /// Moves the bytes at these slots, the set bits of `slots`, to the same slots of another node that has no row, as a split of the
 /// node moves its entries.
 ///
-/// Returns `Damaged`, `Disk`, `NoRoom`, `Stopped`, or `Memory` as [`next_row`] and [`set_row`] do; on a well-formed map whose pages are
+/// Returns `Damaged`, `Disk`, `NoRoom`, `Stopped`, or `Memory` as [`next_row`](crate::next_row) and [`set_row`] do; on a well-formed map whose pages are
 /// told no page is damaged. After a failure `tree` is as before, and pages may have changed: they are to be abandoned.
 ///
 /// For a node of W words, costs W + 1 calls of [`next_row`], and two of [`set_row`] for each word of which a byte moves.
@@ -99,9 +103,10 @@ pub fn move_slots<P: Pages>(
     ensures frame { Changes P.Pages pages.old pages.new }
 {
     let mut changed = *tree;
+    let mut copy = LeafCopy::none();
     let mut from = Some(0);
     while let Some(at) = from {
-        from = move_next(pages, &mut changed, node, slots, to, at)?;
+        from = move_next(pages, &mut changed, node, slots, to, at, &mut copy)?;
     }
     *tree = changed;
     Ok(())

@@ -1,5 +1,5 @@
 //! Words that each two of a node's slots, and of an entry beside them, share.
-ghost use Rattle.std.specs.Prelude.{◌≡◌, ◌+◌, ◌<◌, ◌^◌, ℕ, min, max, IfOk, IfSome, IsErrOf, slice_index, nat_lt, if◌then◌else◌};
+ghost use Rattle.std.specs.Prelude.{◌≡◌, ◌+◌, ◌<◌, ◌^◌, ℕ, min, max, IfOk, IfSome, IsErrOf, OnOk, slice_index, nat_lt, if◌then◌else◌};
 ghost use Rattle.page_face.specs.Calls.{Reads, FailsReading};
 ghost use Rattle.btree_nodes.specs.Damages.{AreTold, AsksOnly};
 ghost use Rattle.btree_nodes.specs.Tree.{IsMap, map_uses};
@@ -8,12 +8,13 @@ ghost use Rattle.rtree_shape.specs.Stock.{rows_form};
 ghost use Rattle.node_inverted.specs.Rows.{bytes_in};
 ghost use Rattle.node_inverted.specs.Ascents.{reached};
 ghost use Rattle.node_inverted.specs.Counts.{IsCounted, cell, counted_on, most, sign};
+ghost use Rattle.node_inverted.specs.Copies.{IsCopy};
 ghost use Rattle.node_inverted.specs.Damages.{IsNextDamage};
 ghost use Rattle.node_inverted.specs.Impacts.{impact_in};
 
 use crate::Tree;
 use crate::ascent::after;
-use crate::next::next_row;
+use crate::leaf::{LeafCopy, next_in};
 use crate::sharing::more_by;
 use page_face::{Damage, PageFault, Pages};
 
@@ -85,10 +86,14 @@ fn like_next<P: Pages>(
     node: u32,
     words: &[(u64, u8)],
     at: u64,
+    copy: &mut LeafCopy,
     table: &mut [[u32; 33]; 33],
 ) -> Result<Option<u64>, PageFault>
-    ensures counted { IsMap rows_form (P.pages pages.old) tree.now.rows → IsCounted (bytes_in (P.pages pages.old) tree.now.rows) node words.now at table.old
+    ensures counted { IsMap rows_form (P.pages pages.old) tree.now.rows → IsCopy (bytes_in (P.pages pages.old) tree.now.rows) node copy.old
+        → IsCounted (bytes_in (P.pages pages.old) tree.now.rows) node words.now at table.old
         → IfOk result (λ next. IsCounted (bytes_in (P.pages pages.old) tree.now.rows) node words.now (reached next) table.new) }
+    ensures copy { IsMap rows_form (P.pages pages.old) tree.now.rows → IsCopy (bytes_in (P.pages pages.old) tree.now.rows) node copy.old
+        → OnOk result (IsCopy (bytes_in (P.pages pages.old) tree.now.rows) node copy.new) }
     ensures onto { IfOk result (λ next. IfSome next (λ word. at < word)) }
     ensures honest { IsMap rows_form (P.pages pages.old) tree.now.rows → AreCounted (map_uses rows_form (P.pages pages.old) tree.now.rows) (P.count pages.old)
         → AreTold (P.pages pages.old) (P.count pages.old) → (damage : Damage) → ¬ IsErrOf result (PageFault.Damaged damage) }
@@ -99,7 +104,7 @@ fn like_next<P: Pages>(
     ensures fails { FailsReading P.Pages pages.old pages.new result }
     ensures frame { Reads P.Pages pages.old pages.new }
 {
-    let Some(found) = next_row(pages, tree, node, at)? else {
+    let Some(found) = next_in(copy, pages, tree, node, at)? else {
         return Ok(None);
     };
     let slots = found.1;
@@ -112,10 +117,10 @@ fn like_next<P: Pages>(
 /// the words below them, and 32 is an entry with these words. Of two entries only words of the node are counted, so the count of
 /// entry 32 with itself says nothing of its other words.
 ///
-/// Returns `Damaged` as [`next_row`] does; `Disk`, `Stopped`, or `Memory` if it runs out of memory.
+/// Returns `Damaged` as [`next_row`](crate::next_row) does; `Disk`, `Stopped`, or `Memory` if it runs out of memory.
 ///
-/// For a node of W words, costs W + 1 calls of [`next_row`], and writes no page. At each word it goes through the lines of the
-/// entries that have it alone.
+/// For a node of W words in L leaves of the rows' map, costs at most L + 4 ways down, each of which looks at one page a level, and
+/// copies a leaf for each but two of them. Writes no page. At each word it goes through the lines of the entries that have it alone.
 pub fn like<P: Pages>(
     pages: &mut P,
     tree: &Tree,
@@ -136,9 +141,10 @@ pub fn like<P: Pages>(
     ensures frame { Reads P.Pages pages.old pages.new }
 {
     let mut table = clear_table();
+    let mut copy = LeafCopy::none();
     let mut from = Some(0);
     while let Some(at) = from {
-        from = like_next(pages, tree, node, words, at, &mut table)?;
+        from = like_next(pages, tree, node, words, at, &mut copy, &mut table)?;
     }
     Ok(table)
 }

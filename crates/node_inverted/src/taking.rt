@@ -4,12 +4,13 @@ ghost use Rattle.page_face.specs.Calls.{Changes, FailsChanging};
 ghost use Rattle.btree_nodes.specs.Damages.{AreTold};
 ghost use Rattle.btree_nodes.specs.Supply.{View, view};
 ghost use Rattle.node_inverted.specs.Rows.{Bytes, IsRows, bytes_in};
+ghost use Rattle.node_inverted.specs.Copies.{IsCopy};
 ghost use Rattle.node_inverted.specs.Ascents.{reached};
 ghost use Rattle.node_inverted.specs.Lifts.{AreOrdered, IsLifting, IsTaken, lifted_at, lifted_by};
 
 use crate::Tree;
 use crate::ascent::after;
-use crate::next::next_row;
+use crate::leaf::{LeafCopy, next_in};
 use crate::rows::set_row;
 use crate::slots::clear_row;
 use page_face::{Damage, PageFault, Pages};
@@ -43,11 +44,14 @@ fn take_next<P: Pages>(
     tree: &mut Tree,
     node: u32,
     at: u64,
+    copy: &mut LeafCopy,
     rows: &mut Vec<NodeRow>,
 ) -> Result<Option<u64>, PageFault>
-    ensures taken { (before : View) (root : ℕ) (b : Bytes) → IsLifting before root (P.pages pages.old) (P.count pages.old) (P.first pages.old) tree.old.rows node at b rows.old.items
+    ensures taken { (before : View) (root : ℕ) (b : Bytes) → IsCopy b node copy.old → IsLifting before root (P.pages pages.old) (P.count pages.old) (P.first pages.old) tree.old.rows node at b rows.old.items
         → IfOk result (λ next. IsLifting before root (P.pages pages.new) (P.count pages.new) (P.first pages.new) tree.new.rows node (reached next) b rows.new.items) }
     ensures ordered { AreOrdered 0 at rows.old.items → IfOk result (λ next. AreOrdered 0 (reached next) rows.new.items) }
+    ensures copy { (before : View) (root : ℕ) (b : Bytes) → IsLifting before root (P.pages pages.old) (P.count pages.old) (P.first pages.old) tree.old.rows node at b rows.old.items
+        → IsCopy b node copy.old → OnOk result (IsCopy b node copy.new) }
     ensures onto { IfOk result (λ next. IfSome next (λ word. at < word)) }
     ensures root { tree.new.root ≡ tree.old.root }
     ensures honest { (free : List ℕ) → IsRows (view (P.pages pages.old) (P.count pages.old) (P.first pages.old) free) tree.old.rows → AreTold (P.pages pages.old) (P.count pages.old)
@@ -55,7 +59,7 @@ fn take_next<P: Pages>(
     ensures fails { FailsChanging P.Pages pages.old pages.new result }
     ensures frame { Changes P.Pages pages.old pages.new }
 {
-    let Some(found) = next_row(pages, tree, node, at)? else {
+    let Some(found) = next_in(copy, pages, tree, node, at)? else {
         return Ok(None);
     };
     let bytes = found.1;
@@ -66,7 +70,7 @@ fn take_next<P: Pages>(
 
 /// Removes all rows of a node, and returns them in the order of their words.
 ///
-/// Returns `Damaged`, `Disk`, `NoRoom`, `Stopped`, or `Memory` as [`next_row`] and [`set_row`] do; on a well-formed map whose pages are
+/// Returns `Damaged`, `Disk`, `NoRoom`, `Stopped`, or `Memory` as [`next_row`](crate::next_row) and [`set_row`] do; on a well-formed map whose pages are
 /// told no page is damaged. After a failure `tree` is as before, and pages may have changed: they are to be abandoned.
 ///
 /// For a node of W words, costs W + 1 calls of [`next_row`], and W removals by [`set_row`].
@@ -91,9 +95,10 @@ pub fn take_rows<P: Pages>(
 {
     let mut changed = *tree;
     let mut rows = Vec::new(alloc);
+    let mut copy = LeafCopy::none();
     let mut from = Some(0);
     while let Some(at) = from {
-        from = take_next(pages, &mut changed, node, at, &mut rows)?;
+        from = take_next(pages, &mut changed, node, at, &mut copy, &mut rows)?;
     }
     *tree = changed;
     Ok(rows)

@@ -7,13 +7,14 @@ ghost use Rattle.paged_map.specs.Maps.{AreCounted};
 ghost use Rattle.rtree_shape.specs.Stock.{rows_form};
 ghost use Rattle.node_inverted.specs.Rows.{bytes_in};
 ghost use Rattle.node_inverted.specs.Ascents.{reached, until};
+ghost use Rattle.node_inverted.specs.Copies.{IsCopy};
 ghost use Rattle.node_inverted.specs.Damages.{IsNextDamage};
 ghost use Rattle.node_inverted.specs.Impacts.{impact_at, impact_in, top_at};
 ghost use Rattle.node_inverted.specs.Lifts.{AreWords, no_bytes, tops_of};
 
 use crate::Tree;
 use crate::ascent::after;
-use crate::next::next_row;
+use crate::leaf::{LeafCopy, next_in};
 use crate::slots::greatest;
 use page_face::{Damage, PageFault, Pages};
 use std::alloc::Global;
@@ -43,12 +44,15 @@ fn add_next<P: Pages>(
     tree: &Tree,
     node: u32,
     at: u64,
+    copy: &mut LeafCopy,
     words: &mut Vec<(u64, u8)>,
 ) -> Result<Option<u64>, PageFault>
-    ensures words { IsMap rows_form (P.pages pages.old) tree.now.rows
+    ensures words { IsMap rows_form (P.pages pages.old) tree.now.rows → IsCopy (bytes_in (P.pages pages.old) tree.now.rows) node copy.old
         → ((n w i : ℕ) → impact_in words.old.items w ≡ until at (tops_of (bytes_in (P.pages pages.old) tree.now.rows) node) no_bytes n w i)
         → IfOk result (λ next. (n w i : ℕ) → impact_in words.new.items w ≡ until (reached next) (tops_of (bytes_in (P.pages pages.old) tree.now.rows) node) no_bytes n w i) }
     ensures ordered { AreWords 0 at words.old.items → IfOk result (λ next. AreWords 0 (reached next) words.new.items) }
+    ensures copy { IsMap rows_form (P.pages pages.old) tree.now.rows → IsCopy (bytes_in (P.pages pages.old) tree.now.rows) node copy.old
+        → OnOk result (IsCopy (bytes_in (P.pages pages.old) tree.now.rows) node copy.new) }
     ensures onto { IfOk result (λ next. IfSome next (λ word. at < word)) }
     ensures honest { IsMap rows_form (P.pages pages.old) tree.now.rows → AreCounted (map_uses rows_form (P.pages pages.old) tree.now.rows) (P.count pages.old)
         → AreTold (P.pages pages.old) (P.count pages.old) → (damage : Damage) → ¬ IsErrOf result (PageFault.Damaged damage) }
@@ -59,7 +63,7 @@ fn add_next<P: Pages>(
     ensures fails { FailsReading P.Pages pages.old pages.new result }
     ensures frame { Reads P.Pages pages.old pages.new }
 {
-    let Some(found) = next_row(pages, tree, node, at)? else {
+    let Some(found) = next_in(copy, pages, tree, node, at)? else {
         return Ok(None);
     };
     let row = found.1;
@@ -69,9 +73,10 @@ fn add_next<P: Pages>(
 
 /// Returns the words of a node in the order of their numbers, each with the greatest of its bytes.
 ///
-/// Returns `Damaged` as [`next_row`] does; `Disk`, `Stopped`, or `Memory` if it runs out of memory.
+/// Returns `Damaged` as [`next_row`](crate::next_row) does; `Disk`, `Stopped`, or `Memory` if it runs out of memory.
 ///
-/// For a node of W words, costs W + 1 calls of [`next_row`], and writes no page.
+/// For a node of W words in L leaves of the rows' map, costs at most L + 4 ways down, each of which looks at one page a level, and
+/// copies a leaf for each but two of them. Writes no page.
 pub fn words_of<P: Pages>(
     alloc: Global,
     pages: &mut P,
@@ -93,9 +98,10 @@ pub fn words_of<P: Pages>(
     ensures frame { Reads P.Pages pages.old pages.new }
 {
     let mut words = Vec::new(alloc);
+    let mut copy = LeafCopy::none();
     let mut from = Some(0);
     while let Some(at) = from {
-        from = add_next(pages, tree, node, at, &mut words)?;
+        from = add_next(pages, tree, node, at, &mut copy, &mut words)?;
     }
     Ok(words)
 }

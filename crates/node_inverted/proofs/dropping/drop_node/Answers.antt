@@ -24,6 +24,7 @@ loop-from-init g c = record {
       let b : Bytes = bytes_in (g.P.Pages.pages c.args.pages.now) c.args.tree.now.rows in
       turns-as before c.args.tree.now.rows (g.P.Pages.pages c.args.pages.now) (g.P.Pages.count c.args.pages.now) (g.P.Pages.first c.args.pages.now) c.args.tree.now.rows b
       (until 0 (dropped c.args.node b) b) (start (dropped c.args.node b) b) (turns-same before c.args.tree.now.rows rows);
+  copy = λ free rows. c.none-copy.ensures (bytes_in (g.P.Pages.pages c.args.pages.now) c.args.tree.now.rows) c.args.node;
   frame = changes-none g.P.Pages c.args.pages.now (g.met.P.Pages.stays c.args.pages.now);
 }
 
@@ -33,8 +34,13 @@ loop-from-preserved g c = record {
   turns = λ free rows.
       let before : View = view (g.P.Pages.pages c.args.pages.now) (g.P.Pages.count c.args.pages.now) (g.P.Pages.first c.args.pages.now) free in
       let b : Bytes = bytes_in (g.P.Pages.pages c.args.pages.now) c.args.tree.now.rows in
-      c.in_ok-from.ensures.turns before c.args.tree.now.rows b (subst (λ (o : Option ℕ). Turns before c.args.tree.now.rows (g.P.Pages.pages c.loop-from.pages) (g.P.Pages.count c.loop-from.pages) (g.P.Pages.first c.loop-from.pages) c.loop-from.changed.rows
+      c.in_ok-from.ensures.turns before c.args.tree.now.rows b (c.loop-from.invariant.copy free rows) (subst (λ (o : Option ℕ). Turns before c.args.tree.now.rows (g.P.Pages.pages c.loop-from.pages) (g.P.Pages.count c.loop-from.pages) (g.P.Pages.first c.loop-from.pages) c.loop-from.changed.rows
       (until (reached o) (dropped c.args.node b) b)) c.in-Some.is (c.loop-from.invariant.turns free rows));
+  copy = λ free rows.
+      let before : View = view (g.P.Pages.pages c.args.pages.now) (g.P.Pages.count c.args.pages.now) (g.P.Pages.first c.args.pages.now) free in
+      let b : Bytes = bytes_in (g.P.Pages.pages c.args.pages.now) c.args.tree.now.rows in
+      c.in_ok-from.ensures.copy before c.args.tree.now.rows b (subst (λ (o : Option ℕ). Turns before c.args.tree.now.rows (g.P.Pages.pages c.loop-from.pages) (g.P.Pages.count c.loop-from.pages) (g.P.Pages.first c.loop-from.pages) c.loop-from.changed.rows
+      (until (reached o) (dropped c.args.node b) b)) c.in-Some.is (c.loop-from.invariant.turns free rows)) (c.loop-from.invariant.copy free rows);
   frame = changes_then g.P.Pages g.met.P.Pages.goes_further _ _ _ c.loop-from.invariant.frame c.drop_next.ensures.frame;
 }
 

@@ -3,6 +3,7 @@ use Rattle.page_face.specs.Calls.{Changes}
 use Rattle.btree_nodes.specs.Supply.{view}
 use Rattle.node_inverted.specs.Rows.{IsRows, bytes_in}
 use Rattle.node_inverted.specs.Turns.{Turns, dropped}
+use Rattle.node_inverted.specs.Copies.{IsCopy}
 use Rattle.node_inverted.specs.Ascents.{until, reached, left_from}
 use Rattle.node_inverted.proofs.dropping.drop_node.Given as goal
 
@@ -15,6 +16,8 @@ invariant-loop-from g l =
       turns : (free : List ℕ) → IsRows (view (p.pages l.fn.pages) (p.count l.fn.pages) (p.first l.fn.pages) free) l.fn.tree.rows
           → Turns (view (p.pages l.fn.pages) (p.count l.fn.pages) (p.first l.fn.pages) free) l.fn.tree.rows (p.pages l.pages) (p.count l.pages) (p.first l.pages) l.changed.rows
           (until (reached l.from) (dropped l.node (bytes_in (p.pages l.fn.pages) l.fn.tree.rows)) (bytes_in (p.pages l.fn.pages) l.fn.tree.rows));
+      copy : (free : List ℕ) → IsRows (view (p.pages l.fn.pages) (p.count l.fn.pages) (p.first l.fn.pages) free) l.fn.tree.rows
+          → IsCopy (bytes_in (p.pages l.fn.pages) l.fn.tree.rows) l.node l.copy;
       frame : Changes p l.fn.pages l.pages;
     }
 

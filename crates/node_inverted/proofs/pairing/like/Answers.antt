@@ -9,6 +9,7 @@ use Rattle.btree_nodes.proofs.Harms.{asks-further, asks-nothing}
 use Rattle.paged_map.specs.Maps.{AreCounted}
 use Rattle.rtree_shape.specs.Stock.{rows_form}
 use Rattle.node_inverted.specs.Rows.{bytes_in}
+use Rattle.node_inverted.specs.Copies.{IsCopy}
 use Rattle.node_inverted.specs.Ascents.{reached}
 use Rattle.node_inverted.specs.Counts.{IsCounted, most}
 use Rattle.node_inverted.specs.Damages.{IsNextDamage}
@@ -20,6 +21,7 @@ use Rattle.node_inverted.proofs.pairing.like.Goals as goal
 pub loop-from-init : goal.loop-from-init
 loop-from-init g c =
     record {
+      copy = λ map. c.none-copy.ensures (bytes_in (g.P.Pages.pages c.args.pages.now) c.args.tree.now.rows) c.args.node;
       counted = λ map i j li lj h. c.clear_table-table.ensures i j ∙ ap (λ (k : ℕ). min k most) (sym (alike-none (bytes_in (g.P.Pages.pages c.args.pages.now) c.args.tree.now.rows) c.args.node c.args.words.now i j));
       own = λ told. asks-nothing (map_uses rows_form (g.P.Pages.pages c.args.pages.now) c.args.tree.now.rows) (g.P.Pages.asked c.args.pages.now) (g.P.Pages.asked c.args.pages.now) refl;
       frame = reads-none g.P.Pages c.args.pages.now (g.met.P.Pages.reads_nothing c.args.pages.now) (g.met.P.Pages.stays c.args.pages.now);
@@ -33,10 +35,11 @@ loop-from-preserved g c =
     let root : ℕ = c.args.tree.now.rows in
     let node : ℕ = c.args.node in
     record {
+      copy = λ map. subst (λ (p : PageMap). IsMap rows_form p root → IsCopy (bytes_in p root) node c.loop-from.copy → IsCopy (bytes_in p root) node c.like_next.new.copy) f.pages c.in_ok-from.ensures.copy map (h.copy map);
       counted = λ map.
-          let Claim : PageMap → Type 0 = λ p. IsMap rows_form p root → IsCounted (bytes_in p root) node c.args.words.now c.in-Some.at c.loop-from.table
+          let Claim : PageMap → Type 0 = λ p. IsMap rows_form p root → IsCopy (bytes_in p root) node c.loop-from.copy → IsCounted (bytes_in p root) node c.args.words.now c.in-Some.at c.loop-from.table
           → IsCounted (bytes_in p root) node c.args.words.now (reached c.in_ok-from.from) c.like_next.new.table in
-          subst Claim f.pages c.in_ok-from.ensures.counted map (subst (λ (o : Option ℕ). IsCounted (bytes_in old root) node c.args.words.now (reached o) c.loop-from.table) c.in-Some.is (h.counted map));
+          subst Claim f.pages c.in_ok-from.ensures.counted map (h.copy map) (subst (λ (o : Option ℕ). IsCounted (bytes_in old root) node c.args.words.now (reached o) c.loop-from.table) c.in-Some.is (h.counted map));
       own = λ told.
           let still : AreTold (g.P.Pages.pages c.loop-from.pages) (g.P.Pages.count c.loop-from.pages) = rw (f.pages, f.count) told in
           asks-further (map_uses rows_form old root) (g.P.Pages.asked c.args.pages.now) (g.P.Pages.asked c.loop-from.pages) (g.P.Pages.asked c.like_next.new.pages) (h.own told)

@@ -12,13 +12,14 @@ use Rattle.node_inverted.specs.Lifts.{lifted_at, lifted_by, bytes_at, no_bytes}
 use Rattle.node_inverted.specs.declared.taking.NodeRow.{NodeRow}
 use Rattle.node_inverted.proofs.Turned.{turns-as, turns-further, view-same, turned-rest}
 use Rattle.node_inverted.proofs.Bytes.{with-another}
+use Rattle.node_inverted.proofs.Copies.{next-now}
 use Rattle.node_inverted.proofs.Ascents.{ascend, rest, left}
 use Rattle.node_inverted.proofs.Drops.{dropped-idle, dropped-set}
 use Rattle.node_inverted.proofs.Lifts.{lifted-here, lifted-other, max-none, max-zero, rows-wider}
 use Rattle.node_inverted.proofs.taking.take_next.Goals as goal
 
 pub returns-clause-taken : goal.returns-clause-taken
-returns-clause-taken g c = λ before root b h.
+returns-clause-taken g c = λ before root b held h.
     let old : PageMap = g.P.Pages.pages c.args.pages.now in
     let rows : ℕ = c.args.tree.now.rows in
     let at : ℕ = c.args.at in
@@ -26,9 +27,10 @@ returns-clause-taken g c = λ before root b h.
     let word : ℕ = c.in-Some.found.0 in
     let turn = h.turn in
     let now : Bytes = bytes_in old rows in
-    let next : Next now node at (Some c.in-Some.found) = subst (λ (o : Option (ℕ × List ℕ)). Next now node at o) c.in-Some.is (c.in_ok-found.ensures.next turn.rows.kept.map) in
-    let r = c.next_row.ensures.frame in
-    let v = view-same (g.P.Pages.pages c.next_row.new.pages) old (g.P.Pages.count c.next_row.new.pages) (g.P.Pages.count c.args.pages.now) (g.P.Pages.first c.next_row.new.pages) (g.P.Pages.first c.args.pages.now) turn.free r.pages r.count r.first in
+    let still : (w i : ℕ) → at ≤ w → now node w i ≡ b node w i = λ w i l. left (dropped c.args.node b) b now at turn.is node w i l in
+    let next : Next now node at (Some c.in-Some.found) = next-now b now node at (Some c.in-Some.found) still (subst (λ (o : Option (ℕ × List ℕ)). Next b node at o) c.in-Some.is (c.in_ok-found.ensures.next b turn.rows.kept.map still held)) in
+    let r = c.next_in.ensures.frame in
+    let v = view-same (g.P.Pages.pages c.next_in.new.pages) old (g.P.Pages.count c.next_in.new.pages) (g.P.Pages.count c.args.pages.now) (g.P.Pages.first c.next_in.new.pages) (g.P.Pages.first c.args.pages.now) turn.free r.pages r.count r.first in
     let f : Bytes = dropped node b in
     let on = next.on in
     let stays : (n w i : ℕ) → at ≤ w → now n w i ≡ b n w i = left f b now at turn.is in
@@ -58,21 +60,22 @@ returns-clause-taken g c = λ before root b h.
     }
 
 pub returns-in_default-clause-taken : goal.returns-in_default-clause-taken
-returns-in_default-clause-taken g c = λ before root b h.
+returns-in_default-clause-taken g c = λ before root b held h.
     let old : PageMap = g.P.Pages.pages c.args.pages.now in
     let rows : ℕ = c.args.tree.now.rows in
     let at : ℕ = c.args.at in
     let node : ℕ = c.args.node in
     let turn = h.turn in
     let now : Bytes = bytes_in old rows in
-    let next : Next now node at None = subst (λ (o : Option (ℕ × List ℕ)). Next now node at o) c.in_default.is (c.in_ok-found.ensures.next turn.rows.kept.map) in
-    let r = c.next_row.ensures.frame in
+    let still : (w i : ℕ) → at ≤ w → now node w i ≡ b node w i = λ w i l. left (dropped c.args.node b) b now at turn.is node w i l in
+    let next : Next now node at None = next-now b now node at None still (subst (λ (o : Option (ℕ × List ℕ)). Next b node at o) c.in_default.is (c.in_ok-found.ensures.next b turn.rows.kept.map still held)) in
+    let r = c.next_in.ensures.frame in
     let f : Bytes = dropped node b in
     let stays : (n w i : ℕ) → at ≤ w → now n w i ≡ b n w i = left f b now at turn.is in
     let small = c.ranges.at.fits in
     let none : (w i : ℕ) → at ≤ w → b node w i ≡ 0 = λ w i l. sym (stays node w i l) ∙ next w i l in
     record {
-      turn = turned-rest before root old (g.P.Pages.pages c.next_row.new.pages) (g.P.Pages.count c.args.pages.now) (g.P.Pages.count c.next_row.new.pages) (g.P.Pages.first c.args.pages.now) (g.P.Pages.first c.next_row.new.pages) rows
+      turn = turned-rest before root old (g.P.Pages.pages c.next_in.new.pages) (g.P.Pages.count c.args.pages.now) (g.P.Pages.count c.next_in.new.pages) (g.P.Pages.first c.args.pages.now) (g.P.Pages.first c.next_in.new.pages) rows
           (until at f b) (until (2 ^ 64) f b) r.pages r.count r.first
           (λ n w i. sym (turn.is n w i) ∙ rest f b now at turn.is (2 ^ 64) (omega arith) (λ n' w' i' l. dropped-idle node b w' (λ j. none w' j l) n' i') n w i) turn;
       lifted = λ n w i. rest (bytes_at node b) no_bytes (λ n2 w2 i2. lifted_at c.args.rows.now.items w2 i2) at h.lifted (2 ^ 64) (omega arith) (λ n' w' i' l. none w' i' l) n w i;
@@ -90,8 +93,16 @@ returns-in_err-found-clause-honest g c free rows told damage =
 
 pub returns-in_err-set_row-clause-honest : goal.returns-in_err-set_row-clause-honest
 returns-in_err-set_row-clause-honest g c free rows told damage =
-    let r = c.next_row.ensures.frame in
-    let kept : IsRows (view (g.P.Pages.pages c.next_row.new.pages) (g.P.Pages.count c.next_row.new.pages) (g.P.Pages.first c.next_row.new.pages) free) c.args.tree.now.rows = rw (r.pages, r.count, r.first) rows in
+    let r = c.next_in.ensures.frame in
+    let kept : IsRows (view (g.P.Pages.pages c.next_in.new.pages) (g.P.Pages.count c.next_in.new.pages) (g.P.Pages.first c.next_in.new.pages) free) c.args.tree.now.rows = rw (r.pages, r.count, r.first) rows in
     let p = err_from_is_err_and c.from_residual-in_err-set_row.result c.from_residual-in_err-set_row.ensures.1 in
     λ e. (let same : c.in_err-set_row.field-0.0 ≡ Damaged damage = cc (p.1, p.2, e) in
     c.in_err-set_row.ensures.honest free kept.kept damage (ap Err same))
+
+pub returns-clause-copy : goal.returns-clause-copy
+returns-clause-copy g c = λ before root b h held.
+    c.in_ok-found.ensures.copy b h.turn.rows.kept.map (λ w i l. left (dropped c.args.node b) b (bytes_in (g.P.Pages.pages c.args.pages.now) c.args.tree.now.rows) c.args.at h.turn.is c.args.node w i l) held
+
+pub returns-in_default-clause-copy : goal.returns-in_default-clause-copy
+returns-in_default-clause-copy g c = λ before root b h held.
+    c.in_ok-found.ensures.copy b h.turn.rows.kept.map (λ w i l. left (dropped c.args.node b) b (bytes_in (g.P.Pages.pages c.args.pages.now) c.args.tree.now.rows) c.args.at h.turn.is c.args.node w i l) held

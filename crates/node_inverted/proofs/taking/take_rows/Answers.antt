@@ -23,7 +23,8 @@ loop-from-init g c =
     let empty : c.new-rows.result.items ≡ [] = search rules in
     record {
       root = refl;
-      taken = λ before root b h. h;
+      taken = λ before root b held h. h;
+      copy = λ before root b held h. held;
       ordered = subst (AreOrdered 0 0) (sym empty) (omega arith);
       frame = changes-none g.P.Pages c.args.pages.now (g.met.P.Pages.stays c.args.pages.now);
     }
@@ -31,9 +32,12 @@ loop-from-init g c =
 pub loop-from-preserved : goal.loop-from-preserved
 loop-from-preserved g c = record {
   root = c.take_next.ensures.root ∙ c.loop-from.invariant.root;
-  taken = λ before root b h.
-      c.in_ok-from.ensures.taken before root b (subst (λ (o : Option ℕ). IsLifting before root (g.P.Pages.pages c.loop-from.pages) (g.P.Pages.count c.loop-from.pages) (g.P.Pages.first c.loop-from.pages) c.loop-from.changed.rows
-      c.args.node (reached o) b c.loop-from.rows.items) c.in-Some.is (c.loop-from.invariant.taken before root b h));
+  taken = λ before root b held h.
+      c.in_ok-from.ensures.taken before root b (c.loop-from.invariant.copy before root b held h) (subst (λ (o : Option ℕ). IsLifting before root (g.P.Pages.pages c.loop-from.pages) (g.P.Pages.count c.loop-from.pages) (g.P.Pages.first c.loop-from.pages) c.loop-from.changed.rows
+      c.args.node (reached o) b c.loop-from.rows.items) c.in-Some.is (c.loop-from.invariant.taken before root b held h));
+  copy = λ before root b held h.
+      c.in_ok-from.ensures.copy before root b (subst (λ (o : Option ℕ). IsLifting before root (g.P.Pages.pages c.loop-from.pages) (g.P.Pages.count c.loop-from.pages) (g.P.Pages.first c.loop-from.pages) c.loop-from.changed.rows
+      c.args.node (reached o) b c.loop-from.rows.items) c.in-Some.is (c.loop-from.invariant.taken before root b held h)) (c.loop-from.invariant.copy before root b held h);
   ordered = c.in_ok-from.ensures.ordered (subst (λ (o : Option ℕ). AreOrdered 0 (reached o) c.loop-from.rows.items) c.in-Some.is c.loop-from.invariant.ordered);
   frame = changes_then g.P.Pages g.met.P.Pages.goes_further _ _ _ c.loop-from.invariant.frame c.take_next.ensures.frame;
 }
@@ -47,7 +51,7 @@ returns-clause-taken g c = λ free rows.
     let b : Bytes = bytes_in (g.P.Pages.pages c.args.pages.now) root in
     let large = bytes-large (map_rows rows_form (g.P.Pages.pages c.args.pages.now) root) in
     let f : Bytes = dropped node b in
-    let h = c.loop-from.invariant.taken before root b (taking-begins before root node c.new-rows.result.items rows empty) in
+    let h = c.loop-from.invariant.taken before root b (c.none-copy.ensures b c.args.node) (taking-begins before root node c.new-rows.result.items rows empty) in
     let e : reached c.loop-from.from ≡ 2 ^ 64 = ap reached c.in_default.is in
     record {
       turn = turns-as before root (g.P.Pages.pages c.loop-from.pages) (g.P.Pages.count c.loop-from.pages) (g.P.Pages.first c.loop-from.pages) c.loop-from.changed.rows (until (reached c.loop-from.from) f b) f
@@ -64,7 +68,7 @@ returns-in_err-from-clause-honest g c free rows told damage =
     let root : ℕ = c.args.tree.now.rows in
     let before : View = view (g.P.Pages.pages c.args.pages.now) (g.P.Pages.count c.args.pages.now) (g.P.Pages.first c.args.pages.now) free in
     let b : Bytes = bytes_in (g.P.Pages.pages c.args.pages.now) root in
-    let turn = (c.loop-from.invariant.taken before root b (taking-begins before root c.args.node c.new-rows.result.items rows empty)).turn in
+    let turn = (c.loop-from.invariant.taken before root b (c.none-copy.ensures b c.args.node) (taking-begins before root c.args.node c.new-rows.result.items rows empty)).turn in
     let p = err_from_is_err_and c.from_residual.result c.from_residual.ensures.1 in
     λ e. (let same : c.in_err-from.field-0.0 ≡ Damaged damage = cc (p.1, p.2, e) in
     c.in_err-from.ensures.honest turn.free turn.rows (told-turned before root (g.P.Pages.pages c.loop-from.pages) (g.P.Pages.count c.loop-from.pages) (g.P.Pages.first c.loop-from.pages) c.loop-from.changed.rows

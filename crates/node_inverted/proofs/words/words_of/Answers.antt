@@ -9,6 +9,7 @@ use Rattle.btree_nodes.proofs.Harms.{asks-further, asks-nothing}
 use Rattle.paged_map.specs.Maps.{AreCounted}
 use Rattle.rtree_shape.specs.Stock.{rows_form}
 use Rattle.node_inverted.specs.Rows.{Bytes, bytes_in}
+use Rattle.node_inverted.specs.Copies.{IsCopy}
 use Rattle.node_inverted.specs.Ascents.{until, reached}
 use Rattle.node_inverted.specs.Damages.{IsNextDamage}
 use Rattle.node_inverted.specs.Impacts.{impact_in}
@@ -24,6 +25,7 @@ pub loop-from-init : goal.loop-from-init
 loop-from-init g c =
     let empty : c.new-words.result.items ≡ [] = search rules in
     record {
+      copy = λ map. c.none-copy.ensures (bytes_in (g.P.Pages.pages c.args.pages.now) c.args.tree.now.rows) c.args.node;
       listed = λ map n w i. ap (λ (ps : List (ℕ × ℕ)). impact_in ps w) empty ∙ start (tops_of (bytes_in (g.P.Pages.pages c.args.pages.now) c.args.tree.now.rows) c.args.node) no_bytes n w i;
       ordered = subst (AreWords 0 0) (sym empty) (omega arith);
       own = λ told. asks-nothing (map_uses rows_form (g.P.Pages.pages c.args.pages.now) c.args.tree.now.rows) (g.P.Pages.asked c.args.pages.now) (g.P.Pages.asked c.args.pages.now) refl;
@@ -38,11 +40,12 @@ loop-from-preserved g c =
     let root : ℕ = c.args.tree.now.rows in
     let node : ℕ = c.args.node in
     record {
+      copy = λ map. subst (λ (p : PageMap). IsMap rows_form p root → IsCopy (bytes_in p root) node c.loop-from.copy → IsCopy (bytes_in p root) node c.add_next.new.copy) f.pages c.in_ok-from.ensures.copy map (h.copy map);
       listed = λ map.
-          let Claim : PageMap → Type 0 = λ p. IsMap rows_form p root
+          let Claim : PageMap → Type 0 = λ p. IsMap rows_form p root → IsCopy (bytes_in p root) node c.loop-from.copy
           → ((n w i : ℕ) → impact_in c.loop-from.words.items w ≡ until c.in-Some.at (tops_of (bytes_in p root) node) no_bytes n w i)
           → (n w i : ℕ) → impact_in c.add_next.new.words.items w ≡ until (reached c.in_ok-from.from) (tops_of (bytes_in p root) node) no_bytes n w i in
-          subst Claim f.pages c.in_ok-from.ensures.words map
+          subst Claim f.pages c.in_ok-from.ensures.words map (h.copy map)
           (subst (λ (o : Option ℕ). (n w i : ℕ) → impact_in c.loop-from.words.items w ≡ until (reached o) (tops_of (bytes_in old root) node) no_bytes n w i) c.in-Some.is (h.listed map));
       ordered = c.in_ok-from.ensures.ordered (subst (λ (o : Option ℕ). AreWords 0 (reached o) c.loop-from.words.items) c.in-Some.is h.ordered);
       own = λ told.

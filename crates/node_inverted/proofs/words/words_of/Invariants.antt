@@ -4,6 +4,7 @@ use Rattle.btree_nodes.specs.Damages.{AreTold, AsksOnly}
 use Rattle.btree_nodes.specs.Tree.{IsMap, map_uses}
 use Rattle.rtree_shape.specs.Stock.{rows_form}
 use Rattle.node_inverted.specs.Rows.{bytes_in}
+use Rattle.node_inverted.specs.Copies.{IsCopy}
 use Rattle.node_inverted.specs.Ascents.{reached, left_from, until}
 use Rattle.node_inverted.specs.Impacts.{impact_in}
 use Rattle.node_inverted.specs.Lifts.{AreWords, tops_of, no_bytes}
@@ -14,6 +15,7 @@ abbrev pub invariant-loop-from : goal.invariant-loop-from
 invariant-loop-from g l =
     let p = g.P.Pages in
     record {
+      copy : IsMap rows_form (p.pages l.fn.pages) l.tree.rows → IsCopy (bytes_in (p.pages l.fn.pages) l.tree.rows) l.node l.copy;
       listed : IsMap rows_form (p.pages l.fn.pages) l.tree.rows → (n w i : ℕ) → impact_in l.words.items w ≡ until (reached l.from) (tops_of (bytes_in (p.pages l.fn.pages) l.tree.rows) l.node) no_bytes n w i;
       ordered : AreWords 0 (reached l.from) l.words.items;
       own : AreTold (p.pages l.fn.pages) (p.count l.fn.pages) → AsksOnly (map_uses rows_form (p.pages l.fn.pages) l.tree.rows) (p.asked l.fn.pages) (p.asked l.pages);
