@@ -1,5 +1,6 @@
 -- What a copy of a leaf of the rows' map says of a node.
-use Rattle.std.proofs.Common.{◌≡◌, ℕ, ◌+◌, ◌^◌, ◌<◌, ◌≤◌, inl, inr, arith, refl, sym, ap, ◌∙◌, subst, Option, Some, None, List, [], ◌∷◌, length}
+use Rattle.std.proofs.Common.{◌≡◌, ℕ, ◌+◌, ◌^◌, ◌<◌, ◌≤◌, inl, inr, arith, refl, sym, ap, ◌∙◌, subst, Option, Some, None, Result, Ok, Err, List, [], ◌∷◌, length}
+use Rattle.std.specs.Result.{OnOk}
 use Rattle.page_face.specs.FreeList.{PageMap}
 use Rattle.page_face.specs.Number.{number}
 use Rattle.btree_nodes.specs.Bounds.{upper_of}
@@ -14,6 +15,7 @@ use Rattle.paged_map.proofs.Maps.{map-none}
 use Rattle.rtree_shape.specs.Stock.{rows_form}
 use Rattle.node_inverted.specs.Rows.{Bytes, byte_in, bytes_in, bytes_of, key_of}
 use Rattle.node_inverted.specs.Turns.{IsNext, Next}
+use Rattle.node_inverted.specs.Refreshing.{IsFrom}
 use Rattle.node_inverted.specs.Copies.{HasRows, IsBefore}
 use Rattle.node_inverted.specs.declared.leaf.LeafCopy.{LeafCopy}
 use Rattle.node_inverted.proofs.Bytes.{bytes-large, bytes-small, key-word, next-away, next-here, next-none}
@@ -118,6 +120,16 @@ next-on b d node from at (Some found) le same quiet next =
 -- the first row from a word on, in bytes that are the same from there on
 pub next-now : (b now : Bytes) (node at : ℕ) (o : Option (ℕ × List ℕ)) → ((w i : ℕ) → at ≤ w → now node w i ≡ b node w i) → Next b node at o → Next now node at o
 next-now b now node at o same next = next-on now b node at at o (omega arith) (λ w i l. sym (same w i l)) (λ w i l m. absurd (omega arith)) next
+
+-- the row that follows isn't before the word
+pub next-from : (b : Bytes) (node word : ℕ) (o : Option (ℕ × List ℕ)) → Next b node word o → IsFrom word o
+next-from b node word None next = tt
+next-from b node word (Some found) next = next.on
+
+-- what holds anyway
+pub on_ok_given : {T E P : Type 0} (result : Result T E) → P → OnOk result P
+on_ok_given (Ok x) p = p
+on_ok_given (Err e) p = tt
 
 -- an empty map has no bytes
 pub bytes-empty : (pages : PageMap) (root n w i : ℕ) → root ≡ 0 → bytes_in pages root n w i ≡ 0

@@ -1,28 +1,33 @@
 //! Bytes that rise as an entry comes in below a slot.
-ghost use Rattle.std.specs.Prelude.{◌≡◌, ◌<◌, ◌==◌, ℕ, List, max, if◌then◌else◌, slice_index, OnOk, OnErr, IsErrOf};
+ghost use Rattle.std.specs.Prelude.{◌≡◌, ◌<◌, ◌==◌, ℕ, List, max, if◌then◌else◌, slice_index, IfSome, OnOk, OnErr, IsErrOf};
 ghost use Rattle.page_face.specs.Calls.{Changes, FailsChanging};
 ghost use Rattle.btree_nodes.specs.Damages.{AreTold};
 ghost use Rattle.btree_nodes.specs.Supply.{view};
-ghost use Rattle.node_inverted.specs.Rows.{HasBytes, IsRows, bytes_in};
+ghost use Rattle.paged_map.specs.Spots.{IsSpot};
+ghost use Rattle.rtree_shape.specs.Stock.{rows_form};
+ghost use Rattle.node_inverted.specs.Rows.{HasBytes, IsRows, bytes_in, key_of};
 ghost use Rattle.node_inverted.specs.Turns.{Turns};
 ghost use Rattle.node_inverted.specs.Impacts.{impact_at, impact_in, raised, with_byte};
 
 use crate::Tree;
-use crate::rows::{row, set_row};
-use crate::slots::{greater, put_byte};
+use crate::rows::{find_row, set_found};
+use crate::slots::{clear_row, greater, put_byte};
 use page_face::{Damage, PageFault, Pages};
+use paged_map::RowSpot;
 
-// Sets one byte of a row that was read. Writes nothing if it is so already.
+// Sets one byte of a row that was read. Writes nothing if it is so already. A row that was looked for is replaced at its spot.
 pub(crate) fn set_byte<P: Pages>(
     pages: &mut P,
     tree: &mut Tree,
     node: u32,
     slot: usize,
     number: u64,
+    spot: Option<RowSpot>,
     row: &[u8; 32],
     byte: u8,
 ) -> Result<(), PageFault>
-    requires { slot < 32 }
+    requires slot { slot < 32 }
+    requires spot { IfSome spot (IsSpot rows_form (P.pages pages.old) (P.count pages.old) tree.old.rows (P.looked pages.old) (key_of node number)) }
     ensures turns { (free : List ℕ) → IsRows (view (P.pages pages.old) (P.count pages.old) (P.first pages.old) free) tree.old.rows
         → HasBytes row.now (bytes_in (P.pages pages.old) tree.old.rows node number)
         → OnOk result (Turns (view (P.pages pages.old) (P.count pages.old) (P.first pages.old) free) tree.old.rows (P.pages pages.new) (P.count pages.new) (P.first pages.new) tree.new.rows
@@ -39,7 +44,7 @@ pub(crate) fn set_byte<P: Pages>(
     }
     let mut changed = *row;
     put_byte(&mut changed, slot, byte);
-    set_row(pages, tree, node, number, &changed)
+    set_found(pages, tree, node, number, spot, &changed)
 }
 
 // Raises one slot of one row.
@@ -60,18 +65,20 @@ fn raise_one<P: Pages>(
     ensures fails { FailsChanging P.Pages pages.old pages.new result }
     ensures frame { Changes P.Pages pages.old pages.new }
 {
-    let there = row(pages, tree, node, pair.0)?;
+    let mut there = clear_row();
+    let spot = find_row(pages, tree, node, pair.0, &mut there)?;
     let byte = greater(there[slot], pair.1);
-    set_byte(pages, tree, node, slot, pair.0, &there, byte)
+    set_byte(pages, tree, node, slot, pair.0, spot, &there, byte)
 }
 
 /// Raises a slot of a node by the words of an entry that comes in below it: each word's byte at the slot is then at least the
 /// word's impact. `pairs` are the entry's words, each by its number, with their impacts.
 ///
-/// Returns `Damaged`, `Disk`, `NoRoom`, `Stopped`, or `Memory` as [`row`] and [`set_row`] do; on a well-formed map whose pages
+/// Returns `Damaged`, `Disk`, `NoRoom`, `Stopped`, or `Memory` as [`row`](crate::row()) and [`set_row`](crate::set_row) do; on a well-formed map whose pages
 /// are told no page is damaged. After a failure `tree` is as before, and pages may have changed: they are to be abandoned.
 ///
-/// Costs a call of [`row`] for each pair, and one of [`set_row`] for each byte that rises.
+/// Looks at one page a level of the rows' map for each pair. If the byte rises, writes the leaf alone where the row is there, and
+/// costs a call of `set_row` where it isn't.
 pub fn raise<P: Pages>(
     pages: &mut P,
     tree: &mut Tree,

@@ -5,15 +5,17 @@ ghost use Rattle.btree_nodes.specs.Damages.{AreTold};
 ghost use Rattle.btree_nodes.specs.Supply.{View, view};
 ghost use Rattle.node_inverted.specs.Rows.{Bytes, IsRows, bytes_in};
 ghost use Rattle.node_inverted.specs.Turns.{Turns};
+ghost use Rattle.node_inverted.specs.Copies.{IsCopy};
 ghost use Rattle.node_inverted.specs.Impacts.{refreshed, top_at, with_byte};
 ghost use Rattle.node_inverted.specs.Refreshing.{IsBounded, IsFrom, IsRefreshing, lesser_of, on_words, word_of};
 
 use crate::Tree;
 use crate::ahead::{Ahead, next_word, pass, row_ahead};
+use crate::leaf::{LeafCopy, next_in};
 use crate::next::next_row;
 use crate::raising::set_byte;
-use crate::rows::row;
-use crate::slots::greatest;
+use crate::rows::find_row;
+use crate::slots::{clear_row, greatest};
 use page_face::{Damage, PageFault, Pages};
 
 // Refreshes the slot at one word, the least one that lies ahead.
@@ -42,7 +44,7 @@ fn refresh_word<P: Pages>(
     let low = row_ahead(below, number);
     let high = row_ahead(above, number);
     let byte = greatest(&low);
-    set_byte(pages, tree, node, slot, number, &high, byte)?;
+    set_byte(pages, tree, node, slot, number, None, &high, byte)?;
     pass(pages, tree, child, number, below)?;
     pass(pages, tree, node, number, above)
 }
@@ -94,7 +96,7 @@ pub fn refresh<P: Pages>(
     Ok(())
 }
 
-// Refreshes the slot at one word.
+// Refreshes the slot at one word. The child's row is read out of a copy of a leaf.
 fn renew_one<P: Pages>(
     pages: &mut P,
     tree: &mut Tree,
@@ -102,31 +104,39 @@ fn renew_one<P: Pages>(
     slot: usize,
     child: u32,
     number: u64,
+    copy: &mut LeafCopy,
 ) -> Result<(), PageFault>
     requires { slot < 32 }
-    ensures turns { (free : List ℕ) → IsRows (view (P.pages pages.old) (P.count pages.old) (P.first pages.old) free) tree.old.rows
+    ensures turns { (b : Bytes) (free : List ℕ) → IsRows (view (P.pages pages.old) (P.count pages.old) (P.first pages.old) free) tree.old.rows
+        → ((w i : ℕ) → bytes_in (P.pages pages.old) tree.old.rows child w i ≡ b child w i) → IsCopy b child copy.old
         → OnOk result (Turns (view (P.pages pages.old) (P.count pages.old) (P.first pages.old) free) tree.old.rows (P.pages pages.new) (P.count pages.new) (P.first pages.new) tree.new.rows
         (with_byte node number slot (top_at (bytes_in (P.pages pages.old) tree.old.rows) child number) (bytes_in (P.pages pages.old) tree.old.rows))) }
+    ensures copy { (b : Bytes) (free : List ℕ) → IsRows (view (P.pages pages.old) (P.count pages.old) (P.first pages.old) free) tree.old.rows
+        → ((w i : ℕ) → bytes_in (P.pages pages.old) tree.old.rows child w i ≡ b child w i) → IsCopy b child copy.old → OnOk result (IsCopy b child copy.new) }
     ensures root { tree.new.root ≡ tree.old.root }
     ensures honest { (free : List ℕ) → IsRows (view (P.pages pages.old) (P.count pages.old) (P.first pages.old) free) tree.old.rows → AreTold (P.pages pages.old) (P.count pages.old)
         → (damage : Damage) → ¬ IsErrOf result (PageFault.Damaged damage) }
     ensures fails { FailsChanging P.Pages pages.old pages.new result }
     ensures frame { Changes P.Pages pages.old pages.new }
 {
-    let low = row(pages, tree, child, number)?;
-    let high = row(pages, tree, node, number)?;
+    let ahead = next_in(copy, pages, tree, child, number)?;
+    let low = row_ahead(&ahead, number);
     let byte = greatest(&low);
-    set_byte(pages, tree, node, slot, number, &high, byte)
+    let mut high = clear_row();
+    let spot = find_row(pages, tree, node, number, &mut high)?;
+    set_byte(pages, tree, node, slot, number, spot, &high, byte)
 }
 
 /// Makes the bytes of these words at a slot of a node the greatest of their bytes in the slot's child. All other bytes stay. It is
 /// [`refresh`] for a child of which no other word has changed, and goes through no other row; of `words` the numbers count alone.
 ///
-/// Returns `Damaged`, `Disk`, `NoRoom`, `Stopped`, or `Memory` as [`row`] and [`set_row`](crate::set_row) do; on a well-formed
+/// Returns `Damaged`, `Disk`, `NoRoom`, `Stopped`, or `Memory` as [`row`](crate::row()) and [`set_row`](crate::set_row) do; on a well-formed
 /// map whose pages are told no page is damaged. After a failure `tree` is as before, and pages may have changed: they are to be
 /// abandoned.
 ///
-/// Costs two calls of [`row`] for each word, and one of `set_row` for each byte that differs.
+/// For words in the order of their numbers whose rows at the child stand in L leaves of the rows' map, goes down for the child's rows as
+/// [`words_of`](crate::words_of) does, and once more for each word. If the byte differs, writes the leaf alone where the node's
+/// row is there and some byte of it stays, and else costs a call of `set_row`.
 pub fn renew<P: Pages>(
     pages: &mut P,
     tree: &mut Tree,
@@ -149,8 +159,9 @@ pub fn renew<P: Pages>(
     ensures frame { Changes P.Pages pages.old pages.new }
 {
     let mut changed = *tree;
+    let mut copy = LeafCopy::none();
     for pair in words {
-        renew_one(pages, &mut changed, node, slot, child, pair.0)?;
+        renew_one(pages, &mut changed, node, slot, child, pair.0, &mut copy)?;
     }
     *tree = changed;
     Ok(())

@@ -1,11 +1,12 @@
 //! The row of a node for a word.
-ghost use Rattle.std.specs.Prelude.{◌≡◌, ◌⊎◌, ℕ, List, IfOk, OnOk, OnErr, IsErrOf};
+ghost use Rattle.std.specs.Prelude.{◌≡◌, ◌⊎◌, ℕ, List, IfOk, IfSome, OnOk, OnErr, IsErrOf};
 ghost use Rattle.page_face.specs.Calls.{Reads, Changes, FailsReading, FailsChanging};
 ghost use Rattle.btree_nodes.specs.Damages.{AreTold, AskedSince, AsksOnly, IsRefusedTake};
 ghost use Rattle.btree_nodes.specs.Rows.{put, without};
 ghost use Rattle.btree_nodes.specs.Supply.{view};
 ghost use Rattle.btree_nodes.specs.Tree.{IsMap, map_rows, map_uses};
 ghost use Rattle.paged_map.specs.Maps.{AreCounted, HasBecome, IsKept, IsMapDamaged};
+ghost use Rattle.paged_map.specs.Spots.{IsSpot};
 ghost use Rattle.rtree_shape.specs.Stock.{rows_form};
 ghost use Rattle.node_inverted.specs.Rows.{HasBytes, IsRows, bytes_in, key_of};
 ghost use Rattle.node_inverted.specs.Turns.{Turns, with_row};
@@ -15,7 +16,7 @@ use crate::key::RowKey;
 use crate::layout::WordRows;
 use crate::slots::{clear_row, is_clear};
 use page_face::{Damage, PageFault, Pages};
-use paged_map::PagedMap;
+use paged_map::{PagedMap, RowSpot};
 
 /// Returns the row of a node for a word, by the word's number: zeros if there is none.
 ///
@@ -47,6 +48,35 @@ pub fn row<P: Pages>(
     match PagedMap::<WordRows>::at(tree.rows).get(pages, &key, &mut row)? {
         Some(_) => Ok(row),
         None => Ok(clear_row()),
+    }
+}
+
+/// Returns where the row of a node for a word stands, if there is one, and leaves its bytes in `row`: zeros if there is none. The
+/// row's leaf is then the page looked at.
+///
+/// Fails as [`row`](row()) does, and costs as much.
+pub(crate) fn find_row<P: Pages>(
+    pages: &mut P,
+    tree: &Tree,
+    node: u32,
+    number: u64,
+    row: &mut [u8; 32],
+) -> Result<Option<RowSpot>, PageFault>
+    ensures row { IsMap rows_form (P.pages pages.old) tree.now.rows
+        → OnOk result (HasBytes row.new (bytes_in (P.pages pages.old) tree.now.rows node number)) }
+    ensures spot { IfOk result (λ found. IfSome found (IsSpot rows_form (P.pages pages.new) (P.count pages.new) tree.now.rows (P.looked pages.new) (key_of node number))) }
+    ensures honest { IsMap rows_form (P.pages pages.old) tree.now.rows → AreCounted (map_uses rows_form (P.pages pages.old) tree.now.rows) (P.count pages.old)
+        → AreTold (P.pages pages.old) (P.count pages.old) → (damage : Damage) → ¬ IsErrOf result (PageFault.Damaged damage) }
+    ensures fails { FailsReading P.Pages pages.old pages.new result }
+    ensures frame { Reads P.Pages pages.old pages.new }
+{
+    let key = RowKey { node, number }.bytes();
+    match PagedMap::<WordRows>::at(tree.rows).find(pages, &key, row)? {
+        Some(spot) => Ok(Some(spot)),
+        None => {
+            *row = clear_row();
+            Ok(None)
+        }
     }
 }
 
@@ -137,5 +167,60 @@ pub fn set_row<P: Pages>(
         remove_row(pages, tree, key)
     } else {
         put_row(pages, tree, key, row)
+    }
+}
+
+// Puts other bytes at the spot of a row that was found. The root stays.
+fn replace_row<P: Pages>(
+    pages: &mut P,
+    tree: &Tree,
+    key: RowKey,
+    spot: &RowSpot,
+    row: &[u8; 32],
+) -> Result<(), PageFault>
+    requires spot { IsSpot rows_form (P.pages pages.old) (P.count pages.old) tree.now.rows (P.looked pages.old) (key_of key.node key.number) spot.now }
+    ensures put { (free : List ℕ) → IsKept rows_form (view (P.pages pages.old) (P.count pages.old) (P.first pages.old) free) tree.now.rows
+        → OnOk result (HasBecome rows_form (view (P.pages pages.old) (P.count pages.old) (P.first pages.old) free) (P.pages pages.new) (P.count pages.new) (P.first pages.new) tree.now.rows tree.now.rows
+        (put (key_of key.node key.number) row.now (map_rows rows_form (P.pages pages.old) tree.now.rows))) }
+    ensures honest { (damage : Damage) → ¬ IsErrOf result (PageFault.Damaged damage) }
+    ensures fails { FailsChanging P.Pages pages.old pages.new result }
+    ensures frame { Changes P.Pages pages.old pages.new }
+{
+    let map = PagedMap::<WordRows>::at(tree.rows);
+    map.replace(pages, spot, &key.bytes(), row)
+}
+
+/// Sets the row of a node for a word, which [`find_row`] has looked for: no other page was looked at since, and no page has changed.
+///
+/// Fails as [`set_row`] does. Writes the row's leaf alone, with no way down, if the row was found and some byte of it stays. Else
+/// costs as much as [`set_row`].
+pub(crate) fn set_found<P: Pages>(
+    pages: &mut P,
+    tree: &mut Tree,
+    node: u32,
+    number: u64,
+    spot: Option<RowSpot>,
+    row: &[u8; 32],
+) -> Result<(), PageFault>
+    requires spot { IfSome spot (IsSpot rows_form (P.pages pages.old) (P.count pages.old) tree.old.rows (P.looked pages.old) (key_of node number)) }
+    ensures turns { (free : List ℕ) → IsRows (view (P.pages pages.old) (P.count pages.old) (P.first pages.old) free) tree.old.rows
+        → OnOk result (Turns (view (P.pages pages.old) (P.count pages.old) (P.first pages.old) free) tree.old.rows (P.pages pages.new) (P.count pages.new) (P.first pages.new) tree.new.rows
+        (with_row node number row.now (bytes_in (P.pages pages.old) tree.old.rows))) }
+    ensures root { tree.new.root ≡ tree.old.root }
+    ensures kept { OnErr result (tree.new ≡ tree.old) }
+    ensures honest { (free : List ℕ) → IsKept rows_form (view (P.pages pages.old) (P.count pages.old) (P.first pages.old) free) tree.old.rows
+        → (damage : Damage) → ¬ IsErrOf result (PageFault.Damaged damage) }
+    ensures fails { FailsChanging P.Pages pages.old pages.new result }
+    ensures frame { Changes P.Pages pages.old pages.new }
+{
+    match spot {
+        Some(spot) => {
+            if is_clear(row) {
+                set_row(pages, tree, node, number, row)
+            } else {
+                replace_row(pages, tree, RowKey { node, number }, &spot, row)
+            }
+        }
+        None => set_row(pages, tree, node, number, row),
     }
 }

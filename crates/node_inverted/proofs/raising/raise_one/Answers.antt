@@ -19,11 +19,11 @@ returns-clause-turns g c = λ free rows.
     let root : ℕ = c.args.tree.now.rows in
     let before : View = view old (g.P.Pages.count c.args.pages.now) (g.P.Pages.first c.args.pages.now) free in
     let b : Bytes = bytes_in old root in
-    let r = c.row.ensures.frame in
-    let v = view-same (g.P.Pages.pages c.row.new.pages) old (g.P.Pages.count c.row.new.pages) (g.P.Pages.count c.args.pages.now) (g.P.Pages.first c.row.new.pages) (g.P.Pages.first c.args.pages.now) free r.pages r.count r.first in
+    let r = c.find_row.ensures.frame in
+    let v = view-same (g.P.Pages.pages c.find_row.new.pages) old (g.P.Pages.count c.find_row.new.pages) (g.P.Pages.count c.args.pages.now) (g.P.Pages.first c.find_row.new.pages) (g.P.Pages.first c.args.pages.now) free r.pages r.count r.first in
     let word : ℕ = c.args.pair.0 in
-    let there = c.in_ok-there.ensures.row rows.kept.map in
-    let step = subst (λ (w : View). IsRows w root → HasBytes c.in_ok-there.there (bytes_in w.pages root c.args.node word)
+    let there = c.in_ok-spot.ensures.row rows.kept.map in
+    let step = subst (λ (w : View). IsRows w root → HasBytes c.find_row.new.row (bytes_in w.pages root c.args.node word)
     → OnOk c.set_byte.result (Turns w root (g.P.Pages.pages c.set_byte.new.pages) (g.P.Pages.count c.set_byte.new.pages) (g.P.Pages.first c.set_byte.new.pages) c.set_byte.new.tree.rows
     (with_byte c.args.node word c.args.slot c.greater-byte.result (bytes_in w.pages root)))) v (c.set_byte.ensures.turns free) in
     on_ok_weaker c.set_byte.result (λ h. turns-as before root (g.P.Pages.pages c.set_byte.new.pages) (g.P.Pages.count c.set_byte.new.pages) (g.P.Pages.first c.set_byte.new.pages) c.set_byte.new.tree.rows
@@ -31,15 +31,15 @@ returns-clause-turns g c = λ free rows.
     (byte-raised c.args.node word c.args.slot c.greater-byte.result b c.args.pair.1 (c.greater-byte.ensures ∙ ap (max c.args.pair.1) (there c.args.slot))) h)
     (step rows there)
 
-pub returns-in_err-there-clause-honest : goal.returns-in_err-there-clause-honest
-returns-in_err-there-clause-honest g c free rows told damage =
+pub returns-in_err-spot-clause-honest : goal.returns-in_err-spot-clause-honest
+returns-in_err-spot-clause-honest g c free rows told damage =
     let before : View = view (g.P.Pages.pages c.args.pages.now) (g.P.Pages.count c.args.pages.now) (g.P.Pages.first c.args.pages.now) free in
     let p = err_from_is_err_and c.from_residual.result c.from_residual.ensures.1 in
-    λ e. (let same : c.in_err-there.field-0.0 ≡ Damaged damage = cc (p.1, p.2, e) in
-    c.in_err-there.ensures.honest rows.kept.map (kept-counted rows_form before c.args.tree.now.rows rows.kept) told damage (ap Err same))
+    λ e. (let same : c.in_err-spot.field-0.0 ≡ Damaged damage = cc (p.1, p.2, e) in
+    c.in_err-spot.ensures.honest rows.kept.map (kept-counted rows_form before c.args.tree.now.rows rows.kept) told damage (ap Err same))
 
 pub returns-clause-honest : goal.returns-clause-honest
 returns-clause-honest g c free rows told damage =
-    let r = c.row.ensures.frame in
-    let kept : IsRows (view (g.P.Pages.pages c.row.new.pages) (g.P.Pages.count c.row.new.pages) (g.P.Pages.first c.row.new.pages) free) c.args.tree.now.rows = rw (r.pages, r.count, r.first) rows in
+    let r = c.find_row.ensures.frame in
+    let kept : IsRows (view (g.P.Pages.pages c.find_row.new.pages) (g.P.Pages.count c.find_row.new.pages) (g.P.Pages.first c.find_row.new.pages) free) c.args.tree.now.rows = rw (r.pages, r.count, r.first) rows in
     c.set_byte.ensures.honest free kept damage

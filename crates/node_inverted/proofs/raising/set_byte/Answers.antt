@@ -21,10 +21,10 @@ pub returns-clause-turns : goal.returns-clause-turns
 returns-clause-turns g c = λ free rows is.
     let before : View = view (g.P.Pages.pages c.args.pages.now) (g.P.Pages.count c.args.pages.now) (g.P.Pages.first c.args.pages.now) free in
     let b : Bytes = bytes_in (g.P.Pages.pages c.args.pages.now) c.args.tree.now.rows in
-    on_ok_weaker c.set_row.result (λ h. turns-as before c.args.tree.now.rows (g.P.Pages.pages c.set_row.new.pages) (g.P.Pages.count c.set_row.new.pages) (g.P.Pages.first c.set_row.new.pages) c.set_row.new.tree.rows
+    on_ok_weaker c.set_found.result (λ h. turns-as before c.args.tree.now.rows (g.P.Pages.pages c.set_found.new.pages) (g.P.Pages.count c.set_found.new.pages) (g.P.Pages.first c.set_found.new.pages) c.set_found.new.tree.rows
     (with_row c.args.node c.args.number c.put_byte.new.row b) (with_byte c.args.node c.args.number c.args.slot c.args.byte b)
     (byte-set c.args.node c.args.number c.args.slot c.args.byte b c.args.row.now c.put_byte.new.row is c.put_byte.ensures) h)
-    (c.set_row.ensures.turns free rows)
+    (c.set_found.ensures.turns free rows)
 
 pub returns-clause-honest : goal.returns-clause-honest
-returns-clause-honest g c free rows damage = c.set_row.ensures.honest free rows.kept damage
+returns-clause-honest g c free rows damage = c.set_found.ensures.honest free rows.kept damage

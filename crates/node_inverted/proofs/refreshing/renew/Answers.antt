@@ -17,6 +17,7 @@ pub loop-pair-init : goal.loop-pair-init
 loop-pair-init g c = record {
   root = refl;
   turns = λ free rows apart. turns-same (view (g.P.Pages.pages c.args.pages.now) (g.P.Pages.count c.args.pages.now) (g.P.Pages.first c.args.pages.now) free) c.args.tree.now.rows rows;
+  copy = λ free rows apart. c.none-copy.ensures (bytes_in (g.P.Pages.pages c.args.pages.now) c.args.tree.now.rows) c.args.child;
   frame = changes-none g.P.Pages c.args.pages.now (g.met.P.Pages.stays c.args.pages.now);
 }
 
@@ -42,7 +43,13 @@ loop-pair-preserved g c = record {
       (with_byte node p.0 slot (top_at now child p.0) now) d
       (λ n w i. renewed-next node slot child b now front apart turn.is p (top_at now child p.0) (top-at-same now b child p.0 (λ j. child-same node slot child b now front apart turn.is p.0 j)) n w i
       ∙ ap (λ (ps : List (ℕ × ℕ)). on_words ps f b n w i) (sym (take_more c.args.words.now c.loop-pair.pair-index (0, 0) l)))
-      (c.in_ok-renew_one.ensures.turns turn.free turn.rows));
+      (c.in_ok-renew_one.ensures.turns b turn.free turn.rows (λ w i. child-same node slot child b now front apart turn.is w i) (c.loop-pair.invariant.copy free rows apart)));
+  copy = λ free rows apart.
+      let b : Bytes = bytes_in (g.P.Pages.pages c.args.pages.now) c.args.tree.now.rows in
+      let turn = c.loop-pair.invariant.turns free rows apart in
+      let front : List (ℕ × ℕ) = take c.loop-pair.pair-index c.args.words.now in
+      let now : Bytes = bytes_in (g.P.Pages.pages c.loop-pair.pages) c.loop-pair.changed.rows in
+      c.in_ok-renew_one.ensures.copy b turn.free turn.rows (λ w i. child-same c.args.node c.args.slot c.args.child b now front apart turn.is w i) (c.loop-pair.invariant.copy free rows apart);
   frame = changes_then g.P.Pages g.met.P.Pages.goes_further _ _ _ c.loop-pair.invariant.frame c.renew_one.ensures.frame;
 }
 

@@ -3,6 +3,7 @@ use Rattle.page_face.specs.Calls.{Changes}
 use Rattle.btree_nodes.specs.Supply.{view}
 use Rattle.node_inverted.specs.Rows.{IsRows, bytes_in}
 use Rattle.node_inverted.specs.Turns.{Turns}
+use Rattle.node_inverted.specs.Copies.{IsCopy}
 use Rattle.node_inverted.specs.Impacts.{refreshed}
 use Rattle.node_inverted.specs.Refreshing.{on_words}
 use Rattle.node_inverted.proofs.refreshing.renew.Given as goal
@@ -16,5 +17,7 @@ invariant-loop-pair g l =
       turns : (free : List ℕ) → IsRows (view (p.pages l.fn.pages) (p.count l.fn.pages) (p.first l.fn.pages) free) l.fn.tree.rows → (l.node ≡ l.child → ⊥)
           → Turns (view (p.pages l.fn.pages) (p.count l.fn.pages) (p.first l.fn.pages) free) l.fn.tree.rows (p.pages l.pages) (p.count l.pages) (p.first l.pages) l.changed.rows
           (on_words (take l.pair-index l.words) (refreshed l.node l.slot l.child (bytes_in (p.pages l.fn.pages) l.fn.tree.rows)) (bytes_in (p.pages l.fn.pages) l.fn.tree.rows));
+      copy : (free : List ℕ) → IsRows (view (p.pages l.fn.pages) (p.count l.fn.pages) (p.first l.fn.pages) free) l.fn.tree.rows → (l.node ≡ l.child → ⊥)
+          → IsCopy (bytes_in (p.pages l.fn.pages) l.fn.tree.rows) l.child l.copy;
       frame : Changes p l.fn.pages l.pages;
     }
