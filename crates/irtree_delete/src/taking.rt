@@ -135,9 +135,9 @@ fn relink<P: Pages>(
 ///
 /// Refuses `Damaged` with the rule that a page on the path breaks, with `Value` at a page whose slot on the path isn't used, or as the rows' calls do;
 /// `Disk`; `NoRoom`; `Stopped`; `Memory`. After a refusal some pages may be written, and `tree` says nothing. Reads one page a level, and writes
-/// one a level at most: a node of which neither the slots nor the rectangle changed isn't written. Costs a row for each of the words at the leaf; a row
-/// of the child and one of the node for each of them a level above, or a call of `refresh` where nodes were dissolved below; and a call of `take_rows`
-/// for each node that is dissolved.
+/// one a level at most: a node of which neither the slots nor the rectangle changed isn't written. Costs a call of
+/// `set_impact` for each of the words at the leaf; a call of `renew` a level above, or of `refresh` where nodes were dissolved below; and a call of
+/// `take_rows` for each node that is dissolved.
 pub fn take_out<P: Pages>(
     alloc: Global,
     pages: &mut P,

@@ -7,11 +7,12 @@ ghost use Rattle.paged_map.specs.Maps.{AreCounted};
 ghost use Rattle.rtree_shape.specs.Stock.{rows_form};
 ghost use Rattle.node_inverted.specs.Rows.{Bytes, bytes_in};
 ghost use Rattle.node_inverted.specs.Turns.{Next};
+ghost use Rattle.node_inverted.specs.Copies.{IsCopy};
 ghost use Rattle.node_inverted.specs.Refreshing.{IsFrom, byte_ahead, is_due_at, lesser_of, word_of};
 
 use crate::Tree;
 use crate::ascent::after;
-use crate::next::next_row;
+use crate::leaf::{LeafCopy, next_in};
 use crate::slots::clear_row;
 use page_face::{Damage, PageFault, Pages};
 
@@ -66,16 +67,17 @@ fn is_due(ahead: &Ahead, number: u64) -> bool
     }
 }
 
-/// Reads the next row of a node, if the one that lies ahead is done with this word.
+/// Reads the next row of a node, if the one that lies ahead is done with this word. It is read out of a copy of a leaf.
 pub(crate) fn pass<P: Pages>(
     pages: &mut P,
     tree: &Tree,
     node: u32,
     number: u64,
     ahead: &mut Ahead,
+    copy: &mut LeafCopy,
 ) -> Result<(), PageFault>
     ensures ahead { (b : Bytes) (k : ℕ) → IsMap rows_form (P.pages pages.old) tree.now.rows → ((w i : ℕ) → number < w → bytes_in (P.pages pages.old) tree.now.rows node w i ≡ b node w i)
-        → k ≤ number → Next b node k ahead.old → OnOk result (Next b node (number + 1) ahead.new) }
+        → k ≤ number → Next b node k ahead.old → IsCopy b node copy.old → OnOk result (Next b node (number + 1) ahead.new × IsCopy b node copy.new) }
     ensures past { OnOk result (IsFrom (number + 1) ahead.new) }
     ensures honest { IsMap rows_form (P.pages pages.old) tree.now.rows → AreCounted (map_uses rows_form (P.pages pages.old) tree.now.rows) (P.count pages.old)
         → AreTold (P.pages pages.old) (P.count pages.old) → (damage : Damage) → ¬ IsErrOf result (PageFault.Damaged damage) }
@@ -87,7 +89,7 @@ pub(crate) fn pass<P: Pages>(
     }
     match after(number) {
         Some(from) => {
-            let next = next_row(pages, tree, node, from)?;
+            let next = next_in(copy, pages, tree, node, from)?;
             *ahead = next;
             Ok(())
         }

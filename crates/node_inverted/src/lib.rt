@@ -31,7 +31,7 @@ pub use dropping::drop_node;
 pub use moving::move_slots;
 pub use next::next_row;
 pub use pairing::like;
-pub use raising::raise;
+pub use raising::{raise, set_impact};
 pub use refreshing::{refresh, renew};
 pub use roots::Tree;
 pub use rows::{row, set_row};

@@ -47,6 +47,40 @@ pub(crate) fn set_byte<P: Pages>(
     set_found(pages, tree, node, number, spot, &changed)
 }
 
+/// Sets the byte of a word at a slot of a node.
+///
+/// Returns `Damaged`, `Disk`, `NoRoom`, `Stopped`, or `Memory` as [`row`](crate::row()) and [`set_row`](crate::set_row) do; on a
+/// well-formed map whose pages are told no page is damaged. After a failure `tree` is as before, and pages may have changed: they
+/// are to be abandoned.
+///
+/// Looks at one page a level of the rows' map. If the byte differs, writes the leaf alone where the row is there and some byte of it
+/// stays, and else costs a call of `set_row`.
+pub fn set_impact<P: Pages>(
+    pages: &mut P,
+    tree: &mut Tree,
+    node: u32,
+    slot: usize,
+    number: u64,
+    impact: u8,
+) -> Result<(), PageFault>
+    requires { slot < 32 }
+    ensures turns { (free : List ℕ) → IsRows (view (P.pages pages.old) (P.count pages.old) (P.first pages.old) free) tree.old.rows
+        → OnOk result (Turns (view (P.pages pages.old) (P.count pages.old) (P.first pages.old) free) tree.old.rows (P.pages pages.new) (P.count pages.new) (P.first pages.new) tree.new.rows
+        (with_byte node number slot impact (bytes_in (P.pages pages.old) tree.old.rows))) }
+    ensures root { tree.new.root ≡ tree.old.root }
+    ensures kept { OnErr result (tree.new ≡ tree.old) }
+
+    // On a well-formed map and a free list that ends at 0 no page is damaged.
+    ensures honest { (free : List ℕ) → IsRows (view (P.pages pages.old) (P.count pages.old) (P.first pages.old) free) tree.old.rows → AreTold (P.pages pages.old) (P.count pages.old)
+        → (damage : Damage) → ¬ IsErrOf result (PageFault.Damaged damage) }
+    ensures fails { FailsChanging P.Pages pages.old pages.new result }
+    ensures frame { Changes P.Pages pages.old pages.new }
+{
+    let mut there = clear_row();
+    let spot = find_row(pages, tree, node, number, &mut there)?;
+    set_byte(pages, tree, node, slot, number, spot, &there, impact)
+}
+
 // Raises one slot of one row.
 fn raise_one<P: Pages>(
     pages: &mut P,

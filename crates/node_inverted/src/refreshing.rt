@@ -12,7 +12,6 @@ ghost use Rattle.node_inverted.specs.Refreshing.{IsBounded, IsFrom, IsRefreshing
 use crate::Tree;
 use crate::ahead::{Ahead, next_word, pass, row_ahead};
 use crate::leaf::{LeafCopy, next_in};
-use crate::next::next_row;
 use crate::raising::set_byte;
 use crate::rows::find_row;
 use crate::slots::{clear_row, greatest};
@@ -28,11 +27,14 @@ fn refresh_word<P: Pages>(
     number: u64,
     below: &mut Ahead,
     above: &mut Ahead,
+    below_copy: &mut LeafCopy,
+    above_copy: &mut LeafCopy,
 ) -> Result<(), PageFault>
     requires { slot < 32 }
     ensures turns { (before : View) (root : ℕ) (b : Bytes) → IsBounded b → (node ≡ child → ⊥) → lesser_of (word_of below.old) (word_of above.old) ≡ Some number
         → IsRefreshing before root (P.pages pages.old) (P.count pages.old) (P.first pages.old) tree.old.rows node slot child b below.old above.old
-        → OnOk result (IsRefreshing before root (P.pages pages.new) (P.count pages.new) (P.first pages.new) tree.new.rows node slot child b below.new above.new) }
+        → IsCopy b child below_copy.old → IsCopy b node above_copy.old
+        → OnOk result (IsRefreshing before root (P.pages pages.new) (P.count pages.new) (P.first pages.new) tree.new.rows node slot child b below.new above.new × IsCopy b child below_copy.new × IsCopy b node above_copy.new) }
     ensures past { OnOk result (IsFrom (number + 1) below.new × IsFrom (number + 1) above.new) }
     ensures root { tree.new.root ≡ tree.old.root }
     ensures honest { (before : View) (root : ℕ) (b : Bytes) → (node ≡ child → ⊥) → lesser_of (word_of below.old) (word_of above.old) ≡ Some number
@@ -45,18 +47,18 @@ fn refresh_word<P: Pages>(
     let high = row_ahead(above, number);
     let byte = greatest(&low);
     set_byte(pages, tree, node, slot, number, None, &high, byte)?;
-    pass(pages, tree, child, number, below)?;
-    pass(pages, tree, node, number, above)
+    pass(pages, tree, child, number, below, below_copy)?;
+    pass(pages, tree, node, number, above, above_copy)
 }
 
 /// Makes the byte of each word at a slot of a node the greatest of the words' bytes in the slot's child. All other bytes stay.
 ///
-/// Returns `Damaged`, `Disk`, `NoRoom`, `Stopped`, or `Memory` as [`next_row`] and [`set_row`](crate::set_row) do; on a
+/// Returns `Damaged`, `Disk`, `NoRoom`, `Stopped`, or `Memory` as [`next_row`](crate::next_row) and [`set_row`](crate::set_row) do; on a
 /// well-formed map whose pages are told no page is damaged. After a failure `tree` is as before, and pages may have changed:
 /// they are to be abandoned.
 ///
-/// Goes through the rows of the child and of the node once, side by side: for C and W words of theirs, costs C + W + 2 calls of
-/// [`next_row`], and one of `set_row` for each byte that differs.
+/// Goes through the rows of the child and of the node once, side by side: if they stand in L leaves of the rows' map, costs at most
+/// L + 8 ways down, each of which looks at one page a level, and a call of `set_row` for each byte that differs.
 pub fn refresh<P: Pages>(
     pages: &mut P,
     tree: &mut Tree,
@@ -77,8 +79,10 @@ pub fn refresh<P: Pages>(
     ensures fails { FailsChanging P.Pages pages.old pages.new result }
     ensures frame { Changes P.Pages pages.old pages.new }
 {
-    let mut below = next_row(pages, tree, child, 0)?;
-    let mut above = next_row(pages, tree, node, 0)?;
+    let mut below_copy = LeafCopy::none();
+    let mut above_copy = LeafCopy::none();
+    let mut below = next_in(&mut below_copy, pages, tree, child, 0)?;
+    let mut above = next_in(&mut above_copy, pages, tree, node, 0)?;
     let mut changed = *tree;
     while let Some(number) = next_word(&below, &above) {
         refresh_word(
@@ -90,6 +94,8 @@ pub fn refresh<P: Pages>(
             number,
             &mut below,
             &mut above,
+            &mut below_copy,
+            &mut above_copy,
         )?;
     }
     *tree = changed;

@@ -23,7 +23,7 @@ loop-pair-init g c = record {
 
 pub loop-pair-preserved : goal.loop-pair-preserved
 loop-pair-preserved g c = record {
-  root = c.clear_word.ensures.root ∙ c.loop-pair.invariant.root;
+  root = c.set_impact.ensures.root ∙ c.loop-pair.invariant.root;
   turns = λ free rows.
       let before : View = view (g.P.Pages.pages c.args.pages.now) (g.P.Pages.count c.args.pages.now) (g.P.Pages.first c.args.pages.now) free in
       let b : Bytes = bytes_in (g.P.Pages.pages c.args.pages.now) c.args.tree.now.rows in
@@ -35,21 +35,21 @@ loop-pair-preserved g c = record {
       let now : Bytes = bytes_in (g.P.Pages.pages c.loop-pair.pages) c.loop-pair.changed.rows in
       let d : Bytes = on_words (take (c.loop-pair.pair-index + 1) c.args.words.now) f b in
       turns-further before c.args.tree.now.rows (g.P.Pages.pages c.loop-pair.pages) (g.P.Pages.count c.loop-pair.pages) (g.P.Pages.first c.loop-pair.pages) c.loop-pair.changed.rows (on_words front f b) turn
-      (g.P.Pages.pages c.clear_word.new.pages) (g.P.Pages.count c.clear_word.new.pages) (g.P.Pages.first c.clear_word.new.pages) c.clear_word.new.tree.rows d
-      (turns-as _ c.loop-pair.changed.rows (g.P.Pages.pages c.clear_word.new.pages) (g.P.Pages.count c.clear_word.new.pages) (g.P.Pages.first c.clear_word.new.pages) c.clear_word.new.tree.rows
+      (g.P.Pages.pages c.set_impact.new.pages) (g.P.Pages.count c.set_impact.new.pages) (g.P.Pages.first c.set_impact.new.pages) c.set_impact.new.tree.rows d
+      (turns-as _ c.loop-pair.changed.rows (g.P.Pages.pages c.set_impact.new.pages) (g.P.Pages.count c.set_impact.new.pages) (g.P.Pages.first c.set_impact.new.pages) c.set_impact.new.tree.rows
       (with_byte c.args.node p.0 c.args.slot 0 now) d
       (λ n w i. cleared-next c.args.node c.args.slot b now front turn.is p n w i
       ∙ ap (λ (ps : List (ℕ × ℕ)). on_words ps f b n w i) (sym (take_more c.args.words.now c.loop-pair.pair-index (0, 0) l)))
-      (c.in_ok-clear_word.ensures.turns turn.free turn.rows));
-  frame = changes_then g.P.Pages g.met.P.Pages.goes_further _ _ _ c.loop-pair.invariant.frame c.clear_word.ensures.frame;
+      (c.in_ok-set_impact.ensures.turns turn.free turn.rows));
+  frame = changes_then g.P.Pages g.met.P.Pages.goes_further _ _ _ c.loop-pair.invariant.frame c.set_impact.ensures.frame;
 }
 
-pub returns-in_err-clear_word-clause-honest : goal.returns-in_err-clear_word-clause-honest
-returns-in_err-clear_word-clause-honest g c free rows told damage =
+pub returns-in_err-set_impact-clause-honest : goal.returns-in_err-set_impact-clause-honest
+returns-in_err-set_impact-clause-honest g c free rows told damage =
     let before : View = view (g.P.Pages.pages c.args.pages.now) (g.P.Pages.count c.args.pages.now) (g.P.Pages.first c.args.pages.now) free in
     let b : Bytes = bytes_in (g.P.Pages.pages c.args.pages.now) c.args.tree.now.rows in
     let turn = c.loop-pair.invariant.turns free rows in
     let p = err_from_is_err_and c.from_residual.result c.from_residual.ensures.1 in
-    λ e. (let same : c.in_err-clear_word.field-0.0 ≡ Damaged damage = cc (p.1, p.2, e) in
-    c.in_err-clear_word.ensures.honest turn.free turn.rows (told-turned before c.args.tree.now.rows (g.P.Pages.pages c.loop-pair.pages) (g.P.Pages.count c.loop-pair.pages) (g.P.Pages.first c.loop-pair.pages) c.loop-pair.changed.rows
+    λ e. (let same : c.in_err-set_impact.field-0.0 ≡ Damaged damage = cc (p.1, p.2, e) in
+    c.in_err-set_impact.ensures.honest turn.free turn.rows (told-turned before c.args.tree.now.rows (g.P.Pages.pages c.loop-pair.pages) (g.P.Pages.count c.loop-pair.pages) (g.P.Pages.first c.loop-pair.pages) c.loop-pair.changed.rows
     (on_words (take c.loop-pair.pair-index c.args.words.now) (cleared c.args.node c.args.slot b) b) turn told) damage (ap Err same))

@@ -1,11 +1,25 @@
-use Rattle.std.proofs.Common.{◌≤◌, ◌^◌, ◌∙◌, sym, arith}
+use Rattle.std.proofs.Common.{◌≡◌, ◌≤◌, ◌+◌, ◌^◌, ◌∙◌, ℕ, sym, subst, arith}
 use Rattle.btree_nodes.specs.Tree.{map_rows}
 use Rattle.rtree_shape.specs.Stock.{rows_form}
+use Rattle.node_inverted.specs.Rows.{bytes_in}
+use Rattle.node_inverted.specs.Turns.{Next}
 use Rattle.node_inverted.proofs.Bytes.{bytes-large}
 use Rattle.node_inverted.proofs.ahead.pass.Goals as goal
 
 pub returns-in-None-clause-ahead : goal.returns-in-None-clause-ahead
-returns-in-None-clause-ahead g c = λ b k map same on next v i l.
-    let e = c.in-None.ensures.reached in
-    let big : 2 ^ 64 ≤ v = omega arith in
-    sym (same v i (omega arith)) ∙ bytes-large (map_rows rows_form (g.P.Pages.pages c.args.pages.now) c.args.tree.now.rows) c.args.node v i big
+returns-in-None-clause-ahead g c = λ b k map same on next held. (
+  λ v i l.
+      let e = c.in-None.ensures.reached in
+      let big : 2 ^ 64 ≤ v = omega arith in
+      sym (same v i (omega arith)) ∙ bytes-large (map_rows rows_form (g.P.Pages.pages c.args.pages.now) c.args.tree.now.rows) c.args.node v i big,
+  held,
+)
+
+pub returns-in_ok-next-in-Some-clause-ahead : goal.returns-in_ok-next-in-Some-clause-ahead
+returns-in_ok-next-in-Some-clause-ahead g c = λ b k map same on next held.
+    let node : ℕ = c.args.node in
+    let is : c.in-Some.from ≡ c.args.number + 1 = c.in-Some.ensures.reached in
+    let later : (w i : ℕ) → c.in-Some.from ≤ w → bytes_in (g.P.Pages.pages c.args.pages.now) c.args.tree.now.rows node w i ≡ b node w i = λ w i l. same w i (omega arith) in (
+      subst (λ (m : ℕ). Next b node m c.in_ok-next-in-Some.next) is (c.in_ok-next-in-Some.ensures.next b map later held),
+      c.in_ok-next-in-Some.ensures.copy b map later held,
+    )

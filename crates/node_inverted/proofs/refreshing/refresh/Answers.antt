@@ -1,4 +1,4 @@
-use Rattle.std.proofs.Common.{◌≡◌, ℕ, ◌∙◌, sym, ap, subst, None, Some, Err}
+use Rattle.std.proofs.Common.{◌≡◌, ◌≤◌, ℕ, ◌∙◌, refl, sym, ap, subst, None, Some, Err}
 use Rattle.std.proofs.lemmas.Result.{err_from_is_err_and}
 use Rattle.page_face.specs.FreeList.{PageMap}
 use Rattle.page_face.specs.declared.fault.PageFault.TheVariants.{Damaged}
@@ -10,7 +10,6 @@ use Rattle.paged_map.specs.Maps.{AreCounted}
 use Rattle.paged_map.proofs.Maps.{kept-counted}
 use Rattle.rtree_shape.specs.Stock.{rows_form}
 use Rattle.node_inverted.specs.Rows.{Bytes, bytes_in}
-use Rattle.node_inverted.specs.Turns.{Next}
 use Rattle.node_inverted.specs.Ascents.{until}
 use Rattle.node_inverted.specs.Impacts.{refreshed}
 use Rattle.node_inverted.specs.Refreshing.{IsBounded, lesser_of, word_of}
@@ -22,9 +21,10 @@ use Rattle.node_inverted.proofs.refreshing.refresh.Goals as goal
 pub loop-number-preserved : goal.loop-number-preserved
 loop-number-preserved g c = record {
   root = c.refresh_word.ensures.root ∙ c.loop-number.invariant.root;
-  turns = λ before root b bounded apart begun.
+  turns = λ before root b bounded apart begun begun_low begun_high.
+      let h = c.loop-number.invariant.turns before root b bounded apart begun begun_low begun_high in
       let first : lesser_of (word_of c.loop-number.below) (word_of c.loop-number.above) ≡ Some c.in-Some.number = sym c.next_word.ensures ∙ c.in-Some.is in
-      c.in_ok-refresh_word.ensures.turns before root b bounded apart first (c.loop-number.invariant.turns before root b bounded apart begun);
+      c.in_ok-refresh_word.ensures.turns before root b bounded apart first h.0 h.1 h.2;
   frame = changes_then g.P.Pages g.met.P.Pages.goes_further _ _ _ c.loop-number.invariant.frame c.refresh_word.ensures.frame;
 }
 
@@ -35,14 +35,20 @@ returns-clause-turns g c = λ free rows apart.
     let root : ℕ = c.args.tree.now.rows in
     let b : Bytes = bytes_in old root in
     let bounded : IsBounded b = λ n w i l. bytes-large (map_rows rows_form old root) n w i l in
-    let one = c.next_row.ensures.frame in
-    let two = c.next_row-2.ensures.frame in
-    let high = subst (λ (p : PageMap). Next (bytes_in p root) c.args.node 0 c.in_ok-above.above) one.pages (c.in_ok-above.ensures.next (subst (λ (p : PageMap). IsMap rows_form p root) (sym one.pages) rows.kept.map)) in
-    let begun = refresh-begins before root rows (g.P.Pages.pages c.next_row-2.new.pages) (g.P.Pages.count c.next_row-2.new.pages) (g.P.Pages.first c.next_row-2.new.pages) c.args.node c.args.slot c.args.child c.in_ok-below.below c.in_ok-above.above
-    (two.pages ∙ one.pages) (two.count ∙ one.count) (two.first ∙ one.first) (c.in_ok-below.ensures.next rows.kept.map) high in
+    let one = c.next_in.ensures.frame in
+    let two = c.next_in-2.ensures.frame in
+    let map' : IsMap rows_form (g.P.Pages.pages c.next_in.new.pages) root = subst (λ (p : PageMap). IsMap rows_form p root) (sym one.pages) rows.kept.map in
+    let same : (w i : ℕ) → 0 ≤ w → bytes_in (g.P.Pages.pages c.next_in.new.pages) root c.args.node w i ≡ b c.args.node w i = λ w i l. ap (λ (p : PageMap). bytes_in p root c.args.node w i) one.pages in
+    let none_low = c.none-below_copy.ensures b c.args.child in
+    let none_high = c.none-above_copy.ensures b c.args.node in
+    let held_low = c.in_ok-below.ensures.copy b rows.kept.map (λ w i l. refl) none_low in
+    let held_high = c.in_ok-above.ensures.copy b map' same none_high in
+    let high = c.in_ok-above.ensures.next b map' same none_high in
+    let begun = refresh-begins before root rows (g.P.Pages.pages c.next_in-2.new.pages) (g.P.Pages.count c.next_in-2.new.pages) (g.P.Pages.first c.next_in-2.new.pages) c.args.node c.args.slot c.args.child c.in_ok-below.below c.in_ok-above.above
+    (two.pages ∙ one.pages) (two.count ∙ one.count) (two.first ∙ one.first) (c.in_ok-below.ensures.next b rows.kept.map (λ w i l. refl) none_low) high in
     let none : lesser_of (word_of c.loop-number.below) (word_of c.loop-number.above) ≡ None = sym c.next_word.ensures ∙ c.in_default.is in
     refreshed-all before root (g.P.Pages.pages c.loop-number.pages) (g.P.Pages.count c.loop-number.pages) (g.P.Pages.first c.loop-number.pages) c.loop-number.changed.rows c.args.node c.args.slot c.args.child b c.loop-number.below c.loop-number.above bounded none
-    (c.loop-number.invariant.turns before root b bounded apart begun)
+    (c.loop-number.invariant.turns before root b bounded apart begun held_low held_high).0
 
 pub returns-in_err-refresh_word-clause-honest : goal.returns-in_err-refresh_word-clause-honest
 returns-in_err-refresh_word-clause-honest g c = λ free rows apart told damage.
@@ -51,13 +57,19 @@ returns-in_err-refresh_word-clause-honest g c = λ free rows apart told damage.
     let root : ℕ = c.args.tree.now.rows in
     let b : Bytes = bytes_in old root in
     let bounded : IsBounded b = λ n w i l. bytes-large (map_rows rows_form old root) n w i l in
-    let one = c.next_row.ensures.frame in
-    let two = c.next_row-2.ensures.frame in
-    let high = subst (λ (p : PageMap). Next (bytes_in p root) c.args.node 0 c.in_ok-above.above) one.pages (c.in_ok-above.ensures.next (subst (λ (p : PageMap). IsMap rows_form p root) (sym one.pages) rows.kept.map)) in
-    let begun = refresh-begins before root rows (g.P.Pages.pages c.next_row-2.new.pages) (g.P.Pages.count c.next_row-2.new.pages) (g.P.Pages.first c.next_row-2.new.pages) c.args.node c.args.slot c.args.child c.in_ok-below.below c.in_ok-above.above
-    (two.pages ∙ one.pages) (two.count ∙ one.count) (two.first ∙ one.first) (c.in_ok-below.ensures.next rows.kept.map) high in
+    let one = c.next_in.ensures.frame in
+    let two = c.next_in-2.ensures.frame in
+    let map' : IsMap rows_form (g.P.Pages.pages c.next_in.new.pages) root = subst (λ (p : PageMap). IsMap rows_form p root) (sym one.pages) rows.kept.map in
+    let same : (w i : ℕ) → 0 ≤ w → bytes_in (g.P.Pages.pages c.next_in.new.pages) root c.args.node w i ≡ b c.args.node w i = λ w i l. ap (λ (p : PageMap). bytes_in p root c.args.node w i) one.pages in
+    let none_low = c.none-below_copy.ensures b c.args.child in
+    let none_high = c.none-above_copy.ensures b c.args.node in
+    let held_low = c.in_ok-below.ensures.copy b rows.kept.map (λ w i l. refl) none_low in
+    let held_high = c.in_ok-above.ensures.copy b map' same none_high in
+    let high = c.in_ok-above.ensures.next b map' same none_high in
+    let begun = refresh-begins before root rows (g.P.Pages.pages c.next_in-2.new.pages) (g.P.Pages.count c.next_in-2.new.pages) (g.P.Pages.first c.next_in-2.new.pages) c.args.node c.args.slot c.args.child c.in_ok-below.below c.in_ok-above.above
+    (two.pages ∙ one.pages) (two.count ∙ one.count) (two.first ∙ one.first) (c.in_ok-below.ensures.next b rows.kept.map (λ w i l. refl) none_low) high in
     let first : lesser_of (word_of c.loop-number.below) (word_of c.loop-number.above) ≡ Some c.in-Some.number = sym c.next_word.ensures ∙ c.in-Some.is in
-    let h = c.loop-number.invariant.turns before root b bounded apart begun in
+    let h = (c.loop-number.invariant.turns before root b bounded apart begun held_low held_high).0 in
     let still = told-turned before root (g.P.Pages.pages c.loop-number.pages) (g.P.Pages.count c.loop-number.pages) (g.P.Pages.first c.loop-number.pages) c.loop-number.changed.rows (until h.k (refreshed c.args.node c.args.slot c.args.child b) b) h.turn told in
     let p = err_from_is_err_and c.from_residual-in_err-refresh_word.result c.from_residual-in_err-refresh_word.ensures.1 in
     λ e. (let same : c.in_err-refresh_word.field-0.0 ≡ Damaged damage = cc (p.1, p.2, e) in
@@ -74,10 +86,10 @@ pub returns-in_err-above-clause-honest : goal.returns-in_err-above-clause-honest
 returns-in_err-above-clause-honest g c = λ free rows apart told damage.
     let before : View = view (g.P.Pages.pages c.args.pages.now) (g.P.Pages.count c.args.pages.now) (g.P.Pages.first c.args.pages.now) free in
     let root : ℕ = c.args.tree.now.rows in
-    let one = c.next_row.ensures.frame in
-    let map : IsMap rows_form (g.P.Pages.pages c.next_row.new.pages) root = rw one.pages rows.kept.map in
-    let counted : AreCounted (map_uses rows_form (g.P.Pages.pages c.next_row.new.pages) root) (g.P.Pages.count c.next_row.new.pages) = rw (one.pages, one.count) (kept-counted rows_form before root rows.kept) in
-    let told' : AreTold (g.P.Pages.pages c.next_row.new.pages) (g.P.Pages.count c.next_row.new.pages) = rw (one.pages, one.count) told in
+    let one = c.next_in.ensures.frame in
+    let map : IsMap rows_form (g.P.Pages.pages c.next_in.new.pages) root = rw one.pages rows.kept.map in
+    let counted : AreCounted (map_uses rows_form (g.P.Pages.pages c.next_in.new.pages) root) (g.P.Pages.count c.next_in.new.pages) = rw (one.pages, one.count) (kept-counted rows_form before root rows.kept) in
+    let told' : AreTold (g.P.Pages.pages c.next_in.new.pages) (g.P.Pages.count c.next_in.new.pages) = rw (one.pages, one.count) told in
     let p = err_from_is_err_and c.from_residual-in_err-above.result c.from_residual-in_err-above.ensures.1 in
     λ e. (let same : c.in_err-above.field-0.0 ≡ Damaged damage = cc (p.1, p.2, e) in
     c.in_err-above.ensures.honest map counted told' damage (ap Err same))

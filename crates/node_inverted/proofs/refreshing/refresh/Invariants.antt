@@ -3,6 +3,7 @@ use Rattle.page_face.specs.Calls.{Changes}
 use Rattle.btree_nodes.specs.Supply.{View}
 use Rattle.node_inverted.specs.Rows.{Bytes}
 use Rattle.node_inverted.specs.Ascents.{left_from}
+use Rattle.node_inverted.specs.Copies.{IsCopy}
 use Rattle.node_inverted.specs.Refreshing.{IsRefreshing, IsBounded, lesser_of, word_of}
 use Rattle.node_inverted.proofs.refreshing.refresh.Given as goal
 
@@ -14,7 +15,8 @@ invariant-loop-number g l =
       root : l.changed.root ≡ l.initial.changed.root;
       turns : (before : View) (root : ℕ) (b : Bytes) → IsBounded b → (l.node ≡ l.child → ⊥)
           → IsRefreshing before root (p.pages l.initial.pages) (p.count l.initial.pages) (p.first l.initial.pages) l.initial.changed.rows l.node l.slot l.child b l.initial.below l.initial.above
-          → IsRefreshing before root (p.pages l.pages) (p.count l.pages) (p.first l.pages) l.changed.rows l.node l.slot l.child b l.below l.above;
+          → IsCopy b l.child l.initial.below_copy → IsCopy b l.node l.initial.above_copy
+          → IsRefreshing before root (p.pages l.pages) (p.count l.pages) (p.first l.pages) l.changed.rows l.node l.slot l.child b l.below l.above × IsCopy b l.child l.below_copy × IsCopy b l.node l.above_copy;
       frame : Changes p l.initial.pages l.pages;
     }
 

@@ -18,7 +18,7 @@ use Rattle.node_inverted.proofs.Refreshes.{least, ahead-byte, top-row, refreshed
 use Rattle.node_inverted.proofs.refreshing.refresh_word.Goals as goal
 
 pub returns-clause-turns : goal.returns-clause-turns
-returns-clause-turns g c = λ before root b bounded apart first h.
+returns-clause-turns g c = λ before root b bounded apart first h held_low held_high.
     let old : PageMap = g.P.Pages.pages c.args.pages.now in
     let word : ℕ = c.args.number in
     let node : ℕ = c.args.node in
@@ -46,15 +46,20 @@ returns-clause-turns g c = λ before root b bounded apart first h.
     let one = c.pass.ensures.frame in
     let two = c.pass-2.ensures.frame in
     let small = c.ranges.number.fits in
-    on_ok_weaker c.pass-2.result (λ high'. record {
-      k = word + 1;
-      small = omega arith;
-      turn = turned-rest before root mid (g.P.Pages.pages c.pass-2.new.pages) (g.P.Pages.count c.set_byte.new.pages) (g.P.Pages.count c.pass-2.new.pages) (g.P.Pages.first c.set_byte.new.pages) (g.P.Pages.first c.pass-2.new.pages) c.set_byte.new.tree.rows d d
-          (two.pages ∙ one.pages) (two.count ∙ one.count) (two.first ∙ one.first) (λ n w i. λ j. d n w i) next;
-      low = c.in_ok-pass.ensures.ahead b k next.rows.kept.map (λ w i m. after child w i m) on h.low;
-      high = high';
-    }) (c.pass-2.ensures.ahead b k (subst (λ (p : PageMap). IsMap rows_form p c.set_byte.new.tree.rows) (sym one.pages) next.rows.kept.map)
-    (subst (λ (p : PageMap). (w i : ℕ) → word < w → bytes_in p c.set_byte.new.tree.rows node w i ≡ b node w i) (sym one.pages) (λ w i m. after node w i m)) on h.high)
+    let low' = c.in_ok-pass.ensures.ahead b k next.rows.kept.map (λ w i m. after child w i m) on h.low held_low in
+    on_ok_weaker c.pass-2.result (λ high'. (
+      record {
+        k = word + 1;
+        small = omega arith;
+        turn = turned-rest before root mid (g.P.Pages.pages c.pass-2.new.pages) (g.P.Pages.count c.set_byte.new.pages) (g.P.Pages.count c.pass-2.new.pages) (g.P.Pages.first c.set_byte.new.pages) (g.P.Pages.first c.pass-2.new.pages) c.set_byte.new.tree.rows d d
+            (two.pages ∙ one.pages) (two.count ∙ one.count) (two.first ∙ one.first) (λ n w i. λ j. d n w i) next;
+        low = low'.0;
+        high = high'.0;
+      },
+      low'.1,
+      high'.1,
+    )) (c.pass-2.ensures.ahead b k (subst (λ (p : PageMap). IsMap rows_form p c.set_byte.new.tree.rows) (sym one.pages) next.rows.kept.map)
+    (subst (λ (p : PageMap). (w i : ℕ) → word < w → bytes_in p c.set_byte.new.tree.rows node w i ≡ b node w i) (sym one.pages) (λ w i m. after node w i m)) on h.high held_high)
 
 pub returns-in_err-set_byte-clause-honest : goal.returns-in_err-set_byte-clause-honest
 returns-in_err-set_byte-clause-honest g c = λ before root b apart first h told damage.
