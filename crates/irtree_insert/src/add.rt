@@ -108,8 +108,8 @@ fn split<P: Pages>(
 /// Adds an item with its words to a node that stands at a counted page, in its lowest free slot, and writes it and the words' rows;
 /// or splits it if it is full.
 ///
-/// It writes one page and the rows of the words. A split goes through the node's rows, takes one page and writes two, and moves the
-/// rows of the entries that move.
+/// It writes one page and the rows of the words. A split goes twice through the node's rows, leaf by leaf, takes one page and writes two,
+/// and moves the rows of the entries that move, with two ways down for each.
 ///
 /// Refuses as `take`, `raise`, `like` and `move_slots` do; no page is damaged where the node may be written and the pages are told.
 /// After a failure pages may have changed: they are to be abandoned.

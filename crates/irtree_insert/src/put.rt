@@ -223,8 +223,8 @@ fn finish<P: Pages>(
 /// the page. Leaves have level 0; a place goes to level 0, a child to a level above. The policy chooses the way and the splits.
 ///
 /// It reads each node on the way once, and a row for each word. On the way back it raises a slot by the words, and writes a node if
-/// its own slots changed. Where a child was split it also goes through the rows of the new node, and reads a row of the child and one
-/// of the node above for each word of the new node. A row is written if it changes.
+/// its own slots changed. Where a child was split it also goes through the rows of the new node and of the child, leaf by leaf, and goes
+/// down for a row of the node above for each word of the new node. A row is written if it changes.
 ///
 /// Refuses `Damaged` if a page on the way is no node of the level that its place asks, or as the rows' calls do; none of it on
 /// well-formed pages that are told. Refuses as `take` does, `Disk`, `Stopped` and `Memory`: then pages may have changed, and are to
