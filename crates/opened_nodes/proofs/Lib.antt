@@ -6,3 +6,4 @@ pub mod Rankings
 pub mod Searches
 pub mod Walks
 pub mod Behinds
+pub mod Words

@@ -1,3 +1,4 @@
 pub mod Crowns
 pub mod Bounds
 pub mod Logs
+pub mod Words

@@ -47,8 +47,8 @@ pub record IsOpened (ids : Numbers) (query : Query) (nodes : NodeMap) (root : �
   pub from : (page ≡ root) ⊎ IsChildOfAsked nodes asked page
   pub called : CallsFor ids query found (page ≡ root) (crown_at nodes page)
 
--- an item in a slot of a leaf that was asked for gives the hit
-pub record IsFromAsked (nodes : NodeMap) (asked : List ℕ) (gives : Item → List Hit) (hit : Hit) : Type 0 where
+-- an item in a slot of a leaf that was asked for gives the value: a hit of a query, or what is made of one
+pub record IsFromAsked {X : Type 0} (nodes : NodeMap) (asked : List ℕ) (gives : Item → List X) (value : X) : Type 0 where
   pub leaf : ℕ
   pub among : Contains asked leaf
   pub level_is : (nodes leaf).level ≡ 0
@@ -56,7 +56,7 @@ pub record IsFromAsked (nodes : NodeMap) (asked : List ℕ) (gives : Item → Li
   pub within : at < 32
   pub item : Item
   pub is : (nodes leaf).slots at ≡ Some item
-  pub gave : Contains (gives item) hit
+  pub gave : Contains (gives item) value
 
 -- Few nodes were opened: each page asked for between two logs is one beside the tree, or a node that was opened; and each hit, as an item gives
 -- it, is from a leaf that was.
