@@ -10,7 +10,7 @@ use Rattle.place_map.specs.declared.query.Pick.{Pick}
 use Rattle.place_map.specs.declared.query.Chosen.{Chosen}
 use Rattle.place_map.specs.Group.{product, farthest, choice_cost, is_cheaper, least_of}
 use Rattle.place_map.specs.GroupLaws.{choices_linear, least_cost}
-use Rattle.collective_query.specs.Choices.{IsChoice, AreCut}
+use Rattle.collective_query.specs.Choices.{IsChoice, IsCut, AreCut}
 use Rattle.collective_query.proofs.Beyond.{dearer-after}
 use Rattle.collective_query.proofs.Costs.{farthest-cons}
 use Rattle.collective_query.proofs.Least.{costed, least-among, least-first, least-some, least-is}
@@ -24,6 +24,13 @@ cut-choice at most [] (c ∷ cuts) choice cut is = absurd cut
 cut-choice at most (l ∷ lists) [] choice cut is = absurd cut
 cut-choice at most (l ∷ lists) (c ∷ cuts) [] cut is = absurd is
 cut-choice at most (l ∷ lists) (c ∷ cuts) (pick ∷ picks) cut is = (cut.0.among pick is.0, cut-choice at most lists cuts picks cut.1 is.1)
+
+-- one list more, and its cut
+pub cut-push : (at : Position) (most : ℕ) (lists cuts : List (List Pick)) (list cut : List Pick) → AreCut at most lists cuts → IsCut at most list cut → AreCut at most (lists ++ list ∷ []) (cuts ++ cut ∷ [])
+cut-push at most [] [] list cut are is = (is, tt)
+cut-push at most [] (c ∷ cuts) list cut are is = absurd are
+cut-push at most (l ∷ lists) [] list cut are is = absurd are
+cut-push at most (l ∷ lists) (c ∷ cuts) list cut are is = (are.0, cut-push at most lists cuts list cut are.1 is)
 
 -- and one of the lists that lies near is one of the cut lists
 pub near-choice : (at : Position) (most : ℕ) (lists cuts : List (List Pick)) (choice : List Pick) → AreCut at most lists cuts → IsChoice lists choice → farthest at choice ≤ most → IsChoice cuts choice

@@ -8,3 +8,5 @@ pub mod Searches
 pub mod TreePicks
 pub mod Agreements
 pub mod Joins
+pub mod Firsts
+pub mod Opened

@@ -1,22 +1,22 @@
 -- The picks of a tree's entries, and the hits that they are made of.
-use Rattle.std.proofs.Common.{◌≡◌, ℕ, ◌≤◌, Bool, true, false, ◌&&◌, nat_lt, nat_le, if◌then◌else◌, List, [], ◌∷◌, ◌++◌, map, take, Option, Some, None, refl, sym, ap, subst, ◌∙◌, arith}
+use Rattle.std.proofs.Common.{◌≡◌, ℕ, ◌≤◌, Bool, true, false, ◌&&◌, nat_lt, nat_le, if◌then◌else◌, List, [], ◌∷◌, ◌++◌, map, Some, refl, sym, ap, subst, ◌∙◌, arith}
 use Rattle.std.proofs.lemmas.Bool.Decides.{nat_tests}
 use Rattle.std.proofs.lemmas.List.{map-append}
 use Rattle.std.specs.List.{AllByRecursion, Contains, flat_map}
-use Rattle.ranking.specs.First.{ranked, first, IsRanked}
+use Rattle.ranking.specs.First.{IsRanked}
 use Rattle.ranking.specs.Laws.{ranked_is}
 use Rattle.spatial_base.specs.Point.{Position, distance}
 use Rattle.best_first.proofs.Costs.{upto_cost}
-use Rattle.best_first.proofs.Lists.{all_in, all_weaker, all_taken, flat_all}
+use Rattle.best_first.proofs.Lists.{all_in, all_weaker, flat_all}
 use Rattle.place_map.specs.declared.hit.Hit.{Hit}
 use Rattle.place_map.specs.declared.query.Expr.TheVariants.{Has}
 use Rattle.place_map.specs.declared.query.Pick.{Pick}
-use Rattle.place_map.specs.Hit.{comes_before, hits_linear, listed}
+use Rattle.place_map.specs.Hit.{comes_before, hits_linear}
 use Rattle.rtree_shape.specs.Slots.{Item, NodeMap}
 use Rattle.tree_entries.specs.Numbers.{Numbers, impact_of}
 use Rattle.tree_entries.specs.Entries.{point_of, tree_places}
 use Rattle.tree_entries.specs.Hits.{hit_near, near_item, range_item}
-use Rattle.collective_query.specs.Choices.{IsCut, AreCut}
+use Rattle.collective_query.specs.Choices.{IsCut}
 use Rattle.collective_query.specs.Picks.{Ascends, AreSorted}
 use Rattle.collective_query.specs.TreePicks.{pick_in, pick_item, tree_picks, pick_from, word_hits, hits_within, near_picks}
 use Rattle.collective_query.proofs.Members.{contains-here, contains-flat, contains-map, all-among, all-ranked, among-ranked}
@@ -25,6 +25,25 @@ use Rattle.collective_query.proofs.Members.{contains-here, contains-flat, contai
 one-made : (there : Bool) (pick : Pick) (hit : Hit) (f : Hit → Pick) → pick ≡ f hit → (if there then pick ∷ [] else []) ≡ map f (if there then hit ∷ [] else [])
 one-made true pick hit f is = ap (λ p. p ∷ []) is
 one-made false pick hit f is = refl
+
+-- the picks that are made of hits in order, each of which costs its distance
+module _ (at : Position) (word : List ℕ) where
+  own-dists : (hits : List Hit) → AllByRecursion (λ (pick : Pick). pick.dist ≡ distance at pick.point) (map (pick_from at word) hits)
+  own-dists [] = tt
+  own-dists (h ∷ hits) = (refl, own-dists hits)
+
+  behind : (h : Hit) (hits : List Hit) → h.cost ≡ distance at h.point → AllByRecursion (λ y. comes_before y h ≡ false) hits → AllByRecursion (λ (hit : Hit). hit.cost ≡ distance at hit.point) hits
+      → AllByRecursion (λ (other : Pick). distance at h.point ≤ other.dist) (map (pick_from at word) hits)
+  behind h [] cost after costs = tt
+  behind h (y ∷ hits) cost after costs = (let le = upto_cost h y after.0 in let own_cost = costs.0 in omega arith, behind h hits cost after.1 costs.1)
+
+  rising : (hits : List Hit) → IsRanked comes_before hits → AllByRecursion (λ (hit : Hit). hit.cost ≡ distance at hit.point) hits → Ascends (map (pick_from at word) hits)
+  rising [] ranks costs = tt
+  rising (h ∷ hits) ranks costs = (behind h hits costs.0 ranks.0 costs.1, rising hits ranks.1 costs.1)
+
+  -- they come by distance
+  pub hits-sorted : (hits : List Hit) → IsRanked comes_before hits → AllByRecursion (λ (hit : Hit). hit.cost ≡ distance at hit.point) hits → AreSorted at (map (pick_from at word) hits)
+  hits-sorted hits ranks costs = record { dists = own-dists hits; ascends = rising hits ranks costs }
 
 module _ (ids : Numbers) (at : Position) (word : List ℕ) where
   made-each : (from : Position) (places : List Item) → flat_map (pick_item ids at word) places ≡ map (pick_from at word) (flat_map (near_item ids from (Some (Has word))) places)
@@ -41,27 +60,6 @@ module _ (ids : Numbers) (at : Position) (word : List ℕ) where
     -- a hit is the pick of an entry
     pub hit-among : (from : Position) (hit : Hit) → Contains (word_hits ids from nodes root word) hit → Contains (tree_picks ids at nodes root word) (pick_from at word hit)
     hit-among from hit c = subst (λ (picks : List Pick). Contains picks (pick_from at word hit)) (sym (picks-made from)) (contains-map (pick_from at word) (word_hits ids from nodes root word) hit c)
-
-    -- where no hit is nearest, no entry holds the word
-    pub none-nearest : (from : Position) (hit : Option Hit) → hit ≡ None → listed hit ≡ first comes_before 1 (word_hits ids from nodes root word) → tree_picks ids at nodes root word ≡ []
-    none-nearest from hit none is =
-        picks-made from ∙ ap (map (pick_from at word)) (no-hits (word_hits ids from nodes root word) (sym (ap listed none) ∙ is))
-      where
-        no-first : (hits : List Hit) → [] ≡ take 1 hits → (hit : Hit) → Contains hits hit → ⊥
-        no-first [] none hit c = let less = c.1 in omega arith
-        no-first (h ∷ hits) none hit c = cc
-
-        no-hits : (hits : List Hit) → [] ≡ first comes_before 1 hits → hits ≡ []
-        no-hits [] none = refl
-        no-hits (h ∷ hits) none = absurd (no-first (ranked comes_before (h ∷ hits)) none h (among-ranked hits_linear (h ∷ hits) h (contains-here h hits)))
-
-    -- and one that is nearest is an entry's
-    pub one-nearest : (from : Position) (hit : Option Hit) (h : Hit) → hit ≡ Some h → listed hit ≡ first comes_before 1 (word_hits ids from nodes root word) → Contains (tree_picks ids at nodes root word) (pick_from at word h)
-    one-nearest from hit h some is =
-        let P : Hit → Type 0 = λ one. Contains (tree_picks ids at nodes root word) (pick_from at word one) in
-        let all = all_weaker (Contains (word_hits ids from nodes root word)) P (hit-among from) (word_hits ids from nodes root word) (all_in (word_hits ids from nodes root word)) in
-        let first_all = all_taken P 1 (ranked comes_before (word_hits ids from nodes root word)) (all-ranked hits_linear P (word_hits ids from nodes root word) all) in
-        (subst (AllByRecursion P) (sym (sym (ap listed some) ∙ is)) first_all).0
 
     module _ (radius : ℕ) where
       abbrev in_range : Item → List Hit
@@ -120,27 +118,4 @@ module _ (ids : Numbers) (at : Position) (word : List ℕ) where
 
       -- they come by distance
       pub near-sorted : AreSorted at (near_picks ids at radius nodes root word)
-      near-sorted = record { dists = own (hits_within ids at radius nodes root word); ascends = rising (hits_within ids at radius nodes root word) (ranked_is hits_linear (flat_map in_range (tree_places nodes root))) costs-dist }
-        where
-          own : (hits : List Hit) → AllByRecursion (λ (pick : Pick). pick.dist ≡ distance at pick.point) (map (pick_from at word) hits)
-          own [] = tt
-          own (h ∷ hits) = (refl, own hits)
-
-          behind : (h : Hit) (hits : List Hit) → h.cost ≡ distance at h.point → AllByRecursion (λ y. comes_before y h ≡ false) hits → AllByRecursion (λ (hit : Hit). hit.cost ≡ distance at hit.point) hits
-              → AllByRecursion (λ (other : Pick). distance at h.point ≤ other.dist) (map (pick_from at word) hits)
-          behind h [] cost after costs = tt
-          behind h (y ∷ hits) cost after costs = (let le = upto_cost h y after.0 in let own_cost = costs.0 in omega arith, behind h hits cost after.1 costs.1)
-
-          rising : (hits : List Hit) → IsRanked comes_before hits → AllByRecursion (λ (hit : Hit). hit.cost ≡ distance at hit.point) hits → Ascends (map (pick_from at word) hits)
-          rising [] ranks costs = tt
-          rising (h ∷ hits) ranks costs = (behind h hits costs.0 ranks.0 costs.1, rising hits ranks.1 costs.1)
-
-module _ (ids : Numbers) (at : Position) (radius : ℕ) (nodes : NodeMap) (root : ℕ) where
-  -- so it is with the lists of several words
-  pub near-cuts : (words : List (List ℕ)) → AreCut at radius (map (tree_picks ids at nodes root) words) (map (near_picks ids at radius nodes root) words)
-  near-cuts [] = tt
-  near-cuts (word ∷ words) = (near-cut ids at word nodes root radius, near-cuts words)
-
-  pub near-sorts : (words : List (List ℕ)) → AllByRecursion (AreSorted at) (map (near_picks ids at radius nodes root) words)
-  near-sorts [] = tt
-  near-sorts (word ∷ words) = (near-sorted ids at word nodes root radius, near-sorts words)
+      near-sorted = hits-sorted at word (hits_within ids at radius nodes root word) (ranked_is hits_linear (flat_map in_range (tree_places nodes root))) costs-dist

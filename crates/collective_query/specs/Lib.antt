@@ -4,3 +4,4 @@ pub mod Picks
 pub mod TreePicks
 pub mod Tried
 pub mod Searches
+pub mod Opened

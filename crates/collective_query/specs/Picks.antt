@@ -1,6 +1,6 @@
 -- Picks by their distance from a point.
-use Rattle.std.specs.Prelude.{◌≡◌, ◌≤◌, List, [], ◌∷◌}
-use Rattle.std.specs.List.{AllByRecursion}
+use Rattle.std.specs.Prelude.{◌≡◌, ◌⊎◌, ℕ, ◌<◌, ◌≤◌, List, [], ◌∷◌, length}
+use Rattle.std.specs.List.{AllByRecursion, Contains}
 use Rattle.spatial_base.specs.Point.{Position, distance}
 use Rattle.place_map.specs.declared.query.Pick.{Pick}
 
@@ -17,3 +17,7 @@ Ascends (pick ∷ picks) = AllByRecursion (λ (other : Pick). pick.dist ≤ othe
 pub record AreSorted (at : Position) (picks : List Pick) : Type 0 where
   pub dists : AllByRecursion (λ (pick : Pick). pick.dist ≡ distance at pick.point) picks
   pub ascends : Ascends picks
+
+-- there are fewer than so many picks, or one of them is farther than so far
+abbrev pub GoesBeyond : ℕ → ℕ → List Pick → Type 0
+GoesBeyond count radius picks = (length picks < count) ⊎ ((pick : Pick) × Contains picks pick × (radius < pick.dist))

@@ -1,7 +1,7 @@
 -- What the entries of a tree give to a group query, as the places of a map do.
 use Rattle.std.specs.Prelude.{ℕ, nat_lt, if◌then◌else◌, List, [], ◌∷◌, map, Some}
 use Rattle.std.specs.List.{flat_map}
-use Rattle.ranking.specs.First.{ranked}
+use Rattle.ranking.specs.First.{ranked, first}
 use Rattle.spatial_base.specs.Point.{Position, distance}
 use Rattle.place_map.specs.declared.hit.Hit.{Hit}
 use Rattle.place_map.specs.declared.query.Expr.TheVariants.{Has}
@@ -36,6 +36,10 @@ pick_from at word hit = record { key = hit.key; word = word; dist = distance at 
 -- the hits of the tree's entries that hold a word, from a point
 abbrev pub word_hits : Numbers → Position → NodeMap → ℕ → List ℕ → List Hit
 word_hits ids from nodes root word = flat_map (near_item ids from (Some (Has word))) (tree_places nodes root)
+
+-- the picks for a word that are nearest to the point, by distance and then by key: five, or all where there are fewer
+abbrev pub first_picks : Numbers → Position → NodeMap → ℕ → List ℕ → List Pick
+first_picks ids at nodes root word = map (pick_from at word) (first comes_before 5 (word_hits ids at nodes root word))
 
 -- of those that are at most so far, in order
 abbrev pub hits_within : Numbers → Position → ℕ → NodeMap → ℕ → List ℕ → List Hit

@@ -1,90 +1,86 @@
-//! A choice of the places that are nearest to a point.
-ghost use Rattle.std.specs.Prelude.{◌≡◌, map, Some, IfOk};
-ghost use Rattle.std.specs.List.{flat_map};
-ghost use Rattle.ranking.specs.First.{first};
-ghost use Rattle.place_map.specs.declared.query.Expr.TheVariants.{Has};
-ghost use Rattle.place_map.specs.Hit.{comes_before, listed};
-ghost use Rattle.tree_entries.specs.Entries.{tree_places};
-ghost use Rattle.tree_entries.specs.Hits.{near_item};
+//! The picks for each word that are nearest to the point.
+ghost use Rattle.std.specs.Prelude.{◌≡◌, ℕ, List, map, Vec, IfOk};
+ghost use Rattle.std.specs.List.{AllByRecursion, Contains};
+ghost use Rattle.std.specs.declared.alloc.Global.{Global};
+ghost use Rattle.place_map.specs.declared.query.Pick.{Pick};
+ghost use Rattle.place_map.specs.Search.{lists_in};
 ghost use Rattle.tree_ranking.specs.Fits.{FitsTree, nodes_at};
+ghost use Rattle.collective_query.specs.Opened.{FindsPicks, picks_of};
+ghost use Rattle.collective_query.specs.Picks.{AreNear};
 ghost use Rattle.collective_query.specs.Searches.{Searches};
-ghost use Rattle.collective_query.specs.TreePicks.{tree_picks, word_hits};
-ghost use Rattle.collective_query.specs.Tried.{IsTaken};
+ghost use Rattle.collective_query.specs.TreePicks.{first_picks};
 
-use crate::picks::pick_from_hit;
-use best_first::first_k;
+use crate::picks::picks_from;
+use boolean_queries::nearest;
 use node_inverted::Tree;
 use page_face::{PageFault, Pages};
-use place_map::{Expr, Hit, Pick};
+use place_map::{Expr, Pick};
 use spatial_base::Point;
 use std::alloc::Global;
 use term_impacts::Word;
 use tree_entries::Ids;
-use tree_ranking::Ranking;
 
-// The first place by its distance from a point and then by key that meets a filter, if there is one.
-fn first_of<P: Pages>(
+/// How many picks are looked for first for each word. Mostly they have the least choice among them, and all that are as near as it costs.
+pub(crate) const NEAREST: u16 = 5;
+
+// The picks for a word that are nearest to a point, by distance and then by key.
+fn nearest_picks<P: Pages>(
     alloc: Global,
     pages: &mut P,
     tree: &Tree,
     ids: &Ids,
-    from: &Point,
-    filter: &Expr,
-) -> Result<Vec<Hit>, PageFault>
-    ensures found { FitsTree (P.pages pages.old) (P.count pages.old) (P.first pages.old) tree.now → IfOk result (λ found. found.items
-        ≡ first comes_before 1 (flat_map (near_item ids.now from.now (Some filter.now)) (tree_places (nodes_at (P.pages pages.old) tree.now) tree.now.root))) }
-    ensures search { Searches P.Pages tree.now pages.old pages.new result }
-{
-    let mut ranking = Ranking::nearest(tree, ids, from, Some(filter));
-    first_k(alloc, pages, &mut ranking, 1)
-}
-
-// The place nearest to a point that holds a word, if there is one.
-fn nearest_with<P: Pages>(
-    alloc: Global,
-    pages: &mut P,
-    tree: &Tree,
-    ids: &Ids,
-    from: &Point,
+    at: &Point,
     word: &Word,
-) -> Result<Option<Hit>, PageFault>
-    ensures found { FitsTree (P.pages pages.old) (P.count pages.old) (P.first pages.old) tree.now → IfOk result (λ hit. listed hit
-        ≡ first comes_before 1 (word_hits ids.now from.now (nodes_at (P.pages pages.old) tree.now) tree.now.root word.now)) }
+) -> Result<Vec<Pick>, PageFault>
+    ensures picks { FitsTree (P.pages pages.old) (P.count pages.old) (P.first pages.old) tree.now → IfOk result (λ picks. picks.items
+        ≡ first_picks ids.now at.now (nodes_at (P.pages pages.old) tree.now) tree.now.root word.now) }
+    ensures near { IfOk result (λ picks. AreNear picks.items) }
+    ensures opened { FitsTree (P.pages pages.old) (P.count pages.old) (P.first pages.old) tree.now → (words : List (List ℕ)) → Contains words word.now
+        → IfOk result (λ picks. FindsPicks (P.pages pages.old) tree.now ids.now at.now words (P.asked pages.old) (P.asked pages.new) picks.items) }
     ensures search { Searches P.Pages tree.now pages.old pages.new result }
 {
-    match first_of(alloc, pages, tree, ids, from, &Expr::Has(*word)) {
-        Ok(found) => Ok(found.first().copied()),
-        Err(fault) => Err(fault),
+    let filter = Expr::Has(*word);
+    // The point is on the map: `x` and `y` say so.
+    let (_x, _y) = (at.x(), at.y());
+    let hits = match nearest(alloc, pages, tree, ids, at, NEAREST, Some(&filter)) {
+        Ok(hits) => hits,
+        Err(fault) => return Err(fault),
+    };
+    match picks_from(alloc, at, word, &hits) {
+        Ok(picks) => Ok(picks),
+        Err(_) => Err(PageFault::Memory),
     }
 }
 
-/// Returns for each word the pick of the place nearest to `from` that holds it, with its distance from `at`; `None` if a word has no place.
+/// Returns for each word the picks of the places that hold it and are nearest to a point, by distance and then by key: [`NEAREST`] of them,
+/// or all where there are fewer.
 ///
-/// Returns an error, and looks at pages, as a search for the nearest place does for each word.
+/// Returns an error, and looks at pages, as a nearest query does for each word.
 pub(crate) fn nearest_each<P: Pages>(
     alloc: Global,
     pages: &mut P,
     tree: &Tree,
     ids: &Ids,
-    from: &Point,
     at: &Point,
     words: &[Word],
-) -> Result<Option<Vec<Pick>>, PageFault>
-    ensures taken { FitsTree (P.pages pages.old) (P.count pages.old) (P.first pages.old) tree.now → IfOk result (λ picks.
-        IsTaken (map (tree_picks ids.now at.now (nodes_at (P.pages pages.old) tree.now) tree.now.root) words.now) picks) }
+) -> Result<Vec<Vec<Pick>>, PageFault>
+    ensures lists { FitsTree (P.pages pages.old) (P.count pages.old) (P.first pages.old) tree.now → IfOk result (λ lists. lists_in lists.items
+        ≡ map (first_picks ids.now at.now (nodes_at (P.pages pages.old) tree.now) tree.now.root) words.now) }
+    ensures near { IfOk result (λ lists. AllByRecursion (λ (list : Vec Pick Global). AreNear list.items) lists.items) }
+    ensures opened { FitsTree (P.pages pages.old) (P.count pages.old) (P.first pages.old) tree.now
+        → IfOk result (λ lists. FindsPicks (P.pages pages.old) tree.now ids.now at.now words.now (P.asked pages.old) (P.asked pages.new) (picks_of lists.items)) }
     ensures search { Searches P.Pages tree.now pages.old pages.new result }
 {
-    let mut picks = Vec::new(alloc);
+    let mut lists = Vec::new(alloc);
     for word in words {
-        let hit = match nearest_with(alloc, pages, tree, ids, from, word) {
-            Ok(Some(hit)) => hit,
-            Ok(None) => return Ok(None),
+        let picks = match nearest_picks(alloc, pages, tree, ids, at, word) {
+            Ok(picks) => picks,
             Err(fault) => return Err(fault),
         };
-        match picks.push(pick_from_hit(at, word, &hit)) {
+        match lists.push(picks) {
             Ok(()) => {}
             Err(_) => return Err(PageFault::Memory),
         }
     }
-    Ok(Some(picks))
+    Ok(lists)
 }

@@ -1,69 +1,59 @@
 //! Collective queries.
-ghost use Rattle.std.specs.Prelude.{◌≡◌, ◌≢◌, ◌≤◌, map, All, Err, IfOk, IfSome, IsErrOf};
-ghost use Rattle.std.specs.List.{Contains};
+ghost use Rattle.std.specs.Prelude.{◌≡◌, ◌≢◌, Err, Vec, IfOk, IsErrOf};
+ghost use Rattle.std.specs.List.{AllByRecursion};
+ghost use Rattle.std.specs.declared.alloc.Global.{Global};
 ghost use Rattle.page_face.specs.Calls.{Reads, FailsReading};
 ghost use Rattle.btree_nodes.specs.Damages.{AreTold};
+ghost use Rattle.place_map.specs.declared.query.Pick.{Pick};
 ghost use Rattle.place_map.specs.Group.{least_of};
+ghost use Rattle.place_map.specs.Search.{lists_in};
 ghost use Rattle.tree_ranking.specs.Fits.{FitsTree, nodes_at};
-ghost use Rattle.collective_query.specs.Searches.{Searches, IsSearchHarm};
-ghost use Rattle.collective_query.specs.TreePicks.{tree_picks, tree_choices};
-ghost use Rattle.collective_query.specs.Tried.{IsBegun};
+ghost use Rattle.collective_query.specs.Opened.{FindsPicks, picks_in};
+ghost use Rattle.collective_query.specs.Picks.{AreNear, AreSorted};
+ghost use Rattle.collective_query.specs.Searches.{IsSearchHarm};
+ghost use Rattle.collective_query.specs.TreePicks.{tree_choices};
+ghost use Rattle.collective_query.specs.Tried.{IsTaken, IsBegun};
 
 use crate::candidates::candidates_of_each;
 use crate::nearest::nearest_each;
-use crate::search::{cost_of, least_choice, offer};
+use crate::search::{cost_of, least_choice};
 use node_inverted::Tree;
 use page_face::{Damage, PageFault, Pages};
 use place_map::{Chosen, Pick, Picks};
 use spatial_base::Point;
-use std::alloc::Global;
+use std::alloc::{AllocError, Global};
 use term_impacts::Word;
 use tree_entries::Ids;
 
-// The pick that lies farthest from the query's point: no choice costs less than its distance.
-fn farthest_pick(picks: &[Pick]) -> Option<&Pick>
-    ensures among { IfSome result (λ pick. Contains picks.now pick.now) }
-    ensures farthest { IfSome result (λ pick. All (λ other. other.dist ≤ pick.now.dist) picks.now) }
+// The first pick of each list, if each has one.
+fn firsts(alloc: Global, lists: &[Vec<Pick>]) -> Result<Option<Vec<Pick>>, AllocError>
+    ensures { IfOk result (λ firsts. IsTaken (lists_in lists.now) firsts) }
 {
-    picks.iter().max_by_key(|pick| pick.dist)
+    let mut picks = Vec::new(alloc);
+    for list in lists {
+        match list.first() {
+            Some(pick) => picks.push(*pick)?,
+            None => return Ok(None),
+        }
+    }
+    Ok(Some(picks))
 }
 
-// The better of two choices: the places nearest to the point, and those nearest to the farthest of these. `None` if a word has no place.
-fn first_choice<P: Pages>(
-    alloc: Global,
-    pages: &mut P,
-    tree: &Tree,
-    ids: &Ids,
-    at: &Point,
-    words: &[Word],
-) -> Result<Option<Chosen>, PageFault>
-    ensures begun { FitsTree (P.pages pages.old) (P.count pages.old) (P.first pages.old) tree.now → IfOk result (λ best.
-        IsBegun at.now (map (tree_picks ids.now at.now (nodes_at (P.pages pages.old) tree.now) tree.now.root) words.now) best) }
-    ensures search { Searches P.Pages tree.now pages.old pages.new result }
+// The least choice of a pick of each list, if each has one. The lists are sorted by distance.
+fn least_among(alloc: Global, at: &Point, lists: &[Vec<Pick>]) -> Result<Option<Chosen>, AllocError>
+    requires { AllByRecursion (λ (list : Vec Pick Global). AreNear list.items) lists.now }
+    ensures { IfOk result (λ best. AllByRecursion (λ (list : Vec Pick Global). AreSorted at.now list.items) lists.now → IsBegun at.now (lists_in lists.now) best) }
 {
-    let nearest = match nearest_each(alloc, pages, tree, ids, at, at, words) {
-        Ok(Some(nearest)) => nearest,
-        Ok(None) => return Ok(None),
-        Err(fault) => return Err(fault),
-    };
-    let from = match farthest_pick(&nearest) {
-        Some(pick) => pick.point,
-        None => *at,
+    let picks = match firsts(alloc, lists)? {
+        Some(picks) => picks,
+        None => return Ok(None),
     };
     let mut best = Chosen {
-        cost: cost_of(at, &nearest),
-        picks: Picks::from_vec(nearest),
+        cost: cost_of(at, &picks),
+        picks: Picks::from_vec(picks),
     };
-    let around = match nearest_each(alloc, pages, tree, ids, &from, at, words) {
-        Ok(Some(around)) => around,
-        Ok(None) => return Ok(None),
-        Err(fault) => return Err(fault),
-    };
-    let cost = cost_of(at, &around);
-    match offer(alloc, &around, cost, &mut best) {
-        Ok(()) => Ok(Some(best)),
-        Err(_) => Err(PageFault::Memory),
-    }
+    least_choice(alloc, lists, &mut best)?;
+    Ok(Some(best))
 }
 
 /// Returns the choice of a place for each word that costs least, and of those of equal cost the one whose keys are least in the words' order;
@@ -73,8 +63,9 @@ fn first_choice<P: Pages>(
 /// Refuses `Damaged` with a rule that a page read in this call breaks, never over a whole tree; `Disk`, `Stopped`, and `Memory` if it runs out
 /// of memory. The tree is as before in any case.
 ///
-/// Searches the tree three times for each word: for the place nearest to the point, for the place nearest to the farthest of these, and for
-/// all places at most as far from the point as the better of these two choices costs. Between those all choices are searched, in memory.
+/// Searches the tree for the five nearest places of each word. Between these all choices are searched, in memory. Only a word whose five
+/// places all lie at most as far from the point as the least of these choices costs is searched for again, for all places so near. A node
+/// is opened only where one of the words is held below it, or if it is the root.
 pub fn group<P: Pages>(
     alloc: Global,
     pages: &mut P,
@@ -85,18 +76,24 @@ pub fn group<P: Pages>(
 ) -> Result<Option<Chosen>, PageFault>
     ensures chosen { FitsTree (P.pages pages.old) (P.count pages.old) (P.first pages.old) tree.now → IfOk result (λ chosen. chosen
         ≡ least_of at.now (tree_choices ids.now at.now (nodes_at (P.pages pages.old) tree.now) tree.now.root words.now)) }
+    ensures opened { FitsTree (P.pages pages.old) (P.count pages.old) (P.first pages.old) tree.now
+        → IfOk result (λ chosen. FindsPicks (P.pages pages.old) tree.now ids.now at.now words.now (P.asked pages.old) (P.asked pages.new) (picks_in chosen)) }
     ensures damaged { AreTold (P.pages pages.old) (P.count pages.old) → (damage : Damage) → IsErrOf result (PageFault.Damaged damage)
         → IsSearchHarm (P.pages pages.old) (P.count pages.old) tree.now (P.asked pages.old) (P.asked pages.new) damage }
     ensures honest { FitsTree (P.pages pages.old) (P.count pages.old) (P.first pages.old) tree.now → (damage : Damage) → result ≢ Err (PageFault.Damaged damage) }
     ensures fails { FailsReading P.Pages pages.old pages.new result }
     ensures frame { Reads P.Pages pages.old pages.new }
 {
-    let mut best = match first_choice(alloc, pages, tree, ids, at, words) {
-        Ok(Some(best)) => best,
-        Ok(None) => return Ok(None),
+    let nearest = match nearest_each(alloc, pages, tree, ids, at, words) {
+        Ok(nearest) => nearest,
         Err(fault) => return Err(fault),
     };
-    let lists = match candidates_of_each(alloc, pages, tree, ids, at, best.cost, words) {
+    let mut best = match least_among(alloc, at, &nearest) {
+        Ok(Some(best)) => best,
+        Ok(None) => return Ok(None),
+        Err(_) => return Err(PageFault::Memory),
+    };
+    let lists = match candidates_of_each(alloc, pages, tree, ids, at, best.cost, words, &nearest) {
         Ok(lists) => lists,
         Err(fault) => return Err(fault),
     };

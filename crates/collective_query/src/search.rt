@@ -16,8 +16,8 @@ use spatial_base::{Point, dist};
 use std::alloc::{AllocError, Global};
 use std::cmp::Ordering;
 
-/// Returns the greatest distance from a point to a pick.
-pub(crate) fn farthest_of(point: &Point, picks: &[Pick]) -> u64
+// The greatest distance from a point to a pick.
+fn farthest_of(point: &Point, picks: &[Pick]) -> u64
     ensures value { result ≡ farthest point.now picks.now }
     ensures far { result ≤ 4024922359 }
 {
@@ -53,13 +53,8 @@ fn against(picks: &[Pick], cost: u64, best: &Chosen) -> Ordering
     cost.cmp(&best.cost).then(picks.cmp(best.picks.as_slice()))
 }
 
-/// Keeps a choice of this cost if it comes before the best one.
-pub(crate) fn offer(
-    alloc: Global,
-    picks: &[Pick],
-    cost: u64,
-    best: &mut Chosen,
-) -> Result<(), AllocError>
+// Keeps a choice of this cost if it comes before the best one.
+fn offer(alloc: Global, picks: &[Pick], cost: u64, best: &mut Chosen) -> Result<(), AllocError>
     ensures { OnOk result ((at : Position) → cost ≡ choice_cost at picks.now → (tried : List (List Pick)) → Some best.old ≡ least_of at tried → Some best.new ≡ least_of at (tried ++ picks.now ∷ [])) }
 {
     if against(picks, cost, &*best).is_lt() {

@@ -192,13 +192,6 @@ fn places_that_are_near_together_cost_least(rt: HostRuntime) -> Result<(), Fail>
         let answer = group_of(alloc, &mut pages, &tree, texts)?;
         assert_eq!(rt; answer.as_str(), *wanted);
     }
-    Ok(())
-}
-
-#[test]
-fn a_word_has_no_place_in_the_empty_tree(rt: HostRuntime) -> Result<(), Fail> {
-    let alloc = rt.alloc();
-    let mut pages = MemoryPages::new(alloc, 99);
     let empty = Tree { root: 0, rows: 0 };
     let answer = group_of(alloc, &mut pages, &empty, &["a"])?;
     assert_eq!(rt; answer.as_str(), "none");

@@ -1,5 +1,5 @@
 -- Few nodes opened for words: by one search, and by several, one after another.
-use Rattle.std.proofs.Common.{◌≡◌, ℕ, ◌<◌, true, nat_lt, List, [], ◌∷◌, ◌++◌, map, Some, sym, ap, ◌∙◌, append_assoc, append-nil, ◌⊎◌, inl, inr, ⊎_elim}
+use Rattle.std.proofs.Common.{◌≡◌, ℕ, List, [], ◌∷◌, ◌++◌, map, Some, sym, ap, ◌∙◌, append_assoc, append-nil, ◌⊎◌, inl, inr, ⊎_elim}
 use Rattle.std.specs.List.{AllByRecursion, Contains}
 use Rattle.std.proofs.lemmas.Bool.{ltb-true}
 use Rattle.std.proofs.lemmas.List.Elements.{Contains-append_left, Contains-append_right}
@@ -9,7 +9,7 @@ use Rattle.place_map.specs.declared.query.Query.{Query}
 use Rattle.place_map.specs.declared.query.Query.TheVariants.{Range, Nearest}
 use Rattle.place_map.specs.declared.query.Expr.TheVariants.{Has}
 use Rattle.rtree_shape.specs.Slots.{Item, NodeMap}
-use Rattle.best_first.proofs.Lists.{all_weaker, all_append, all_parts}
+use Rattle.best_first.proofs.Lists.{all_weaker, all_append}
 use Rattle.tree_entries.specs.Numbers.{Numbers, impact_of}
 use Rattle.opened_nodes.specs.Crowns.{crown_at}
 use Rattle.opened_nodes.specs.Logs.{CallsFor, IsChildOfAsked, IsOpened, IsFromAsked, OpensFew}
@@ -98,10 +98,10 @@ module _ (ids : Numbers) (words : List (List ℕ)) (nodes : NodeMap) (root : ℕ
 
   module _ (word : List ℕ) (among : Contains words word) where
     -- a search for a word
-    nearest-calls : (at : Position) (k : ℕ) (round : Item) (is_root : Type 0) (found : List Hit) → CallsFor ids (Nearest at k (Some (Has word))) found is_root round → is_root ⊎ HoldsOneOf ids words round
+    pub nearest-calls : (at : Position) (k : ℕ) (round : Item) (is_root : Type 0) (found : List Hit) → CallsFor ids (Nearest at k (Some (Has word))) found is_root round → is_root ⊎ HoldsOneOf ids words round
     nearest-calls at k round is_root found c = inr (word, among, ltb-true 0 (impact_of ids round word) c.0)
 
-    range-calls : (at : Position) (radius : ℕ) (round : Item) (is_root : Type 0) (found : List Hit) → CallsFor ids (Range at radius (Some (Has word))) found is_root round → is_root ⊎ HoldsOneOf ids words round
+    pub range-calls : (at : Position) (radius : ℕ) (round : Item) (is_root : Type 0) (found : List Hit) → CallsFor ids (Range at radius (Some (Has word))) found is_root round → is_root ⊎ HoldsOneOf ids words round
     range-calls at radius round is_root found c = ⊎_elim (λ (r : is_root). inl r) (λ h. inr (word, among, ltb-true 0 (impact_of ids round word) h.0)) c
 
 -- pages of another kind were asked for before

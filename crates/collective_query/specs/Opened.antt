@@ -1,0 +1,35 @@
+-- Which nodes a group query opened, and where its picks are from.
+use Rattle.std.specs.Prelude.{ℕ, ◌<◌, List, [], Option, Some, None, Vec}
+use Rattle.std.specs.List.{flat_map}
+use Rattle.std.specs.declared.alloc.Global.{Global}
+use Rattle.page_face.specs.FreeList.{PageMap}
+use Rattle.btree_nodes.specs.Tree.{map_uses}
+use Rattle.spatial_base.specs.Point.{Position}
+use Rattle.place_map.specs.declared.query.Pick.{Pick}
+use Rattle.place_map.specs.declared.query.Chosen.{Chosen}
+use Rattle.rtree_shape.specs.Slots.{Item}
+use Rattle.rtree_shape.specs.Stock.{rows_form}
+use Rattle.node_inverted.specs.declared.roots.Tree.{Tree}
+use Rattle.tree_entries.specs.Numbers.{Numbers}
+use Rattle.tree_ranking.specs.Fits.{nodes_at}
+use Rattle.opened_nodes.specs.Words.{OpensFewForWords}
+use Rattle.collective_query.specs.TreePicks.{pick_item}
+
+-- the picks of a choice, where there is one
+abbrev pub picks_in : Option Chosen → List Pick
+picks_in None = []
+picks_in (Some chosen) = chosen.picks
+
+-- the picks of all of some lists
+abbrev pub picks_of : List (Vec Pick Global) → List Pick
+picks_of lists = flat_map (λ (list : Vec Pick Global). list.items) lists
+
+-- what a place's item gives to the word of a pick
+abbrev pub given_to : Numbers → Position → Pick → Item → List Pick
+given_to ids at pick = pick_item ids at pick.word
+
+-- Few nodes of a tree were opened for words, and beside them pages of its rows alone were asked for; and each pick is that of an item in a leaf
+-- that was asked for.
+abbrev pub FindsPicks : PageMap → Tree → Numbers → Position → List (List ℕ) → List ℕ → List ℕ → List Pick → Type 0
+FindsPicks pages tree ids at words old new picks =
+    OpensFewForWords (λ page. 0 < map_uses rows_form pages tree.rows page) (given_to ids at) ids words (nodes_at pages tree) tree.root old new picks
