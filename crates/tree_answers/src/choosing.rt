@@ -5,6 +5,7 @@ ghost use Rattle.btree_nodes.specs.Damages.{AreTold};
 ghost use Rattle.place_map.specs.Group.{group_of};
 ghost use Rattle.place_map.specs.State.{Contents};
 ghost use Rattle.tree_answers.specs.Damages.{IsAnswerHarm};
+ghost use Rattle.tree_answers.specs.Opened.{AreFewOpenedForGroup};
 ghost use Rattle.tree_answers.specs.Standing.{RootsStand};
 
 use crate::known::ids_of_words;
@@ -25,8 +26,9 @@ use term_impacts::Word;
 /// Refuses `Damaged` by a rule that a page of the words by text, of the tree or of its rows breaks; `Disk`, `Stopped` and `Memory` as the
 /// pages do. No page is damaged where the tables and the tree stand.
 ///
-/// Looks at one page a level of the words by text for each word. Then it searches the tree three times for each word, as
-/// [`collective_query::group`] does.
+/// Looks at one page a level of the words by text for each word. Then it searches the tree once for each word, and for some words once more,
+/// as [`collective_query::group`] does: it opens the root and nodes below which a place holds one of the words. Each opened node costs a look
+/// at its page and at one page a level of the rows; the root of a second search two.
 pub fn chosen<P: Pages>(
     alloc: Global,
     pages: &mut P,
@@ -38,6 +40,9 @@ pub fn chosen<P: Pages>(
     ensures answered { (state : Contents) → RootsStand (P.pages pages.old) (P.count pages.old) (P.first pages.old) tables.now tree.now state
         → AreTold (P.pages pages.old) (P.count pages.old)
         → IfOk result (λ chosen. chosen ≡ group_of state.places at.now words.now) }
+    ensures opened { (state : Contents) → RootsStand (P.pages pages.old) (P.count pages.old) (P.first pages.old) tables.now tree.now state
+        → AreTold (P.pages pages.old) (P.count pages.old)
+        → IfOk result (λ chosen. AreFewOpenedForGroup (P.pages pages.old) tables.now tree.now at.now words.now (P.asked pages.old) (P.asked pages.new) chosen) }
     ensures honest { (state : Contents) → RootsStand (P.pages pages.old) (P.count pages.old) (P.first pages.old) tables.now tree.now state
         → AreTold (P.pages pages.old) (P.count pages.old) → (damage : Damage) → result ≢ Err (PageFault.Damaged damage) }
     ensures damaged { AreTold (P.pages pages.old) (P.count pages.old) → (damage : Damage) → IsErrOf result (PageFault.Damaged damage)

@@ -5,10 +5,15 @@ use Rattle.page_face.specs.declared.fault.PageFault.TheVariants.{Damaged}
 use Rattle.btree_nodes.specs.Damages.{AreTold}
 use Rattle.place_map.specs.declared.query.Chosen.{Chosen}
 use Rattle.place_map.specs.Group.{group_of, least_of}
+use Rattle.rtree_nodes.specs.Pages.{node_of}
+use Rattle.irtree_shape.specs.Made.{nodes_in}
 use Rattle.tree_ranking.specs.Fits.{nodes_at}
 use Rattle.boolean_queries.specs.Opens.{Fits}
+use Rattle.opened_nodes.proofs.Words.{few-behind-words}
+use Rattle.collective_query.specs.Opened.{given_to, picks_in}
 use Rattle.collective_query.specs.TreePicks.{tree_choices}
 use Rattle.tree_answers.specs.Damages.{IsTreeHarm}
+use Rattle.tree_answers.specs.Opened.{AreFewOpenedForGroup, FewOpenedForGroup, IsRowsPage, IsTextsPage}
 use Rattle.tree_answers.proofs.Choices.{kept-least}
 use Rattle.tree_answers.proofs.Kept.{roots-kept}
 use Rattle.tree_answers.proofs.choosing.chosen.Goals as goal
@@ -65,3 +70,33 @@ returns-clause-honest g c = λ state roots told damage.
     let fits : Fits (P.pages c.ids_of_words.new.pages) tree.rows (P.count c.ids_of_words.new.pages) (P.first c.ids_of_words.new.pages) tree.root = rw (f.pages, f.count, f.first) kept.whole in
     let still : AreTold (P.pages c.ids_of_words.new.pages) (P.count c.ids_of_words.new.pages) = rw (f.pages, f.count) told in
     c.group.ensures.honest (fits.0, fits.1, still) damage
+
+pub returns-clause-opened : goal.returns-clause-opened
+returns-clause-opened g c = λ state roots told.
+    let P = g.P.Pages in
+    let old : PageMap = P.pages c.args.pages.now in
+    let tree = c.args.tree.now in
+    let tables = c.args.tables.now in
+    let at = c.args.at.now in
+    let words : List (List ℕ) = c.args.words.now in
+    let kept = roots-kept old (P.count c.args.pages.now) (P.first c.args.pages.now) tables tree state roots in
+    let f = c.ids_of_words.ensures.frame in
+    let ids = c.in-Ok.ids in
+    let before : List ℕ = P.asked c.args.pages.now in
+    let between : List ℕ = P.asked c.ids_of_words.new.pages in
+    let after : List ℕ = P.asked c.group.new.pages in
+    let own = c.ids_of_words.ensures.own told in
+    let fits : Fits (P.pages c.ids_of_words.new.pages) tree.rows (P.count c.ids_of_words.new.pages) (P.first c.ids_of_words.new.pages) tree.root = rw (f.pages, f.count, f.first) kept.whole in
+    let still : AreTold (P.pages c.ids_of_words.new.pages) (P.count c.ids_of_words.new.pages) = rw (f.pages, f.count) told in
+    IfOk-weaker c.group.result
+    (λ (chosen : Option Chosen). FewOpenedForGroup (IsRowsPage (P.pages c.ids_of_words.new.pages) tree) (P.pages c.ids_of_words.new.pages) tree ids at words between after chosen)
+    (λ (chosen : Option Chosen). AreFewOpenedForGroup old tables tree at words before after chosen)
+    (λ (chosen : Option Chosen) few. record {
+      entries = kept.entries;
+      holds = kept.holds;
+      ids = ids;
+      known = c.in-Ok.ensures.known kept.entries kept.holds;
+      few = few-behind-words (IsTextsPage old tables) (IsRowsPage old tree) (given_to ids at) ids words (nodes_in node_of old tree.rows) tree.root before between after own.more (picks_in chosen) own.is own.own
+          (subst (λ (pages : PageMap). FewOpenedForGroup (IsRowsPage pages tree) pages tree ids at words between after chosen) f.pages few);
+    })
+    (c.group.ensures.opened (fits.0, fits.1, still))
