@@ -2,7 +2,9 @@
 """Queries over a store on this disk against SQLite (R*Tree and FTS5 tables) on the same places, which are like a user's (places.py), in one
 run: queries a second of each kind, with words that many, some and few places hold, parsing and printing included. A query's point is
 that of a place. SQLite answers each kind in the better of two ways: by the words first, or by the box first (for the nearest by boxes that
-grow). It has no group query.
+grow). It has no group query. Both sides are timed warm: SQLite in a second pass over some of the same queries, irtree in a second and third pass
+over all. The keys of the hits are compared, automatic ones left out; those of `top` aren't, since SQLite ranks by bm25, and of two at the same distance
+either may be the last of a `nearest`.
 The program must be built (./irtree builds it).
 usage: bench/queries_against_sqlite.py [PLACES] [QUERIES] [CACHE] [POLICY]    (works in a folder of its own beside the repository)"""
 import os
@@ -45,7 +47,8 @@ def database(rows, path):
 
 
 NEAR = "(p.x - :x) * (p.x - :x) + (p.y - :y) * (p.y - :y)"
-IN_BOX = "b.west >= :west and b.east <= :east and b.south >= :south and b.north <= :north"
+# The R*Tree keeps floats of 32 bits, so its box is taken a little wider; the exact condition is on the place itself.
+IN_BOX = "b.west >= :west - 0.0001 and b.east <= :east + 0.0001 and b.south >= :south - 0.0001 and b.north <= :north + 0.0001"
 
 
 def by_words(base, it, condition="", order=NEAR, limit=""):
@@ -75,7 +78,7 @@ def ways(kind):
         return [lambda base, it: by_words(base, it, within), lambda base, it: by_box(base, it, within)]
     if kind == "box":
         point = "and p.x between :west and :east and p.y between :south and :north"
-        return [lambda base, it: by_words(base, it, point, "p.key"), lambda base, it: by_box(base, it, "", "p.key")]
+        return [lambda base, it: by_words(base, it, point, "p.key"), lambda base, it: by_box(base, it, point, "p.key")]
     if kind == "nearest":
         return [lambda base, it: by_words(base, it, limit="limit :k"), lambda base, it: growing(base, it, True)]
     if kind == "plain nearest":
@@ -83,6 +86,17 @@ def ways(kind):
     if kind == "top":
         return [lambda base, it: by_words(base, it, order=f"sqrt({NEAR}) * :alpha + (w.rank) * (1000 - :alpha)", limit="limit :k")]
     return []
+
+
+def hits_of(said):
+    """The keys of the hits of each reply, automatic ones left out, and how many hits there are."""
+    replies = []
+    for line in said.decode().splitlines():
+        if line.startswith("= "):
+            replies.append((set(), int(line.split()[1])))
+        elif replies and line.count('"') >= 2:
+            replies[-1][0].add(line.split('"')[1])
+    return replies
 
 
 def line_of(kind, it, names):
@@ -138,17 +152,19 @@ def main():
                 once, said = run([store, "run", f"--cache={cache}"], text)
                 twice, _ = run([store, "run", f"--cache={cache}"], text * 3)
                 ours = (twice - once) / 2
-                heads = [int(it.split()[1]) for it in said.decode().splitlines() if it.startswith("= ")]
+                replies = hits_of(said)
                 best, same = None, ""
                 for way in ways(kind):
                     few = some[: max(20, asked // 10)]
+                    found = [{row[0] for row in way(base, it) if row[0]} for it, _ in few]
                     begun = time.monotonic()
-                    found = [len(way(base, it)) for it, _ in few]
+                    for it, _ in few:
+                        way(base, it)
                     taken = (time.monotonic() - begun) * asked / len(few)
                     best = taken if best is None else min(best, taken)
-                    same = f"{sum(a == b for a, b in zip(found, heads))}/{len(few)}"
+                    same = "-" if kind == "top" else f"{sum(a == b for a, (b, _) in zip(found, replies))}/{len(few)}"
                 theirs = f"{asked / best:12.0f}{best / ours:8.1f}" if best else f"{'-':>12}{'-':>8}"
-                print(f"{kind:15}{name:7}{asked / ours:12.0f}{theirs}{sum(heads) / asked:8.1f}{same:>8}  cold {asked / max(once - opening, 1e-9):.0f}", flush=True)
+                print(f"{kind:15}{name:7}{asked / ours:12.0f}{theirs}{sum(count for _, count in replies) / asked:8.1f}{same:>8}  cold {asked / max(once - opening, 1e-9):.0f}", flush=True)
 
 
 main()
