@@ -1,5 +1,5 @@
 -- What the journal's pages say of the disk.
-use Rattle.std.proofs.Common.{◌≡◌, ◌⊎◌, ⊎_elim, ℕ, ◌<◌, List, [], ◌∷◌, length, Option, Some, None, IsSome, is_some, option_map, option_and_then, nat_eq, Box, refl, sym, ◌∙◌, ap, subst, arith}
+use Rattle.std.proofs.Common.{◌≡◌, ⊎_elim, ℕ, List, [], ◌∷◌, length, Option, Some, None, IsSome, is_some, option_and_then, nat_eq, Box, refl, sym, ◌∙◌, ap, subst, arith}
 use Rattle.std.specs.Map.{keys_of, lookup}
 use Rattle.std.specs.BTreeMap.{is_at, get, IsOrdered}
 use Rattle.std.specs.List.{AllByRecursion}
@@ -15,7 +15,7 @@ use Rattle.page_journal.proofs.Batches.{length_given}
 use Rattle.held_pages.specs.Pages.{IsSized, PageTable, first_of, first_page, page_in}
 use Rattle.held_pages.specs.Rooms.{HasRoomFor, Ordered, Rooms, boxed, ordered_page, room_page}
 use Rattle.held_pages.proofs.Tables.{same_key, other_key, none_some}
-use Rattle.held_pages.proofs.Sealed.{empty_table, empty_has_room, filled_is, moved_has_room}
+use Rattle.held_pages.proofs.Sealed.{empty_table, empty_has_room, moved_has_room}
 use Rattle.page_store.specs.Contents.{page_bytes}
 use Rattle.page_store.specs.Held.{AreImages, AreKept}
 use Rattle.page_store.proofs.Bytes.{area_by_pages}
