@@ -43,10 +43,12 @@ fn drop_next<P: Pages>(
 
 /// Removes all rows of a node.
 ///
-/// Returns `Damaged`, `Disk`, `NoRoom`, `Stopped`, or `Memory` as [`next_row`](crate::next_row) and [`set_row`] do; on a well-formed map whose pages are
-/// told no page is damaged. After a failure `tree` is as before, and pages may have changed: they are to be abandoned.
+/// Returns `Damaged`, `Disk`, `NoRoom`, `Stopped`, or `Memory` as [`next_row`](crate::next_row) and [`set_row`] do; on a well-formed
+/// map whose pages are told no page is damaged. After a failure `tree` is as before, and pages may have changed: they are to be
+/// abandoned.
 ///
-/// For a node of W words, costs W + 1 calls of [`next_row`], and W removals by [`set_row`].
+/// For a node of W words in L leaves of the rows' map, reads them with at most L + 4 ways down, each of which looks at one page a
+/// level, and costs W removals by [`set_row`]. Holds one leaf at a time.
 pub fn drop_node<P: Pages>(pages: &mut P, tree: &mut Tree, node: u32) -> Result<(), PageFault>
     ensures turns { (free : List ℕ) → IsRows (view (P.pages pages.old) (P.count pages.old) (P.first pages.old) free) tree.old.rows
         → OnOk result (Turns (view (P.pages pages.old) (P.count pages.old) (P.first pages.old) free) tree.old.rows (P.pages pages.new) (P.count pages.new) (P.first pages.new) tree.new.rows

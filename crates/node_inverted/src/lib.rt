@@ -5,6 +5,9 @@
 //! beside each other, in the order of their words. A row of zeros is never stored. Seen from above the rows are one function
 //! from a node, a word and a slot to a byte (`specs/Rows.antt`), and each call here says which bytes it returns or which
 //! bytes it makes; every other byte is as it was.
+//!
+//! A call that goes through the rows of a node copies a leaf of the map at a time and reads its rows there, some 84 of them with one
+//! way down (`src/leaf.rt`). The copy stays right for the words that are still ahead while the call changes the rows behind.
 #![tactic(auto)]
 
 mod ahead;

@@ -77,10 +77,12 @@ fn move_next<P: Pages>(
 /// Moves the bytes at these slots, the set bits of `slots`, to the same slots of another node that has no row, as a split of the
 /// node moves its entries.
 ///
-/// Returns `Damaged`, `Disk`, `NoRoom`, `Stopped`, or `Memory` as [`next_row`](crate::next_row) and [`set_row`] do; on a well-formed map whose pages are
-/// told no page is damaged. After a failure `tree` is as before, and pages may have changed: they are to be abandoned.
+/// Returns `Damaged`, `Disk`, `NoRoom`, `Stopped`, or `Memory` as [`next_row`](crate::next_row) and [`set_row`] do; on a well-formed
+/// map whose pages are told no page is damaged. After a failure `tree` is as before, and pages may have changed: they are to be
+/// abandoned.
 ///
-/// For a node of W words, costs W + 1 calls of [`next_row`], and two of [`set_row`] for each word of which a byte moves.
+/// For a node of W words in L leaves of the rows' map, reads them with at most L + 4 ways down, each of which looks at one page a
+/// level, and costs two calls of [`set_row`] for each word of which a byte moves. Holds one leaf at a time.
 pub fn move_slots<P: Pages>(
     pages: &mut P,
     tree: &mut Tree,

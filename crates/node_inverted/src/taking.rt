@@ -70,10 +70,12 @@ fn take_next<P: Pages>(
 
 /// Removes all rows of a node, and returns them in the order of their words.
 ///
-/// Returns `Damaged`, `Disk`, `NoRoom`, `Stopped`, or `Memory` as [`next_row`](crate::next_row) and [`set_row`] do; on a well-formed map whose pages are
-/// told no page is damaged. After a failure `tree` is as before, and pages may have changed: they are to be abandoned.
+/// Returns `Damaged`, `Disk`, `NoRoom`, `Stopped`, or `Memory` as [`next_row`](crate::next_row) and [`set_row`] do; on a well-formed
+/// map whose pages are told no page is damaged. After a failure `tree` is as before, and pages may have changed: they are to be
+/// abandoned.
 ///
-/// For a node of W words, costs W + 1 calls of [`next_row`], and W removals by [`set_row`].
+/// For a node of W words in L leaves of the rows' map, reads them with at most L + 4 ways down, each of which looks at one page a
+/// level, and costs W removals by [`set_row`].
 pub fn take_rows<P: Pages>(
     alloc: Global,
     pages: &mut P,

@@ -1,6 +1,5 @@
-use Rattle.std.proofs.Common.{◌≡◌, ◌<◌, ◌^◌, ℕ, arith, rules, length, sym, subst, ◌∙◌}
+use Rattle.std.proofs.Common.{◌≡◌, ◌<◌, ◌^◌, ℕ, arith, rules, length, sym, subst}
 use Rattle.std.proofs.lemmas.Bool.Decides.{nat_tests}
-use Rattle.btree_nodes.specs.Bounds.{upper_of}
 use Rattle.node_inverted.specs.Rows.{key_of}
 use Rattle.node_inverted.proofs.Bytes.{node-later}
 use Rattle.node_inverted.proofs.Copies.{key-below, key-below_all, upper-bytes, upper-empty, word-below}

@@ -2,9 +2,9 @@ use Rattle.std.proofs.Common.{◌≡◌, ℕ, ◌∙◌, sym, ap, subst}
 use Rattle.page_face.specs.FreeList.{PageMap}
 use Rattle.page_face.specs.Number.{number}
 use Rattle.btree_nodes.specs.Tree.{IsMap}
-use Rattle.paged_map.specs.Spots.{IsSpot, leaf_of}
+use Rattle.paged_map.specs.Spots.{leaf_of}
 use Rattle.rtree_shape.specs.Stock.{rows_form}
-use Rattle.node_inverted.specs.Rows.{HasBytes, bytes_in, key_of}
+use Rattle.node_inverted.specs.Rows.{HasBytes, bytes_in}
 use Rattle.node_inverted.proofs.Found.{row-none, row-some}
 use Rattle.node_inverted.proofs.rows.find_row.Goals as goal
 

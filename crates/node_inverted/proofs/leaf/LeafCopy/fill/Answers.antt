@@ -1,6 +1,5 @@
 use Rattle.std.proofs.Common.{◌≡◌, ◌<◌, ◌≤◌, ◌^◌, ℕ, List, Err, sym, ap, subst, ◌∙◌}
 use Rattle.page_face.specs.FreeList.{PageMap}
-use Rattle.page_face.specs.Number.{number}
 use Rattle.btree_nodes.specs.declared.form.Form.{Form}
 use Rattle.btree_nodes.specs.Bounds.{upper_of}
 use Rattle.btree_nodes.specs.Damages.{AsksOnly, IsDamaged}

@@ -1,10 +1,8 @@
-use Rattle.std.proofs.Common.{◌≡◌, ◌<◌, ◌≤◌, ◌^◌, ℕ, List, Option, Some, None, arith, rules, sym, ap, ◌∙◌, true, false}
-use Rattle.page_face.specs.Number.{number}
+use Rattle.std.proofs.Common.{◌≡◌, ◌<◌, ◌≤◌, ◌^◌, ℕ, List, Some, None, arith, rules, sym, ap, ◌∙◌}
 use Rattle.btree_nodes.specs.Nodes.{rows_in}
 use Rattle.btree_nodes.specs.Rows.{Row, first_from}
 use Rattle.rtree_shape.specs.Stock.{rows_form}
 use Rattle.node_inverted.specs.Rows.{key_of}
-use Rattle.node_inverted.specs.Copies.{IsBefore}
 use Rattle.node_inverted.proofs.Copies.{before-le, copy-away, copy-next, copy-none, copy-on, copy-past}
 use Rattle.node_inverted.proofs.leaf.LeafCopy.first.Goals as goal
 
