@@ -46,7 +46,7 @@ pub record AreFewOpened (pages : PageMap) (tables : Tables) (tree : Tree) (query
 abbrev pub FewOpenedForGroup : (ℕ → Type 0) → PageMap → Tree → Numbers → Position → List (List ℕ) → List ℕ → List ℕ → Option Chosen → Type 0
 FewOpenedForGroup beside pages tree ids at words old new chosen = OpensFewForWords beside (given_to ids at) ids words (nodes_in node_of pages tree.rows) tree.root old new (picks_in chosen)
 
--- Few nodes were opened for a group query, each of whose words has the number that the words by text have for it. beside the nodes pages of the
+-- Few nodes were opened for a group query, each of whose words has the number that the words by text have for it. Beside the nodes pages of the
 -- words by text and of the tree's rows were asked for, and no others.
 pub record AreFewOpenedForGroup (pages : PageMap) (tables : Tables) (tree : Tree) (at : Position) (words : List (List ℕ)) (old new : List ℕ) (chosen : Option Chosen) : Type 0 where
   pub entries : Entries
