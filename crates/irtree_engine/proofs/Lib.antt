@@ -1,6 +1,7 @@
 pub mod Batches
 pub mod Commits
 pub mod Dues
+pub mod EachRead
 pub mod Effects
 pub mod Heads
 pub mod Logs

@@ -28,6 +28,7 @@ use Rattle.store_meaning.proofs.Places.{known-each}
 use Rattle.place_updates.specs.Known.{AreKnown, AreAllKnown}
 use Rattle.irtree_engine.specs.declared.fault.EngineFault.TheVariants.{Damaged}
 use Rattle.irtree_engine.specs.Faults.{fault_of_pages}
+use Rattle.irtree_engine.specs.Queries.{contents_held}
 use Rattle.place_map.specs.State as states
 use Rattle.store_meaning.specs.Stands.{PagesStand, Stands, tables_in}
 use Rattle.store_meaning.proofs.Images.{area-one}
@@ -42,6 +43,14 @@ committed-stand tells world overlay current last end state told none settled com
     subst (λ (b : Superblock). PagesStand b (counted_pages b.counted (shown tells (applied world.seen) overlay)) state) (sym settled)
     (subst (λ (b : Bool). PagesStand last (counted_pages last.counted (shown b (applied world.seen) overlay)) state) (sym told)
     (subst (λ (c : Contents). PagesStand c.block c.pages state) is stands.stand))
+
+-- where nothing waits to be committed, page 0's fields as they stand and the pages are what the image holds
+pub committed-held : (tells : Bool) (world : World) (overlay : Overlay) (current last : Superblock) (end : ℕ) → tells ≡ true → overlay.entries ≡ [] → current ≡ last → IsCommitted last end world
+    → ◌≡◌ {A = Contents} (record { block = current; pages = counted_pages current.counted (shown tells (applied world.seen) overlay) }) (contents_held world.seen)
+committed-held tells world overlay current last end told none settled committed =
+    ap (λ (b : Superblock). record { block = b; pages = counted_pages b.counted (shown tells (applied world.seen) overlay) }) settled
+    ∙ ap (λ (b : Bool). record { block = last; pages = counted_pages last.counted (shown b (applied world.seen) overlay) }) told
+    ∙ cleared_contents overlay (applied world.seen) last none committed.head
 
 -- each counted page of a store is told
 pub store-told : (tells : Bool) (area : ℕ → ℕ) (overlay : Overlay) (count : ℕ) → tells ≡ true → IsSized overlay → AreTold (counted_pages count (shown tells area overlay)) count

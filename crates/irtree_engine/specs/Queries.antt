@@ -1,7 +1,14 @@
--- What a query asks for, and how its answer was found.
-use Rattle.std.specs.Prelude.{ℕ, List}
+-- What a query asks for, how its answer was found, and which reads it took.
+use Rattle.std.specs.Prelude.{◌≡◌, ℕ, List, [], ◌++◌}
+use Rattle.std.specs.List.{AllByRecursion}
+use Rattle.disk_model.specs.World.{World, Image, Range}
 use Rattle.page_face.specs.FreeList.{PageMap}
+use Rattle.page_journal.specs.Record.{applied}
+use Rattle.page_store.specs.Contents as stores
+use Rattle.page_store.specs.Store.{IsReadOf}
 use Rattle.page_store.specs.declared.superblock.Superblock.{Superblock}
+use Rattle.place_map.specs.Answer.{answer_of}
+use Rattle.place_map.specs.State.{Contents}
 use Rattle.place_map.specs.declared.query.Query.{Query}
 use Rattle.place_map.specs.declared.query.Query.TheVariants as queries
 use Rattle.place_map.specs.declared.query.Answer.{Answer}
@@ -19,3 +26,19 @@ AsksForHits _ = Unit {0}
 abbrev pub IsFoundByFew : PageMap → Superblock → Query → List ℕ → List ℕ → Answer → Type 0
 IsFoundByFew pages block query before after (Hits hits) = AreFewOpened pages (tables_in block.head) (tree_in block.head) query before after hits
 IsFoundByFew pages block query before after (Group chosen) = Unit {0}
+
+-- what an image holds, with its journal applied: page 0's fields and the pages counted
+abbrev pub contents_held : Image → stores.Contents
+contents_held image = stores.contents_in (applied image)
+
+-- The read is of a page in a log by which the query's answer was found with few nodes opened.
+pub record IsReadForQuery (held : stores.Contents) (state : Contents) (query : Query) (range : Range) : Type 0 where
+  pub asked : List ℕ
+  pub few : IsFoundByFew held.pages held.block query [] asked (answer_of state query)
+  pub page : IsReadOf asked range
+
+-- each read taken from old to new has P
+pub record EachRead (P : Range → Type 0) (old new : World) : Type 0 where
+  pub taken : List Range
+  pub are : new.reads ≡ old.reads ++ taken
+  pub each : AllByRecursion P taken

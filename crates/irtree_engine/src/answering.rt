@@ -1,5 +1,5 @@
 //! What a query is answered.
-ghost use Rattle.std.specs.Prelude.{◌≡◌, ◌≤◌, IsTrue, IfOk, IfErr, IsErrOf, ◌↔◌, []};
+ghost use Rattle.std.specs.Prelude.{◌≡◌, ◌≤◌, IsTrue, IfOk, IfErr, OnOk, IsErrOf, ◌↔◌, []};
 ghost use Rattle.disk_model.specs.World.{Rose};
 ghost use Rattle.page_store.specs.Store.{Rests, ReadsOnly};
 ghost use Rattle.place_map.specs.Answer.{answer_of};
@@ -8,7 +8,7 @@ ghost use Rattle.place_map.specs.State.{Contents};
 ghost use Rattle.irtree_engine.specs.Damages.{IsQueryDamage};
 ghost use Rattle.irtree_engine.specs.Holding.{HoldsState};
 ghost use Rattle.irtree_engine.specs.Faults.{IsReadFault};
-ghost use Rattle.irtree_engine.specs.Queries.{IsFoundByFew};
+ghost use Rattle.irtree_engine.specs.Queries.{EachRead, IsFoundByFew, IsReadForQuery, contents_held};
 
 use crate::queries::answer_in;
 use crate::{Engine, EngineFault};
@@ -37,6 +37,9 @@ impl<'d, D: Station> Engine<'d, D> {
         // Few nodes were opened for hits: each page of the log is one of the words by text or of the rows of words, or a node that the query calls for.
         ensures opened { IsTrue D.tells → (state : Contents) → HoldsState (D.world self.old.store.disk.now) state
             → IfOk result (IsFoundByFew (⟦<Store<'d, D> as Pages>⟧.pages self.old.store) self.old.store.current query.now [] self.new.store.asked.items) }
+        // So it is by what the image holds: each read of the device is of a page in such a log.
+        ensures opens_few { IsTrue D.tells → (state : Contents) → HoldsState (D.world self.old.store.disk.now) state
+            → OnOk result (EachRead (IsReadForQuery (contents_held (D.world self.old.store.disk.now).seen) state query.now) (D.world self.old.store.disk.now) (D.world self.new.store.disk.now)) }
 
         // A page of the log breaks a rule, as reads give it.
         ensures damaged { IsTrue D.tells → (damage : Damage) → IsErrOf result (EngineFault.Damaged damage)

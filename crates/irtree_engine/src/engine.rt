@@ -1,6 +1,6 @@
 //! The engine, its count, and what it says.
 ghost use Rattle.std.specs.Prelude.{◌≡◌, ◌≢◌, ◌≤◌, ◌<◌, ◌+◌, true, false, IsTrue, IfOk, IfErr, OnOk, OnErr, IsErrOf, ◌↔◌, ℕ, [], length};
-ghost use Rattle.disk_model.specs.World.{LeavesOnly, HasSaid, HasSinkCause, Rose};
+ghost use Rattle.disk_model.specs.World.{LeavesOnly, HasSaid, HasSinkCause, ReadsJournalOnly, Rose};
 ghost use Rattle.page_journal.specs.Record.{IsBad};
 ghost use Rattle.page_store.specs.Contents.{IsCommitted};
 ghost use Rattle.page_store.specs.Opening.{SaysNothingReadsHead, head_damage};
@@ -168,6 +168,8 @@ impl<'d, D: Station> Engine<'d, D> {
         ensures any_moment { IsTrue D.tells → (state : Contents) → HoldsState (D.world self.old.store.disk.now) state
             → LeavesOnly (D.world self.old.store.disk.now) (D.world self.new.store.disk.now) (LeavesState state (D.world self.old.store.disk.now)) }
         ensures front { OnOk result (self.new.store.end ≡ 0) }
+        ensures at_rest { self.old.store.end ≡ 0 → self.new.store.disk ≡ self.old.store.disk }
+        ensures reads { IsTrue D.tells → ReadsJournalOnly (D.world self.old.store.disk.now) (D.world self.new.store.disk.now) }
         ensures stopped { IsErrOf result EngineFault.Stopped ↔ IsTrue self.old.stopped }
         ensures causes { IfErr result IsSettleFault }
         ensures disk { IsErrOf result EngineFault.Disk → Rose (D.world self.old.store.disk.now).faults (D.world self.new.store.disk.now).faults }

@@ -6,15 +6,17 @@ use Rattle.page_face.specs.declared.head.Head.{Head}
 use Rattle.page_store.specs.declared.superblock.Superblock.{Superblock}
 use Rattle.page_store.specs.Contents as stores
 use Rattle.page_store.specs.Contents.{Overlay, counted_pages, shown}
+use Rattle.place_map.specs.declared.query.Answer.{Answer}
 use Rattle.store_meaning.specs.Stands.{PagesStand}
 use Rattle.irtree_engine.specs.declared.fault.EngineFault.TheVariants.{Damaged}
 use Rattle.irtree_engine.specs.Changes.{block_with}
 use Rattle.irtree_engine.specs.Damages.{IsQueryDamage}
 use Rattle.irtree_engine.specs.Holding.{HoldsState}
 use Rattle.irtree_engine.specs.Faults.{fault_of_pages}
-use Rattle.irtree_engine.specs.Queries.{IsFoundByFew}
+use Rattle.irtree_engine.specs.Queries.{IsFoundByFew, contents_held}
 use Rattle.irtree_engine.proofs.Logs.{logged, logged-none}
-use Rattle.irtree_engine.proofs.Standing.{committed-stand, damaged-from, store-told}
+use Rattle.irtree_engine.proofs.EachRead.{reads-logged}
+use Rattle.irtree_engine.proofs.Standing.{committed-held, committed-stand, damaged-from, store-told}
 use Rattle.irtree_engine.proofs.answering.Engine+D.answer.Goals as goal
 
 pub returns-clause-answered : goal.returns-clause-answered
@@ -51,6 +53,34 @@ returns-clause-opened g c = λ t state holds.
     subst (λ (s : stores.Contents). IsFoundByFew s.pages s.block query [] log c.in_ok-answer_in.field-0) same
     (subst (λ (before : List ℕ). IsFoundByFew held store.current query before log c.in_ok-answer_in.field-0) c.clear_log.ensures.log
     (subst (λ (h : Head). IsFoundByFew held (block_with store.current.counted store.current.first_free h) query store.asked.items log c.in_ok-answer_in.field-0) c.head-head.ensures found))
+
+pub returns-clause-opens_few : goal.returns-clause-opens_few
+returns-clause-opens_few g c = λ t state holds.
+    let world = g.D.Disk.world in
+    let on = c.clear_log.ensures.stopped ∙ sym c.args.self.now.stops ∙ c.if-self.false in
+    let clean = ap (λ (o : Overlay). o.entries) c.clear_log.ensures.overlay ∙ c.args.self.now.clean in
+    let settled = c.clear_log.ensures.current ∙ c.args.self.now.settled ∙ sym c.clear_log.ensures.last in
+    let here = subst (λ disk. HoldsState (world disk) state) (λ i. (sym c.clear_log.ensures.disk i).now) holds in
+    let store = c.clear_log.new.self in
+    let pages : PageMap = counted_pages store.current.counted (shown g.D.Disk.tells (applied (world store.disk.now).seen) store.overlay) in
+    let committed = committed-stand g.D.Disk.tells (world store.disk.now) store.overlay store.current store.last store.end state t clean settled (store.ready t on) here in
+    let stand : PagesStand (block_with store.current.counted store.current.first_free c.head-head.result) pages state =
+    subst (λ (h : Head). PagesStand (block_with store.current.counted store.current.first_free h) pages state) (sym c.head-head.ensures) committed in
+    let told = store-told g.D.Disk.tells (applied (world store.disk.now).seen) store.overlay store.current.counted t store.sized in
+    let query = c.args.query.now in
+    let log = c.answer_in.new.pages.asked.items in
+    let answer = c.in_ok-answer_in.field-0 in
+    let held = contents_held (world c.args.self.now.store.disk.now).seen in
+    let same : ◌≡◌ {A = stores.Contents} (record { block = store.current; pages = pages }) held =
+    committed-held g.D.Disk.tells (world store.disk.now) store.overlay store.current store.last store.end t clean settled (store.ready t on)
+    ∙ (λ i. contents_held (world (c.clear_log.ensures.disk i).now).seen) in
+    let few : IsFoundByFew held.pages held.block query [] log answer =
+    subst (λ (s : stores.Contents). IsFoundByFew s.pages s.block query [] log answer) same
+    (subst (λ (before : List ℕ). IsFoundByFew pages store.current query before log answer) c.clear_log.ensures.log
+    (subst (λ (h : Head). IsFoundByFew pages (block_with store.current.counted store.current.first_free h) query store.asked.items log answer) c.head-head.ensures (c.in_ok-answer_in.ensures.opened state stand told))) in
+    reads-logged held state query log (world c.args.self.now.store.disk.now) (world c.answer_in.new.pages.disk.now)
+    (subst (λ (a : Answer). IsFoundByFew held.pages held.block query [] log a) (c.in_ok-answer_in.ensures.answered state stand told) few)
+    (logged g.D.Disk.tells world c.clear_log.ensures.disk c.clear_log.ensures.log c.answer_in.ensures.frame.only_reads t)
 
 pub returns-in_err-answer_in-clause-honest : goal.returns-in_err-answer_in-clause-honest
 returns-in_err-answer_in-clause-honest g c = λ t state holds damage is.

@@ -1,5 +1,5 @@
-use Rattle.std.proofs.Common.{sym, ◌∙◌}
-use Rattle.disk_model.proofs.Moments.{started}
+use Rattle.std.proofs.Common.{refl, sym, ◌∙◌}
+use Rattle.disk_model.proofs.Moments.{reads_same, started}
 use Rattle.irtree_engine.proofs.Openings.{pages-stand, settling-leaves}
 use Rattle.irtree_engine.proofs.engine.Engine+D.settle.Goals as goal
 
@@ -17,3 +17,12 @@ returns-in-Ok-clause-any_moment g c = λ t state holds. settling-leaves _ _ stat
 
 pub returns-in-Err-clause-any_moment : goal.returns-in-Err-clause-any_moment
 returns-in-Err-clause-any_moment g c = λ t state holds. settling-leaves _ _ state holds (c.settle.ensures.any_moment t (sym c.args.self.now.stops ∙ c.if-self.false))
+
+pub returns-then-self-clause-reads : goal.returns-then-self-clause-reads
+returns-then-self-clause-reads g c = λ t. reads_same refl
+
+pub returns-in-Ok-clause-reads : goal.returns-in-Ok-clause-reads
+returns-in-Ok-clause-reads g c = λ t. (c.settle.ensures.quiet t).reads
+
+pub returns-in-Err-clause-reads : goal.returns-in-Err-clause-reads
+returns-in-Err-clause-reads g c = λ t. (c.settle.ensures.quiet t).reads
