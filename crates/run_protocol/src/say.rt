@@ -12,6 +12,7 @@ pub fn say_all<'d, T: Station>(engine: &mut Engine<'d, T>, bytes: &[u8]) -> Resu
     requires on { engine.old.stopped ≡ false }
     ensures same_loan { engine.new.store.disk.ghost_name ≡ engine.old.store.disk.ghost_name }
     ensures said { IsTrue T.tells → SaysAll bytes.now (T.world engine.old.store.disk.now) (T.world engine.new.store.disk.now) result }
+    ensures reads { IsTrue T.tells → (T.world engine.new.store.disk.now).reads ≡ (T.world engine.old.store.disk.now).reads }
     ensures cause { HasSinkCause (T.world engine.old.store.disk.now) (T.world engine.new.store.disk.now) result }
     ensures room { T.room_of engine.new.store.disk.now ≡ T.room_of engine.old.store.disk.now }
     ensures on { engine.new.stopped ≡ false }

@@ -11,6 +11,7 @@ loop-at-init g c = record {
   on = c.requires.on;
   loan = refl;
   said = λ told. says-none c.args.bytes.now (g.T.Disk.world c.args.engine.now.store.disk.now);
+  reads = λ told. refl;
   later = omega arith;
   disk = refl;
   head = refl;
@@ -25,6 +26,9 @@ returns-in_err-at-clause-said g c = λ told.
     rw passed.1 (says-failed c.loop-at.at c.args.bytes.now _ (world c.args.engine.now.store.disk.now) (world c.loop-at.engine.store.disk.now) (world c.say.new.self.store.disk.now)
     (c.loop-at.invariant.said told) safe (take_rest c.args.bytes.now c.loop-at.at) (Unit {0}) _ (c.in_err-at.ensures.told told))
 
+pub returns-in_err-at-clause-reads : goal.returns-in_err-at-clause-reads
+returns-in_err-at-clause-reads g c = λ told. (c.in_err-at.ensures.told told).reads ∙ c.loop-at.invariant.reads told
+
 pub returns-clause-said : goal.returns-clause-said
 returns-clause-said g c = λ told. says-all Failed c.loop-at.at c.args.bytes.now _ _ _ (omega (arith, c.loop-at-test.false)) (c.loop-at.invariant.said told)
 
@@ -38,6 +42,7 @@ loop-at-preserved g c = record {
       let safe = (c.loop-at.engine.store.ready told (sym c.loop-at.engine.stops ∙ c.loop-at.invariant.on)).ready.safe in
       says-more c.loop-at.at c.args.bytes.now _ (world c.args.engine.now.store.disk.now) (world c.loop-at.engine.store.disk.now) (world c.say.new.self.store.disk.now)
       (c.loop-at.invariant.said told) safe (take_rest c.args.bytes.now c.loop-at.at) c.in_ok-at.field-0 (c.in_ok-at.ensures.told told);
+  reads = λ told. (c.in_ok-at.ensures.told told).reads ∙ c.loop-at.invariant.reads told;
   later = omega (arith, c.in_ok-at.ensures.cause.later, c.loop-at.invariant.later);
   disk = c.in_ok-at.ensures.cause.disk ∙ c.loop-at.invariant.disk;
   head = c.in_ok-at.ensures.head ∙ c.loop-at.invariant.head;
