@@ -14,7 +14,7 @@ use Rattle.place_map.specs.declared.query.Query.TheVariants as queries
 use Rattle.place_map.specs.declared.query.Answer.{Answer}
 use Rattle.place_map.specs.declared.query.Answer.TheVariants.{Hits, Group}
 use Rattle.store_meaning.specs.Stands.{tables_in}
-use Rattle.tree_answers.specs.Opened.{AreFewOpened}
+use Rattle.tree_answers.specs.Opened.{AreFewOpened, AreFewOpenedForGroup}
 use Rattle.irtree_engine.specs.Changes.{tree_in}
 
 -- the query asks for hits: it is of another kind than group
@@ -22,10 +22,11 @@ abbrev pub AsksForHits : Query → Type 0
 AsksForHits (queries.Group at words) = ⊥
 AsksForHits _ = Unit {0}
 
--- Few nodes were opened for the hits of an answer, with the pages asked for before and after. Of a group nothing is said.
+-- Few nodes were opened for an answer, with the pages asked for before and after: of hits and of a choice, each as its query's kind says it.
 abbrev pub IsFoundByFew : PageMap → Superblock → Query → List ℕ → List ℕ → Answer → Type 0
 IsFoundByFew pages block query before after (Hits hits) = AreFewOpened pages (tables_in block.head) (tree_in block.head) query before after hits
-IsFoundByFew pages block query before after (Group chosen) = Unit {0}
+IsFoundByFew pages block (queries.Group at words) before after (Group chosen) = AreFewOpenedForGroup pages (tables_in block.head) (tree_in block.head) at words before after chosen
+IsFoundByFew pages block _ before after (Group chosen) = ⊥
 
 -- what an image holds, with its journal applied: page 0's fields and the pages counted
 abbrev pub contents_held : Image → stores.Contents

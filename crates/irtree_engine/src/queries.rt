@@ -90,7 +90,9 @@ fn choice_in<P: Pages>(
 ) -> Result<Answer, PageFault>
     ensures answered { (state : Contents) → PagesStand (block_with (P.count pages.old) (P.first pages.old) head.now) (P.pages pages.old) state
         → AreTold (P.pages pages.old) (P.count pages.old) → IfOk result (λ answer. answer ≡ Answer.Group (group_of state.places at.now words.now)) }
-    ensures opened { (query : Query) → IfOk result (IsFoundByFew (P.pages pages.old) (block_with (P.count pages.old) (P.first pages.old) head.now) query (P.asked pages.old) (P.asked pages.new)) }
+    ensures opened { (state : Contents) → PagesStand (block_with (P.count pages.old) (P.first pages.old) head.now) (P.pages pages.old) state
+        → AreTold (P.pages pages.old) (P.count pages.old)
+        → IfOk result (IsFoundByFew (P.pages pages.old) (block_with (P.count pages.old) (P.first pages.old) head.now) (Query.Group at.now words.now) (P.asked pages.old) (P.asked pages.new)) }
     ensures honest { (state : Contents) → PagesStand (block_with (P.count pages.old) (P.first pages.old) head.now) (P.pages pages.old) state
         → AreTold (P.pages pages.old) (P.count pages.old) → (damage : Damage) → result ≢ Err (PageFault.Damaged damage) }
     ensures damaged { AreTold (P.pages pages.old) (P.count pages.old) → (damage : Damage) → IsErrOf result (PageFault.Damaged damage)

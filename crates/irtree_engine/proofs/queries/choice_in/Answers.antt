@@ -4,6 +4,7 @@ use Rattle.store_tables.specs.declared.tables.Tables.{Tables}
 use Rattle.node_inverted.specs.declared.roots.Tree.{Tree}
 use Rattle.place_map.specs.declared.query.Answer.TheVariants.{Group}
 use Rattle.tree_answers.specs.Damages.{IsAnswerHarm}
+use Rattle.tree_answers.specs.Opened.{AreFewOpenedForGroup}
 use Rattle.irtree_engine.specs.Changes.{tree_in}
 use Rattle.irtree_engine.proofs.Roots.{roots-stand}
 use Rattle.irtree_engine.proofs.queries.choice_in.Goals as goal
@@ -14,6 +15,19 @@ returns-in-Ok-clause-answered g c = λ state stand told.
     let old = c.args.pages.now in
     let roots = roots-stand (P.pages old) (P.count old) (P.first old) c.args.head.now c.tables_of-tables.result c.tree_of-tree.result state c.tables_of-tables.ensures c.tree_of-tree.ensures stand in
     ap Group (c.in-Ok.ensures.answered state roots told)
+
+pub returns-in-Ok-clause-opened : goal.returns-in-Ok-clause-opened
+returns-in-Ok-clause-opened g c = λ state stand told.
+    let P = g.P.Pages in
+    let old = c.args.pages.now in
+    let at = c.args.at.now in
+    let words = c.args.words.now in
+    let before : List ℕ = P.asked old in
+    let after : List ℕ = P.asked c.chosen.new.pages in
+    let roots = roots-stand (P.pages old) (P.count old) (P.first old) c.args.head.now c.tables_of-tables.result c.tree_of-tree.result state c.tables_of-tables.ensures c.tree_of-tree.ensures stand in
+    subst (λ (tables : Tables). AreFewOpenedForGroup (P.pages old) tables (tree_in c.args.head.now) at words before after c.in-Ok.choice) c.tables_of-tables.ensures
+    (subst (λ (tree : Tree). AreFewOpenedForGroup (P.pages old) c.tables_of-tables.result tree at words before after c.in-Ok.choice) c.tree_of-tree.ensures
+    (c.in-Ok.ensures.opened state roots told))
 
 pub returns-in-Err-clause-honest : goal.returns-in-Err-clause-honest
 returns-in-Err-clause-honest g c = λ state stand told damage.
