@@ -1,3 +1,4 @@
+mod Asking
 mod Causes
 mod Ends
 mod Feeding

@@ -16,6 +16,7 @@ use Rattle.run_protocol.specs.declared.ended.Ended.{Ended}
 use Rattle.run_protocol.specs.declared.ended.Ended.TheVariants as ends
 use Rattle.run_protocol.specs.declared.ended.LimitFault.TheVariants as limits
 use Rattle.script_run.specs.Lines.{StopsAmong, RunsLines}
+use Rattle.script_run.proofs.Asking.{asking-alike, asking-first, asking-next, reads-alike, reads-both, reads-nothing}
 use Rattle.script_run.proofs.Fronts.{front-whole, front-goes_on, front-behind}
 use Rattle.script_run.proofs.Lines.{script-none, script-append}
 
@@ -81,24 +82,25 @@ runs-none state now value holds = record {
   holds = subst (λ (u : Turn). HoldsState now u.state) (sym (script-none state)) holds;
   stops = tt;
   left_by = started now;
+  reads = λ asks. reads-nothing state [] now;
 }
 
 -- nothing was done, for want of memory
 pub runs-nothing : (T : Type 0) (state : Contents) (lines : List (List ℕ)) (now : World) → RunsLines {T = T} state lines now now (Err ends.Memory)
-runs-nothing T state lines now = record { said = tt; holds = tt; stops = (0, sym (append-nil now.said)); left_by = started now }
+runs-nothing T state lines now = record { said = tt; holds = tt; stops = (0, sym (append-nil now.said)); left_by = started now; reads = λ asks. tt }
 
 -- memory is wanting behind lines that were acted on
 pub runs-lost : {A : Type 0} (T : Type 0) (state : Contents) (lines : List (List ℕ)) (old now : World) (value : A) → RunsLines state lines old now (Ok value) → RunsLines {T = T} state lines old now (Err ends.Memory)
 runs-lost T state lines old now value runs =
-    record { said = tt; holds = tt; stops = front-whole (script state lines).text old.said now.said runs.said; left_by = runs.left_by }
+    record { said = tt; holds = tt; stops = front-whole (script state lines).text old.said now.said runs.said; left_by = runs.left_by; reads = λ asks. tt }
 
 -- another value is answered
 pub runs-valued : {A B : Type 0} (state : Contents) (lines : List (List ℕ)) (old now : World) (value : A) (other : B) → RunsLines state lines old now (Ok value) → RunsLines state lines old now (Ok other)
-runs-valued state lines old now value other runs = record { said = runs.said; holds = runs.holds; stops = tt; left_by = runs.left_by }
+runs-valued state lines old now value other runs = record { said = runs.said; holds = runs.holds; stops = tt; left_by = runs.left_by; reads = runs.reads }
 
 -- another kind of value would have been answered
 pub runs-failed : (A B : Type 0) (state : Contents) (lines : List (List ℕ)) (old now : World) (end : Ended) → RunsLines {T = A} state lines old now (Err end) → RunsLines {T = B} state lines old now (Err end)
-runs-failed A B state lines old now end runs = record { said = tt; holds = tt; stops = runs.stops; left_by = runs.left_by }
+runs-failed A B state lines old now end runs = record { said = tt; holds = tt; stops = runs.stops; left_by = runs.left_by; reads = λ asks. tt }
 
 -- a run that stopped stops so where more lines are behind
 pub runs-goes_on : {T : Type 0} (state : Contents) (lines more : List (List ℕ)) (old new : World) (end : Ended) → RunsLines {T = T} state lines old new (Err end) → RunsLines {T = T} state (lines ++ more) old new (Err end)
@@ -107,6 +109,7 @@ runs-goes_on state lines more old new end runs = record {
   holds = tt;
   stops = stops-goes_on state lines more old.said new end runs.stops;
   left_by = within runs.left_by (left-goes_on state lines more old.said);
+  reads = λ asks. tt;
 }
 
 module _ {A : Type 0} (state : Contents) (first next : List (List ℕ)) (old now new : World) (value : A) (runs : RunsLines state first old now (Ok value)) where
@@ -123,12 +126,14 @@ module _ {A : Type 0} (state : Contents) (first next : List (List ℕ)) (old now
     holds = subst (λ (u : Turn). HoldsState new u.state) (sym (script-append state first next)) behind.holds;
     stops = tt;
     left_by = left-then behind;
+    reads = λ asks. reads-both state first next old now new (asking-first first next asks) (runs.reads (asking-first first next asks)) (behind.reads (asking-next first next asks));
   }
   runs-then (Err end) behind = record {
     said = tt;
     holds = tt;
     stops = stops-behind state first next old.said new end (subst (λ (b : List ℕ). StopsAmong (script state first).state next b new end) runs.said behind.stops);
     left_by = left-then behind;
+    reads = λ asks. tt;
   }
 
 -- ---- a line, and what is kept of it
@@ -164,10 +169,12 @@ runs-alike state line other old new (Ok value) same runs = record {
   holds = subst (λ (u : Turn). HoldsState new u.state) (script-alike state line other same) runs.holds;
   stops = tt;
   left_by = left-alike state line other old new same runs.left_by;
+  reads = λ asks. reads-alike state line other old new same (runs.reads (asking-alike line other same asks));
 }
 runs-alike state line other old new (Err end) same runs = record {
   said = tt;
   holds = tt;
   stops = stops-alike state line other old.said new end same runs.stops;
   left_by = left-alike state line other old new same runs.left_by;
+  reads = λ asks. tt;
 }

@@ -13,6 +13,7 @@ use Rattle.query_replies.specs.Reply.{text_of_reply}
 use Rattle.store_meaning.specs.Stands.{Stands}
 use Rattle.irtree_engine.specs.Holding.{HoldsState}
 use Rattle.irtree_engine.specs.Updates.{LeavesOneOf}
+use Rattle.run_protocol.specs.Asking.{IsAsking, ReadsForLine}
 use Rattle.run_protocol.specs.Causes.{HasEngineEnd}
 use Rattle.run_protocol.specs.Left.{LeftByLines}
 use Rattle.run_protocol.specs.Said.{SaysAll, SaysFrontOf}
@@ -22,6 +23,7 @@ use Rattle.run_protocol.specs.declared.ended.Ended.TheVariants as ends
 use Rattle.run_protocol.specs.declared.ended.LimitFault.TheVariants as limits
 use Rattle.script_run.specs.Lines.{StopsBeforeReply, RepliesTo, StopsAmong, RunsLines}
 use Rattle.run_protocol.proofs.Reading.{holds-same}
+use Rattle.script_run.proofs.Asking.{reads-said}
 
 -- what is said leaves the image, and a station that said it goes on
 pub say-goes_on : (tells : Bool) (old new : World) (bytes : List ℕ) {A T : Type 0} (value : A) (other : T) → (IsTrue tells → SaysAll {E = Failed} bytes old new (Ok value)) → HasSinkCause {T = A} old new (Ok value) → HasEngineEnd tells old new (Ok other)
@@ -70,6 +72,7 @@ module _ (state : Contents) (line : List ℕ) (old now : World) where
     holds = tt;
     stops = stops-before state line old now end replies.said replies.stops;
     left_by = within replies.left_by (left-before state line old);
+    reads = λ asks. tt;
   }
 
   -- a line whose reply finds no memory
@@ -79,6 +82,7 @@ module _ (state : Contents) (line : List ℕ) (old now : World) where
     holds = tt;
     stops = (0, replies.said ∙ sym (append-nil old.said));
     left_by = within replies.left_by (left-before state line old);
+    reads = λ asks. tt;
   }
 
   module _ (new : World) (reply : Reply) (bytes : List ℕ) (replies : RepliesTo state (line_of line) old now (Ok reply)) (written : bytes ≡ text_of_reply reply) where
@@ -96,12 +100,13 @@ module _ (state : Contents) (line : List ℕ) (old now : World) where
         left-saying state line old.said image said (subst (λ (i : Image). Stands i (state_after state (line_of line))) (sym saying.0) replies.holds) (front-said said saying.1)))
 
     -- a line whose reply was said
-    pub act-said : {A T : Type 0} (value : A) (other : T) → SaysAll {E = Failed} bytes now new (Ok value) → RunsLines state (line ∷ []) old new (Ok other)
-    act-said value other says = record {
+    pub act-said : {A T : Type 0} (value : A) (other : T) → (IsAsking (line_of line) → ReadsForLine state (line_of line) old now) → new.reads ≡ now.reads → SaysAll {E = Failed} bytes now new (Ok value) → RunsLines state (line ∷ []) old new (Ok other)
+    act-said value other reads none says = record {
       said = says.all ∙ ap (λ (s : List ℕ). s ++ bytes) replies.said ∙ ap (λ (b : List ℕ). old.said ++ b) (says-reply ∙ sym (text-one state line));
       holds = subst (λ (s : Contents). HoldsState new s) (sym (state-one state line)) (subst (λ (i : Image). Stands i (state_after state (line_of line))) (sym says.seen) replies.holds);
       stops = tt;
       left_by = left-said says;
+      reads = λ asks. reads-said state line old now new (reads asks.0) says.seen none;
     }
 
     -- a line of whose reply a front was said
@@ -111,4 +116,5 @@ module _ (state : Contents) (line : List ℕ) (old now : World) where
       holds = tt;
       stops = subst (λ (t : List ℕ). SaysFrontOf t old.said new.said) (sym (text-one state line)) (front-said new.said says.front);
       left_by = left-said says;
+      reads = λ asks. tt;
     }

@@ -1,12 +1,13 @@
 -- A script between two reads of its input.
 use Rattle.std.proofs.Common.{◌≡◌, ℕ, ◌+◌, ◌-◌, ◌<◌, ◌≤◌, ⊎_elim, List, [], ◌++◌, length, take, drop, refl, sym, ap, subst, ◌∙◌, arith, append_assoc, length-append, length-drop}
-use Rattle.std.specs.Prelude.{Result, Ok, Err}
+use Rattle.std.specs.Prelude.{Result, Ok, Err, OnOk}
 use Rattle.std.proofs.lemmas.Bool.{cases_lt, lt-ltb, le-ltb}
 use Rattle.std.proofs.lemmas.List.{append-nil, take_at, take_all, length-take-le}
 use Rattle.disk_model.specs.World.{World, LeavesOnly}
 use Rattle.disk_model.proofs.Moments.{started, within}
 use Rattle.place_map.specs.State.{Contents}
 use Rattle.irtree_engine.specs.Holding.{HoldsState}
+use Rattle.run_protocol.specs.Asking.{AreAsking, ReadsForLines}
 use Rattle.run_protocol.specs.Left.{LeftByLines}
 use Rattle.run_protocol.specs.Said.{SaysFrontOf}
 use Rattle.run_protocol.specs.Script.{Cut, cut, script, last_line, input_max, script_lines, script_transcript}
@@ -18,6 +19,7 @@ use Rattle.run_protocol.specs.declared.ended.LimitFault.TheVariants as limits
 use Rattle.script_run.specs.Feed.{kept}
 use Rattle.script_run.specs.Lines.{StopsAmong, RunsLines, RunsPiece}
 use Rattle.script_run.specs.Standing.{Standing, SaysRepliesOf, Stops, EndsScript}
+use Rattle.script_run.proofs.Asking.{reads-nothing}
 use Rattle.script_run.proofs.Fronts.{length-take_most, take-behind, front-whole, front-goes_on, parts-came}
 use Rattle.script_run.proofs.Lines.{cut-append, kept-nil, script-none}
 use Rattle.script_run.proofs.Runs.{text-append, left-goes_on, runs-then, runs-goes_on}
@@ -104,12 +106,13 @@ standing-start start input line now none holds = record {
   keeps = none ∙ kept-nil;
   said = sym (ap (λ (u : Turn). now.said ++ u.text) (script-none start) ∙ append-nil now.said);
   left_by = started now;
+  reads = λ asks. reads-nothing start [] now;
 }
 
 module _ (start : Contents) (input left : List ℕ) (first now : World) (line : List ℕ) (taken : ℕ) (s : Standing start input left first now line taken) where
   -- the lines of what was read were acted on
   standing-runs : RunsLines {T = Unit {0}} start (cut s.read).lines first now (Ok tt)
-  standing-runs = record { said = s.said; holds = s.holds; stops = tt; left_by = s.left_by }
+  standing-runs = record { said = s.said; holds = s.holds; stops = tt; left_by = s.left_by; reads = s.reads }
 
   -- and then some of a piece
   part-runs : {T : Type 0} (part : List ℕ) (new : World) (result : Result T Ended) → RunsLines (script start (cut s.read).lines).state (cut ((cut s.read).rest ++ part)).lines now new result → RunsLines start (cut (s.read ++ part)).lines first new result
@@ -134,6 +137,7 @@ module _ (start : Contents) (input left : List ℕ) (first now : World) (line : 
         keeps = keeps ∙ ap (λ (c : Cut). kept c.rest) (sym (cut-append s.read piece));
         said = all.said;
         left_by = all.left_by;
+        reads = all.reads;
       }
 
   -- a crash left one of the states around a line
@@ -172,6 +176,10 @@ module _ (start : Contents) (input left : List ℕ) (first now : World) (line : 
   -- and a crash left one of the states around a line
   pub standing-ends_left : {T : Type 0} (new : World) (result : Result T Ended) → taken ≤ input_max → left ≡ [] → RunsLines (script start (cut s.read).lines).state (last_line (cut s.read).rest) now new result → LeavesOnly first new (LeftByLines start (script_lines input) first.said)
   standing-ends_left new result few none runs = (standing-all new result few none runs).1.left_by
+
+  -- and, where its lines only ask, it read what their queries call for
+  pub standing-ends_reads : {T : Type 0} (new : World) (result : Result T Ended) → taken ≤ input_max → left ≡ [] → RunsLines (script start (cut s.read).lines).state (last_line (cut s.read).rest) now new result → AreAsking (script_lines input) → OnOk result (ReadsForLines start (script_lines input) first new)
+  standing-ends_reads new result few none runs = (standing-all new result few none runs).1.reads
 
   -- ---- a piece at which the script ends
   module _ (piece next : List ℕ) (new : World) (is : left ≡ piece ++ next) (few : taken ≤ 268435456) where
@@ -224,8 +232,8 @@ module _ (start : Contents) (input left : List ℕ) (first now : World) (line : 
 
 -- a run that stopped within a piece
 pub piece-stopped : (state : Contents) (lines : List (List ℕ)) (room len : ℕ) (old new : World) (end : Ended) → RunsLines {T = Unit {0}} state lines old new (Err end) → RunsPiece state lines room len old new (Err end)
-piece-stopped state lines room len old new ends.Memory runs = record { said = tt; holds = tt; stops = runs.stops; left_by = runs.left_by }
-piece-stopped state lines room len old new ends.Disk runs = record { said = tt; holds = tt; stops = runs.stops; left_by = runs.left_by }
-piece-stopped state lines room len old new ends.Sink runs = record { said = tt; holds = tt; stops = runs.stops; left_by = runs.left_by }
-piece-stopped state lines room len old new (ends.Limit fault) runs = record { said = tt; holds = tt; stops = runs.stops; left_by = runs.left_by }
+piece-stopped state lines room len old new ends.Memory runs = record { said = tt; holds = tt; stops = runs.stops; left_by = runs.left_by; reads = λ asks. tt }
+piece-stopped state lines room len old new ends.Disk runs = record { said = tt; holds = tt; stops = runs.stops; left_by = runs.left_by; reads = λ asks. tt }
+piece-stopped state lines room len old new ends.Sink runs = record { said = tt; holds = tt; stops = runs.stops; left_by = runs.left_by; reads = λ asks. tt }
+piece-stopped state lines room len old new (ends.Limit fault) runs = record { said = tt; holds = tt; stops = runs.stops; left_by = runs.left_by; reads = λ asks. tt }
 piece-stopped state lines room len old new _ runs = absurd runs.stops

@@ -14,6 +14,7 @@ use Rattle.irtree_engine.specs.Holding.{HoldsState}
 use Rattle.irtree_engine.specs.Updates.{LeavesOneOf}
 use Rattle.irtree_engine.specs.declared.fault.EngineFault.{EngineFault}
 use Rattle.irtree_engine.specs.declared.fault.EngineFault.TheVariants as engine
+use Rattle.run_protocol.specs.Asking.{AreAsking, ReadsForLines}
 use Rattle.run_protocol.specs.Causes.{end_of_engine}
 use Rattle.run_protocol.specs.Left.{LeftByLines, StopsAtLine}
 use Rattle.run_protocol.specs.Said.{SaysFrontOf}
@@ -68,12 +69,13 @@ StopsAmong state lines before now (ends.Limit limits.NoRoom) = StopsAtLine state
 StopsAmong state lines before now _ = ⊥
 
 -- Lines were acted on from a state that the image stood for: their replies were said whole, and the image stands for the state after
--- them. A crash left one of the states around a line.
+-- them. A crash left one of the states around a line. Where the lines only ask, the reads are those that their queries call for.
 pub record RunsLines {T : Type 0} (state : Contents) (lines : List (List ℕ)) (old new : World) (result : Result T Ended) : Type 0 where
   pub said : OnOk result (new.said ≡ old.said ++ (script state lines).text)
   pub holds : OnOk result (HoldsState new (script state lines).state)
   pub stops : IfErr result (StopsAmong state lines old.said new)
   pub left_by : LeavesOnly old new (LeftByLines state lines old.said)
+  pub reads : AreAsking lines → OnOk result (ReadsForLines state lines old new)
 
 -- The lines of a piece were acted on; of one that goes past what a script may have, the lines within that, and then the script ends.
 abbrev pub RunsPiece : Contents → List (List ℕ) → ℕ → ℕ → World → World → Result ℕ Ended → Type 0

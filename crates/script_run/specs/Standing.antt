@@ -3,6 +3,7 @@ use Rattle.std.specs.Prelude.{◌≡◌, ℕ, List, [], ◌++◌, length, Result
 use Rattle.disk_model.specs.World.{World, LeavesOnly}
 use Rattle.place_map.specs.State.{Contents}
 use Rattle.irtree_engine.specs.Holding.{HoldsState}
+use Rattle.run_protocol.specs.Asking.{AreAsking, ReadsForLines}
 use Rattle.run_protocol.specs.Left.{LeftByLines, StopsAtLine}
 use Rattle.run_protocol.specs.Said.{EndsAs, SaysFrontOf}
 use Rattle.run_protocol.specs.Script.{cut, script, script_lines, script_transcript}
@@ -13,7 +14,7 @@ use Rattle.run_protocol.specs.declared.ended.LimitFault.TheVariants as limits
 use Rattle.script_run.specs.Feed.{kept}
 
 -- Where a script stands that began in a state: some bytes were read, their lines were acted on, and the image stands for the state
--- after these; a crash since the start left one of the states around a line.
+-- after these; a crash since the start left one of the states around a line. Where the lines only ask, the reads are those that their queries call for.
 pub record Standing (start : Contents) (input left : List ℕ) (first now : World) (line : List ℕ) (taken : ℕ) : Type 0 where
   pub read : List ℕ
   pub came : input ≡ read ++ left
@@ -22,6 +23,7 @@ pub record Standing (start : Contents) (input left : List ℕ) (first now : Worl
   pub keeps : line ≡ kept (cut read).rest
   pub said : now.said ≡ first.said ++ (script start (cut read).lines).text
   pub left_by : LeavesOnly first now (LeftByLines start (cut read).lines first.said)
+  pub reads : AreAsking (cut read).lines → ReadsForLines start (cut read).lines first now
 
 -- Some bytes were read, the replies of all lines whose LF was among them were said whole and nothing else, and the image stands for
 -- the state after these lines.

@@ -2,13 +2,14 @@
 ghost use Rattle.std.specs.Prelude.{◌≡◌, ◌++◌, ◌∷◌, [], false, IsTrue, IfErr, IfOk, OnOk, Ok};
 ghost use Rattle.place_map.specs.State.{Contents};
 ghost use Rattle.query_lang.specs.Line.{line_of};
-ghost use Rattle.query_lang.specs.Plain.{IsSound};
+ghost use Rattle.query_lang.specs.Plain.{IsSound, plain_line};
 ghost use Rattle.query_lang.specs.Reply.{update_reply};
 ghost use Rattle.query_lang.specs.declared.line.Line.TheVariants as lines;
 ghost use Rattle.query_replies.specs.Reply.{HasReason};
 ghost use Rattle.place_map.specs.Query.{IsWithinLimits};
 ghost use Rattle.irtree_engine.specs.Holding.{HoldsState};
 ghost use Rattle.irtree_engine.specs.Updates.{NamesText};
+ghost use Rattle.run_protocol.specs.Asking.{IsAsking, ReadsForLine};
 ghost use Rattle.run_protocol.specs.Causes.{HasEngineEnd};
 ghost use Rattle.script_run.specs.Lines.{refused_by, IsLineEnd, RepliesTo, RunsLines};
 
@@ -73,6 +74,8 @@ fn ask<'d, T: Station>(
     ensures same_loan { engine.new.store.disk.ghost_name ≡ engine.old.store.disk.ghost_name }
     ensures told { IsTrue T.tells → (state : Contents) → HoldsState (T.world engine.old.store.disk.now) state
         → RepliesTo state (Ok (lines.Ask query explain)) (T.world engine.old.store.disk.now) (T.world engine.new.store.disk.now) result }
+    ensures reads { IsTrue T.tells → (state : Contents) → HoldsState (T.world engine.old.store.disk.now) state
+        → OnOk result (ReadsForLine state (Ok (plain_line (lines.Ask query explain))) (T.world engine.old.store.disk.now) (T.world engine.new.store.disk.now)) }
     ensures reason { IfOk result HasReason }
     ensures on { OnOk result (engine.new.stopped ≡ false) }
     ensures cause { HasEngineEnd T.tells (T.world engine.old.store.disk.now) (T.world engine.new.store.disk.now) result }
@@ -117,6 +120,8 @@ fn answer<'d, T: Station>(engine: &mut Engine<'d, T>, line: Line) -> Result<Repl
     ensures same_loan { engine.new.store.disk.ghost_name ≡ engine.old.store.disk.ghost_name }
     ensures told { IsTrue T.tells → (state : Contents) → HoldsState (T.world engine.old.store.disk.now) state
         → RepliesTo state (Ok line) (T.world engine.old.store.disk.now) (T.world engine.new.store.disk.now) result }
+    ensures reads { IsTrue T.tells → (state : Contents) → HoldsState (T.world engine.old.store.disk.now) state → IsAsking (Ok (plain_line line))
+        → OnOk result (ReadsForLine state (Ok (plain_line line)) (T.world engine.old.store.disk.now) (T.world engine.new.store.disk.now)) }
     ensures reason { IfOk result HasReason }
     ensures on { OnOk result (engine.new.stopped ≡ false) }
     ensures cause { HasEngineEnd T.tells (T.world engine.old.store.disk.now) (T.world engine.new.store.disk.now) result }
@@ -141,6 +146,8 @@ fn reply_to<'d, T: Station>(
     ensures same_loan { engine.new.store.disk.ghost_name ≡ engine.old.store.disk.ghost_name }
     ensures told { IsTrue T.tells → (state : Contents) → HoldsState (T.world engine.old.store.disk.now) state
         → RepliesTo state (line_of line.now) (T.world engine.old.store.disk.now) (T.world engine.new.store.disk.now) result }
+    ensures reads { IsTrue T.tells → (state : Contents) → HoldsState (T.world engine.old.store.disk.now) state → IsAsking (line_of line.now)
+        → OnOk result (ReadsForLine state (line_of line.now) (T.world engine.old.store.disk.now) (T.world engine.new.store.disk.now)) }
     ensures reason { IfOk result HasReason }
     ensures on { OnOk result (engine.new.stopped ≡ false) }
     ensures cause { HasEngineEnd T.tells (T.world engine.old.store.disk.now) (T.world engine.new.store.disk.now) result }

@@ -3,6 +3,7 @@ ghost use Rattle.std.specs.Prelude.{◌≡◌, ◌≤◌, ◌-◌, ◌+◌, ◌+
 ghost use Rattle.disk_model.specs.World.{LeavesOnly};
 ghost use Rattle.place_map.specs.State.{Contents};
 ghost use Rattle.irtree_engine.specs.Holding.{HoldsState};
+ghost use Rattle.run_protocol.specs.Asking.{AreAsking, ReadsForLines};
 ghost use Rattle.run_protocol.specs.Causes.{HasJobEnd};
 ghost use Rattle.run_protocol.specs.Left.{LeftByLines};
 ghost use Rattle.run_protocol.specs.Script.{cut, script_lines, FitsScript, IsScriptInput};
@@ -81,6 +82,9 @@ pub fn run_script<'d, S: Source, T: Station>(
     // A crash at any moment leaves one of the states around a line, and of the lines before it all was said.
     ensures any_moment { IsTrue S.tells → IsTrue T.tells → (state : Contents) → HoldsState (T.world engine.old.store.disk.now) state
         → LeavesOnly (T.world engine.old.store.disk.now) (T.world engine.new.store.disk.now) (LeftByLines state (script_lines (S.left source.old)) (T.world engine.old.store.disk.now).said) }
+    // Lines that only ask read what their queries call for, by what the image holds, and change nothing.
+    ensures opens_few { IsTrue S.tells → IsTrue T.tells → (state : Contents) → HoldsState (T.world engine.old.store.disk.now) state → AreAsking (script_lines (S.left source.old))
+        → OnOk result (ReadsForLines state (script_lines (S.left source.old)) (T.world engine.old.store.disk.now) (T.world engine.new.store.disk.now)) }
     ensures cause { HasJobEnd T.tells (S.faults source.old) (S.faults source.new) (T.world engine.old.store.disk.now) (T.world engine.new.store.disk.now) result }
 
     // Whatever the image stands for, the input and a limit end it only for their cause, and else the input was read to its end.

@@ -13,7 +13,7 @@ returns-in-Err-reply_text-clause-told g c = λ told state holds. act-lost state 
 pub returns-in-Ok-say_all-clause-told : goal.returns-in-Ok-say_all-clause-told
 returns-in-Ok-say_all-clause-told g c = λ told state holds.
     act-said state c.args.line.now _ _ _ c.in-Ok.found c.deref.result.now (c.in-Ok.ensures.told told state holds)
-    (c.deref.ensures.value ∙ c.in-Ok-reply_text.ensures.ok ∙ ap (λ l. l ++ text_of_reply c.in-Ok.found) c.clear.ensures.items) c.in-Ok-say_all.field-0 _ (c.in-Ok-say_all.ensures.said told)
+    (c.deref.ensures.value ∙ c.in-Ok-reply_text.ensures.ok ∙ ap (λ l. l ++ text_of_reply c.in-Ok.found) c.clear.ensures.items) c.in-Ok-say_all.field-0 _ (c.in-Ok.ensures.reads told state holds) (c.in-Ok-say_all.ensures.reads told) (c.in-Ok-say_all.ensures.said told)
 
 pub returns-in-Ok-say_all-clause-cause : goal.returns-in-Ok-say_all-clause-cause
 returns-in-Ok-say_all-clause-cause g c =

@@ -1,12 +1,15 @@
 use Rattle.std.proofs.Common.{sym, refl, ap, subst}
-use Rattle.std.specs.Prelude.{Ok}
+use Rattle.std.specs.Prelude.{Ok, OnOk}
 use Rattle.query_lang.specs.declared.line.Line.{Line}
 use Rattle.query_lang.specs.declared.line.Line.TheVariants as lines
 use Rattle.query_lang.specs.Reply.{reply_of}
 use Rattle.query_replies.specs.declared.reply.Reply.TheVariants as replies
 use Rattle.query_replies.specs.Reply.{text_of_reply}
+use Rattle.query_lang.specs.Plain.{plain_line}
+use Rattle.run_protocol.specs.Asking.{IsAsking, ReadsForLine}
 use Rattle.script_run.specs.Lines.{RepliesTo}
 use Rattle.run_protocol.proofs.Reading.{rests-still}
+use Rattle.script_run.proofs.Asking.{line-unread}
 use Rattle.script_run.proofs.Replies.{read-replies}
 use Rattle.script_run.proofs.line.answer.Goals as goal
 
@@ -33,3 +36,19 @@ unfolding reply_of
 returns-in-Count-clause-told g c = λ told state holds.
     subst (λ (l : Line). RepliesTo state (Ok l) (g.T.Disk.world c.args.engine.now.store.disk.now) (g.T.Disk.world c.args.engine.now.store.disk.now) (Ok (replies.Count c.count.result))) (sym c.in-Count.is)
     (read-replies state (Ok lines.Count) _ _ (replies.Count c.count.result) (rests-still _) holds refl (ap (λ n. text_of_reply (replies.Count n)) (c.count.ensures told c.requires.on state holds)))
+
+pub returns-in-Nothing-clause-reads : goal.returns-in-Nothing-clause-reads
+returns-in-Nothing-clause-reads g c = λ told state holds asks. line-unread state (Ok (plain_line c.args.line)) (g.T.Disk.world c.args.engine.now.store.disk.now)
+
+pub returns-in-Do-clause-reads : goal.returns-in-Do-clause-reads
+returns-in-Do-clause-reads g c = λ told state holds asks. absurd (subst (λ (l : Line). IsAsking (Ok (plain_line l))) c.in-Do.is asks)
+
+pub returns-in-Ask-clause-reads : goal.returns-in-Ask-clause-reads
+returns-in-Ask-clause-reads g c = λ told state holds asks.
+    subst (λ (l : Line). OnOk c.ask.result (ReadsForLine state (Ok (plain_line l)) (g.T.Disk.world c.args.engine.now.store.disk.now) (g.T.Disk.world c.ask.new.engine.store.disk.now))) (sym c.in-Ask.is) (c.ask.ensures.reads told state holds)
+
+pub returns-in-Show-clause-reads : goal.returns-in-Show-clause-reads
+returns-in-Show-clause-reads g c = λ told state holds asks. absurd (subst (λ (l : Line). IsAsking (Ok (plain_line l))) c.in-Show.is asks)
+
+pub returns-in-Count-clause-reads : goal.returns-in-Count-clause-reads
+returns-in-Count-clause-reads g c = λ told state holds asks. line-unread state (Ok (plain_line c.args.line)) (g.T.Disk.world c.args.engine.now.store.disk.now)

@@ -8,6 +8,7 @@ use Rattle.query_replies.specs.Reply.{text_of_reply}
 use Rattle.run_protocol.specs.Causes.{HasEngineEnd}
 use Rattle.run_protocol.specs.declared.ended.Ended.{Ended}
 use Rattle.script_run.specs.Lines.{IsLineEnd, RepliesTo}
+use Rattle.script_run.proofs.Asking.{asked-reads}
 use Rattle.script_run.proofs.Ends.{read-ends}
 use Rattle.run_protocol.proofs.Reading.{RefusedRead, refused-read-cause}
 use Rattle.script_run.proofs.Replies.{read-replies, refused-read}
@@ -49,3 +50,7 @@ returns-in-Err-clause-cause g c =
 
 pub returns-in-Err-clause-ends : goal.returns-in-Err-clause-ends
 returns-in-Err-clause-ends g c = subst IsLineEnd (sym c.ended_by.ensures) (read-ends c.in-Err.fault c.in-Err.ensures.causes)
+
+pub returns-in-Ok-clause-reads : goal.returns-in-Ok-clause-reads
+returns-in-Ok-clause-reads g c = λ told state holds.
+    asked-reads state c.args.query c.args.explain _ _ (c.in-Ok.ensures.rests told).seen (c.in-Ok.ensures.opens_few told state holds)

@@ -6,7 +6,7 @@ use Rattle.script_run.proofs.Causes.{job-still, job-by-engine, job-then, job-fai
 use Rattle.script_run.proofs.Ends.{left-counts, line-input, line-limit, on_ok-held, piece-input, piece-limit}
 use Rattle.script_run.proofs.Fronts.{piece-came, none-behind}
 use Rattle.script_run.proofs.Lines.{rest-EndsNoLine}
-use Rattle.script_run.proofs.Standing.{input_max-is, ends-lost, stops-ends, standing-start, standing-fed, standing-left, standing-failed, standing-ends, standing-ends_left, piece-ends, piece-left}
+use Rattle.script_run.proofs.Standing.{input_max-is, ends-lost, stops-ends, standing-start, standing-fed, standing-left, standing-failed, standing-ends, standing-ends_left, standing-ends_reads, piece-ends, piece-left}
 use Rattle.script_run.proofs.run.run_script.Goals as goal
 
 pub returns-in-Err-clause-same_loan : goal.returns-in-Err-clause-same_loan
@@ -17,6 +17,9 @@ returns-in-Err-clause-told g c = λ tells told state holds. ends-lost (Unit {0})
 
 pub returns-in-Err-clause-any_moment : goal.returns-in-Err-clause-any_moment
 returns-in-Err-clause-any_moment g c = λ tells told state holds. started (g.T.Disk.world c.args.engine.now.store.disk.now)
+
+pub returns-in-Err-clause-opens_few : goal.returns-in-Err-clause-opens_few
+returns-in-Err-clause-opens_few g c = λ tells told state holds asks. tt
 
 pub returns-in-Err-clause-cause : goal.returns-in-Err-clause-cause
 returns-in-Err-clause-cause g c = record { source = omega arith; faults = omega arith; sink = omega arith; stands = λ told. tt; cause = tt }
@@ -49,6 +52,9 @@ returns-in-Err-read-clause-any_moment g c = λ tells told state holds.
     let s = c.pieces.invariant.standing tells told state holds in
     standing-left state (g.S.Source.left c.args.source.now) (g.S.Source.left c.pieces.source) (g.T.Disk.world c.args.engine.now.store.disk.now) (g.T.Disk.world c.pieces.engine.store.disk.now) c.pieces.script.line.items c.pieces.taken s (omega (arith, c.pieces.invariant.taken, input_max-is))
 
+pub returns-in-Err-read-clause-opens_few : goal.returns-in-Err-read-clause-opens_few
+returns-in-Err-read-clause-opens_few g c = λ tells told state holds asks. tt
+
 pub returns-in-Err-read-clause-cause : goal.returns-in-Err-read-clause-cause
 returns-in-Err-read-clause-cause g c = record {
   source = omega (arith, c.in-Err-read.ensures.cause.later, c.pieces.invariant.cause.source);
@@ -78,6 +84,14 @@ returns-then-n-eq0-clause-any_moment g c = λ tells told state holds.
     let given = c.in-Ok-read.ensures.told tells in
     let none : g.S.Source.left c.pieces.source ≡ [] = given.ends c.if-n-eq0.true in
     standing-ends_left state (g.S.Source.left c.args.source.now) (g.S.Source.left c.pieces.source) (g.T.Disk.world c.args.engine.now.store.disk.now) (g.T.Disk.world c.pieces.engine.store.disk.now) c.pieces.script.line.items c.pieces.taken s (g.T.Disk.world c.end.new.engine.store.disk.now) c.end.result (omega (arith, c.pieces.invariant.taken, input_max-is)) none
+    (c.end.ensures.told (cut s.read).rest s.keeps told (script state (cut s.read).lines).state s.holds)
+
+pub returns-then-n-eq0-clause-opens_few : goal.returns-then-n-eq0-clause-opens_few
+returns-then-n-eq0-clause-opens_few g c = λ tells told state holds.
+    let s = c.pieces.invariant.standing tells told state holds in
+    let given = c.in-Ok-read.ensures.told tells in
+    let none : g.S.Source.left c.pieces.source ≡ [] = given.ends c.if-n-eq0.true in
+    standing-ends_reads state (g.S.Source.left c.args.source.now) (g.S.Source.left c.pieces.source) (g.T.Disk.world c.args.engine.now.store.disk.now) (g.T.Disk.world c.pieces.engine.store.disk.now) c.pieces.script.line.items c.pieces.taken s (g.T.Disk.world c.end.new.engine.store.disk.now) c.end.result (omega (arith, c.pieces.invariant.taken, input_max-is)) none
     (c.end.ensures.told (cut s.read).rest s.keeps told (script state (cut s.read).lines).state s.holds)
 
 pub returns-then-n-eq0-clause-cause : goal.returns-then-n-eq0-clause-cause
@@ -118,6 +132,9 @@ returns-in-Err-take-clause-any_moment g c = λ tells told state holds.
     (omega (arith, c.read.auto.buf, c.deref_mut.ensures.len, c.pieces.invariant.room)) c.as_slice.ensures.value c.split_at.ensures.front (c.in-Ok-read.ensures.told tells).given in
     piece-left state (g.S.Source.left c.args.source.now) (g.S.Source.left c.pieces.source) (g.T.Disk.world c.args.engine.now.store.disk.now) (g.T.Disk.world c.pieces.engine.store.disk.now) c.pieces.script.line.items c.pieces.taken s c.split_at.result.0.now (g.S.Source.left c.read.new.self) (g.T.Disk.world c.take.new.engine.store.disk.now) came c.pieces.invariant.taken c.in-Err-take.end
     (c.in-Err-take.ensures.told (cut s.read).rest (rest-EndsNoLine s.read) s.keeps told (script state (cut s.read).lines).state s.holds)
+
+pub returns-in-Err-take-clause-opens_few : goal.returns-in-Err-take-clause-opens_few
+returns-in-Err-take-clause-opens_few g c = λ tells told state holds asks. tt
 
 pub returns-in-Err-take-clause-cause : goal.returns-in-Err-take-clause-cause
 returns-in-Err-take-clause-cause g c =
