@@ -1,3 +1,4 @@
+pub mod Asking
 pub mod Crashes
 pub mod Cuts
 pub mod Fronts

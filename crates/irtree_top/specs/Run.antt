@@ -1,11 +1,13 @@
 -- What a run of the program promises.
 use Rattle.std.specs.Prelude.{◌≡◌, ◌⊎◌, ◌≤◌, ℕ, List, [], Bool, Option, IsTrue, IfErr, OnOk, Ok, Err, Result}
-use Rattle.disk_model.specs.World.{World, Image, LeavesOnly, Rose, WritesNothing}
+use Rattle.disk_model.specs.World.{World, Image, LeavesOnly, Range, Rose, WritesNothing}
 use Rattle.irtree_engine.specs.Holding.{HasBrokenHead, IsForeign, StandsForNone}
 use Rattle.irtree_engine.specs.Opening.{IsRecovered}
+use Rattle.irtree_engine.specs.Queries.{EachRead, contents_held}
 use Rattle.page_journal.specs.Record.{IsBad, StandsAlike, StandsFor}
+use Rattle.page_store.specs.Contents as pages
 use Rattle.page_store.specs.Contents.{page_bytes}
-use Rattle.page_store.specs.Opening.{head_damage}
+use Rattle.page_store.specs.Opening.{IsOpeningRead, head_damage}
 use Rattle.page_store.specs.Superblock.{IsStorePage, superblock_in}
 use Rattle.page_face.specs.declared.fault.Damage.{Damage}
 use Rattle.place_map.specs.State.{Contents}
@@ -14,6 +16,7 @@ use Rattle.irtree_top.specs.Acked.{acked_by_script, acked_by_load}
 use Rattle.irtree_top.specs.Prefix.{HoldsAcked, IsNearInScript, IsNearInLoad}
 use Rattle.load_run.specs.Loading.{SaysNothingYet}
 use Rattle.make_run.specs.Making.{ReachLimit, make_steps}
+use Rattle.run_protocol.specs.Asking.{IsReadForOneOf}
 use Rattle.run_protocol.specs.Left.{StopsAtBatch, StopsAtLine}
 use Rattle.run_protocol.specs.Load.{GivesItems, IsTaken, ReachesLimit, steps}
 use Rattle.run_protocol.specs.Said.{EndsAs, SaysFrontOf}
@@ -231,3 +234,14 @@ LeavesStore (stores.Damaged damage) old new = HasBrokenHead old.seen → LeavesR
 abbrev pub LeavesAlone : Ended → World → World → Type 0
 LeavesAlone (ends.Store fault) old new = LeavesStore fault old new
 LeavesAlone _ old new = Unit {0}
+
+-- ---- which pages a script that only asks reads
+
+-- The read is of the journal, of page 0, or for one of the lines, a query: of a page in a log by which its answer was found with few nodes
+-- opened.
+abbrev pub IsAllowedRead : pages.Contents → Contents → List (List ℕ) → Range → Type 0
+IsAllowedRead held state lines range = IsOpeningRead range ⊎ IsReadForOneOf held state lines range
+
+-- Each read that was taken is such a one for the lines of the script, by what the image at the start holds.
+abbrev pub OpensFew : Contents → List ℕ → World → World → Type 0
+OpensFew state input old new = EachRead (IsAllowedRead (contents_held old.seen) state (script_lines input)) old new

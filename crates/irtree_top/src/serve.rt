@@ -1,10 +1,12 @@
 //! A job, over a store that is opened.
 ghost use Rattle.std.specs.Prelude.{◌≡◌, ◌≤◌, false, option_copied, option_map, string_bytes, IfErr, IsErrOf, IsTrue, OnOk};
-ghost use Rattle.disk_model.specs.World.{HasDiskCause, LeavesOnly, LeavesOnlySeen};
+ghost use Rattle.disk_model.specs.World.{HasDiskCause, LeavesOnly, LeavesOnlySeen, ReadsJournalOnly};
 ghost use Rattle.place_map.specs.State.{Contents};
 ghost use Rattle.irtree_engine.specs.Holding.{HoldsState, LeavesState};
+ghost use Rattle.run_protocol.specs.Asking.{AreAsking};
 ghost use Rattle.run_protocol.specs.Causes.{HasJobEnd};
-ghost use Rattle.irtree_top.specs.Run.{EndsJob, HasRunEnd, HoldsPrefix, IsLimitReached, IsInputEnd, IsLimitOf, IsUnreadEnd, IsWholeInput, LeavesAlone, LeavesInput, ReachesLimitBy};
+ghost use Rattle.run_protocol.specs.Script.{script_lines};
+ghost use Rattle.irtree_top.specs.Run.{EndsJob, HasRunEnd, HoldsPrefix, IsLimitReached, IsInputEnd, IsLimitOf, IsUnreadEnd, IsWholeInput, LeavesAlone, LeavesInput, OpensFew, ReachesLimitBy};
 ghost use Rattle.command_words.specs.Job.{asked_of};
 
 use crate::{transcript_is_one, transcript_is_some};
@@ -45,6 +47,8 @@ fn act<'d, S: Source, T: Station>(
         → EndsJob (asked_of job.now) state (S.left source.old) (S.left source.new) (T.world engine.old.store.disk.now) (T.world engine.new.store.disk.now) result }
     ensures any_moment { IsTrue S.tells → IsTrue T.tells → (state : Contents) → HoldsState (T.world engine.old.store.disk.now) state
         → LeavesOnly (T.world engine.old.store.disk.now) (T.world engine.new.store.disk.now) (HoldsPrefix (asked_of job.now) state (S.left source.old) (T.world engine.old.store.disk.now)) }
+    ensures opens_few { job.now.action ≡ Action.Run → IsTrue S.tells → IsTrue T.tells → (state : Contents) → HoldsState (T.world engine.old.store.disk.now) state
+        → AreAsking (script_lines (S.left source.old)) → OnOk result (OpensFew state (S.left source.old) (T.world engine.old.store.disk.now) (T.world engine.new.store.disk.now)) }
     ensures cause { HasJobEnd T.tells (S.faults source.old) (S.faults source.new) (T.world engine.old.store.disk.now) (T.world engine.new.store.disk.now) result }
     ensures input { IsTrue S.tells → (fault : InputFault) → IsErrOf result (Ended.Input fault) → IsInputEnd job.now.action (option_map string_bytes job.now.text) (S.left source.old) fault }
     ensures whole { IsTrue S.tells → OnOk result (LeavesInput job.now.action (S.left source.old) (S.left source.new) × IsWholeInput job.now.action (option_map string_bytes job.now.text) (S.left source.old)) }
@@ -74,6 +78,7 @@ fn settle<'d, T: Station>(engine: &mut Engine<'d, T>) -> Result<(), Failed>
     ensures any_moment { IsTrue T.tells → (state : Contents) → HoldsState (T.world engine.old.store.disk.now) state
         → LeavesOnly (T.world engine.old.store.disk.now) (T.world engine.new.store.disk.now) (LeavesState state (T.world engine.old.store.disk.now)) }
     ensures silent { IsTrue T.tells → (T.world engine.new.store.disk.now).said ≡ (T.world engine.old.store.disk.now).said }
+    ensures reads { IsTrue T.tells → ReadsJournalOnly (T.world engine.old.store.disk.now) (T.world engine.new.store.disk.now) }
     ensures cause { HasDiskCause (T.world engine.old.store.disk.now) (T.world engine.new.store.disk.now) result }
 {
     match engine.settle() {
@@ -100,6 +105,8 @@ fn serve<'d, S: Source, T: Station>(
         → EndsJob (asked_of job.now) state (S.left source.old) (S.left source.new) (T.world engine.old.store.disk.now) (T.world engine.new.store.disk.now) result }
     ensures any_moment { IsTrue S.tells → IsTrue T.tells → (state : Contents) → HoldsState (T.world engine.old.store.disk.now) state
         → LeavesOnly (T.world engine.old.store.disk.now) (T.world engine.new.store.disk.now) (HoldsPrefix (asked_of job.now) state (S.left source.old) (T.world engine.old.store.disk.now)) }
+    ensures opens_few { job.now.action ≡ Action.Run → IsTrue S.tells → IsTrue T.tells → (state : Contents) → HoldsState (T.world engine.old.store.disk.now) state
+        → AreAsking (script_lines (S.left source.old)) → OnOk result (OpensFew state (S.left source.old) (T.world engine.old.store.disk.now) (T.world engine.new.store.disk.now)) }
     ensures cause { HasJobEnd T.tells (S.faults source.old) (S.faults source.new) (T.world engine.old.store.disk.now) (T.world engine.new.store.disk.now) result }
     ensures input { IsTrue S.tells → (fault : InputFault) → IsErrOf result (Ended.Input fault) → IsInputEnd job.now.action (option_map string_bytes job.now.text) (S.left source.old) fault }
     ensures whole { IsTrue S.tells → OnOk result (LeavesInput job.now.action (S.left source.old) (S.left source.new) × IsWholeInput job.now.action (option_map string_bytes job.now.text) (S.left source.old)) }
@@ -135,6 +142,8 @@ pub(crate) fn run_job<S: Source, T: Station>(
         → EndsJob (asked_of job.now) state (S.left source.old) (S.left source.new) (T.world station.old) (T.world station.new) result }
     ensures any_moment { IsTrue S.tells → IsTrue T.tells → (state : Contents) → HoldsState (T.world station.old) state
         → LeavesOnly (T.world station.old) (T.world station.new) (HoldsPrefix (asked_of job.now) state (S.left source.old) (T.world station.old)) }
+    ensures opens_few { job.now.action ≡ Action.Run → IsTrue S.tells → IsTrue T.tells → (state : Contents) → HoldsState (T.world station.old) state
+        → AreAsking (script_lines (S.left source.old)) → OnOk result (OpensFew state (S.left source.old) (T.world station.old) (T.world station.new)) }
     ensures cause { HasRunEnd T.tells (S.faults source.old) (S.faults source.new) (T.world station.old) (T.world station.new) result }
     ensures left_alone { IsTrue T.tells → IfErr result (λ end. LeavesAlone end (T.world station.old) (T.world station.new)) }
     ensures input { IsTrue S.tells → (fault : InputFault) → IsErrOf result (Ended.Input fault) → IsInputEnd job.now.action (option_map string_bytes job.now.text) (S.left source.old) fault }

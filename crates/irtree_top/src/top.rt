@@ -3,8 +3,10 @@ ghost use Rattle.std.specs.Prelude.{◌≡◌, ◌≤◌, ◌⊎◌, ℕ, List, 
 ghost use Rattle.disk_model.specs.World.{LeavesOnly, Rose};
 ghost use Rattle.place_map.specs.State.{Contents};
 ghost use Rattle.irtree_engine.specs.Holding.{HoldsState};
+ghost use Rattle.run_protocol.specs.Asking.{AreAsking};
+ghost use Rattle.run_protocol.specs.Script.{script_lines};
 ghost use Rattle.run_protocol.specs.Turn.{Transcript, Done, Input};
-ghost use Rattle.irtree_top.specs.Run.{EndsBy, HoldsPrefix, IsLimitReached, IsBehindOpening, IsBroken, IsCompleteEnd, IsInputEnd, IsLimitOf, IsOpenable, IsSettled, IsUnreadEnd, IsWholeInput, LeavesAlone, LeavesInput, SaysFront, SaysWhatWasRead, StopsAtLimit};
+ghost use Rattle.irtree_top.specs.Run.{EndsBy, HoldsPrefix, IsLimitReached, IsBehindOpening, IsBroken, IsCompleteEnd, IsInputEnd, IsLimitOf, IsOpenable, IsSettled, IsUnreadEnd, IsWholeInput, LeavesAlone, LeavesInput, OpensFew, SaysFront, SaysWhatWasRead, StopsAtLimit};
 ghost use Rattle.irtree_top.specs.Transcript.{IsTranscript};
 ghost use Rattle.command_words.specs.Job.{Asked, AskFor, AreAccepted};
 
@@ -47,6 +49,9 @@ use std::alloc::Global;
 /// transcript's updates that holds every acknowledged one, or one that a crash could have left before the call. After the job, what the
 /// journal still holds is brought to its place; if that fails the run ends `Disk`, however the job ended.
 ///
+/// A script of queries, counts, comments and lines that are refused, and of nothing else, changes nothing and reads few pages: beside the
+/// journal and page 0 only those in the logs by which its queries were answered with few nodes of the tree opened.
+///
 /// Memory: for a script one line and one reply, for a load its text and what it gives, for a make one batch of places; the pages of one
 /// commit; a query its hits and what waits to be looked at. Each reply is said whole before the next line is acted on, in one call if the
 /// station takes it at once. Opening costs a recovery and one page read; each update that changes the map one commit.
@@ -87,6 +92,12 @@ pub fn run<S: Source, T: Station>(
     ensures crash { (asked : Asked) → AskFor (map string_bytes words.now) asked → IsTrue S.tells → IsTrue T.tells
         → (state : Contents) → HoldsState (T.world station.old) state
         → LeavesOnly (T.world station.old) (T.world station.new) (HoldsPrefix asked state (S.left source.old) (T.world station.old)) }
+
+    // A script of queries and counts reads few pages: beside the journal and page 0 it asks the device for no page but those in the logs by
+    // which its queries were answered with few nodes opened, by what the image held at the start.
+    ensures opens_few { (asked : Asked) → AskFor (map string_bytes words.now) asked → asked.action ≡ Action.Run → IsTrue S.tells → IsTrue T.tells
+        → (state : Contents) → HoldsState (T.world station.old) state → AreAsking (script_lines (S.left source.old)) → result ≡ Ended.Done
+        → OpensFew state (S.left source.old) (T.world station.old) (T.world station.new) }
 
     // The input was read to its end and is taken whole, or it is refused for this cause, whatever the image stands for.
     ensures whole { (asked : Asked) → AskFor (map string_bytes words.now) asked → IsTrue S.tells → result ≡ Ended.Done

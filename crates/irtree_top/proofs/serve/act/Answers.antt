@@ -1,4 +1,4 @@
-use Rattle.std.proofs.Common.{◌≡◌, ℕ, [], List, OnOk, refl, sym, subst, arith}
+use Rattle.std.proofs.Common.{◌≡◌, ℕ, [], List, OnOk, refl, sym, subst, ◌∙◌, arith}
 use Rattle.std.specs.Prelude.{Option, Result, Err, IfErr, option_map, string_bytes}
 use Rattle.disk_model.specs.World.{LeavesOnly}
 use Rattle.load_run.specs.Loading.{EndsLoad}
@@ -8,9 +8,11 @@ use Rattle.run_protocol.specs.declared.ended.Ended.{Ended}
 use Rattle.run_protocol.specs.Load.{GivesItems, IsTaken, ReachesLimit}
 use Rattle.command_words.specs.Job.{asked_of}
 use Rattle.command_words.specs.declared.job.Action.{Action}
+use Rattle.command_words.specs.declared.job.Action.TheVariants as actions
 use Rattle.irtree_top.specs.Run.{IsInputEnd, IsLimitOf, IsWholeInput, LeavesInput, ReachesLimitBy}
 use Rattle.load_run.proofs.Causes.{job-of-engine}
 use Rattle.load_run.proofs.Outcomes.{on_ok-held}
+use Rattle.irtree_top.proofs.Asking.{script-opens}
 use Rattle.irtree_top.proofs.Crashes.{load-left, make-left, script-left}
 use Rattle.irtree_top.proofs.Jobs.{engine-unread, load-ends, make-ends, script-ends}
 use Rattle.irtree_top.proofs.serve.act.Goals as goal
@@ -23,6 +25,16 @@ returns-in-Run-clause-told g c = λ tells told state holds.
 pub returns-in-Run-clause-any_moment : goal.returns-in-Run-clause-any_moment
 returns-in-Run-clause-any_moment g c = λ tells told state holds.
     script-left (asked_of c.args.job.now) state (g.S.Source.left c.args.source.now) c.requires.some c.in-Run.is (g.T.Disk.world c.args.engine.now.store.disk.now) (g.T.Disk.world c.run_script.new.engine.store.disk.now) (c.run_script.ensures.any_moment tells told state holds)
+
+pub returns-in-Run-clause-opens_few : goal.returns-in-Run-clause-opens_few
+returns-in-Run-clause-opens_few g c = λ runs tells told state holds asks.
+    script-opens state (g.S.Source.left c.args.source.now) c.run_script.result (g.T.Disk.world c.args.engine.now.store.disk.now) (g.T.Disk.world c.run_script.new.engine.store.disk.now) (c.run_script.ensures.opens_few tells told state holds asks)
+
+pub returns-in-Load-clause-opens_few : goal.returns-in-Load-clause-opens_few
+returns-in-Load-clause-opens_few g c = λ runs tells told state holds asks. let loads : actions.Load ≡ actions.Run = sym c.in-Load.is ∙ runs in absurd (cc)
+
+pub returns-in-Make-clause-opens_few : goal.returns-in-Make-clause-opens_few
+returns-in-Make-clause-opens_few g c = λ runs tells told state holds asks. let makes : actions.Make ≡ actions.Run = sym c.in-Make.is ∙ runs in absurd (cc)
 
 pub returns-in-Load-clause-told : goal.returns-in-Load-clause-told
 returns-in-Load-clause-told g c = λ tells told state holds.

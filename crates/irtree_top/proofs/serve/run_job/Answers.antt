@@ -1,5 +1,5 @@
 use Rattle.std.proofs.Common.{◌≡◌, rules, refl, sym, ap, subst, ◌∙◌, arith}
-use Rattle.std.specs.Prelude.{IsErrOf}
+use Rattle.std.specs.Prelude.{IsErrOf, OnOk}
 use Rattle.command_words.specs.Job.{asked_of}
 use Rattle.irtree_engine.specs.declared.fault.EngineFault.TheVariants as engine
 use Rattle.disk_model.specs.World.{LeavesOnly, LeavesOnlySeen}
@@ -9,7 +9,8 @@ use Rattle.page_store.specs.declared.superblock.Superblock.{Superblock}
 use Rattle.run_protocol.specs.Causes.{HasJobEnd}
 use Rattle.run_protocol.specs.declared.ended.Ended.{Ended}
 use Rattle.run_protocol.specs.declared.ended.Ended.TheVariants as ends
-use Rattle.irtree_top.specs.Run.{EndsJob, HasRunEnd, HoldsPrefix, ReachesLimitBy}
+use Rattle.irtree_top.specs.Run.{EndsJob, HasRunEnd, HoldsPrefix, OpensFew, ReachesLimitBy}
+use Rattle.irtree_top.proofs.Asking.{opened-opens}
 use Rattle.irtree_top.proofs.Crashes.{left-from, none-held}
 use Rattle.irtree_top.proofs.Jobs.{fault-unread, job-from}
 use Rattle.irtree_top.proofs.Openings.{IsOpeningEnd, Refuses, given-back, job-alone, job-cause, none-by, opened-image, opened-limit, opened-quiet, opening-end, refused-alone, refused-cause, refused-job}
@@ -95,6 +96,16 @@ returns-clause-any_moment g c = λ tells told state holds.
     let served = within (c.serve-end.ensures.any_moment tells told state mid) (left-from asked state input some (world c.args.station.now) (world c.over-engine.result.store.disk.now) same) in
     let whole = then (subst (λ disk. LeavesOnly (world c.args.station.now) (world disk) (HoldsPrefix asked state input (world c.args.station.now))) (sym c.over-engine.ensures.disk) opened) served in
     given-back (λ disk. LeavesOnly (world c.args.station.now) (world disk) (HoldsPrefix asked state input (world c.args.station.now))) c.serve-end.new.engine.store.disk.now _ (search rules) whole
+
+pub returns-clause-opens_few : goal.returns-clause-opens_few
+returns-clause-opens_few g c = λ runs tells told state holds asks.
+    let world = g.T.Disk.world in
+    let input = g.S.Source.left c.args.source.now in
+    let over : c.over-engine.result.store.disk.now ≡ c.recover_superblock.new.disk = c.over-engine.ensures.disk in
+    let mid = subst (λ disk. HoldsState (world disk) state) (sym over) (c.in-Ok.ensures.holds told state holds) in
+    given-back (λ disk. OnOk c.serve-end.result (OpensFew state input (world c.args.station.now) (world disk))) c.serve-end.new.engine.store.disk.now _ (search rules)
+    (opened-opens state input c.serve-end.result (world c.args.station.now) (world c.recover_superblock.new.disk) (world c.serve-end.new.engine.store.disk.now) (c.in-Ok.ensures.quiet told) (c.in-Ok.ensures.opened told).stands
+    (subst (λ disk. OnOk c.serve-end.result (OpensFew state input (world disk) (world c.serve-end.new.engine.store.disk.now))) over (c.serve-end.ensures.opens_few runs tells told state mid asks)))
 
 pub returns-clause-cause : goal.returns-clause-cause
 returns-clause-cause g c =

@@ -4,6 +4,7 @@ use Rattle.place_map.specs.State.{Contents}
 use Rattle.irtree_engine.specs.Holding.{HoldsState}
 use Rattle.irtree_top.specs.Run.{HoldsPrefix}
 use Rattle.command_words.specs.Job.{asked_of}
+use Rattle.irtree_top.proofs.Asking.{settled-opens}
 use Rattle.irtree_top.proofs.Crashes.{none-held}
 use Rattle.irtree_top.proofs.Settled.{cause-settled, ends-front, now-left, settled-front, settled-job, settled-left}
 use Rattle.irtree_top.proofs.serve.serve.Given as given
@@ -36,6 +37,12 @@ returns-in-Ok-clause-told g c = λ tells told state holds.
 
 pub returns-in-Ok-clause-any_moment : goal.returns-in-Ok-clause-any_moment
 returns-in-Ok-clause-any_moment g c = left-behind g (goal.at.returns-in-Ok-clause-any_moment g c).After-settle
+
+pub returns-in-Ok-clause-opens_few : goal.returns-in-Ok-clause-opens_few
+returns-in-Ok-clause-opens_few g c = λ runs tells told state holds asks.
+    let world = g.T.Disk.world in
+    settled-opens state (g.S.Source.left c.args.source.now) c.act-end.result (world c.args.engine.now.store.disk.now) (world c.act-end.new.engine.store.disk.now) (world c.settle.new.engine.store.disk.now)
+    (c.act-end.ensures.opens_few runs tells told state holds asks) (c.settle.ensures.reads told)
 
 pub returns-in-Ok-clause-cause : goal.returns-in-Ok-clause-cause
 returns-in-Ok-clause-cause g c =

@@ -3,7 +3,7 @@ use Rattle.std.specs.Prelude.{Err, IsErrOf}
 use Rattle.run_protocol.specs.declared.ended.Ended.{Ended}
 use Rattle.run_protocol.specs.declared.ended.Ended.TheVariants as ends
 use Rattle.disk_model.specs.World.{LeavesOnly}
-use Rattle.irtree_top.specs.Run.{EndsBy, EndsJob, HoldsPrefix, IsInputEnd, IsLimitOf, IsLimitReached, IsWholeInput, LeavesInput, SaysFront}
+use Rattle.irtree_top.specs.Run.{EndsBy, EndsJob, HoldsPrefix, IsInputEnd, IsLimitOf, IsLimitReached, IsRunEnd, IsWholeInput, LeavesInput, SaysFront}
 use Rattle.run_protocol.specs.Turn.{Done}
 use Rattle.command_words.specs.Job.{Asked, asked_of}
 use Rattle.irtree_top.proofs.Jobs.{decided-front, job-front}
@@ -25,6 +25,15 @@ pub returns-in-Ok-run_job-clause-crash : goal.returns-in-Ok-run_job-clause-crash
 returns-in-Ok-run_job-clause-crash g c = λ asked wants tells told state holds.
     let same : asked_of c.in-Ok.job ≡ asked = cc (c.in-Ok.ensures.reading) in
     subst (λ (a : Asked). LeavesOnly (g.T.Disk.world c.args.station.now) (g.T.Disk.world c.run_job.new.station) (HoldsPrefix a state (g.S.Source.left c.args.source.now) (g.T.Disk.world c.args.station.now))) same (c.run_job.ensures.any_moment tells told state holds)
+
+pub returns-in-Ok-run_job-clause-opens_few : goal.returns-in-Ok-run_job-clause-opens_few
+returns-in-Ok-run_job-clause-opens_few g c = λ asked wants runs tells told state holds asks is.
+    let same : asked_of c.in-Ok.job ≡ asked = cc (c.in-Ok.ensures.reading) in
+    c.in-Ok-run_job.ensures.opens_few (ap (λ (a : Asked). a.action) same ∙ runs) tells told state holds asks
+
+pub returns-in-Ok-clause-opens_few : goal.returns-in-Ok-clause-opens_few
+returns-in-Ok-clause-opens_few g c = λ asked wants runs tells told state holds asks is.
+    absurd (subst (λ (e : Ended). IsRunEnd g.T.Disk.tells (g.S.Source.faults c.args.source.now) (g.S.Source.faults c.run_job.new.source) (g.T.Disk.world c.args.station.now) (g.T.Disk.world c.run_job.new.station) e) is c.in-Err.ensures.cause.cause)
 
 pub returns-in-Ok-clause-input : goal.returns-in-Ok-clause-input
 returns-in-Ok-clause-input g c = λ asked wants tells told state holds fault is.
