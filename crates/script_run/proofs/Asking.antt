@@ -93,12 +93,14 @@ reads-said state line old now new before seen none =
 -- two lines that stand for one are read for alike
 pub reads-alike : (state : Contents) (line other : List ℕ) (old new : World) → line_of line ≡ line_of other → ReadsForLines state (line ∷ []) old new → ReadsForLines state (other ∷ []) old new
 reads-alike state line other old new same reads =
-    let held = contents_held old.seen in
-    (reads.0, reads-by (IsReadForOneOf held state (line ∷ [])) (IsReadForOneOf held state (other ∷ [])) old new (λ r read. record {
-      line = other;
-      among = among-itself other;
-      page = subst (λ (l : Result Line LineFault). IsReadFor held state l r) (ap line_of (sym (among-one line read.line read.among)) ∙ same) read.page;
-    }) reads.1)
+    let held = contents_held old.seen in (
+      reads.0,
+      reads-by (IsReadForOneOf held state (line ∷ [])) (IsReadForOneOf held state (other ∷ [])) old new (λ r read. record {
+        line = other;
+        among = among-itself other;
+        page = subst (λ (l : Result Line LineFault). IsReadFor held state l r) (ap line_of (sym (among-one line read.line read.among)) ∙ same) read.page;
+      }) reads.1,
+    )
 
 -- and ask alike
 pub asking-alike : (line other : List ℕ) → line_of line ≡ line_of other → AreAsking (other ∷ []) → AreAsking (line ∷ [])
