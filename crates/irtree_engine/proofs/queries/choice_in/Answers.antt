@@ -1,4 +1,4 @@
-use Rattle.std.proofs.Common.{◌≡◌, ℕ, List, Err, sym, ap, subst}
+use Rattle.std.proofs.Common.{◌≡◌, ℕ, List, Err, ap, subst}
 use Rattle.page_face.specs.declared.fault.PageFault.TheVariants.{Damaged}
 use Rattle.store_tables.specs.declared.tables.Tables.{Tables}
 use Rattle.node_inverted.specs.declared.roots.Tree.{Tree}

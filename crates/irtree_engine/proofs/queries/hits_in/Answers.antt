@@ -1,9 +1,6 @@
-use Rattle.std.proofs.Common.{◌≡◌, ℕ, List, Err, refl, sym, ap, subst, ◌∙◌}
-use Rattle.page_face.specs.FreeList.{PageMap}
-use Rattle.page_face.specs.declared.head.Head.{Head}
+use Rattle.std.proofs.Common.{◌≡◌, ℕ, List, Err, sym, ap, subst, ◌∙◌}
 use Rattle.page_face.specs.declared.fault.PageFault.TheVariants.{Damaged}
 use Rattle.place_map.specs.Answer.{answer_of}
-use Rattle.place_map.specs.State.{Contents}
 use Rattle.place_map.specs.declared.hit.Hit.{Hit}
 use Rattle.place_map.specs.declared.query.Query.{Query}
 use Rattle.place_map.specs.declared.query.Query.TheVariants.{Range, Inside, Nearest, Top, Group}
@@ -11,12 +8,11 @@ use Rattle.place_map.specs.declared.query.Answer.{Answer}
 use Rattle.place_map.specs.declared.query.Answer.TheVariants as answers
 use Rattle.node_inverted.specs.declared.roots.Tree.{Tree}
 use Rattle.store_tables.specs.declared.tables.Tables.{Tables}
-use Rattle.store_meaning.specs.Stands.{PagesStand, tables_in}
+use Rattle.store_meaning.specs.Stands.{tables_in}
 use Rattle.tree_answers.specs.Answers.{IsAnswer}
 use Rattle.tree_answers.specs.Damages.{IsAnswerHarm}
 use Rattle.tree_answers.specs.Opened.{AreFewOpened}
-use Rattle.tree_answers.specs.Standing.{RootsStand}
-use Rattle.irtree_engine.specs.Changes.{block_with, tree_in}
+use Rattle.irtree_engine.specs.Changes.{tree_in}
 use Rattle.irtree_engine.specs.Queries.{AsksForHits}
 use Rattle.irtree_engine.proofs.Roots.{roots-stand}
 use Rattle.irtree_engine.proofs.queries.hits_in.Goals as goal

@@ -3,7 +3,6 @@ use Rattle.std.proofs.lemmas.Result.{err_from_is_err_and}
 use Rattle.page_journal.specs.Record.{applied}
 use Rattle.page_face.specs.FreeList.{PageMap}
 use Rattle.page_face.specs.declared.head.Head.{Head}
-use Rattle.page_store.specs.declared.superblock.Superblock.{Superblock}
 use Rattle.page_store.specs.Contents as stores
 use Rattle.page_store.specs.Contents.{Overlay, counted_pages, shown}
 use Rattle.place_map.specs.declared.query.Answer.{Answer}
