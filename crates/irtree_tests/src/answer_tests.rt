@@ -302,11 +302,12 @@ fn compare(
     let mut station = MemoryStation::new(alloc, ROOM);
     let mut state = State::new(alloc);
     let mut engine = Engine::open(alloc, &mut station, 64, policy)?;
-    let mut outcome = run_both(alloc, &mut engine, &mut state, front);
+    let before = run_both(alloc, &mut engine, &mut state, front);
     engine.set_policy(other);
-    if outcome.is_ok() {
-        outcome = run_both(alloc, &mut engine, &mut state, rest);
-    }
+    let outcome = match before {
+        Ok(()) => run_both(alloc, &mut engine, &mut state, rest),
+        Err(fail) => Err(fail),
+    };
     let _loan = engine.into_disk();
     outcome
 }

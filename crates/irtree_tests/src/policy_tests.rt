@@ -12,13 +12,13 @@ use std::test::Fail;
 
 // A policy that holds a token, which tells how many of its kind there are.
 #[derive(Drop)]
-struct Told {
+struct Tokened {
     policy: Quadratic,
     token: Rc<u8, Global>,
 }
 
-impl SplitPolicy for Told {
-    ghost count = { λ told. told.policy };
+impl SplitPolicy for Tokened {
+    ghost count = { λ it. it.policy };
 
     ghost chooses = { λ _ _ _ _ _ _. Unit {0} };
 
@@ -38,10 +38,10 @@ impl SplitPolicy for Told {
 }
 
 // A policy with this token, in a box.
-fn told(alloc: Global, token: &Rc<u8, Global>) -> Result<Box<dyn SplitPolicy>, Fail> {
+fn policy_with(alloc: Global, token: &Rc<u8, Global>) -> Result<Box<dyn SplitPolicy>, Fail> {
     Ok(Box::new(
         alloc,
-        Told {
+        Tokened {
             policy: Quadratic::new(),
             token: Rc::clone(token)?,
         },
@@ -103,16 +103,16 @@ fn a_policy_is_dropped_once(rt: HostRuntime) -> Result<(), Fail> {
 
     // By an opening that is refused.
     let mut foreign = MemoryStation::with_image(rt.alloc(), &[120; 4096], &[0, 7], ROOM)?;
-    let policy = told(rt.alloc(), &token)?;
+    let policy = policy_with(rt.alloc(), &token)?;
     assert_eq!(rt; Rc::strong_count(&token), 2);
     assert!(rt; Engine::open(rt.alloc(), &mut foreign, 0, policy).is_err());
     assert_eq!(rt; Rc::strong_count(&token), 1);
 
     // By another one in its place, and by a close.
     let mut station = MemoryStation::new(rt.alloc(), ROOM);
-    let policy = told(rt.alloc(), &token)?;
+    let policy = policy_with(rt.alloc(), &token)?;
     let mut engine = Engine::open(rt.alloc(), &mut station, 0, policy)?;
-    let other = told(rt.alloc(), &token)?;
+    let other = policy_with(rt.alloc(), &token)?;
     assert_eq!(rt; Rc::strong_count(&token), 3);
     engine.set_policy(other);
     assert_eq!(rt; Rc::strong_count(&token), 2);
@@ -120,7 +120,7 @@ fn a_policy_is_dropped_once(rt: HostRuntime) -> Result<(), Fail> {
     assert_eq!(rt; Rc::strong_count(&token), 1);
 
     // By a run.
-    let policy = told(rt.alloc(), &token)?;
+    let policy = policy_with(rt.alloc(), &token)?;
     let (ended, _) = run_by(
         rt.alloc(),
         &RUN,
