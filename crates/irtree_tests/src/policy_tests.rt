@@ -1,52 +1,11 @@
 //! What scripts say under each policy.
 use crate::runs::{ROOM, RUN, run_by};
 use disk_model::{MemorySource, MemoryStation};
-use irtree_engine::Engine;
 use irtree_top::Ended;
-use spatial_base::Rect;
 use split_policy::{Halving, Quadratic, SplitPolicy};
 use std::alloc::{AllocError, Global};
 use std::fmt::Write;
-use std::rc::Rc;
 use std::test::Fail;
-
-// A policy that holds a token, which tells how many of its kind there are.
-#[derive(Drop)]
-struct Tokened {
-    policy: Quadratic,
-    token: Rc<u8, Global>,
-}
-
-impl SplitPolicy for Tokened {
-    ghost count = { λ it. it.policy };
-
-    ghost chooses = { λ _ _ _ _ _ _. Unit {0} };
-
-    ghost splits_by = { λ _ _ _ _. Unit {0} };
-
-    fn choose(&mut self, used: u32, rects: &[Rect; 32], add: &Rect, shared: &[u32; 32]) -> u8 {
-        self.policy.choose(used, rects, add, shared)
-    }
-
-    fn split(&mut self, rects: &[Rect; 33], like: &[[u32; 33]; 33]) -> u64 {
-        self.policy.split(rects, like)
-    }
-
-    fn splits(&self) -> u64 {
-        self.policy.splits()
-    }
-}
-
-// A policy with this token, in a box.
-fn policy_with(alloc: Global, token: &Rc<u8, Global>) -> Result<Box<dyn SplitPolicy>, Fail> {
-    Ok(Box::new(
-        alloc,
-        Tokened {
-            policy: Quadratic::new(),
-            token: Rc::clone(token)?,
-        },
-    )?)
-}
 
 // A script that stores 33 places in a line, one more than a node of the tree holds, and removes two thirds of them.
 fn line_of_places(alloc: Global) -> Result<String, AllocError> {
@@ -94,40 +53,5 @@ fn both_policies_give_the_same_replies(rt: HostRuntime) -> Result<(), Fail> {
     let halving = Box::new(rt.alloc(), Halving::new())?;
     assert!(rt; told_by(rt.alloc(), quadratic)?.as_slice() == wanted.as_bytes());
     assert!(rt; told_by(rt.alloc(), halving)?.as_slice() == wanted.as_bytes());
-    Ok(())
-}
-
-#[test]
-fn a_policy_is_dropped_once(rt: HostRuntime) -> Result<(), Fail> {
-    let token = Rc::new(rt.alloc(), 0)?;
-
-    // By an opening that is refused.
-    let mut foreign = MemoryStation::with_image(rt.alloc(), &[120; 4096], &[0, 7], ROOM)?;
-    let policy = policy_with(rt.alloc(), &token)?;
-    assert_eq!(rt; Rc::strong_count(&token), 2);
-    assert!(rt; Engine::open(rt.alloc(), &mut foreign, 0, policy).is_err());
-    assert_eq!(rt; Rc::strong_count(&token), 1);
-
-    // By another one in its place, and by a close.
-    let mut station = MemoryStation::new(rt.alloc(), ROOM);
-    let policy = policy_with(rt.alloc(), &token)?;
-    let mut engine = Engine::open(rt.alloc(), &mut station, 0, policy)?;
-    let other = policy_with(rt.alloc(), &token)?;
-    assert_eq!(rt; Rc::strong_count(&token), 3);
-    engine.set_policy(other);
-    assert_eq!(rt; Rc::strong_count(&token), 2);
-    engine.close()?;
-    assert_eq!(rt; Rc::strong_count(&token), 1);
-
-    // By a run.
-    let policy = policy_with(rt.alloc(), &token)?;
-    let (ended, _) = run_by(
-        rt.alloc(),
-        &RUN,
-        &mut MemorySource::new(rt.alloc(), b"", 1, &[]).map_err(|_| "memory")?,
-        policy,
-    )?;
-    assert!(rt; ended == Ended::Done);
-    assert_eq!(rt; Rc::strong_count(&token), 1);
     Ok(())
 }
