@@ -25,7 +25,7 @@ impl<'d, D: Station> Engine<'d, D> {
     ///
     /// By the tree it looks at one page a level of the words by text for each word of the query. Then it opens the nodes that may hold an
     /// answer: each costs a look at its page and, for each word of the query that the store knows, at one page a level of the rows of
-    /// words. A group query makes three searches for each of its words.
+    /// words. A group query makes one search for each of its words, and for some a second one.
     pub fn answer(&mut self, query: &Query) -> Result<Answer, EngineFault>
         requires { IsWithinLimits query.now }
         ensures same_loan { self.new.store.disk.ghost_name ≡ self.old.store.disk.ghost_name }
@@ -34,7 +34,7 @@ impl<'d, D: Station> Engine<'d, D> {
         ensures honest { IsTrue D.tells → (state : Contents) → HoldsState (D.world self.old.store.disk.now) state
             → (damage : Damage) → ¬ IsErrOf result (EngineFault.Damaged damage) }
 
-        // Few nodes were opened for hits: each page of the log is one of the words by text or of the rows of words, or a node that the query calls for.
+        // Few nodes were opened: each page of the log is one of the words by text or of the rows of words, or a node that the query calls for.
         ensures opened { IsTrue D.tells → (state : Contents) → HoldsState (D.world self.old.store.disk.now) state
             → IfOk result (IsFoundByFew (⟦<Store<'d, D> as Pages>⟧.pages self.old.store) self.old.store.current query.now [] self.new.store.asked.items) }
         // So it is by what the image holds: each read of the device is of a page in such a log.
