@@ -38,13 +38,16 @@ Boxes = List (ℕ × Box (List ℕ) Global)
 abbrev pub pairs_in : Boxes → Pairs
 pairs_in boxes = map (λ pair. (pair.0, pair.1.value)) boxes
 
+-- the map of boxes that a cache stores them in
 abbrev pub Shelf : Type 0
 Shelf = LruCache ℕ (Box (List ℕ) Global)
 
+-- the pages on a shelf, if there is one
 abbrev pub pairs_on : Option Shelf → Pairs
 pairs_on None = []
 pairs_on (Some shelf) = pairs_in shelf.entries
 
+-- how many pages a shelf may hold: none, if there is no shelf
 abbrev pub room_on : Option Shelf → ℕ
 room_on None = 0
 room_on (Some shelf) = shelf.cap
