@@ -3,7 +3,7 @@ use Rattle.std.specs.Prelude.{ℕ, List, [], ◌∷◌, Option, None, Some, filt
 use Rattle.caseless.specs.Caseless.{default_case_fold}
 use Rattle.unicode_segmentation.specs.Word.{words}
 
--- a piece of a text after default case folding (The Unicode Standard, section 3.13, R4)
+-- a piece of a text after default case folding: each character as its full case folding, as toCasefold of The Unicode Standard, section 3.13
 abbrev pub folded : List ℕ → List ℕ
 folded piece = encode_utf8_all (default_case_fold (chars piece))
 
