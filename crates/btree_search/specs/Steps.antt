@@ -8,10 +8,11 @@ use Rattle.btree_nodes.specs.Tree.{IsPlaceFor}
 use Rattle.btree_nodes.specs.Bounds.{upper_of, low_at, high_at, child_of}
 use Rattle.btree_search.specs.declared.bounds.Bounds.{Bounds}
 
--- the number of the lower bound, and that of the upper one
+-- the number of the lower bound
 abbrev pub low_of : Form → Bounds → ℕ
 low_of form bounds = number (take form.key bounds.low)
 
+-- the number of the upper bound, or 256 ^ key where there is none
 abbrev pub high_of : Form → Bounds → ℕ
 high_of form bounds = upper_of form.key (take bounds.top bounds.high)
 
