@@ -7,20 +7,25 @@ pub record Item : Type 0 where
   pub to : ℕ
   pub key : List ℕ
 
+-- the slots of a node by number; what stands at 32 and above counts for nothing
 abbrev pub Slots : Type 0
 Slots = ℕ → Option Item
 
+-- a node: its level, 0 for a leaf, and its slots
 pub record NodeView : Type 0 where
   pub level : ℕ
   pub slots : Slots
 
+-- the node at each page
 abbrev pub NodeMap : Type 0
 NodeMap = ℕ → NodeView
 
+-- the sum of the first n values of f
 unfoldable pub sum_to : ℕ → (ℕ → ℕ) → ℕ
 sum_to zero f = 0
 sum_to (suc n) f = f n + sum_to n f
 
+-- the greatest of the first n values of f, or 0
 unfoldable pub top_to : ℕ → (ℕ → ℕ) → ℕ
 top_to zero f = 0
 top_to (suc n) f = max (f n) (top_to n f)
@@ -34,6 +39,7 @@ got f (Some x) = f x
 unfoldable pub amount : (Item → ℕ) → Slots → ℕ
 amount f slots = sum_to 32 (λ i. got f (slots i))
 
+-- each item counts as one
 abbrev pub one : Item → ℕ
 one x = 1
 
@@ -45,6 +51,7 @@ filled slots = amount one slots
 unfoldable pub tops : ℕ → Slots → ℕ
 tops d slots = top_to 32 (λ i. got (λ x. x.reach d) (slots i))
 
+-- the list that f makes of what is there, or none
 abbrev pub opt_list : (Item → List Item) → Option Item → List Item
 opt_list f None = []
 opt_list f (Some x) = f x
@@ -54,6 +61,7 @@ unfoldable pub gather : ℕ → (ℕ → List Item) → List Item
 gather zero f = []
 gather (suc n) f = f n ++ gather n f
 
+-- P of what is there, if something is
 abbrev pub Held : (Item → Type 0) → Option Item → Type 0
 Held P None = Unit {0}
 Held P (Some x) = P x

@@ -29,6 +29,7 @@ abbrev pub root_least : ℕ → ℕ
 root_least zero = 1
 root_least (suc level) = 2
 
+-- the node at a page is the root of a tree of this level
 abbrev pub IsTree : NodeMap → ℕ → ℕ → Type 0
 IsTree nodes level root = IsNode (λ y. IsItem nodes level y) (root_least level) level (nodes root)
 
@@ -36,9 +37,11 @@ IsTree nodes level root = IsNode (λ y. IsItem nodes level y) (root_least level)
 abbrev pub node_uses : NodeMap → ℕ → ℕ → ℕ → ℕ
 node_uses nodes level page n = one_at page n + amount (λ y. uses nodes level y n) (nodes page).slots
 
+-- the sum of f over the places below a node of this level at a page
 abbrev pub node_below : NodeMap → (Item → ℕ) → ℕ → ℕ → ℕ
 node_below nodes f level page = amount (λ y. below nodes f level y) (nodes page).slots
 
+-- how far an item reaches to a side
 abbrev pub reach_of : ℕ → Item → ℕ
 reach_of d x = x.reach d
 
