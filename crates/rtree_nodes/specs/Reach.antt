@@ -8,10 +8,11 @@ use Rattle.rtree_shape.specs.Slots.{Item}
 use Rattle.rtree_nodes.specs.declared.content.Slot.{Slot}
 use Rattle.rtree_nodes.specs.declared.content.Slot.TheVariants.{Place, Child}
 
--- how far a number is below 2^31, and above -2^31; 0 where it isn't
+-- how far a number is below 2^31; 0 where it isn't
 abbrev pub below_top : ℤ → ℕ
 below_top z = unsigned_abs (int_max (pos 2147483648 -ℤ z) (pos 0))
 
+-- how far a number is above -2^31; 0 where it isn't
 abbrev pub above_bottom : ℤ → ℕ
 above_bottom z = unsigned_abs (int_max (pos 2147483648 +ℤ z) (pos 0))
 
@@ -46,10 +47,11 @@ abbrev pub is_place : Slot → Bool
 is_place (Place point key) = true
 is_place (Child rect page) = false
 
--- the point 0 0, and its rectangle
+-- the point 0 0
 abbrev pub origin : Position
 origin = record { x = pos 0; y = pos 0 }
 
+-- the rectangle of the point 0 0
 abbrev pub origin_rect : Bounds
 origin_rect = rect_of origin
 
