@@ -10,6 +10,7 @@ abbrev pub led : (ℕ → List Hit) → Item → List Hit
 led under (Node page level bound) = under page
 led under (Place hit) = hit ∷ []
 
+-- P of the page of a node; nothing is asked of a place
 abbrev pub at_node : (ℕ → Type 0) → Item → Type 0
 at_node P (Node page level bound) = P page
 at_node P (Place hit) = Unit {0}
@@ -44,6 +45,7 @@ module _ (opens : ℕ → ℕ → List Item) where
   AreBounds zero page = Unit {0}
   AreBounds (suc l) page = AllByRecursion (λ (i : Item). IsBound i × at_node (λ p. AreBounds l p) i) (opens page (suc l))
 
+  -- the bounds of all nodes below an item hold
   abbrev pub BoundsBelow : Item → Type 0
   BoundsBelow (Node page level bound) = AreBounds level page
   BoundsBelow (Place hit) = Unit {0}

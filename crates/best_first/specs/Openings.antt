@@ -21,6 +21,7 @@ pub record Opening : Type 0 where
   pub bound : ℕ
   pub items : List Item
 
+-- the pages of the nodes that were opened
 abbrev pub pages_opened : List Opening → List ℕ
 pages_opened openings = map (λ (o : Opening). o.page) openings
 
