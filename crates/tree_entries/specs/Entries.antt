@@ -16,10 +16,11 @@ abbrev pub tree_places : NodeMap → ℕ → List Item
 tree_places nodes zero = []
 tree_places nodes (suc m) = node_places nodes (level_at nodes (suc m)) (suc m)
 
--- the least coordinate of an item that reaches so far to the west or south, and the greatest of one that does to the east or north
+-- the least coordinate of an item that reaches so far to the west or south
 abbrev pub least_at : ℕ → ℤ
 least_at reach = pos 2147483648 -ℤ pos reach
 
+-- the greatest coordinate of an item that reaches so far to the east or north
 abbrev pub greatest_at : ℕ → ℤ
 greatest_at reach = pos reach -ℤ pos 2147483648
 
