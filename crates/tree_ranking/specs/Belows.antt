@@ -87,6 +87,7 @@ weigh-flat : (w : Hit → ℕ) (g : Item → List Hit) (items : List Item) → s
 weigh-flat w g [] = refl
 weigh-flat w g (i ∷ items) = let a = sum_by-append w (g i) (flat_map g items) in let b = sum_by-cons (λ j. sum_by w (g j)) i items in let c = weigh-flat w g items in omega arith
 
+-- P of each item that the first n slots give
 pub all-spread : (P : Item → Type 0) (n : ℕ) (f : ℕ → List Item) → ((i : ℕ) → i < n → AllByRecursion P (f i)) → AllByRecursion P (spread n f)
 unfolding spread
 all-spread P zero f h = tt

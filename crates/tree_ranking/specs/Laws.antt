@@ -136,6 +136,7 @@ node-told pages count tree page level h =
 pub fits-map : (pages : PageMap) (count begin : ℕ) (tree : Tree) → FitsTree pages count begin tree → IsMap rows_form pages tree.rows
 fits-map pages count begin tree fits = fits.1.supplied.rows.kept.map
 
+-- the pages of that map are counted
 pub fits-counted : (pages : PageMap) (count begin : ℕ) (tree : Tree) → FitsTree pages count begin tree → AreMapCounted (map_uses rows_form pages tree.rows) count
 fits-counted pages count begin tree fits = kept-counted rows_form (plain (view pages tree.rows count begin fits.0)) tree.rows fits.1.supplied.rows.kept
 
@@ -143,6 +144,7 @@ fits-counted pages count begin tree fits = kept-counted rows_form (plain (view p
 pub root-sound : (pages : PageMap) (count begin : ℕ) (tree : Tree) → FitsTree pages count begin tree → 0 < tree.root → IsSoundNode pages count tree.root (level_at (nodes_at pages tree) tree.root)
 root-sound pages count begin tree fits some = node-sound pages count tree tree.root (level_at (nodes_at pages tree) tree.root) (whole-node pages count begin tree tree.root fits.0 some fits.1)
 
+-- the bytes of the root's page are told
 pub root-told : (pages : PageMap) (count begin : ℕ) (tree : Tree) → FitsTree pages count begin tree → 0 < tree.root → 0 < length (pages tree.root)
 root-told pages count begin tree fits some = node-told pages count tree tree.root (level_at (nodes_at pages tree) tree.root) (whole-node pages count begin tree tree.root fits.0 some fits.1)
 
@@ -164,7 +166,7 @@ top-hits ids at alpha reach words (Top terms) is =
     let w = is.2 in
     λ i. top_item ids at (a i) (r i) (w i)
 
--- the first k of a top query's hits, or of a nearest query's
+-- the first k of a top query's hits
 pub top-first : (k : ℕ) (pages : PageMap) (count begin : ℕ) (told tree : Tree) (known ids : Numbers) (from at : Position) (alpha reach : ℕ) (words : Weighted) (ask : Ask) → IsOnMap from.x from.y → FitsTree pages count begin told
     → told ≡ tree → known ≡ ids → from ≡ at → IsTopFor alpha reach words ask
     → first comes_before k (leads (opened_in known from ask (nodes_at pages told)) (started_in known ask (nodes_at pages told) (bytes_in pages told.rows) told.root))
@@ -174,6 +176,7 @@ top-first k pages count begin told tree known ids from at alpha reach words ask 
     ∙ ap (λ (g : shape.Item → List Hit). first comes_before k (flat_map g (tree_places (nodes_at pages told) told.root))) (top-hits known from alpha reach words ask is)
     ∙ (λ i. first comes_before k (flat_map (top_item (n i) (p i) alpha reach words) (tree_places (nodes_at pages (t i)) (t i).root)))
 
+-- the first k of a nearest query's hits
 pub near-first : (k : ℕ) (pages : PageMap) (count begin : ℕ) (told tree : Tree) (known ids : Numbers) (from at : Position) (filter : Option (Bor Expr)) (ask : Ask) → IsOnMap from.x from.y → FitsTree pages count begin told
     → told ≡ tree → known ≡ ids → from ≡ at → ask ≡ Nearest filter
     → first comes_before k (leads (opened_in known from ask (nodes_at pages told)) (started_in known ask (nodes_at pages told) (bytes_in pages told.rows) told.root))
