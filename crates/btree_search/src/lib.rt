@@ -8,6 +8,6 @@ mod locating;
 mod sealed;
 
 pub use bounds::Bounds;
-pub use check::count;
+pub use check::{count, seal_of};
 pub use locating::{Leaf, locate};
 pub use sealed::{inner_count, leaf_count, place_in, row_in};

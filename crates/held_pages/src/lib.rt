@@ -18,4 +18,4 @@ pub use place::{Place, find, keep, lend};
 pub use rooms::{fill, make_room, retire};
 pub use seals::Seals;
 pub use table::{PageTable, move_all};
-pub use written::{clear, write};
+pub use written::{clear, write, write_sealed};

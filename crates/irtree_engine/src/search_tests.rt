@@ -2,7 +2,7 @@
 ghost use Rattle.std.specs.Prelude.{◌≡◌};
 
 use crate::Engine;
-use crate::tests::splits_on_a_line;
+use crate::tests::{answered, splits_on_a_line};
 use disk_model::MemoryStation;
 use page_face::Pages;
 use place_map::{Answer, Query, Weights};
@@ -81,7 +81,7 @@ fn searched(
     if !query.is_within_limits() {
         return Err("not within the limits".into());
     }
-    let answer = engine.answer(query)?;
+    let answer = answered(engine, query)?;
     let hits = told(alloc, &answer)?;
     let log = engine.read_log();
     let opened = [

@@ -1,5 +1,6 @@
 //! Stores on a station in memory: what the engine reads where they were written below it, and what stays of its own updates.
 ghost use Rattle.std.specs.Prelude.{◌≡◌, IfOk};
+ghost use Rattle.place_map.specs.Query.{IsWithinLimits};
 ghost use Rattle.spatial_base.specs.Key.{Text};
 ghost use Rattle.irtree_engine.specs.Updates.{NamesText};
 
@@ -7,7 +8,7 @@ use crate::{Engine, EngineFault};
 use disk_model::MemoryStation;
 use page_face::Head;
 use page_store::Store;
-use place_map::{Answer, Applied, Query, Update};
+use place_map::{Answer, Applied, Place, Query, Update};
 use spatial_base::{Key, Point};
 use split_policy::{Halving, Quadratic, SplitPolicy};
 use std::alloc::Global;
@@ -80,6 +81,50 @@ fn count_in(
     Ok(count)
 }
 
+// The engine's calls, of which a test needs to know no more than that the engine keeps its loan.
+
+fn applied(
+    engine: &mut Engine<'_, MemoryStation>,
+    update: &Update,
+) -> Result<Applied, EngineFault>
+    requires { NamesText update.now }
+    ensures { engine.new.store.disk.ghost_name ≡ engine.old.store.disk.ghost_name }
+{
+    engine.apply(update)
+}
+
+pub(crate) fn answered(
+    engine: &mut Engine<'_, MemoryStation>,
+    query: &Query,
+) -> Result<Answer, EngineFault>
+    requires { IsWithinLimits query.now }
+    ensures { engine.new.store.disk.ghost_name ≡ engine.old.store.disk.ghost_name }
+{
+    engine.answer(query)
+}
+
+fn shown(
+    engine: &mut Engine<'_, MemoryStation>,
+    key: &Key,
+) -> Result<Option<Place>, EngineFault>
+    ensures { engine.new.store.disk.ghost_name ≡ engine.old.store.disk.ghost_name }
+{
+    engine.show(key)
+}
+
+// Says two bytes, and returns how many pages are in the log before and after that.
+fn logs_beside_a_say(
+    engine: &mut Engine<'_, MemoryStation>,
+) -> Result<(usize, usize), Fail>
+    ensures { engine.new.store.disk.ghost_name ≡ engine.old.store.disk.ghost_name }
+{
+    let before = engine.read_log().len();
+    if engine.say(b"ok").map_err(|_| "not said")? != 2 {
+        return Err("said in part".into());
+    }
+    Ok((before, engine.read_log().len()))
+}
+
 // While an engine lives nothing returns early: its loan is given back by `close` or `into_disk`.
 #[test]
 fn a_stored_place_is_shown_with_its_words(rt: HostRuntime) -> Result<(), Fail> {
@@ -88,14 +133,12 @@ fn a_stored_place_is_shown_with_its_words(rt: HostRuntime) -> Result<(), Fail> {
     let (here, nowhere) = (key("a")?, key("b")?);
     let policy = Box::new(rt.alloc(), Quadratic::new())?;
     let mut engine = Engine::open(rt.alloc(), &mut station, 0, policy)?;
-    assert_eq!(rt; engine.count(), 1);
-    let shown = engine.show(&here);
-    let other = engine.show(&nowhere);
-    assert_eq!(rt; engine.read_log().len(), 1);
-    assert_eq!(rt; engine.say(b"ok"), Ok(2));
-    assert_eq!(rt; engine.read_log().len(), 1);
+    let place = shown(&mut engine, &here);
+    let other = shown(&mut engine, &nowhere);
+    let logs = logs_beside_a_say(&mut engine);
     assert_eq!(rt; engine.close(), Ok(()));
-    let place = shown?.ok_or("absent")?;
+    assert_eq!(rt; logs?, (1, 1));
+    let place = place?.ok_or("absent")?;
     assert_eq!(rt; place.point, Point::new(-1, 2).ok_or("off the map")?);
     let pairs = place.words.pairs();
     assert_eq!(rt; pairs.len(), 1);
@@ -118,44 +161,76 @@ fn an_area_of_other_bytes_is_no_store(rt: HostRuntime) -> Result<(), Fail> {
     Ok(())
 }
 
-#[test]
-fn what_was_applied_stands_after_reopening(rt: HostRuntime) -> Result<(), Fail> {
-    let mut station = MemoryStation::new(rt.alloc(), 30);
-    let first = put(rt.alloc(), "a", "café")?;
+// A place that is put, put again, and looked for to be removed under another key; then a batch by which another place takes its place.
+fn apply_some(
+    alloc: Global,
+    engine: &mut Engine<'_, MemoryStation>,
+) -> Result<[Applied; 3], Fail>
+    ensures { engine.new.store.disk.ghost_name ≡ engine.old.store.disk.ghost_name }
+{
+    let first = put(alloc, "a", "café")?;
     let absent = Update::Remove { key: key("b")? };
     let batch = [
-        put(rt.alloc(), "b", "bar")?,
+        put(alloc, "b", "bar")?,
         Update::Remove { key: key("a")? },
     ];
-    let gone = key("a")?;
+    let answers = [
+        applied(engine, &first)?,
+        applied(engine, &first)?,
+        applied(engine, &absent)?,
+    ];
+    engine.apply_batch(&batch)?;
+    engine.settle()?;
+    Ok(answers)
+}
+
+// How many places there are, whether a place is shown at "a", and the keys of the places nearest to a point.
+fn told_of(
+    alloc: Global,
+    engine: &mut Engine<'_, MemoryStation>,
+) -> Result<(u32, bool, Vec<Key>), Fail>
+    ensures { engine.new.store.disk.ghost_name ≡ engine.old.store.disk.ghost_name }
+{
     let query = Query::Nearest {
         at: Point::new(0, 0).ok_or("off the map")?,
         k: 2,
         filter: None,
     };
-    assert!(rt; query.is_within_limits());
+    if !query.is_within_limits() {
+        return Err("not within the limits".into());
+    }
+    let place = shown(engine, &key("a")?)?;
+    let Answer::Hits(hits) = answered(engine, &query)? else {
+        return Err("no hits".into());
+    };
+    let mut keys = Vec::new(alloc);
+    for hit in hits.as_slice() {
+        keys.push(hit.key)?;
+    }
+    Ok((engine.count(), place.is_some(), keys))
+}
+
+#[test]
+fn what_was_applied_stands_after_reopening(rt: HostRuntime) -> Result<(), Fail> {
+    let mut station = MemoryStation::new(rt.alloc(), 30);
     let policy = Box::new(rt.alloc(), Quadratic::new())?;
     let another = Box::new(rt.alloc(), Halving::new())?;
     let mut engine = Engine::open(rt.alloc(), &mut station, 0, policy)?;
-    assert_eq!(rt; engine.apply(&first), Ok(Applied::New));
-    assert_eq!(rt; engine.apply(&first), Ok(Applied::Replaced));
-    assert_eq!(rt; engine.apply(&absent), Ok(Applied::Absent));
-    assert_eq!(rt; engine.apply_batch(&batch), Ok(()));
-    assert_eq!(rt; engine.settle(), Ok(()));
-    assert_eq!(rt; engine.splits(), 0);
+    let answers = apply_some(rt.alloc(), &mut engine);
+    let splits = engine.splits();
     let _loan = engine.into_disk();
     let mut engine = Engine::open(rt.alloc(), &mut station, 0, another)?;
-    let count = engine.count();
-    let shown = engine.show(&gone);
-    let answer = engine.answer(&query);
+    let told = told_of(rt.alloc(), &mut engine);
     let _loan = engine.into_disk();
+    assert_eq!(rt;
+        answers?,
+        [Applied::New, Applied::Replaced, Applied::Absent]
+    );
+    assert_eq!(rt; splits, 0);
+    let (count, is_shown, keys) = told?;
     assert_eq!(rt; count, 1);
-    assert!(rt; shown?.is_none());
-    let Answer::Hits(hits) = answer? else {
-        return Err("no hits".into());
-    };
-    assert_eq!(rt; hits.as_slice().len(), 1);
-    assert_eq!(rt; hits.as_slice()[0].key, key("b")?);
+    assert!(rt; !is_shown);
+    assert_eq!(rt; keys.as_slice(), [key("b")?].as_slice());
     Ok(())
 }
 
@@ -176,7 +251,7 @@ pub(crate) fn splits_on_a_line(
             words: impacts(alloc, "x")?,
         };
         before = engine.splits();
-        engine.apply(&update)?;
+        applied(engine, &update)?;
     }
     Ok((before, engine.splits()))
 }

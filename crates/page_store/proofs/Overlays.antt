@@ -1,16 +1,18 @@
 -- What a commit of an overlay leaves.
-use Rattle.std.proofs.Common.{◌≡◌, ◌≢◌, ◌⊎◌, inl, inr, ⊎_elim, ℕ, zero, suc, ◌+◌, ◌*◌, ◌<◌, Bool, true, List, [], ◌∷◌, length, get_or, slice_index, nat_eq, nat_lt, ◌==◌, if◌then◌else◌, Option, Some, None, is_some, option_map, Box, refl, sym, ◌∙◌, ap, subst, arith}
+use Rattle.std.proofs.Common.{cond, ◌≤◌, ◌≡◌, Result, Ok, Err, OnOk, ◌≢◌, ◌⊎◌, inl, inr, ⊎_elim, ℕ, zero, suc, ◌+◌, ◌*◌, ◌<◌, Bool, true, List, [], ◌∷◌, length, get_or, slice_index, nat_eq, nat_lt, ◌==◌, if◌then◌else◌, Option, Some, None, is_some, option_map, Box, refl, sym, ◌∙◌, ap, subst, arith}
 use Rattle.std.specs.Map.{keys_of, lookup}
 use Rattle.std.specs.BTreeMap.{is_at, IsOrdered}
 use Rattle.std.specs.List.Sorted.{IsStrictlySortedBy}
 use Rattle.std.specs.Ordering.{nat_cmp}
 use Rattle.std.specs.declared.alloc.Global.{Global}
 use Rattle.std.proofs.lemmas.Map.Keys.{below_from_sorted}
+use Rattle.std.proofs.lemmas.Bool.Decides.{nat_tests}
 use Rattle.std.proofs.lemmas.Bool.{cases_eq, cond-true, cond-false, false≢true}
 use mathlib.Core.Path.{fun_ext}
 use Rattle.disk_model.specs.World.{World, LeavesOnly}
 use Rattle.disk_model.proofs.Moments.{then, within}
-use Rattle.page_face.specs.FreeList.{PageMap}
+use Rattle.page_face.specs.Causes.{IsUncounted}
+use Rattle.page_face.specs.FreeList.{PageMap, with_page}
 use Rattle.page_journal.specs.Record.{IsAscending, applied, batch_of, given, with_batch, IsBeforeOrAfter, IsReady, LeavesPages, StandsFor}
 use Rattle.page_journal.proofs.Batches.{page_here, page_elsewhere, length_given}
 use Rattle.held_pages.specs.Rooms.{Ordered, ordered_page}
@@ -224,3 +226,36 @@ pub cleared_sized : (overlay : Overlay) → overlay.entries ≡ [] → IsSized o
 cleared_sized overlay none n page is =
     let empty : page_in overlay n ≡ None = ap (λ (es : List (ℕ × Box (List ℕ) Global)). option_map (λ (p : Box (List ℕ) Global). p.value) (lookup (nat_eq n) es)) none in
     cc
+
+-- ---- a page that was written
+
+-- a page that is counted
+counted_here : (count n : ℕ) (pages : PageMap) → 0 < n → n < count → counted_pages count pages n ≡ pages n
+counted_here count n pages some within = grind (arith, nat_tests)
+
+written_here : (page n : ℕ) (bytes : List ℕ) (pages : PageMap) → n ≡ page → with_page page bytes pages n ≡ bytes
+written_here page n bytes pages same = grind (arith, nat_tests)
+
+written_beside : (page n : ℕ) (bytes : List ℕ) (pages : PageMap) → (n ≡ page → ⊥) → with_page page bytes pages n ≡ pages n
+written_beside page n bytes pages ne = grind (arith, nat_tests)
+
+-- what a call that succeeds says, by another of its clauses
+pub on_ok : {T E : Type 0} {A B : Type 0} (result : Result T E) → OnOk result A → (A → B) → OnOk result B
+on_ok (Ok x) a f = f a
+on_ok (Err e) a f = tt
+
+-- an overlay into which a counted page was put shows the pages with that one written
+pub put_shows : (tells : Bool) (area : ℕ → ℕ) (overlay later : Overlay) (count page : ℕ) (bytes : List ℕ) → (IsUncounted count page → ⊥) → page_in later page ≡ Some bytes
+    → ((n : ℕ) → n ≢ page → page_in later n ≡ page_in overlay n) → counted_pages count (shown tells area later) ≡ with_page page bytes (counted_pages count (shown tells area overlay))
+put_shows tells area overlay later count page bytes counted here others =
+    let some : (page ≡ 0) → ⊥ = λ e. counted (inl e) in
+    let within : count ≤ page → ⊥ = λ e. counted (inr e) in
+    fun_ext (λ n. ⊎_elim
+    (λ (same : n ≡ page).
+    counted_here count n (shown tells area later) (omega arith) (omega arith)
+    ∙ ap (λ (o : Option (List ℕ)). first_of o (cond tells (page_bytes area n) [])) (ap (page_in later) same ∙ here)
+    ∙ sym (written_here page n bytes (counted_pages count (shown tells area overlay)) same))
+    (λ (ne : n ≡ page → ⊥).
+    ap (λ (o : Option (List ℕ)). if n == 0 then [] else if nat_lt n count then first_of o (cond tells (page_bytes area n) []) else []) (others n ne)
+    ∙ sym (written_beside page n bytes (counted_pages count (shown tells area overlay)) ne))
+    (cases_eq n page))

@@ -126,6 +126,24 @@ impl<'d, D: Disk> Pages for Store<'d, D> {
         held_pages::write(self.alloc, &mut self.overlay, &mut self.seals, page, bytes)
     }
 
+    fn write_sealed(&mut self, page: u32, bytes: &Page, seal: Seal) -> Result<(), PageFault> {
+        if self.stopped {
+            return Err(PageFault::Stopped);
+        }
+        if is_uncounted(self.current.counted, page) {
+            return Err(unlinked(page));
+        }
+        self.place = Place::Spare;
+        held_pages::write_sealed(
+            self.alloc,
+            &mut self.overlay,
+            &mut self.seals,
+            page,
+            bytes,
+            seal,
+        )
+    }
+
     fn take(&mut self) -> Result<u32, PageFault> {
         if self.stopped {
             return Err(PageFault::Stopped);

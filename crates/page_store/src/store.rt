@@ -33,7 +33,7 @@ use std::collections::BTreeMap;
 /// in the cache, for a cached one; none of these calls the disk or copies a page. A page that is in none is read from the disk, where that is
 /// one call, and copied once into the cache. `looked` makes no look-up, since `look` notes where the page lies; `is_sealed` and `seal` make
 /// one. `read` is a `look` and a copy of the page, and a `take` of a free page a `look` at it. `write` and `give_back` put one page into the
-/// overlay, where that is three look-ups at most, and make no call of the disk.
+/// overlay, where that is three look-ups at most, `write_sealed` makes one more for the seal; they make no call of the disk.
 ///
 /// The overlay holds each page written since the last commit once, the journal's pages take some 16 MiB at most beside those of one commit,
 /// and the cache holds as many pages as it was made for. Pages are put in the order of their numbers for a commit and for a checkpoint, which

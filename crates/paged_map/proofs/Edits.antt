@@ -8,6 +8,7 @@ use Rattle.page_face.specs.FreeList.{PageMap, with_page}
 use Rattle.page_face.specs.Number.{number}
 use Rattle.page_face.specs.Cells.{IsPlace, key_at}
 use Rattle.page_face.specs.Nodes.{count_of}
+use Rattle.page_face.specs.Sound.{IsSound}
 use Rattle.btree_nodes.specs.declared.form.Form.{Form}
 use Rattle.btree_nodes.specs.Build.{image}
 use Rattle.btree_nodes.specs.Rows.{Row, IsWithin, IsEdit, IsMade, put, without}
@@ -18,6 +19,7 @@ use Rattle.btree_nodes.proofs.Images.{image-node, image-rows}
 use Rattle.btree_nodes.proofs.Supplies.{moves-write, with-other}
 use Rattle.btree_nodes.proofs.Writes.{built}
 use Rattle.btree_search.specs.Leaves.{IsLeafOf, HoldsInstead}
+use Rattle.btree_search.proofs.Soundness.{leaf-sound}
 use Rattle.btree_insert.proofs.Leaves.{rows_of}
 use Rattle.btree_insert.proofs.PutLeaf.{put_cells}
 use Rattle.btree_delete.specs.Body.{cells_in, without_cell}
@@ -32,6 +34,11 @@ use Rattle.paged_map.specs.Maps.{IsKept, HasBecome}
 pub record IsEdited (form : Form) (least low high : ℕ) (edit : List Row → List Row) (page bytes : List ℕ) : Type 0 where
   pub leaf : IsLeaf form least bytes
   pub made : IsMade low high edit (rows_in form page) (rows_in form bytes)
+
+-- Such a leaf is sound.
+pub edited-sound : (form : Form) (least low high : ℕ) (edit : List Row → List Row) (page bytes : List ℕ) → IsEdited form least low high edit page bytes
+    → IsSound (record { map = form.map; key = form.key; value = form.value; level = 0 }) bytes
+edited-sound form least low high edit page bytes made = leaf-sound form least low high bytes made.leaf made.made.within
 
 -- Such a leaf in the place of that one makes the map the one of the edited rows.
 pub edit-leaf : (form : Form) (pages : PageMap) (root least page low high key : ℕ) (edit : List Row → List Row) (old bytes free : List ℕ) (count first : ℕ) (new : PageMap) (count' first' : ℕ)

@@ -4,6 +4,7 @@ use Rattle.std.specs.Bool.{then_some}
 use Rattle.std.specs.Prelude.{IfSome}
 use Rattle.page_face.specs.FreeList.{PageMap, with_page}
 use Rattle.page_face.specs.Number.{number}
+use Rattle.page_face.specs.Sound.{IsSound}
 use Rattle.btree_nodes.specs.declared.form.Form.{Form}
 use Rattle.btree_nodes.specs.Build.{image}
 use Rattle.btree_nodes.specs.Rows.{IsWithin, put}
@@ -16,7 +17,7 @@ use Rattle.paged_map.specs.Edits.{edited}
 use Rattle.paged_map.specs.Maps.{HasBecome, IsKept}
 use Rattle.paged_map.specs.Spots.{IsInLeaf, IsRowAt, IsSpot, leaf_of}
 use Rattle.paged_map.specs.declared.replacing.RowSpot.{RowSpot}
-use Rattle.paged_map.proofs.Edits.{IsEdited, edit-leaf, put-leaf}
+use Rattle.paged_map.proofs.Edits.{IsEdited, edit-leaf, edited-sound, put-leaf}
 
 -- the leaf of a row that was found, if one was
 pub leaf-found : (found : Option RowSpot) (page : ℕ) → IfSome found (λ (spot : RowSpot). spot.page ≡ page) → leaf_of found ≡ then_some (is_some found) page
@@ -50,6 +51,23 @@ pub spots : (form : Form) (p p' : PageMap) (count root least page low high key :
 spots form p p' count root least page low high key bytes None e at located from to row = tt
 spots form p p' count root least page low high key bytes (Some spot) e at located from to row =
     record { row = row; leaf = in-leaf form p p' root least page low high key bytes spot e at located from to }
+
+-- A leaf with another value at the key of a row is sound.
+pub replaced-sound : (form : Form) (count : ℕ) (bytes key value : List ℕ) (spot : RowSpot) → length key ≡ form.key → length value ≡ form.value → IsRowAt form count bytes (number key) spot
+    → IsSound (record { map = form.map; key = form.key; value = form.value; level = 0 })
+    (image form.map 1 0 spot.count (edited ((form.key + form.value) * spot.count) ((form.key + form.value) * spot.at) ((form.key + form.value) * (spot.at + 1)) key value bytes))
+replaced-sound form count bytes key value spot lk lv row =
+    let w : ℕ = form.key + form.value in
+    let n : ℕ = spot.count in
+    let at : ℕ = spot.at in
+    let small = row.small in
+    let stays : n + 1 - 1 ≡ n = omega arith in
+    let cells : List ℕ = edited (w * n) (w * at) (w * (at + 1)) key value bytes in
+    let fits : 16 + w * (n + 1 - 1) ≤ 4096 = subst (λ (k : ℕ). 16 + w * k ≤ 4096) (sym stays) row.fits in
+    let made : IsEdited form row.least row.low row.high (put (number key) value) bytes (image form.map 1 0 n cells) =
+    subst (λ (k : ℕ). IsEdited form row.least row.low row.high (put (number key) value) bytes (image form.map 1 0 k cells)) stays
+    (put-leaf form bytes row.low row.high row.least n at row.sound row.within row.is key value 1 lk lv row.from row.to row.place (λ one. (small, row.same)) (λ other. absurd (other refl)) (omega arith) (omega arith) fits) in
+    edited-sound form row.least row.low row.high (put (number key) value) bytes (image form.map 1 0 n cells) made
 
 -- A leaf with another value at the key of a row makes the map the one where that value was put.
 pub replaced : (form : Form) (pages : PageMap) (root count first : ℕ) (bytes key value free : List ℕ) (spot : RowSpot) (new : PageMap) (count' first' : ℕ)

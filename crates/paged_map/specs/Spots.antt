@@ -5,6 +5,8 @@ use Rattle.page_face.specs.Cells.{IsPlace, key_at}
 use Rattle.page_face.specs.FreeList.{PageMap}
 use Rattle.page_face.specs.Nodes.{count_of}
 use Rattle.btree_nodes.specs.declared.form.Form.{Form}
+use Rattle.btree_nodes.specs.Nodes.{IsLeaf, rows_in}
+use Rattle.btree_nodes.specs.Rows.{IsWithin}
 use Rattle.btree_nodes.specs.Tree.{IsMap}
 use Rattle.btree_search.specs.Leaves.{IsLeafOf}
 use Rattle.paged_map.specs.declared.replacing.RowSpot.{RowSpot}
@@ -13,8 +15,15 @@ use Rattle.paged_map.specs.declared.replacing.RowSpot.{RowSpot}
 abbrev pub leaf_of : Option RowSpot → Option ℕ
 leaf_of = option_map (λ (spot : RowSpot). spot.page)
 
--- The bytes are those of a leaf that has the row of a key at the spot, whose page is counted.
+-- The bytes are those of a leaf between some bounds that has the row of a key at the spot, whose page is counted.
 pub record IsRowAt (form : Form) (count : ℕ) (bytes : List ℕ) (key : ℕ) (spot : RowSpot) : Type 0 where
+  pub least : ℕ
+  pub low : ℕ
+  pub high : ℕ
+  pub sound : IsLeaf form least bytes
+  pub within : IsWithin low high (rows_in form bytes)
+  pub from : low ≤ key
+  pub to : key < high
   pub counted : IsUncounted count spot.page → ⊥
   pub fits : 16 + (form.key + form.value) * spot.count ≤ 4096
   pub small : spot.at < spot.count

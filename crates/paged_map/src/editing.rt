@@ -5,10 +5,12 @@ ghost use Rattle.page_face.specs.Causes.{IsUncounted};
 ghost use Rattle.page_face.specs.Cells.{IsPlace, key_at};
 ghost use Rattle.page_face.specs.FreeList.{with_page};
 ghost use Rattle.page_face.specs.Number.{number};
+ghost use Rattle.page_face.specs.Sound.{IsSound};
 ghost use Rattle.btree_nodes.specs.Build.{image};
 ghost use Rattle.paged_map.specs.Edits.{edited};
 
 use btree_nodes::{Form, compare, key_of, place, splice, write_at};
+use btree_search::seal_of;
 use page_face::{Damage, Page, PageFault, Pages};
 use std::cmp::Ordering;
 
@@ -123,7 +125,8 @@ fn fill_leaf(
 /// Writes a leaf of `count` rows to a counted page: the cells of the page looked at with two pieces in place of those that
 /// are cut.
 ///
-/// Makes one page, into which each piece is copied once. Returns `Stopped` or `Memory` if it fails.
+/// The leaf is sound then, and sealed, so that the next look at it doesn't check it. Makes one page, into which each piece is copied
+/// once. Returns `Stopped` or `Memory` if it fails.
 pub fn write_leaf<P: Pages>(
     pages: &mut P,
     form: Form,
@@ -138,6 +141,8 @@ pub fn write_leaf<P: Pages>(
     requires end { cut.until ≤ cut.size }
     requires size { 16 + cut.size ≤ 4096 }
     requires fits { 16 + cut.size + (length first.now + length second.now) ≤ 4096 + (cut.until - cut.from) }
+    requires sound { IsSound (record { map = form.map; key = form.key; value = form.value; level = 0 })
+        (image form.map 1 0 count (edited cut.size cut.from cut.until first.now second.now (P.looked pages.old))) }
     ensures written { OnOk result (P.pages pages.new
         ≡ with_page page (image form.map 1 0 count (edited cut.size cut.from cut.until first.now second.now (P.looked pages.old))) (P.pages pages.old)) }
 
@@ -151,5 +156,5 @@ pub fn write_leaf<P: Pages>(
 {
     let mut bytes = [0; 4096];
     fill_leaf(&mut bytes, pages.looked(), form, count, cut, first, second);
-    pages.write(page, &bytes)
+    pages.write_sealed(page, &bytes, seal_of(form, 0))
 }

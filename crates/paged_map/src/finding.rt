@@ -8,6 +8,7 @@ ghost use Rattle.btree_nodes.specs.Rows.{IsWithin, lookup, first_from};
 ghost use Rattle.btree_nodes.specs.Nodes.{rows_in};
 ghost use Rattle.btree_nodes.specs.Tree.{IsMap, map_rows, map_uses};
 ghost use Rattle.btree_nodes.specs.Damages.{AreTold, AskedSince, AsksOnly};
+ghost use Rattle.btree_search.specs.Leaves.{IsShown};
 ghost use Rattle.btree_search.specs.Steps.{high_of};
 ghost use Rattle.paged_map.specs.Answers.{HoldsRow, Locates, LocatesOr};
 ghost use Rattle.paged_map.specs.Maps.{IsMapDamaged};
@@ -27,7 +28,8 @@ fn row_at(page: &Page, form: Form, leaf: Leaf, key: &[u8], value: &mut [u8]) -> 
     requires value { length value.old ≡ form.value }
     ensures found { (low high : ℕ) → IsWithin low high (rows_in form page.now) → low ≤ number key.now → number key.now < high
         → lookup (number key.now) (rows_in form page.now) ≡ (if is_some result then Some value.new else None) }
-    ensures spot { (count : ℕ) → ¬ IsUncounted count leaf.page → IfSome result (IsRowAt form count page.now (number key.now)) }
+    ensures spot { (count low high : ℕ) → ¬ IsUncounted count leaf.page → IsShown form page.now (number key.now) low high leaf
+        → IfSome result (IsRowAt form count page.now (number key.now)) }
     ensures page { IfSome result (λ spot. spot.page ≡ leaf.page) }
 {
     let here = spot_of(page, form, leaf.count, key);

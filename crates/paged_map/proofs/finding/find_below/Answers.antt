@@ -4,6 +4,7 @@ use Rattle.page_face.specs.Causes.{IsUncounted}
 use Rattle.page_face.specs.Number.{number}
 use Rattle.btree_nodes.specs.Nodes.{rows_in}
 use Rattle.btree_nodes.specs.Rows.{IsWithin}
+use Rattle.btree_search.specs.Leaves.{IsShown}
 use Rattle.btree_search.specs.Steps.{low_of, high_of}
 use Rattle.paged_map.specs.Spots.{IsRowAt, leaf_of}
 use Rattle.paged_map.proofs.Leaves.{found-leaf}
@@ -31,4 +32,5 @@ returns-in-Ok-clause-spot g c =
     spots c.args.form (g.P.Pages.pages c.args.pages.now) (g.P.Pages.pages c.locate.new.pages) count c.args.root c.in-Ok.leaf.least c.in-Ok.leaf.page (low_of c.args.form c.locate.new.bounds) (high_of c.args.form c.locate.new.bounds)
     key bytes c.row_at.result f.pages c.row_at.ensures.page c.in-Ok.ensures.located s.from s.to
     (subst (λ (x : List ℕ). IfSome c.row_at.result (IsRowAt c.args.form count x key)) c.looked.ensures
-    (c.row_at.ensures.spot count (λ u. c.in-Ok.ensures.counted (subst (λ (n : ℕ). IsUncounted n c.in-Ok.leaf.page) f.count u))))
+    (c.row_at.ensures.spot count (low_of c.args.form c.locate.new.bounds) (high_of c.args.form c.locate.new.bounds) (λ u. c.in-Ok.ensures.counted (subst (λ (n : ℕ). IsUncounted n c.in-Ok.leaf.page) f.count u))
+    (subst (λ (x : List ℕ). IsShown c.args.form x key (low_of c.args.form c.locate.new.bounds) (high_of c.args.form c.locate.new.bounds) c.in-Ok.leaf) (sym c.looked.ensures) s)))

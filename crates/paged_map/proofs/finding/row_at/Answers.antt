@@ -20,6 +20,6 @@ returns-clause-found c = λ low high within from to.
     ∙ ap (λ (v : List ℕ). Some v) (sym c.copy_value.ensures)
 
 pub returns-clause-spot : goal.returns-clause-spot
-returns-clause-spot c = λ count away.
+returns-clause-spot c = λ count low high away shown.
     let s = c.spot_of-here.ensures.some (omega arith) in
-    record { counted = away; fits = c.requires.fits; small = s.0; is = c.requires.count; place = c.spot_of-here.ensures.place; same = s.1 }
+    record { least = c.args.leaf.least; low = low; high = high; sound = shown.sound; within = shown.within; from = shown.from; to = shown.to; counted = away; fits = c.requires.fits; small = s.0; is = c.requires.count; place = c.spot_of-here.ensures.place; same = s.1 }

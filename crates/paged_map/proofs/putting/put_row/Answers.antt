@@ -5,6 +5,7 @@ use Rattle.page_face.specs.FreeList.{PageMap, with_page}
 use Rattle.page_face.specs.Cells.{IsPlace}
 use Rattle.page_face.specs.Nodes.{count_of}
 use Rattle.page_face.specs.Number.{number}
+use Rattle.page_face.specs.Sound.{IsSound}
 use Rattle.btree_nodes.specs.declared.form.Form.{Form}
 use Rattle.btree_nodes.specs.Build.{image}
 use Rattle.btree_nodes.specs.Rows.{lookup, put}
@@ -16,7 +17,7 @@ use Rattle.btree_insert.proofs.PutLeaf.{put-had}
 use Rattle.paged_map.specs.Edits.{edited}
 use Rattle.paged_map.specs.declared.editing.Cut.{Cut}
 use Rattle.paged_map.proofs.Behind.{own-behind, refused-behind, kept-behind}
-use Rattle.paged_map.proofs.Edits.{edit-leaf, put-leaf, room-fits, place-looked, some-looked, none-looked}
+use Rattle.paged_map.proofs.Edits.{edit-leaf, edited-sound, put-leaf, room-fits, place-looked, some-looked, none-looked}
 use Rattle.paged_map.proofs.Leaves.{lookup-leaf}
 use Rattle.paged_map.proofs.putting.put_row.Goals as goal
 
@@ -66,6 +67,25 @@ write_leaf-requires-clause-fits g c =
     let until = ap (λ (x : Cut). x.until) e in
     let r = room-fits (c.args.form.key + c.args.form.value) c.in-Ok.leaf.count c.spot_of-spot.result.at c.spot_of-spot.result.gone c.spot_of-spot.ensures.within (c.if-not-has_room.ensures.0 (search rules)) in
     omega (arith, size, from, until, r)
+
+pub write_leaf-requires-clause-sound : goal.write_leaf-requires-clause-sound
+write_leaf-requires-clause-sound g c =
+    let form : Form = c.args.form in
+    let s = c.in-Ok.ensures.shown in
+    let p = c.spot_of-spot.ensures in
+    let n : ℕ = c.in-Ok.leaf.count in
+    let at : ℕ = c.spot_of-spot.result.at in
+    let gone : ℕ = c.spot_of-spot.result.gone in
+    let page : List ℕ = g.P.Pages.looked c.locate.new.pages in
+    let key : List ℕ = c.args.key.now in
+    let value : List ℕ = c.args.value.now in
+    let w : ℕ = form.key + form.value in
+    let made = put-leaf form page (low_of form c.locate.new.bounds) (high_of form c.locate.new.bounds) c.in-Ok.leaf.least n at s.sound s.within s.count key value gone c.requires.key c.requires.value s.from s.to
+    (place-looked form page c.looked.result.now c.looked.ensures (number key) n at gone p.place p.some p.none) (some-looked form page c.looked.result.now c.looked.ensures (number key) n at gone p.place p.some p.none)
+    (none-looked form page c.looked.result.now c.looked.ensures (number key) n at gone p.place p.some p.none) p.small p.within (c.if-not-has_room.ensures.0 (search rules)) in
+    subst (λ (x : Cut). IsSound (record { map = form.map; key = form.key; value = form.value; level = 0 }) (image form.map 1 0 (n + 1 - gone) (edited x.size x.from x.until key value page)))
+    (sym c.cut_of-cut.ensures.is)
+    (edited-sound form c.in-Ok.leaf.least (low_of form c.locate.new.bounds) (high_of form c.locate.new.bounds) (put (number key) value) page (image form.map 1 0 (n + 1 - gone) (edited (w * n) (w * at) (w * (at + gone)) key value page)) made)
 
 pub returns-in_err-write_leaf-clause-frame : goal.returns-in_err-write_leaf-clause-frame
 returns-in_err-write_leaf-clause-frame g c =

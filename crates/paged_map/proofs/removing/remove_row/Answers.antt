@@ -7,6 +7,7 @@ use Rattle.page_face.specs.FreeList.{PageMap, with_page}
 use Rattle.page_face.specs.Cells.{IsPlace}
 use Rattle.page_face.specs.Nodes.{count_of}
 use Rattle.page_face.specs.Number.{number}
+use Rattle.page_face.specs.Sound.{IsSound}
 use Rattle.btree_nodes.specs.declared.form.Form.{Form}
 use Rattle.btree_nodes.specs.Build.{image}
 use Rattle.btree_nodes.specs.Rows.{lookup, without}
@@ -21,7 +22,7 @@ use Rattle.paged_map.specs.Maps.{HasBecome}
 use Rattle.paged_map.specs.declared.editing.Cut.{Cut}
 use Rattle.paged_map.specs.declared.putting.Rooted.{Rooted}
 use Rattle.paged_map.proofs.Behind.{own-behind, both-behind, kept-behind, claim-behind}
-use Rattle.paged_map.proofs.Edits.{IsEdited, edit-leaf, without-leaf, place-looked, some-looked, none-looked}
+use Rattle.paged_map.proofs.Edits.{IsEdited, edit-leaf, edited-sound, without-leaf, place-looked, some-looked, none-looked}
 use Rattle.paged_map.proofs.Leaves.{lookup-leaf}
 use Rattle.paged_map.proofs.Removes.{without-absent, stays}
 use Rattle.paged_map.proofs.removing.remove_row.Goals as goal
@@ -126,6 +127,29 @@ returns-in-Err-Damaged-clause-removed g c = λ free kept.
     × HasBecome form (view p k h free) (g.P.Pages.pages c.remove_below.new.pages) (g.P.Pages.count c.remove_below.new.pages) (g.P.Pages.first c.remove_below.new.pages) root rooted.root (without key (map_rows form p root))))
     old middle count count' first first' f.pages f.count f.first
     (c.remove_below.ensures.removed free (kept-behind form root old middle count count' first first' free f.pages f.count f.first kept))
+
+pub write_leaf-requires-clause-sound : goal.write_leaf-requires-clause-sound
+write_leaf-requires-clause-sound g c =
+    let form : Form = c.args.form in
+    let s = c.in-Ok.ensures.shown in
+    let p = c.spot_of-spot.ensures in
+    let n : ℕ = c.in-Ok.leaf.count in
+    let at : ℕ = c.spot_of-spot.result.at in
+    let gone : ℕ = c.spot_of-spot.result.gone in
+    let one : gone ≡ 1 = omega arith in
+    let page : List ℕ = g.P.Pages.looked c.locate.new.pages in
+    let key : ℕ = number c.args.key.now in
+    let low : ℕ = low_of form c.locate.new.bounds in
+    let high : ℕ = high_of form c.locate.new.bounds in
+    let w : ℕ = form.key + form.value in
+    let place = place-looked form page c.looked.result.now c.looked.ensures key n at gone p.place p.some p.none in
+    let here = some-looked form page c.looked.result.now c.looked.ensures key n at gone p.place p.some p.none one in
+    let until : w * at + w ≡ w * (at + gone) = sym (mul-add w at 1 ∙ omega (arith, mul-suc w 0, mul-zero w)) ∙ ap (λ (k : ℕ). w * (at + k)) (sym one) in
+    let made = subst (λ (k : ℕ). IsEdited form c.in-Ok.leaf.least low high (without key) page (image form.map 1 0 (n - 1) (edited (w * n) (w * at) k [] [] page))) until
+    (without-leaf form page low high c.in-Ok.leaf.least n at s.sound s.within s.count key s.from s.to place here.0 here.1 (omega arith) s.some) in
+    subst (λ (x : Cut). IsSound (record { map = form.map; key = form.key; value = form.value; level = 0 }) (image form.map 1 0 (n - 1) (edited x.size x.from x.until [] [] page)))
+    (sym c.cut_of-cut.ensures.is)
+    (edited-sound form c.in-Ok.leaf.least low high (without key) page (image form.map 1 0 (n - 1) (edited (w * n) (w * at) (w * (at + gone)) [] [] page)) made)
 
 pub returns-in_err-write_leaf-clause-frame : goal.returns-in_err-write_leaf-clause-frame
 returns-in_err-write_leaf-clause-frame g c =
