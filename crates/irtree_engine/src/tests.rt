@@ -83,10 +83,7 @@ fn count_in(
 
 // The engine's calls, of which a test needs to know no more than that the engine keeps its loan.
 
-fn applied(
-    engine: &mut Engine<'_, MemoryStation>,
-    update: &Update,
-) -> Result<Applied, EngineFault>
+fn applied(engine: &mut Engine<'_, MemoryStation>, update: &Update) -> Result<Applied, EngineFault>
     requires { NamesText update.now }
     ensures { engine.new.store.disk.ghost_name ≡ engine.old.store.disk.ghost_name }
 {
@@ -103,19 +100,14 @@ pub(crate) fn answered(
     engine.answer(query)
 }
 
-fn shown(
-    engine: &mut Engine<'_, MemoryStation>,
-    key: &Key,
-) -> Result<Option<Place>, EngineFault>
+fn shown(engine: &mut Engine<'_, MemoryStation>, key: &Key) -> Result<Option<Place>, EngineFault>
     ensures { engine.new.store.disk.ghost_name ≡ engine.old.store.disk.ghost_name }
 {
     engine.show(key)
 }
 
 // Says two bytes, and returns how many pages are in the log before and after that.
-fn logs_beside_a_say(
-    engine: &mut Engine<'_, MemoryStation>,
-) -> Result<(usize, usize), Fail>
+fn logs_beside_a_say(engine: &mut Engine<'_, MemoryStation>) -> Result<(usize, usize), Fail>
     ensures { engine.new.store.disk.ghost_name ≡ engine.old.store.disk.ghost_name }
 {
     let before = engine.read_log().len();
@@ -162,18 +154,12 @@ fn an_area_of_other_bytes_is_no_store(rt: HostRuntime) -> Result<(), Fail> {
 }
 
 // A place that is put, put again, and looked for to be removed under another key; then a batch by which another place takes its place.
-fn apply_some(
-    alloc: Global,
-    engine: &mut Engine<'_, MemoryStation>,
-) -> Result<[Applied; 3], Fail>
+fn apply_some(alloc: Global, engine: &mut Engine<'_, MemoryStation>) -> Result<[Applied; 3], Fail>
     ensures { engine.new.store.disk.ghost_name ≡ engine.old.store.disk.ghost_name }
 {
     let first = put(alloc, "a", "café")?;
     let absent = Update::Remove { key: key("b")? };
-    let batch = [
-        put(alloc, "b", "bar")?,
-        Update::Remove { key: key("a")? },
-    ];
+    let batch = [put(alloc, "b", "bar")?, Update::Remove { key: key("a")? }];
     let answers = [
         applied(engine, &first)?,
         applied(engine, &first)?,

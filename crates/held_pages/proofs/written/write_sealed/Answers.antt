@@ -1,4 +1,4 @@
-use Rattle.std.proofs.Common.{Option, ap, ◌∙◌, ℕ, List, Some}
+use Rattle.std.proofs.Common.{Option, ap, ℕ, List}
 use Rattle.held_pages.specs.Pages.{first_page}
 use Rattle.held_pages.specs.Places.{page_behind}
 use Rattle.held_pages.proofs.Sealed.{true_noted}

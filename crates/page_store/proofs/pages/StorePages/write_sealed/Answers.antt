@@ -1,4 +1,3 @@
-use Rattle.std.proofs.Common.{ℕ}
 use Rattle.page_journal.specs.Record.{applied}
 use Rattle.page_store.proofs.Overlays.{on_ok, put_shows}
 use Rattle.page_store.proofs.pages.StorePages.write_sealed.Goals as goal
