@@ -7,22 +7,22 @@ use Rattle.ranking.specs.First.{ranked, first, IsRanked}
 use Rattle.ranking.specs.Laws.{ranked_is}
 use Rattle.spatial_base.specs.Point.{Position, distance}
 use Rattle.best_first.proofs.Costs.{upto_cost}
-use Rattle.best_first.proofs.Firsts.{kept_ranked}
 use Rattle.best_first.proofs.Lists.{all_in, all_weaker, all_taken, flat_all}
 use Rattle.place_map.specs.declared.hit.Hit.{Hit}
 use Rattle.place_map.specs.declared.query.Expr.TheVariants.{Has}
 use Rattle.place_map.specs.declared.query.Pick.{Pick}
+use Rattle.place_map.specs.declared.query.Chosen.{Chosen}
 use Rattle.place_map.specs.Hit.{comes_before, hits_linear}
 use Rattle.rtree_shape.specs.Slots.{NodeMap}
 use Rattle.tree_entries.specs.Numbers.{Numbers, impact_of}
 use Rattle.tree_entries.specs.Entries.{tree_places}
 use Rattle.tree_entries.specs.Hits.{hit_near, near_item}
-use Rattle.collective_query.specs.Choices.{IsChoice, IsCut}
-use Rattle.collective_query.specs.Picks.{AreSorted, GoesBeyond}
-use Rattle.collective_query.specs.TreePicks.{tree_picks, pick_from, word_hits, first_picks}
-use Rattle.collective_query.specs.Tried.{IsBestOf}
+use Rattle.collective_query.specs.Choices.{IsChoice, IsWithin, IsCut, AreCut}
+use Rattle.collective_query.specs.Picks.{GoesBeyond}
+use Rattle.collective_query.specs.TreePicks.{tree_picks, tree_lists, pick_from, word_hits, first_picks, first_lists}
+use Rattle.collective_query.specs.Tried.{IsChosen}
 use Rattle.collective_query.proofs.Members.{contains-here, contains-later, contains-none, contains-cases, contains-map, all-among, map-all, all-ranked, among-ranked}
-use Rattle.collective_query.proofs.TreePicks.{picks-made, hit-among, hits-sorted}
+use Rattle.collective_query.proofs.TreePicks.{picks-made, hit-among}
 
 -- of hits in order, none behind others costs less than one of them
 before-behind : (xs ys : List Hit) (y : Hit) → IsRanked comes_before (xs ++ ys) → Contains ys y → AllByRecursion (λ (x : Hit). x.cost ≤ y.cost) xs
@@ -33,6 +33,15 @@ before-behind (x ∷ xs) ys y ranks c =
 -- fewer than so many: none is behind them
 none-behind : (k : ℕ) (hits : List Hit) (hit : Hit) → length (take k hits) < k → Contains (drop k hits) hit → ⊥
 none-behind k hits hit few c = let less = c.1 in omega (arith, length-take k hits, length-drop k hits)
+
+-- the nearest picks are picks of the tree's entries
+pub first-among : (ids : Numbers) (at centre : Position) (nodes : NodeMap) (root : ℕ) (word : List ℕ) (pick : Pick) → Contains (first_picks ids at centre nodes root word) pick → Contains (tree_picks ids at nodes root word) pick
+first-among ids at centre nodes root word pick c =
+    let hits : List Hit = word_hits ids centre nodes root word in
+    let P : Hit → Type 0 = λ one. Contains (tree_picks ids at nodes root word) (pick_from at word one) in
+    let all : AllByRecursion P hits = all_weaker (Contains hits) P (hit-among ids at word nodes root centre) hits (all_in hits) in
+    all-among (Contains (tree_picks ids at nodes root word)) (first_picks ids at centre nodes root word) pick
+    (map-all (Contains (tree_picks ids at nodes root word)) (pick_from at word) (take 5 (ranked comes_before hits)) (all_taken P 5 (ranked comes_before hits) (all-ranked hits_linear P hits all))) c
 
 module _ (ids : Numbers) (at : Position) (nodes : NodeMap) (root : ℕ) (word : List ℕ) where
   abbrev hits : List Hit
@@ -57,20 +66,8 @@ module _ (ids : Numbers) (at : Position) (nodes : NodeMap) (root : ℕ) (word : 
   firsts-cost : AllByRecursion CostsDistance (take 5 in_order)
   firsts-cost = all_taken CostsDistance 5 in_order (all-ranked hits_linear CostsDistance hits hits-cost)
 
-  -- they come by distance
-  pub first-sorted : AreSorted at (first_picks ids at nodes root word)
-  first-sorted = hits-sorted at word (take 5 in_order) (kept_ranked 5 hits (take 5 in_order) refl) firsts-cost
-
-  -- they are picks of the tree's entries
-  pub first-among : (pick : Pick) → Contains (first_picks ids at nodes root word) pick → Contains (tree_picks ids at nodes root word) pick
-  first-among pick c =
-      let P : Hit → Type 0 = λ one. Contains (tree_picks ids at nodes root word) (pick_from at word one) in
-      let all : AllByRecursion P hits = all_weaker (Contains hits) P (hit-among ids at word nodes root at) hits (all_in hits) in
-      all-among (Contains (tree_picks ids at nodes root word)) (first_picks ids at nodes root word) pick
-      (map-all (Contains (tree_picks ids at nodes root word)) (pick_from at word) (take 5 in_order) (all_taken P 5 in_order (all-ranked hits_linear P hits all))) c
-
   -- where there is none, no entry holds the word
-  pub first-none : first_picks ids at nodes root word ≡ [] → tree_picks ids at nodes root word ≡ []
+  pub first-none : first_picks ids at at nodes root word ≡ [] → tree_picks ids at nodes root word ≡ []
   first-none none = picks-made ids at word nodes root at ∙ ap (map (pick_from at word)) (no-hits hits none)
     where
       some-first : (ordered : List Hit) (hit : Hit) → map (pick_from at word) (take 5 ordered) ≡ [] → Contains ordered hit → ⊥
@@ -81,15 +78,15 @@ module _ (ids : Numbers) (at : Position) (nodes : NodeMap) (root : ℕ) (word : 
       no-hits [] none = refl
       no-hits (h ∷ rest) none = absurd (some-first (ranked comes_before (h ∷ rest)) h none (among-ranked hits_linear (h ∷ rest) h (contains-here h rest)))
 
-  module _ (radius : ℕ) (beyond : GoesBeyond 5 radius (first_picks ids at nodes root word)) where
+  module _ (radius : ℕ) (beyond : GoesBeyond 5 radius (first_picks ids at at nodes root word)) where
     -- a hit behind them is farther
     far-behind : (hit : Hit) → CostsDistance hit → Contains (drop 5 in_order) hit → distance at hit.point ≤ radius → ⊥
     far-behind hit costs c close = ⊎_elim
-        (λ (few : length (first_picks ids at nodes root word) < 5). none-behind 5 in_order hit (let same = length-map (take 5 in_order) (pick_from at word) in omega arith) c)
-        (λ (far : (pick : Pick) × Contains (first_picks ids at nodes root word) pick × (radius < pick.dist)).
+        (λ (few : length (first_picks ids at at nodes root word) < 5). none-behind 5 in_order hit (let same = length-map (take 5 in_order) (pick_from at word) in omega arith) c)
+        (λ (far : (pick : Pick) × Contains (first_picks ids at at nodes root word) pick × (radius < pick.dist)).
         let before = before-behind (take 5 in_order) (drop 5 in_order) hit (subst (IsRanked comes_before) (sym (take-append-drop 5 in_order)) (ranked_is hits_linear hits)) c in
-        let near : AllByRecursion (λ (pick : Pick). pick.dist ≤ hit.cost) (first_picks ids at nodes root word) = map-all (λ (pick : Pick). pick.dist ≤ hit.cost) (pick_from at word) (take 5 in_order) (each-near (take 5 in_order) before firsts-cost) in
-        let low = all-among (λ (pick : Pick). pick.dist ≤ hit.cost) (first_picks ids at nodes root word) far.0 near far.1 in
+        let near : AllByRecursion (λ (pick : Pick). pick.dist ≤ hit.cost) (first_picks ids at at nodes root word) = map-all (λ (pick : Pick). pick.dist ≤ hit.cost) (pick_from at word) (take 5 in_order) (each-near (take 5 in_order) before firsts-cost) in
+        let low = all-among (λ (pick : Pick). pick.dist ≤ hit.cost) (first_picks ids at at nodes root word) far.0 near far.1 in
         let high = far.2 in
         omega arith)
         beyond
@@ -98,53 +95,49 @@ module _ (ids : Numbers) (at : Position) (nodes : NodeMap) (root : ℕ) (word : 
         each-near [] low own = tt
         each-near (x ∷ some) low own = (let l = low.0 in let o = own.0 in omega arith, each-near some low.1 own.1)
 
-    near-first : (hit : Hit) → Contains hits hit → distance at hit.point ≤ radius → Contains (first_picks ids at nodes root word) (pick_from at word hit)
+    near-first : (hit : Hit) → Contains hits hit → distance at hit.point ≤ radius → Contains (first_picks ids at at nodes root word) (pick_from at word hit)
     near-first hit c close = ⊎_elim
         (λ (here : Contains (take 5 in_order) hit). contains-map (pick_from at word) (take 5 in_order) hit here)
         (λ (behind : Contains (drop 5 in_order) hit). absurd (far-behind hit (all-among CostsDistance hits hit hits-cost c) behind close))
         (Contains-append_cases (take 5 in_order) (drop 5 in_order) hit (subst (λ (l : List Hit). Contains l hit) (sym (take-append-drop 5 in_order)) (among-ranked hits_linear hits hit c)))
 
     -- so they have all that are at most so far
-    pub first-cut : IsCut at radius (tree_picks ids at nodes root word) (first_picks ids at nodes root word)
+    pub first-cut : IsCut (IsWithin at radius) (tree_picks ids at nodes root word) (first_picks ids at at nodes root word)
     first-cut = record {
-      among = first-among;
-      near = λ pick c close.
-          let P : Pick → Type 0 = λ one. distance at one.point ≤ radius → Contains (first_picks ids at nodes root word) one in
+      among = first-among ids at at nodes root word;
+      whole = λ pick c close.
+          let P : Pick → Type 0 = λ one. distance at one.point ≤ radius → Contains (first_picks ids at at nodes root word) one in
           let all : AllByRecursion P (map (pick_from at word) hits) = map-all P (pick_from at word) hits (all_weaker (Contains hits) (λ hit. P (pick_from at word hit)) near-first hits (all_in hits)) in
           all-among P (map (pick_from at word) hits) pick all (subst (λ (picks : List Pick). Contains picks pick) (picks-made ids at word nodes root at) c) close;
     }
 
 module _ (ids : Numbers) (at : Position) (nodes : NodeMap) (root : ℕ) where
   abbrev Firsts : List (List ℕ) → List (List Pick)
-  Firsts words = map (first_picks ids at nodes root) words
+  Firsts words = first_lists ids at nodes root words
 
   abbrev All : List (List ℕ) → List (List Pick)
-  All words = map (tree_picks ids at nodes root) words
+  All words = tree_lists ids at nodes root words
 
   -- a choice of the nearest picks is one of all
   pub first-choice : (words : List (List ℕ)) (choice : List Pick) → IsChoice (Firsts words) choice → IsChoice (All words) choice
   first-choice [] [] is = is
   first-choice [] (pick ∷ picks) is = absurd is
   first-choice (word ∷ words) [] is = absurd is
-  first-choice (word ∷ words) (pick ∷ picks) is = (first-among ids at nodes root word pick is.0, first-choice words picks is.1)
+  first-choice (word ∷ words) (pick ∷ picks) is = (first-among ids at at nodes root word pick is.0, first-choice words picks is.1)
 
   -- and where a word has no nearest pick, it has none
   pub no-first : (words : List (List ℕ)) → Contains (Firsts words) [] → Contains (All words) []
   no-first [] none = absurd (contains-none [] none)
   no-first (word ∷ words) none = ⊎_elim
-      (λ (here : first_picks ids at nodes root word ≡ []). subst (λ (list : List Pick). Contains (list ∷ All words) []) (sym (first-none ids at nodes root word here)) (contains-here [] (All words)))
+      (λ (here : first_picks ids at at nodes root word ≡ []). subst (λ (list : List Pick). Contains (list ∷ All words) []) (sym (first-none ids at nodes root word here)) (contains-here [] (All words)))
       (λ (later : Contains (Firsts words) []). contains-later (tree_picks ids at nodes root word) (All words) [] (no-first words later))
-      (contains-cases (first_picks ids at nodes root word) (Firsts words) [] none)
+      (contains-cases (first_picks ids at at nodes root word) (Firsts words) [] none)
 
-  -- so the least of the nearest was one that was tried
-  pub begun-of-all : (words : List (List ℕ)) (best : _) → IsBestOf at (Firsts words) best → IsBestOf at (All words) best
-  begun-of-all words best is = record {
-    tried = is.tried;
-    each = all_weaker (IsChoice (Firsts words)) (IsChoice (All words)) (first-choice words) is.tried is.each;
-    least = is.least;
-  }
+  -- so a choice of these with its cost is one of all
+  pub first-chosen : (words : List (List ℕ)) (best : Chosen) → IsChosen at (Firsts words) best → IsChosen at (All words) best
+  first-chosen words best is = record { choice = first-choice words best.picks is.choice; cost = is.cost }
 
-  -- they come by distance
-  pub firsts-sorted : (words : List (List ℕ)) → AllByRecursion (AreSorted at) (Firsts words)
-  firsts-sorted [] = tt
-  firsts-sorted (word ∷ words) = (first-sorted ids at nodes root word, firsts-sorted words)
+  -- where they all go beyond a distance, they have all that are as near
+  pub firsts-cut : (radius : ℕ) (words : List (List ℕ)) → AllByRecursion (GoesBeyond 5 radius) (Firsts words) → AreCut (IsWithin at radius) (All words) (Firsts words)
+  firsts-cut radius [] beyond = tt
+  firsts-cut radius (word ∷ words) beyond = (first-cut ids at nodes root word radius beyond.0, firsts-cut radius words beyond.1)

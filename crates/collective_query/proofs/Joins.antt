@@ -14,7 +14,7 @@ use Rattle.place_map.specs.declared.query.Pick.{Pick}
 use Rattle.place_map.specs.Group.{farthest, diameter, choice_cost}
 use Rattle.collective_query.specs.Choices.{IsChoice}
 use Rattle.collective_query.specs.Joins.{may_join, joined_by}
-use Rattle.collective_query.specs.Picks.{Ascends, AreSorted}
+use Rattle.collective_query.specs.Picks.{AreMeasured}
 use Rattle.collective_query.proofs.Costs.{farthest-cons}
 use Rattle.collective_query.proofs.Members.{all-among, contains-cases, contains-none, contains-here, contains-later}
 
@@ -74,18 +74,9 @@ filter-contains test xs x c = All-contains (Contains xs) (filter test xs) x (All
 filter-all : {X : Type 0} (P : X → Type 0) (test : X → Bool) (xs : List X) → AllByRecursion P xs → AllByRecursion P (filter test xs)
 filter-all P test xs all = recursion_from_All P (filter test xs) (All-filter test P xs (All-from_recursion P xs all))
 
-filter-ascends : (test : Pick → Bool) (picks : List Pick) → Ascends picks → Ascends (filter test picks)
-filter-ascends test [] ascends = tt
-filter-ascends test (pick ∷ picks) ascends =
-    let rest = filter-ascends test picks ascends.1 in
-    cond_both (test pick) (pick ∷ filter test picks) (filter test picks) Ascends (λ _. (filter-all (λ (other : Pick). pick.dist ≤ other.dist) test picks ascends.0, rest)) (λ _. rest)
-
--- picks that are kept come by distance
-pub joined-sorted : (at : Position) (most : ℕ) (others picks : List Pick) → AreSorted at picks → AreSorted at (joined_by most others picks)
-joined-sorted at most others picks sorted = record {
-  dists = filter-all (λ (pick : Pick). pick.dist ≡ distance at pick.point) (λ pick. list_any (may_join most pick) others) picks sorted.dists;
-  ascends = filter-ascends (λ pick. list_any (may_join most pick) others) picks sorted.ascends;
-}
+-- picks that are kept are as far as they say
+pub joined-measured : (at : Position) (most : ℕ) (others picks : List Pick) → AreMeasured at picks → AreMeasured at (joined_by most others picks)
+joined-measured at most others picks measured = filter-all (λ (pick : Pick). pick.dist ≡ distance at pick.point) (λ pick. list_any (may_join most pick) others) picks measured
 
 -- a choice of what is kept is one of the lists
 pub joined-choice : (most : ℕ) (others : List Pick) (lists : List (List Pick)) (choice : List Pick) → IsChoice (map (joined_by most others) lists) choice → IsChoice lists choice
@@ -105,18 +96,18 @@ module _ (at : Position) (most : ℕ) (others : List Pick) (choice : List Pick) 
         let test : may_join most pick one ≡ true = grind (arith, nat_tests) in
         list_any_at (may_join most pick) others among.0 one among.1 (ap (may_join most pick) among.2 ∙ test)
 
-    each-joined : (lists : List (List Pick)) (picks : List Pick) → AllByRecursion (AreSorted at) lists → AllByRecursion (Contains choice) picks → IsChoice lists picks → IsChoice (map (joined_by most others) lists) picks
-    each-joined [] picks sorted inside is = is
-    each-joined (list ∷ lists) [] sorted inside is = is
-    each-joined (list ∷ lists) (pick ∷ picks) sorted inside is = (
-      contains-filter (λ p. list_any (may_join most p) others) list pick is.0 (joins pick inside.0 (all-among (λ (p : Pick). p.dist ≡ distance at p.point) list pick sorted.0.dists is.0)),
-      each-joined lists picks sorted.1 inside.1 is.1,
+    each-joined : (lists : List (List Pick)) (picks : List Pick) → AllByRecursion (AreMeasured at) lists → AllByRecursion (Contains choice) picks → IsChoice lists picks → IsChoice (map (joined_by most others) lists) picks
+    each-joined [] picks measured inside is = is
+    each-joined (list ∷ lists) [] measured inside is = is
+    each-joined (list ∷ lists) (pick ∷ picks) measured inside is = (
+      contains-filter (λ p. list_any (may_join most p) others) list pick is.0 (joins pick inside.0 (all-among (λ (p : Pick). p.dist ≡ distance at p.point) list pick measured.0 is.0)),
+      each-joined lists picks measured.1 inside.1 is.1,
     )
 
 -- and one of the lists that costs at most so much is one of what is kept
-pub choice-joined : (at : Position) (most : ℕ) (others : List Pick) (lists : List (List Pick)) (choice : List Pick) → Contains lists others → AllByRecursion (AreSorted at) lists → IsChoice lists choice → choice_cost at choice ≤ most
+pub choice-joined : (at : Position) (most : ℕ) (others : List Pick) (lists : List (List Pick)) (choice : List Pick) → Contains lists others → AllByRecursion (AreMeasured at) lists → IsChoice lists choice → choice_cost at choice ≤ most
     → IsChoice (map (joined_by most others) lists) choice
-choice-joined at most others lists choice c sorted is cheap =
+choice-joined at most others lists choice c measured is cheap =
     let met = choice-meets lists choice others is c in
-    let here : AreSorted at others = all-among (AreSorted at) lists others sorted c in
-    each-joined at most others choice met.0 met.1 met.2 (all-among (λ (p : Pick). p.dist ≡ distance at p.point) others met.0 here.dists met.2) cheap lists choice sorted (all_in choice) is
+    let here : AreMeasured at others = all-among (AreMeasured at) lists others measured c in
+    each-joined at most others choice met.0 met.1 met.2 (all-among (λ (p : Pick). p.dist ≡ distance at p.point) others met.0 here met.2) cheap lists choice measured (all_in choice) is

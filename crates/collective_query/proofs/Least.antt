@@ -1,7 +1,11 @@
 -- The least of some choices, by what it is compared with.
-use Rattle.std.proofs.Common.{◌≡◌, true, false, List, [], ◌∷◌, take, Some, refl, subst, ap, ⊎_elim}
+use Rattle.std.proofs.Common.{◌≡◌, ◌<◌, sym, true, false, List, [], ◌∷◌, take, Some, refl, subst, ap, ⊎_elim}
 use Rattle.std.proofs.lemmas.Bool.{cases_Bool}
+use Rattle.std.specs.Cmp.{nat_cmp_is}
+use Rattle.std.specs.Cmp.Lexicographic.{slice_cmp}
 use Rattle.std.specs.List.{AllByRecursion, Contains}
+use Rattle.std.specs.Ordering.{ordering_then}
+use Rattle.std.specs.declared.cmp.Ordering.TheVariants.{Greater}
 use Rattle.ranking.specs.First.{ranked, IsRanked}
 use Rattle.ranking.specs.Laws.{ranked_is}
 use Rattle.ranking.specs.Members.{SameMembers, ranked_same}
@@ -9,7 +13,7 @@ use Rattle.best_first.proofs.Lists.{all_in}
 use Rattle.spatial_base.specs.Point.{Position}
 use Rattle.place_map.specs.declared.query.Pick.{Pick}
 use Rattle.place_map.specs.declared.query.Chosen.{Chosen}
-use Rattle.place_map.specs.Group.{choice_cost, is_cheaper, head_of, least_of}
+use Rattle.place_map.specs.Group.{choice_cost, choice_cmp, pick_cmp, is_cheaper, head_of, least_of}
 use Rattle.place_map.specs.GroupLaws.{choices_linear}
 use Rattle.collective_query.proofs.Members.{all-ranked, ranked-all, among-ranked, all-among, contains-none}
 
@@ -61,6 +65,10 @@ module _ (at : Position) (choices : List (List Pick)) where
           let not_before = all-among (λ other. is_cheaper at other first ≡ false) (first ∷ rest) picks (itself at first, ranks.0) c in
           let same : first ≡ picks = (choices_linear at).same first picks all.0 not_before in
           ap (λ p. Some (costed at p)) same
+
+-- a choice of a greater cost comes after
+pub dearer-after : (at : Position) (picks best : List Pick) → choice_cost at best < choice_cost at picks → choice_cmp at picks best ≡ Greater
+dearer-after at picks best less = ap (λ o. ordering_then o (slice_cmp pick_cmp picks best)) (sym (nat_cmp_is (choice_cost at picks) (choice_cost at best) Greater less))
 
 -- the same choices have the same least one
 pub least-same : (at : Position) (choices others : List (List Pick)) → SameMembers choices others → least_of at others ≡ least_of at choices

@@ -1,12 +1,12 @@
 pub mod Costs
-pub mod Beyond
 pub mod Members
 pub mod Products
 pub mod Least
+pub mod Joins
 pub mod Cuts
 pub mod Searches
 pub mod TreePicks
 pub mod Agreements
-pub mod Joins
 pub mod Firsts
 pub mod Opened
+pub mod Leads

@@ -1,9 +1,9 @@
 -- Where the picks of a choice are from.
 use Rattle.std.proofs.Common.{◌≡◌, ℕ, ◌<◌, ◌++◌, ◌∙◌, ap, append_assoc, append-nil, Bool, true, false, ◌&&◌, nat_lt, nat_le, if◌then◌else◌, List, [], ◌∷◌, map, Vec, Option, Some, refl, sym, subst, arith, ⊎_elim}
-use Rattle.std.proofs.lemmas.List.Elements.{Contains-append_left, Contains-append_right, Contains-append_cases}
+use Rattle.std.proofs.lemmas.List.Elements.{Contains-append_left, Contains-append_right}
 use Rattle.std.proofs.lemmas.List.Concat.{flat_map-append}
 use Rattle.std.specs.Borrow.{Bor}
-use Rattle.std.specs.List.{AllByRecursion, Contains, flat_map}
+use Rattle.std.specs.List.{Contains, flat_map}
 use Rattle.std.specs.declared.alloc.Global.{Global}
 use Rattle.page_face.specs.FreeList.{PageMap}
 use Rattle.btree_nodes.specs.Tree.{map_uses}
@@ -39,7 +39,8 @@ use Rattle.opened_nodes.proofs.Walks.{range-few}
 use Rattle.best_first.proofs.Lists.{all_in}
 use Rattle.opened_nodes.proofs.Words.{few-none, few-fewer, few-then, few-made, nearest-calls, range-calls}
 use Rattle.collective_query.specs.Choices.{IsChoice}
-use Rattle.collective_query.specs.Opened.{FindsPicks, given_to, picks_of}
+use Rattle.collective_query.specs.Opened.{FindsPicks, given_to}
+use Rattle.collective_query.specs.Picks.{picks_of}
 use Rattle.collective_query.specs.TreePicks.{pick_in, pick_item, pick_from}
 use Rattle.collective_query.proofs.Least.{least-among}
 use Rattle.collective_query.proofs.Members.{contains-none, contains-cases, all-among}
@@ -53,13 +54,13 @@ made-where true x hit given make pick is c = ⊎_elim
     (contains-cases given [] hit c)
 made-where false x hit given make pick is c = absurd (contains-none hit c)
 
-module _ (ids : Numbers) (at : Position) (word : List ℕ) where
+module _ (ids : Numbers) (at centre : Position) (word : List ℕ) where
   -- the hit that a place gives to a word is its pick
-  pub near-made : (x : Item) (hit : Hit) → Contains (near_item ids at (Some (Has word)) x) hit → Contains (pick_item ids at word x) (pick_from at word hit)
-  near-made x hit c = made-where (nat_lt 0 (impact_of ids x word)) x hit (hit_near at x) (pick_from at word) (pick_in at word x) refl c
+  pub near-made : (x : Item) (hit : Hit) → Contains (near_item ids centre (Some (Has word)) x) hit → Contains (pick_item ids at word x) (pick_from at word hit)
+  near-made x hit c = made-where (nat_lt 0 (impact_of ids x word)) x hit (hit_near centre x) (pick_from at word) (pick_in at word x) refl c
 
-  pub range-made : (radius : ℕ) (x : Item) (hit : Hit) → Contains (range_item ids at radius (Some (Has word)) x) hit → Contains (pick_item ids at word x) (pick_from at word hit)
-  range-made radius x hit c = near-made x hit (in-range (nat_le (distance at (point_of x)) radius) (nat_lt 0 (impact_of ids x word)) (hit_near at x) c)
+  pub range-made : (radius : ℕ) (x : Item) (hit : Hit) → Contains (range_item ids centre radius (Some (Has word)) x) hit → Contains (pick_item ids at word x) (pick_from at word hit)
+  range-made radius x hit c = near-made x hit (in-range (nat_le (distance centre (point_of x)) radius) (nat_lt 0 (impact_of ids x word)) (hit_near centre x) c)
     where
       in-range : (near there : Bool) (given : Hit) → Contains (if near && there then given ∷ [] else []) hit → Contains (if there then given ∷ [] else []) hit
       in-range true there given c = c
@@ -75,15 +76,14 @@ choice-picks (list ∷ lists) (one ∷ others) is pick c = ⊎_elim
     (λ (later : Contains others pick). Contains-append_right list.items (picks_of lists) pick (choice-picks lists others is.1 pick later))
     (contains-cases one others pick c)
 
--- the least of some choices of lists and of all choices of others has its picks in these
-pub least-picks : (at : Position) (first later : List (Vec Pick Global)) (tried : List (List Pick)) (best : Chosen) → AllByRecursion (IsChoice (lists_in first)) tried → Some best ≡ least_of at (tried ++ product (lists_in later))
-    → (pick : Pick) → Contains best.picks pick → Contains (picks_of first ++ picks_of later) pick
-least-picks at first later tried best each is pick c =
-    let all : List (List Pick) = product (lists_in later) in
+-- the least of one choice and of all choices of lists has its picks from these
+pub least-picks : (at : Position) (lists : List (Vec Pick Global)) (old new : Chosen) → Some new ≡ least_of at (old.picks ∷ product (lists_in lists)) → (pick : Pick) → Contains new.picks pick → Contains (old.picks ++ picks_of lists) pick
+least-picks at lists old new is pick c =
+    let all : List (List Pick) = product (lists_in lists) in
     ⊎_elim
-    (λ (early : Contains tried best.picks). Contains-append_left (picks_of first) (picks_of later) pick (choice-picks first best.picks (all-among (IsChoice (lists_in first)) tried best.picks each early) pick c))
-    (λ (late : Contains all best.picks). Contains-append_right (picks_of first) (picks_of later) pick (choice-picks later best.picks (all-among (IsChoice (lists_in later)) all best.picks (all-choices (lists_in later)) late) pick c))
-    (Contains-append_cases tried all best.picks (least-among at (tried ++ all) best (sym is)))
+    (λ (same : old.picks ≡ new.picks). Contains-append_left old.picks (picks_of lists) pick (subst (λ (picks : List Pick). Contains picks pick) (sym same) c))
+    (λ (late : Contains all new.picks). Contains-append_right old.picks (picks_of lists) pick (choice-picks lists new.picks (all-among (IsChoice (lists_in lists)) all new.picks (all-choices (lists_in lists)) late) pick c))
+    (contains-cases old.picks all new.picks (least-among at (old.picks ∷ all) new (sym is)))
 
 -- a list more
 picks-pushed : (lists pushed : List (Vec Pick Global)) (picks : Vec Pick Global) → pushed ≡ lists ++ picks ∷ [] → picks_of pushed ≡ picks_of lists ++ picks.items
@@ -115,7 +115,7 @@ module _ (pages : PageMap) (tree : Tree) (ids : Numbers) (at : Position) (words 
   pub finds-behind : (old new : List ℕ) (front : List Pick) (lists pushed : List (Vec Pick Global)) (picks : Vec Pick Global) → pushed ≡ lists ++ picks ∷ [] → Finds old new ((front ++ picks_of lists) ++ picks.items) → Finds old new (front ++ picks_of pushed)
   finds-behind old new front lists pushed picks is a = subst (Finds old new) (append_assoc front (picks_of lists) picks.items ∙ ap (λ l. front ++ l) (sym (picks-pushed lists pushed picks is))) a
 
-module _ (pages : PageMap) (count begin : ℕ) (tree : Tree) (ids : Numbers) (at : Position) (words : List (List ℕ)) (word : List ℕ) (among : Contains words word) (fits : FitsTree pages count begin tree) (old new : List ℕ) (found : List Hit) where
+module _ (pages : PageMap) (count begin : ℕ) (tree : Tree) (ids : Numbers) (at centre : Position) (words : List (List ℕ)) (word : List ℕ) (among : Contains words word) (fits : FitsTree pages count begin tree) (old new : List ℕ) (found : List Hit) where
   abbrev nodes : NodeMap
   nodes = nodes_at pages tree
 
@@ -123,19 +123,19 @@ module _ (pages : PageMap) (count begin : ℕ) (tree : Tree) (ids : Numbers) (at
   kind page = 0 < map_uses rows_form pages tree.rows page
 
   -- what the nearest places with a word say of the log
-  pub nearest-finds : IsOnMap at.x at.y → (lent : Bor Expr) → lent.now ≡ Has word → found ≡ first comes_before 5 (flat_map (near_item ids at (filter_in (Some lent))) (tree_places nodes tree.root))
-      → Opened StandsIn pages (IsNodePage pages tree.rows) (FitsTree pages count begin tree) (opened_in ids at (Nearest (Some lent)) nodes) (started_in ids (Nearest (Some lent)) nodes (bytes_in pages tree.rows) tree.root) tree.root old new 5 found
+  pub nearest-finds : IsOnMap centre.x centre.y → (lent : Bor Expr) → lent.now ≡ Has word → found ≡ first comes_before 5 (flat_map (near_item ids centre (filter_in (Some lent))) (tree_places nodes tree.root))
+      → Opened StandsIn pages (IsNodePage pages tree.rows) (FitsTree pages count begin tree) (opened_in ids centre (Nearest (Some lent)) nodes) (started_in ids (Nearest (Some lent)) nodes (bytes_in pages tree.rows) tree.root) tree.root old new 5 found
       → FindsPicks pages tree ids at words old new (map (pick_from at word) found)
   nearest-finds on lent asks is opened =
-      let few = nearest-few pages count begin tree ids at 5 found old new (Some lent) on fits (omega arith) is opened in
-      few-made ids words nodes tree.root kind (given_to ids at) (asked_for.Nearest at 5 (Some (Has word))) (nearest-calls ids words nodes tree.root word among at 5) (near_item ids at (Some (Has word))) (pick_from at word) (near-made ids at word) old new found
-      (subst (λ (filter : Expr). OpensFew kind (near_item ids at (Some filter)) ids (asked_for.Nearest at 5 (Some filter)) nodes tree.root old new found) asks few)
+      let few = nearest-few pages count begin tree ids centre 5 found old new (Some lent) on fits (omega arith) is opened in
+      few-made ids words nodes tree.root kind (given_to ids at) (asked_for.Nearest centre 5 (Some (Has word))) (nearest-calls ids words nodes tree.root word among centre 5) (near_item ids centre (Some (Has word))) (pick_from at word) (near-made ids at centre word) old new found
+      (subst (λ (filter : Expr). OpensFew kind (near_item ids centre (Some filter)) ids (asked_for.Nearest centre 5 (Some filter)) nodes tree.root old new found) asks few)
 
   -- and those in a circle
   pub range-finds : (radius : ℕ) (filter : Option Expr) → filter ≡ Some (Has word) → (tree.root ≡ 0 → new ≡ old)
-      → Walked (circle at radius) pages (map_uses rows_form pages tree.rows) (Fits pages tree.rows count begin tree.root) (opens_in (circle at radius) ids filter nodes) (starts_at nodes tree.root) tree.root old new found
+      → Walked (circle centre radius) pages (map_uses rows_form pages tree.rows) (Fits pages tree.rows count begin tree.root) (opens_in (circle centre radius) ids filter nodes) (starts_at nodes tree.root) tree.root old new found
       → FindsPicks pages tree ids at words old new (map (pick_from at word) found)
   range-finds radius filter asks empty walked =
-      let few = range-few pages tree.rows count begin tree.root ids filter (fits.0, fits.1) found old new empty at radius walked in
-      few-made ids words nodes tree.root kind (given_to ids at) (asked_for.Range at radius (Some (Has word))) (range-calls ids words nodes tree.root word among at radius) (range_item ids at radius (Some (Has word))) (pick_from at word) (range-made ids at word radius) old new found
-      (subst (λ (f : Option Expr). OpensFew kind (range_item ids at radius f) ids (asked_for.Range at radius f) nodes tree.root old new found) asks few)
+      let few = range-few pages tree.rows count begin tree.root ids filter (fits.0, fits.1) found old new empty centre radius walked in
+      few-made ids words nodes tree.root kind (given_to ids at) (asked_for.Range centre radius (Some (Has word))) (range-calls ids words nodes tree.root word among centre radius) (range_item ids centre radius (Some (Has word))) (pick_from at word) (range-made ids at centre word radius) old new found
+      (subst (λ (f : Option Expr). OpensFew kind (range_item ids centre radius f) ids (asked_for.Range centre radius f) nodes tree.root old new found) asks few)

@@ -3,21 +3,17 @@ use Rattle.std.proofs.Common.{◌≡◌, ℕ, ◌≤◌, Bool, true, false, ◌&
 use Rattle.std.proofs.lemmas.Bool.Decides.{nat_tests}
 use Rattle.std.proofs.lemmas.List.{map-append}
 use Rattle.std.specs.List.{AllByRecursion, Contains, flat_map}
-use Rattle.ranking.specs.First.{IsRanked}
-use Rattle.ranking.specs.Laws.{ranked_is}
 use Rattle.spatial_base.specs.Point.{Position, distance}
-use Rattle.best_first.proofs.Costs.{upto_cost}
 use Rattle.best_first.proofs.Lists.{all_in, all_weaker, flat_all}
 use Rattle.place_map.specs.declared.hit.Hit.{Hit}
 use Rattle.place_map.specs.declared.query.Expr.TheVariants.{Has}
 use Rattle.place_map.specs.declared.query.Pick.{Pick}
-use Rattle.place_map.specs.Hit.{comes_before, hits_linear}
+use Rattle.place_map.specs.Hit.{hits_linear}
 use Rattle.rtree_shape.specs.Slots.{Item, NodeMap}
 use Rattle.tree_entries.specs.Numbers.{Numbers, impact_of}
 use Rattle.tree_entries.specs.Entries.{point_of, tree_places}
 use Rattle.tree_entries.specs.Hits.{hit_near, near_item, range_item}
-use Rattle.collective_query.specs.Choices.{IsCut}
-use Rattle.collective_query.specs.Picks.{Ascends, AreSorted}
+use Rattle.collective_query.specs.Choices.{IsWithin, IsCut}
 use Rattle.collective_query.specs.TreePicks.{pick_in, pick_item, tree_picks, pick_from, word_hits, hits_within, near_picks}
 use Rattle.collective_query.proofs.Members.{contains-here, contains-flat, contains-map, all-among, all-ranked, among-ranked}
 
@@ -25,25 +21,6 @@ use Rattle.collective_query.proofs.Members.{contains-here, contains-flat, contai
 one-made : (there : Bool) (pick : Pick) (hit : Hit) (f : Hit → Pick) → pick ≡ f hit → (if there then pick ∷ [] else []) ≡ map f (if there then hit ∷ [] else [])
 one-made true pick hit f is = ap (λ p. p ∷ []) is
 one-made false pick hit f is = refl
-
--- the picks that are made of hits in order, each of which costs its distance
-module _ (at : Position) (word : List ℕ) where
-  own-dists : (hits : List Hit) → AllByRecursion (λ (pick : Pick). pick.dist ≡ distance at pick.point) (map (pick_from at word) hits)
-  own-dists [] = tt
-  own-dists (h ∷ hits) = (refl, own-dists hits)
-
-  behind : (h : Hit) (hits : List Hit) → h.cost ≡ distance at h.point → AllByRecursion (λ y. comes_before y h ≡ false) hits → AllByRecursion (λ (hit : Hit). hit.cost ≡ distance at hit.point) hits
-      → AllByRecursion (λ (other : Pick). distance at h.point ≤ other.dist) (map (pick_from at word) hits)
-  behind h [] cost after costs = tt
-  behind h (y ∷ hits) cost after costs = (let le = upto_cost h y after.0 in let own_cost = costs.0 in omega arith, behind h hits cost after.1 costs.1)
-
-  rising : (hits : List Hit) → IsRanked comes_before hits → AllByRecursion (λ (hit : Hit). hit.cost ≡ distance at hit.point) hits → Ascends (map (pick_from at word) hits)
-  rising [] ranks costs = tt
-  rising (h ∷ hits) ranks costs = (behind h hits costs.0 ranks.0 costs.1, rising hits ranks.1 costs.1)
-
-  -- they come by distance
-  pub hits-sorted : (hits : List Hit) → IsRanked comes_before hits → AllByRecursion (λ (hit : Hit). hit.cost ≡ distance at hit.point) hits → AreSorted at (map (pick_from at word) hits)
-  hits-sorted hits ranks costs = record { dists = own-dists hits; ascends = rising hits ranks costs }
 
 module _ (ids : Numbers) (at : Position) (word : List ℕ) where
   made-each : (from : Position) (places : List Item) → flat_map (pick_item ids at word) places ≡ map (pick_from at word) (flat_map (near_item ids from (Some (Has word))) places)
@@ -61,9 +38,9 @@ module _ (ids : Numbers) (at : Position) (word : List ℕ) where
     pub hit-among : (from : Position) (hit : Hit) → Contains (word_hits ids from nodes root word) hit → Contains (tree_picks ids at nodes root word) (pick_from at word hit)
     hit-among from hit c = subst (λ (picks : List Pick). Contains picks (pick_from at word hit)) (sym (picks-made from)) (contains-map (pick_from at word) (word_hits ids from nodes root word) hit c)
 
-    module _ (radius : ℕ) where
+    module _ (centre : Position) (radius : ℕ) where
       abbrev in_range : Item → List Hit
-      in_range = range_item ids at radius (Some (Has word))
+      in_range = range_item ids centre radius (Some (Has word))
 
       each-among : (P : Hit → Type 0) (near there : Bool) (hit : Hit) → (there ≡ true → P hit) → AllByRecursion P (if near && there then hit ∷ [] else [])
       each-among P true true hit h = (h refl, tt)
@@ -73,30 +50,30 @@ module _ (ids : Numbers) (at : Position) (word : List ℕ) where
       holds-among : (x : Item) → Contains (tree_places nodes root) x → nat_lt 0 (impact_of ids x word) ≡ true → Contains (tree_picks ids at nodes root word) (pick_in at word x)
       holds-among x c holds = contains-flat (pick_item ids at word) (tree_places nodes root) x (pick_in at word x) c (rw holds (contains-here (pick_in at word x) []))
 
-      near-among : (pick : Pick) → Contains (near_picks ids at radius nodes root word) pick → Contains (tree_picks ids at nodes root word) pick
+      near-among : (pick : Pick) → Contains (near_picks ids at centre radius nodes root word) pick → Contains (tree_picks ids at nodes root word) pick
       near-among pick c =
-          all-among (Contains (tree_picks ids at nodes root word)) (near_picks ids at radius nodes root word) pick
-          (mapped (hits_within ids at radius nodes root word)
+          all-among (Contains (tree_picks ids at nodes root word)) (near_picks ids at centre radius nodes root word) pick
+          (mapped (hits_within ids centre radius nodes root word)
           (all-ranked hits_linear (λ hit. Contains (tree_picks ids at nodes root word) (pick_from at word hit)) (flat_map in_range (tree_places nodes root))
           (flat_all (λ hit. Contains (tree_picks ids at nodes root word) (pick_from at word hit)) in_range (tree_places nodes root)
           (all_weaker (Contains (tree_places nodes root)) (λ x. AllByRecursion (λ hit. Contains (tree_picks ids at nodes root word) (pick_from at word hit)) (in_range x))
-          (λ x in_tree. each-among (λ hit. Contains (tree_picks ids at nodes root word) (pick_from at word hit)) (nat_le (distance at (point_of x)) radius) (nat_lt 0 (impact_of ids x word)) (hit_near at x) (holds-among x in_tree))
+          (λ x in_tree. each-among (λ hit. Contains (tree_picks ids at nodes root word) (pick_from at word hit)) (nat_le (distance centre (point_of x)) radius) (nat_lt 0 (impact_of ids x word)) (hit_near centre x) (holds-among x in_tree))
           (tree_places nodes root) (all_in (tree_places nodes root)))))) c
         where
           mapped : (hits : List Hit) → AllByRecursion (λ hit. Contains (tree_picks ids at nodes root word) (pick_from at word hit)) hits → AllByRecursion (Contains (tree_picks ids at nodes root word)) (map (pick_from at word) hits)
           mapped [] all = tt
           mapped (h ∷ hits) all = (all.0, mapped hits all.1)
 
-      given-near : (x : Item) → Contains (tree_places nodes root) x → nat_lt 0 (impact_of ids x word) ≡ true → distance at (point_of x) ≤ radius → Contains (near_picks ids at radius nodes root word) (pick_in at word x)
+      given-near : (x : Item) → Contains (tree_places nodes root) x → nat_lt 0 (impact_of ids x word) ≡ true → distance centre (point_of x) ≤ radius → Contains (near_picks ids at centre radius nodes root word) (pick_in at word x)
       given-near x c holds near =
-          let within : nat_le (distance at (point_of x)) radius ≡ true = grind (arith, nat_tests) in
-          contains-map (pick_from at word) (hits_within ids at radius nodes root word) (hit_near at x)
-          (among-ranked hits_linear (flat_map in_range (tree_places nodes root)) (hit_near at x)
-          (contains-flat in_range (tree_places nodes root) x (hit_near at x) c (rw (within, holds) (contains-here (hit_near at x) []))))
+          let within : nat_le (distance centre (point_of x)) radius ≡ true = grind (arith, nat_tests) in
+          contains-map (pick_from at word) (hits_within ids centre radius nodes root word) (hit_near centre x)
+          (among-ranked hits_linear (flat_map in_range (tree_places nodes root)) (hit_near centre x)
+          (contains-flat in_range (tree_places nodes root) x (hit_near centre x) c (rw (within, holds) (contains-here (hit_near centre x) []))))
 
-      far-among : (pick : Pick) → Contains (tree_picks ids at nodes root word) pick → distance at pick.point ≤ radius → Contains (near_picks ids at radius nodes root word) pick
+      far-among : (pick : Pick) → Contains (tree_picks ids at nodes root word) pick → distance centre pick.point ≤ radius → Contains (near_picks ids at centre radius nodes root word) pick
       far-among pick c near =
-          let P : Pick → Type 0 = λ one. distance at one.point ≤ radius → Contains (near_picks ids at radius nodes root word) one in
+          let P : Pick → Type 0 = λ one. distance centre one.point ≤ radius → Contains (near_picks ids at centre radius nodes root word) one in
           all-among P (tree_picks ids at nodes root word) pick
           (flat_all P (pick_item ids at word) (tree_places nodes root)
           (all_weaker (Contains (tree_places nodes root)) (λ x. AllByRecursion P (pick_item ids at word x)) (λ x in_tree. one-given P (nat_lt 0 (impact_of ids x word)) (pick_in at word x) (given-near x in_tree)) (tree_places nodes root) (all_in (tree_places nodes root)))) c near
@@ -105,17 +82,6 @@ module _ (ids : Numbers) (at : Position) (word : List ℕ) where
           one-given P true pick h = (h refl, tt)
           one-given P false pick h = tt
 
-      -- the picks at most so far away are some of all, and all of those that are
-      pub near-cut : IsCut at radius (tree_picks ids at nodes root word) (near_picks ids at radius nodes root word)
-      near-cut = record { among = near-among; near = far-among }
-
-      costs-dist : AllByRecursion (λ (hit : Hit). hit.cost ≡ distance at hit.point) (hits_within ids at radius nodes root word)
-      costs-dist =
-          let P : Hit → Type 0 = λ hit. hit.cost ≡ distance at hit.point in
-          all-ranked hits_linear P (flat_map in_range (tree_places nodes root))
-          (flat_all P in_range (tree_places nodes root)
-          (all_weaker (Contains (tree_places nodes root)) (λ x. AllByRecursion P (in_range x)) (λ x in_tree. each-among P (nat_le (distance at (point_of x)) radius) (nat_lt 0 (impact_of ids x word)) (hit_near at x) (λ holds. refl)) (tree_places nodes root) (all_in (tree_places nodes root))))
-
-      -- they come by distance
-      pub near-sorted : AreSorted at (near_picks ids at radius nodes root word)
-      near-sorted = hits-sorted at word (hits_within ids at radius nodes root word) (ranked_is hits_linear (flat_map in_range (tree_places nodes root))) costs-dist
+      -- the picks in a circle are some of all, and all of those that are there
+      pub near-cut : IsCut (IsWithin centre radius) (tree_picks ids at nodes root word) (near_picks ids at centre radius nodes root word)
+      near-cut = record { among = near-among; whole = far-among }

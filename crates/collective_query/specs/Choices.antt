@@ -1,4 +1,4 @@
--- Choices of one member of each of some lists, and lists that are cut to what lies near.
+-- Choices of one member of each of some lists, and lists that are cut to what counts.
 use Rattle.std.specs.Prelude.{ℕ, ◌≤◌, List, [], ◌∷◌}
 use Rattle.std.specs.List.{Contains}
 use Rattle.spatial_base.specs.Point.{Position, distance}
@@ -11,14 +11,22 @@ IsChoice [] (x ∷ xs) = ⊥
 IsChoice (list ∷ lists) [] = ⊥
 IsChoice (list ∷ lists) (x ∷ xs) = Contains list x × IsChoice lists xs
 
--- some of a list's picks, and all of those that are at most so far from a point
-pub record IsCut (at : Position) (most : ℕ) (all cut : List Pick) : Type 0 where
+-- a pick is at most so far from a point
+abbrev pub IsWithin : Position → ℕ → Pick → Type 0
+IsWithin at most pick = distance at pick.point ≤ most
+
+-- it lies in two circles
+abbrev pub IsInBoth : Position → ℕ → Position → ℕ → Pick → Type 0
+IsInBoth at most centre radius pick = IsWithin at most pick × IsWithin centre radius pick
+
+-- some of a list's picks, and all of those that count
+pub record IsCut (counts : Pick → Type 0) (all cut : List Pick) : Type 0 where
   pub among : (pick : Pick) → Contains cut pick → Contains all pick
-  pub near : (pick : Pick) → Contains all pick → distance at pick.point ≤ most → Contains cut pick
+  pub whole : (pick : Pick) → Contains all pick → counts pick → Contains cut pick
 
 -- so it is with each of some lists
-abbrev pub AreCut : Position → ℕ → List (List Pick) → List (List Pick) → Type 0
-AreCut at most [] [] = Unit {0}
-AreCut at most [] (cut ∷ cuts) = ⊥
-AreCut at most (all ∷ lists) [] = ⊥
-AreCut at most (all ∷ lists) (cut ∷ cuts) = IsCut at most all cut × AreCut at most lists cuts
+abbrev pub AreCut : (Pick → Type 0) → List (List Pick) → List (List Pick) → Type 0
+AreCut counts [] [] = Unit {0}
+AreCut counts [] (cut ∷ cuts) = ⊥
+AreCut counts (all ∷ lists) [] = ⊥
+AreCut counts (all ∷ lists) (cut ∷ cuts) = IsCut counts all cut × AreCut counts lists cuts

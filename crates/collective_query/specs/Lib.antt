@@ -5,3 +5,4 @@ pub mod TreePicks
 pub mod Tried
 pub mod Searches
 pub mod Opened
+pub mod Leads

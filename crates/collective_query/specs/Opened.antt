@@ -1,7 +1,5 @@
 -- Which nodes a group query opened, and where its picks are from.
-use Rattle.std.specs.Prelude.{ℕ, ◌<◌, List, [], Option, Some, None, Vec}
-use Rattle.std.specs.List.{flat_map}
-use Rattle.std.specs.declared.alloc.Global.{Global}
+use Rattle.std.specs.Prelude.{ℕ, ◌<◌, List, [], Option, Some, None}
 use Rattle.page_face.specs.FreeList.{PageMap}
 use Rattle.btree_nodes.specs.Tree.{map_uses}
 use Rattle.spatial_base.specs.Point.{Position}
@@ -19,10 +17,6 @@ use Rattle.collective_query.specs.TreePicks.{pick_item}
 abbrev pub picks_in : Option Chosen → List Pick
 picks_in None = []
 picks_in (Some chosen) = chosen.picks
-
--- the picks of all of some lists
-abbrev pub picks_of : List (Vec Pick Global) → List Pick
-picks_of lists = flat_map (λ (list : Vec Pick Global). list.items) lists
 
 -- what a place's item gives to the word of a pick
 abbrev pub given_to : Numbers → Position → Pick → Item → List Pick

@@ -25,6 +25,10 @@ pick_item ids at word x = if nat_lt 0 (impact_of ids x word) then pick_in at wor
 abbrev pub tree_picks : Numbers → Position → NodeMap → ℕ → List ℕ → List Pick
 tree_picks ids at nodes root word = flat_map (pick_item ids at word) (tree_places nodes root)
 
+-- those for each word
+abbrev pub tree_lists : Numbers → Position → NodeMap → ℕ → List (List ℕ) → List (List Pick)
+tree_lists ids at nodes root words = map (tree_picks ids at nodes root) words
+
 -- all choices: a pick of the tree's entries for each word, in the words' order
 abbrev pub tree_choices : Numbers → Position → NodeMap → ℕ → List (List ℕ) → List (List Pick)
 tree_choices ids at nodes root words = product (map (tree_picks ids at nodes root) words)
@@ -37,14 +41,18 @@ pick_from at word hit = record { key = hit.key; word = word; dist = distance at 
 abbrev pub word_hits : Numbers → Position → NodeMap → ℕ → List ℕ → List Hit
 word_hits ids from nodes root word = flat_map (near_item ids from (Some (Has word))) (tree_places nodes root)
 
--- the picks for a word that are nearest to the point, by distance and then by key: five, or all where there are fewer
-abbrev pub first_picks : Numbers → Position → NodeMap → ℕ → List ℕ → List Pick
-first_picks ids at nodes root word = map (pick_from at word) (first comes_before 5 (word_hits ids at nodes root word))
+-- the picks for a word that are nearest to a centre, by their distance from it and then by key: five, or all where there are fewer
+abbrev pub first_picks : Numbers → Position → Position → NodeMap → ℕ → List ℕ → List Pick
+first_picks ids at centre nodes root word = map (pick_from at word) (first comes_before 5 (word_hits ids centre nodes root word))
 
--- of those that are at most so far, in order
+-- those for each word that are nearest to the point
+abbrev pub first_lists : Numbers → Position → NodeMap → ℕ → List (List ℕ) → List (List Pick)
+first_lists ids at nodes root words = map (first_picks ids at at nodes root) words
+
+-- the hits that are at most so far from a centre, in order
 abbrev pub hits_within : Numbers → Position → ℕ → NodeMap → ℕ → List ℕ → List Hit
-hits_within ids from radius nodes root word = ranked comes_before (flat_map (range_item ids from radius (Some (Has word))) (tree_places nodes root))
+hits_within ids centre radius nodes root word = ranked comes_before (flat_map (range_item ids centre radius (Some (Has word))) (tree_places nodes root))
 
--- the picks for a word at most so far from the point, by distance and then by key
-abbrev pub near_picks : Numbers → Position → ℕ → NodeMap → ℕ → List ℕ → List Pick
-near_picks ids at radius nodes root word = map (pick_from at word) (hits_within ids at radius nodes root word)
+-- the picks for a word at most so far from a centre, by their distance from it and then by key
+abbrev pub near_picks : Numbers → Position → Position → ℕ → NodeMap → ℕ → List ℕ → List Pick
+near_picks ids at centre radius nodes root word = map (pick_from at word) (hits_within ids centre radius nodes root word)

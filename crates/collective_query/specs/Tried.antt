@@ -1,11 +1,11 @@
--- Choices that were tried.
-use Rattle.std.specs.Prelude.{◌≡◌, List, [], Option, Some, None, Vec}
-use Rattle.std.specs.List.{AllByRecursion, Contains}
+-- The best choice so far.
+use Rattle.std.specs.Prelude.{◌≡◌, false, List, [], Option, Some, None, Vec}
+use Rattle.std.specs.List.{Contains}
 use Rattle.std.specs.declared.alloc.Global.{Global}
 use Rattle.spatial_base.specs.Point.{Position}
 use Rattle.place_map.specs.declared.query.Pick.{Pick}
 use Rattle.place_map.specs.declared.query.Chosen.{Chosen}
-use Rattle.place_map.specs.Group.{least_of}
+use Rattle.place_map.specs.Group.{choice_cost, is_cheaper}
 use Rattle.collective_query.specs.Choices.{IsChoice}
 
 -- a choice of the lists, or nothing where one of them is empty
@@ -13,13 +13,16 @@ abbrev pub IsTaken : List (List Pick) → Option (Vec Pick Global) → Type 0
 IsTaken lists None = Contains lists []
 IsTaken lists (Some picks) = IsChoice lists picks.items
 
--- the least of some choices of the lists
-pub record IsBestOf (at : Position) (lists : List (List Pick)) (best : Chosen) : Type 0 where
-  pub tried : List (List Pick)
-  pub each : AllByRecursion (IsChoice lists) tried
-  pub least : Some best ≡ least_of at tried
+-- a choice of the lists, with its cost
+pub record IsChosen (at : Position) (lists : List (List Pick)) (best : Chosen) : Type 0 where
+  pub choice : IsChoice lists best.picks
+  pub cost : best.cost ≡ choice_cost at best.picks
 
--- so it is, or one of the lists is empty
-abbrev pub IsBegun : Position → List (List Pick) → Option Chosen → Type 0
-IsBegun at lists None = Contains lists []
-IsBegun at lists (Some best) = IsBestOf at lists best
+-- no choice of the lists comes before it
+abbrev pub IsFirst : Position → List (List Pick) → Chosen → Type 0
+IsFirst at lists best = (choice : List Pick) → IsChoice lists choice → is_cheaper at choice best.picks ≡ false
+
+-- the least choice of the lists, or nothing where one of them is empty
+abbrev pub IsLeast : Position → List (List Pick) → Option Chosen → Type 0
+IsLeast at lists None = Contains lists []
+IsLeast at lists (Some best) = IsChosen at lists best × IsFirst at lists best

@@ -9,7 +9,9 @@
 #![tactic(auto)]
 
 mod candidates;
+mod gathering;
 mod joining;
+mod leading;
 mod nearest;
 mod picks;
 mod query;

@@ -1,14 +1,14 @@
 //! The picks for each word that are nearest to the point.
-ghost use Rattle.std.specs.Prelude.{◌≡◌, ℕ, List, map, Vec, IfOk};
+ghost use Rattle.std.specs.Prelude.{◌≡◌, ℕ, List, Vec, IfOk};
 ghost use Rattle.std.specs.List.{AllByRecursion, Contains};
 ghost use Rattle.std.specs.declared.alloc.Global.{Global};
 ghost use Rattle.place_map.specs.declared.query.Pick.{Pick};
 ghost use Rattle.place_map.specs.Search.{lists_in};
 ghost use Rattle.tree_ranking.specs.Fits.{FitsTree, nodes_at};
-ghost use Rattle.collective_query.specs.Opened.{FindsPicks, picks_of};
-ghost use Rattle.collective_query.specs.Picks.{AreNear};
+ghost use Rattle.collective_query.specs.Opened.{FindsPicks};
+ghost use Rattle.collective_query.specs.Picks.{AreNear, AreMeasured, picks_of};
 ghost use Rattle.collective_query.specs.Searches.{Searches};
-ghost use Rattle.collective_query.specs.TreePicks.{first_picks};
+ghost use Rattle.collective_query.specs.TreePicks.{first_picks, first_lists};
 
 use crate::picks::picks_from;
 use boolean_queries::nearest;
@@ -23,26 +23,31 @@ use tree_entries::Ids;
 /// How many picks are looked for first for each word. Mostly they have the least choice among them, and all that are as near as it costs.
 pub(crate) const NEAREST: u16 = 5;
 
-// The picks for a word that are nearest to a point, by distance and then by key.
-fn nearest_picks<P: Pages>(
+/// Returns the picks for a word that are nearest to a centre, the nearest first: [`NEAREST`] of them, or all where there are fewer. Their
+/// distances are those from the query's point.
+///
+/// Returns an error, and looks at pages, as a nearest query does.
+pub(crate) fn nearest_picks<P: Pages>(
     alloc: Global,
     pages: &mut P,
     tree: &Tree,
     ids: &Ids,
     at: &Point,
+    centre: &Point,
     word: &Word,
 ) -> Result<Vec<Pick>, PageFault>
     ensures picks { FitsTree (P.pages pages.old) (P.count pages.old) (P.first pages.old) tree.now → IfOk result (λ picks. picks.items
-        ≡ first_picks ids.now at.now (nodes_at (P.pages pages.old) tree.now) tree.now.root word.now) }
+        ≡ first_picks ids.now at.now centre.now (nodes_at (P.pages pages.old) tree.now) tree.now.root word.now) }
     ensures near { IfOk result (λ picks. AreNear picks.items) }
+    ensures measured { IfOk result (λ picks. AreMeasured at.now picks.items) }
     ensures opened { FitsTree (P.pages pages.old) (P.count pages.old) (P.first pages.old) tree.now → (words : List (List ℕ)) → Contains words word.now
         → IfOk result (λ picks. FindsPicks (P.pages pages.old) tree.now ids.now at.now words (P.asked pages.old) (P.asked pages.new) picks.items) }
     ensures search { Searches P.Pages tree.now pages.old pages.new result }
 {
     let filter = Expr::Has(*word);
-    // The point is on the map: `x` and `y` say so.
-    let (_x, _y) = (at.x(), at.y());
-    let hits = match nearest(alloc, pages, tree, ids, at, NEAREST, Some(&filter)) {
+    // The centre is on the map: `x` and `y` say so.
+    let (_x, _y) = (centre.x(), centre.y());
+    let hits = match nearest(alloc, pages, tree, ids, centre, NEAREST, Some(&filter)) {
         Ok(hits) => hits,
         Err(fault) => return Err(fault),
     };
@@ -65,15 +70,16 @@ pub(crate) fn nearest_each<P: Pages>(
     words: &[Word],
 ) -> Result<Vec<Vec<Pick>>, PageFault>
     ensures lists { FitsTree (P.pages pages.old) (P.count pages.old) (P.first pages.old) tree.now → IfOk result (λ lists. lists_in lists.items
-        ≡ map (first_picks ids.now at.now (nodes_at (P.pages pages.old) tree.now) tree.now.root) words.now) }
+        ≡ first_lists ids.now at.now (nodes_at (P.pages pages.old) tree.now) tree.now.root words.now) }
     ensures near { IfOk result (λ lists. AllByRecursion (λ (list : Vec Pick Global). AreNear list.items) lists.items) }
+    ensures measured { IfOk result (λ lists. AllByRecursion (λ (list : Vec Pick Global). AreMeasured at.now list.items) lists.items) }
     ensures opened { FitsTree (P.pages pages.old) (P.count pages.old) (P.first pages.old) tree.now
         → IfOk result (λ lists. FindsPicks (P.pages pages.old) tree.now ids.now at.now words.now (P.asked pages.old) (P.asked pages.new) (picks_of lists.items)) }
     ensures search { Searches P.Pages tree.now pages.old pages.new result }
 {
     let mut lists = Vec::new(alloc);
     for word in words {
-        let picks = match nearest_picks(alloc, pages, tree, ids, at, word) {
+        let picks = match nearest_picks(alloc, pages, tree, ids, at, at, word) {
             Ok(picks) => picks,
             Err(fault) => return Err(fault),
         };

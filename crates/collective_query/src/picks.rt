@@ -1,6 +1,6 @@
 //! Hits as picks.
 ghost use Rattle.std.specs.Prelude.{◌≡◌, ◌≤◌, map, IfOk};
-ghost use Rattle.collective_query.specs.Picks.{AreNear};
+ghost use Rattle.collective_query.specs.Picks.{AreNear, AreMeasured};
 ghost use Rattle.collective_query.specs.TreePicks.{pick_from};
 
 use place_map::{Hit, Pick};
@@ -30,6 +30,7 @@ pub(crate) fn picks_from(
 ) -> Result<Vec<Pick>, AllocError>
     ensures picks { IfOk result (λ picks. picks.items ≡ map (pick_from at.now word.now) hits.now) }
     ensures near { IfOk result (λ picks. AreNear picks.items) }
+    ensures measured { IfOk result (λ picks. AreMeasured at.now picks.items) }
 {
     let mut picks = Vec::new(alloc);
     for hit in hits {

@@ -9,12 +9,12 @@ ghost use Rattle.place_map.specs.Group.{least_of};
 ghost use Rattle.place_map.specs.Search.{lists_in};
 ghost use Rattle.tree_ranking.specs.Fits.{FitsTree, nodes_at};
 ghost use Rattle.collective_query.specs.Opened.{FindsPicks, picks_in};
-ghost use Rattle.collective_query.specs.Picks.{AreNear, AreSorted};
+ghost use Rattle.collective_query.specs.Picks.{AreNear, AreMeasured};
 ghost use Rattle.collective_query.specs.Searches.{IsSearchHarm};
 ghost use Rattle.collective_query.specs.TreePicks.{tree_choices};
-ghost use Rattle.collective_query.specs.Tried.{IsTaken, IsBegun};
+ghost use Rattle.collective_query.specs.Tried.{IsTaken, IsLeast};
 
-use crate::candidates::candidates_of_each;
+use crate::leading::{lead_among, search_by_lead};
 use crate::nearest::nearest_each;
 use crate::search::{cost_of, least_choice};
 use node_inverted::Tree;
@@ -39,10 +39,10 @@ fn firsts(alloc: Global, lists: &[Vec<Pick>]) -> Result<Option<Vec<Pick>>, Alloc
     Ok(Some(picks))
 }
 
-// The least choice of a pick of each list, if each has one. The lists are sorted by distance.
+// The least choice of a pick of each list, if each has one.
 fn least_among(alloc: Global, at: &Point, lists: &[Vec<Pick>]) -> Result<Option<Chosen>, AllocError>
     requires { AllByRecursion (λ (list : Vec Pick Global). AreNear list.items) lists.now }
-    ensures { IfOk result (λ best. AllByRecursion (λ (list : Vec Pick Global). AreSorted at.now list.items) lists.now → IsBegun at.now (lists_in lists.now) best) }
+    ensures { IfOk result (λ best. AllByRecursion (λ (list : Vec Pick Global). AreMeasured at.now list.items) lists.now → IsLeast at.now (lists_in lists.now) best) }
 {
     let picks = match firsts(alloc, lists)? {
         Some(picks) => picks,
@@ -93,12 +93,11 @@ pub fn group<P: Pages>(
         Ok(None) => return Ok(None),
         Err(_) => return Err(PageFault::Memory),
     };
-    let lists = match candidates_of_each(alloc, pages, tree, ids, at, best.cost, words, &nearest) {
-        Ok(lists) => lists,
-        Err(fault) => return Err(fault),
+    let Some(own) = lead_among(&nearest, best.cost) else {
+        return Ok(Some(best));
     };
-    match least_choice(alloc, &lists, &mut best) {
+    match search_by_lead(alloc, pages, tree, ids, at, words, &nearest, own, &mut best) {
         Ok(()) => Ok(Some(best)),
-        Err(_) => Err(PageFault::Memory),
+        Err(fault) => Err(fault),
     }
 }

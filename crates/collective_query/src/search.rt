@@ -8,7 +8,7 @@ ghost use Rattle.spatial_base.specs.Point.{Position};
 ghost use Rattle.place_map.specs.declared.query.Pick.{Pick};
 ghost use Rattle.place_map.specs.Group.{product, farthest, diameter, choice_cost, pick_cmp, least_of};
 ghost use Rattle.place_map.specs.Search.{lists_in, fronted};
-ghost use Rattle.collective_query.specs.Picks.{AreNear, AreSorted};
+ghost use Rattle.collective_query.specs.Picks.{AreNear, AreMeasured};
 
 use crate::joining::joined_lists;
 use place_map::{Chosen, Pick, Picks};
@@ -65,8 +65,7 @@ fn offer(alloc: Global, picks: &[Pick], cost: u64, best: &mut Chosen) -> Result<
 }
 
 // Offers each choice that begins so and goes on with one of each list. `far` is the greatest distance to a pick of the front and `wide` the
-// greatest one between two. A front that comes after the best choice is left, since what completes it does too; and so are the picks from
-// the first one on that lies farther than the best choice costs.
+// greatest one between two. A front that comes after the best choice is left, since what completes it does too.
 fn extend(
     alloc: Global,
     lists: &[Vec<Pick>],
@@ -80,7 +79,7 @@ fn extend(
     requires wide { wide ≤ 4024922359 }
     ensures same { OnOk result (front.new.items ≡ front.old.items) }
     ensures least { OnOk result ((at : Position) → far ≡ farthest at front.old.items → wide ≡ diameter front.old.items
-        → AllByRecursion (λ (list : Vec Pick Global). AreSorted at list.items) lists.now → (tried : List (List Pick)) → Some best.old ≡ least_of at tried
+        → AllByRecursion (λ (list : Vec Pick Global). AreMeasured at list.items) lists.now → (tried : List (List Pick)) → Some best.old ≡ least_of at tried
         → Some best.new ≡ least_of at (tried ++ fronted front.old.items (product (lists_in lists.now)))) }
 {
     let cost = far + wide;
@@ -91,9 +90,6 @@ fn extend(
         return offer(alloc, &*front, cost, best);
     };
     for pick in list {
-        if pick.dist > best.cost {
-            return Ok(());
-        }
         let further = far.max(pick.dist);
         let wider = wide.max(farthest_of(&pick.point, &*front));
         front.push(*pick)?;
@@ -103,7 +99,7 @@ fn extend(
     Ok(())
 }
 
-/// Leaves the least of the best choice so far and all choices of one pick of each list. The lists are sorted by distance.
+/// Leaves the least of the best choice so far and all choices of one pick of each list.
 ///
 /// Drops first the picks that can't be in a choice of the best one's cost with any pick of the shortest list.
 pub(crate) fn least_choice(
@@ -112,7 +108,7 @@ pub(crate) fn least_choice(
     best: &mut Chosen,
 ) -> Result<(), AllocError>
     requires { AllByRecursion (λ (list : Vec Pick Global). AreNear list.items) lists.now }
-    ensures { OnOk result ((at : Position) → AllByRecursion (λ (list : Vec Pick Global). AreSorted at list.items) lists.now → (tried : List (List Pick)) → Some best.old ≡ least_of at tried
+    ensures { OnOk result ((at : Position) → AllByRecursion (λ (list : Vec Pick Global). AreMeasured at list.items) lists.now → (tried : List (List Pick)) → Some best.old ≡ least_of at tried
         → Some best.new ≡ least_of at (tried ++ product (lists_in lists.now))) }
 {
     let kept = joined_lists(alloc, lists, best.cost)?;

@@ -6,13 +6,14 @@ use Rattle.page_face.specs.FreeList.{PageMap}
 use Rattle.place_map.specs.declared.query.Pick.{Pick}
 use Rattle.rtree_shape.specs.Slots.{NodeMap}
 use Rattle.tree_ranking.specs.Fits.{nodes_at}
-use Rattle.collective_query.specs.Choices.{IsCut}
+use Rattle.collective_query.specs.Choices.{IsWithin, IsInBoth, IsCut}
 use Rattle.collective_query.specs.Opened.{FindsPicks}
-use Rattle.collective_query.specs.Picks.{AreSorted, GoesBeyond}
+use Rattle.collective_query.specs.Picks.{GoesBeyond}
 use Rattle.collective_query.specs.TreePicks.{tree_picks, near_picks, first_picks}
-use Rattle.collective_query.proofs.Firsts.{first-cut, first-sorted}
+use Rattle.collective_query.proofs.Cuts.{cut-wider}
+use Rattle.collective_query.proofs.Firsts.{first-cut}
 use Rattle.collective_query.proofs.Opened.{finds-fewer, finds-then}
-use Rattle.collective_query.proofs.TreePicks.{near-cut, near-sorted}
+use Rattle.collective_query.proofs.TreePicks.{near-cut}
 use Rattle.collective_query.proofs.candidates.candidates.Goals as goal
 
 pub returns-in-Ok-clause-cut : goal.returns-in-Ok-clause-cut
@@ -20,12 +21,14 @@ returns-in-Ok-clause-cut g c = λ fits same.
     let tree = c.args.tree.now in
     let ids = c.args.ids.now in
     let at = c.args.at.now in
-    let radius = c.args.radius in
+    let most = c.args.most in
     let word : List ℕ = c.args.word.now in
     let nodes : NodeMap = nodes_at (g.P.Pages.pages c.args.pages.now) tree in
-    let beyond : GoesBeyond 5 radius (first_picks ids at nodes tree.root word) = subst (GoesBeyond 5 radius) same (c.reaches.ensures c.if-reaches.true) in
-    subst (λ (picks : List Pick). IsCut at radius (tree_picks ids at nodes tree.root word) picks × AreSorted at picks) (sym (c.in-Ok.ensures.items ∙ same))
-    (first-cut ids at nodes tree.root word radius beyond, first-sorted ids at nodes tree.root word)
+    let all : List Pick = tree_picks ids at nodes tree.root word in
+    let both : Pick → Type 0 = IsInBoth at most c.args.centre.now c.args.radius in
+    let beyond : GoesBeyond 5 most (first_picks ids at at nodes tree.root word) = subst (GoesBeyond 5 most) same (c.reaches.ensures c.if-reaches.true) in
+    subst (IsCut both all) (sym (c.in-Ok.ensures.items ∙ same))
+    (cut-wider (IsWithin at most) both all (first_picks ids at at nodes tree.root word) (λ pick h. h.0) (first-cut ids at nodes tree.root word most beyond))
 
 pub returns-in-Ok-clause-opened : goal.returns-in-Ok-clause-opened
 returns-in-Ok-clause-opened g c = λ fits words among before found has so_far.
@@ -40,12 +43,15 @@ returns-clause-cut g c = λ fits same.
     let tree = c.args.tree.now in
     let ids = c.args.ids.now in
     let at = c.args.at.now in
+    let centre = c.args.centre.now in
     let radius = c.args.radius in
     let word : List ℕ = c.args.word.now in
     let nodes : NodeMap = nodes_at (g.P.Pages.pages c.args.pages.now) tree in
-    let Is : List Pick → Type 0 = λ picks. IsCut at radius (tree_picks ids at nodes tree.root word) picks × AreSorted at picks in
-    IfOk-weaker c.near_with.result (λ (picks : Vec Pick Global). picks.items ≡ near_picks ids at radius nodes tree.root word) (λ (picks : Vec Pick Global). Is picks.items)
-    (λ picks is. subst Is (sym is) (near-cut ids at word nodes tree.root radius, near-sorted ids at word nodes tree.root radius)) (c.near_with.ensures.picks fits)
+    let all : List Pick = tree_picks ids at nodes tree.root word in
+    let near : List Pick = near_picks ids at centre radius nodes tree.root word in
+    let both : Pick → Type 0 = IsInBoth at c.args.most centre radius in
+    IfOk-weaker c.near_with.result (λ (picks : Vec Pick Global). picks.items ≡ near) (λ (picks : Vec Pick Global). IsCut both all picks.items)
+    (λ picks is. subst (IsCut both all) (sym is) (cut-wider (IsWithin centre radius) both all near (λ pick h. h.1) (near-cut ids at word nodes tree.root centre radius))) (c.near_with.ensures.picks fits)
 
 pub returns-clause-opened : goal.returns-clause-opened
 returns-clause-opened g c = λ fits words among before found has so_far.

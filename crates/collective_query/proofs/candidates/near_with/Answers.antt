@@ -13,9 +13,10 @@ returns-in-Ok-picks_from-clause-opened g c = λ fits words among.
     let tree = c.args.tree.now in
     let ids = c.args.ids.now in
     let at = c.args.at.now in
+    let centre = c.args.centre.now in
     let word : List ℕ = c.args.word.now in
     let old : List ℕ = P.asked c.args.pages.now in
     let new : List ℕ = P.asked c.range.new.pages in
     let hits : List Hit = c.in-Ok.hits.items in
     subst (FindsPicks pages tree ids at words old new) (sym (c.in-Ok-picks_from.ensures.picks ∙ ap (map (pick_from at word)) c.deref.ensures.value))
-    (range-finds pages (P.count c.args.pages.now) (P.first c.args.pages.now) tree ids at words word among fits old new hits c.args.radius _ refl c.range.ensures.empty (c.in-Ok.ensures.opened fits.2))
+    (range-finds pages (P.count c.args.pages.now) (P.first c.args.pages.now) tree ids at centre words word among fits old new hits c.args.radius _ refl c.range.ensures.empty (c.in-Ok.ensures.opened fits.2))

@@ -8,7 +8,7 @@ use Rattle.place_map.specs.declared.query.Pick.{Pick}
 use Rattle.place_map.specs.Search.{lists_in}
 use Rattle.tree_ranking.specs.Fits.{FitsTree, nodes_at}
 use Rattle.collective_query.specs.Opened.{FindsPicks}
-use Rattle.collective_query.specs.Picks.{AreNear}
+use Rattle.collective_query.specs.Picks.{AreNear, AreMeasured}
 use Rattle.collective_query.specs.TreePicks.{first_picks}
 use Rattle.collective_query.proofs.Opened.{finds-pushed}
 use Rattle.collective_query.proofs.Searches.{searches-give, searches-refused, searches-then}
@@ -30,7 +30,7 @@ loop-word-preserved g c =
     let at : ℕ = c.loop-word.word-index in
     let word : List ℕ = c.word-item.result in
     let old : PageMap = P.pages c.args.pages.now in
-    let picks : PageMap → List ℕ → List Pick = λ p. first_picks ids from (nodes_at p tree) tree.root in
+    let picks : PageMap → List ℕ → List Pick = λ p. first_picks ids from from (nodes_at p tree) tree.root in
     let mine : List ℕ → List Pick = picks old in
     let more : take (at + 1) words ≡ take at words ++ word ∷ [] = take_more words at word c.loop-word-test.true ∙ ap (λ (w : List ℕ). take at words ++ w ∷ []) (sym c.word-item.is) in
     let among : Contains words word = subst (Contains words) (sym c.word-item.is) (Contains-get_or words at word c.loop-word-test.true) in
@@ -46,6 +46,7 @@ loop-word-preserved g c =
           ap lists_in pushed ∙ map-append (λ (list : Vec Pick Global). list.items) lists (c.in-Ok.picks ∷ [])
           ∙ (λ i. h.lists fits i ++ here i ∷ []) ∙ sym (map-append mine (take at words) (word ∷ [])) ∙ ap (map mine) (sym more);
       near = subst (AllByRecursion (λ (list : Vec Pick Global). AreNear list.items)) (sym pushed) (all_append (λ (list : Vec Pick Global). AreNear list.items) lists (c.in-Ok.picks ∷ []) h.near (c.in-Ok.ensures.near, tt));
+      measured = subst (AllByRecursion (λ (list : Vec Pick Global). AreMeasured from list.items)) (sym pushed) (all_append (λ (list : Vec Pick Global). AreMeasured from list.items) lists (c.in-Ok.picks ∷ []) h.measured (c.in-Ok.ensures.measured, tt));
       opened = λ fits.
           let still : FitsTree (P.pages c.loop-word.pages) (P.count c.loop-word.pages) (P.first c.loop-word.pages) tree = rw (f.pages, f.count, f.first) fits in
           finds-pushed old tree ids from words before between after lists c.push.new.self.items c.in-Ok.picks pushed (h.opened fits)

@@ -14,11 +14,12 @@ returns-in-Ok-picks_from-clause-opened g c = λ fits words among.
     let tree = c.args.tree.now in
     let ids = c.args.ids.now in
     let at = c.args.at.now in
+    let centre = c.args.centre.now in
     let word : List ℕ = c.args.word.now in
     let old : List ℕ = P.asked c.args.pages.now in
     let new : List ℕ = P.asked c.nearest.new.pages in
     let hits : List Hit = c.in-Ok.hits.items in
-    let x : unsigned_abs at.x ≤ 1800000000 = subst (λ (z : ℤ). unsigned_abs z ≤ 1800000000) c.x-x.ensures.value c.x-x.ensures.within in
-    let y : unsigned_abs at.y ≤ 900000000 = subst (λ (z : ℤ). unsigned_abs z ≤ 900000000) c.y-y.ensures.value c.y-y.ensures.within in
+    let x : unsigned_abs centre.x ≤ 1800000000 = subst (λ (z : ℤ). unsigned_abs z ≤ 1800000000) c.x-x.ensures.value c.x-x.ensures.within in
+    let y : unsigned_abs centre.y ≤ 900000000 = subst (λ (z : ℤ). unsigned_abs z ≤ 900000000) c.y-y.ensures.value c.y-y.ensures.within in
     subst (FindsPicks pages tree ids at words old new) (sym (c.in-Ok-picks_from.ensures.picks ∙ ap (map (pick_from at word)) c.deref.ensures.value))
-    (nearest-finds pages (P.count c.args.pages.now) (P.first c.args.pages.now) tree ids at words word among fits old new hits (x, y) record { ref_ptr = (0, 0); now = Has word } refl (c.in-Ok.ensures.found fits) (c.in-Ok.ensures.opened fits.2))
+    (nearest-finds pages (P.count c.args.pages.now) (P.first c.args.pages.now) tree ids at centre words word among fits old new hits (x, y) record { ref_ptr = (0, 0); now = Has word } refl (c.in-Ok.ensures.found fits) (c.in-Ok.ensures.opened fits.2))

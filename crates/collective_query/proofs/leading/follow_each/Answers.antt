@@ -1,0 +1,75 @@
+use Rattle.std.proofs.Common.{◌≡◌, ◌+◌, ◌++◌, ◌∷◌, [], ◌∙◌, ℕ, List, get_or, ap, sym, subst, take, rules}
+use Rattle.std.proofs.lemmas.List.{take_all, take_more}
+use Rattle.std.proofs.lemmas.List.Elements.{Contains-get_or}
+use Rattle.std.specs.List.{Contains}
+use Rattle.page_face.specs.FreeList.{PageMap}
+use Rattle.place_map.specs.declared.query.Pick.{Pick}
+use Rattle.place_map.specs.declared.query.Chosen.{Chosen}
+use Rattle.tree_ranking.specs.Fits.{FitsTree, nodes_at}
+use Rattle.collective_query.specs.Leads.{AreLeads, Follows}
+use Rattle.collective_query.specs.Opened.{FindsPicks}
+use Rattle.collective_query.specs.TreePicks.{tree_lists, first_lists}
+use Rattle.collective_query.specs.Tried.{IsChosen}
+use Rattle.collective_query.proofs.Leads.{none-follows, follows-then}
+use Rattle.collective_query.proofs.Members.{all-among}
+use Rattle.collective_query.proofs.Searches.{searches-give, searches-refused, searches-then}
+use Rattle.collective_query.proofs.leading.follow_each.Goals as goal
+
+pub loop-lead-init : goal.loop-lead-init
+loop-lead-init g c = record {
+  followed = λ fits same leads was before known has each start.
+      let tree = c.args.tree.now in
+      let all : List (List Pick) = tree_lists c.args.ids.now c.args.at.now (nodes_at (g.P.Pages.pages c.args.pages.now) tree) tree.root c.args.words.now in
+      (none-follows c.args.at.now all c.args.own c.args.best.now was, start);
+  search = search rules;
+}
+
+pub loop-lead-preserved : goal.loop-lead-preserved
+loop-lead-preserved g c =
+    let P = g.P.Pages in
+    let h = c.loop-lead.invariant in
+    let f = h.search.frame in
+    let tree = c.args.tree.now in
+    let ids = c.args.ids.now in
+    let from = c.args.at.now in
+    let own = c.args.own in
+    let words : List (List ℕ) = c.args.words.now in
+    let leads : List Pick = c.args.leads.now in
+    let lead : Pick = c.lead-item.result in
+    let at : ℕ = c.loop-lead.lead-index in
+    let first : Chosen = c.args.best.now in
+    let best : Chosen = c.loop-lead.best in
+    let new : Chosen = c.follow.new.best in
+    let old : PageMap = P.pages c.args.pages.now in
+    let between : List ℕ = P.asked c.loop-lead.pages in
+    let after : List ℕ = P.asked c.follow.new.pages in
+    let all : PageMap → List (List Pick) = λ p. tree_lists ids from (nodes_at p tree) tree.root words in
+    let more : take (at + 1) leads ≡ take at leads ++ lead ∷ [] = take_more leads at lead c.loop-lead-test.true ∙ ap (λ (l : Pick). take at leads ++ l ∷ []) (sym c.lead-item.is) in
+    let member : Contains leads lead = subst (Contains leads) (sym c.lead-item.is) (Contains-get_or leads at lead c.loop-lead-test.true) in
+    record {
+      followed = λ fits same are was before known has each start.
+          let still : FitsTree (P.pages c.loop-lead.pages) (P.count c.loop-lead.pages) (P.first c.loop-lead.pages) tree = rw (f.pages, f.count, f.first) fits in
+          let so_far = h.followed fits same are was before known has each start in
+          let one : AreLeads (all old) own (lead ∷ []) = record { inside = are.inside; among = (all-among (Contains (get_or (all old) own [])) leads lead are.among member, tt) } in
+          let step : Follows from (all old) own (lead ∷ []) best new × FindsPicks old tree ids from words before after (known ++ new.picks) =
+          subst (λ (p : PageMap). Follows from (all p) own (lead ∷ []) best new × FindsPicks p tree ids from words before after (known ++ new.picks)) f.pages
+          (c.in-Ok.ensures.followed still
+          (same ∙ ap (λ (p : PageMap). first_lists ids from (nodes_at p tree) tree.root words) (sym f.pages))
+          (subst (λ (p : PageMap). AreLeads (all p) own (lead ∷ [])) (sym f.pages) one)
+          (subst (λ (p : PageMap). IsChosen from (all p) best) (sym f.pages) so_far.0.chosen)
+          before known has (each lead member)
+          (subst (λ (p : PageMap). FindsPicks p tree ids from words before between (known ++ best.picks)) (sym f.pages) so_far.1)) in
+          (subst (λ (l : List Pick). Follows from (all old) own l first new) (sym more) (follows-then from (all old) own (take at leads) (lead ∷ []) first best new so_far.0 step.0), step.1);
+      search = searches-give P tree _ _ _ _ 0 c.in-Ok.is (searches-then P g.met.P.Pages.goes_further g.met.P.Pages.reads_further tree _ _ _ _ _ h.search c.follow.ensures.search);
+    }
+
+pub returns-in-Err-clause-search : goal.returns-in-Err-clause-search
+returns-in-Err-clause-search g c =
+    searches-refused g.P.Pages c.args.tree.now _ _ _ _ c.in-Err.is (searches-then g.P.Pages g.met.P.Pages.goes_further g.met.P.Pages.reads_further c.args.tree.now _ _ _ _ _ c.loop-lead.invariant.search c.follow.ensures.search)
+
+pub returns-clause-followed : goal.returns-clause-followed
+returns-clause-followed g c = λ fits same leads was before known has each start.
+    let tree = c.args.tree.now in
+    let all : List (List Pick) = tree_lists c.args.ids.now c.args.at.now (nodes_at (g.P.Pages.pages c.args.pages.now) tree) tree.root c.args.words.now in
+    let so_far = c.loop-lead.invariant.followed fits same leads was before known has each start in
+    (subst (λ (l : List Pick). Follows c.args.at.now all c.args.own l c.args.best.now c.loop-lead.best) (take_all c.loop-lead.lead-index c.args.leads.now c.loop-lead-test.false) so_far.0, so_far.1)

@@ -1,0 +1,61 @@
+-- Choices that take one pick of one of the lists: the lead pick.
+use Rattle.std.specs.Prelude.{◌≡◌, ℕ, zero, suc, ◌<◌, ◌+◌, ◌≤◌, false, List, [], ◌∷◌, Vec, Option, Some, None, length, get_or}
+use Rattle.std.specs.List.{AllByRecursion, Contains}
+use Rattle.std.specs.declared.alloc.Global.{Global}
+use Rattle.spatial_base.specs.Point.{Position, distance}
+use Rattle.place_map.specs.declared.query.Pick.{Pick}
+use Rattle.place_map.specs.declared.query.Chosen.{Chosen}
+use Rattle.place_map.specs.Group.{is_cheaper}
+use Rattle.place_map.specs.Search.{lists_in}
+use Rattle.collective_query.specs.Choices.{IsChoice, AreCut}
+use Rattle.collective_query.specs.Tried.{IsChosen, IsFirst}
+use Rattle.collective_query.specs.Picks.{picks_of}
+
+-- the lists, of which the one at a position has the lead pick alone
+abbrev pub led_by : {X : Type 0} → ℕ → X → List (List X) → List (List X)
+led_by at x [] = []
+led_by zero x (list ∷ lists) = (x ∷ []) ∷ lists
+led_by (suc at) x (list ∷ lists) = list ∷ led_by at x lists
+
+-- they are picks of the list at a position
+pub record AreLeads (lists : List (List Pick)) (at : ℕ) (leads : List Pick) : Type 0 where
+  pub inside : at < length lists
+  pub among : AllByRecursion (Contains (get_or lists at [])) leads
+
+-- A pick in a cut round a lead place: a choice with both may cost at most so much, by the distance to the point of either and that between them.
+abbrev pub IsBeside : Position → Pick → ℕ → Pick → Type 0
+IsBeside from lead most pick = (distance from pick.point ≤ most) × (distance from lead.point + distance lead.point pick.point ≤ most)
+
+-- so it is where a cost is given; where none is, no pick has to be there
+abbrev pub IsWanted : Position → Pick → Option ℕ → Pick → Type 0
+IsWanted from lead None pick = ⊥
+IsWanted from lead (Some most) pick = IsBeside from lead most pick
+
+-- the lists cut to what counts; or nothing, and then in no choice of the lists each pick counts
+abbrev pub AreGathered : (Pick → Type 0) → List (List Pick) → Option (Vec (Vec Pick Global) Global) → Type 0
+AreGathered counts lists None = (choice : List Pick) → IsChoice lists choice → AllByRecursion counts choice → ⊥
+AreGathered counts lists (Some cuts) = AreCut counts lists (lists_in cuts.items)
+
+-- of each list, where there are some
+abbrev pub OfEach : (List Pick → Type 0) → Option (Vec (Vec Pick Global) Global) → Type 0
+OfEach P None = Unit {0}
+OfEach P (Some lists) = AllByRecursion (λ (list : Vec Pick Global). P list.items) lists.items
+
+-- the picks of all lists, where there are some
+abbrev pub gathered_picks : Option (Vec (Vec Pick Global) Global) → List Pick
+gathered_picks None = []
+gathered_picks (Some lists) = picks_of lists.items
+
+-- The best choice after more were tried: it is one of the lists, the best choice until then doesn't come before it, nor does a choice of the
+-- other lists all of whose picks count.
+pub record Betters (from : Position) (lists : List (List Pick)) (counts : Pick → Type 0) (others : List (List Pick)) (old new : Chosen) : Type 0 where
+  pub chosen : IsChosen from lists new
+  pub after : is_cheaper from old.picks new.picks ≡ false
+  pub first : (choice : List Pick) → IsChoice others choice → AllByRecursion counts choice → is_cheaper from choice new.picks ≡ false
+
+-- The best choice after some lead picks were followed: no choice of the lists that takes one of these comes before it, and the best choice
+-- until then doesn't either.
+pub record Follows (from : Position) (lists : List (List Pick)) (at : ℕ) (leads : List Pick) (old new : Chosen) : Type 0 where
+  pub chosen : IsChosen from lists new
+  pub after : is_cheaper from old.picks new.picks ≡ false
+  pub first : AllByRecursion (λ lead. IsFirst from (led_by at lead lists) new) leads

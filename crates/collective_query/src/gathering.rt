@@ -1,0 +1,139 @@
+//! The picks for the other words round a lead pick.
+ghost use Rattle.std.specs.Prelude.{◌≡◌, ◌≤◌, ◌++◌, ◌∷◌, [], if◌then◌else◌, ℕ, List, Vec, IfOk};
+ghost use Rattle.std.specs.List.{AllByRecursion, Contains};
+ghost use Rattle.std.specs.declared.alloc.Global.{Global};
+ghost use Rattle.spatial_base.specs.Point.{distance};
+ghost use Rattle.place_map.specs.declared.query.Pick.{Pick};
+ghost use Rattle.place_map.specs.Search.{lists_in};
+ghost use Rattle.tree_ranking.specs.Fits.{FitsTree, nodes_at};
+ghost use Rattle.collective_query.specs.Choices.{IsCut};
+ghost use Rattle.collective_query.specs.Leads.{led_by, IsWanted, AreGathered, OfEach, gathered_picks};
+ghost use Rattle.collective_query.specs.Opened.{FindsPicks};
+ghost use Rattle.collective_query.specs.Picks.{AreNear, AreMeasured, picks_of};
+ghost use Rattle.collective_query.specs.Searches.{Searches};
+ghost use Rattle.collective_query.specs.TreePicks.{tree_picks, tree_lists, first_picks, first_lists};
+
+use crate::candidates::{candidates, list_at};
+use crate::nearest::nearest_picks;
+use node_inverted::Tree;
+use page_face::{PageFault, Pages};
+use place_map::Pick;
+use spatial_base::Point;
+use std::alloc::{AllocError, Global};
+use term_impacts::Word;
+use tree_entries::Ids;
+
+// A pick alone.
+fn alone(alloc: Global, pick: &Pick) -> Result<Vec<Pick>, AllocError>
+    ensures { IfOk result (λ picks. picks.items ≡ pick.now ∷ []) }
+{
+    let mut picks = Vec::new(alloc);
+    picks.push(*pick)?;
+    Ok(picks)
+}
+
+// The picks for a word round a lead pick: this alone where the word is its own; or else all that may be in a choice with it that costs at
+// most so much, or those nearest to it where no cost is given.
+fn companions<P: Pages>(
+    alloc: Global,
+    pages: &mut P,
+    tree: &Tree,
+    ids: &Ids,
+    at: &Point,
+    word: &Word,
+    nearest: &[Pick],
+    lead: &Pick,
+    is_own: bool,
+    most: Option<u64>,
+) -> Result<Vec<Pick>, PageFault>
+    requires near { AreNear nearest.now }
+    requires measured { AreMeasured at.now nearest.now }
+    requires lead { lead.now.dist ≤ 4024922359 }
+    requires lead_measured { lead.now.dist ≡ distance at.now lead.now.point }
+    ensures cut { FitsTree (P.pages pages.old) (P.count pages.old) (P.first pages.old) tree.now
+        → nearest.now ≡ first_picks ids.now at.now at.now (nodes_at (P.pages pages.old) tree.now) tree.now.root word.now
+        → IfOk result (λ picks. IsCut (IsWanted at.now lead.now most) (if is_own then lead.now ∷ [] else tree_picks ids.now at.now (nodes_at (P.pages pages.old) tree.now) tree.now.root word.now) picks.items) }
+    ensures near { IfOk result (λ picks. AreNear picks.items) }
+    ensures measured { IfOk result (λ picks. AreMeasured at.now picks.items) }
+    ensures opened { FitsTree (P.pages pages.old) (P.count pages.old) (P.first pages.old) tree.now → (words : List (List ℕ)) → Contains words word.now
+        → (before : List ℕ) → (found : List Pick) → ((pick : Pick) → Contains nearest.now pick → Contains found pick) → Contains found lead.now
+        → FindsPicks (P.pages pages.old) tree.now ids.now at.now words before (P.asked pages.old) found
+        → IfOk result (λ picks. FindsPicks (P.pages pages.old) tree.now ids.now at.now words before (P.asked pages.new) (found ++ picks.items)) }
+    ensures search { Searches P.Pages tree.now pages.old pages.new result }
+{
+    if is_own {
+        return match alone(alloc, lead) {
+            Ok(picks) => Ok(picks),
+            Err(_) => Err(PageFault::Memory),
+        };
+    }
+    match most {
+        Some(most) => {
+            let radius = most.saturating_sub(lead.dist);
+            candidates(
+                alloc,
+                pages,
+                tree,
+                ids,
+                at,
+                most,
+                &lead.point,
+                radius,
+                word,
+                nearest,
+            )
+        }
+        None => nearest_picks(alloc, pages, tree, ids, at, &lead.point, word),
+    }
+}
+
+/// Returns for each word picks round a lead pick, that of the word at `own`: this alone for its own word. For each other word they are all
+/// that may be in a choice with it that costs at most `most`, or those nearest to it where no cost is given. Returns `None` if a word has none.
+///
+/// Returns an error, and looks at pages, as a range query for each other word whose nearest picks end before the cost, or as a nearest query
+/// for each; none behind a word that has no pick.
+pub(crate) fn gather<P: Pages>(
+    alloc: Global,
+    pages: &mut P,
+    tree: &Tree,
+    ids: &Ids,
+    at: &Point,
+    words: &[Word],
+    nearest: &[Vec<Pick>],
+    lead: &Pick,
+    own: usize,
+    most: Option<u64>,
+) -> Result<Option<Vec<Vec<Pick>>>, PageFault>
+    requires near { AllByRecursion (λ (list : Vec Pick Global). AreNear list.items) nearest.now }
+    requires measured { AllByRecursion (λ (list : Vec Pick Global). AreMeasured at.now list.items) nearest.now }
+    requires lead { lead.now.dist ≤ 4024922359 }
+    requires lead_measured { lead.now.dist ≡ distance at.now lead.now.point }
+    ensures gathered { FitsTree (P.pages pages.old) (P.count pages.old) (P.first pages.old) tree.now
+        → lists_in nearest.now ≡ first_lists ids.now at.now (nodes_at (P.pages pages.old) tree.now) tree.now.root words.now
+        → IfOk result (AreGathered (IsWanted at.now lead.now most) (led_by own lead.now (tree_lists ids.now at.now (nodes_at (P.pages pages.old) tree.now) tree.now.root words.now))) }
+    ensures near { IfOk result (OfEach AreNear) }
+    ensures measured { IfOk result (OfEach (AreMeasured at.now)) }
+    ensures opened { FitsTree (P.pages pages.old) (P.count pages.old) (P.first pages.old) tree.now
+        → (before : List ℕ) → (found : List Pick) → ((pick : Pick) → Contains (picks_of nearest.now) pick → Contains found pick) → Contains found lead.now
+        → FindsPicks (P.pages pages.old) tree.now ids.now at.now words.now before (P.asked pages.old) found
+        → IfOk result (λ lists. FindsPicks (P.pages pages.old) tree.now ids.now at.now words.now before (P.asked pages.new) (found ++ gathered_picks lists)) }
+    ensures search { Searches P.Pages tree.now pages.old pages.new result }
+{
+    let mut lists = Vec::new(alloc);
+    for (index, word) in words.iter().enumerate() {
+        let known = list_at(nearest, index);
+        let is_own = index == own;
+        let picks = match companions(alloc, pages, tree, ids, at, word, known, lead, is_own, most) {
+            Ok(picks) => picks,
+            Err(fault) => return Err(fault),
+        };
+        if picks.is_empty() {
+            return Ok(None);
+        }
+        match lists.push(picks) {
+            Ok(()) => {}
+            Err(_) => return Err(PageFault::Memory),
+        }
+    }
+    Ok(Some(lists))
+}

@@ -1,0 +1,254 @@
+//! The search that is led by the picks of one word.
+ghost use Rattle.std.specs.Prelude.{◌≡◌, ◌<◌, ◌≤◌, ◌++◌, ◌∷◌, [], ℕ, List, Vec, Option, Some, OnOk, IfSome, IfNone, length};
+ghost use Rattle.std.specs.List.{AllByRecursion, Contains};
+ghost use Rattle.std.specs.declared.alloc.Global.{Global};
+ghost use Rattle.spatial_base.specs.Point.{distance};
+ghost use Rattle.place_map.specs.declared.query.Pick.{Pick};
+ghost use Rattle.place_map.specs.Search.{lists_in};
+ghost use Rattle.tree_ranking.specs.Fits.{FitsTree, nodes_at};
+ghost use Rattle.collective_query.specs.Leads.{led_by, AreLeads, IsWanted, Betters, Follows};
+ghost use Rattle.collective_query.specs.Opened.{FindsPicks};
+ghost use Rattle.collective_query.specs.Picks.{AreNear, AreMeasured, GoesBeyond, picks_of};
+ghost use Rattle.collective_query.specs.Searches.{Searches};
+ghost use Rattle.collective_query.specs.TreePicks.{tree_lists, first_lists};
+ghost use Rattle.collective_query.specs.Tried.{IsChosen, IsFirst};
+
+use crate::candidates::{candidates, list_at, reaches};
+use crate::gathering::gather;
+use crate::search::least_choice;
+use node_inverted::Tree;
+use page_face::{PageFault, Pages};
+use place_map::{Chosen, Pick};
+use spatial_base::Point;
+use std::alloc::Global;
+use term_impacts::Word;
+use tree_entries::Ids;
+
+// How far the first pick of a list is.
+fn first_dist(list: &[Pick]) -> u64 {
+    match list.first() {
+        Some(pick) => pick.dist,
+        None => 0,
+    }
+}
+
+// The first of the lists whose first pick is farthest.
+fn farthest_list(lists: &[Vec<Pick>]) -> Option<usize>
+    ensures some { IfSome result (λ at. at < length lists.now) }
+    ensures none { IfNone result (lists.now ≡ []) }
+{
+    let mut lead = None;
+    let mut most = 0;
+    for (index, list) in lists.iter().enumerate() {
+        let dist = first_dist(list);
+        if lead.is_none() || dist > most {
+            lead = Some(index);
+            most = dist;
+        }
+    }
+    lead
+}
+
+/// Returns which of the words leads the search: the first of those whose nearest pick is farthest. `None` if the nearest picks of each word
+/// have all that are at most `most` from the point, so that no search is needed.
+pub(crate) fn lead_among(nearest: &[Vec<Pick>], most: u64) -> Option<usize>
+    ensures some { IfSome result (λ own. own < length nearest.now) }
+    ensures none { IfNone result (AllByRecursion (λ (list : Vec Pick Global). GoesBeyond 5 most list.items) nearest.now) }
+{
+    for list in nearest {
+        if !reaches(list, most) {
+            return farthest_list(nearest);
+        }
+    }
+    None
+}
+
+// Leaves the best of the best choice so far and the choices of picks round a lead pick, as they are gathered.
+fn try_beside<P: Pages>(
+    alloc: Global,
+    pages: &mut P,
+    tree: &Tree,
+    ids: &Ids,
+    at: &Point,
+    words: &[Word],
+    nearest: &[Vec<Pick>],
+    lead: &Pick,
+    own: usize,
+    most: Option<u64>,
+    best: &mut Chosen,
+) -> Result<(), PageFault>
+    requires near { AllByRecursion (λ (list : Vec Pick Global). AreNear list.items) nearest.now }
+    requires measured { AllByRecursion (λ (list : Vec Pick Global). AreMeasured at.now list.items) nearest.now }
+    requires lead { lead.now.dist ≤ 4024922359 }
+    requires lead_measured { lead.now.dist ≡ distance at.now lead.now.point }
+    ensures tried { FitsTree (P.pages pages.old) (P.count pages.old) (P.first pages.old) tree.now
+        → lists_in nearest.now ≡ first_lists ids.now at.now (nodes_at (P.pages pages.old) tree.now) tree.now.root words.now
+        → AreLeads (tree_lists ids.now at.now (nodes_at (P.pages pages.old) tree.now) tree.now.root words.now) own (lead.now ∷ []) → IsChosen at.now (tree_lists ids.now at.now (nodes_at (P.pages pages.old) tree.now) tree.now.root words.now) best.old
+        → (before : List ℕ) → (known : List Pick) → ((pick : Pick) → Contains (picks_of nearest.now) pick → Contains known pick) → Contains known lead.now
+        → FindsPicks (P.pages pages.old) tree.now ids.now at.now words.now before (P.asked pages.old) (known ++ best.old.picks)
+        → OnOk result (Betters at.now (tree_lists ids.now at.now (nodes_at (P.pages pages.old) tree.now) tree.now.root words.now) (IsWanted at.now lead.now most) (led_by own lead.now (tree_lists ids.now at.now (nodes_at (P.pages pages.old) tree.now) tree.now.root words.now)) best.old best.new
+        × FindsPicks (P.pages pages.old) tree.now ids.now at.now words.now before (P.asked pages.new) (known ++ best.new.picks)) }
+    ensures search { Searches P.Pages tree.now pages.old pages.new result }
+{
+    let lists = match gather(alloc, pages, tree, ids, at, words, nearest, lead, own, most) {
+        Ok(Some(lists)) => lists,
+        Ok(None) => return Ok(()),
+        Err(fault) => return Err(fault),
+    };
+    match least_choice(alloc, &lists, best) {
+        Ok(()) => Ok(()),
+        Err(_) => Err(PageFault::Memory),
+    }
+}
+
+// Leaves the best of the best choice so far and the choices of the picks nearest to the first of some lead picks.
+fn begin<P: Pages>(
+    alloc: Global,
+    pages: &mut P,
+    tree: &Tree,
+    ids: &Ids,
+    at: &Point,
+    words: &[Word],
+    nearest: &[Vec<Pick>],
+    leads: &[Pick],
+    own: usize,
+    best: &mut Chosen,
+) -> Result<(), PageFault>
+    requires near { AllByRecursion (λ (list : Vec Pick Global). AreNear list.items) nearest.now }
+    requires measured { AllByRecursion (λ (list : Vec Pick Global). AreMeasured at.now list.items) nearest.now }
+    requires leads { AreNear leads.now }
+    requires leads_measured { AreMeasured at.now leads.now }
+    ensures chosen { FitsTree (P.pages pages.old) (P.count pages.old) (P.first pages.old) tree.now
+        → lists_in nearest.now ≡ first_lists ids.now at.now (nodes_at (P.pages pages.old) tree.now) tree.now.root words.now
+        → AreLeads (tree_lists ids.now at.now (nodes_at (P.pages pages.old) tree.now) tree.now.root words.now) own leads.now → IsChosen at.now (tree_lists ids.now at.now (nodes_at (P.pages pages.old) tree.now) tree.now.root words.now) best.old
+        → (before : List ℕ) → (known : List Pick) → ((pick : Pick) → Contains (picks_of nearest.now) pick → Contains known pick) → ((pick : Pick) → Contains leads.now pick → Contains known pick)
+        → FindsPicks (P.pages pages.old) tree.now ids.now at.now words.now before (P.asked pages.old) (known ++ best.old.picks)
+        → OnOk result (IsChosen at.now (tree_lists ids.now at.now (nodes_at (P.pages pages.old) tree.now) tree.now.root words.now) best.new
+        × FindsPicks (P.pages pages.old) tree.now ids.now at.now words.now before (P.asked pages.new) (known ++ best.new.picks)) }
+    ensures search { Searches P.Pages tree.now pages.old pages.new result }
+{
+    match leads.first() {
+        Some(lead) => try_beside(
+            alloc, pages, tree, ids, at, words, nearest, lead, own, None, best,
+        ),
+        None => Ok(()),
+    }
+}
+
+// Leaves the best of the best choice so far and all choices that take a lead pick.
+fn follow<P: Pages>(
+    alloc: Global,
+    pages: &mut P,
+    tree: &Tree,
+    ids: &Ids,
+    at: &Point,
+    words: &[Word],
+    nearest: &[Vec<Pick>],
+    lead: &Pick,
+    own: usize,
+    best: &mut Chosen,
+) -> Result<(), PageFault>
+    requires near { AllByRecursion (λ (list : Vec Pick Global). AreNear list.items) nearest.now }
+    requires measured { AllByRecursion (λ (list : Vec Pick Global). AreMeasured at.now list.items) nearest.now }
+    requires lead { lead.now.dist ≤ 4024922359 }
+    requires lead_measured { lead.now.dist ≡ distance at.now lead.now.point }
+    ensures followed { FitsTree (P.pages pages.old) (P.count pages.old) (P.first pages.old) tree.now
+        → lists_in nearest.now ≡ first_lists ids.now at.now (nodes_at (P.pages pages.old) tree.now) tree.now.root words.now
+        → AreLeads (tree_lists ids.now at.now (nodes_at (P.pages pages.old) tree.now) tree.now.root words.now) own (lead.now ∷ []) → IsChosen at.now (tree_lists ids.now at.now (nodes_at (P.pages pages.old) tree.now) tree.now.root words.now) best.old
+        → (before : List ℕ) → (known : List Pick) → ((pick : Pick) → Contains (picks_of nearest.now) pick → Contains known pick) → Contains known lead.now
+        → FindsPicks (P.pages pages.old) tree.now ids.now at.now words.now before (P.asked pages.old) (known ++ best.old.picks)
+        → OnOk result (Follows at.now (tree_lists ids.now at.now (nodes_at (P.pages pages.old) tree.now) tree.now.root words.now) own (lead.now ∷ []) best.old best.new
+        × FindsPicks (P.pages pages.old) tree.now ids.now at.now words.now before (P.asked pages.new) (known ++ best.new.picks)) }
+    ensures search { Searches P.Pages tree.now pages.old pages.new result }
+{
+    if lead.dist > best.cost {
+        return Ok(());
+    }
+    let most = Some(best.cost);
+    try_beside(
+        alloc, pages, tree, ids, at, words, nearest, lead, own, most, best,
+    )
+}
+
+// Leaves the best of the best choice so far and all choices that take one of the lead picks.
+fn follow_each<P: Pages>(
+    alloc: Global,
+    pages: &mut P,
+    tree: &Tree,
+    ids: &Ids,
+    at: &Point,
+    words: &[Word],
+    nearest: &[Vec<Pick>],
+    leads: &[Pick],
+    own: usize,
+    best: &mut Chosen,
+) -> Result<(), PageFault>
+    requires near { AllByRecursion (λ (list : Vec Pick Global). AreNear list.items) nearest.now }
+    requires measured { AllByRecursion (λ (list : Vec Pick Global). AreMeasured at.now list.items) nearest.now }
+    requires leads { AreNear leads.now }
+    requires leads_measured { AreMeasured at.now leads.now }
+    ensures followed { FitsTree (P.pages pages.old) (P.count pages.old) (P.first pages.old) tree.now
+        → lists_in nearest.now ≡ first_lists ids.now at.now (nodes_at (P.pages pages.old) tree.now) tree.now.root words.now
+        → AreLeads (tree_lists ids.now at.now (nodes_at (P.pages pages.old) tree.now) tree.now.root words.now) own leads.now → IsChosen at.now (tree_lists ids.now at.now (nodes_at (P.pages pages.old) tree.now) tree.now.root words.now) best.old
+        → (before : List ℕ) → (known : List Pick) → ((pick : Pick) → Contains (picks_of nearest.now) pick → Contains known pick) → ((pick : Pick) → Contains leads.now pick → Contains known pick)
+        → FindsPicks (P.pages pages.old) tree.now ids.now at.now words.now before (P.asked pages.old) (known ++ best.old.picks)
+        → OnOk result (Follows at.now (tree_lists ids.now at.now (nodes_at (P.pages pages.old) tree.now) tree.now.root words.now) own leads.now best.old best.new
+        × FindsPicks (P.pages pages.old) tree.now ids.now at.now words.now before (P.asked pages.new) (known ++ best.new.picks)) }
+    ensures search { Searches P.Pages tree.now pages.old pages.new result }
+{
+    for lead in leads {
+        match follow(alloc, pages, tree, ids, at, words, nearest, lead, own, best) {
+            Ok(()) => {}
+            Err(fault) => return Err(fault),
+        }
+    }
+    Ok(())
+}
+
+/// Leaves the least of all choices, where the best one so far is one of them. `own` is the word that leads the search.
+///
+/// The choices of the picks nearest to the word's first one are tried, so that the best choice costs little. Then each of its picks that are no
+/// farther from the point than this one costs is followed: all choices with it that cost no more are searched.
+///
+/// Returns an error, and looks at pages, as a nearest query for each other word does, then as a range query for the word, if its nearest picks
+/// end before the cost, and then as a range query for each other word round each of the picks that are followed.
+pub(crate) fn search_by_lead<P: Pages>(
+    alloc: Global,
+    pages: &mut P,
+    tree: &Tree,
+    ids: &Ids,
+    at: &Point,
+    words: &[Word],
+    nearest: &[Vec<Pick>],
+    own: usize,
+    best: &mut Chosen,
+) -> Result<(), PageFault>
+    requires near { AllByRecursion (λ (list : Vec Pick Global). AreNear list.items) nearest.now }
+    requires measured { AllByRecursion (λ (list : Vec Pick Global). AreMeasured at.now list.items) nearest.now }
+    ensures least { FitsTree (P.pages pages.old) (P.count pages.old) (P.first pages.old) tree.now
+        → lists_in nearest.now ≡ first_lists ids.now at.now (nodes_at (P.pages pages.old) tree.now) tree.now.root words.now
+        → own < length words.now → IsChosen at.now (tree_lists ids.now at.now (nodes_at (P.pages pages.old) tree.now) tree.now.root words.now) best.old
+        → (before : List ℕ) → FindsPicks (P.pages pages.old) tree.now ids.now at.now words.now before (P.asked pages.old) (picks_of nearest.now ++ best.old.picks)
+        → OnOk result ((IsChosen at.now (tree_lists ids.now at.now (nodes_at (P.pages pages.old) tree.now) tree.now.root words.now) best.new × IsFirst at.now (tree_lists ids.now at.now (nodes_at (P.pages pages.old) tree.now) tree.now.root words.now) best.new)
+        × FindsPicks (P.pages pages.old) tree.now ids.now at.now words.now before (P.asked pages.new) best.new.picks) }
+    ensures search { Searches P.Pages tree.now pages.old pages.new result }
+{
+    let known = list_at(nearest, own);
+    match begin(
+        alloc, pages, tree, ids, at, words, nearest, known, own, &mut *best,
+    ) {
+        Ok(()) => {}
+        Err(fault) => return Err(fault),
+    }
+    let Some(word) = words.get(own) else {
+        return Ok(());
+    };
+    let most = best.cost;
+    let leads = match candidates(alloc, pages, tree, ids, at, most, at, most, word, known) {
+        Ok(leads) => leads,
+        Err(fault) => return Err(fault),
+    };
+    follow_each(
+        alloc, pages, tree, ids, at, words, nearest, &leads, own, best,
+    )
+}
