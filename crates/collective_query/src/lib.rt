@@ -3,9 +3,15 @@
 //!
 //! A choice has a place for each word. It costs the greatest distance to the point plus the greatest distance between two of its places. The
 //! least choice among some nearest places of each word is found first. No place that is farther from the point than it costs can be in a
-//! choice that costs less, so the places at most so far away that hold a word are the candidates for it. Mostly they are among the nearest
-//! ones; where they may not be, a walk finds them. Those that can't be in so cheap a choice with any candidate for the rarest word are dropped.
-//! All choices of the others are searched, but for those that begin like one that costs too much already.
+//! choice that costs less. Mostly all places that are as near are among these nearest ones, and nothing else is searched.
+//!
+//! Where they may not be, one word leads: that whose nearest place is farthest, since few places hold it as near as that. Each choice takes one
+//! of the lead's places, and a choice that costs no more than the best one so far has its other places in a circle round it: their distance
+//! from it and its own from the point are at most that cost together. So a frequent word is looked for in a small circle round each place of a
+//! rare one, and not in the large one round the point. No triangle inequality is used, since distances are rounded down.
+//!
+//! Of the places that are found those are dropped that can't be in so cheap a choice with any place of the shortest list. All choices of the
+//! others are searched, but for those that begin like one that costs too much already.
 #![tactic(auto)]
 
 mod candidates;

@@ -1,4 +1,4 @@
-//! Nine places in two leaves below a root, with the rows of seven words. The first letters of a key are the words that its place holds.
+//! Nineteen places in three leaves below a root, with the rows of nine words. The first letters of a key are the words that its place holds.
 ghost use Rattle.std.specs.Prelude.{◌<◌};
 
 use super::group;
@@ -14,7 +14,7 @@ use term_impacts::{Word, one_word};
 use tree_entries::Ids;
 
 // Each place: its leaf's page, its slot, its key, and where it is.
-static PLACES: [(u32, usize, &str, i32, i32); 9] = [
+static PLACES: [(u32, usize, &str, i32, i32); 19] = [
     (1, 0, "a1", 10, 0),
     (1, 5, "b2", 12, 0),
     (1, 7, "d1", 10, 0),
@@ -24,10 +24,20 @@ static PLACES: [(u32, usize, &str, i32, i32); 9] = [
     (2, 3, "c1", 0, -10),
     (2, 4, "d2", -10, 0),
     (2, 31, "e1", 0, 0),
+    (4, 0, "m0", 1, 1),
+    (4, 1, "m1", 1, 2),
+    (4, 2, "m2", 2, 1),
+    (4, 3, "m3", 2, 2),
+    (4, 4, "m4", 3, 1),
+    (4, 5, "m5", -97, 50),
+    (4, 6, "m8", 100, 47),
+    (4, 7, "m9", 97, 50),
+    (4, 8, "r1", 100, 50),
+    (4, 9, "r2", -100, 50),
 ];
 
-// The words that the store knows, each with its number. No place holds the last one.
-static WORDS: [(&str, u64); 8] = [
+// The words that the store knows, each with its number. No place holds "h".
+static WORDS: [(&str, u64); 10] = [
     ("a", 0),
     ("b", 1),
     ("c", 2),
@@ -36,10 +46,12 @@ static WORDS: [(&str, u64); 8] = [
     ("f", 5),
     ("g", 6),
     ("h", 7),
+    ("m", 8),
+    ("r", 9),
 ];
 
 // The rows of the words: a node, a word's number, and two slots with their bytes.
-static ROWS: [(u32, u64, usize, u8, usize, u8); 17] = [
+static ROWS: [(u32, u64, usize, u8, usize, u8); 20] = [
     (1, 0, 0, 1, 1, 0),
     (1, 1, 5, 1, 1, 0),
     (1, 2, 31, 1, 1, 0),
@@ -57,6 +69,9 @@ static ROWS: [(u32, u64, usize, u8, usize, u8); 17] = [
     (3, 4, 1, 0, 31, 1),
     (3, 5, 1, 1, 31, 0),
     (3, 6, 1, 1, 31, 0),
+    (3, 8, 7, 1, 31, 0),
+    (3, 9, 7, 1, 31, 0),
+    (4, 9, 8, 1, 9, 1),
 ];
 
 // Puts the places of a leaf into it.
@@ -102,25 +117,42 @@ fn put_rows(pages: &mut MemoryPages, tree: &mut Tree) -> Result<(), Fail> {
     Ok(())
 }
 
-// Writes the leaves at pages 1 and 2, the root at page 3, and the rows behind them.
+// Writes the row of the word that the first eight places of the leaf at page 4 hold.
+fn put_frequent(pages: &mut MemoryPages, tree: &mut Tree) -> Result<(), Fail> {
+    let mut row = [0; 32];
+    for (slot, to) in row.iter_mut().enumerate() {
+        if slot < 8 {
+            *to = 1;
+        }
+    }
+    set_row(pages, tree, 4, 8, &row).map_err(|_| "no row")?;
+    Ok(())
+}
+
+// Writes the leaves at pages 1, 2 and 4, the root at page 3, and the rows behind them.
 fn small_tree(pages: &mut MemoryPages) -> Result<Tree, Fail> {
-    for _ in 0..3 {
+    for _ in 0..4 {
         pages.take().map_err(|_| "no page")?;
     }
     let mut east = new_node(0);
     put_places(&mut east, 1)?;
     let mut west = new_node(0);
     put_places(&mut west, 2)?;
+    let mut north = new_node(0);
+    put_places(&mut north, 4)?;
     let mut root = new_node(1);
     let rect = Rect::new(3, 0, 12, 4).ok_or("no rectangle")?;
     put_child(&mut root, 1, &rect, 1);
     let rect = Rect::new(-10, -10, 0, 0).ok_or("no rectangle")?;
     put_child(&mut root, 31, &rect, 2);
-    for (number, page) in [(1, &east), (2, &west), (3, &root)] {
+    let rect = Rect::new(-100, 1, 100, 50).ok_or("no rectangle")?;
+    put_child(&mut root, 7, &rect, 4);
+    for (number, page) in [(1, &east), (2, &west), (3, &root), (4, &north)] {
         pages.write(number, page).map_err(|_| "not written")?;
     }
     let mut tree = Tree { root: 3, rows: 0 };
     put_rows(pages, &mut tree)?;
+    put_frequent(pages, &mut tree)?;
     Ok(tree)
 }
 
@@ -171,8 +203,8 @@ fn group_of(
     )
 }
 
-// The words of a query, and the answer: the cost and the keys.
-static GROUPS: [(&[&str], &str); 8] = [
+// The words of a query, and the answer: the cost and the keys. Five places of "m" are nearer than those of "r", and three pairs cost 114.
+static GROUPS: [(&[&str], &str); 11] = [
     (&["b"], "10 b1"),
     (&["e"], "0 e1"),
     (&["f", "g"], "5 fg fg"),
@@ -181,6 +213,9 @@ static GROUPS: [(&[&str], &str); 8] = [
     (&["d", "e"], "20 d1 e1"),
     (&["a", "h"], "none"),
     (&["tea", "a"], "none"),
+    (&["m", "r"], "114 m5 r2"),
+    (&["r", "m"], "114 r1 m8"),
+    (&["m", "r", "m"], "114 m5 r2 m5"),
 ];
 
 #[test]

@@ -26,9 +26,9 @@ use term_impacts::Word;
 /// Refuses `Damaged` by a rule that a page of the words by text, of the tree or of its rows breaks; `Disk`, `Stopped` and `Memory` as the
 /// pages do. No page is damaged where the tables and the tree stand.
 ///
-/// Looks at one page a level of the words by text for each word. Then it searches the tree once for each word, and for some words once more,
+/// Looks at one page a level of the words by text for each word. Then it searches the tree once for each word, and for some groups more often,
 /// as [`collective_query::group`] does: it opens the root and nodes below which a place holds one of the words. Each opened node costs a look
-/// at its page and at one page a level of the rows; the root of a second search two.
+/// at its page and at one page a level of the rows; the root of a search in a circle two.
 pub fn chosen<P: Pages>(
     alloc: Global,
     pages: &mut P,
