@@ -66,8 +66,9 @@ fn least_among(alloc: Global, at: &Point, lists: &[Vec<Pick>]) -> Result<Option<
 /// Searches the tree for the five nearest places of each word. Between these all choices are searched, in memory. If the five places of a
 /// word all lie at most as far from the point as the least of these choices costs, the word whose nearest place is farthest leads: one search
 /// for each other word finds its places nearest to that place, and at most one more the lead's places that are no farther than the least choice
-/// costs by then. Round each of these each other word is searched for once, in a circle of the rest of the cost, as long as the words before it
-/// have a place there. A node is opened only where one of the words is held below it, or if it is the root.
+/// costs by then. Round each of these each other word whose five places all lie as near as that is searched for once, in a circle of the rest of
+/// the cost, as long as the words before it have a place there. A node is opened only where one of the words is held below it, or if it is the
+/// root.
 pub fn group<P: Pages>(
     alloc: Global,
     pages: &mut P,
