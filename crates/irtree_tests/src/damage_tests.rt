@@ -1,5 +1,5 @@
 //! What is done over stores that break a rule.
-use crate::runs::{ROOM, RUN, bytes_of, run_on};
+use crate::runs::{ROOM, RUN, bytes_of, number_at, run_on};
 use disk_model::{Area, MemoryStation};
 use irtree_top::{Ended, StoreFault};
 use page_face::{Damage, Rule};
@@ -165,15 +165,6 @@ static BROKEN: [Broken; 13] = [
         met: [false, true, true, true, true],
     },
 ];
-
-// The u32 of a page at an offset.
-fn number_at(pages: &[u8], page: u32, at: u32) -> Result<u32, Fail> {
-    let start = page as usize * 4096 + at as usize;
-    match pages.get(start..start.saturating_add(4)) {
-        Some([a, b, c, d]) => Ok(u32::from_be_bytes([*a, *b, *c, *d])),
-        _ => Err("no such page".into()),
-    }
-}
 
 // The page of a spot.
 fn page_of(pages: &[u8], spot: Spot) -> Result<u32, Fail> {

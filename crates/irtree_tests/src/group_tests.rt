@@ -2,7 +2,7 @@
 ghost use Rattle.std.specs.Prelude.{IfOk};
 ghost use Rattle.query_replies.specs.Reply.{HasReason};
 
-use crate::answer_tests::Dice;
+use crate::dice::Dice;
 use crate::runs::said;
 use irtree_top::Ended;
 use place_map::State;

@@ -119,3 +119,12 @@ pub(crate) fn bytes_of(
     station.read(area, 0, &mut bytes).map_err(|_| "not read")?;
     Ok(bytes)
 }
+
+/// The number of four bytes at an offset of a page, among the bytes of all pages.
+pub(crate) fn number_at(pages: &[u8], page: u32, at: u32) -> Result<u32, Fail> {
+    let start = page as usize * 4096 + at as usize;
+    match pages.get(start..start.saturating_add(4)) {
+        Some([a, b, c, d]) => Ok(u32::from_be_bytes([*a, *b, *c, *d])),
+        _ => Err("no such page".into()),
+    }
+}

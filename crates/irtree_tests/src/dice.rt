@@ -1,0 +1,192 @@
+//! Numbers from a seed, and the points, words and queries that are made of them.
+ghost use Rattle.std.specs.Prelude.{◌<◌};
+
+use std::alloc::{AllocError, Global};
+use std::fmt::Write;
+
+static RADII: [&str; 5] = ["0", "0.5", "2", "20", "500"];
+
+static COUNTS: [&str; 8] = ["1", "1", "2", "7", "7", "40", "40", "1000"];
+
+static SHARES: [&str; 4] = ["0", "300", "500", "1000"];
+
+static REACHES: [&str; 4] = ["0.0000001", "1", "50", "402.4922359"];
+
+/// Where places stand: in clusters, on borders and anywhere; on a line from border to border; at one point; or in two clusters at
+/// opposite corners.
+#[derive(Clone, Copy, Debug)]
+pub(crate) enum Ground {
+    Clusters,
+    Line,
+    Point,
+    Ends,
+}
+
+/// Numbers that follow from a seed, by a linear congruence.
+#[derive(Drop)]
+pub(crate) struct Dice {
+    pub(crate) seed: u64,
+}
+
+impl Dice {
+    /// The next number below this one.
+    pub(crate) fn below(&mut self, most: u32) -> u32
+        requires { 0 < most }
+        ensures { result < most }
+    {
+        let seed = self.seed.wrapping_mul(6_364_136_223_846_793_005);
+        self.seed = seed.wrapping_add(1_442_695_040_888_963_407);
+        ((self.seed >> 33) as u32) % most
+    }
+
+    // A word's number below 40; a lesser one comes more often.
+    fn word(&mut self) -> u32
+        ensures { result < 40 }
+    {
+        let first = self.below(40);
+        first.min(self.below(40))
+    }
+
+    // A point, in thousandths of a degree from the map's south-west corner: a corner, a point of a border, one point among many, any
+    // point, or one in one of twelve clusters.
+    pub(crate) fn point(&mut self) -> (u32, u32) {
+        match self.below(20) {
+            0 => (360_000 * self.below(2), 180_000 * self.below(2)),
+            1 => (360_000, self.below(180_001)),
+            2 | 3 => (185_000, 95_000),
+            4..=6 => (self.below(360_001), self.below(180_001)),
+            _ => {
+                let cluster = self.below(12);
+                let (x, y) = (27_000 * cluster, 13_000 * (cluster * 7 % 12));
+                (
+                    20_000 + x + self.below(2_000),
+                    10_000 + y + self.below(2_000),
+                )
+            }
+        }
+    }
+
+    // A point of such a ground, in the same units.
+    pub(crate) fn point_on(&mut self, ground: Ground) -> (u32, u32) {
+        match ground {
+            Ground::Clusters => self.point(),
+            Ground::Line => (self.below(360_001), 95_000),
+            Ground::Point => (185_000, 95_000),
+            Ground::Ends => {
+                let (x, y) = (self.below(1_000), self.below(1_000));
+                if self.below(2) == 0 {
+                    (x, y)
+                } else {
+                    (360_000 - x, 180_000 - y)
+                }
+            }
+        }
+    }
+
+    // A point that is asked for: one of the ground, or anywhere.
+    fn asked(&mut self, ground: Ground) -> (u32, u32) {
+        if self.below(2) == 0 {
+            self.point_on(ground)
+        } else {
+            self.point()
+        }
+    }
+}
+
+// Writes degrees: so many thousandths, from this many below 0.
+fn write_degrees(line: &mut String, number: u32, below: u32) -> Result<(), AllocError> {
+    let sign = if number < below { "-" } else { "" };
+    let size = number.abs_diff(below);
+    write!(line, " {sign}{}.{:03}", size / 1_000, size % 1_000)
+}
+
+pub(crate) fn write_point(line: &mut String, point: (u32, u32)) -> Result<(), AllocError> {
+    write_degrees(line, point.0, 180_000)?;
+    write_degrees(line, point.1, 90_000)
+}
+
+// Writes up to five words.
+pub(crate) fn write_words(line: &mut String, dice: &mut Dice) -> Result<(), AllocError> {
+    for _ in 0..dice.below(6) {
+        write!(line, " w{:02}", dice.word())?;
+    }
+    Ok(())
+}
+
+// Writes a filter, or none.
+fn write_filter(line: &mut String, dice: &mut Dice) -> Result<(), AllocError> {
+    let (a, b, c) = (dice.word(), dice.word(), dice.word());
+    match dice.below(8) {
+        0 => write!(line, " where w{a:02}"),
+        1 => write!(line, " where not w{a:02}"),
+        2 => write!(line, " where w{a:02} and w{b:02}"),
+        3 => write!(line, " where w{a:02} or w{b:02}"),
+        4 => write!(line, " where w{a:02} and not (w{b:02} or w{c:02})"),
+        5 => write!(line, " where not (w{a:02} and w{b:02}) or w{c:02}"),
+        _ => Ok(()),
+    }
+}
+
+// Writes a box with these two points at opposite corners.
+fn write_box(line: &mut String, first: (u32, u32), second: (u32, u32)) -> Result<(), AllocError> {
+    write_point(line, (first.0.min(second.0), first.1.min(second.1)))?;
+    write_point(line, (first.0.max(second.0), first.1.max(second.1)))
+}
+
+// Writes what a top query asks for behind its point: two different words, of which a store may know none.
+fn write_ranking(line: &mut String, dice: &mut Dice) -> Result<(), AllocError> {
+    let count = COUNTS[dice.below(8) as usize];
+    let share = SHARES[dice.below(4) as usize];
+    let reach = REACHES[dice.below(4) as usize];
+    let (even, odd) = (2 * dice.below(22), 2 * dice.below(22) + 1);
+    write!(
+        line,
+        " {count} {share} {reach} words w{even:02}*3 w{odd:02}"
+    )
+}
+
+// A query of each kind in turn; a group query, whose cost is that of many choices, comes seldom.
+pub(crate) fn query_line(
+    alloc: Global,
+    dice: &mut Dice,
+    turn: u32,
+    ground: Ground,
+) -> Result<String, AllocError> {
+    let mut line = String::new(alloc);
+    let (first, second) = (dice.asked(ground), dice.asked(ground));
+    match turn % 17 {
+        0 => {
+            line.push_str("group")?;
+            write_point(&mut line, first)?;
+            write!(
+                line,
+                " words w{:02} w{:02}",
+                2 * dice.below(20),
+                2 * dice.below(20) + 1
+            )?;
+        }
+        1..=4 => {
+            line.push_str("range")?;
+            write_point(&mut line, first)?;
+            write!(line, " {}", RADII[dice.below(5) as usize])?;
+            write_filter(&mut line, dice)?;
+        }
+        5..=8 => {
+            line.push_str("box")?;
+            write_box(&mut line, first, second)?;
+            write_filter(&mut line, dice)?;
+        }
+        9..=12 => {
+            line.push_str("nearest")?;
+            write_point(&mut line, first)?;
+            write!(line, " {}", COUNTS[dice.below(8) as usize])?;
+            write_filter(&mut line, dice)?;
+        }
+        _ => {
+            line.push_str("top")?;
+            write_point(&mut line, first)?;
+            write_ranking(&mut line, dice)?;
+        }
+    }
+    Ok(line)
+}
