@@ -13,7 +13,7 @@ use std::fmt::Write;
 use std::test::Fail;
 
 // How many maps are tried, how many places each has at most, and how many groups are asked for in each.
-const MAPS: u32 = 400;
+const MAPS: u32 = 2_000;
 
 const PLACES: u32 = 14;
 
@@ -22,24 +22,83 @@ const GROUPS: u32 = 5;
 // Words that many places hold, some, and few.
 static WORDS: [&str; 6] = ["a", "b", "c", "d", "e", "f"];
 
-// Adds the words whose turn it is: the nth of them stands with a chance of one in n + 2.
-fn write_words(line: &mut String, dice: &mut Dice) -> Result<(), Fail> {
-    for (n, word) in WORDS.iter().enumerate() {
-        if dice.below((n as u32).saturating_add(2)) == 0 {
-            write!(line, " {word}")?;
-        }
-    }
-    Ok(())
+// A place of a map: its point on a small grid, and its words, the nth of them at bit n.
+#[derive(Clone, Copy)]
+struct Spot {
+    x: u32,
+    y: u32,
+    words: u32,
 }
 
-// A line that puts a place on a small grid, so that many stand at one point.
-fn add_line(alloc: Global, number: u32, dice: &mut Dice) -> Result<String, Fail> {
+// The nth word is among the words with a chance of one in n + 2.
+fn words_of(dice: &mut Dice) -> u32 {
+    let mut words = 0;
+    for n in 0..6 {
+        if dice.below(n + 2) == 0 {
+            words |= 1 << n;
+        }
+    }
+    words
+}
+
+// The places of a map: on so small a grid many stand at one point.
+fn spots(alloc: Global, dice: &mut Dice) -> Result<Vec<Spot>, Fail> {
+    let mut spots = Vec::new(alloc);
+    for _ in 0..dice.below(PLACES).saturating_add(1) {
+        let (x, y) = (dice.below(5), dice.below(4));
+        let words = words_of(dice);
+        spots.push(Spot { x, y, words })?;
+    }
+    Ok(spots)
+}
+
+// A line that puts a place.
+fn add_line(alloc: Global, number: usize, dice: &mut Dice, spot: &Spot) -> Result<String, Fail> {
     let mut line = String::new(alloc);
     let key = dice.below(90);
-    let (x, y) = (dice.below(5), dice.below(4));
-    write!(line, "add k{key}n{number} {x} {y}")?;
-    write_words(&mut line, dice)?;
+    write!(line, "add k{key}n{number} {} {}", spot.x, spot.y)?;
+    let mut left = spot.words;
+    for word in &WORDS {
+        if left & 1 == 1 {
+            write!(line, " {word}")?;
+        }
+        left >>= 1;
+    }
     Ok(line)
+}
+
+// How many places have the word of a bit.
+fn holders(spots: &[Spot], bit: u32) -> usize {
+    spots.iter().filter(|spot| spot.words & bit != 0).count()
+}
+
+// How many places stand where this one does and have one of its words: it, if it has any, and those that tie with it for the word.
+fn rivals(spots: &[Spot], one: &Spot) -> usize {
+    spots
+        .iter()
+        .filter(|spot| spot.x == one.x && spot.y == one.y && spot.words & one.words != 0)
+        .count()
+}
+
+// How many maps have a word that one place alone has, and how many have two places with the same word at one point.
+#[derive(Clone, Copy)]
+struct Seen {
+    lone: u32,
+    tied: u32,
+}
+
+impl Seen {
+    fn note(&mut self, spots: &[Spot]) {
+        if [1, 2, 4, 8, 16, 32]
+            .iter()
+            .any(|bit| holders(spots, *bit) == 1)
+        {
+            self.lone = self.lone.saturating_add(1);
+        }
+        if spots.iter().any(|spot| rivals(spots, spot) > 1) {
+            self.tied = self.tied.saturating_add(1);
+        }
+    }
 }
 
 // A line that asks for a group of one to four words, from a point on the grid or between its points.
@@ -58,10 +117,12 @@ fn group_line(alloc: Global, dice: &mut Dice) -> Result<String, Fail> {
 }
 
 // The lines of a script over one small map.
-fn small_map(alloc: Global, dice: &mut Dice) -> Result<Vec<String>, Fail> {
+fn small_map(alloc: Global, dice: &mut Dice, seen: &mut Seen) -> Result<Vec<String>, Fail> {
+    let spots = spots(alloc, dice)?;
+    seen.note(&spots);
     let mut lines = Vec::new(alloc);
-    for number in 0..dice.below(PLACES).saturating_add(1) {
-        lines.push(add_line(alloc, number, dice)?)?;
+    for (number, spot) in spots.iter().enumerate() {
+        lines.push(add_line(alloc, number, dice, spot)?)?;
     }
     for _ in 0..GROUPS {
         lines.push(group_line(alloc, dice)?)?;
@@ -90,8 +151,9 @@ fn scanned(alloc: Global, state: &mut State, line: &[u8]) -> Result<Reply, Fail>
 #[test]
 fn groups_are_those_of_the_scan(rt: HostRuntime) -> Result<(), Fail> {
     let mut dice = Dice { seed: 7 };
+    let mut seen = Seen { lone: 0, tied: 0 };
     for _ in 0..MAPS {
-        let lines = small_map(rt.alloc(), &mut dice)?;
+        let lines = small_map(rt.alloc(), &mut dice, &mut seen)?;
         let mut script = String::new(rt.alloc());
         let mut wanted = Vec::new(rt.alloc());
         let mut state = State::new(rt.alloc());
@@ -104,5 +166,7 @@ fn groups_are_those_of_the_scan(rt: HostRuntime) -> Result<(), Fail> {
         assert!(rt; ended == Ended::Done);
         assert!(rt; replies == wanted, "{script}");
     }
+    assert!(rt; seen.lone > MAPS / 4);
+    assert!(rt; seen.tied > MAPS / 4);
     Ok(())
 }
