@@ -1,11 +1,49 @@
 //! What scripts say under each policy.
 use crate::runs::{ROOM, RUN, run_by};
 use disk_model::{MemorySource, MemoryStation};
+use irtree_engine::Engine;
 use irtree_top::Ended;
+use spatial_base::Rect;
 use split_policy::{Halving, Quadratic, SplitPolicy};
 use std::alloc::{AllocError, Global};
 use std::fmt::Write;
+use std::rc::Rc;
 use std::test::Fail;
+
+// A policy that holds a token, of which there are as many as there are such policies, and one more.
+#[derive(Drop)]
+struct Tokened {
+    policy: Quadratic,
+    token: Rc<u8, Global>,
+}
+
+impl SplitPolicy for Tokened {
+    ghost count = { λ it. it.policy };
+
+    ghost chooses = { λ _ _ _ _ _ _. Unit {0} };
+
+    ghost splits_by = { λ _ _ _ _. Unit {0} };
+
+    fn choose(&mut self, used: u32, rects: &[Rect; 32], add: &Rect, shared: &[u32; 32]) -> u8 {
+        self.policy.choose(used, rects, add, shared)
+    }
+
+    fn split(&mut self, rects: &[Rect; 33], like: &[[u32; 33]; 33]) -> u64 {
+        self.policy.split(rects, like)
+    }
+
+    fn splits(&self) -> u64 {
+        self.policy.splits()
+    }
+}
+
+// A policy with a token like this one.
+fn policy_with(token: &Rc<u8, Global>) -> Result<Tokened, AllocError> {
+    Ok(Tokened {
+        policy: Quadratic::new(),
+        token: Rc::clone(token)?,
+    })
+}
 
 // A script that stores 33 places in a line, one more than a node of the tree holds, and removes two thirds of them.
 fn line_of_places(alloc: Global) -> Result<String, AllocError> {
@@ -53,5 +91,57 @@ fn both_policies_give_the_same_replies(rt: HostRuntime) -> Result<(), Fail> {
     let halving = Box::new(rt.alloc(), Halving::new())?;
     assert!(rt; told_by(rt.alloc(), quadratic)?.as_slice() == wanted.as_bytes());
     assert!(rt; told_by(rt.alloc(), halving)?.as_slice() == wanted.as_bytes());
+    Ok(())
+}
+
+// Whether an opening with this policy is refused.
+fn is_refused(alloc: Global, station: &mut MemoryStation, policy: Box<dyn SplitPolicy>) -> bool {
+    match Engine::open(alloc, station, 0, policy) {
+        Ok(engine) => {
+            let _loan = engine.into_disk();
+            false
+        }
+        Err(_) => true,
+    }
+}
+
+// How many tokens there are behind an opening with the first policy, behind a change to the second one, and behind the engine's close.
+fn counts_of(
+    alloc: Global,
+    token: &Rc<u8, Global>,
+    first: Box<dyn SplitPolicy>,
+    second: Box<dyn SplitPolicy>,
+) -> Result<[usize; 3], Fail> {
+    let mut station = MemoryStation::new(alloc, ROOM);
+    let mut engine = Engine::open(alloc, &mut station, 0, first)?;
+    let opened = Rc::strong_count(token);
+    engine.set_policy(second);
+    let changed = Rc::strong_count(token);
+    engine.close()?;
+    Ok([opened, changed, Rc::strong_count(token)])
+}
+
+#[test]
+fn each_policy_is_let_go_once(rt: HostRuntime) -> Result<(), Fail> {
+    let token = Rc::new(rt.alloc(), 0)?;
+
+    // By an opening that is refused.
+    let mut foreign = MemoryStation::with_image(rt.alloc(), &[120; 4096], &[0, 7], ROOM)?;
+    let policy = Box::new(rt.alloc(), policy_with(&token)?)?;
+    assert_eq!(rt; Rc::strong_count(&token), 2);
+    assert!(rt; is_refused(rt.alloc(), &mut foreign, policy));
+    assert_eq!(rt; Rc::strong_count(&token), 1);
+
+    // By another one in its place, and by a close.
+    let first = Box::new(rt.alloc(), policy_with(&token)?)?;
+    let second = Box::new(rt.alloc(), policy_with(&token)?)?;
+    assert_eq!(rt; counts_of(rt.alloc(), &token, first, second)?, [3, 2, 1]);
+
+    // By a run.
+    let mut empty = MemorySource::new(rt.alloc(), b"", 1, &[]).map_err(|_| "memory")?;
+    let policy = Box::new(rt.alloc(), policy_with(&token)?)?;
+    let (ended, _) = run_by(rt.alloc(), &RUN, &mut empty, policy)?;
+    assert!(rt; ended == Ended::Done);
+    assert_eq!(rt; Rc::strong_count(&token), 1);
     Ok(())
 }
