@@ -22,6 +22,8 @@ mod log_tests;
 #[cfg(test)]
 mod make_tests;
 #[cfg(test)]
+mod order_tests;
+#[cfg(test)]
 mod policy_tests;
 #[cfg(test)]
 mod runs;
