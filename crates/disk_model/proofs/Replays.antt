@@ -275,6 +275,19 @@ module _ (first : State) (made : List Call) (f g f2 g2 : ℕ) where
         time = elapses call _ (λ image said more. ⊎_elim (λ d. inr d) (λ d. inr (d.0, (n, d.1))) more);
       }
 
+  pub has_not_said : (piece : Vec ℕ Global) (e : Failed) → HasSaid piece.items (world_of first made f g) (world_of first (made ++ calls.Say piece 0 ∷ []) f2 g2) (Err e)
+  has_not_said piece e =
+      let call = calls.Say piece 0 in
+      let one : replay first (made ++ call ∷ []) ≡ step (replay first made) call = replay-more first made call in
+      record {
+        seen = ap (λ (s : State). s.seen) one;
+        reads = reads_more made call ∙ append-nil (reads_in made);
+        said = tt;
+        said_err = (0, ap (λ (s : State). s.said) one);
+        crash = λ image may. subst (λ (s : State). MayLeave s image) one may;
+        time = elapses call _ (λ image said more. ⊎_elim (λ d. inr d) (λ d. inr (d.0, (0, d.1))) more);
+      }
+
   pub has_said_none : (piece : List ℕ) (e : Failed) → HasSaid piece (world_of first made f g) (world_of first made f2 g2) (Err e)
   has_said_none piece e = record {
     seen = refl;
@@ -341,6 +354,11 @@ module _ (first : State) (made later : List Call) (f g f2 g2 : ℕ) where
   say_done piece copy n is same =
       subst (λ (l : List Call). HasSaid piece (world_of first made f g) (world_of first l f2 g2) (Ok n)) (sym is)
       (subst (λ (bs : List ℕ). HasSaid bs (world_of first made f g) (world_of first (made ++ calls.Say copy n ∷ []) f2 g2) (Ok n)) same (has_said first made f g f2 g2 copy n))
+
+  pub say_failed : (piece : List ℕ) (copy : Vec ℕ Global) (e : Failed) → later ≡ made ++ calls.Say copy 0 ∷ [] → copy.items ≡ piece → HasSaid piece (world_of first made f g) (world_of first later f2 g2) (Err e)
+  say_failed piece copy e is same =
+      subst (λ (l : List Call). HasSaid piece (world_of first made f g) (world_of first l f2 g2) (Err e)) (sym is)
+      (subst (λ (bs : List ℕ). HasSaid bs (world_of first made f g) (world_of first (made ++ calls.Say copy 0 ∷ []) f2 g2) (Err e)) same (has_not_said first made f g f2 g2 copy e))
 
   pub say_lost : (piece : List ℕ) (e : Failed) → later ≡ made → HasSaid piece (world_of first made f g) (world_of first later f2 g2) (Err e)
   say_lost piece e is = subst (λ (l : List Call). HasSaid piece (world_of first made f g) (world_of first l f2 g2) (Err e)) (sym is) (has_said_none first made f g f2 g2 piece e)

@@ -16,7 +16,8 @@ use std::alloc::{AllocError, Global};
 /// gives what a crash may leave.
 ///
 /// A call fails exactly where it is a listed one, comes after the stop, or finds no memory for the record of calls.
-/// Each failure is counted. The record keeps what was written and said, so the memory grows by that.
+/// Each failure is counted. The record has each call that found memory for it, a failed one too. It keeps what was written and said, so the
+/// memory grows by that.
 #[derive(Drop)]
 pub struct MemoryStation {
     pub(crate) alloc: Global,
@@ -300,12 +301,15 @@ impl Station for MemoryStation {
         ensures whole { IfOk result (λ n. n ≡ length bytes.now) }
     {
         let due = self.plan.next(CallKind::Say);
-        if due {
-            return Err(failing(&mut self.sink_faults));
-        }
         let Ok(copy) = bytes.to_vec(self.alloc) else {
             return Err(lacking(&mut self.lacks, &mut self.sink_faults));
         };
+        if due {
+            let Ok(()) = note(&mut self.made, Call::Say(copy, 0)) else {
+                return Err(lacking(&mut self.lacks, &mut self.sink_faults));
+            };
+            return Err(failing(&mut self.sink_faults));
+        }
         let old = self.said.len();
         let Ok(()) = append(&mut self.said, bytes) else {
             return Err(lacking(&mut self.lacks, &mut self.sink_faults));
