@@ -12,10 +12,12 @@ use std::alloc::Global;
 use std::fmt::Write;
 use std::test::Fail;
 
-// How many maps are tried, how many places each has at most, and how many groups are asked for in each.
+// How many maps are tried, how many places each has at most, or one in ten of them, and how many groups are asked for in each.
 const MAPS: u32 = 2_000;
 
 const PLACES: u32 = 14;
+
+const MORE_PLACES: u32 = 40;
 
 const GROUPS: u32 = 5;
 
@@ -44,7 +46,11 @@ fn words_of(dice: &mut Dice) -> u32 {
 // The places of a map: on so small a grid many stand at one point.
 fn spots(alloc: Global, dice: &mut Dice) -> Result<Vec<Spot>, Fail> {
     let mut spots = Vec::new(alloc);
-    for _ in 0..dice.below(PLACES).saturating_add(1) {
+    let most = match dice.below(10) {
+        0 => MORE_PLACES,
+        _ => PLACES,
+    };
+    for _ in 0..dice.below(most).saturating_add(1) {
         let (x, y) = (dice.below(5), dice.below(4));
         let words = words_of(dice);
         spots.push(Spot { x, y, words })?;
