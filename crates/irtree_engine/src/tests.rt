@@ -200,19 +200,19 @@ fn told_of(
 fn what_was_applied_stands_after_reopening(rt: HostRuntime) -> Result<(), Fail> {
     let mut station = MemoryStation::new(rt.alloc(), 30);
     let policy = Box::new(rt.alloc(), Quadratic::new())?;
-    let another = Box::new(rt.alloc(), Halving::new())?;
     let mut engine = Engine::open(rt.alloc(), &mut station, 0, policy)?;
     let answers = apply_some(rt.alloc(), &mut engine);
     let splits = engine.splits();
-    let _loan = engine.into_disk();
-    let mut engine = Engine::open(rt.alloc(), &mut station, 0, another)?;
-    let told = told_of(rt.alloc(), &mut engine);
     let _loan = engine.into_disk();
     assert_eq!(rt;
         answers?,
         [Applied::New, Applied::Replaced, Applied::Absent]
     );
     assert_eq!(rt; splits, 0);
+    let another = Box::new(rt.alloc(), Halving::new())?;
+    let mut engine = Engine::open(rt.alloc(), &mut station, 0, another)?;
+    let told = told_of(rt.alloc(), &mut engine);
+    let _loan = engine.into_disk();
     let (count, is_shown, keys) = told?;
     assert_eq!(rt; count, 1);
     assert!(rt; !is_shown);
