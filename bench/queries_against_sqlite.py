@@ -35,7 +35,7 @@ def database(rows, path):
     base.execute("pragma cache_size=-262144")
     base.execute("create table places(id integer primary key, key text unique, x real, y real, text text)")
     base.execute("create virtual table box using rtree(id, west, east, south, north)")
-    base.execute("create virtual table words using fts5(text, content='')")
+    base.execute("create virtual table words using fts5(text, content='', tokenize='unicode61 remove_diacritics 0')")
     base.execute("begin")
     for i, (key, x, y, text) in enumerate(rows):
         base.execute("insert into places values(?,?,?,?,?)", (i, key, x, y, text))
