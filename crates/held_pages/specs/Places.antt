@@ -1,6 +1,5 @@
 -- Where the pages in memory lie, and what is known of them.
-use Rattle.std.specs.Prelude.{◌≡◌, ℕ, List, Option, Some, nat_eq}
-use Rattle.std.specs.HashMap.{get}
+use Rattle.std.specs.Prelude.{◌≡◌, ◌%◌, ◌==◌, if◌then◌else◌, ℕ, List, Option, Some, None, slice_index_or}
 use Rattle.page_face.specs.Sound.{IsSound}
 use Rattle.page_face.specs.declared.seal.Seal.{Seal}
 use Rattle.page_cache.specs.Pairs.{bytes_at, first_bytes, pairs_of}
@@ -9,6 +8,7 @@ use Rattle.held_pages.specs.Pages.{PageTable, first_of, first_page, page_at, pag
 use Rattle.held_pages.specs.declared.place.Place.{Place}
 use Rattle.held_pages.specs.declared.place.Place.TheVariants as places
 use Rattle.held_pages.specs.declared.seals.Seals.{Seals}
+use Rattle.held_pages.specs.declared.seals.SealedPage.{SealedPage}
 
 -- the page of the journal, or else of the cache
 abbrev pub page_behind : PageTable → Cache → ℕ → Option (List ℕ)
@@ -25,9 +25,14 @@ looked_page (places.Journal index) overlay journal cache spare = first_of (page_
 looked_page places.Cache overlay journal cache spare = first_of (first_bytes (pairs_of cache)) spare
 looked_page places.Spare overlay journal cache spare = spare
 
--- what a page is sealed as
+-- the seal in a slot, if the slot is this page's
+abbrev pub seal_in : ℕ → Option SealedPage → Option Seal
+seal_in n (Some sealed) = if sealed.page == n then Some (record { map = sealed.map; key = sealed.key; value = sealed.value; level = sealed.level }) else None
+seal_in n None = None
+
+-- what a page is sealed as, by the one slot that may have its seal
 abbrev pub seal_of : Seals → ℕ → Option Seal
-seal_of seals n = get nat_eq seals.by_page n
+seal_of seals n = seal_in n (slice_index_or seals.slots.items (n % 65536) None)
 
 -- Each seal is true of the page that is held at its number.
 pub record AreTrue (seals : Seals) (overlay : PageTable) (journal : PageTable) (cache : Cache) : Type 0 where

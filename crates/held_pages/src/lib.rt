@@ -4,6 +4,7 @@
 //! ([`put_in_order`], [`put_back`]) and a checkpoint ([`fill`], [`retire`]); they move in their boxes and are never copied.
 #![tactic(auto)]
 
+mod hints;
 mod order;
 mod place;
 mod rooms;
@@ -13,6 +14,7 @@ mod table;
 mod tests;
 mod written;
 
+pub use hints::Hints;
 pub use order::{put_back, put_in_order};
 pub use place::{Place, find, keep, lend};
 pub use rooms::{fill, make_room, retire};

@@ -4,7 +4,8 @@ ghost use Rattle.page_cache.specs.Pairs.{bytes_at, first_bytes, pairs_of, room_o
 ghost use Rattle.held_pages.specs.Pages.{first_of};
 ghost use Rattle.held_pages.specs.Places.{held_page, looked_page};
 
-use crate::table::{PageTable, index_of, page_of};
+use crate::hints::Hints;
+use crate::table::{PageTable, index_of, is_at, page_of};
 use page_cache::Cache;
 use page_face::Page;
 
@@ -36,15 +37,26 @@ impl Place {
 
 /// Where memory holds a page: in the overlay, else among the journal's pages, else in the cache, where it goes to the front.
 ///
-/// Costs one look-up in each of the three up to the one that has it.
+/// Costs one look-up in each of the three up to the one that has it, and none for a page of the overlay that is where it was found before.
 #[inline(always)]
-pub fn find(overlay: &PageTable, journal: &PageTable, cache: &mut Cache, page: u32) -> Place
+pub fn find(
+    hints: &mut Hints,
+    overlay: &PageTable,
+    journal: &PageTable,
+    cache: &mut Cache,
+    page: u32,
+) -> Place
     ensures none { result ≡ Place.Spare → held_page overlay.now journal.now cache.old page ≡ None }
     ensures some { result ≢ Place.Spare → (spare : List ℕ) → held_page overlay.now journal.now cache.new page ≡ Some (looked_page result overlay.now journal.now cache.new spare) }
     ensures same { (n : ℕ) → bytes_at n (pairs_of cache.new) ≡ bytes_at n (pairs_of cache.old) }
     ensures room { room_of cache.new ≡ room_of cache.old }
 {
+    let hint = hints.index_of(page);
+    if is_at(overlay, hint, page) {
+        return Place::Overlay(hint);
+    }
     if let Some(index) = index_of(overlay, page) {
+        hints.note(page, index);
         return Place::Overlay(index);
     }
     if let Some(index) = index_of(journal, page) {

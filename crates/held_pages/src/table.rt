@@ -1,5 +1,5 @@
 //! Pages by their numbers.
-ghost use Rattle.std.specs.Prelude.{◌≡◌, ◌≢◌, ◌+◌, ◌-◌, ◌^◌, ◌<◌, ◌≤◌, ℕ, None, Some, [], IsSome, IfSome, IfNone, OnOk, OnErr, IfErr, length, nat_eq, option_copied, suc};
+ghost use Rattle.std.specs.Prelude.{◌≡◌, ◌≢◌, ◌+◌, ◌-◌, ◌^◌, ◌<◌, ◌≤◌, ℕ, None, Some, [], IsSome, IsTrue, IfSome, IfNone, OnOk, OnErr, IfErr, length, nat_eq, option_copied, suc};
 ghost use Rattle.indexmap.specs.IndexMap.{Updates, get, spare};
 ghost use Rattle.held_pages.specs.Pages.{IsSized, first_page, page_at, page_in};
 
@@ -10,12 +10,26 @@ use std::alloc::Global;
 /// Pages by their numbers, each in a box of its own. A page is found by one look-up and then lent by its index.
 pub type PageTable = IndexMap<u32, Box<Page>>;
 
-// Where a page lies. Costs one look-up.
+// Whether a page lies at an index. Costs no look-up.
+#[inline(always)]
+pub(crate) fn is_at(table: &PageTable, index: usize, number: u32) -> bool
+    ensures { IsTrue result → IsSome (page_in table.now number) × (page_at table.now index ≡ page_in table.now number) }
+{
+    match table.get_index(index) {
+        Some((found, _)) => *found == number,
+        None => false,
+    }
+}
+
+// Where a page lies. Costs one look-up, and none in an empty table.
 #[inline(always)]
 pub(crate) fn index_of(table: &PageTable, number: u32) -> Option<usize>
     ensures none { IfNone result (page_in table.now number ≡ None) }
     ensures some { IfSome result (λ index. IsSome (page_in table.now number) × (page_at table.now index ≡ page_in table.now number)) }
 {
+    if table.is_empty() {
+        return None;
+    }
     match table.get_full(&number) {
         Some((index, _, _)) => Some(index),
         None => None,

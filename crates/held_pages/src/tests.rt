@@ -19,5 +19,13 @@ fn a_seal_stays_until_it_is_dropped(rt: HostRuntime) -> Result<(), Failure> {
     assert!(rt; !seals.has(2, seal));
     seals.forget(1);
     assert!(rt; !seals.has(1, seal));
+    // Page 65,537 has the slot of page 1.
+    seals.note(1, seal);
+    seals.note(65_537, seal);
+    assert!(rt; !seals.has(1, seal));
+    seals.forget(1);
+    assert!(rt; seals.has(65_537, seal));
+    seals.clear();
+    assert!(rt; !seals.has(65_537, seal));
     Ok(())
 }

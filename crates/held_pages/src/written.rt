@@ -13,7 +13,7 @@ use std::alloc::Global;
 
 /// Puts a page into an overlay of fewer than 2^32 - 1 pages, and keeps it so. The page has no seal then.
 ///
-/// Refuses `Memory`, and then the overlay is as before. Costs two or three look-ups and a copy of the page; a page that is there already is
+/// Refuses `Memory`, and then the overlay is as before. Costs one or two look-ups and a copy of the page; a page that is there already is
 /// written in place.
 pub fn write(
     alloc: Global,
@@ -38,7 +38,7 @@ pub fn write(
 
 /// Puts a page that is sound into an overlay, as [`write`], and notes its seal, unless there is no memory for that.
 ///
-/// Refuses `Memory`, and then the overlay is as before. Costs as much as `write`, and one look-up more.
+/// Refuses `Memory`, and then the overlay is as before. Costs as much as `write`.
 pub fn write_sealed(
     alloc: Global,
     overlay: &mut PageTable,

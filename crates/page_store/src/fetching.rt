@@ -51,7 +51,13 @@ impl<'d, D: Disk> Store<'d, D> {
         ensures stopped { self.new.stopped ≡ self.old.stopped }
     {
         self.at = page;
-        self.place = held_pages::find(&self.overlay, &self.journal, &mut self.cache, page);
+        self.place = held_pages::find(
+            &mut self.hints,
+            &self.overlay,
+            &self.journal,
+            &mut self.cache,
+            page,
+        );
         self.place.is_held()
     }
 

@@ -16,7 +16,7 @@ ghost use Rattle.page_store.specs.Opening.{IsOpened, IsNoStore, SaysNothingReads
 use crate::opening::{OpenFault, recover_superblock};
 use crate::superblock::Superblock;
 use disk_model::{Disk, Failed, Station};
-use held_pages::{PageTable, Place, Seals};
+use held_pages::{Hints, PageTable, Place, Seals};
 use page_cache::Cache;
 use page_face::{Damage, Head, Page};
 use std::alloc::Global;
@@ -29,15 +29,16 @@ use std::collections::BTreeMap;
 /// commit or a checkpoint that fails stops the store: from then on every call of the pages returns `Stopped`, and the store is to be
 /// opened again. No call of the pages changes the head.
 ///
-/// Cost: `look` is one look-up in a hash table for a page of the overlay, one more, among the journal's pages, for one of those, and a third,
-/// in the cache, for a cached one; none of these calls the disk or copies a page. A page that is in none is read from the disk, where that is
-/// one call, and copied once into the cache. `looked` makes no look-up, since `look` notes where the page lies; `is_sealed` and `seal` make
-/// one. `read` is a `look` and a copy of the page, and a `take` of a free page a `look` at it. `write` and `give_back` put one page into the
-/// overlay, where that is three look-ups at most, `write_sealed` makes one more for the seal; they make no call of the disk.
+/// Cost: `look` is one look-up in a hash table for a page of the overlay, or none where it lies at the index where a `look` found it last; one
+/// more, among the journal's pages, for one of those, and a third, in the cache, for a cached one; none of these calls the disk or copies a
+/// page. A page that is in none is read from the disk, where that is one call, and copied once into the cache. `looked`, `is_sealed` and
+/// `seal` make no look-up: `look` notes where the page lies, and a seal has its slot by the page's number. `read` is a `look` and a copy of
+/// the page, and a `take` of a free page a `look` at it. `write`, `write_sealed` and `give_back` put one page into the overlay, where that is
+/// two look-ups at most; they make no call of the disk.
 ///
 /// The overlay holds each page written since the last commit once, the journal's pages take some 16 MiB at most beside those of one commit,
-/// and the cache holds as many pages as it was made for. Pages are put in the order of their numbers for a commit and for a checkpoint, which
-/// is a search of an ordered map for each. A checkpoint moves the journal's pages into the cache.
+/// the cache holds as many pages as it was made for, and seals and hints take 1.25 MiB at most. Pages are put in the order of their numbers
+/// for a commit and for a checkpoint, which is a search of an ordered map for each. A checkpoint moves the journal's pages into the cache.
 #[derive(Drop)]
 pub struct Store<'d, D: Disk> {
     pub(crate) alloc: Global,
@@ -59,6 +60,8 @@ pub struct Store<'d, D: Disk> {
     // committed pages, the one used last first
     pub(crate) cache: Cache,
     pub(crate) seals: Seals,
+    // where pages of the overlay were found last
+    pub(crate) hints: Hints,
     // number and place of the page looked at last, and the page itself where memory holds it by no number
     pub(crate) at: u32,
     pub(crate) place: Place,
@@ -143,6 +146,7 @@ impl<'d, D: Disk> Store<'d, D> {
             stopped: false,
             cache: cache_of(alloc, cache),
             seals: Seals::new(alloc),
+            hints: Hints::new(alloc),
             at: 0,
             place: Place::Spare,
             spare: [0; 4096],
@@ -168,6 +172,7 @@ impl<'d, D: Disk> Store<'d, D> {
             stopped: _,
             cache: _,
             seals: _,
+            hints: _,
             at: _,
             place: _,
             spare: _,
