@@ -5,3 +5,4 @@ pub mod Rows
 pub mod Maps
 pub mod Removes
 pub mod Spots
+pub mod Drafts

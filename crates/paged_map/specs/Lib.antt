@@ -2,3 +2,4 @@ pub mod Answers
 pub mod Maps
 pub mod Edits
 pub mod Spots
+pub mod Drafts

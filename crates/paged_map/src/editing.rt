@@ -92,8 +92,8 @@ pub fn cut_of(form: Form, count: usize, spot: Spot) -> Cut
     }
 }
 
-// Fills a page of zeros with a leaf of `count` rows: the cells of `old` with two pieces in place of those that are cut.
-fn fill_leaf(
+/// Fills a page of zeros with a leaf of `count` rows: the cells of `old` with two pieces in place of those that are cut.
+pub fn fill_leaf(
     out: &mut Page,
     old: &Page,
     form: Form,

@@ -88,8 +88,8 @@ fn copy_key(page: &Page, form: Form, at: usize, found: &mut [u8])
     found.copy_from_slice(key_of(page, form.key, form.key + form.value, at));
 }
 
-// The value of the row at this place.
-fn copy_value(page: &Page, form: Form, at: usize, value: &mut [u8])
+/// The value of the row at this place.
+pub fn copy_value(page: &Page, form: Form, at: usize, value: &mut [u8])
     requires value { length value.old ≡ form.value }
     requires fits { 16 + (form.key + form.value) * at + (form.key + form.value) ≤ 4096 }
     ensures { value.new ≡ drop form.key (take (form.key + form.value) (drop (16 + (form.key + form.value) * at) page.now)) }

@@ -7,6 +7,8 @@
 //! lose no page: each page that was the map's, free or newly counted is then in exactly one of them.
 #![tactic(auto)]
 
+mod draft;
+mod drafting;
 mod editing;
 mod finding;
 mod layout;
@@ -15,6 +17,7 @@ mod putting;
 mod removing;
 mod replacing;
 
+pub use draft::LeafDraft;
 pub use layout::Layout;
 pub use map::PagedMap;
 pub use replacing::RowSpot;

@@ -8,9 +8,11 @@ ghost use Rattle.btree_nodes.specs.Rows.{lookup, first_from, put, without};
 ghost use Rattle.btree_nodes.specs.Tree.{IsMap, map_rows, map_uses};
 ghost use Rattle.btree_nodes.specs.Damages.{AreTold, AskedSince, AsksOnly, IsRefusedTake};
 ghost use Rattle.paged_map.specs.Answers.{HoldsRow, Locates};
+ghost use Rattle.paged_map.specs.Drafts.{Drafts, IsKeyOf, IsLeafDraft};
 ghost use Rattle.paged_map.specs.Maps.{AreCounted, IsMapDamaged, IsKept, HasBecome};
 ghost use Rattle.paged_map.specs.Spots.{IsSpot, leaf_of};
 
+use crate::draft::LeafDraft;
 use crate::finding::{find_below, first_below};
 use crate::layout::{Layout, form_of};
 use crate::putting::put_row;
@@ -160,6 +162,43 @@ impl<L: Layout> PagedMap<L> {
             return Ok(None);
         }
         first_below(pages, form_of::<L>(), self.root, key, found, value)
+    }
+
+    /// Copies the leaf that a key belongs to into a draft of the map's form, in which rows are then changed in memory, and returns whether there
+    /// is one: the empty map has none.
+    ///
+    /// Refuses as [`PagedMap::get`]. Looks at one page a level, writes none, and copies the leaf.
+    pub fn draft<P: Pages>(
+        &self,
+        pages: &mut P,
+        key: &[u8],
+        draft: &mut LeafDraft,
+    ) -> Result<bool, PageFault>
+        requires key { length key.now ≡ L.KEY }
+        requires form { draft.old.form ≡ L.form }
+        ensures form { draft.new.form ≡ L.form }
+        ensures sound { IfOk result (λ some. IsTrue some → IsLeafDraft (P.count pages.new) draft.new) }
+        ensures holds { IfOk result (λ some. IsTrue some → IsKeyOf draft.new (number key.now)) }
+        ensures drafts { IsMap L.form (P.pages pages.old) self.now.root
+            → IfOk result (λ some. IsTrue some → Drafts (P.pages pages.old) self.now.root (map_rows L.form (P.pages pages.old) self.now.root) draft.new) }
+
+        // On a well-formed map whose pages are counted no page is damaged.
+        ensures honest { IsMap L.form (P.pages pages.old) self.now.root → AreCounted (map_uses L.form (P.pages pages.old) self.now.root) (P.count pages.old)
+            → AreTold (P.pages pages.old) (P.count pages.old) → (damage : Damage) → result ≢ Err (PageFault.Damaged damage) }
+        ensures damaged { AreTold (P.pages pages.old) (P.count pages.old)
+            → (damage : Damage) → IsErrOf result (PageFault.Damaged damage) → IsMapDamaged L.form (P.pages pages.old) (P.count pages.old) self.now.root damage }
+        ensures named { AreTold (P.pages pages.old) (P.count pages.old)
+            → (damage : Damage) → IsErrOf result (PageFault.Damaged damage) → AskedSince (P.asked pages.old) (P.asked pages.new) damage.page }
+        ensures own { AreTold (P.pages pages.old) (P.count pages.old)
+            → AsksOnly (map_uses L.form (P.pages pages.old) self.now.root) (P.asked pages.old) (P.asked pages.new) }
+        ensures fails { FailsReading P.Pages pages.old pages.new result }
+        ensures frame { Reads P.Pages pages.old pages.new }
+    {
+        if self.root == 0 {
+            return Ok(false);
+        }
+        draft.open(pages, self.root, key)?;
+        Ok(true)
     }
 
     /// Puts a row: the value at the key is this one from now on. Returns whether the key was there.
