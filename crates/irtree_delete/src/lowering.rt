@@ -18,6 +18,7 @@ use btree_nodes::damaged;
 use node_inverted::{Tree, drop_node};
 use page_face::{Page, PageFault, Pages};
 use rtree_nodes::{child_at, count, header};
+use std::alloc::Global;
 
 // The least number of slots of an inner root: one of a single child adds a level and chooses nothing (Guttman 1984, section 2).
 const INNER_ROOT_MIN: usize = 2;
@@ -50,7 +51,11 @@ fn only_child(page: u32, bytes: &Page) -> Result<Option<u32>, PageFault>
 ///
 /// Refuses `Damaged` with the rule that the root's page breaks, and as `drop_node` does; `Disk`, `NoRoom`, `Stopped` and `Memory`. After a refusal `tree` says
 /// nothing. Reads one page; where the root gives way, costs a call of `drop_node` and gives one page back.
-pub(crate) fn lower_root<P: Pages>(pages: &mut P, tree: &mut Tree) -> Result<(), PageFault>
+pub(crate) fn lower_root<P: Pages>(
+    alloc: Global,
+    pages: &mut P,
+    tree: &mut Tree,
+) -> Result<(), PageFault>
     ensures lowered { (before : View) (free : List ℕ) (level old_root : ℕ) (x : Item) (sums : (Item → ℕ) → ℕ) → IsWhole node_of before old_root
         → IsStanding node_of before (view (P.pages pages.old) tree.old.rows (P.count pages.old) (P.first pages.old) free) level tree.old.root [] (tree_uses (nodes_in node_of before.pages before.rows) old_root) sums
         → ((f : Item → ℕ) → sums f + f x ≡ tree_sum (nodes_in node_of before.pages before.rows) old_root f)
@@ -71,7 +76,7 @@ pub(crate) fn lower_root<P: Pages>(pages: &mut P, tree: &mut Tree) -> Result<(),
         Ok(None) => return Ok(()),
         Err(fault) => return Err(fault),
     };
-    match drop_node(pages, tree, root) {
+    match drop_node(alloc, pages, tree, root) {
         Ok(()) => {}
         Err(fault) => return Err(fault),
     }

@@ -88,7 +88,7 @@ fn remove_from<P: Pages>(
         Err(fault) => return Err(fault),
     }
     match put_back(alloc, pages, tree, policy, &mut orphans) {
-        Ok(()) => lower_root(pages, tree),
+        Ok(()) => lower_root(alloc, pages, tree),
         Err(fault) => Err(fault),
     }
 }

@@ -102,6 +102,7 @@ fn set_slot(bytes: &mut Page, at: usize, old: &Slot, left: &Option<Slot>) -> boo
 // Makes the words of a slot right again after an entry of these words was taken out below its child. Unless nodes were dissolved
 // there, no other word of the child has changed.
 fn relink<P: Pages>(
+    alloc: Global,
     pages: &mut P,
     tree: &mut Tree,
     page: u32,
@@ -123,7 +124,7 @@ fn relink<P: Pages>(
     if is_condensed {
         refresh(pages, tree, page, at, child)
     } else {
-        renew(pages, tree, page, at, child, words)
+        renew(alloc, pages, tree, page, at, child, words)
     }
 }
 
@@ -217,7 +218,7 @@ pub fn take_out<P: Pages>(
         Err(fault) => return Err(fault),
     };
     let is_condensed = orphans.len() > many;
-    match relink(pages, tree, page, at, child, words, is_condensed) {
+    match relink(alloc, pages, tree, page, at, child, words, is_condensed) {
         Ok(()) => {}
         Err(fault) => return Err(fault),
     }

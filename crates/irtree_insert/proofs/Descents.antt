@@ -16,11 +16,13 @@ use Rattle.rtree_nodes.proofs.Masks.{slot-bit}
 use Rattle.rtree_nodes.proofs.Bounding.{some-form}
 use Rattle.node_inverted.specs.Rows.{Bytes, bytes_in}
 use Rattle.node_inverted.specs.Impacts.{impact_in, top_at}
+use Rattle.node_inverted.specs.Known.{AreRowsAt}
+use Rattle.node_inverted.proofs.Known.{known-same}
 use Rattle.irtree_shape.specs.Words.{joined, worded, words_on}
 use Rattle.irtree_shape.specs.Made.{nodes_in, IsReady, IsOpen, Makes, Puts}
 use Rattle.irtree_shape.specs.Steps.{Steps, crowned_in, relinked}
 use Rattle.irtree_shape.proofs.Climbs.{open_some, open_here, put_here}
-use Rattle.irtree_shape.proofs.Linking.{link_open, link_apart, link_spare, link_held, link_rest, link_theirs, link_ready, link_put}
+use Rattle.irtree_shape.proofs.Linking.{link_open, link_apart, link_spare, link_held, link_kept, link_rest, link_theirs, link_ready, link_put}
 use Rattle.irtree_shape.proofs.Words.{words-filled}
 use Rattle.irtree_insert.specs.declared.draft.Draft.{Draft}
 use Rattle.irtree_insert.specs.declared.grown.Beside.{Beside}
@@ -85,6 +87,11 @@ module _ (before : View) (least l page goal : ℕ) (words : List (ℕ × ℕ)) (
     -- once the child has changed, the parent's page isn't spare
     pub parent-spare : spare_in (view mid rows count first put.free) page ≡ 0
     parent-spare = link_spare node_of before least l page goal words x opened low at within (node_of draft.bytes) (ap node_of is) found.item found.is mid rows count first m beside_item (reach_of rect) rise put
+
+    -- the parent's rows that were read are still its rows
+    pub parent-known : (known : List (List ℕ)) → AreRowsAt (bytes_in before.pages before.rows) page words known → AreRowsAt (bytes_in mid rows) page words known
+    parent-known known are = known-same (bytes_in before.pages before.rows) (bytes_in mid rows) page words known
+        (λ w i. sym (link_kept node_of before least l page goal words x opened low at within (node_of draft.bytes) (ap node_of is) found.item found.is mid rows count first m beside_item (reach_of rect) rise put w i)) are
 
     -- a word that the node beside the child doesn't have is right in the child, if its slot is raised by the item's words
     pub parent-rest : (w : ℕ) → beside_top (bytes_in mid rows) m w ≡ 0 → max (bytes_in mid rows page w at) (impact_in words w) ≡ top_at (bytes_in mid rows) child w

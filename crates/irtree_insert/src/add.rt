@@ -28,9 +28,11 @@ use node_inverted::{Tree, move_slots, raise};
 use page_face::{Damage, PageFault, Pages};
 use rtree_nodes::{Slot, free_slot};
 use split_policy::SplitPolicy;
+use std::alloc::Global;
 
 // Moves the words of some slots of a node to one without rows, and raises a slot of one of the two by an entry's words.
 fn part_words<P: Pages>(
+    alloc: Global,
     pages: &mut P,
     tree: &mut Tree,
     page: u32,
@@ -55,13 +57,14 @@ fn part_words<P: Pages>(
     ensures fails { FailsChanging P.Pages pages.old pages.new result }
     ensures frame { Changes P.Pages pages.old pages.new }
 {
-    move_slots(pages, tree, page, moves, right)?;
+    move_slots(alloc, pages, tree, page, moves, right)?;
     let home = if is_moved { right } else { page };
     raise(pages, tree, home, at, words)
 }
 
 // Splits a full node and one item more, and writes both nodes and their words.
 fn split<P: Pages>(
+    alloc: Global,
     pages: &mut P,
     tree: &mut Tree,
     policy: &mut dyn SplitPolicy,
@@ -87,6 +90,7 @@ fn split<P: Pages>(
     let parted = part(mask, draft, slot);
     let right = store_two(pages, page, &draft.bytes, &parted.other.bytes)?;
     part_words(
+        alloc,
         pages,
         tree,
         page,
@@ -109,11 +113,12 @@ fn split<P: Pages>(
 /// or splits it if it is full.
 ///
 /// It writes one page and the rows of the words. A split goes twice through the node's rows, leaf by leaf, takes one page and writes two,
-/// and moves the rows of the entries that move, with two ways down for each.
+/// and moves the rows of the entries that move, leaf by leaf.
 ///
 /// Refuses as `take`, `raise`, `like` and `move_slots` do; no page is damaged where the node may be written and the pages are told.
 /// After a failure pages may have changed: they are to be abandoned.
 pub(crate) fn add<P: Pages>(
+    alloc: Global,
     pages: &mut P,
     tree: &mut Tree,
     policy: &mut dyn SplitPolicy,
@@ -145,6 +150,6 @@ pub(crate) fn add<P: Pages>(
                 more: None,
             })
         }
-        None => split(pages, tree, policy, page, draft, slot, words),
+        None => split(alloc, pages, tree, policy, page, draft, slot, words),
     }
 }

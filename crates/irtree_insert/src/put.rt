@@ -1,6 +1,6 @@
 //! An item that is put in below a page, with its words.
 ghost use Rattle.std.specs.Prelude.{◌≡◌, ◌≢◌, ◌<◌, ◌≤◌, ℕ, suc, max, List, Option, Some, None, option_map, IfOk, OnOk};
-ghost use Rattle.page_face.specs.Calls.{FailsReading, FailsWriting, FailsChanging, Reads, Writes, Changes, Looks};
+ghost use Rattle.page_face.specs.Calls.{FailsReading, FailsWriting, FailsChanging, Reads, Writes, Changes};
 ghost use Rattle.page_face.specs.Causes.{IsUncounted};
 ghost use Rattle.btree_nodes.specs.Damages.{AreTold};
 ghost use Rattle.btree_nodes.specs.Supply.{one_at};
@@ -13,8 +13,9 @@ ghost use Rattle.rtree_shape.specs.Made.{Rises};
 ghost use Rattle.rtree_nodes.specs.Reach.{reach_of, item_of, child_item};
 ghost use Rattle.rtree_nodes.specs.Pages.{node_of, slots_in, level_in, mask_of};
 ghost use Rattle.split_policy.specs.Masks.{IsUsed};
-ghost use Rattle.node_inverted.specs.Rows.{bytes_in};
+ghost use Rattle.node_inverted.specs.Rows.{Bytes, bytes_in};
 ghost use Rattle.node_inverted.specs.Impacts.{impact_in, top_at};
+ghost use Rattle.node_inverted.specs.Known.{AreRowsAt};
 ghost use Rattle.irtree_shape.specs.Words.{joined, worded, words_on};
 ghost use Rattle.irtree_shape.specs.Stock.{IsSupplied};
 ghost use Rattle.irtree_shape.specs.Made.{nodes_in, IsReady, IsOpen, Makes, Puts};
@@ -29,35 +30,24 @@ use crate::draft::Draft;
 use crate::fetch::fetch_at;
 use crate::grown::{Beside, Grown};
 use crate::store::store;
-use node_inverted::{Tree, raise, renew, shared, words_of};
+use node_inverted::{Tree, raise, renew, rising, rows_at, shared_by, words_of};
 use page_face::{Damage, PageFault, Pages};
 use rtree_nodes::{Slot, child_at};
 use spatial_base::Rect;
 use split_policy::SplitPolicy;
 use std::alloc::Global;
 
-// Asks the policy which slot to go down through. It is told how many of the entry's words stand below each slot.
-fn choose<P: Pages>(
-    pages: &mut P,
-    tree: &Tree,
-    policy: &mut dyn SplitPolicy,
-    page: u32,
-    draft: &Draft,
-    add: &Rect,
-    words: &[(u64, u8)],
-) -> Result<usize, PageFault>
+// Asks the policy which slot to go down through. It is told how many of the entry's words stand below each slot, by the node's row
+// for each of the words.
+fn choose(policy: &mut dyn SplitPolicy, draft: &Draft, add: &Rect, known: &[[u8; 32]]) -> usize
     requires { 0 < draft.now.used }
-    ensures used { IfOk result (λ at. IsUsed draft.now.used at) }
-    ensures chosen { IsMap rows_form (P.pages pages.old) tree.now.rows
-        → IfOk result (λ at. IsChosen (bytes_in (P.pages pages.old) tree.now.rows) page words.now ((SplitPolicy-dyn policy.old).chooses policy.old.1 draft.now.used draft.now.rects add.now) at) }
+    ensures used { IsUsed draft.now.used result }
+    ensures chosen { (b : Bytes) (page : ℕ) (words : List (ℕ × ℕ)) → AreRowsAt b page words known.now
+        → IsChosen b page words ((SplitPolicy-dyn policy.old).chooses policy.old.1 draft.now.used draft.now.rects add.now) result }
     ensures count { (SplitPolicy-dyn policy.new).count policy.new.1 ≡ (SplitPolicy-dyn policy.old).count policy.old.1 }
-
-    ensures honest { IsMap rows_form (P.pages pages.old) tree.now.rows → AreCounted (map_uses rows_form (P.pages pages.old) tree.now.rows) (P.count pages.old)
-        → AreTold (P.pages pages.old) (P.count pages.old) → (damage : Damage) → result ≢ Err (PageFault.Damaged damage) }
-    ensures looks { Looks P.Pages pages.old pages.new result }
 {
-    let counts = shared(pages, tree, page, words)?;
-    Ok(usize::from(policy.choose(draft.used, &draft.rects, add, &counts)))
+    let counts = shared_by(known);
+    usize::from(policy.choose(draft.used, &draft.rects, add, &counts))
 }
 
 // Returns the words of a node that was made, each with its greatest impact, or no word if none was made.
@@ -82,8 +72,8 @@ fn words_beside<P: Pages>(
 }
 
 // Makes the words of a slot right again after an item with these words was put in below its child. Returns the words of the node
-// that was made beside the child, if one was. The slot is raised by the item's words. Only words of the new node may have left the
-// child: of these the slot is set to what the child still has.
+// that was made beside the child, if one was. The slot is raised by the item's words, for each of which the node's row is known. Only
+// words of the new node may have left the child: of these the slot is set to what the child still has.
 fn relink<P: Pages>(
     alloc: Global,
     pages: &mut P,
@@ -92,10 +82,12 @@ fn relink<P: Pages>(
     at: usize,
     child: u32,
     words: &[(u64, u8)],
+    known: &[[u8; 32]],
     more: &Option<Beside>,
 ) -> Result<Vec<(u64, u8)>, PageFault>
     requires { at < 32 }
     ensures steps { (free : List ℕ) → IsSupplied (view (P.pages pages.old) tree.old.rows (P.count pages.old) (P.first pages.old) free) → spare_in (view (P.pages pages.old) tree.old.rows (P.count pages.old) (P.first pages.old) free) page ≡ 0 → (page ≡ child → ⊥)
+        → AreRowsAt (bytes_in (P.pages pages.old) tree.old.rows) page words.now known.now
         → ((w : ℕ) → beside_top (bytes_in (P.pages pages.old) tree.old.rows) more.now w ≡ 0 → max (bytes_in (P.pages pages.old) tree.old.rows page w at) (impact_in words.now w) ≡ top_at (bytes_in (P.pages pages.old) tree.old.rows) child w)
         → OnOk result (Steps (view (P.pages pages.old) tree.old.rows (P.count pages.old) (P.first pages.old) free) (P.pages pages.new) tree.new.rows (P.count pages.new) (P.first pages.new) (one_at page) (one_at page) (relinked more.now page at child words.now (bytes_in (P.pages pages.old) tree.old.rows)) (P.pages pages.old)) }
     ensures theirs { IsMap rows_form (P.pages pages.old) tree.old.rows
@@ -107,8 +99,9 @@ fn relink<P: Pages>(
     ensures frame { Changes P.Pages pages.old pages.new }
 {
     let theirs = words_beside(alloc, pages, tree, more)?;
-    raise(pages, tree, page, at, words)?;
-    renew(pages, tree, page, at, child, &theirs)?;
+    let above = rising(alloc, at, words, known)?;
+    raise(pages, tree, page, at, &above)?;
+    renew(alloc, pages, tree, page, at, child, &theirs)?;
     Ok(theirs)
 }
 
@@ -148,6 +141,7 @@ fn widen<P: Pages>(
 
 // Adds a child that was made, with the words below it, each with its greatest impact.
 fn add_child<P: Pages>(
+    alloc: Global,
     pages: &mut P,
     tree: &mut Tree,
     policy: &mut dyn SplitPolicy,
@@ -168,11 +162,12 @@ fn add_child<P: Pages>(
     ensures fails { FailsChanging P.Pages pages.old pages.new result }
     ensures frame { Changes P.Pages pages.old pages.new }
 {
-    add(pages, tree, policy, page, draft, &more.slot(), words)
+    add(alloc, pages, tree, policy, page, draft, &more.slot(), words)
 }
 
 // Writes a node whose child has grown, with the child that was made beside it and its words, if one was made.
 fn finish<P: Pages>(
+    alloc: Global,
     pages: &mut P,
     tree: &mut Tree,
     policy: &mut dyn SplitPolicy,
@@ -210,7 +205,7 @@ fn finish<P: Pages>(
                 page: child,
             };
             draft.put(at, &linked);
-            add_child(pages, tree, policy, page, draft, more, theirs)
+            add_child(alloc, pages, tree, policy, page, draft, more, theirs)
         }
         None => {
             let rect = widen(pages, page, draft, at, child, &grown.rect)?;
@@ -222,9 +217,10 @@ fn finish<P: Pages>(
 /// Puts an item with its words in below a counted page of this level, which was loaded, and returns what has become of the node at
 /// the page. Leaves have level 0; a place goes to level 0, a child to a level above. The policy chooses the way and the splits.
 ///
-/// It reads each node on the way once, and a row for each word. On the way back it raises a slot by the words, and writes a node if
-/// its own slots changed. Where a child was split it also goes through the rows of the new node and of the child, leaf by leaf, and goes
-/// down for a row of the node above for each word of the new node. A row is written if it changes.
+/// It reads each node on the way once, and the node's row for each word with [`rows_at`]. On the way back it goes down for a row again
+/// only to raise a slot by a word whose byte is too low there, and writes a node if its own slots changed. Where a child was split it
+/// also goes through the rows of the new node, of the child and of the node above for the new node's words, leaf by leaf. A leaf of rows
+/// is written once for all of its rows that change together.
 ///
 /// Refuses `Damaged` if a page on the way is no node of the level that its place asks, or as the rows' calls do; none of it on
 /// well-formed pages that are told. Refuses as `take` does, `Disk`, `Stopped` and `Memory`: then pages may have changed, and are to
@@ -255,9 +251,10 @@ pub(crate) fn put_below<P: Pages>(
     ensures frame { Changes P.Pages pages.old pages.new }
 {
     if level <= goal {
-        return add(pages, tree, policy, page, draft, slot, words);
+        return add(alloc, pages, tree, policy, page, draft, slot, words);
     }
-    let at = choose(pages, tree, policy, page, draft, &slot.rect(), words)?;
+    let known = rows_at(alloc, pages, tree, page, words)?;
+    let at = choose(policy, draft, &slot.rect(), &known);
     let child = child_at(&draft.bytes, at);
     let mut below = Draft::blank();
     fetch_at(pages, child, level - 1, &mut below)?;
@@ -273,6 +270,18 @@ pub(crate) fn put_below<P: Pages>(
         slot,
         words,
     )?;
-    let theirs = relink(alloc, pages, tree, page, at, child, words, &grown.more)?;
-    finish(pages, tree, policy, page, draft, at, child, &grown, &theirs)
+    let theirs = relink(
+        alloc,
+        pages,
+        tree,
+        page,
+        at,
+        child,
+        words,
+        &known,
+        &grown.more,
+    )?;
+    finish(
+        alloc, pages, tree, policy, page, draft, at, child, &grown, &theirs,
+    )
 }

@@ -43,8 +43,9 @@ module _ (reads : Reads) (before : View) (least level page goal : ℕ) (words : 
     pub link_held : mid page ≡ before.pages page
     link_held = climbs.page_held reads before least level page goal (worded (impact_in words) x) opened low at (joined_item (bytes_in before.pages before.rows page) at c) within here mid rows count first (option_map f m) told rise put
 
-    kept : (w i : ℕ) → bytes_in mid rows page w i ≡ bytes_in before.pages before.rows page w i
-    kept = climbs.page_same reads before least level page goal (worded (impact_in words) x) opened low at (joined_item (bytes_in before.pages before.rows page) at c) within here mid rows count first (option_map f m) told rise put
+    -- so are its rows
+    pub link_kept : (w i : ℕ) → bytes_in mid rows page w i ≡ bytes_in before.pages before.rows page w i
+    link_kept = climbs.page_same reads before least level page goal (worded (impact_in words) x) opened low at (joined_item (bytes_in before.pages before.rows page) at c) within here mid rows count first (option_map f m) told rise put
 
     -- how far the item of a node that was made reaches to a word, by the node's rows
     crown_top : (w : ℕ) (o : Option Item) → got (reach_of (4 + w)) (crowned_in (nodes_in reads mid rows) o) ≡ got (λ y. top_at (bytes_in mid rows) y.to w) o
@@ -55,7 +56,7 @@ module _ (reads : Reads) (before : View) (least level page goal : ℕ) (words : 
     pub link_rest : (w : ℕ) → got (λ y. top_at (bytes_in mid rows) y.to w) (option_map f m) ≡ 0 → max (bytes_in mid rows page w at) (impact_in words w) ≡ top_at (bytes_in mid rows) c.to w
     link_rest w none =
         let a : bytes_in mid rows page w at ≡ tops (4 + w) (nodes_in reads before.pages before.rows c.to).slots =
-        kept w at ∙ sym (word-reach (bytes_in before.pages before.rows page) at w c)
+        link_kept w at ∙ sym (word-reach (bytes_in before.pages before.rows page) at w c)
         ∙ climbs.child_reach reads before least level page goal (worded (impact_in words) x) opened low at (joined_item (bytes_in before.pages before.rows page) at c) within here (4 + w) in
         let b : impact_in words w ≡ (worded (impact_in words) x).reach (4 + w) = sym (worded-reach (impact_in words) w x) in
         ap (λ (p : ℕ). max p (impact_in words w)) a ∙ ap (max (tops (4 + w) (nodes_in reads before.pages before.rows c.to).slots)) b ∙ sym (put.stands.reach_is (4 + w))
@@ -67,7 +68,7 @@ module _ (reads : Reads) (before : View) (least level page goal : ℕ) (words : 
       new w i = let o = one_at-same page in steps.bytes page w i (omega arith)
 
       beside : (w i : ℕ) → (i ≡ at → ⊥) → bytes_in linked rows2 page w i ≡ bytes_in before.pages before.rows page w i
-      beside w i d = new w i ∙ relinked-beside page at c.to words (bytes_in mid rows) m w i d ∙ kept w i
+      beside w i d = new w i ∙ relinked-beside page at c.to words (bytes_in mid rows) m w i d ∙ link_kept w i
 
       none_left : (w : ℕ) → m ≡ None → max (bytes_in mid rows page w at) (impact_in words w) ≡ tops (4 + w) (nodes_in reads mid rows c.to).slots
       none_left w e = link_rest w (ap (λ (o : Option X). got (λ y. top_at (bytes_in mid rows) y.to w) (option_map f o)) e) ∙ node-top reads mid rows c.to w (put.blank c.to)

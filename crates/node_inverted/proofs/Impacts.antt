@@ -1,10 +1,12 @@
 -- Single bytes that change, and slots that are raised.
+use Rattle.std.proofs.Math.Path.{fun_ext}
 use Rattle.std.proofs.Common.{◌≡◌, ℕ, suc, ◌+◌, inl, inr, max, arith, refl, sym, ap, ◌∙◌, List, [], ◌∷◌, ◌++◌, ◌&&◌, if◌then◌else◌, ◌==◌, true, false, Bool, slice_index}
 use Rattle.std.proofs.lemmas.Bool.Decides.{nat_tests}
 use Rattle.rtree_shape.specs.Slots.{top_to}
 use Rattle.rtree_shape.proofs.Amounts.{same_or}
 use Rattle.node_inverted.specs.Rows.{Bytes, only}
 use Rattle.node_inverted.specs.Turns.{with_row}
+use Rattle.node_inverted.specs.Drafts.{raised_by}
 use Rattle.node_inverted.specs.Impacts.{impact_at, impact_in, raised, with_byte}
 use Rattle.node_inverted.proofs.Bytes.{and_false, with-here, with-elsewhere, with-another}
 
@@ -94,6 +96,9 @@ only-max node slot f g n w i = elim ((n == node) && (i == slot)) as (λ b. max (
 assoc : (a b c : ℕ) → max (max a b) c ≡ max a (max b c)
 assoc a b c = omega arith
 
+assoc-swap : (a b c : ℕ) → max (max a b) c ≡ max a (max c b)
+assoc-swap a b c = omega arith
+
 -- one pair more
 pub only-next : (node slot : ℕ) (ps : List (ℕ × ℕ)) (p : ℕ × ℕ) (old : ℕ) (n w i : ℕ)
     → max (max old (only node slot (impact_in ps) n w i)) (only node slot (impact_at p) n w i) ≡ max old (only node slot (impact_in (ps ++ p ∷ [])) n w i)
@@ -103,3 +108,11 @@ only-next node slot ps p old n w i = assoc old _ _ ∙ ap (max old) (only-max no
 -- no pair
 pub only-none : (node slot old n w i : ℕ) → old ≡ max old (only node slot (impact_in []) n w i)
 only-none node slot old n w i = elim ((n == node) && (i == slot)) as (λ b. old ≡ max old (if b then 0 else 0)) [ true ↦ omega arith | false ↦ omega arith ]
+
+-- pairs one after another raise a slot as all of them
+pub raised-all : (node slot : ℕ) (pairs : List (ℕ × ℕ)) (b : Bytes) → raised_by node slot pairs b ≡ raised node slot (impact_in pairs) b
+raised-all node slot [] b = fun_ext (λ n. fun_ext (λ w. fun_ext (λ i. only-none node slot (b n w i) n w i)))
+raised-all node slot (p ∷ ps) b =
+    raised-all node slot ps (raised node slot (impact_at p) b)
+    ∙ fun_ext (λ n. fun_ext (λ w. fun_ext (λ i.
+    assoc-swap (b n w i) (only node slot (impact_at p) n w i) (only node slot (impact_in ps) n w i) ∙ ap (max (b n w i)) (only-max node slot (impact_in ps) (impact_at p) n w i))))

@@ -12,5 +12,7 @@ pub mod Impacts
 pub mod Refreshes
 pub mod Lifts
 pub mod Counts
-pub mod Takes
 pub mod Copies
+pub mod Drafts
+pub mod Gathers
+pub mod Known

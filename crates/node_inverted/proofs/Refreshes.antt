@@ -152,7 +152,7 @@ named-same (q ∷ ps) p w e = ap (λ (x : Bool). if q.0 == w then true else x) (
 
 module _ (node slot child : ℕ) (b now : Bytes) (ps : List (ℕ × ℕ)) (apart : node ≡ child → ⊥) (is : (n w i : ℕ) → now n w i ≡ on_words ps (refreshed node slot child b) b n w i) where
   -- where it isn't the slot, nothing changes
-  away : (n w i : ℕ) → refreshed node slot child b n w i ≡ b n w i → now n w i ≡ b n w i
+  pub away : (n w i : ℕ) → refreshed node slot child b n w i ≡ b n w i → now n w i ≡ b n w i
   away n w i e = is n w i ∙ elim (is_named ps w) as (λ x. (if x then refreshed node slot child b n w i else b n w i) ≡ b n w i) [ true ↦ e | false ↦ refl ]
 
   -- the child's bytes stay

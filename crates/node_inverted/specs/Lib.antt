@@ -7,3 +7,6 @@ pub mod Refreshing
 pub mod Lifts
 pub mod Counts
 pub mod Copies
+pub mod Drafts
+pub mod Gathers
+pub mod Known

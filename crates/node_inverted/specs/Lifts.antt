@@ -4,7 +4,6 @@ use Rattle.page_face.specs.FreeList.{PageMap}
 use Rattle.btree_nodes.specs.Supply.{View}
 use Rattle.node_inverted.specs.Rows.{Bytes}
 use Rattle.node_inverted.specs.Turns.{Turns, dropped}
-use Rattle.node_inverted.specs.Ascents.{until}
 use Rattle.node_inverted.specs.Impacts.{top_at}
 use Rattle.node_inverted.specs.declared.taking.NodeRow.{NodeRow}
 
@@ -42,11 +41,6 @@ lifted_by r w i = if r.number == w then slice_index r.bytes i else 0
 abbrev pub lifted_at : List NodeRow → ℕ → ℕ → ℕ
 lifted_at [] w i = 0
 lifted_at (r ∷ rows) w i = max (lifted_at rows w i) (lifted_by r w i)
-
--- the rows of a node below a word were taken out, and are these
-pub record IsLifting (before : View) (root : ℕ) (pages : PageMap) (count first rows node k : ℕ) (b : Bytes) (list : List NodeRow) : Type 0 where
-  pub turn : Turns before root pages count first rows (until k (dropped node b) b)
-  pub lifted : (n w i : ℕ) → lifted_at list w i ≡ until k (bytes_at node b) no_bytes n w i
 
 -- all rows of a node were taken out, and are these
 pub record IsTaken (before : View) (root : ℕ) (pages : PageMap) (count first rows node : ℕ) (b : Bytes) (list : List NodeRow) : Type 0 where

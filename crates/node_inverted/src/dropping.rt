@@ -1,32 +1,69 @@
 //! Rows of a node that goes.
-ghost use Rattle.std.specs.Prelude.{◌≡◌, ◌<◌, ℕ, List, IfOk, IfSome, OnOk, OnErr, IsErrOf};
-ghost use Rattle.page_face.specs.Calls.{Changes, FailsChanging};
+ghost use Rattle.std.specs.Prelude.{◌≡◌, ◌<◌, ℕ, List, [], IfOk, IfSome, OnOk, OnErr, IsErrOf};
+ghost use Rattle.page_face.specs.Calls.{Changes, FailsChanging, FailsReading, Reads};
 ghost use Rattle.btree_nodes.specs.Damages.{AreTold};
 ghost use Rattle.btree_nodes.specs.Supply.{View, view};
+ghost use Rattle.btree_nodes.specs.Tree.{IsMap, map_uses};
+ghost use Rattle.paged_map.specs.Maps.{AreCounted};
+ghost use Rattle.rtree_shape.specs.Stock.{rows_form};
 ghost use Rattle.node_inverted.specs.Rows.{Bytes, IsRows, bytes_in};
 ghost use Rattle.node_inverted.specs.Turns.{Turns, dropped};
 ghost use Rattle.node_inverted.specs.Copies.{IsCopy};
-ghost use Rattle.node_inverted.specs.Ascents.{until, reached};
+ghost use Rattle.node_inverted.specs.Ascents.{reached};
+ghost use Rattle.node_inverted.specs.Gathers.{IsDropping};
 
 use crate::Tree;
 use crate::ascent::after;
+use crate::drafting::set_rows;
 use crate::leaf::{LeafCopy, next_in};
-use crate::rows::set_row;
 use crate::slots::clear_row;
+use crate::taking::{NodeRow, ROWS_AT_ONCE, push_row};
 use page_face::{Damage, PageFault, Pages};
+use std::alloc::Global;
 
-// Removes the node's first row from a word on. Returns the word behind it.
+// Adds a row of zeros for the node's first row from a word on. Returns the word behind it.
+fn clear_next<P: Pages>(
+    pages: &mut P,
+    tree: &Tree,
+    node: u32,
+    at: u64,
+    copy: &mut LeafCopy,
+    rows: &mut Vec<NodeRow>,
+) -> Result<Option<u64>, PageFault>
+    ensures dropping { (before : View) (root : ℕ) (b : Bytes) → IsCopy b node copy.old
+        → IsDropping before root (P.pages pages.old) (P.count pages.old) (P.first pages.old) tree.now.rows node b at rows.old.items
+        → IfOk result (λ next. IsDropping before root (P.pages pages.new) (P.count pages.new) (P.first pages.new) tree.now.rows node b (reached next) rows.new.items) }
+    ensures copy { (before : View) (root : ℕ) (b : Bytes) → IsCopy b node copy.old
+        → IsDropping before root (P.pages pages.old) (P.count pages.old) (P.first pages.old) tree.now.rows node b at rows.old.items
+        → OnOk result (IsCopy b node copy.new) }
+    ensures onto { IfOk result (λ next. IfSome next (λ word. at < word)) }
+    ensures honest { IsMap rows_form (P.pages pages.old) tree.now.rows → AreCounted (map_uses rows_form (P.pages pages.old) tree.now.rows) (P.count pages.old)
+        → AreTold (P.pages pages.old) (P.count pages.old) → (damage : Damage) → ¬ IsErrOf result (PageFault.Damaged damage) }
+    ensures fails { FailsReading P.Pages pages.old pages.new result }
+    ensures frame { Reads P.Pages pages.old pages.new }
+{
+    let Some(found) = next_in(copy, pages, tree, node, at)? else {
+        return Ok(None);
+    };
+    push_row(rows, found.0, clear_row())?;
+    Ok(after(found.0))
+}
+
+// Removes the node's first row from a word on. Rows are removed once there are some. Returns the word behind it.
 fn drop_next<P: Pages>(
     pages: &mut P,
     tree: &mut Tree,
     node: u32,
     at: u64,
     copy: &mut LeafCopy,
+    rows: &mut Vec<NodeRow>,
 ) -> Result<Option<u64>, PageFault>
-    ensures turns { (before : View) (root : ℕ) (b : Bytes) → IsCopy b node copy.old → Turns before root (P.pages pages.old) (P.count pages.old) (P.first pages.old) tree.old.rows (until at (dropped node b) b)
-        → IfOk result (λ next. Turns before root (P.pages pages.new) (P.count pages.new) (P.first pages.new) tree.new.rows (until (reached next) (dropped node b) b)) }
-    ensures copy { (before : View) (root : ℕ) (b : Bytes) → Turns before root (P.pages pages.old) (P.count pages.old) (P.first pages.old) tree.old.rows (until at (dropped node b) b)
-        → IsCopy b node copy.old → OnOk result (IsCopy b node copy.new) }
+    ensures dropping { (before : View) (root : ℕ) (b : Bytes) → IsCopy b node copy.old
+        → IsDropping before root (P.pages pages.old) (P.count pages.old) (P.first pages.old) tree.old.rows node b at rows.old.items
+        → IfOk result (λ next. IsDropping before root (P.pages pages.new) (P.count pages.new) (P.first pages.new) tree.new.rows node b (reached next) rows.new.items) }
+    ensures copy { (before : View) (root : ℕ) (b : Bytes) → IsCopy b node copy.old
+        → IsDropping before root (P.pages pages.old) (P.count pages.old) (P.first pages.old) tree.old.rows node b at rows.old.items
+        → OnOk result (IsCopy b node copy.new) }
     ensures onto { IfOk result (λ next. IfSome next (λ word. at < word)) }
     ensures root { tree.new.root ≡ tree.old.root }
     ensures honest { (free : List ℕ) → IsRows (view (P.pages pages.old) (P.count pages.old) (P.first pages.old) free) tree.old.rows → AreTold (P.pages pages.old) (P.count pages.old)
@@ -34,22 +71,30 @@ fn drop_next<P: Pages>(
     ensures fails { FailsChanging P.Pages pages.old pages.new result }
     ensures frame { Changes P.Pages pages.old pages.new }
 {
-    let Some(found) = next_in(copy, pages, tree, node, at)? else {
-        return Ok(None);
-    };
-    set_row(pages, tree, node, found.0, &clear_row())?;
-    Ok(after(found.0))
+    let next = clear_next(pages, tree, node, at, copy, rows)?;
+    if rows.len() < ROWS_AT_ONCE {
+        return Ok(next);
+    }
+    set_rows(pages, tree, node, rows)?;
+    rows.clear();
+    Ok(next)
 }
 
 /// Removes all rows of a node.
 ///
-/// Returns `Damaged`, `Disk`, `NoRoom`, `Stopped`, or `Memory` as [`next_row`](crate::next_row) and [`set_row`] do; on a well-formed
+/// Returns `Damaged`, `Disk`, `NoRoom`, `Stopped`, or `Memory` as [`next_row`](crate::next_row) and [`set_row`](crate::set_row) do; on a well-formed
 /// map whose pages are told no page is damaged. After a failure `tree` is as before, and pages may have changed: they are to be
 /// abandoned.
 ///
 /// For a node of W words in L leaves of the rows' map, reads them with at most L + 4 ways down, each of which looks at one page a
-/// level, and costs W removals by [`set_row`]. Holds one leaf at a time.
-pub fn drop_node<P: Pages>(pages: &mut P, tree: &mut Tree, node: u32) -> Result<(), PageFault>
+/// level. The rows are removed up to 64 at once, leaf by leaf: for each leaf one way down and one write, and a call of
+/// [`set_row`](crate::set_row) for each row by which a leaf gets too few. Holds one leaf and those rows at a time.
+pub fn drop_node<P: Pages>(
+    alloc: Global,
+    pages: &mut P,
+    tree: &mut Tree,
+    node: u32,
+) -> Result<(), PageFault>
     ensures turns { (free : List ℕ) → IsRows (view (P.pages pages.old) (P.count pages.old) (P.first pages.old) free) tree.old.rows
         → OnOk result (Turns (view (P.pages pages.old) (P.count pages.old) (P.first pages.old) free) tree.old.rows (P.pages pages.new) (P.count pages.new) (P.first pages.new) tree.new.rows
         (dropped node (bytes_in (P.pages pages.old) tree.old.rows))) }
@@ -63,11 +108,13 @@ pub fn drop_node<P: Pages>(pages: &mut P, tree: &mut Tree, node: u32) -> Result<
     ensures frame { Changes P.Pages pages.old pages.new }
 {
     let mut changed = *tree;
+    let mut rows = Vec::new(alloc);
     let mut copy = LeafCopy::none();
     let mut from = Some(0);
     while let Some(at) = from {
-        from = drop_next(pages, &mut changed, node, at, &mut copy)?;
+        from = drop_next(pages, &mut changed, node, at, &mut copy, &mut rows)?;
     }
+    set_rows(pages, &mut changed, node, &rows)?;
     *tree = changed;
     Ok(())
 }

@@ -26,7 +26,7 @@ use page_face::{Damage, Page, PageFault, Pages};
 const ROWS_MAX: usize = 92;
 
 // What the pages of the rows' map have in common.
-fn row_form() -> Form
+pub(crate) fn row_form() -> Form
     ensures { result ≡ rows_form }
 {
     Form {

@@ -8,11 +8,13 @@
 //!
 //! A call that goes through the rows of a node copies a leaf of the map at a time and reads its rows there, some 84 of them with one
 //! way down (`src/leaf.rt`). The copy stays right for the words that are still ahead while the call changes the rows behind.
+//! Rows that change are gathered, up to 64 at once, and set leaf by leaf (`src/drafting.rt`).
 #![tactic(auto)]
 
 mod ahead;
 mod ascent;
 mod columns;
+mod drafting;
 mod dropping;
 mod key;
 mod layout;
@@ -23,6 +25,7 @@ mod pairing;
 mod raising;
 mod refreshing;
 mod roots;
+mod row_draft;
 mod rows;
 mod sharing;
 mod slots;
@@ -38,7 +41,7 @@ pub use raising::{raise, set_impact};
 pub use refreshing::{refresh, renew};
 pub use roots::Tree;
 pub use rows::{row, set_row};
-pub use sharing::shared;
+pub use sharing::{rising, rows_at, shared_by};
 pub use taking::{NodeRow, take_rows};
 pub use words::words_of;
 

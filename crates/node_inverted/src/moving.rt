@@ -1,50 +1,108 @@
 //! Slots of a node that move to another one, as in a split.
-ghost use Rattle.std.specs.Prelude.{◌≡◌, ◌<◌, ℕ, List, IfOk, IfSome, OnOk, OnErr, IsErrOf};
-ghost use Rattle.page_face.specs.Calls.{Changes, FailsChanging};
+ghost use Rattle.std.specs.Prelude.{◌≡◌, ◌<◌, ℕ, List, [], IfErr, IfOk, IfSome, OnOk, OnErr, IsErrOf};
+ghost use Rattle.page_face.specs.Calls.{Changes, FailsChanging, FailsReading, Reads};
 ghost use Rattle.btree_nodes.specs.Damages.{AreTold};
 ghost use Rattle.btree_nodes.specs.Supply.{View, view};
+ghost use Rattle.btree_nodes.specs.Tree.{IsMap, map_uses};
+ghost use Rattle.paged_map.specs.Maps.{AreCounted};
+ghost use Rattle.rtree_shape.specs.Stock.{rows_form};
 ghost use Rattle.node_inverted.specs.Rows.{Bytes, HasBytes, IsRows, bytes_in};
 ghost use Rattle.node_inverted.specs.Turns.{Turns, HasNone, moved};
 ghost use Rattle.node_inverted.specs.Copies.{IsCopy};
 ghost use Rattle.node_inverted.specs.Ascents.{on_word, until, reached};
+ghost use Rattle.node_inverted.specs.Drafts.{with_rows};
+ghost use Rattle.node_inverted.specs.Gathers.{IsMoving};
 
 use crate::Tree;
 use crate::ascent::after;
+use crate::drafting::set_rows;
 use crate::leaf::{LeafCopy, next_in};
-use crate::rows::set_row;
 use crate::slots::{is_clear, moving, staying};
+use crate::taking::{NodeRow, ROWS_AT_ONCE, push_row};
 use page_face::{Damage, PageFault, Pages};
+use std::alloc::Global;
 
-// Moves the bytes of one row. A row none of whose bytes move is left as it is.
-fn move_row<P: Pages>(
-    pages: &mut P,
-    tree: &mut Tree,
-    node: u32,
+// Adds what stays of a row to some rows, and what goes to others. A row none of whose bytes move isn't added.
+fn part_row(
     slots: u32,
-    to: u32,
     number: u64,
     row: &[u8; 32],
+    stays: &mut Vec<NodeRow>,
+    goes: &mut Vec<NodeRow>,
 ) -> Result<(), PageFault>
-    ensures turns { (free : List ℕ) → (node ≡ to → ⊥) → IsRows (view (P.pages pages.old) (P.count pages.old) (P.first pages.old) free) tree.old.rows
-        → HasBytes row.now (bytes_in (P.pages pages.old) tree.old.rows node number) → ((i : ℕ) → bytes_in (P.pages pages.old) tree.old.rows to number i ≡ 0)
-        → OnOk result (Turns (view (P.pages pages.old) (P.count pages.old) (P.first pages.old) free) tree.old.rows (P.pages pages.new) (P.count pages.new) (P.first pages.new) tree.new.rows
-        (on_word number (moved node slots to (bytes_in (P.pages pages.old) tree.old.rows)) (bytes_in (P.pages pages.old) tree.old.rows))) }
-    ensures root { tree.new.root ≡ tree.old.root }
-    ensures honest { (free : List ℕ) → IsRows (view (P.pages pages.old) (P.count pages.old) (P.first pages.old) free) tree.old.rows
-        → (damage : Damage) → ¬ IsErrOf result (PageFault.Damaged damage) }
-    ensures fails { FailsChanging P.Pages pages.old pages.new result }
-    ensures frame { Changes P.Pages pages.old pages.new }
+    ensures parted { (node to : ℕ) (bytes b : Bytes) → (node ≡ to → ⊥) → ((n w i : ℕ) → with_rows to goes.old.items (with_rows node stays.old.items bytes) n w i ≡ b n w i)
+        → HasBytes row.now (b node number) → ((i : ℕ) → b to number i ≡ 0)
+        → OnOk result ((n w i : ℕ) → with_rows to goes.new.items (with_rows node stays.new.items bytes) n w i ≡ on_word number (moved node slots to b) b n w i) }
+    ensures memory { IfErr result (λ fault. fault ≡ PageFault.Memory) }
 {
     let go = moving(row, slots);
     if is_clear(&go) {
         return Ok(());
     }
     let stay = staying(row, slots);
-    set_row(pages, tree, node, number, &stay)?;
-    set_row(pages, tree, to, number, &go)
+    push_row(stays, number, stay)?;
+    push_row(goes, number, go)
 }
 
-// Moves the bytes of the node's first row from a word on. Returns the word behind it.
+// Adds what stays and what goes of the node's first row from a word on. Returns the word behind it.
+fn part_next<P: Pages>(
+    pages: &mut P,
+    tree: &Tree,
+    node: u32,
+    slots: u32,
+    at: u64,
+    copy: &mut LeafCopy,
+    stays: &mut Vec<NodeRow>,
+    goes: &mut Vec<NodeRow>,
+) -> Result<Option<u64>, PageFault>
+    ensures parted { (before : View) (root to : ℕ) (b : Bytes) → (node ≡ to → ⊥) → HasNone b to → IsCopy b node copy.old
+        → IsMoving before root (P.pages pages.old) (P.count pages.old) (P.first pages.old) tree.now.rows node slots to b at stays.old.items goes.old.items
+        → IfOk result (λ next. IsMoving before root (P.pages pages.new) (P.count pages.new) (P.first pages.new) tree.now.rows node slots to b (reached next) stays.new.items goes.new.items) }
+    ensures copy { (before : View) (root to : ℕ) (b : Bytes) → IsCopy b node copy.old
+        → IsMoving before root (P.pages pages.old) (P.count pages.old) (P.first pages.old) tree.now.rows node slots to b at stays.old.items goes.old.items
+        → OnOk result (IsCopy b node copy.new) }
+    ensures onto { IfOk result (λ next. IfSome next (λ word. at < word)) }
+    ensures honest { IsMap rows_form (P.pages pages.old) tree.now.rows → AreCounted (map_uses rows_form (P.pages pages.old) tree.now.rows) (P.count pages.old)
+        → AreTold (P.pages pages.old) (P.count pages.old) → (damage : Damage) → ¬ IsErrOf result (PageFault.Damaged damage) }
+    ensures fails { FailsReading P.Pages pages.old pages.new result }
+    ensures frame { Reads P.Pages pages.old pages.new }
+{
+    let Some(found) = next_in(copy, pages, tree, node, at)? else {
+        return Ok(None);
+    };
+    let row = found.1;
+    part_row(slots, found.0, &row, stays, goes)?;
+    Ok(after(found.0))
+}
+
+// Sets what stays at a node and what goes to another one. Then no row is left to be set.
+fn set_parts<P: Pages>(
+    pages: &mut P,
+    tree: &mut Tree,
+    node: u32,
+    to: u32,
+    stays: &mut Vec<NodeRow>,
+    goes: &mut Vec<NodeRow>,
+) -> Result<(), PageFault>
+    ensures turns { (before : View) (root slots at : ℕ) (b : Bytes)
+        → IsMoving before root (P.pages pages.old) (P.count pages.old) (P.first pages.old) tree.old.rows node slots to b at stays.old.items goes.old.items
+        → OnOk result (Turns before root (P.pages pages.new) (P.count pages.new) (P.first pages.new) tree.new.rows (until at (moved node slots to b) b)) }
+    ensures stays { OnOk result (stays.new.items ≡ []) }
+    ensures goes { OnOk result (goes.new.items ≡ []) }
+    ensures root { tree.new.root ≡ tree.old.root }
+    ensures honest { (free : List ℕ) → IsRows (view (P.pages pages.old) (P.count pages.old) (P.first pages.old) free) tree.old.rows → AreTold (P.pages pages.old) (P.count pages.old)
+        → (damage : Damage) → ¬ IsErrOf result (PageFault.Damaged damage) }
+    ensures fails { FailsChanging P.Pages pages.old pages.new result }
+    ensures frame { Changes P.Pages pages.old pages.new }
+{
+    set_rows(pages, tree, node, stays)?;
+    set_rows(pages, tree, to, goes)?;
+    stays.clear();
+    goes.clear();
+    Ok(())
+}
+
+// Moves the bytes of the node's first row from a word on. Rows are set once there are some. Returns the word behind it.
 fn move_next<P: Pages>(
     pages: &mut P,
     tree: &mut Tree,
@@ -53,12 +111,15 @@ fn move_next<P: Pages>(
     to: u32,
     at: u64,
     copy: &mut LeafCopy,
+    stays: &mut Vec<NodeRow>,
+    goes: &mut Vec<NodeRow>,
 ) -> Result<Option<u64>, PageFault>
-    ensures turns { (before : View) (root : ℕ) (b : Bytes) → (node ≡ to → ⊥) → HasNone b to → IsCopy b node copy.old
-        → Turns before root (P.pages pages.old) (P.count pages.old) (P.first pages.old) tree.old.rows (until at (moved node slots to b) b)
-        → IfOk result (λ next. Turns before root (P.pages pages.new) (P.count pages.new) (P.first pages.new) tree.new.rows (until (reached next) (moved node slots to b) b)) }
-    ensures copy { (before : View) (root : ℕ) (b : Bytes) → Turns before root (P.pages pages.old) (P.count pages.old) (P.first pages.old) tree.old.rows (until at (moved node slots to b) b)
-        → IsCopy b node copy.old → OnOk result (IsCopy b node copy.new) }
+    ensures moving { (before : View) (root : ℕ) (b : Bytes) → (node ≡ to → ⊥) → HasNone b to → IsCopy b node copy.old
+        → IsMoving before root (P.pages pages.old) (P.count pages.old) (P.first pages.old) tree.old.rows node slots to b at stays.old.items goes.old.items
+        → IfOk result (λ next. IsMoving before root (P.pages pages.new) (P.count pages.new) (P.first pages.new) tree.new.rows node slots to b (reached next) stays.new.items goes.new.items) }
+    ensures copy { (before : View) (root : ℕ) (b : Bytes) → IsCopy b node copy.old
+        → IsMoving before root (P.pages pages.old) (P.count pages.old) (P.first pages.old) tree.old.rows node slots to b at stays.old.items goes.old.items
+        → OnOk result (IsCopy b node copy.new) }
     ensures onto { IfOk result (λ next. IfSome next (λ word. at < word)) }
     ensures root { tree.new.root ≡ tree.old.root }
     ensures honest { (free : List ℕ) → IsRows (view (P.pages pages.old) (P.count pages.old) (P.first pages.old) free) tree.old.rows → AreTold (P.pages pages.old) (P.count pages.old)
@@ -66,24 +127,27 @@ fn move_next<P: Pages>(
     ensures fails { FailsChanging P.Pages pages.old pages.new result }
     ensures frame { Changes P.Pages pages.old pages.new }
 {
-    let Some(found) = next_in(copy, pages, tree, node, at)? else {
-        return Ok(None);
-    };
-    let row = found.1;
-    move_row(pages, tree, node, slots, to, found.0, &row)?;
-    Ok(after(found.0))
+    let next = part_next(pages, tree, node, slots, at, copy, stays, goes)?;
+    if stays.len() < ROWS_AT_ONCE {
+        return Ok(next);
+    }
+    set_parts(pages, tree, node, to, stays, goes)?;
+    Ok(next)
 }
 
 /// Moves the bytes at these slots, the set bits of `slots`, to the same slots of another node that has no row, as a split of the
 /// node moves its entries.
 ///
-/// Returns `Damaged`, `Disk`, `NoRoom`, `Stopped`, or `Memory` as [`next_row`](crate::next_row) and [`set_row`] do; on a well-formed
+/// Returns `Damaged`, `Disk`, `NoRoom`, `Stopped`, or `Memory` as [`next_row`](crate::next_row) and [`set_row`](crate::set_row) do; on a well-formed
 /// map whose pages are told no page is damaged. After a failure `tree` is as before, and pages may have changed: they are to be
 /// abandoned.
 ///
 /// For a node of W words in L leaves of the rows' map, reads them with at most L + 4 ways down, each of which looks at one page a
-/// level, and costs two calls of [`set_row`] for each word of which a byte moves. Holds one leaf at a time.
+/// level. The rows of which a byte moves are set up to 64 at once, at either node leaf by leaf: for each of its leaves one way down and
+/// one write, and a call of [`set_row`](crate::set_row) for each row by which a leaf gets too many or too few. Holds one leaf and those
+/// rows at a time.
 pub fn move_slots<P: Pages>(
+    alloc: Global,
     pages: &mut P,
     tree: &mut Tree,
     node: u32,
@@ -105,11 +169,24 @@ pub fn move_slots<P: Pages>(
     ensures frame { Changes P.Pages pages.old pages.new }
 {
     let mut changed = *tree;
+    let mut stays = Vec::new(alloc);
+    let mut goes = Vec::new(alloc);
     let mut copy = LeafCopy::none();
     let mut from = Some(0);
     while let Some(at) = from {
-        from = move_next(pages, &mut changed, node, slots, to, at, &mut copy)?;
+        from = move_next(
+            pages,
+            &mut changed,
+            node,
+            slots,
+            to,
+            at,
+            &mut copy,
+            &mut stays,
+            &mut goes,
+        )?;
     }
+    set_parts(pages, &mut changed, node, to, &mut stays, &mut goes)?;
     *tree = changed;
     Ok(())
 }

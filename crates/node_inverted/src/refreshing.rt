@@ -1,21 +1,28 @@
 //! A slot whose child has changed.
-ghost use Rattle.std.specs.Prelude.{◌≡◌, ◌+◌, ◌<◌, ℕ, List, Some, OnOk, OnErr, IsErrOf};
-ghost use Rattle.page_face.specs.Calls.{Changes, FailsChanging};
+ghost use Rattle.std.specs.Prelude.{◌≡◌, ◌+◌, ◌<◌, ◌++◌, ◌∷◌, [], ℕ, List, Some, IfErr, OnOk, OnErr, IsErrOf};
+ghost use Rattle.page_face.specs.Calls.{Changes, FailsChanging, FailsReading, Reads};
 ghost use Rattle.btree_nodes.specs.Damages.{AreTold};
 ghost use Rattle.btree_nodes.specs.Supply.{View, view};
-ghost use Rattle.node_inverted.specs.Rows.{Bytes, IsRows, bytes_in};
+ghost use Rattle.btree_nodes.specs.Tree.{IsMap, map_uses};
+ghost use Rattle.paged_map.specs.Maps.{AreCounted};
+ghost use Rattle.rtree_shape.specs.Stock.{rows_form};
+ghost use Rattle.node_inverted.specs.Rows.{Bytes, HasBytes, IsRows, bytes_in};
 ghost use Rattle.node_inverted.specs.Turns.{Turns};
 ghost use Rattle.node_inverted.specs.Copies.{IsCopy};
-ghost use Rattle.node_inverted.specs.Impacts.{refreshed, top_at, with_byte};
+ghost use Rattle.node_inverted.specs.Impacts.{refreshed, with_byte};
+ghost use Rattle.node_inverted.specs.Drafts.{with_rows};
+ghost use Rattle.node_inverted.specs.Gathers.{IsRenewing};
 ghost use Rattle.node_inverted.specs.Refreshing.{IsBounded, IsFrom, IsRefreshing, lesser_of, on_words, word_of};
 
 use crate::Tree;
 use crate::ahead::{Ahead, next_word, pass, row_ahead};
+use crate::drafting::set_rows;
 use crate::leaf::{LeafCopy, next_in};
 use crate::raising::set_byte;
-use crate::rows::find_row;
-use crate::slots::{clear_row, greatest};
+use crate::slots::{greatest, put_byte};
+use crate::taking::{NodeRow, ROWS_AT_ONCE, push_row};
 use page_face::{Damage, PageFault, Pages};
+use std::alloc::Global;
 
 // Refreshes the slot at one word, the least one that lies ahead.
 fn refresh_word<P: Pages>(
@@ -102,7 +109,58 @@ pub fn refresh<P: Pages>(
     Ok(())
 }
 
-// Refreshes the slot at one word. The child's row is read out of a copy of a leaf.
+// Adds a row with one byte set to some rows of a node. A row whose byte is so already isn't added.
+fn renew_row(
+    slot: usize,
+    number: u64,
+    row: &[u8; 32],
+    byte: u8,
+    rows: &mut Vec<NodeRow>,
+) -> Result<(), PageFault>
+    requires { slot < 32 }
+    ensures renewed { (node : ℕ) (bytes b : Bytes) → ((n w i : ℕ) → with_rows node rows.old.items bytes n w i ≡ b n w i) → HasBytes row.now (bytes node number)
+        → ((i : ℕ) → (i ≡ slot → ⊥) → b node number i ≡ bytes node number i) → (bytes node number slot ≡ byte → b node number slot ≡ byte)
+        → OnOk result ((n w i : ℕ) → with_rows node rows.new.items bytes n w i ≡ with_byte node number slot byte b n w i) }
+    ensures memory { IfErr result (λ fault. fault ≡ PageFault.Memory) }
+{
+    if row[slot] == byte {
+        return Ok(());
+    }
+    let mut changed = *row;
+    put_byte(&mut changed, slot, byte);
+    push_row(rows, number, changed)
+}
+
+// Adds the node's row for one word, if the slot's byte changes. The child's row and the node's are read out of copies of leaves.
+fn renew_next<P: Pages>(
+    pages: &mut P,
+    tree: &Tree,
+    node: u32,
+    slot: usize,
+    child: u32,
+    number: u64,
+    below: &mut LeafCopy,
+    above: &mut LeafCopy,
+    rows: &mut Vec<NodeRow>,
+) -> Result<(), PageFault>
+    requires { slot < 32 }
+    ensures renewing { (before : View) (root impact : ℕ) (b : Bytes) (words : List (ℕ × ℕ)) → (node ≡ child → ⊥)
+        → IsRenewing before root (P.pages pages.old) (P.count pages.old) (P.first pages.old) tree.now.rows node slot child b words rows.old.items below.old above.old
+        → OnOk result (IsRenewing before root (P.pages pages.new) (P.count pages.new) (P.first pages.new) tree.now.rows node slot child b (words ++ (number, impact) ∷ []) rows.new.items below.new above.new) }
+    ensures honest { IsMap rows_form (P.pages pages.old) tree.now.rows → AreCounted (map_uses rows_form (P.pages pages.old) tree.now.rows) (P.count pages.old)
+        → AreTold (P.pages pages.old) (P.count pages.old) → (damage : Damage) → ¬ IsErrOf result (PageFault.Damaged damage) }
+    ensures fails { FailsReading P.Pages pages.old pages.new result }
+    ensures frame { Reads P.Pages pages.old pages.new }
+{
+    let low_ahead = next_in(below, pages, tree, child, number)?;
+    let high_ahead = next_in(above, pages, tree, node, number)?;
+    let low = row_ahead(&low_ahead, number);
+    let high = row_ahead(&high_ahead, number);
+    let byte = greatest(&low);
+    renew_row(slot, number, &high, byte, rows)
+}
+
+// Refreshes the slot at one word. Rows are set once there are some; then the copy of the node's leaf is done with.
 fn renew_one<P: Pages>(
     pages: &mut P,
     tree: &mut Tree,
@@ -110,27 +168,28 @@ fn renew_one<P: Pages>(
     slot: usize,
     child: u32,
     number: u64,
-    copy: &mut LeafCopy,
+    below: &mut LeafCopy,
+    above: &mut LeafCopy,
+    rows: &mut Vec<NodeRow>,
 ) -> Result<(), PageFault>
     requires { slot < 32 }
-    ensures turns { (b : Bytes) (free : List ℕ) → IsRows (view (P.pages pages.old) (P.count pages.old) (P.first pages.old) free) tree.old.rows
-        → ((w i : ℕ) → bytes_in (P.pages pages.old) tree.old.rows child w i ≡ b child w i) → IsCopy b child copy.old
-        → OnOk result (Turns (view (P.pages pages.old) (P.count pages.old) (P.first pages.old) free) tree.old.rows (P.pages pages.new) (P.count pages.new) (P.first pages.new) tree.new.rows
-        (with_byte node number slot (top_at (bytes_in (P.pages pages.old) tree.old.rows) child number) (bytes_in (P.pages pages.old) tree.old.rows))) }
-    ensures copy { (b : Bytes) (free : List ℕ) → IsRows (view (P.pages pages.old) (P.count pages.old) (P.first pages.old) free) tree.old.rows
-        → ((w i : ℕ) → bytes_in (P.pages pages.old) tree.old.rows child w i ≡ b child w i) → IsCopy b child copy.old → OnOk result (IsCopy b child copy.new) }
+    ensures renewing { (before : View) (root impact : ℕ) (b : Bytes) (words : List (ℕ × ℕ)) → (node ≡ child → ⊥)
+        → IsRenewing before root (P.pages pages.old) (P.count pages.old) (P.first pages.old) tree.old.rows node slot child b words rows.old.items below.old above.old
+        → OnOk result (IsRenewing before root (P.pages pages.new) (P.count pages.new) (P.first pages.new) tree.new.rows node slot child b (words ++ (number, impact) ∷ []) rows.new.items below.new above.new) }
     ensures root { tree.new.root ≡ tree.old.root }
     ensures honest { (free : List ℕ) → IsRows (view (P.pages pages.old) (P.count pages.old) (P.first pages.old) free) tree.old.rows → AreTold (P.pages pages.old) (P.count pages.old)
         → (damage : Damage) → ¬ IsErrOf result (PageFault.Damaged damage) }
     ensures fails { FailsChanging P.Pages pages.old pages.new result }
     ensures frame { Changes P.Pages pages.old pages.new }
 {
-    let ahead = next_in(copy, pages, tree, child, number)?;
-    let low = row_ahead(&ahead, number);
-    let byte = greatest(&low);
-    let mut high = clear_row();
-    let spot = find_row(pages, tree, node, number, &mut high)?;
-    set_byte(pages, tree, node, slot, number, spot, &high, byte)
+    renew_next(pages, tree, node, slot, child, number, below, above, rows)?;
+    if rows.len() < ROWS_AT_ONCE {
+        return Ok(());
+    }
+    set_rows(pages, tree, node, rows)?;
+    rows.clear();
+    *above = LeafCopy::none();
+    Ok(())
 }
 
 /// Makes the bytes of these words at a slot of a node the greatest of their bytes in the slot's child. All other bytes stay. It is
@@ -140,10 +199,12 @@ fn renew_one<P: Pages>(
 /// map whose pages are told no page is damaged. After a failure `tree` is as before, and pages may have changed: they are to be
 /// abandoned.
 ///
-/// For words in the order of their numbers whose rows at the child stand in L leaves of the rows' map, goes down for the child's rows as
-/// [`words_of`](crate::words_of) does, and once more for each word. If the byte differs, writes the leaf alone where the node's
-/// row is there and some byte of it stays, and else costs a call of `set_row`.
+/// For words in the order of their numbers whose rows stand in L leaves of the rows' map at the child and in M at the node, goes down
+/// for the rows of either as [`words_of`](crate::words_of) does. The node's rows whose byte differs are set up to 64 at once, leaf by
+/// leaf: for each leaf one way down and one write, and a call of `set_row` for each row by which a leaf gets too many or too few.
+/// After each 64 rows the node's leaf is read anew.
 pub fn renew<P: Pages>(
+    alloc: Global,
     pages: &mut P,
     tree: &mut Tree,
     node: u32,
@@ -165,10 +226,23 @@ pub fn renew<P: Pages>(
     ensures frame { Changes P.Pages pages.old pages.new }
 {
     let mut changed = *tree;
-    let mut copy = LeafCopy::none();
+    let mut rows = Vec::new(alloc);
+    let mut below = LeafCopy::none();
+    let mut above = LeafCopy::none();
     for pair in words {
-        renew_one(pages, &mut changed, node, slot, child, pair.0, &mut copy)?;
+        renew_one(
+            pages,
+            &mut changed,
+            node,
+            slot,
+            child,
+            pair.0,
+            &mut below,
+            &mut above,
+            &mut rows,
+        )?;
     }
+    set_rows(pages, &mut changed, node, &rows)?;
     *tree = changed;
     Ok(())
 }

@@ -1,6 +1,7 @@
 //! Rows of two nodes: the numbers of their words order them otherwise as bytes from the low end would.
 use super::*;
 use page_face::{Damage, MemoryPages, PageFault, Pages, Rule};
+use std::alloc::Global;
 use std::test::Fail;
 
 // A row: its node, its word's number, a slot and the byte there; all other bytes are 0.
@@ -55,6 +56,9 @@ static DROPPED: [Single; 5] = [
     (7, 256, 0, 0),
 ];
 
+// The words of an entry, not in the order of their numbers.
+static SHARED: [(u64, u8); 3] = [(1, 9), (0, 7), (256, 7)];
+
 // A row of zeros but for one byte.
 fn single(slot: usize, byte: u8) -> [u8; 32] {
     let mut row = [0; 32];
@@ -95,6 +99,18 @@ fn are_in_order(pages: &mut MemoryPages, tree: &Tree) -> Result<bool, PageFault>
     Ok(true)
 }
 
+// How many of the words `SHARED` are above their byte at a slot of node 9, and the first of them.
+fn count_rising(
+    alloc: Global,
+    pages: &mut MemoryPages,
+    tree: &Tree,
+    slot: usize,
+) -> Result<(usize, Option<(u64, u8)>), PageFault> {
+    let rows = rows_at(alloc, pages, tree, 9, &SHARED)?;
+    let above = rising(alloc, slot % 32, &SHARED, &rows)?;
+    Ok((above.len(), above.first().copied()))
+}
+
 // Gives node 7 one byte at each of its first 200 words, at the slot of the word's number modulo 32: rows of more than two leaves.
 fn fill_leaves(pages: &mut MemoryPages, tree: &mut Tree) -> Result<(), PageFault> {
     for number in 0..200u64 {
@@ -118,12 +134,18 @@ fn rows_are_found_in_order_and_move_and_are_dropped(rt: HostRuntime) -> Result<(
         raise(&mut pages, &mut tree, 7, 2, &[(1, 3), (5, 6)]),
         Ok(())
     );
-    assert_eq!(rt; move_slots(&mut pages, &mut tree, 7, 3, 11), Ok(()));
+    assert_eq!(rt;
+        move_slots(rt.alloc(), &mut pages, &mut tree, 7, 3, 11),
+        Ok(())
+    );
     assert_eq!(rt; are_there(&mut pages, &tree, &MOVED), Ok(true));
     assert_eq!(rt; refresh(&mut pages, &mut tree, 9, 4, 7), Ok(()));
     assert_eq!(rt; set_impact(&mut pages, &mut tree, 9, 4, 5, 1), Ok(()));
-    assert_eq!(rt; renew(&mut pages, &mut tree, 9, 4, 7, &[(5, 0)]), Ok(()));
-    assert_eq!(rt; drop_node(&mut pages, &mut tree, 7), Ok(()));
+    assert_eq!(rt;
+        renew(rt.alloc(), &mut pages, &mut tree, 9, 4, 7, &[(5, 0)]),
+        Ok(())
+    );
+    assert_eq!(rt; drop_node(rt.alloc(), &mut pages, &mut tree, 7), Ok(()));
     assert_eq!(rt; are_there(&mut pages, &tree, &DROPPED), Ok(true));
     Ok(())
 }
@@ -149,11 +171,18 @@ fn words_and_rows_are_listed_in_order(rt: HostRuntime) -> Result<(), Fail> {
     let mut pages = MemoryPages::new(rt.alloc(), 8);
     let mut tree = Tree { root: 5, rows: 0 };
     assert_eq!(rt; fill(&mut pages, &mut tree), Ok(()));
+    let rows = rows_at(rt.alloc(), &mut pages, &tree, 9, &SHARED);
     let mut counts = [0; 32];
+    counts[0] = 1;
     counts[3] = 1;
+    assert_eq!(rt; rows.map(|rows| shared_by(&rows)), Ok(counts));
     assert_eq!(rt;
-        shared(&mut pages, &tree, 9, &[(1, 7), (256, 7)]),
-        Ok(counts)
+        count_rising(rt.alloc(), &mut pages, &tree, 3),
+        Ok((3, Some((1, 9))))
+    );
+    assert_eq!(rt;
+        count_rising(rt.alloc(), &mut pages, &tree, 0),
+        Ok((2, Some((1, 9))))
     );
     let mut table = [[0; 33]; 33];
     table[0][0] = 1;
@@ -187,7 +216,10 @@ fn rows_of_several_leaves_are_gone_through(rt: HostRuntime) -> Result<(), Fail> 
     let mut tree = Tree { root: 5, rows: 0 };
     assert_eq!(rt; fill_leaves(&mut pages, &mut tree), Ok(()));
     // Slots 0 to 15 have 104 of the 200 words.
-    assert_eq!(rt; move_slots(&mut pages, &mut tree, 7, 0xFFFF, 11), Ok(()));
+    assert_eq!(rt;
+        move_slots(rt.alloc(), &mut pages, &mut tree, 7, 0xFFFF, 11),
+        Ok(())
+    );
     for (node, count, last) in [(7, 96, 191), (11, 104, 199)] {
         let words = words_of(rt.alloc(), &mut pages, &tree, node);
         assert_eq!(rt;

@@ -14,6 +14,7 @@ use Rattle.rtree_nodes.specs.Reach.{reach_of, item_of}
 use Rattle.rtree_nodes.specs.Pages.{node_of, level_in}
 use Rattle.node_inverted.specs.Rows.{bytes_in}
 use Rattle.node_inverted.specs.Impacts.{impact_in}
+use Rattle.node_inverted.specs.Known.{AreRowsAt}
 use Rattle.irtree_shape.specs.Words.{worded}
 use Rattle.irtree_shape.specs.Steps.{Steps, crowned_in, relinked}
 use Rattle.irtree_shape.specs.Made.{nodes_in, IsOpen, Puts}
@@ -23,7 +24,7 @@ use Rattle.irtree_insert.specs.Grown.{beside_item, beside_top}
 use Rattle.irtree_shape.proofs.Tolds.{told-made, told-step}
 use Rattle.irtree_insert.proofs.Loads.{some-told}
 use Rattle.irtree_insert.proofs.Rises.{rises-then}
-use Rattle.irtree_insert.proofs.Descents.{open-counted, open-some, open-level, ready-here, puts-here, found-child, child-open, child-apart, parent-spare, parent-still, parent-rest, parent-theirs, parent-ready, parent-put, loaded, puts-view}
+use Rattle.irtree_insert.proofs.Descents.{open-counted, open-some, open-level, ready-here, puts-here, found-child, child-open, child-apart, parent-known, parent-spare, parent-still, parent-rest, parent-theirs, parent-ready, parent-put, loaded, puts-view}
 use Rattle.irtree_insert.specs.contracts.put.put_below.dyn-1 as contract
 use Rattle.irtree_insert.proofs.put.+put_below.Goals as goal
 
@@ -46,13 +47,13 @@ returns-then-level-goal-clause-honest g t c = λ least free draft used is opened
     let same : c.args.level ≡ c.args.goal = let a = c.if-level-goal.true in let b = opened.deep in omega arith in
     c.add.ensures.honest least c.args.level free (ready-here before least c.args.level c.args.page c.args.goal x c.args.draft.now.bytes is same opened) draft (subst (λ (k : ℕ). Fits k c.args.slot.now) (sym same) fits)
 
-pub returns-in_err-at-clause-honest : goal.returns-in_err-at-clause-honest
-returns-in_err-at-clause-honest g t c =
+pub returns-in_err-known-clause-honest : goal.returns-in_err-known-clause-honest
+returns-in_err-known-clause-honest g t c =
     let passed = err_from_is_err_and c.from_residual.result c.from_residual.ensures.1 in
     rw (passed.1, passed.2) (λ least free draft used is opened fits told damage e'.
     let before : View = view (g.P.Pages.pages c.args.pages.now) c.args.tree.now.rows (g.P.Pages.count c.args.pages.now) (g.P.Pages.first c.args.pages.now) free in
     let kept = opened.supplied.rows.kept in
-    c.choose.ensures.honest kept.map (kept-counted rows_form (plain before) c.args.tree.now.rows kept) told damage (c.in_err-at.was ∙ ap Err (same-fault {T = Grown} _ _ e')))
+    c.rows_at.ensures.honest kept.map (kept-counted rows_form (plain before) c.args.tree.now.rows kept) told damage (c.in_err-known.was ∙ ap Err (same-fault {T = Grown} _ _ e')))
 
 pub returns-in_err-fetch_at-clause-honest : goal.returns-in_err-fetch_at-clause-honest
 returns-in_err-fetch_at-clause-honest g t c =
@@ -70,16 +71,16 @@ returns-in_err-fetch_at-clause-honest g t c =
     let e : c.args.level ≡ suc l = let a = c.if-level-goal.false in omega arith in
     let opened' = subst (λ (k : ℕ). IsOpen node_of before least k page target x) e opened in
     let low : target ≤ l = let a = c.if-level-goal.false in omega arith in
-    let at : ℕ = c.in_ok-at.at in
-    let within = c.in_ok-at.ensures.used.0 in
+    let at : ℕ = c.choose-at.result in
+    let within = c.choose-at.ensures.used.0 in
     let level_is : level_in c.args.draft.now.bytes ≡ suc l = ap level_in is ∙ open-level before least (suc l) page target x opened' in
     let child : ℕ = c.child_at-child.result in
-    let found = found-child c.args.draft.now at child l draft used level_is within c.in_ok-at.ensures.used.1 c.child_at-child.ensures.child in
+    let found = found-child c.args.draft.now at child l draft used level_is within c.choose-at.ensures.used.1 c.child_at-child.ensures.child in
     let opened_c = child-open before least l page target words item c.args.draft.now is opened' low at child within found in
-    let looks = c.in_ok-at.ensures.looks.frame in
+    let looks = c.in_ok-known.ensures.frame in
     let Claim : View → Type 0 = λ w. IsOpen node_of w 12 l child target x in
-    let v = view-same (g.P.Pages.pages c.choose.new.pages) old rows (g.P.Pages.count c.choose.new.pages) (g.P.Pages.count c.args.pages.now) (g.P.Pages.first c.choose.new.pages) (g.P.Pages.first c.args.pages.now) free looks.pages looks.count looks.first in
-    let now : View = view (g.P.Pages.pages c.choose.new.pages) rows (g.P.Pages.count c.choose.new.pages) (g.P.Pages.first c.choose.new.pages) free in
+    let v = view-same (g.P.Pages.pages c.rows_at.new.pages) old rows (g.P.Pages.count c.rows_at.new.pages) (g.P.Pages.count c.args.pages.now) (g.P.Pages.first c.rows_at.new.pages) (g.P.Pages.first c.args.pages.now) free looks.pages looks.count looks.first in
+    let now : View = view (g.P.Pages.pages c.rows_at.new.pages) rows (g.P.Pages.count c.rows_at.new.pages) (g.P.Pages.first c.rows_at.new.pages) free in
     let opened_n = subst Claim (sym v) opened_c in
     c.fetch_at.ensures.honest (open-counted now 12 l child target x opened_n) (open-some now 12 l child target x opened_n) (open-level now 12 l child target x opened_n) damage
     (c.in_err-fetch_at.was ∙ ap Err (same-fault {T = Grown} _ _ e')))
@@ -100,13 +101,13 @@ returns-in_err-grown-clause-honest g t c =
     let e : c.args.level ≡ suc l = let a = c.if-level-goal.false in omega arith in
     let opened' = subst (λ (k : ℕ). IsOpen node_of before least k page target x) e opened in
     let low : target ≤ l = let a = c.if-level-goal.false in omega arith in
-    let at : ℕ = c.in_ok-at.at in
-    let within = c.in_ok-at.ensures.used.0 in
+    let at : ℕ = c.choose-at.result in
+    let within = c.choose-at.ensures.used.0 in
     let level_is : level_in c.args.draft.now.bytes ≡ suc l = ap level_in is ∙ open-level before least (suc l) page target x opened' in
     let child : ℕ = c.child_at-child.result in
-    let found = found-child c.args.draft.now at child l draft used level_is within c.in_ok-at.ensures.used.1 c.child_at-child.ensures.child in
+    let found = found-child c.args.draft.now at child l draft used level_is within c.choose-at.ensures.used.1 c.child_at-child.ensures.child in
     let opened_c = child-open before least l page target words item c.args.draft.now is opened' low at child within found in
-    let first_look = c.in_ok-at.ensures.looks.frame in
+    let first_look = c.in_ok-known.ensures.frame in
     let second_look = c.in_ok-fetch_at.ensures.looks.frame in
     let now : View = view (g.P.Pages.pages c.fetch_at.new.pages) rows (g.P.Pages.count c.fetch_at.new.pages) (g.P.Pages.first c.fetch_at.new.pages) free in
     let v = view-same (g.P.Pages.pages c.fetch_at.new.pages) old rows (g.P.Pages.count c.fetch_at.new.pages) (g.P.Pages.count c.args.pages.now) (g.P.Pages.first c.fetch_at.new.pages) (g.P.Pages.first c.args.pages.now) free
@@ -131,13 +132,13 @@ returns-in_err-theirs-clause-honest g t c =
     let e : c.args.level ≡ suc l = let a = c.if-level-goal.false in omega arith in
     let opened' = subst (λ (k : ℕ). IsOpen node_of before least k page target x) e opened in
     let low : target ≤ l = let a = c.if-level-goal.false in omega arith in
-    let at : ℕ = c.in_ok-at.at in
-    let within = c.in_ok-at.ensures.used.0 in
+    let at : ℕ = c.choose-at.result in
+    let within = c.choose-at.ensures.used.0 in
     let level_is : level_in c.args.draft.now.bytes ≡ suc l = ap level_in is ∙ open-level before least (suc l) page target x opened' in
     let child : ℕ = c.child_at-child.result in
-    let found = found-child c.args.draft.now at child l draft used level_is within c.in_ok-at.ensures.used.1 c.child_at-child.ensures.child in
+    let found = found-child c.args.draft.now at child l draft used level_is within c.choose-at.ensures.used.1 c.child_at-child.ensures.child in
     let opened_c = child-open before least l page target words item c.args.draft.now is opened' low at child within found in
-    let first_look = c.in_ok-at.ensures.looks.frame in
+    let first_look = c.in_ok-known.ensures.frame in
     let second_look = c.in_ok-fetch_at.ensures.looks.frame in
     let now : View = view (g.P.Pages.pages c.fetch_at.new.pages) rows (g.P.Pages.count c.fetch_at.new.pages) (g.P.Pages.first c.fetch_at.new.pages) free in
     let v = view-same (g.P.Pages.pages c.fetch_at.new.pages) old rows (g.P.Pages.count c.fetch_at.new.pages) (g.P.Pages.count c.args.pages.now) (g.P.Pages.first c.fetch_at.new.pages) (g.P.Pages.first c.args.pages.now) free
@@ -148,7 +149,7 @@ returns-in_err-theirs-clause-honest g t c =
     let mr : ℕ = c.put_below.new.tree.rows in
     let mc : ℕ = g.P.Pages.count c.put_below.new.pages in
     let mf : ℕ = g.P.Pages.first c.put_below.new.pages in
-    let first_count : ℕ = (contract.members g.row.P g.dyn-1 (c.args.policy.now.0, c.choose.new.policy)).count c.choose.new.policy in
+    let first_count : ℕ = (contract.members g.row.P g.dyn-1 (c.args.policy.now.0, c.choose-at.new.policy)).count c.choose-at.new.policy in
     let mid_count : ℕ = (contract.members g.row.P g.dyn-1 (c.args.policy.now.0, c.put_below.new.policy)).count c.put_below.new.policy in
     let rise : ℕ → Type 0 = Rises first_count mid_count in
     let put_b = puts-view target x v (c.in_ok-grown.ensures.made 12 free h.draft_is c.in_ok-fetch_at.ensures.used h.bytes_are h.opened fits) in
@@ -170,13 +171,13 @@ returns-clause-made g t c = λ least free draft used is opened fits.
     let e : c.args.level ≡ suc l = let a = c.if-level-goal.false in omega arith in
     let opened' = subst (λ (k : ℕ). IsOpen node_of before least k page target x) e opened in
     let low : target ≤ l = let a = c.if-level-goal.false in omega arith in
-    let at : ℕ = c.in_ok-at.at in
-    let within = c.in_ok-at.ensures.used.0 in
+    let at : ℕ = c.choose-at.result in
+    let within = c.choose-at.ensures.used.0 in
     let level_is : level_in c.args.draft.now.bytes ≡ suc l = ap level_in is ∙ open-level before least (suc l) page target x opened' in
     let child : ℕ = c.child_at-child.result in
-    let found = found-child c.args.draft.now at child l draft used level_is within c.in_ok-at.ensures.used.1 c.child_at-child.ensures.child in
+    let found = found-child c.args.draft.now at child l draft used level_is within c.choose-at.ensures.used.1 c.child_at-child.ensures.child in
     let opened_c = child-open before least l page target words item c.args.draft.now is opened' low at child within found in
-    let first_look = c.in_ok-at.ensures.looks.frame in
+    let first_look = c.in_ok-known.ensures.frame in
     let second_look = c.in_ok-fetch_at.ensures.looks.frame in
     let now : View = view (g.P.Pages.pages c.fetch_at.new.pages) rows (g.P.Pages.count c.fetch_at.new.pages) (g.P.Pages.first c.fetch_at.new.pages) free in
     let v = view-same (g.P.Pages.pages c.fetch_at.new.pages) old rows (g.P.Pages.count c.fetch_at.new.pages) (g.P.Pages.count c.args.pages.now) (g.P.Pages.first c.fetch_at.new.pages) (g.P.Pages.first c.args.pages.now) free
@@ -187,7 +188,7 @@ returns-clause-made g t c = λ least free draft used is opened fits.
     let mr : ℕ = c.put_below.new.tree.rows in
     let mc : ℕ = g.P.Pages.count c.put_below.new.pages in
     let mf : ℕ = g.P.Pages.first c.put_below.new.pages in
-    let first_count : ℕ = (contract.members g.row.P g.dyn-1 (c.args.policy.now.0, c.choose.new.policy)).count c.choose.new.policy in
+    let first_count : ℕ = (contract.members g.row.P g.dyn-1 (c.args.policy.now.0, c.choose-at.new.policy)).count c.choose-at.new.policy in
     let mid_count : ℕ = (contract.members g.row.P g.dyn-1 (c.args.policy.now.0, c.put_below.new.policy)).count c.put_below.new.policy in
     let rise : ℕ → Type 0 = Rises first_count mid_count in
     let put_b = puts-view target x v (c.in_ok-grown.ensures.made 12 free h.draft_is c.in_ok-fetch_at.ensures.used h.bytes_are h.opened fits) in
@@ -195,18 +196,20 @@ returns-clause-made g t c = λ least free draft used is opened fits.
     let unused = parent-spare before least l page target words item c.args.draft.now is opened' low at child within found mid mr mc mf more c.in_ok-grown.grown.rect rise put in
     let apart = child-apart before least l page target words item c.args.draft.now is opened' low at child within found in
     let rest = parent-rest before least l page target words item c.args.draft.now is opened' low at child within found mid mr mc mf more c.in_ok-grown.grown.rect rise put in
+    let known = parent-known before least l page target words item c.args.draft.now is opened' low at child within found mid mr mc mf more c.in_ok-grown.grown.rect rise put c.deref-2.result.now
+    (subst (AreRowsAt (bytes_in old rows) page words) (sym c.deref-2.ensures.value) (c.in_ok-known.ensures.rows opened.supplied.rows.kept.map)) in
     let linked : PageMap = g.P.Pages.pages c.relink.new.pages in
     let lr : ℕ = c.relink.new.tree.rows in
     let lc : ℕ = g.P.Pages.count c.relink.new.pages in
     let lf : ℕ = g.P.Pages.first c.relink.new.pages in
     let steps = subst (λ (k : ℕ). Steps (view mid mr mc mf put.free) linked lr lc lf (one_at page) (one_at page) (relinked more page at k words (bytes_in mid mr)) mid) (sym found.to_is)
-    (c.in_ok-theirs.ensures.steps put.free put.moves.supplied unused apart rest) in
-    let theirs : (w : ℕ) → impact_in c.deref.result.now w ≡ beside_top (bytes_in linked lr) more w = λ w. ap (λ (ps : List (ℕ × ℕ)). impact_in ps w) c.deref.ensures.value ∙ c.in_ok-theirs.ensures.theirs put.moves.supplied.rows.kept.map w
+    (c.in_ok-theirs.ensures.steps put.free put.moves.supplied unused apart known rest) in
+    let theirs : (w : ℕ) → impact_in c.deref-3.result.now w ≡ beside_top (bytes_in linked lr) more w = λ w. ap (λ (ps : List (ℕ × ℕ)). impact_in ps w) c.deref-3.ensures.value ∙ c.in_ok-theirs.ensures.theirs put.moves.supplied.rows.kept.map w
     ∙ parent-theirs before least l page target words item c.args.draft.now is opened' low at child within found mid mr mc mf more c.in_ok-grown.grown.rect rise put linked lr lc lf steps w in
     let old_count : ℕ = (contract.members g.row.P g.dyn-1 c.args.policy.now).count c.args.policy.now.1 in
     let last_count : ℕ = (contract.members g.row.P g.dyn-1 (c.args.policy.now.0, c.finish.new.policy)).count c.finish.new.policy in
     let joins : (a b : ℕ) → rise a → Rises mid_count last_count b → Rises old_count last_count (a + b) = λ a b p q.
-    subst (λ (k : ℕ). Rises k last_count (a + b)) c.in_ok-at.ensures.count (rises-then first_count mid_count last_count a b p q) in
+    subst (λ (k : ℕ). Rises k last_count (a + b)) c.choose-at.ensures.count (rises-then first_count mid_count last_count a b p q) in
     let new : PageMap = g.P.Pages.pages c.finish.new.pages in
     let nr : ℕ = c.finish.new.tree.rows in
     IfOk-weaker c.finish.result _ _
@@ -230,13 +233,13 @@ returns-clause-honest g t c = λ least free draft used is opened fits told.
     let e : c.args.level ≡ suc l = let a = c.if-level-goal.false in omega arith in
     let opened' = subst (λ (k : ℕ). IsOpen node_of before least k page target x) e opened in
     let low : target ≤ l = let a = c.if-level-goal.false in omega arith in
-    let at : ℕ = c.in_ok-at.at in
-    let within = c.in_ok-at.ensures.used.0 in
+    let at : ℕ = c.choose-at.result in
+    let within = c.choose-at.ensures.used.0 in
     let level_is : level_in c.args.draft.now.bytes ≡ suc l = ap level_in is ∙ open-level before least (suc l) page target x opened' in
     let child : ℕ = c.child_at-child.result in
-    let found = found-child c.args.draft.now at child l draft used level_is within c.in_ok-at.ensures.used.1 c.child_at-child.ensures.child in
+    let found = found-child c.args.draft.now at child l draft used level_is within c.choose-at.ensures.used.1 c.child_at-child.ensures.child in
     let opened_c = child-open before least l page target words item c.args.draft.now is opened' low at child within found in
-    let first_look = c.in_ok-at.ensures.looks.frame in
+    let first_look = c.in_ok-known.ensures.frame in
     let second_look = c.in_ok-fetch_at.ensures.looks.frame in
     let now : View = view (g.P.Pages.pages c.fetch_at.new.pages) rows (g.P.Pages.count c.fetch_at.new.pages) (g.P.Pages.first c.fetch_at.new.pages) free in
     let v = view-same (g.P.Pages.pages c.fetch_at.new.pages) old rows (g.P.Pages.count c.fetch_at.new.pages) (g.P.Pages.count c.args.pages.now) (g.P.Pages.first c.fetch_at.new.pages) (g.P.Pages.first c.args.pages.now) free
@@ -247,7 +250,7 @@ returns-clause-honest g t c = λ least free draft used is opened fits told.
     let mr : ℕ = c.put_below.new.tree.rows in
     let mc : ℕ = g.P.Pages.count c.put_below.new.pages in
     let mf : ℕ = g.P.Pages.first c.put_below.new.pages in
-    let first_count : ℕ = (contract.members g.row.P g.dyn-1 (c.args.policy.now.0, c.choose.new.policy)).count c.choose.new.policy in
+    let first_count : ℕ = (contract.members g.row.P g.dyn-1 (c.args.policy.now.0, c.choose-at.new.policy)).count c.choose-at.new.policy in
     let mid_count : ℕ = (contract.members g.row.P g.dyn-1 (c.args.policy.now.0, c.put_below.new.policy)).count c.put_below.new.policy in
     let rise : ℕ → Type 0 = Rises first_count mid_count in
     let put_b = puts-view target x v (c.in_ok-grown.ensures.made 12 free h.draft_is c.in_ok-fetch_at.ensures.used h.bytes_are h.opened fits) in
@@ -255,13 +258,15 @@ returns-clause-honest g t c = λ least free draft used is opened fits told.
     let unused = parent-spare before least l page target words item c.args.draft.now is opened' low at child within found mid mr mc mf more c.in_ok-grown.grown.rect rise put in
     let apart = child-apart before least l page target words item c.args.draft.now is opened' low at child within found in
     let rest = parent-rest before least l page target words item c.args.draft.now is opened' low at child within found mid mr mc mf more c.in_ok-grown.grown.rect rise put in
+    let known = parent-known before least l page target words item c.args.draft.now is opened' low at child within found mid mr mc mf more c.in_ok-grown.grown.rect rise put c.deref-2.result.now
+    (subst (AreRowsAt (bytes_in old rows) page words) (sym c.deref-2.ensures.value) (c.in_ok-known.ensures.rows opened.supplied.rows.kept.map)) in
     let linked : PageMap = g.P.Pages.pages c.relink.new.pages in
     let lr : ℕ = c.relink.new.tree.rows in
     let lc : ℕ = g.P.Pages.count c.relink.new.pages in
     let lf : ℕ = g.P.Pages.first c.relink.new.pages in
     let steps = subst (λ (k : ℕ). Steps (view mid mr mc mf put.free) linked lr lc lf (one_at page) (one_at page) (relinked more page at k words (bytes_in mid mr)) mid) (sym found.to_is)
-    (c.in_ok-theirs.ensures.steps put.free put.moves.supplied unused apart rest) in
-    let theirs : (w : ℕ) → impact_in c.deref.result.now w ≡ beside_top (bytes_in linked lr) more w = λ w. ap (λ (ps : List (ℕ × ℕ)). impact_in ps w) c.deref.ensures.value ∙ c.in_ok-theirs.ensures.theirs put.moves.supplied.rows.kept.map w
+    (c.in_ok-theirs.ensures.steps put.free put.moves.supplied unused apart known rest) in
+    let theirs : (w : ℕ) → impact_in c.deref-3.result.now w ≡ beside_top (bytes_in linked lr) more w = λ w. ap (λ (ps : List (ℕ × ℕ)). impact_in ps w) c.deref-3.ensures.value ∙ c.in_ok-theirs.ensures.theirs put.moves.supplied.rows.kept.map w
     ∙ parent-theirs before least l page target words item c.args.draft.now is opened' low at child within found mid mr mc mf more c.in_ok-grown.grown.rect rise put linked lr lc lf steps w in
     c.finish.ensures.honest least l steps.free draft level_is (parent-still before least l page target words item c.args.draft.now is opened' low at child within found mid mr mc mf more c.in_ok-grown.grown.rect rise put linked lr lc lf steps) found
     (parent-ready before least l page target words item c.args.draft.now is opened' low at child within found mid mr mc mf more c.in_ok-grown.grown.rect rise put linked lr lc lf steps) theirs
@@ -269,13 +274,13 @@ returns-clause-honest g t c = λ least free draft used is opened fits told.
 
 pub returns-in_err-theirs-clause-frame : goal.returns-in_err-theirs-clause-frame
 returns-in_err-theirs-clause-frame g t c =
-    changes_then g.P.Pages g.met.P.Pages.goes_further _ _ _ (reads_change g.P.Pages _ _ c.in_ok-at.ensures.looks.frame)
+    changes_then g.P.Pages g.met.P.Pages.goes_further _ _ _ (reads_change g.P.Pages _ _ c.in_ok-known.ensures.frame)
     (changes_then g.P.Pages g.met.P.Pages.goes_further _ _ _ (reads_change g.P.Pages _ _ c.in_ok-fetch_at.ensures.looks.frame)
     (changes_then g.P.Pages g.met.P.Pages.goes_further _ _ _ c.in_ok-grown.ensures.frame c.relink.ensures.frame))
 
 pub returns-clause-frame : goal.returns-clause-frame
 returns-clause-frame g t c =
-    changes_then g.P.Pages g.met.P.Pages.goes_further _ _ _ (reads_change g.P.Pages _ _ c.in_ok-at.ensures.looks.frame)
+    changes_then g.P.Pages g.met.P.Pages.goes_further _ _ _ (reads_change g.P.Pages _ _ c.in_ok-known.ensures.frame)
     (changes_then g.P.Pages g.met.P.Pages.goes_further _ _ _ (reads_change g.P.Pages _ _ c.in_ok-fetch_at.ensures.looks.frame)
     (changes_then g.P.Pages g.met.P.Pages.goes_further _ _ _ c.in_ok-grown.ensures.frame
     (changes_then g.P.Pages g.met.P.Pages.goes_further _ _ _ c.in_ok-theirs.ensures.frame c.finish.ensures.frame)))

@@ -10,7 +10,7 @@ use Rattle.node_inverted.specs.Rows.{IsRows, bytes_in}
 use Rattle.node_inverted.specs.Turns.{Turns}
 use Rattle.node_inverted.specs.Impacts.{impact_in, raised}
 use Rattle.node_inverted.proofs.Told.{told-turned}
-use Rattle.node_inverted.proofs.Turned.{view-same}
+use Rattle.node_inverted.proofs.Turned.{turns-as, view-same}
 use Rattle.irtree_shape.proofs.Renewals.{steps-relinked}
 use Rattle.irtree_insert.specs.declared.grown.Beside.{Beside}
 use Rattle.irtree_insert.specs.Grown.{beside_top}
@@ -35,15 +35,16 @@ returns-in_err-renew-clause-honest g c =
     let r1 : ℕ = c.raise.new.tree.rows in
     let c1 : ℕ = g.P.Pages.count c.raise.new.pages in
     let f1 : ℕ = g.P.Pages.first c.raise.new.pages in
+    let above : List (ℕ × ℕ) = c.deref.result.now in
     let reads = c.in_ok-theirs.ensures.frame in
     let same = view-same (g.P.Pages.pages c.words_beside.new.pages) old (g.P.Pages.count c.words_beside.new.pages) (g.P.Pages.count c.args.pages.now) (g.P.Pages.first c.words_beside.new.pages) (g.P.Pages.first c.args.pages.now) free reads.pages reads.count reads.first in
-    let Claim : supply.View → Type 0 = λ w. IsRows w rows → Turns w rows mid c1 f1 r1 (raised c.args.page c.args.at (impact_in c.args.words.now) (bytes_in w.pages rows)) in
+    let Claim : supply.View → Type 0 = λ w. IsRows w rows → Turns w rows mid c1 f1 r1 (raised c.args.page c.args.at (impact_in above) (bytes_in w.pages rows)) in
     let turn = subst Claim same (c.in_ok-raise.ensures.turns free) supplied.rows in
-    let told' = told-turned (plain before) rows mid c1 f1 r1 (raised c.args.page c.args.at (impact_in c.args.words.now) (bytes_in old rows)) turn told in
+    let told' = told-turned (plain before) rows mid c1 f1 r1 (raised c.args.page c.args.at (impact_in above) (bytes_in old rows)) turn told in
     c.in_err-renew.ensures.honest turn.free turn.rows apart told' damage (ap Err (same-fault {T = Vec (ℕ × ℕ) Global} _ _ e)))
 
 pub returns-clause-steps : goal.returns-clause-steps
-returns-clause-steps g c = λ free supplied unused apart right.
+returns-clause-steps g c = λ free supplied unused apart known right.
     let old : PageMap = g.P.Pages.pages c.args.pages.now in
     let rows : ℕ = c.args.tree.now.rows in
     let before : View = view old rows (g.P.Pages.count c.args.pages.now) (g.P.Pages.first c.args.pages.now) free in
@@ -51,12 +52,16 @@ returns-clause-steps g c = λ free supplied unused apart right.
     let r1 : ℕ = c.raise.new.tree.rows in
     let c1 : ℕ = g.P.Pages.count c.raise.new.pages in
     let f1 : ℕ = g.P.Pages.first c.raise.new.pages in
+    let above : List (ℕ × ℕ) = c.deref.result.now in
     let reads = c.in_ok-theirs.ensures.frame in
     let same = view-same (g.P.Pages.pages c.words_beside.new.pages) old (g.P.Pages.count c.words_beside.new.pages) (g.P.Pages.count c.args.pages.now) (g.P.Pages.first c.words_beside.new.pages) (g.P.Pages.first c.args.pages.now) free reads.pages reads.count reads.first in
-    let Claim : supply.View → Type 0 = λ w. IsRows w rows → Turns w rows mid c1 f1 r1 (raised c.args.page c.args.at (impact_in c.args.words.now) (bytes_in w.pages rows)) in
-    let turn = subst Claim same (c.in_ok-raise.ensures.turns free) supplied.rows in
-    let theirs : List (ℕ × ℕ) = c.deref.result.now in
-    let is : (w : ℕ) → impact_in theirs w ≡ beside_top (bytes_in old rows) c.args.more.now w = λ w. ap (λ (ps : List (ℕ × ℕ)). impact_in ps w) c.deref.ensures.value ∙ c.in_ok-theirs.ensures.words supplied.rows.kept.map w in
+    let Claim : supply.View → Type 0 = λ w. IsRows w rows → Turns w rows mid c1 f1 r1 (raised c.args.page c.args.at (impact_in above) (bytes_in w.pages rows)) in
+    let turned = subst Claim same (c.in_ok-raise.ensures.turns free) supplied.rows in
+    let words_are : (n w i : ℕ) → raised c.args.page c.args.at (impact_in above) (bytes_in old rows) n w i ≡ raised c.args.page c.args.at (impact_in c.args.words.now) (bytes_in old rows) n w i =
+    λ n w i. ap (λ (ps : List (ℕ × ℕ)). raised c.args.page c.args.at (impact_in ps) (bytes_in old rows) n w i) c.deref.ensures.value ∙ c.in_ok-above.ensures.raised (bytes_in old rows) c.args.page known n w i in
+    let turn = turns-as (plain before) rows mid c1 f1 r1 (raised c.args.page c.args.at (impact_in above) (bytes_in old rows)) (raised c.args.page c.args.at (impact_in c.args.words.now) (bytes_in old rows)) words_are turned in
+    let theirs : List (ℕ × ℕ) = c.deref-2.result.now in
+    let is : (w : ℕ) → impact_in theirs w ≡ beside_top (bytes_in old rows) c.args.more.now w = λ w. ap (λ (ps : List (ℕ × ℕ)). impact_in ps w) c.deref-2.ensures.value ∙ c.in_ok-theirs.ensures.words supplied.rows.kept.map w in
     steps-relinked before mid (g.P.Pages.pages c.renew.new.pages) r1 c1 f1 c.renew.new.tree.rows (g.P.Pages.count c.renew.new.pages) (g.P.Pages.first c.renew.new.pages) c.args.page c.args.at c.args.child
     c.args.words.now theirs c.args.more.now supplied unused apart (λ e w. is w ∙ ap (λ (o : Option Beside). beside_top (bytes_in old rows) o w) e) (λ w z. right w (sym (is w) ∙ z))
     turn (c.in_ok-renew.ensures.turns turn.free turn.rows apart)

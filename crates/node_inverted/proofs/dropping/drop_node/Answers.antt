@@ -1,4 +1,4 @@
-use Rattle.std.proofs.Common.{◌≡◌, ℕ, ◌∙◌, ap, ◌^◌, Option, subst, Err, refl}
+use Rattle.std.proofs.Common.{◌≡◌, ℕ, ◌∙◌, ap, ◌^◌, Option, List, [], rules, subst, Err, refl}
 use Rattle.std.proofs.lemmas.Result.{err_from_is_err_and}
 use Rattle.page_face.specs.declared.fault.PageFault.TheVariants.{Damaged}
 use Rattle.page_face.proofs.Frames.{changes_then}
@@ -8,60 +8,82 @@ use Rattle.rtree_shape.specs.Stock.{rows_form}
 use Rattle.node_inverted.specs.Rows.{Bytes, bytes_in}
 use Rattle.node_inverted.specs.Turns.{Turns, dropped}
 use Rattle.node_inverted.specs.Ascents.{until, reached}
+use Rattle.node_inverted.specs.Drafts.{with_rows}
+use Rattle.node_inverted.specs.Gathers.{IsDropping}
+use Rattle.node_inverted.specs.declared.taking.NodeRow.{NodeRow}
 use Rattle.node_inverted.proofs.Bytes.{bytes-large}
 use Rattle.node_inverted.proofs.Turned.{turns-same, turns-as}
 use Rattle.node_inverted.proofs.Told.{told-turned}
 use Rattle.node_inverted.proofs.Faults.{changes-none}
 use Rattle.node_inverted.proofs.Ascents.{start, all}
 use Rattle.node_inverted.proofs.Drops.{dropped-idle}
+use Rattle.node_inverted.proofs.Gathers.{dropping-none, dropping-set}
 use Rattle.node_inverted.proofs.dropping.drop_node.Goals as goal
 
 pub loop-from-init : goal.loop-from-init
-loop-from-init g c = record {
-  root = refl;
-  turns = λ free rows.
-      let before : View = view (g.P.Pages.pages c.args.pages.now) (g.P.Pages.count c.args.pages.now) (g.P.Pages.first c.args.pages.now) free in
-      let b : Bytes = bytes_in (g.P.Pages.pages c.args.pages.now) c.args.tree.now.rows in
-      turns-as before c.args.tree.now.rows (g.P.Pages.pages c.args.pages.now) (g.P.Pages.count c.args.pages.now) (g.P.Pages.first c.args.pages.now) c.args.tree.now.rows b
-      (until 0 (dropped c.args.node b) b) (start (dropped c.args.node b) b) (turns-same before c.args.tree.now.rows rows);
-  copy = λ free rows. c.none-copy.ensures (bytes_in (g.P.Pages.pages c.args.pages.now) c.args.tree.now.rows) c.args.node;
-  frame = changes-none g.P.Pages c.args.pages.now (g.met.P.Pages.stays c.args.pages.now);
-}
+loop-from-init g c =
+    let none : c.new-rows.result.items ≡ [] = search rules in
+    record {
+      root = refl;
+      dropping = λ free rows.
+          let before : View = view (g.P.Pages.pages c.args.pages.now) (g.P.Pages.count c.args.pages.now) (g.P.Pages.first c.args.pages.now) free in
+          let root : ℕ = c.args.tree.now.rows in
+          let b : Bytes = bytes_in (g.P.Pages.pages c.args.pages.now) root in
+          let f : Bytes = dropped c.args.node b in
+          dropping-none before root (g.P.Pages.pages c.args.pages.now) (g.P.Pages.count c.args.pages.now) (g.P.Pages.first c.args.pages.now) root c.args.node b 0 c.new-rows.result.items none
+          (turns-as before root (g.P.Pages.pages c.args.pages.now) (g.P.Pages.count c.args.pages.now) (g.P.Pages.first c.args.pages.now) root b (until 0 f b) (start f b) (turns-same before root rows));
+      copy = λ free rows. c.none-copy.ensures (bytes_in (g.P.Pages.pages c.args.pages.now) c.args.tree.now.rows) c.args.node;
+      frame = changes-none g.P.Pages c.args.pages.now (g.met.P.Pages.stays c.args.pages.now);
+    }
 
 pub loop-from-preserved : goal.loop-from-preserved
 loop-from-preserved g c = record {
   root = c.in_ok-from.ensures.root ∙ c.loop-from.invariant.root;
-  turns = λ free rows.
+  dropping = λ free rows.
       let before : View = view (g.P.Pages.pages c.args.pages.now) (g.P.Pages.count c.args.pages.now) (g.P.Pages.first c.args.pages.now) free in
       let b : Bytes = bytes_in (g.P.Pages.pages c.args.pages.now) c.args.tree.now.rows in
-      c.in_ok-from.ensures.turns before c.args.tree.now.rows b (c.loop-from.invariant.copy free rows) (subst (λ (o : Option ℕ). Turns before c.args.tree.now.rows (g.P.Pages.pages c.loop-from.pages) (g.P.Pages.count c.loop-from.pages) (g.P.Pages.first c.loop-from.pages) c.loop-from.changed.rows
-      (until (reached o) (dropped c.args.node b) b)) c.in-Some.is (c.loop-from.invariant.turns free rows));
+      c.in_ok-from.ensures.dropping before c.args.tree.now.rows b (c.loop-from.invariant.copy free rows) (subst (λ (o : Option ℕ). IsDropping before c.args.tree.now.rows (g.P.Pages.pages c.loop-from.pages) (g.P.Pages.count c.loop-from.pages) (g.P.Pages.first c.loop-from.pages) c.loop-from.changed.rows
+      c.args.node b (reached o) c.loop-from.rows.items) c.in-Some.is (c.loop-from.invariant.dropping free rows));
   copy = λ free rows.
       let before : View = view (g.P.Pages.pages c.args.pages.now) (g.P.Pages.count c.args.pages.now) (g.P.Pages.first c.args.pages.now) free in
       let b : Bytes = bytes_in (g.P.Pages.pages c.args.pages.now) c.args.tree.now.rows in
-      c.in_ok-from.ensures.copy before c.args.tree.now.rows b (subst (λ (o : Option ℕ). Turns before c.args.tree.now.rows (g.P.Pages.pages c.loop-from.pages) (g.P.Pages.count c.loop-from.pages) (g.P.Pages.first c.loop-from.pages) c.loop-from.changed.rows
-      (until (reached o) (dropped c.args.node b) b)) c.in-Some.is (c.loop-from.invariant.turns free rows)) (c.loop-from.invariant.copy free rows);
+      c.in_ok-from.ensures.copy before c.args.tree.now.rows b (c.loop-from.invariant.copy free rows) (subst (λ (o : Option ℕ). IsDropping before c.args.tree.now.rows (g.P.Pages.pages c.loop-from.pages) (g.P.Pages.count c.loop-from.pages) (g.P.Pages.first c.loop-from.pages) c.loop-from.changed.rows
+      c.args.node b (reached o) c.loop-from.rows.items) c.in-Some.is (c.loop-from.invariant.dropping free rows));
   frame = changes_then g.P.Pages g.met.P.Pages.goes_further _ _ _ c.loop-from.invariant.frame c.drop_next.ensures.frame;
 }
 
 pub returns-clause-turns : goal.returns-clause-turns
 returns-clause-turns g c = λ free rows.
     let before : View = view (g.P.Pages.pages c.args.pages.now) (g.P.Pages.count c.args.pages.now) (g.P.Pages.first c.args.pages.now) free in
-    let b : Bytes = bytes_in (g.P.Pages.pages c.args.pages.now) c.args.tree.now.rows in
-    let large = bytes-large (map_rows rows_form (g.P.Pages.pages c.args.pages.now) c.args.tree.now.rows) in
+    let root : ℕ = c.args.tree.now.rows in
+    let b : Bytes = bytes_in (g.P.Pages.pages c.args.pages.now) root in
+    let large = bytes-large (map_rows rows_form (g.P.Pages.pages c.args.pages.now) root) in
     let f : Bytes → Bytes = dropped c.args.node in
     let e : reached c.loop-from.from ≡ 2 ^ 64 = ap reached c.in_default.is in
-    turns-as before c.args.tree.now.rows (g.P.Pages.pages c.loop-from.pages) (g.P.Pages.count c.loop-from.pages) (g.P.Pages.first c.loop-from.pages) c.loop-from.changed.rows
+    let h = c.loop-from.invariant.dropping free rows in
+    turns-as before root (g.P.Pages.pages c.set_rows.new.pages) (g.P.Pages.count c.set_rows.new.pages) (g.P.Pages.first c.set_rows.new.pages) c.set_rows.new.tree.rows
     (until (reached c.loop-from.from) (f b) b) (f b)
     (λ n w i. ap (λ (k : ℕ). until k (f b) b n w i) e ∙ all (2 ^ 64) (f b) b (λ n' w' i' l. dropped-idle c.args.node b w' (λ j. large c.args.node w' j l) n' i') n w i)
-    (c.loop-from.invariant.turns free rows)
+    (dropping-set before root (g.P.Pages.pages c.loop-from.pages) (g.P.Pages.count c.loop-from.pages) (g.P.Pages.first c.loop-from.pages) c.loop-from.changed.rows c.args.node b (reached c.loop-from.from) c.loop-from.rows.items h
+    (g.P.Pages.pages c.set_rows.new.pages) (g.P.Pages.count c.set_rows.new.pages) (g.P.Pages.first c.set_rows.new.pages) c.set_rows.new.tree.rows
+    (subst (λ (rs : List NodeRow). Turns (view (g.P.Pages.pages c.loop-from.pages) (g.P.Pages.count c.loop-from.pages) (g.P.Pages.first c.loop-from.pages) h.turn.free) c.loop-from.changed.rows
+    (g.P.Pages.pages c.set_rows.new.pages) (g.P.Pages.count c.set_rows.new.pages) (g.P.Pages.first c.set_rows.new.pages) c.set_rows.new.tree.rows (with_rows c.args.node rs (bytes_in (g.P.Pages.pages c.loop-from.pages) c.loop-from.changed.rows)))
+    c.deref.ensures.value (c.in_ok-set_rows.ensures.turns h.turn.free h.turn.rows)))
 
 pub returns-in_err-from-clause-honest : goal.returns-in_err-from-clause-honest
 returns-in_err-from-clause-honest g c free rows told damage =
     let before : View = view (g.P.Pages.pages c.args.pages.now) (g.P.Pages.count c.args.pages.now) (g.P.Pages.first c.args.pages.now) free in
-    let b : Bytes = bytes_in (g.P.Pages.pages c.args.pages.now) c.args.tree.now.rows in
-    let turn = c.loop-from.invariant.turns free rows in
+    let h = c.loop-from.invariant.dropping free rows in
     let p = err_from_is_err_and c.from_residual.result c.from_residual.ensures.1 in
     λ e. (let same : c.in_err-from.field-0.0 ≡ Damaged damage = cc (p.1, p.2, e) in
-    c.in_err-from.ensures.honest turn.free turn.rows (told-turned before c.args.tree.now.rows (g.P.Pages.pages c.loop-from.pages) (g.P.Pages.count c.loop-from.pages) (g.P.Pages.first c.loop-from.pages) c.loop-from.changed.rows
-    (until (reached c.loop-from.from) (dropped c.args.node b) b) turn told) damage (ap Err same))
+    c.in_err-from.ensures.honest h.turn.free h.turn.rows (told-turned before c.args.tree.now.rows (g.P.Pages.pages c.loop-from.pages) (g.P.Pages.count c.loop-from.pages) (g.P.Pages.first c.loop-from.pages) c.loop-from.changed.rows
+    h.bytes h.turn told) damage (ap Err same))
+
+pub returns-in_err-set_rows-clause-honest : goal.returns-in_err-set_rows-clause-honest
+returns-in_err-set_rows-clause-honest g c free rows told damage =
+    let before : View = view (g.P.Pages.pages c.args.pages.now) (g.P.Pages.count c.args.pages.now) (g.P.Pages.first c.args.pages.now) free in
+    let h = c.loop-from.invariant.dropping free rows in
+    let p = err_from_is_err_and c.from_residual-in_err-set_rows.result c.from_residual-in_err-set_rows.ensures.1 in
+    λ e. (let same : c.in_err-set_rows.field-0.0 ≡ Damaged damage = cc (p.1, p.2, e) in
+    c.in_err-set_rows.ensures.honest h.turn.free h.turn.rows (told-turned before c.args.tree.now.rows (g.P.Pages.pages c.loop-from.pages) (g.P.Pages.count c.loop-from.pages) (g.P.Pages.first c.loop-from.pages) c.loop-from.changed.rows
+    h.bytes h.turn told) damage (ap Err same))

@@ -1,4 +1,4 @@
-use Rattle.std.proofs.Common.{◌≡◌, ℕ, ◌∙◌, ap, ◌^◌, Option, subst, Err, refl}
+use Rattle.std.proofs.Common.{◌≡◌, ℕ, ◌∙◌, ap, ◌^◌, Option, subst, Err, refl, rules, []}
 use Rattle.std.proofs.lemmas.Result.{err_from_is_err_and}
 use Rattle.page_face.specs.declared.fault.PageFault.TheVariants.{Damaged}
 use Rattle.page_face.proofs.Frames.{changes_then}
@@ -6,62 +6,78 @@ use Rattle.btree_nodes.specs.Supply.{View, view}
 use Rattle.btree_nodes.specs.Tree.{map_rows}
 use Rattle.rtree_shape.specs.Stock.{rows_form}
 use Rattle.node_inverted.specs.Rows.{Bytes, bytes_in}
-use Rattle.node_inverted.specs.Turns.{Turns, moved}
+use Rattle.node_inverted.specs.Turns.{moved}
 use Rattle.node_inverted.specs.Ascents.{until, reached}
+use Rattle.node_inverted.specs.Gathers.{IsMoving}
 use Rattle.node_inverted.proofs.Bytes.{bytes-large}
 use Rattle.node_inverted.proofs.Turned.{turns-same, turns-as}
 use Rattle.node_inverted.proofs.Told.{told-turned}
 use Rattle.node_inverted.proofs.Faults.{changes-none}
 use Rattle.node_inverted.proofs.Ascents.{start, all}
+use Rattle.node_inverted.proofs.Gathers.{moving-none}
 use Rattle.node_inverted.proofs.Moves.{moved-idle}
 use Rattle.node_inverted.proofs.moving.move_slots.Goals as goal
 
 pub loop-from-init : goal.loop-from-init
-loop-from-init g c = record {
-  root = refl;
-  turns = λ free apart rows clear.
-      let before : View = view (g.P.Pages.pages c.args.pages.now) (g.P.Pages.count c.args.pages.now) (g.P.Pages.first c.args.pages.now) free in
-      let b : Bytes = bytes_in (g.P.Pages.pages c.args.pages.now) c.args.tree.now.rows in
-      turns-as before c.args.tree.now.rows (g.P.Pages.pages c.args.pages.now) (g.P.Pages.count c.args.pages.now) (g.P.Pages.first c.args.pages.now) c.args.tree.now.rows b
-      (until 0 (moved c.args.node c.args.slots c.args.to b) b) (start (moved c.args.node c.args.slots c.args.to b) b) (turns-same before c.args.tree.now.rows rows);
-  copy = λ free apart rows clear. c.none-copy.ensures (bytes_in (g.P.Pages.pages c.args.pages.now) c.args.tree.now.rows) c.args.node;
-  frame = changes-none g.P.Pages c.args.pages.now (g.met.P.Pages.stays c.args.pages.now);
-}
+loop-from-init g c =
+    let none_stays : c.new-stays.result.items ≡ [] = search rules in
+    let none_goes : c.new-goes.result.items ≡ [] = search rules in
+    record {
+      root = refl;
+      moving = λ free apart rows clear.
+          let before : View = view (g.P.Pages.pages c.args.pages.now) (g.P.Pages.count c.args.pages.now) (g.P.Pages.first c.args.pages.now) free in
+          let root : ℕ = c.args.tree.now.rows in
+          let b : Bytes = bytes_in (g.P.Pages.pages c.args.pages.now) root in
+          let f : Bytes = moved c.args.node c.args.slots c.args.to b in
+          moving-none before root (g.P.Pages.pages c.args.pages.now) (g.P.Pages.count c.args.pages.now) (g.P.Pages.first c.args.pages.now) root c.args.node c.args.slots c.args.to b 0 c.new-stays.result.items c.new-goes.result.items none_stays none_goes
+          (turns-as before root (g.P.Pages.pages c.args.pages.now) (g.P.Pages.count c.args.pages.now) (g.P.Pages.first c.args.pages.now) root b (until 0 f b) (start f b) (turns-same before root rows));
+      copy = λ free apart rows clear. c.none-copy.ensures (bytes_in (g.P.Pages.pages c.args.pages.now) c.args.tree.now.rows) c.args.node;
+      frame = changes-none g.P.Pages c.args.pages.now (g.met.P.Pages.stays c.args.pages.now);
+    }
 
 pub loop-from-preserved : goal.loop-from-preserved
 loop-from-preserved g c = record {
   root = c.in_ok-from.ensures.root ∙ c.loop-from.invariant.root;
-  turns = λ free apart rows clear.
+  moving = λ free apart rows clear.
       let before : View = view (g.P.Pages.pages c.args.pages.now) (g.P.Pages.count c.args.pages.now) (g.P.Pages.first c.args.pages.now) free in
       let b : Bytes = bytes_in (g.P.Pages.pages c.args.pages.now) c.args.tree.now.rows in
-      c.in_ok-from.ensures.turns before c.args.tree.now.rows b apart clear (c.loop-from.invariant.copy free apart rows clear) (subst (λ (o : Option ℕ). Turns before c.args.tree.now.rows (g.P.Pages.pages c.loop-from.pages) (g.P.Pages.count c.loop-from.pages) (g.P.Pages.first c.loop-from.pages) c.loop-from.changed.rows
-      (until (reached o) (moved c.args.node c.args.slots c.args.to b) b)) c.in-Some.is (c.loop-from.invariant.turns free apart rows clear));
+      c.in_ok-from.ensures.moving before c.args.tree.now.rows b apart clear (c.loop-from.invariant.copy free apart rows clear) (subst (λ (o : Option ℕ). IsMoving before c.args.tree.now.rows (g.P.Pages.pages c.loop-from.pages) (g.P.Pages.count c.loop-from.pages) (g.P.Pages.first c.loop-from.pages) c.loop-from.changed.rows
+      c.args.node c.args.slots c.args.to b (reached o) c.loop-from.stays.items c.loop-from.goes.items) c.in-Some.is (c.loop-from.invariant.moving free apart rows clear));
   copy = λ free apart rows clear.
       let before : View = view (g.P.Pages.pages c.args.pages.now) (g.P.Pages.count c.args.pages.now) (g.P.Pages.first c.args.pages.now) free in
       let b : Bytes = bytes_in (g.P.Pages.pages c.args.pages.now) c.args.tree.now.rows in
-      c.in_ok-from.ensures.copy before c.args.tree.now.rows b (subst (λ (o : Option ℕ). Turns before c.args.tree.now.rows (g.P.Pages.pages c.loop-from.pages) (g.P.Pages.count c.loop-from.pages) (g.P.Pages.first c.loop-from.pages) c.loop-from.changed.rows
-      (until (reached o) (moved c.args.node c.args.slots c.args.to b) b)) c.in-Some.is (c.loop-from.invariant.turns free apart rows clear)) (c.loop-from.invariant.copy free apart rows clear);
+      c.in_ok-from.ensures.copy before c.args.tree.now.rows b (c.loop-from.invariant.copy free apart rows clear) (subst (λ (o : Option ℕ). IsMoving before c.args.tree.now.rows (g.P.Pages.pages c.loop-from.pages) (g.P.Pages.count c.loop-from.pages) (g.P.Pages.first c.loop-from.pages) c.loop-from.changed.rows
+      c.args.node c.args.slots c.args.to b (reached o) c.loop-from.stays.items c.loop-from.goes.items) c.in-Some.is (c.loop-from.invariant.moving free apart rows clear));
   frame = changes_then g.P.Pages g.met.P.Pages.goes_further _ _ _ c.loop-from.invariant.frame c.move_next.ensures.frame;
 }
 
 pub returns-clause-turns : goal.returns-clause-turns
 returns-clause-turns g c = λ free apart rows clear.
     let before : View = view (g.P.Pages.pages c.args.pages.now) (g.P.Pages.count c.args.pages.now) (g.P.Pages.first c.args.pages.now) free in
-    let b : Bytes = bytes_in (g.P.Pages.pages c.args.pages.now) c.args.tree.now.rows in
-    let large = bytes-large (map_rows rows_form (g.P.Pages.pages c.args.pages.now) c.args.tree.now.rows) in
+    let root : ℕ = c.args.tree.now.rows in
+    let b : Bytes = bytes_in (g.P.Pages.pages c.args.pages.now) root in
+    let large = bytes-large (map_rows rows_form (g.P.Pages.pages c.args.pages.now) root) in
     let f : Bytes → Bytes = moved c.args.node c.args.slots c.args.to in
     let e : reached c.loop-from.from ≡ 2 ^ 64 = ap reached c.in_default.is in
-    turns-as before c.args.tree.now.rows (g.P.Pages.pages c.loop-from.pages) (g.P.Pages.count c.loop-from.pages) (g.P.Pages.first c.loop-from.pages) c.loop-from.changed.rows
+    turns-as before root (g.P.Pages.pages c.set_parts.new.pages) (g.P.Pages.count c.set_parts.new.pages) (g.P.Pages.first c.set_parts.new.pages) c.set_parts.new.tree.rows
     (until (reached c.loop-from.from) (f b) b) (f b)
     (λ n w i. ap (λ (k : ℕ). until k (f b) b n w i) e ∙ all (2 ^ 64) (f b) b (λ n' w' i' l. moved-idle c.args.node c.args.slots c.args.to b w' (λ j. large c.args.node w' j l) (λ j. large c.args.to w' j l) n' i') n w i)
-    (c.loop-from.invariant.turns free apart rows clear)
+    (c.in_ok-set_parts.ensures.turns before root c.args.slots (reached c.loop-from.from) b (c.loop-from.invariant.moving free apart rows clear))
 
 pub returns-in_err-from-clause-honest : goal.returns-in_err-from-clause-honest
 returns-in_err-from-clause-honest g c free apart rows clear told damage =
     let before : View = view (g.P.Pages.pages c.args.pages.now) (g.P.Pages.count c.args.pages.now) (g.P.Pages.first c.args.pages.now) free in
-    let b : Bytes = bytes_in (g.P.Pages.pages c.args.pages.now) c.args.tree.now.rows in
-    let turn = c.loop-from.invariant.turns free apart rows clear in
+    let h = c.loop-from.invariant.moving free apart rows clear in
     let p = err_from_is_err_and c.from_residual.result c.from_residual.ensures.1 in
     λ e. (let same : c.in_err-from.field-0.0 ≡ Damaged damage = cc (p.1, p.2, e) in
-    c.in_err-from.ensures.honest turn.free turn.rows (told-turned before c.args.tree.now.rows (g.P.Pages.pages c.loop-from.pages) (g.P.Pages.count c.loop-from.pages) (g.P.Pages.first c.loop-from.pages) c.loop-from.changed.rows
-    (until (reached c.loop-from.from) (moved c.args.node c.args.slots c.args.to b) b) turn told) damage (ap Err same))
+    c.in_err-from.ensures.honest h.turn.free h.turn.rows (told-turned before c.args.tree.now.rows (g.P.Pages.pages c.loop-from.pages) (g.P.Pages.count c.loop-from.pages) (g.P.Pages.first c.loop-from.pages) c.loop-from.changed.rows
+    h.bytes h.turn told) damage (ap Err same))
+
+pub returns-in_err-set_parts-clause-honest : goal.returns-in_err-set_parts-clause-honest
+returns-in_err-set_parts-clause-honest g c free apart rows clear told damage =
+    let before : View = view (g.P.Pages.pages c.args.pages.now) (g.P.Pages.count c.args.pages.now) (g.P.Pages.first c.args.pages.now) free in
+    let h = c.loop-from.invariant.moving free apart rows clear in
+    let p = err_from_is_err_and c.from_residual-in_err-set_parts.result c.from_residual-in_err-set_parts.ensures.1 in
+    λ e. (let same : c.in_err-set_parts.field-0.0 ≡ Damaged damage = cc (p.1, p.2, e) in
+    c.in_err-set_parts.ensures.honest h.turn.free h.turn.rows (told-turned before c.args.tree.now.rows (g.P.Pages.pages c.loop-from.pages) (g.P.Pages.count c.loop-from.pages) (g.P.Pages.first c.loop-from.pages) c.loop-from.changed.rows
+    h.bytes h.turn told) damage (ap Err same))

@@ -2,21 +2,22 @@ use Rattle.std.proofs.Common.{◌≡◌, ℕ, List}
 use Rattle.page_face.specs.Calls.{Changes}
 use Rattle.btree_nodes.specs.Supply.{view}
 use Rattle.node_inverted.specs.Rows.{IsRows, bytes_in}
-use Rattle.node_inverted.specs.Turns.{Turns, HasNone, moved}
+use Rattle.node_inverted.specs.Turns.{HasNone}
 use Rattle.node_inverted.specs.Copies.{IsCopy}
-use Rattle.node_inverted.specs.Ascents.{until, reached, left_from}
+use Rattle.node_inverted.specs.Ascents.{reached, left_from}
+use Rattle.node_inverted.specs.Gathers.{IsMoving}
 use Rattle.node_inverted.proofs.moving.move_slots.Given as goal
 
--- the words before the next one are moved
+-- with the gathered rows set the words before the next one are moved
 abbrev pub invariant-loop-from : goal.invariant-loop-from
 invariant-loop-from g l =
     let p = g.P.Pages in
     record {
       root : l.changed.root ≡ l.fn.tree.root;
-      turns : (free : List ℕ) → (l.node ≡ l.to → ⊥) → IsRows (view (p.pages l.fn.pages) (p.count l.fn.pages) (p.first l.fn.pages) free) l.fn.tree.rows
+      moving : (free : List ℕ) → (l.node ≡ l.to → ⊥) → IsRows (view (p.pages l.fn.pages) (p.count l.fn.pages) (p.first l.fn.pages) free) l.fn.tree.rows
           → HasNone (bytes_in (p.pages l.fn.pages) l.fn.tree.rows) l.to
-          → Turns (view (p.pages l.fn.pages) (p.count l.fn.pages) (p.first l.fn.pages) free) l.fn.tree.rows (p.pages l.pages) (p.count l.pages) (p.first l.pages) l.changed.rows
-          (until (reached l.from) (moved l.node l.slots l.to (bytes_in (p.pages l.fn.pages) l.fn.tree.rows)) (bytes_in (p.pages l.fn.pages) l.fn.tree.rows));
+          → IsMoving (view (p.pages l.fn.pages) (p.count l.fn.pages) (p.first l.fn.pages) free) l.fn.tree.rows (p.pages l.pages) (p.count l.pages) (p.first l.pages) l.changed.rows
+          l.node l.slots l.to (bytes_in (p.pages l.fn.pages) l.fn.tree.rows) (reached l.from) l.stays.items l.goes.items;
       copy : (free : List ℕ) → (l.node ≡ l.to → ⊥) → IsRows (view (p.pages l.fn.pages) (p.count l.fn.pages) (p.first l.fn.pages) free) l.fn.tree.rows
           → HasNone (bytes_in (p.pages l.fn.pages) l.fn.tree.rows) l.to
           → IsCopy (bytes_in (p.pages l.fn.pages) l.fn.tree.rows) l.node l.copy;

@@ -1,64 +1,81 @@
-use Rattle.std.proofs.Common.{◌≡◌, ℕ, ◌+◌, ◌<◌, ◌∙◌, ap, sym, take, get_or, List, arith, length, refl, Err}
-use Rattle.std.proofs.lemmas.List.{take_more}
+use Rattle.std.proofs.Common.{◌≡◌, ℕ, ◌<◌, ◌∙◌, ap, sym, subst, take, get_or, List, [], arith, length, refl, rules, Err}
+use Rattle.std.proofs.lemmas.List.{take_all, take_more}
 use Rattle.std.proofs.lemmas.Result.{err_from_is_err_and}
 use Rattle.page_face.specs.declared.fault.PageFault.TheVariants.{Damaged}
 use Rattle.page_face.proofs.Frames.{changes_then}
 use Rattle.btree_nodes.specs.Supply.{View, view}
 use Rattle.node_inverted.specs.Rows.{Bytes, bytes_in}
-use Rattle.node_inverted.specs.Impacts.{refreshed, with_byte, top_at}
+use Rattle.node_inverted.specs.Turns.{Turns}
+use Rattle.node_inverted.specs.Drafts.{with_rows}
+use Rattle.node_inverted.specs.Impacts.{refreshed}
 use Rattle.node_inverted.specs.Refreshing.{on_words}
-use Rattle.node_inverted.proofs.Turned.{turns-same, turns-as, turns-further}
+use Rattle.node_inverted.specs.declared.taking.NodeRow.{NodeRow}
+use Rattle.node_inverted.specs.Gathers.{IsRenewing}
+use Rattle.node_inverted.proofs.Turned.{turns-same}
 use Rattle.node_inverted.proofs.Told.{told-turned}
 use Rattle.node_inverted.proofs.Faults.{changes-none}
-use Rattle.node_inverted.proofs.Refreshes.{renewed-next, child-same, top-at-same}
+use Rattle.node_inverted.proofs.Gathers.{renewing-none, renewing-set}
 use Rattle.node_inverted.proofs.refreshing.renew.Goals as goal
 
 pub loop-pair-init : goal.loop-pair-init
-loop-pair-init g c = record {
-  root = refl;
-  turns = λ free rows apart. turns-same (view (g.P.Pages.pages c.args.pages.now) (g.P.Pages.count c.args.pages.now) (g.P.Pages.first c.args.pages.now) free) c.args.tree.now.rows rows;
-  copy = λ free rows apart. c.none-copy.ensures (bytes_in (g.P.Pages.pages c.args.pages.now) c.args.tree.now.rows) c.args.child;
-  frame = changes-none g.P.Pages c.args.pages.now (g.met.P.Pages.stays c.args.pages.now);
-}
+loop-pair-init g c =
+    let none : c.new-rows.result.items ≡ [] = search rules in
+    record {
+      root = refl;
+      renewing = λ free rows apart.
+          let before : View = view (g.P.Pages.pages c.args.pages.now) (g.P.Pages.count c.args.pages.now) (g.P.Pages.first c.args.pages.now) free in
+          let root : ℕ = c.args.tree.now.rows in
+          let b : Bytes = bytes_in (g.P.Pages.pages c.args.pages.now) root in
+          renewing-none before root (g.P.Pages.pages c.args.pages.now) (g.P.Pages.count c.args.pages.now) (g.P.Pages.first c.args.pages.now) root c.args.node c.args.slot c.args.child b []
+          c.new-rows.result.items c.none-below.result c.none-above.result apart none (c.none-below.ensures b c.args.child) (λ d. c.none-above.ensures d c.args.node) (turns-same before root rows);
+      frame = changes-none g.P.Pages c.args.pages.now (g.met.P.Pages.stays c.args.pages.now);
+    }
 
 pub loop-pair-preserved : goal.loop-pair-preserved
 loop-pair-preserved g c = record {
   root = c.renew_one.ensures.root ∙ c.loop-pair.invariant.root;
-  turns = λ free rows apart.
+  renewing = λ free rows apart.
       let before : View = view (g.P.Pages.pages c.args.pages.now) (g.P.Pages.count c.args.pages.now) (g.P.Pages.first c.args.pages.now) free in
       let b : Bytes = bytes_in (g.P.Pages.pages c.args.pages.now) c.args.tree.now.rows in
-      let turn = c.loop-pair.invariant.turns free rows apart in
       let l : c.loop-pair.pair-index < length c.args.words.now = omega arith in
       let p : ℕ × ℕ = get_or c.args.words.now c.loop-pair.pair-index (0, 0) in
       let front : List (ℕ × ℕ) = take c.loop-pair.pair-index c.args.words.now in
-      let node : ℕ = c.args.node in
-      let slot : ℕ = c.args.slot in
-      let child : ℕ = c.args.child in
-      let f : Bytes = refreshed node slot child b in
-      let now : Bytes = bytes_in (g.P.Pages.pages c.loop-pair.pages) c.loop-pair.changed.rows in
-      let d : Bytes = on_words (take (c.loop-pair.pair-index + 1) c.args.words.now) f b in
-      turns-further before c.args.tree.now.rows (g.P.Pages.pages c.loop-pair.pages) (g.P.Pages.count c.loop-pair.pages) (g.P.Pages.first c.loop-pair.pages) c.loop-pair.changed.rows (on_words front f b) turn
-      (g.P.Pages.pages c.renew_one.new.pages) (g.P.Pages.count c.renew_one.new.pages) (g.P.Pages.first c.renew_one.new.pages) c.renew_one.new.tree.rows d
-      (turns-as _ c.loop-pair.changed.rows (g.P.Pages.pages c.renew_one.new.pages) (g.P.Pages.count c.renew_one.new.pages) (g.P.Pages.first c.renew_one.new.pages) c.renew_one.new.tree.rows
-      (with_byte node p.0 slot (top_at now child p.0) now) d
-      (λ n w i. renewed-next node slot child b now front apart turn.is p (top_at now child p.0) (top-at-same now b child p.0 (λ j. child-same node slot child b now front apart turn.is p.0 j)) n w i
-      ∙ ap (λ (ps : List (ℕ × ℕ)). on_words ps f b n w i) (sym (take_more c.args.words.now c.loop-pair.pair-index (0, 0) l)))
-      (c.in_ok-renew_one.ensures.turns b turn.free turn.rows (λ w i. child-same node slot child b now front apart turn.is w i) (c.loop-pair.invariant.copy free rows apart)));
-  copy = λ free rows apart.
-      let b : Bytes = bytes_in (g.P.Pages.pages c.args.pages.now) c.args.tree.now.rows in
-      let turn = c.loop-pair.invariant.turns free rows apart in
-      let front : List (ℕ × ℕ) = take c.loop-pair.pair-index c.args.words.now in
-      let now : Bytes = bytes_in (g.P.Pages.pages c.loop-pair.pages) c.loop-pair.changed.rows in
-      c.in_ok-renew_one.ensures.copy b turn.free turn.rows (λ w i. child-same c.args.node c.args.slot c.args.child b now front apart turn.is w i) (c.loop-pair.invariant.copy free rows apart);
+      subst (λ (ps : List (ℕ × ℕ)). IsRenewing before c.args.tree.now.rows (g.P.Pages.pages c.renew_one.new.pages) (g.P.Pages.count c.renew_one.new.pages) (g.P.Pages.first c.renew_one.new.pages) c.renew_one.new.tree.rows
+      c.args.node c.args.slot c.args.child b ps c.renew_one.new.rows.items c.renew_one.new.below c.renew_one.new.above) (sym (take_more c.args.words.now c.loop-pair.pair-index (0, 0) l))
+      (c.in_ok-renew_one.ensures.renewing before c.args.tree.now.rows p.1 b front apart (c.loop-pair.invariant.renewing free rows apart));
   frame = changes_then g.P.Pages g.met.P.Pages.goes_further _ _ _ c.loop-pair.invariant.frame c.renew_one.ensures.frame;
 }
+
+pub returns-clause-turns : goal.returns-clause-turns
+returns-clause-turns g c = λ free rows apart.
+    let before : View = view (g.P.Pages.pages c.args.pages.now) (g.P.Pages.count c.args.pages.now) (g.P.Pages.first c.args.pages.now) free in
+    let root : ℕ = c.args.tree.now.rows in
+    let b : Bytes = bytes_in (g.P.Pages.pages c.args.pages.now) root in
+    let h = c.loop-pair.invariant.renewing free rows apart in
+    let passed : take c.loop-pair.pair-index c.args.words.now ≡ c.args.words.now = take_all c.loop-pair.pair-index c.args.words.now c.loop-pair-test.false in
+    subst (λ (ps : List (ℕ × ℕ)). Turns before root (g.P.Pages.pages c.set_rows.new.pages) (g.P.Pages.count c.set_rows.new.pages) (g.P.Pages.first c.set_rows.new.pages) c.set_rows.new.tree.rows
+    (on_words ps (refreshed c.args.node c.args.slot c.args.child b) b)) passed
+    (renewing-set before root (g.P.Pages.pages c.loop-pair.pages) (g.P.Pages.count c.loop-pair.pages) (g.P.Pages.first c.loop-pair.pages) c.loop-pair.changed.rows c.args.node c.args.slot c.args.child b (take c.loop-pair.pair-index c.args.words.now)
+    c.loop-pair.rows.items c.loop-pair.below c.loop-pair.above h
+    (g.P.Pages.pages c.set_rows.new.pages) (g.P.Pages.count c.set_rows.new.pages) (g.P.Pages.first c.set_rows.new.pages) c.set_rows.new.tree.rows
+    (subst (λ (rs : List NodeRow). Turns (view (g.P.Pages.pages c.loop-pair.pages) (g.P.Pages.count c.loop-pair.pages) (g.P.Pages.first c.loop-pair.pages) h.turn.free) c.loop-pair.changed.rows
+    (g.P.Pages.pages c.set_rows.new.pages) (g.P.Pages.count c.set_rows.new.pages) (g.P.Pages.first c.set_rows.new.pages) c.set_rows.new.tree.rows (with_rows c.args.node rs (bytes_in (g.P.Pages.pages c.loop-pair.pages) c.loop-pair.changed.rows)))
+    c.deref.ensures.value (c.in_ok-set_rows.ensures.turns h.turn.free h.turn.rows)))
 
 pub returns-in_err-renew_one-clause-honest : goal.returns-in_err-renew_one-clause-honest
 returns-in_err-renew_one-clause-honest g c free rows apart told damage =
     let before : View = view (g.P.Pages.pages c.args.pages.now) (g.P.Pages.count c.args.pages.now) (g.P.Pages.first c.args.pages.now) free in
-    let b : Bytes = bytes_in (g.P.Pages.pages c.args.pages.now) c.args.tree.now.rows in
-    let turn = c.loop-pair.invariant.turns free rows apart in
+    let h = c.loop-pair.invariant.renewing free rows apart in
     let p = err_from_is_err_and c.from_residual.result c.from_residual.ensures.1 in
     λ e. (let same : c.in_err-renew_one.field-0.0 ≡ Damaged damage = cc (p.1, p.2, e) in
-    c.in_err-renew_one.ensures.honest turn.free turn.rows (told-turned before c.args.tree.now.rows (g.P.Pages.pages c.loop-pair.pages) (g.P.Pages.count c.loop-pair.pages) (g.P.Pages.first c.loop-pair.pages) c.loop-pair.changed.rows
-    (on_words (take c.loop-pair.pair-index c.args.words.now) (refreshed c.args.node c.args.slot c.args.child b) b) turn told) damage (ap Err same))
+    c.in_err-renew_one.ensures.honest h.turn.free h.turn.rows (told-turned before c.args.tree.now.rows (g.P.Pages.pages c.loop-pair.pages) (g.P.Pages.count c.loop-pair.pages) (g.P.Pages.first c.loop-pair.pages) c.loop-pair.changed.rows
+    h.bytes h.turn told) damage (ap Err same))
+
+pub returns-in_err-set_rows-clause-honest : goal.returns-in_err-set_rows-clause-honest
+returns-in_err-set_rows-clause-honest g c free rows apart told damage =
+    let before : View = view (g.P.Pages.pages c.args.pages.now) (g.P.Pages.count c.args.pages.now) (g.P.Pages.first c.args.pages.now) free in
+    let h = c.loop-pair.invariant.renewing free rows apart in
+    let p = err_from_is_err_and c.from_residual-in_err-set_rows.result c.from_residual-in_err-set_rows.ensures.1 in
+    λ e. (let same : c.in_err-set_rows.field-0.0 ≡ Damaged damage = cc (p.1, p.2, e) in
+    c.in_err-set_rows.ensures.honest h.turn.free h.turn.rows (told-turned before c.args.tree.now.rows (g.P.Pages.pages c.loop-pair.pages) (g.P.Pages.count c.loop-pair.pages) (g.P.Pages.first c.loop-pair.pages) c.loop-pair.changed.rows
+    h.bytes h.turn told) damage (ap Err same))

@@ -2,22 +2,17 @@ use Rattle.std.proofs.Common.{◌≡◌, ℕ, List, take}
 use Rattle.page_face.specs.Calls.{Changes}
 use Rattle.btree_nodes.specs.Supply.{view}
 use Rattle.node_inverted.specs.Rows.{IsRows, bytes_in}
-use Rattle.node_inverted.specs.Turns.{Turns}
-use Rattle.node_inverted.specs.Copies.{IsCopy}
-use Rattle.node_inverted.specs.Impacts.{refreshed}
-use Rattle.node_inverted.specs.Refreshing.{on_words}
+use Rattle.node_inverted.specs.Gathers.{IsRenewing}
 use Rattle.node_inverted.proofs.refreshing.renew.Given as goal
 
--- the words so far are renewed
+-- with the gathered rows set the words so far are renewed
 abbrev pub invariant-loop-pair : goal.invariant-loop-pair
 invariant-loop-pair g l =
     let p = g.P.Pages in
     record {
       root : l.changed.root ≡ l.fn.tree.root;
-      turns : (free : List ℕ) → IsRows (view (p.pages l.fn.pages) (p.count l.fn.pages) (p.first l.fn.pages) free) l.fn.tree.rows → (l.node ≡ l.child → ⊥)
-          → Turns (view (p.pages l.fn.pages) (p.count l.fn.pages) (p.first l.fn.pages) free) l.fn.tree.rows (p.pages l.pages) (p.count l.pages) (p.first l.pages) l.changed.rows
-          (on_words (take l.pair-index l.words) (refreshed l.node l.slot l.child (bytes_in (p.pages l.fn.pages) l.fn.tree.rows)) (bytes_in (p.pages l.fn.pages) l.fn.tree.rows));
-      copy : (free : List ℕ) → IsRows (view (p.pages l.fn.pages) (p.count l.fn.pages) (p.first l.fn.pages) free) l.fn.tree.rows → (l.node ≡ l.child → ⊥)
-          → IsCopy (bytes_in (p.pages l.fn.pages) l.fn.tree.rows) l.child l.copy;
+      renewing : (free : List ℕ) → IsRows (view (p.pages l.fn.pages) (p.count l.fn.pages) (p.first l.fn.pages) free) l.fn.tree.rows → (l.node ≡ l.child → ⊥)
+          → IsRenewing (view (p.pages l.fn.pages) (p.count l.fn.pages) (p.first l.fn.pages) free) l.fn.tree.rows (p.pages l.pages) (p.count l.pages) (p.first l.pages) l.changed.rows
+          l.node l.slot l.child (bytes_in (p.pages l.fn.pages) l.fn.tree.rows) (take l.pair-index l.words) l.rows.items l.below l.above;
       frame : Changes p l.fn.pages l.pages;
     }

@@ -1,4 +1,4 @@
-use Rattle.std.proofs.Common.{◌≡◌, ◌+◌, ℕ, ◌<◌, ◌∙◌, min, ap, sym, subst, arith, refl, slice_index, take, get_or, length, List, [], ◌∷◌, Err}
+use Rattle.std.proofs.Common.{◌≡◌, ◌+◌, ℕ, ◌<◌, ap, sym, subst, arith, take, get_or, length, List, [], ◌∷◌, ◌++◌, Err}
 use Rattle.std.proofs.lemmas.List.{take_more}
 use Rattle.std.proofs.lemmas.Result.{err_from_is_err_and}
 use Rattle.page_face.specs.FreeList.{PageMap}
@@ -6,22 +6,13 @@ use Rattle.page_face.specs.declared.fault.PageFault.TheVariants.{Damaged}
 use Rattle.page_face.proofs.Frames.{reads_then}
 use Rattle.btree_nodes.specs.Damages.{AreTold, AsksOnly}
 use Rattle.btree_nodes.specs.Tree.{IsMap, map_uses}
-use Rattle.btree_nodes.proofs.Harms.{asked-before, asks-further, asks-nothing}
-use Rattle.paged_map.specs.Maps.{AreCounted, IsMapDamaged}
+use Rattle.btree_nodes.proofs.Harms.{asked-before, asks-further}
+use Rattle.paged_map.specs.Maps.{IsMapDamaged}
 use Rattle.rtree_shape.specs.Stock.{rows_form}
-use Rattle.node_inverted.specs.Rows.{Bytes, HasBytes, bytes_in}
-use Rattle.node_inverted.specs.Counts.{shared_in, sign, most}
-use Rattle.node_inverted.proofs.Bytes.{zero-at}
-use Rattle.node_inverted.proofs.Counts.{shared-push, capped}
-use Rattle.node_inverted.proofs.Faults.{reads-none}
-use Rattle.node_inverted.proofs.sharing.shared.Goals as goal
-
-pub loop-pair-init : goal.loop-pair-init
-loop-pair-init g c = record {
-  shared = λ map i l. zero-at (0 ∷ 0 ∷ 0 ∷ 0 ∷ 0 ∷ 0 ∷ 0 ∷ 0 ∷ 0 ∷ 0 ∷ 0 ∷ 0 ∷ 0 ∷ 0 ∷ 0 ∷ 0 ∷ 0 ∷ 0 ∷ 0 ∷ 0 ∷ 0 ∷ 0 ∷ 0 ∷ 0 ∷ 0 ∷ 0 ∷ 0 ∷ 0 ∷ 0 ∷ 0 ∷ 0 ∷ 0 ∷ []) i refl;
-  own = λ told. asks-nothing (map_uses rows_form (g.P.Pages.pages c.args.pages.now) c.args.tree.now.rows) (g.P.Pages.asked c.args.pages.now) (g.P.Pages.asked c.args.pages.now) refl;
-  frame = reads-none g.P.Pages c.args.pages.now (g.met.P.Pages.reads_nothing c.args.pages.now) (g.met.P.Pages.stays c.args.pages.now);
-}
+use Rattle.node_inverted.specs.Rows.{HasBytes, bytes_in}
+use Rattle.node_inverted.specs.Known.{AreRowsAt}
+use Rattle.node_inverted.proofs.Known.{known-push}
+use Rattle.node_inverted.proofs.sharing.rows_at.Goals as goal
 
 pub loop-pair-preserved : goal.loop-pair-preserved
 loop-pair-preserved g c =
@@ -29,19 +20,16 @@ loop-pair-preserved g c =
     let f = h.frame in
     let old : PageMap = g.P.Pages.pages c.args.pages.now in
     let root : ℕ = c.args.tree.now.rows in
+    let node : ℕ = c.args.node in
     record {
-      shared = λ map i l.
-          let b : Bytes = bytes_in old root in
-          let node : ℕ = c.args.node in
+      listed = λ map.
           let p : ℕ × ℕ = get_or c.args.words.now c.loop-pair.pair-index (0, 0) in
-          let front : List (ℕ × ℕ) = take c.loop-pair.pair-index c.args.words.now in
           let m : c.loop-pair.pair-index < length c.args.words.now = omega arith in
-          let there : HasBytes c.in_ok-there.there (b node p.0) =
+          let there : HasBytes c.in_ok-there.there (bytes_in old root node p.0) =
           subst (λ (q : PageMap). IsMap rows_form q root → HasBytes c.in_ok-there.there (bytes_in q root node p.0)) f.pages c.in_ok-there.ensures.row map in
-          let more : shared_in b node i (take (c.loop-pair.pair-index + 1) c.args.words.now) ≡ shared_in b node i front + sign (b node p.0 i) =
-          ap (λ (ps : List (ℕ × ℕ)). shared_in b node i ps) (take_more c.args.words.now c.loop-pair.pair-index (0, 0) m) ∙ shared-push b node i front p in
-          c.add_signs.ensures i l ∙ ap (λ (k : ℕ). min (k + sign (slice_index c.in_ok-there.there i)) most) (h.shared map i l)
-          ∙ ap (λ (k : ℕ). min (min (shared_in b node i front) most + sign k) most) (there i) ∙ capped (shared_in b node i front) (sign (b node p.0 i)) most ∙ ap (λ (k : ℕ). min k most) (sym more);
+          subst (AreRowsAt (bytes_in old root) node (take (c.loop-pair.pair-index + 1) c.args.words.now)) (sym c.in_ok-push_row.ensures.rows)
+          (subst (λ (ps : List (ℕ × ℕ)). AreRowsAt (bytes_in old root) node ps (c.loop-pair.rows.items ++ c.in_ok-there.there ∷ [])) (sym (take_more c.args.words.now c.loop-pair.pair-index (0, 0) m))
+          (known-push (bytes_in old root) node (take c.loop-pair.pair-index c.args.words.now) c.loop-pair.rows.items p c.in_ok-there.there (h.listed map) there));
       own = λ told.
           let still : AreTold (g.P.Pages.pages c.loop-pair.pages) (g.P.Pages.count c.loop-pair.pages) = rw (f.pages, f.count) told in
           asks-further (map_uses rows_form old root) (g.P.Pages.asked c.args.pages.now) (g.P.Pages.asked c.loop-pair.pages) (g.P.Pages.asked c.row.new.pages) (h.own told)
@@ -49,23 +37,11 @@ loop-pair-preserved g c =
       frame = reads_then g.P.Pages g.met.P.Pages.goes_further g.met.P.Pages.reads_further _ _ _ f c.row.ensures.frame;
     }
 
-pub returns-in_err-there-clause-honest : goal.returns-in_err-there-clause-honest
-returns-in_err-there-clause-honest g c = λ map counted told damage.
-    let f = c.loop-pair.invariant.frame in
-    let root : ℕ = c.args.tree.now.rows in
-    let map' : IsMap rows_form (g.P.Pages.pages c.loop-pair.pages) root = rw f.pages map in
-    let counted' : AreCounted (map_uses rows_form (g.P.Pages.pages c.loop-pair.pages) root) (g.P.Pages.count c.loop-pair.pages) = rw (f.pages, f.count) counted in
-    let still : AreTold (g.P.Pages.pages c.loop-pair.pages) (g.P.Pages.count c.loop-pair.pages) = rw (f.pages, f.count) told in
-    let p = err_from_is_err_and c.from_residual.result c.from_residual.ensures.1 in
-    λ e. (let same : c.in_err-there.field-0.0 ≡ Damaged damage = cc (p.1, p.2, e) in
-    c.in_err-there.ensures.honest map' counted' still damage (ap Err same))
-
 pub returns-in_err-there-clause-damaged : goal.returns-in_err-there-clause-damaged
 returns-in_err-there-clause-damaged g c = λ told damage.
     let h = c.loop-pair.invariant in
     let f = h.frame in
     let old : PageMap = g.P.Pages.pages c.args.pages.now in
-    let count : ℕ = g.P.Pages.count c.args.pages.now in
     let root : ℕ = c.args.tree.now.rows in
     let still : AreTold (g.P.Pages.pages c.loop-pair.pages) (g.P.Pages.count c.loop-pair.pages) = rw (f.pages, f.count) told in
     let p = err_from_is_err_and c.from_residual.result c.from_residual.ensures.1 in
@@ -77,6 +53,16 @@ returns-in_err-there-clause-damaged g c = λ told damage.
 
 pub returns-in_err-there-clause-own : goal.returns-in_err-there-clause-own
 returns-in_err-there-clause-own g c = λ told.
+    let h = c.loop-pair.invariant in
+    let f = h.frame in
+    let old : PageMap = g.P.Pages.pages c.args.pages.now in
+    let root : ℕ = c.args.tree.now.rows in
+    let still : AreTold (g.P.Pages.pages c.loop-pair.pages) (g.P.Pages.count c.loop-pair.pages) = rw (f.pages, f.count) told in
+    asks-further (map_uses rows_form old root) (g.P.Pages.asked c.args.pages.now) (g.P.Pages.asked c.loop-pair.pages) (g.P.Pages.asked c.row.new.pages) (h.own told)
+    (subst (λ (p : PageMap). AsksOnly (map_uses rows_form p root) (g.P.Pages.asked c.loop-pair.pages) (g.P.Pages.asked c.row.new.pages)) f.pages (c.row.ensures.own still))
+
+pub returns-in_err-push_row-clause-own : goal.returns-in_err-push_row-clause-own
+returns-in_err-push_row-clause-own g c = λ told.
     let h = c.loop-pair.invariant in
     let f = h.frame in
     let old : PageMap = g.P.Pages.pages c.args.pages.now in

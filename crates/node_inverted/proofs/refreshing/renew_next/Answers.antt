@@ -1,0 +1,52 @@
+use Rattle.std.proofs.Common.{◌≡◌, ℕ, ◌∙◌, inl, inr, sym, ap, refl, arith}
+use Rattle.std.proofs.lemmas.Result.{on_ok_weaker}
+use Rattle.btree_nodes.specs.Tree.{IsMap}
+use Rattle.rtree_shape.proofs.Amounts.{same_or}
+use Rattle.rtree_shape.specs.Stock.{rows_form}
+use Rattle.node_inverted.specs.Rows.{Bytes, bytes_in}
+use Rattle.node_inverted.specs.Turns.{Next}
+use Rattle.node_inverted.specs.Impacts.{refreshed, top_at}
+use Rattle.node_inverted.specs.Drafts.{with_rows}
+use Rattle.node_inverted.proofs.Turned.{turned-rest}
+use Rattle.node_inverted.proofs.Impacts.{byte-here, byte-another}
+use Rattle.node_inverted.proofs.Copies.{next-from}
+use Rattle.node_inverted.proofs.Refreshes.{ahead-byte, away, refreshed-beside, renewed-next, top-row}
+use Rattle.node_inverted.proofs.refreshing.renew_next.Goals as goal
+
+pub returns-clause-renewing : goal.returns-clause-renewing
+returns-clause-renewing g c = λ before root impact b words apart h.
+    let node : ℕ = c.args.node in
+    let slot : ℕ = c.args.slot in
+    let child : ℕ = c.args.child in
+    let word : ℕ = c.args.number in
+    let rows : ℕ = c.args.tree.now.rows in
+    let f : Bytes = refreshed node slot child b in
+    let one = c.next_in.ensures.frame in
+    let two = c.next_in-2.ensures.frame in
+    let map' : IsMap rows_form (g.P.Pages.pages c.next_in.new.pages) rows = rw one.pages h.turn.rows.kept.map in
+    let same_low : (w i : ℕ) → bytes_in (g.P.Pages.pages c.args.pages.now) rows child w i ≡ b child w i = λ w i. h.turn.is child w i ∙ h.child_is w i in
+    let same_high : (w i : ℕ) → bytes_in (g.P.Pages.pages c.next_in.new.pages) rows node w i ≡ h.bytes node w i = λ w i. rw one.pages (h.turn.is node w i) in
+    let low : Next b child word c.in_ok-low_ahead.low_ahead = c.in_ok-low_ahead.ensures.next b h.turn.rows.kept.map (λ w i l. same_low w i) h.low in
+    let high : Next h.bytes node word c.in_ok-high_ahead.high_ahead = c.in_ok-high_ahead.ensures.next h.bytes map' (λ w i l. same_high w i) h.high in
+    let byte : ℕ = c.greatest-byte.result in
+    let byte_is : byte ≡ top_at b child word = c.greatest-byte.ensures ∙ top-row b child word c.row_ahead-low.result
+    (λ i. c.row_ahead-low.ensures i ∙ ahead-byte b child word word c.in_ok-low_ahead.low_ahead low (omega arith) (next-from b child word c.in_ok-low_ahead.low_ahead low) i) in
+    let v : Bytes = with_rows node c.args.rows.now.items h.bytes in
+    on_ok_weaker c.renew_row.result (λ step. record {
+      bytes = h.bytes;
+      turn = turned-rest before root (g.P.Pages.pages c.args.pages.now) (g.P.Pages.pages c.next_in-2.new.pages) (g.P.Pages.count c.args.pages.now) (g.P.Pages.count c.next_in-2.new.pages)
+          (g.P.Pages.first c.args.pages.now) (g.P.Pages.first c.next_in-2.new.pages) rows h.bytes h.bytes (two.pages ∙ one.pages) (two.count ∙ one.count) (two.first ∙ one.first) (λ n w i. refl) h.turn;
+      is = λ n w i. step n w i ∙ renewed-next node slot child b v words apart h.is (word, impact) byte byte_is n w i;
+      beside = h.beside;
+      child_is = h.child_is;
+      right = λ w e. step node w slot ∙ elim (same_or w word) [
+        | inl k ↦ byte-here node word slot byte v node w slot (λ j. node) k (λ j. slot) ∙ byte_is ∙ ap (top_at b child) (sym k)
+        | inr k ↦ byte-another node word slot byte v node w slot k ∙ h.right w e
+      ];
+      low = c.in_ok-low_ahead.ensures.copy b h.turn.rows.kept.map (λ w i l. same_low w i) h.low;
+      high = c.in_ok-high_ahead.ensures.copy h.bytes map' (λ w i l. same_high w i) h.high;
+    })
+    (c.renew_row.ensures.renewed node h.bytes v (λ n w i. refl)
+    (λ i. c.row_ahead-high.ensures i ∙ ahead-byte h.bytes node word word c.in_ok-high_ahead.high_ahead high (omega arith) (next-from h.bytes node word c.in_ok-high_ahead.high_ahead high) i)
+    (λ i k. away node slot child b v words apart h.is node word i (refreshed-beside node slot child b node word i k) ∙ sym (h.beside word i k))
+    (λ e. h.right word (e ∙ byte_is) ∙ sym byte_is))

@@ -1,0 +1,24 @@
+use Rattle.std.proofs.Common.{◌≡◌, ℕ}
+use Rattle.page_face.specs.Calls.{Reads}
+use Rattle.btree_nodes.specs.Tree.{IsMap}
+use Rattle.rtree_shape.specs.Stock.{rows_form}
+use Rattle.node_inverted.specs.Rows.{bytes_in}
+use Rattle.node_inverted.specs.Copies.{IsCopy}
+use Rattle.node_inverted.specs.Ascents.{reached, left_from, until}
+use Rattle.node_inverted.specs.Lifts.{AreOrdered, bytes_at, lifted_at, no_bytes}
+use Rattle.node_inverted.proofs.taking.list_rows.Given as goal
+
+-- the rows before the next word are listed
+abbrev pub invariant-loop-from : goal.invariant-loop-from
+invariant-loop-from g l =
+    let p = g.P.Pages in
+    record {
+      copy : IsMap rows_form (p.pages l.fn.pages) l.tree.rows → IsCopy (bytes_in (p.pages l.fn.pages) l.tree.rows) l.node l.copy;
+      listed : IsMap rows_form (p.pages l.fn.pages) l.tree.rows → (n w i : ℕ) → lifted_at l.rows.items w i ≡ until (reached l.from) (bytes_at l.node (bytes_in (p.pages l.fn.pages) l.tree.rows)) no_bytes n w i;
+      ordered : AreOrdered 0 (reached l.from) l.rows.items;
+      frame : Reads p l.fn.pages l.pages;
+    }
+
+-- the words ascend
+abbrev pub decreases-loop-from : goal.decreases-loop-from
+decreases-loop-from g l = left_from l.from

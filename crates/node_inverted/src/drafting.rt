@@ -1,0 +1,209 @@
+//! Rows of a node that are changed leaf by leaf.
+ghost use Rattle.std.specs.Prelude.{◌≡◌, ◌≢◌, ◌+◌, ◌<◌, ◌≤◌, ℕ, List, length, false, IfOk, IsErrOf, IsTrue, OnErr, OnOk};
+ghost use Rattle.page_face.specs.Calls.{Changes, FailsChanging, FailsReading, Reads};
+ghost use Rattle.page_face.specs.FreeList.{PageMap};
+ghost use Rattle.btree_nodes.specs.Damages.{AreTold};
+ghost use Rattle.btree_nodes.specs.Supply.{view};
+ghost use Rattle.btree_nodes.specs.Tree.{IsMap, map_uses};
+ghost use Rattle.paged_map.specs.Drafts.{IsLeafDraft};
+ghost use Rattle.paged_map.specs.Maps.{AreCounted};
+ghost use Rattle.rtree_shape.specs.Stock.{rows_form};
+ghost use Rattle.node_inverted.specs.Rows.{Bytes, HasBytes, IsRows, bytes_in};
+ghost use Rattle.node_inverted.specs.Turns.{Turns, with_row};
+ghost use Rattle.node_inverted.specs.Drafts.{IsDrafting, IsRowOf, Reaches, SetsUntil, with_rows};
+
+use crate::Tree;
+use crate::key::RowKey;
+use crate::layout::WordRows;
+use crate::row_draft::RowDraft;
+use crate::rows::set_row;
+use crate::slots::{clear_row, is_clear};
+use crate::taking::NodeRow;
+use page_face::{Damage, PageFault, Pages};
+use paged_map::PagedMap;
+
+impl RowDraft {
+    /// Copies the leaf that the row of a node for a word belongs to, and returns whether there is one: the empty map has none.
+    ///
+    /// Looks at one page a level of the rows' map. Returns `Damaged`, `Disk`, `Stopped`, or `Memory` as [`row`](crate::row()).
+    pub fn open<P: Pages>(
+        &mut self,
+        pages: &mut P,
+        tree: &Tree,
+        node: u32,
+        number: u64,
+    ) -> Result<bool, PageFault>
+        ensures drafting { (free : List ℕ) → IsRows (view (P.pages pages.old) (P.count pages.old) (P.first pages.old) free) tree.now.rows
+            → IfOk result (λ some. IsTrue some → IsDrafting (P.pages pages.old) tree.now.rows (bytes_in (P.pages pages.old) tree.now.rows) self.new) }
+        ensures sound { IfOk result (λ some. IsTrue some → IsLeafDraft (P.count pages.new) self.new.leaf) }
+        ensures holds { IfOk result (λ some. IsTrue some → IsRowOf self.new node number) }
+        ensures honest { IsMap rows_form (P.pages pages.old) tree.now.rows → AreCounted (map_uses rows_form (P.pages pages.old) tree.now.rows) (P.count pages.old)
+            → AreTold (P.pages pages.old) (P.count pages.old) → (damage : Damage) → result ≢ Err (PageFault.Damaged damage) }
+        ensures fails { FailsReading P.Pages pages.old pages.new result }
+        ensures frame { Reads P.Pages pages.old pages.new }
+    {
+        let key = RowKey { node, number }.bytes();
+        PagedMap::<WordRows>::at(tree.rows).draft(pages, &key, &mut self.leaf)
+    }
+
+    /// Whether the row of a node for a word belongs to the leaf.
+    pub fn holds(&self, node: u32, number: u64) -> bool
+        ensures { IsTrue result → IsRowOf self.now node number }
+    {
+        self.leaf.holds(&RowKey { node, number }.bytes())
+    }
+
+    /// The bytes of a row that belongs to the leaf.
+    pub fn row(&self, node: u32, number: u64) -> [u8; 32]
+        ensures { (count : ℕ) (pages : PageMap) (root : ℕ) (b : Bytes) → IsLeafDraft count self.now.leaf → IsRowOf self.now node number → IsDrafting pages root b self.now → HasBytes result (b node number) }
+    {
+        let mut row = clear_row();
+        if self.leaf.get(&RowKey { node, number }.bytes(), &mut row) {
+            row
+        } else {
+            clear_row()
+        }
+    }
+
+    /// Sets a row that belongs to the leaf. Returns `false` if the leaf would have too many rows then, or too few; then nothing has changed.
+    pub fn set(&mut self, node: u32, number: u64, row: &[u8; 32]) -> bool
+        ensures sound { (count : ℕ) → IsLeafDraft count self.old.leaf → IsRowOf self.old node number → IsLeafDraft count self.new.leaf }
+        ensures set { (count : ℕ) (pages : PageMap) (root : ℕ) (b : Bytes) → IsLeafDraft count self.old.leaf → IsRowOf self.old node number → IsDrafting pages root b self.old
+            → IsTrue result → IsDrafting pages root (with_row node number row.now b) self.new }
+        ensures refused { result ≡ false → self.new ≡ self.old }
+    {
+        let key = RowKey { node, number }.bytes();
+        if is_clear(row) {
+            self.leaf.remove(&key)
+        } else {
+            self.leaf.put(&key, row)
+        }
+    }
+
+    /// Writes the leaf. Returns `Stopped`, or `Memory` if it runs out of memory.
+    pub fn write<P: Pages>(&self, pages: &mut P, tree: &Tree) -> Result<(), PageFault>
+        requires { IsLeafDraft (P.count pages.old) self.now.leaf }
+        ensures turns { (free : List ℕ) (b : Bytes) → IsRows (view (P.pages pages.old) (P.count pages.old) (P.first pages.old) free) tree.now.rows
+            → IsDrafting (P.pages pages.old) tree.now.rows b self.now
+            → OnOk result (Turns (view (P.pages pages.old) (P.count pages.old) (P.first pages.old) free) tree.now.rows (P.pages pages.new) (P.count pages.new) (P.first pages.new) tree.now.rows b) }
+        ensures honest { (damage : Damage) → result ≢ Err (PageFault.Damaged damage) }
+        ensures fails { FailsReading P.Pages pages.old pages.new result }
+        ensures frame { Changes P.Pages pages.old pages.new }
+    {
+        self.leaf.write(pages)
+    }
+}
+
+// Sets the first of some rows in a draft of its leaf, and those behind it as far as they belong to that leaf and go into it. Returns those
+// that are left.
+fn set_in_draft<'a>(draft: &mut RowDraft, node: u32, rows: &'a [NodeRow]) -> &'a [NodeRow]
+    ensures sound { (count : ℕ) → IsLeafDraft count draft.old.leaf → IsLeafDraft count draft.new.leaf }
+    ensures set { (count : ℕ) (pages : PageMap) (root : ℕ) (b : Bytes) → IsLeafDraft count draft.old.leaf → IsDrafting pages root b draft.old
+        → SetsUntil pages root node rows.now b result.now draft.new }
+    ensures fewer { length result.now ≤ length rows.now }
+{
+    let mut left = rows;
+    while let Some((row, rest)) = left.split_first() {
+        if !draft.holds(node, row.number) {
+            return left;
+        }
+        if !draft.set(node, row.number, &row.bytes) {
+            return left;
+        }
+        left = rest;
+    }
+    left
+}
+
+// Sets the first of some rows of a node. Returns those that are left.
+fn set_first<'a, P: Pages>(
+    pages: &mut P,
+    tree: &mut Tree,
+    node: u32,
+    rows: &'a [NodeRow],
+) -> Result<&'a [NodeRow], PageFault>
+    requires some { 0 < length rows.now }
+    ensures turns { (free : List ℕ) → IsRows (view (P.pages pages.old) (P.count pages.old) (P.first pages.old) free) tree.old.rows
+        → IfOk result (λ left. Reaches (view (P.pages pages.old) (P.count pages.old) (P.first pages.old) free) tree.old.rows (P.pages pages.new) (P.count pages.new) (P.first pages.new) tree.new.rows
+        (with_rows node left.now) (with_rows node rows.now (bytes_in (P.pages pages.old) tree.old.rows))) }
+    ensures fewer { IfOk result (λ left. length left.now < length rows.now) }
+    ensures root { tree.new.root ≡ tree.old.root }
+    ensures honest { (free : List ℕ) → IsRows (view (P.pages pages.old) (P.count pages.old) (P.first pages.old) free) tree.old.rows → AreTold (P.pages pages.old) (P.count pages.old)
+        → (damage : Damage) → ¬ IsErrOf result (PageFault.Damaged damage) }
+    ensures fails { FailsChanging P.Pages pages.old pages.new result }
+    ensures frame { Changes P.Pages pages.old pages.new }
+{
+    let Some((first, rest)) = rows.split_first() else {
+        return Ok(rows);
+    };
+    set_row(pages, tree, node, first.number, &first.bytes)?;
+    Ok(rest)
+}
+
+// Sets the first of some rows of a node, and those behind it that belong to the same leaf. Returns those that are left.
+fn set_leaf<'a, P: Pages>(
+    pages: &mut P,
+    tree: &mut Tree,
+    node: u32,
+    rows: &'a [NodeRow],
+    draft: &mut RowDraft,
+) -> Result<&'a [NodeRow], PageFault>
+    requires some { 0 < length rows.now }
+    ensures turns { (free : List ℕ) → IsRows (view (P.pages pages.old) (P.count pages.old) (P.first pages.old) free) tree.old.rows
+        → IfOk result (λ left. Reaches (view (P.pages pages.old) (P.count pages.old) (P.first pages.old) free) tree.old.rows (P.pages pages.new) (P.count pages.new) (P.first pages.new) tree.new.rows
+        (with_rows node left.now) (with_rows node rows.now (bytes_in (P.pages pages.old) tree.old.rows))) }
+    ensures fewer { IfOk result (λ left. length left.now < length rows.now) }
+    ensures root { tree.new.root ≡ tree.old.root }
+    ensures honest { (free : List ℕ) → IsRows (view (P.pages pages.old) (P.count pages.old) (P.first pages.old) free) tree.old.rows → AreTold (P.pages pages.old) (P.count pages.old)
+        → (damage : Damage) → ¬ IsErrOf result (PageFault.Damaged damage) }
+    ensures fails { FailsChanging P.Pages pages.old pages.new result }
+    ensures frame { Changes P.Pages pages.old pages.new }
+{
+    let Some(first) = rows.first() else {
+        return Ok(rows);
+    };
+    if !draft.open(pages, tree, node, first.number)? {
+        return set_first(pages, tree, node, rows);
+    }
+    let left = set_in_draft(draft, node, rows);
+    if left.len() == rows.len() {
+        return set_first(pages, tree, node, rows);
+    }
+    draft.write(pages, tree)?;
+    Ok(left)
+}
+
+/// Sets these rows of a node, one after another.
+///
+/// Returns `Damaged`, `Disk`, `NoRoom`, `Stopped`, or `Memory` as [`set_row`]; on a well-formed map whose pages are told no page is
+/// damaged. After a failure `tree` is as before, and pages may have changed: they are to be abandoned.
+///
+/// For rows in the order of their words that stand in L leaves of the rows' map, costs L ways down, each of which looks at one page a
+/// level, and L writes of a page; and a call of [`set_row`] for each row by which a leaf gets too many or too few.
+pub(crate) fn set_rows<P: Pages>(
+    pages: &mut P,
+    tree: &mut Tree,
+    node: u32,
+    rows: &[NodeRow],
+) -> Result<(), PageFault>
+    ensures turns { (free : List ℕ) → IsRows (view (P.pages pages.old) (P.count pages.old) (P.first pages.old) free) tree.old.rows
+        → OnOk result (Turns (view (P.pages pages.old) (P.count pages.old) (P.first pages.old) free) tree.old.rows (P.pages pages.new) (P.count pages.new) (P.first pages.new) tree.new.rows
+        (with_rows node rows.now (bytes_in (P.pages pages.old) tree.old.rows))) }
+    ensures root { tree.new.root ≡ tree.old.root }
+    ensures kept { OnErr result (tree.new ≡ tree.old) }
+
+    // On a well-formed map and a free list that ends at 0 no page is damaged.
+    ensures honest { (free : List ℕ) → IsRows (view (P.pages pages.old) (P.count pages.old) (P.first pages.old) free) tree.old.rows → AreTold (P.pages pages.old) (P.count pages.old)
+        → (damage : Damage) → ¬ IsErrOf result (PageFault.Damaged damage) }
+    ensures fails { FailsChanging P.Pages pages.old pages.new result }
+    ensures frame { Changes P.Pages pages.old pages.new }
+{
+    let mut changed = *tree;
+    let mut draft = RowDraft::blank();
+    let mut left = rows;
+    while !left.is_empty() {
+        left = set_leaf(pages, &mut changed, node, left, &mut draft)?;
+    }
+    *tree = changed;
+    Ok(())
+}
