@@ -1,9 +1,7 @@
 -- Lists that are cut to what counts, and choices that needn't be searched.
-use Rattle.std.proofs.Common.{◌≡◌, ◌<◌, ◌≤◌, false, List, [], ◌∷◌, ◌++◌, Some, sym, ap, ◌∙◌, arith, ⊎_elim}
-use Rattle.std.proofs.lemmas.Bool.{cases_lt}
+use Rattle.std.proofs.Common.{◌≡◌, false, List, [], ◌∷◌, ◌++◌, Some, sym, subst, ◌∙◌, ⊎_elim}
 use Rattle.std.proofs.lemmas.List.Elements.{Contains-append_left, Contains-append_right, Contains-append_cases}
 use Rattle.std.specs.List.{AllByRecursion, Contains}
-use Rattle.std.specs.Ordering.{is_lt}
 use Rattle.best_first.proofs.Lists.{all_in, all_weaker}
 use Rattle.spatial_base.specs.Point.{Position}
 use Rattle.place_map.specs.declared.query.Pick.{Pick}
@@ -11,9 +9,9 @@ use Rattle.place_map.specs.declared.query.Chosen.{Chosen}
 use Rattle.place_map.specs.Group.{choice_cost, is_cheaper, least_of}
 use Rattle.place_map.specs.GroupLaws.{choices_linear, least_cost}
 use Rattle.collective_query.specs.Choices.{IsChoice, IsCut, AreCut}
-use Rattle.collective_query.proofs.Least.{costed, least-among, least-first, least-some, least-is, dearer-after}
+use Rattle.collective_query.proofs.Least.{costed, least-among, least-first, least-some, least-is}
 use Rattle.collective_query.proofs.Joins.{choice-meets}
-use Rattle.collective_query.proofs.Members.{all-among, contains-none}
+use Rattle.collective_query.proofs.Members.{all-among, contains-none, contains-cases}
 
 -- what counts in fewer cases
 pub cut-wider : (counts others : Pick → Type 0) (all cut : List Pick) → ((pick : Pick) → others pick → counts pick) → IsCut counts all cut → IsCut others all cut
@@ -57,10 +55,10 @@ module _ (counts : Pick → Type 0) where
 own-cost : (at : Position) (choices : List (List Pick)) (found : Chosen) → least_of at choices ≡ Some found → Some found ≡ Some (costed at found.picks)
 own-cost at choices found is = let own = least_cost at choices found is in λ i. Some record { cost = own i; picks = found.picks }
 
--- Choices that cost more than one that was tried needn't be searched.
-pub fewer-least : (at : Position) (tried some all : List (List Pick)) (best : Chosen) → Some best ≡ least_of at tried → ((choice : List Pick) → Contains some choice → Contains all choice)
-    → ((choice : List Pick) → Contains all choice → choice_cost at choice ≤ best.cost → Contains some choice) → least_of at (tried ++ some) ≡ least_of at (tried ++ all)
-fewer-least at tried some all best was own cheap =
+-- Choices that don't come before one that was tried needn't be.
+pub covered-least : (at : Position) (tried some all : List (List Pick)) (best : Chosen) → Some best ≡ least_of at tried → ((choice : List Pick) → Contains some choice → Contains all choice)
+    → ((choice : List Pick) → Contains all choice → (other : List Pick) × Contains (best.picks ∷ some) other × (is_cheaper at choice other ≡ false)) → least_of at (tried ++ some) ≡ least_of at (tried ++ all)
+covered-least at tried some all best was own covered =
     let whole : List (List Pick) = tried ++ some in
     let more : List (List Pick) = tried ++ all in
     let best_among : Contains whole best.picks = Contains-append_left tried some best.picks (least-among at tried best (sym was)) in
@@ -72,11 +70,13 @@ fewer-least at tried some all best was own cheap =
     (Contains-append_cases tried some found.picks (least-among at whole found least.1)) in
     let none_before : (choice : List Pick) → Contains more choice → is_cheaper at choice found.picks ≡ false = λ choice c. ⊎_elim
     (λ (here : Contains tried choice). not_before choice (Contains-append_left tried some choice here))
-    (λ (there : Contains all choice). ⊎_elim
-    (λ (dear : best.cost < choice_cost at choice).
-    let costs = least_cost at tried best (sym was) in
-    (choices_linear at).chain found.picks best.picks choice (not_before best.picks best_among) (ap is_lt (dearer-after at choice best.picks (omega arith))))
-    (λ (near : choice_cost at choice ≤ best.cost). not_before choice (Contains-append_right tried some choice (cheap choice there near)))
-    (cases_lt best.cost (choice_cost at choice)))
+    (λ (there : Contains all choice).
+    let cover = covered choice there in
+    let other : List Pick = cover.0 in
+    let among_whole : Contains whole other = ⊎_elim
+    (λ (same : best.picks ≡ other). subst (Contains whole) same best_among)
+    (λ (later : Contains some other). Contains-append_right tried some other later)
+    (contains-cases best.picks some other cover.1) in
+    (choices_linear at).chain found.picks other choice (not_before other among_whole) cover.2)
     (Contains-append_cases tried all choice c) in
     least.1 ∙ own-cost at whole found least.1 ∙ sym (least-is at more found.picks among (all_weaker (Contains more) (λ choice. is_cheaper at choice found.picks ≡ false) none_before more (all_in more)))

@@ -1,6 +1,7 @@
 -- The least choice takes a lead pick, and is found when this pick is followed.
-use Rattle.std.proofs.Common.{◌≡◌, ◌≢◌, ℕ, zero, suc, ◌<◌, ◌≤◌, true, false, nat_eq, if◌then◌else◌, List, [], ◌∷◌, ◌++◌, Some, length, get_or, refl, sym, ap, subst, ◌∙◌, arith, ⊎_elim}
+use Rattle.std.proofs.Common.{◌≡◌, ◌≢◌, ℕ, zero, suc, ◌<◌, ◌≤◌, Bool, true, false, nat_eq, if◌then◌else◌, List, [], ◌∷◌, ◌++◌, Some, length, get_or, refl, sym, ap, subst, ◌∙◌, arith, ⊎_elim}
 use Rattle.std.proofs.lemmas.Bool.{cases_Bool, cases_lt, eqb-true, eqb-false}
+use Rattle.std.proofs.lemmas.List.Elements.{Contains-get_or}
 use Rattle.std.specs.List.{AllByRecursion, Contains}
 use Rattle.std.specs.Ordering.{is_lt}
 use Rattle.best_first.proofs.Lists.{all_in, all_weaker, all_append}
@@ -13,7 +14,7 @@ use Rattle.collective_query.specs.Choices.{IsChoice, IsWithin, IsCut, AreCut}
 use Rattle.collective_query.specs.Leads.{led_by, IsBeside, IsWanted, Betters, Follows}
 use Rattle.collective_query.specs.Tried.{IsChosen, IsFirst}
 use Rattle.collective_query.proofs.Cuts.{cut-choice, counted-choice}
-use Rattle.collective_query.proofs.Joins.{member-far, member-wide}
+use Rattle.collective_query.proofs.Joins.{member-far, member-wide, choice-meets}
 use Rattle.collective_query.proofs.Least.{itself, least-among, least-first, least-is, dearer-after}
 use Rattle.collective_query.proofs.Members.{all-among, contains-cases, contains-none, contains-here, contains-later}
 use Rattle.collective_query.proofs.Products.{choice-among, all-choices}
@@ -175,6 +176,26 @@ far-follows at lists own lead best inside was measured far = record {
     tt,
   );
 }
+
+-- nor one with which each choice costs more
+pub dear-follows : (at : Position) (lists : List (List Pick)) (own : ℕ) (lead : Pick) (best : Chosen) → IsChosen at lists best → ((choice : List Pick) → IsChoice (led_by own lead lists) choice → best.cost < choice_cost at choice)
+    → Follows at lists own (lead ∷ []) best best
+dear-follows at lists own lead best was more = record { chosen = was; after = itself at best.picks; first = (λ choice is. dear at lists best choice was (more choice is), tt) }
+
+-- where the lead is taken for a word, or all picks that count are, a choice with the lead has one of them
+pub companion-met : (at : Position) (lists : List (List Pick)) (own index : ℕ) (lead : Pick) (most : ℕ) (all picks choice : List Pick) (alone : Bool) → own < length lists → index < length lists
+    → get_or lists index [] ≡ all → (alone ≡ false → index ≢ own) → IsCut (IsWanted at lead (Some most)) (if alone then lead ∷ [] else all) picks
+    → IsChoice (led_by own lead lists) choice → choice_cost at choice ≤ most → (pick : Pick) × Contains choice pick × Contains picks pick
+companion-met at lists own index lead most all picks choice true inside within is other cut one cheap =
+    let takes = led-takes own lead lists choice inside one in
+    (lead, takes, cut.whole lead (contains-here lead []) (all-among (IsBeside at lead most) choice lead (all-beside at most lead choice takes cheap) takes))
+companion-met at lists own index lead most all picks choice false inside within is other cut one cheap =
+    let takes = led-takes own lead lists choice inside one in
+    let led : List (List Pick) = led_by own lead lists in
+    let there : index < length led = omega (arith, led-length own lead lists) in
+    let list_is : get_or led index [] ≡ all = led-other own index lead lists (other refl) ∙ is in
+    let met = choice-meets led choice (get_or led index []) one (Contains-get_or led index [] there) in
+    (met.0, met.1, cut.whole met.0 (subst (λ (l : List Pick). Contains l met.0) list_is met.2) (all-among (IsBeside at lead most) choice met.0 (all-beside at most lead choice takes cheap) met.1))
 
 -- none is followed
 pub none-follows : (at : Position) (lists : List (List Pick)) (own : ℕ) (best : Chosen) → IsChosen at lists best → Follows at lists own [] best best

@@ -3,7 +3,10 @@ pub mod Members
 pub mod Products
 pub mod Least
 pub mod Joins
+pub mod Fronts
+pub mod Nexts
 pub mod Cuts
+pub mod Searched
 pub mod Searches
 pub mod TreePicks
 pub mod Agreements

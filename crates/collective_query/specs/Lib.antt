@@ -5,4 +5,5 @@ pub mod TreePicks
 pub mod Tried
 pub mod Searches
 pub mod Opened
+pub mod Fronts
 pub mod Leads

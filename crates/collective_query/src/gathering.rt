@@ -32,9 +32,9 @@ fn alone(alloc: Global, pick: &Pick) -> Result<Vec<Pick>, AllocError>
     Ok(picks)
 }
 
-// The picks for a word round a lead pick: this alone where the word is its own; or else all that may be in a choice with it that costs at
-// most so much, or those nearest to it where no cost is given.
-fn companions<P: Pages>(
+/// Returns the picks for a word round a lead pick: this alone where the word is its own; or else all that may be in a choice with it that costs at
+/// most so much, or those nearest to it where no cost is given.
+pub(crate) fn companions<P: Pages>(
     alloc: Global,
     pages: &mut P,
     tree: &Tree,

@@ -16,6 +16,7 @@ ghost use Rattle.collective_query.specs.Tried.{IsChosen, IsFirst};
 use crate::candidates::{candidates, list_at, reaches};
 use crate::gathering::gather;
 use crate::search::least_choice;
+use crate::sieving::may_lead;
 use node_inverted::Tree;
 use page_face::{PageFault, Pages};
 use place_map::{Chosen, Pick};
@@ -81,6 +82,7 @@ fn try_beside<P: Pages>(
     requires measured { AllByRecursion (λ (list : Vec Pick Global). AreMeasured at.now list.items) nearest.now }
     requires lead { lead.now.dist ≤ 4024922359 }
     requires lead_measured { lead.now.dist ≡ distance at.now lead.now.point }
+    requires cost { best.old.cost ≤ 8049844718 }
     ensures tried { FitsTree (P.pages pages.old) (P.count pages.old) (P.first pages.old) tree.now
         → lists_in nearest.now ≡ first_lists ids.now at.now (nodes_at (P.pages pages.old) tree.now) tree.now.root words.now
         → AreLeads (tree_lists ids.now at.now (nodes_at (P.pages pages.old) tree.now) tree.now.root words.now) own (lead.now ∷ []) → IsChosen at.now (tree_lists ids.now at.now (nodes_at (P.pages pages.old) tree.now) tree.now.root words.now) best.old
@@ -88,6 +90,7 @@ fn try_beside<P: Pages>(
         → FindsPicks (P.pages pages.old) tree.now ids.now at.now words.now before (P.asked pages.old) (known ++ best.old.picks)
         → OnOk result (Betters at.now (tree_lists ids.now at.now (nodes_at (P.pages pages.old) tree.now) tree.now.root words.now) (IsWanted at.now lead.now most) (led_by own lead.now (tree_lists ids.now at.now (nodes_at (P.pages pages.old) tree.now) tree.now.root words.now)) best.old best.new
         × FindsPicks (P.pages pages.old) tree.now ids.now at.now words.now before (P.asked pages.new) (known ++ best.new.picks)) }
+    ensures cost { OnOk result (best.new.cost ≤ best.old.cost) }
     ensures search { Searches P.Pages tree.now pages.old pages.new result }
 {
     let lists = match gather(alloc, pages, tree, ids, at, words, nearest, lead, own, most) {
@@ -118,6 +121,7 @@ fn begin<P: Pages>(
     requires measured { AllByRecursion (λ (list : Vec Pick Global). AreMeasured at.now list.items) nearest.now }
     requires leads { AreNear leads.now }
     requires leads_measured { AreMeasured at.now leads.now }
+    requires cost { best.old.cost ≤ 8049844718 }
     ensures chosen { FitsTree (P.pages pages.old) (P.count pages.old) (P.first pages.old) tree.now
         → lists_in nearest.now ≡ first_lists ids.now at.now (nodes_at (P.pages pages.old) tree.now) tree.now.root words.now
         → AreLeads (tree_lists ids.now at.now (nodes_at (P.pages pages.old) tree.now) tree.now.root words.now) own leads.now → IsChosen at.now (tree_lists ids.now at.now (nodes_at (P.pages pages.old) tree.now) tree.now.root words.now) best.old
@@ -125,6 +129,7 @@ fn begin<P: Pages>(
         → FindsPicks (P.pages pages.old) tree.now ids.now at.now words.now before (P.asked pages.old) (known ++ best.old.picks)
         → OnOk result (IsChosen at.now (tree_lists ids.now at.now (nodes_at (P.pages pages.old) tree.now) tree.now.root words.now) best.new
         × FindsPicks (P.pages pages.old) tree.now ids.now at.now words.now before (P.asked pages.new) (known ++ best.new.picks)) }
+    ensures cost { OnOk result (best.new.cost ≤ best.old.cost) }
     ensures search { Searches P.Pages tree.now pages.old pages.new result }
 {
     match leads.first() {
@@ -152,6 +157,7 @@ fn follow<P: Pages>(
     requires measured { AllByRecursion (λ (list : Vec Pick Global). AreMeasured at.now list.items) nearest.now }
     requires lead { lead.now.dist ≤ 4024922359 }
     requires lead_measured { lead.now.dist ≡ distance at.now lead.now.point }
+    requires cost { best.old.cost ≤ 8049844718 }
     ensures followed { FitsTree (P.pages pages.old) (P.count pages.old) (P.first pages.old) tree.now
         → lists_in nearest.now ≡ first_lists ids.now at.now (nodes_at (P.pages pages.old) tree.now) tree.now.root words.now
         → AreLeads (tree_lists ids.now at.now (nodes_at (P.pages pages.old) tree.now) tree.now.root words.now) own (lead.now ∷ []) → IsChosen at.now (tree_lists ids.now at.now (nodes_at (P.pages pages.old) tree.now) tree.now.root words.now) best.old
@@ -159,6 +165,7 @@ fn follow<P: Pages>(
         → FindsPicks (P.pages pages.old) tree.now ids.now at.now words.now before (P.asked pages.old) (known ++ best.old.picks)
         → OnOk result (Follows at.now (tree_lists ids.now at.now (nodes_at (P.pages pages.old) tree.now) tree.now.root words.now) own (lead.now ∷ []) best.old best.new
         × FindsPicks (P.pages pages.old) tree.now ids.now at.now words.now before (P.asked pages.new) (known ++ best.new.picks)) }
+    ensures cost { OnOk result (best.new.cost ≤ best.old.cost) }
     ensures search { Searches P.Pages tree.now pages.old pages.new result }
 {
     if lead.dist > best.cost {
@@ -168,6 +175,46 @@ fn follow<P: Pages>(
     try_beside(
         alloc, pages, tree, ids, at, words, nearest, lead, own, most, best,
     )
+}
+
+// Leaves the best of the best choice so far and all choices that take a lead pick, where one of these may cost less.
+fn follow_likely<P: Pages>(
+    alloc: Global,
+    pages: &mut P,
+    tree: &Tree,
+    ids: &Ids,
+    at: &Point,
+    words: &[Word],
+    nearest: &[Vec<Pick>],
+    lead: &Pick,
+    own: usize,
+    best: &mut Chosen,
+) -> Result<(), PageFault>
+    requires near { AllByRecursion (λ (list : Vec Pick Global). AreNear list.items) nearest.now }
+    requires measured { AllByRecursion (λ (list : Vec Pick Global). AreMeasured at.now list.items) nearest.now }
+    requires lead { lead.now.dist ≤ 4024922359 }
+    requires lead_measured { lead.now.dist ≡ distance at.now lead.now.point }
+    requires cost { best.old.cost ≤ 8049844718 }
+    ensures followed { FitsTree (P.pages pages.old) (P.count pages.old) (P.first pages.old) tree.now
+        → lists_in nearest.now ≡ first_lists ids.now at.now (nodes_at (P.pages pages.old) tree.now) tree.now.root words.now
+        → AreLeads (tree_lists ids.now at.now (nodes_at (P.pages pages.old) tree.now) tree.now.root words.now) own (lead.now ∷ []) → IsChosen at.now (tree_lists ids.now at.now (nodes_at (P.pages pages.old) tree.now) tree.now.root words.now) best.old
+        → (before : List ℕ) → (known : List Pick) → ((pick : Pick) → Contains (picks_of nearest.now) pick → Contains known pick) → Contains known lead.now
+        → FindsPicks (P.pages pages.old) tree.now ids.now at.now words.now before (P.asked pages.old) (known ++ best.old.picks)
+        → OnOk result (Follows at.now (tree_lists ids.now at.now (nodes_at (P.pages pages.old) tree.now) tree.now.root words.now) own (lead.now ∷ []) best.old best.new
+        × FindsPicks (P.pages pages.old) tree.now ids.now at.now words.now before (P.asked pages.new) (known ++ best.new.picks)) }
+    ensures cost { OnOk result (best.new.cost ≤ best.old.cost) }
+    ensures search { Searches P.Pages tree.now pages.old pages.new result }
+{
+    let may = match may_lead(
+        alloc, pages, tree, ids, at, words, nearest, lead, own, best.cost,
+    ) {
+        Ok(may) => may,
+        Err(fault) => return Err(fault),
+    };
+    if !may {
+        return Ok(());
+    }
+    follow(alloc, pages, tree, ids, at, words, nearest, lead, own, best)
 }
 
 // Leaves the best of the best choice so far and all choices that take one of the lead picks.
@@ -187,6 +234,7 @@ fn follow_each<P: Pages>(
     requires measured { AllByRecursion (λ (list : Vec Pick Global). AreMeasured at.now list.items) nearest.now }
     requires leads { AreNear leads.now }
     requires leads_measured { AreMeasured at.now leads.now }
+    requires cost { best.old.cost ≤ 8049844718 }
     ensures followed { FitsTree (P.pages pages.old) (P.count pages.old) (P.first pages.old) tree.now
         → lists_in nearest.now ≡ first_lists ids.now at.now (nodes_at (P.pages pages.old) tree.now) tree.now.root words.now
         → AreLeads (tree_lists ids.now at.now (nodes_at (P.pages pages.old) tree.now) tree.now.root words.now) own leads.now → IsChosen at.now (tree_lists ids.now at.now (nodes_at (P.pages pages.old) tree.now) tree.now.root words.now) best.old
@@ -194,10 +242,11 @@ fn follow_each<P: Pages>(
         → FindsPicks (P.pages pages.old) tree.now ids.now at.now words.now before (P.asked pages.old) (known ++ best.old.picks)
         → OnOk result (Follows at.now (tree_lists ids.now at.now (nodes_at (P.pages pages.old) tree.now) tree.now.root words.now) own leads.now best.old best.new
         × FindsPicks (P.pages pages.old) tree.now ids.now at.now words.now before (P.asked pages.new) (known ++ best.new.picks)) }
+    ensures cost { OnOk result (best.new.cost ≤ best.old.cost) }
     ensures search { Searches P.Pages tree.now pages.old pages.new result }
 {
     for lead in leads {
-        match follow(alloc, pages, tree, ids, at, words, nearest, lead, own, best) {
+        match follow_likely(alloc, pages, tree, ids, at, words, nearest, lead, own, best) {
             Ok(()) => {}
             Err(fault) => return Err(fault),
         }
@@ -208,10 +257,11 @@ fn follow_each<P: Pages>(
 /// Leaves the least of all choices, where the best one so far is one of them. `own` is the word that leads the search.
 ///
 /// The choices of the picks nearest to the word's first one are tried, so that the best choice costs little. Then each of its picks that are no
-/// farther from the point than this one costs is followed: all choices with it that cost no more are searched.
+/// farther from the point than this one costs is followed: all choices with it that cost no more are searched, if the words that aren't frequent
+/// round it let one cost so little.
 ///
 /// Returns an error, and looks at pages, as a nearest query for each other word does, then as a range query for the word, if its nearest picks
-/// end before the cost, and then as a range query for each other word round each of the picks that are followed.
+/// end before the cost, and then as at most two range queries for each other word round each of the picks that are followed.
 pub(crate) fn search_by_lead<P: Pages>(
     alloc: Global,
     pages: &mut P,
@@ -225,12 +275,14 @@ pub(crate) fn search_by_lead<P: Pages>(
 ) -> Result<(), PageFault>
     requires near { AllByRecursion (λ (list : Vec Pick Global). AreNear list.items) nearest.now }
     requires measured { AllByRecursion (λ (list : Vec Pick Global). AreMeasured at.now list.items) nearest.now }
+    requires cost { best.old.cost ≤ 8049844718 }
     ensures least { FitsTree (P.pages pages.old) (P.count pages.old) (P.first pages.old) tree.now
         → lists_in nearest.now ≡ first_lists ids.now at.now (nodes_at (P.pages pages.old) tree.now) tree.now.root words.now
         → own < length words.now → IsChosen at.now (tree_lists ids.now at.now (nodes_at (P.pages pages.old) tree.now) tree.now.root words.now) best.old
         → (before : List ℕ) → FindsPicks (P.pages pages.old) tree.now ids.now at.now words.now before (P.asked pages.old) (picks_of nearest.now ++ best.old.picks)
         → OnOk result ((IsChosen at.now (tree_lists ids.now at.now (nodes_at (P.pages pages.old) tree.now) tree.now.root words.now) best.new × IsFirst at.now (tree_lists ids.now at.now (nodes_at (P.pages pages.old) tree.now) tree.now.root words.now) best.new)
         × FindsPicks (P.pages pages.old) tree.now ids.now at.now words.now before (P.asked pages.new) best.new.picks) }
+    ensures cost { OnOk result (best.new.cost ≤ best.old.cost) }
     ensures search { Searches P.Pages tree.now pages.old pages.new result }
 {
     let known = list_at(nearest, own);

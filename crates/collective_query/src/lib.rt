@@ -10,18 +10,25 @@
 //! from it and its own from the point are at most that cost together. So a frequent word is looked for in a small circle round each place of a
 //! rare one, and not in the large one round the point. No triangle inequality is used, since distances are rounded down.
 //!
-//! Of the places that are found those are dropped that can't be in so cheap a choice with any place of the shortest list. All choices of the
-//! others are searched, but for those that begin like one that costs too much already.
+//! Where a word is frequent in such a circle, the words that aren't are looked for first: a lead with which their places cost too much is left,
+//! and the many places of the frequent word aren't looked for.
+//!
+//! Of the places that are found those are dropped that can't be in so cheap a choice with any place of the shortest list. Then the least cost is
+//! looked for, with the shortest lists first: places that begin a choice are left once a list has none that can go on for less. Last come the
+//! keys: for each word in turn the least one with which the others can still be chosen within that cost.
 #![tactic(auto)]
 
 mod candidates;
+mod costing;
 mod gathering;
 mod joining;
+mod keys;
 mod leading;
 mod nearest;
 mod picks;
 mod query;
 mod search;
+mod sieving;
 
 pub use query::group;
 

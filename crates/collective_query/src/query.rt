@@ -1,5 +1,5 @@
 //! Collective queries.
-ghost use Rattle.std.specs.Prelude.{◌≡◌, ◌≢◌, Err, Vec, IfOk, IsErrOf};
+ghost use Rattle.std.specs.Prelude.{◌≡◌, ◌≢◌, ◌≤◌, Err, Vec, IfOk, IfSome, IsErrOf};
 ghost use Rattle.std.specs.List.{AllByRecursion};
 ghost use Rattle.std.specs.declared.alloc.Global.{Global};
 ghost use Rattle.page_face.specs.Calls.{Reads, FailsReading};
@@ -42,7 +42,8 @@ fn firsts(alloc: Global, lists: &[Vec<Pick>]) -> Result<Option<Vec<Pick>>, Alloc
 // The least choice of a pick of each list, if each has one.
 fn least_among(alloc: Global, at: &Point, lists: &[Vec<Pick>]) -> Result<Option<Chosen>, AllocError>
     requires { AllByRecursion (λ (list : Vec Pick Global). AreNear list.items) lists.now }
-    ensures { IfOk result (λ best. AllByRecursion (λ (list : Vec Pick Global). AreMeasured at.now list.items) lists.now → IsLeast at.now (lists_in lists.now) best) }
+    ensures least { IfOk result (λ best. AllByRecursion (λ (list : Vec Pick Global). AreMeasured at.now list.items) lists.now → IsLeast at.now (lists_in lists.now) best) }
+    ensures cost { IfOk result (λ best. IfSome best (λ best. best.cost ≤ 8049844718)) }
 {
     let picks = match firsts(alloc, lists)? {
         Some(picks) => picks,
@@ -63,12 +64,15 @@ fn least_among(alloc: Global, at: &Point, lists: &[Vec<Pick>]) -> Result<Option<
 /// Refuses `Damaged` with a rule that a page read in this call breaks, never over a whole tree; `Disk`, `Stopped`, and `Memory` if it runs out
 /// of memory. The tree is as before in any case.
 ///
-/// Searches the tree for the five nearest places of each word. Between these all choices are searched, in memory. If the five places of a
+/// Searches the tree for the five nearest places of each word. Between these the choices are searched, in memory. If the five places of a
 /// word all lie at most as far from the point as the least of these choices costs, the word whose nearest place is farthest leads: one search
 /// for each other word finds its places nearest to that place, and at most one more the lead's places that are no farther than the least choice
-/// costs by then. Round each of these each other word whose five places all lie as near as that is searched for once, in a circle of the rest of
-/// the cost, as long as the words before it have a place there. A node is opened only where one of the words is held below it, or if it is the
-/// root.
+/// costs by then. Round each of these the other words whose five places all lie as near as that are searched for, in a circle of the rest of
+/// the cost: where a word is frequent there, first those that aren't; and then, if these let a choice cost so little, each of them once, as long
+/// as the words before it have a place there. A node is opened only where one of the words is held below it, or if it is the root.
+///
+/// It keeps the places found round one lead at a time. In the worst case the search among them goes through as many choices as there are: where
+/// places of any two words lie near enough to each other and those of three or more don't.
 pub fn group<P: Pages>(
     alloc: Global,
     pages: &mut P,

@@ -1,5 +1,5 @@
 //! The choices of a pick for each word, and the search among them for the one that costs least.
-ghost use Rattle.std.specs.Prelude.{◌≡◌, ◌++◌, ◌∷◌, [], ◌≤◌, ℕ, List, Vec, Some, OnOk};
+ghost use Rattle.std.specs.Prelude.{◌≡◌, ◌++◌, ◌∷◌, [], ◌≤◌, max, ℕ, List, Vec, Some, OnOk};
 ghost use Rattle.std.specs.List.{AllByRecursion};
 ghost use Rattle.std.specs.Cmp.Lexicographic.{slice_cmp};
 ghost use Rattle.std.specs.Ordering.{nat_cmp, ordering_then};
@@ -10,23 +10,13 @@ ghost use Rattle.place_map.specs.Group.{product, farthest, diameter, choice_cost
 ghost use Rattle.place_map.specs.Search.{lists_in, fronted};
 ghost use Rattle.collective_query.specs.Picks.{AreNear, AreMeasured};
 
-use crate::joining::joined_lists;
+use crate::costing::{farthest_of, least_cost};
+use crate::joining::{by_length, joined_lists};
+use crate::keys::least_keys;
 use place_map::{Chosen, Pick, Picks};
-use spatial_base::{Point, dist};
+use spatial_base::Point;
 use std::alloc::{AllocError, Global};
 use std::cmp::Ordering;
-
-// The greatest distance from a point to a pick.
-fn farthest_of(point: &Point, picks: &[Pick]) -> u64
-    ensures value { result ≡ farthest point.now picks.now }
-    ensures far { result ≤ 4024922359 }
-{
-    let mut most = 0;
-    for pick in picks {
-        most = most.max(dist(point, &pick.point));
-    }
-    most
-}
 
 // The greatest distance between two picks.
 fn diameter_of(picks: &[Pick]) -> u64
@@ -41,7 +31,8 @@ fn diameter_of(picks: &[Pick]) -> u64
 
 /// Returns what a choice costs: the greatest distance from the point to a pick, plus the greatest distance between two picks.
 pub(crate) fn cost_of(at: &Point, picks: &[Pick]) -> u64
-    ensures { result ≡ choice_cost at.now picks.now }
+    ensures value { result ≡ choice_cost at.now picks.now }
+    ensures far { result ≤ 8049844718 }
 {
     farthest_of(at, picks) + diameter_of(picks)
 }
@@ -55,7 +46,8 @@ fn against(picks: &[Pick], cost: u64, best: &Chosen) -> Ordering
 
 // Keeps a choice of this cost if it comes before the best one.
 fn offer(alloc: Global, picks: &[Pick], cost: u64, best: &mut Chosen) -> Result<(), AllocError>
-    ensures { OnOk result ((at : Position) → cost ≡ choice_cost at picks.now → (tried : List (List Pick)) → Some best.old ≡ least_of at tried → Some best.new ≡ least_of at (tried ++ picks.now ∷ [])) }
+    ensures cost { OnOk result (best.new.cost ≤ max cost best.old.cost) }
+    ensures least { OnOk result ((at : Position) → cost ≡ choice_cost at picks.now → (tried : List (List Pick)) → Some best.old ≡ least_of at tried → Some best.new ≡ least_of at (tried ++ picks.now ∷ [])) }
 {
     if against(picks, cost, &*best).is_lt() {
         let picks = Picks::from_vec(Vec::from_slice(alloc, picks)?);
@@ -64,54 +56,30 @@ fn offer(alloc: Global, picks: &[Pick], cost: u64, best: &mut Chosen) -> Result<
     Ok(())
 }
 
-// Offers each choice that begins so and goes on with one of each list. `far` is the greatest distance to a pick of the front and `wide` the
-// greatest one between two. A front that comes after the best choice is left, since what completes it does too.
-fn extend(
-    alloc: Global,
-    lists: &[Vec<Pick>],
-    front: &mut Vec<Pick>,
-    far: u64,
-    wide: u64,
-    best: &mut Chosen,
-) -> Result<(), AllocError>
-    requires near { AllByRecursion (λ (list : Vec Pick Global). AreNear list.items) lists.now }
-    requires far { far ≤ 4024922359 }
-    requires wide { wide ≤ 4024922359 }
-    ensures same { OnOk result (front.new.items ≡ front.old.items) }
-    ensures least { OnOk result ((at : Position) → far ≡ farthest at front.old.items → wide ≡ diameter front.old.items
-        → AllByRecursion (λ (list : Vec Pick Global). AreMeasured at list.items) lists.now → (tried : List (List Pick)) → Some best.old ≡ least_of at tried
-        → Some best.new ≡ least_of at (tried ++ fronted front.old.items (product (lists_in lists.now)))) }
-{
-    let cost = far + wide;
-    if against(&*front, cost, &*best).is_gt() {
-        return Ok(());
-    }
-    let Some((list, others)) = lists.split_first() else {
-        return offer(alloc, &*front, cost, best);
-    };
-    for pick in list {
-        let further = far.max(pick.dist);
-        let wider = wide.max(farthest_of(&pick.point, &*front));
-        front.push(*pick)?;
-        extend(alloc, others, front, further, wider, best)?;
-        front.pop();
-    }
-    Ok(())
-}
-
 /// Leaves the least of the best choice so far and all choices of one pick of each list.
 ///
-/// Drops first the picks that can't be in a choice of the best one's cost with any pick of the shortest list.
+/// Drops first the picks that can't be in a choice of the best one's cost with any pick of the shortest list. Then the least cost is looked for
+/// with the shortest lists first, and last the least picks with which a choice costs no more, in the lists' order.
 pub(crate) fn least_choice(
     alloc: Global,
     lists: &[Vec<Pick>],
     best: &mut Chosen,
 ) -> Result<(), AllocError>
-    requires { AllByRecursion (λ (list : Vec Pick Global). AreNear list.items) lists.now }
-    ensures { OnOk result ((at : Position) → AllByRecursion (λ (list : Vec Pick Global). AreMeasured at list.items) lists.now → (tried : List (List Pick)) → Some best.old ≡ least_of at tried
+    requires near { AllByRecursion (λ (list : Vec Pick Global). AreNear list.items) lists.now }
+    requires cost { best.old.cost ≤ 8049844718 }
+    ensures least { OnOk result ((at : Position) → AllByRecursion (λ (list : Vec Pick Global). AreMeasured at list.items) lists.now → (tried : List (List Pick)) → Some best.old ≡ least_of at tried
         → Some best.new ≡ least_of at (tried ++ product (lists_in lists.now))) }
+    ensures cost { OnOk result (best.new.cost ≤ best.old.cost) }
 {
     let kept = joined_lists(alloc, lists, best.cost)?;
+    let sorted = by_length(alloc, &kept)?;
     let mut front = Vec::new(alloc);
-    extend(alloc, &kept, &mut front, 0, 0, best)
+    let least = least_cost(&sorted, &mut front, 0, 0, best.cost + 1, 0)?;
+    if least > best.cost {
+        return Ok(());
+    }
+    if !least_keys(&kept, &sorted, &mut front, 0, 0, least)? {
+        return Ok(());
+    }
+    offer(alloc, &front, least, best)
 }

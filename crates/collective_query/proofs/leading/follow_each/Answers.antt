@@ -1,4 +1,4 @@
-use Rattle.std.proofs.Common.{◌≡◌, ◌+◌, ◌++◌, ◌∷◌, [], ◌∙◌, ℕ, List, get_or, ap, sym, subst, take, rules}
+use Rattle.std.proofs.Common.{◌≡◌, ◌+◌, ◌++◌, ◌∷◌, [], ◌∙◌, ℕ, List, get_or, ap, sym, subst, take, rules, arith}
 use Rattle.std.proofs.lemmas.List.{take_all, take_more}
 use Rattle.std.proofs.lemmas.List.Elements.{Contains-get_or}
 use Rattle.std.specs.List.{Contains}
@@ -21,6 +21,7 @@ loop-lead-init g c = record {
       let tree = c.args.tree.now in
       let all : List (List Pick) = tree_lists c.args.ids.now c.args.at.now (nodes_at (g.P.Pages.pages c.args.pages.now) tree) tree.root c.args.words.now in
       (none-follows c.args.at.now all c.args.own c.args.best.now was, start);
+  cost = omega arith;
   search = search rules;
 }
 
@@ -39,10 +40,10 @@ loop-lead-preserved g c =
     let at : ℕ = c.loop-lead.lead-index in
     let first : Chosen = c.args.best.now in
     let best : Chosen = c.loop-lead.best in
-    let new : Chosen = c.follow.new.best in
+    let new : Chosen = c.follow_likely.new.best in
     let old : PageMap = P.pages c.args.pages.now in
     let between : List ℕ = P.asked c.loop-lead.pages in
-    let after : List ℕ = P.asked c.follow.new.pages in
+    let after : List ℕ = P.asked c.follow_likely.new.pages in
     let all : PageMap → List (List Pick) = λ p. tree_lists ids from (nodes_at p tree) tree.root words in
     let more : take (at + 1) leads ≡ take at leads ++ lead ∷ [] = take_more leads at lead c.loop-lead-test.true ∙ ap (λ (l : Pick). take at leads ++ l ∷ []) (sym c.lead-item.is) in
     let member : Contains leads lead = subst (Contains leads) (sym c.lead-item.is) (Contains-get_or leads at lead c.loop-lead-test.true) in
@@ -60,12 +61,13 @@ loop-lead-preserved g c =
           before known has (each lead member)
           (subst (λ (p : PageMap). FindsPicks p tree ids from words before between (known ++ best.picks)) (sym f.pages) so_far.1)) in
           (subst (λ (l : List Pick). Follows from (all old) own l first new) (sym more) (follows-then from (all old) own (take at leads) (lead ∷ []) first best new so_far.0 step.0), step.1);
-      search = searches-give P tree _ _ _ _ 0 c.in-Ok.is (searches-then P g.met.P.Pages.goes_further g.met.P.Pages.reads_further tree _ _ _ _ _ h.search c.follow.ensures.search);
+      cost = omega (arith, c.in-Ok.ensures.cost, h.cost);
+      search = searches-give P tree _ _ _ _ 0 c.in-Ok.is (searches-then P g.met.P.Pages.goes_further g.met.P.Pages.reads_further tree _ _ _ _ _ h.search c.follow_likely.ensures.search);
     }
 
 pub returns-in-Err-clause-search : goal.returns-in-Err-clause-search
 returns-in-Err-clause-search g c =
-    searches-refused g.P.Pages c.args.tree.now _ _ _ _ c.in-Err.is (searches-then g.P.Pages g.met.P.Pages.goes_further g.met.P.Pages.reads_further c.args.tree.now _ _ _ _ _ c.loop-lead.invariant.search c.follow.ensures.search)
+    searches-refused g.P.Pages c.args.tree.now _ _ _ _ c.in-Err.is (searches-then g.P.Pages g.met.P.Pages.goes_further g.met.P.Pages.reads_further c.args.tree.now _ _ _ _ _ c.loop-lead.invariant.search c.follow_likely.ensures.search)
 
 pub returns-clause-followed : goal.returns-clause-followed
 returns-clause-followed g c = λ fits same leads was before known has each start.

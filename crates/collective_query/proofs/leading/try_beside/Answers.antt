@@ -38,8 +38,8 @@ returns-in-Ok-None-clause-tried g c = λ fits same leads was before known has ta
     (c.in-Ok-None.ensures.opened fits before front (λ pick one. left pick (has pick one)) (left lead takes) start) in
     (none-better at all wanted led best was none, finds-fewer old tree ids at words before after (front ++ []) front (λ pick one. Contains-append_left front [] pick one) few)
 
-pub least_choice-requires : goal.least_choice-requires
-least_choice-requires g c =
+pub least_choice-requires-clause-near : goal.least_choice-requires-clause-near
+least_choice-requires-clause-near g c =
     subst (AllByRecursion (λ (list : Vec Pick Global). AreNear list.items)) (sym c.deref.ensures.value) (subst (OfEach AreNear) c.in-Ok-Some.field-0-is c.in-Ok-Some.ensures.near)
 
 pub returns-in-Ok-clause-tried : goal.returns-in-Ok-clause-tried
@@ -64,7 +64,7 @@ returns-in-Ok-clause-tried g c = λ fits same leads was before known has takes s
     let cut : AreCut wanted led (lists_in lists) = subst (AreGathered wanted led) c.in-Ok-Some.field-0-is (c.in-Ok-Some.ensures.gathered fits same) in
     let measured : AllByRecursion (λ (list : Vec Pick Global). AreMeasured at list.items) lists = subst (OfEach (AreMeasured at)) c.in-Ok-Some.field-0-is c.in-Ok-Some.ensures.measured in
     let is : Some new ≡ least_of at (best.picks ∷ product (lists_in lists)) =
-    c.in-Ok.ensures at (subst (AllByRecursion (λ (list : Vec Pick Global). AreMeasured at list.items)) (sym c.deref.ensures.value) measured) (best.picks ∷ []) (one-tried at best was.cost)
+    c.in-Ok.ensures.least at (subst (AllByRecursion (λ (list : Vec Pick Global). AreMeasured at list.items)) (sym c.deref.ensures.value) measured) (best.picks ∷ []) (one-tried at best was.cost)
     ∙ ap (λ (l : List (Vec Pick Global)). least_of at (best.picks ∷ product (lists_in l))) c.deref.ensures.value in
     let few : FindsPicks old tree ids at words before after (front ++ picks_of lists) =
     subst (λ o. FindsPicks old tree ids at words before after (front ++ gathered_picks o)) c.in-Ok-Some.field-0-is

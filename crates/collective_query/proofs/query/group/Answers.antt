@@ -40,7 +40,7 @@ returns-in-Ok-None-clause-chosen g c = λ fits.
     let lists : List (Vec Pick Global) = c.deref.result.now in
     let kept : lists_in lists ≡ first_lists ids at nodes tree.root words = ap lists_in c.deref.ensures.value ∙ c.in-Ok.ensures.lists fits in
     let measured : Measured at lists = subst (Measured at) (sym c.deref.ensures.value) c.in-Ok.ensures.measured in
-    let none : Contains (lists_in lists) [] = subst (IsLeast at (lists_in lists)) c.in-Ok-None.field-0-is (c.in-Ok-None.ensures measured) in
+    let none : Contains (lists_in lists) [] = subst (IsLeast at (lists_in lists)) c.in-Ok-None.field-0-is (c.in-Ok-None.ensures.least measured) in
     ap (least_of at) (sym (product-none (tree_lists ids at nodes tree.root words) (no-first ids at nodes tree.root words (subst (λ (l : List (List Pick)). Contains l []) kept none))))
 
 pub returns-in_default-clause-chosen : goal.returns-in_default-clause-chosen
@@ -56,7 +56,7 @@ returns-in_default-clause-chosen g c = λ fits.
     let firsts : List (List Pick) = first_lists ids at nodes tree.root words in
     let kept : lists_in nearest ≡ firsts = c.in-Ok.ensures.lists fits in
     let measured : Measured at c.deref.result.now = subst (Measured at) (sym c.deref.ensures.value) c.in-Ok.ensures.measured in
-    let begun : Leads at best nearest = subst (Leads at best) c.deref.ensures.value (subst (IsLeast at (lists_in c.deref.result.now)) c.in-Ok-Some.field-0-is (c.in-Ok-Some.ensures measured)) in
+    let begun : Leads at best nearest = subst (Leads at best) c.deref.ensures.value (subst (IsLeast at (lists_in c.deref.result.now)) c.in-Ok-Some.field-0-is (c.in-Ok-Some.ensures.least measured)) in
     let chosen : IsChosen at all best = first-chosen ids at nodes tree.root words best (subst (λ (l : List (List Pick)). IsChosen at l best) kept begun.0) in
     let beyond : AllByRecursion (GoesBeyond 5 best.cost) firsts =
     subst (AllByRecursion (GoesBeyond 5 best.cost)) (ap lists_in c.deref-2.ensures.value ∙ kept) (map-all (GoesBeyond 5 best.cost) (λ (list : Vec Pick Global). list.items) c.deref-2.result.now c.in_default.ensures.none) in
@@ -73,7 +73,7 @@ returns-in_default-clause-opened g c = λ fits.
     let nearest : List (Vec Pick Global) = c.in-Ok.nearest.items in
     let best : Chosen = c.in-Ok-Some.best in
     let measured : Measured at c.deref.result.now = subst (Measured at) (sym c.deref.ensures.value) c.in-Ok.ensures.measured in
-    let begun : Leads at best nearest = subst (Leads at best) c.deref.ensures.value (subst (IsLeast at (lists_in c.deref.result.now)) c.in-Ok-Some.field-0-is (c.in-Ok-Some.ensures measured)) in
+    let begun : Leads at best nearest = subst (Leads at best) c.deref.ensures.value (subst (IsLeast at (lists_in c.deref.result.now)) c.in-Ok-Some.field-0-is (c.in-Ok-Some.ensures.least measured)) in
     finds-fewer old tree ids at words (P.asked c.args.pages.now) (P.asked c.nearest_each.new.pages) (picks_of nearest) best.picks (choice-picks nearest best.picks begun.0.choice) (c.in-Ok.ensures.opened fits)
 
 pub search_by_lead-requires-clause-measured : goal.search_by_lead-requires-clause-measured
@@ -99,7 +99,7 @@ returns-in-Ok-search_by_lead-clause-chosen g c = λ fits.
     let firsts : PageMap → List (List Pick) = λ p. first_lists ids at (nodes_at p tree) tree.root words in
     let kept : lists_in nearest ≡ firsts old = c.in-Ok.ensures.lists fits in
     let measured : Measured at c.deref.result.now = subst (Measured at) (sym c.deref.ensures.value) c.in-Ok.ensures.measured in
-    let begun : Leads at best nearest = subst (Leads at best) c.deref.ensures.value (subst (IsLeast at (lists_in c.deref.result.now)) c.in-Ok-Some.field-0-is (c.in-Ok-Some.ensures measured)) in
+    let begun : Leads at best nearest = subst (Leads at best) c.deref.ensures.value (subst (IsLeast at (lists_in c.deref.result.now)) c.in-Ok-Some.field-0-is (c.in-Ok-Some.ensures.least measured)) in
     let chosen : IsChosen at (all old) best = first-chosen ids at (nodes_at old tree) tree.root words best (subst (λ (l : List (List Pick)). IsChosen at l best) kept begun.0) in
     let still : FitsTree mid (P.count c.nearest_each.new.pages) (P.first c.nearest_each.new.pages) tree = rw (f.pages, f.count, f.first) fits in
     let inside : c.in-Some.own < length words =
@@ -139,7 +139,7 @@ returns-in-Ok-search_by_lead-clause-opened g c = λ fits.
     let firsts : PageMap → List (List Pick) = λ p. first_lists ids at (nodes_at p tree) tree.root words in
     let kept : lists_in nearest ≡ firsts old = c.in-Ok.ensures.lists fits in
     let measured : Measured at c.deref.result.now = subst (Measured at) (sym c.deref.ensures.value) c.in-Ok.ensures.measured in
-    let begun : Leads at best nearest = subst (Leads at best) c.deref.ensures.value (subst (IsLeast at (lists_in c.deref.result.now)) c.in-Ok-Some.field-0-is (c.in-Ok-Some.ensures measured)) in
+    let begun : Leads at best nearest = subst (Leads at best) c.deref.ensures.value (subst (IsLeast at (lists_in c.deref.result.now)) c.in-Ok-Some.field-0-is (c.in-Ok-Some.ensures.least measured)) in
     let chosen : IsChosen at (all old) best = first-chosen ids at (nodes_at old tree) tree.root words best (subst (λ (l : List (List Pick)). IsChosen at l best) kept begun.0) in
     let still : FitsTree mid (P.count c.nearest_each.new.pages) (P.first c.nearest_each.new.pages) tree = rw (f.pages, f.count, f.first) fits in
     let inside : c.in-Some.own < length words =

@@ -1,32 +1,98 @@
-use Rattle.std.proofs.Common.{◌≡◌, ◌∙◌, ap, sym, subst, ◌++◌, List, Vec, Some}
+use Rattle.std.proofs.Common.{◌≡◌, ◌∙◌, ◌≤◌, ◌<◌, ◌++◌, ◌∷◌, [], ℕ, ap, sym, subst, List, Vec, Some, arith}
 use Rattle.std.proofs.lemmas.Result.{on_ok_weaker}
-use Rattle.std.specs.List.{AllByRecursion}
+use Rattle.std.specs.List.{AllByRecursion, Contains}
 use Rattle.std.specs.declared.alloc.Global.{Global}
 use Rattle.spatial_base.specs.Point.{Position}
 use Rattle.place_map.specs.declared.query.Pick.{Pick}
-use Rattle.place_map.specs.Group.{product, least_of, farthest, diameter}
-use Rattle.place_map.specs.Search.{lists_in, fronted}
-use Rattle.place_map.specs.GroupLaws.{fronted_none}
+use Rattle.place_map.specs.Group.{product, least_of, farthest, diameter, choice_cost}
+use Rattle.place_map.specs.Search.{lists_in}
 use Rattle.collective_query.specs.Choices.{IsChoice}
-use Rattle.collective_query.specs.Picks.{AreMeasured}
-use Rattle.collective_query.proofs.Cuts.{fewer-least}
-use Rattle.collective_query.proofs.Members.{all-among}
-use Rattle.collective_query.proofs.Products.{choice-among, all-choices}
+use Rattle.collective_query.specs.Fronts.{Completes, HasLeastKeys}
+use Rattle.collective_query.proofs.Searched.{Each, each-among, none-cheaper, none-found, one-found, front-costs, no-lists, nothing-completed}
 use Rattle.collective_query.proofs.search.least_choice.Goals as goal
 
-pub returns : goal.returns
-returns c =
+pub returns-then-least-best-clause-least : goal.returns-then-least-best-clause-least
+returns-then-least-best-clause-least c = λ at measured tried was.
     let lists = c.args.lists.now in
-    let kept = c.in_ok-kept.ensures in
-    let some : List (List Pick) = lists_in c.deref.result.now in
-    let none = c.new-front.ensures.items in
-    on_ok_weaker {Q = (at : Position) → AllByRecursion (λ (list : Vec Pick Global). AreMeasured at list.items) lists → (tried : List (List Pick)) → Some c.args.best.now ≡ least_of at tried → Some c.extend.new.best ≡ least_of at (tried ++ product (lists_in lists))}
-    c.extend.result
-    (λ h at sorted tried was.
-    h at (sym (ap (farthest at) none)) (sym (ap diameter none)) (subst (AllByRecursion (λ (list : Vec Pick Global). AreMeasured at list.items)) (sym c.deref.ensures.value) (kept.measured at sorted)) tried was
-    ∙ ap (λ front. least_of at (tried ++ fronted front (product some))) none
-    ∙ ap (λ choices. least_of at (tried ++ choices)) (fronted_none (product some))
-    ∙ fewer-least at tried (product some) (product (lists_in lists)) c.args.best.now was
-    (λ choice one. choice-among (lists_in lists) choice (kept.own choice (subst (λ l. IsChoice (lists_in l) choice) c.deref.ensures.value (all-among (IsChoice some) (product some) choice (all-choices some) one))))
-    (λ choice one cheap. choice-among some choice (subst (λ l. IsChoice (lists_in l) choice) (sym c.deref.ensures.value) (kept.all at sorted choice (all-among (IsChoice (lists_in lists)) (product (lists_in lists)) choice (all-choices (lists_in lists)) one) cheap))))
-    c.extend.ensures.least
+    let kept = c.in_ok-kept.kept.items in
+    let sorted = c.in_ok-sorted.sorted.items in
+    let least = c.in_ok-least.least in
+    let best = c.args.best.now in
+    let nothing = c.new-front.ensures.items in
+    let among : (list : List Pick) → Contains (lists_in sorted) list → Contains (lists_in kept) list =
+    λ list there. subst (λ (l : List (Vec Pick Global)). Contains (lists_in l) list) c.deref.ensures.value (c.in_ok-sorted.ensures.among list there) in
+    let all_kept : Each at kept = c.in_ok-kept.ensures.measured at measured in
+    let all_sorted : Each at sorted = each-among at sorted kept among all_kept in
+    let lowest : 0 < least → (choice : List Pick) → IsChoice (lists_in sorted) choice → least ≤ choice_cost at choice =
+    λ some choice one. subst (λ (f : List Pick). least ≤ choice_cost at (f ++ choice)) nothing
+    (c.in_ok-least.ensures.least some at (sym (ap (farthest at) nothing)) (sym (ap diameter nothing)) (subst (Each at) (sym c.deref-2.ensures.value) all_sorted) choice
+    (subst (λ (l : List (Vec Pick Global)). IsChoice (lists_in l) choice) (sym c.deref-2.ensures.value) one)) in
+    was ∙ none-cheaper at (lists_in lists) (lists_in kept) (lists_in sorted) tried best least c.in_ok-kept.ensures.own (c.in_ok-kept.ensures.all at measured) among lowest was c.if-least-best.true
+
+pub returns-then-not-branch-clause-least : goal.returns-then-not-branch-clause-least
+returns-then-not-branch-clause-least c = λ at measured tried was.
+    let lists = c.args.lists.now in
+    let kept = c.in_ok-kept.kept.items in
+    let sorted = c.in_ok-sorted.sorted.items in
+    let least = c.in_ok-least.least in
+    let best = c.args.best.now in
+    let nothing = c.new-front.ensures.items in
+    let again = c.in_ok-least.ensures.same ∙ nothing in
+    let among : (list : List Pick) → Contains (lists_in sorted) list → Contains (lists_in kept) list =
+    λ list there. subst (λ (l : List (Vec Pick Global)). Contains (lists_in l) list) c.deref.ensures.value (c.in_ok-sorted.ensures.among list there) in
+    let whole : (list : List Pick) → Contains (lists_in c.deref-3.result.now) list → Contains (lists_in c.deref-4.result.now) list =
+    λ list there. subst (λ (l : List (Vec Pick Global)). Contains (lists_in l) list) (sym c.deref-4.ensures.value)
+    (c.in_ok-sorted.ensures.whole list (subst (λ (l : List (Vec Pick Global)). Contains (lists_in l) list) (c.deref-3.ensures.value ∙ sym c.deref.ensures.value) there)) in
+    let all_kept : Each at kept = c.in_ok-kept.ensures.measured at measured in
+    let all_sorted : Each at sorted = each-among at sorted kept among all_kept in
+    let lowest : 0 < least → (choice : List Pick) → IsChoice (lists_in sorted) choice → least ≤ choice_cost at choice =
+    λ some choice one. subst (λ (f : List Pick). least ≤ choice_cost at (f ++ choice)) nothing
+    (c.in_ok-least.ensures.least some at (sym (ap (farthest at) nothing)) (sym (ap diameter nothing)) (subst (Each at) (sym c.deref-2.ensures.value) all_sorted) choice
+    (subst (λ (l : List (Vec Pick Global)). IsChoice (lists_in l) choice) (sym c.deref-2.ensures.value) one)) in
+    let found : least < best.cost → Completes at (lists_in sorted) least [] =
+    λ lesser. subst (λ (l : List (Vec Pick Global)). Completes at (lists_in l) least []) c.deref-2.ensures.value (subst (Completes at (lists_in c.deref-2.result.now) least) nothing
+    (c.in_ok-least.ensures.found (omega (arith, c.if-least-best.false)) at (sym (ap (farthest at) nothing)) (sym (ap diameter nothing)) (subst (Each at) (sym c.deref-2.ensures.value) all_sorted))) in
+    let none : Completes at (lists_in sorted) least [] → ⊥ =
+    λ done. c.in_ok-least_keys.ensures.none c.if-not-branch.true at (sym (ap (farthest at) again)) (sym (ap diameter again))
+    (subst (Each at) (sym c.deref-4.ensures.value) all_sorted) (subst (Each at) (sym c.deref-3.ensures.value) all_kept) whole
+    (subst (Completes at (lists_in c.deref-4.result.now) least) (sym again) (subst (λ (l : List (Vec Pick Global)). Completes at (lists_in l) least []) (sym c.deref-4.ensures.value) done)) in
+    was ∙ none-found at (lists_in lists) (lists_in kept) (lists_in sorted) tried best least c.in_ok-kept.ensures.own (c.in_ok-kept.ensures.all at measured) among lowest was found none
+
+pub returns-clause-least : goal.returns-clause-least
+returns-clause-least c =
+    let lists = c.args.lists.now in
+    let kept = c.in_ok-kept.kept.items in
+    let sorted = c.in_ok-sorted.sorted.items in
+    let least = c.in_ok-least.least in
+    let best = c.args.best.now in
+    let front = c.least_keys.new.front.items in
+    let nothing = c.new-front.ensures.items in
+    let again = c.in_ok-least.ensures.same ∙ nothing in
+    let among : (list : List Pick) → Contains (lists_in sorted) list → Contains (lists_in kept) list =
+    λ list there. subst (λ (l : List (Vec Pick Global)). Contains (lists_in l) list) c.deref.ensures.value (c.in_ok-sorted.ensures.among list there) in
+    on_ok_weaker {Q = (at : Position) → Each at lists → (tried : List (List Pick)) → Some best ≡ least_of at tried → Some c.offer.new.best ≡ least_of at (tried ++ product (lists_in lists))}
+    c.offer.result
+    (λ h at measured tried was.
+    let all_kept : Each at kept = c.in_ok-kept.ensures.measured at measured in
+    let all_sorted : Each at sorted = each-among at sorted kept among all_kept in
+    let lowest : 0 < least → (choice : List Pick) → IsChoice (lists_in sorted) choice → least ≤ choice_cost at choice =
+    λ some choice one. subst (λ (f : List Pick). least ≤ choice_cost at (f ++ choice)) nothing
+    (c.in_ok-least.ensures.least some at (sym (ap (farthest at) nothing)) (sym (ap diameter nothing)) (subst (Each at) (sym c.deref-2.ensures.value) all_sorted) choice
+    (subst (λ (l : List (Vec Pick Global)). IsChoice (lists_in l) choice) (sym c.deref-2.ensures.value) one)) in
+    let begun : c.deref-3.result.now ≡ [] → Completes at (lists_in c.deref-4.result.now) least c.least_cost.new.front.items =
+    λ empty. subst (Completes at (lists_in c.deref-4.result.now) least) (sym again)
+    (subst (λ (l : List (Vec Pick Global)). Completes at (lists_in l) least []) (sym c.deref-4.ensures.value)
+    (nothing-completed at (lists_in sorted) least (no-lists (lists_in sorted) (lists_in kept) among (ap lists_in (sym c.deref-3.ensures.value ∙ empty))))) in
+    let keys : HasLeastKeys at (lists_in c.deref-3.result.now) (lists_in c.deref-4.result.now) least c.least_cost.new.front.items front =
+    c.in_ok-least_keys.ensures.found c.if-not-branch.false at (sym (ap (farthest at) again)) (sym (ap diameter again))
+    (subst (Each at) (sym c.deref-4.ensures.value) all_sorted) (subst (Each at) (sym c.deref-3.ensures.value) all_kept) begun in
+    let has : HasLeastKeys at (lists_in kept) (lists_in sorted) least [] front =
+    subst (λ (old : List Pick). HasLeastKeys at (lists_in kept) (lists_in sorted) least old front) again
+    (subst (λ (l : List (Vec Pick Global)). HasLeastKeys at (lists_in l) (lists_in sorted) least c.least_cost.new.front.items front) c.deref-3.ensures.value
+    (subst (λ (l : List (Vec Pick Global)). HasLeastKeys at (lists_in c.deref-3.result.now) (lists_in l) least c.least_cost.new.front.items front) c.deref-4.ensures.value keys)) in
+    let costs : least ≡ choice_cost at front =
+    front-costs at (lists_in lists) (lists_in kept) (lists_in sorted) tried best least c.in_ok-kept.ensures.own (c.in_ok-kept.ensures.all at measured) among lowest was front has in
+    h at (costs ∙ ap (choice_cost at) (sym c.deref-5.ensures.value)) tried was
+    ∙ ap (λ (f : List Pick). least_of at (tried ++ f ∷ [])) c.deref-5.ensures.value
+    ∙ one-found at (lists_in lists) (lists_in kept) (lists_in sorted) tried best least c.in_ok-kept.ensures.own (c.in_ok-kept.ensures.all at measured) among lowest was front has)
+    c.offer.ensures.least

@@ -1,6 +1,6 @@
 use Rattle.std.proofs.Common.{◌≡◌, ◌≤◌, take}
 use Rattle.place_map.specs.Group.{farthest}
-use Rattle.collective_query.proofs.search.farthest_of.Given as goal
+use Rattle.collective_query.proofs.costing.farthest_of.Given as goal
 
 abbrev pub invariant-loop-pick : goal.invariant-loop-pick
 invariant-loop-pick l = record {

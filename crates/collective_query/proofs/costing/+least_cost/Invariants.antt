@@ -1,0 +1,26 @@
+use Rattle.std.proofs.Common.{◌≡◌, ◌<◌, ◌≤◌, ◌++◌, ◌∷◌, List, Vec, take, length}
+use Rattle.std.specs.List.{AllByRecursion}
+use Rattle.std.specs.declared.alloc.Global.{Global}
+use Rattle.spatial_base.specs.Point.{Position}
+use Rattle.place_map.specs.declared.query.Pick.{Pick}
+use Rattle.place_map.specs.Group.{farthest, diameter, choice_cost}
+use Rattle.place_map.specs.Search.{lists_in}
+use Rattle.collective_query.specs.Choices.{IsChoice}
+use Rattle.collective_query.specs.Fronts.{Completes}
+use Rattle.collective_query.specs.Picks.{AreMeasured}
+use Rattle.collective_query.proofs.costing.+least_cost.Given as goal
+
+abbrev pub decreases-least_cost : goal.decreases-least_cost
+decreases-least_cost l = length l.lists.now
+
+-- the choices that go on with one of the picks so far were looked at
+abbrev pub invariant-loop-pick : goal.invariant-loop-pick
+invariant-loop-pick l = record {
+  same : l.front.items ≡ l.fn.front.items;
+  most : l.least ≤ l.bound;
+  least : l.floor < l.least → (at : Position) → l.far ≡ farthest at l.fn.front.items → l.wide ≡ diameter l.fn.front.items
+      → AllByRecursion (λ (list : Vec Pick Global). AreMeasured at list.items) l.lists
+      → (choice : List Pick) → IsChoice (take l.pick-index l.pick-items ∷ lists_in l.others) choice → l.least ≤ choice_cost at (l.fn.front.items ++ choice);
+  found : l.least < l.bound → (at : Position) → l.far ≡ farthest at l.fn.front.items → l.wide ≡ diameter l.fn.front.items
+      → AllByRecursion (λ (list : Vec Pick Global). AreMeasured at list.items) l.lists → Completes at (lists_in l.lists) l.least l.fn.front.items;
+}

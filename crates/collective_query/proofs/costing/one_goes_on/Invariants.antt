@@ -1,0 +1,9 @@
+use Rattle.std.proofs.Common.{ℕ, ◌+◌, ◌≤◌, max, take}
+use Rattle.std.specs.List.{AllByRecursion}
+use Rattle.place_map.specs.declared.query.Pick.{Pick}
+use Rattle.place_map.specs.Group.{farthest}
+use Rattle.collective_query.proofs.costing.one_goes_on.Given as goal
+
+-- none so far goes on for less
+abbrev pub invariant-loop-pick : goal.invariant-loop-pick
+invariant-loop-pick l = AllByRecursion (λ (pick : Pick). l.bound ≤ max l.far pick.dist + max l.wide (farthest pick.point l.front)) (take l.pick-index l.list)

@@ -1,0 +1,21 @@
+use Rattle.std.proofs.Common.{◌≡◌, false, Option, Some, List, IsSomeAnd, sym}
+use Rattle.std.specs.Ordering.{is_lt}
+use Rattle.place_map.specs.declared.query.Pick.{Pick}
+use Rattle.place_map.specs.Group.{pick_cmp}
+use Rattle.place_map.specs.Search.{lists_in}
+use Rattle.collective_query.proofs.Nexts.{next-passed, next-refused, next-taken}
+use Rattle.collective_query.proofs.keys.next_of.Goals as goal
+
+pub returns-then-not-comes_first-clause-next : goal.returns-then-not-comes_first-clause-next
+returns-then-not-comes_first-clause-next c = λ at far wide sorted dist picks is.
+    next-passed at (lists_in c.args.lists.now) c.args.most c.args.front.now.items picks c.args.pick.now c.args.next is (c.comes_first.ensures.after c.if-not-comes_first.true)
+
+pub returns-then-branch-clause-next : goal.returns-then-branch-clause-next
+returns-then-branch-clause-next c = λ at far wide sorted dist picks is.
+    next-taken at (lists_in c.args.lists.now) c.args.most c.args.front.now.items picks c.args.pick.now c.args.next is (c.comes_first.ensures.before c.if-not-comes_first.false)
+    (c.in_ok-completes.ensures.completed c.if-branch.true at far wide sorted dist)
+
+pub returns-clause-next : goal.returns-clause-next
+returns-clause-next c = λ at far wide sorted dist picks is.
+    next-refused at (lists_in c.args.lists.now) c.args.most c.args.front.now.items picks c.args.pick.now c.args.next is
+    (c.in_ok-completes.ensures.refused c.if-branch.false at far wide sorted dist)

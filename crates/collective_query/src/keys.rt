@@ -1,0 +1,153 @@
+//! The choice of least keys within a cost.
+ghost use Rattle.std.specs.Prelude.{◌≡◌, ◌++◌, ◌∷◌, [], ◌≤◌, true, false, List, Vec, IfOk, OnOk, IfSome, IsSomeAnd};
+ghost use Rattle.std.specs.List.{AllByRecursion, Contains};
+ghost use Rattle.std.specs.Ordering.{is_lt};
+ghost use Rattle.std.specs.declared.alloc.Global.{Global};
+ghost use Rattle.spatial_base.specs.Point.{Position, distance};
+ghost use Rattle.place_map.specs.declared.query.Pick.{Pick};
+ghost use Rattle.place_map.specs.Group.{farthest, diameter, pick_cmp};
+ghost use Rattle.place_map.specs.Search.{lists_in};
+ghost use Rattle.collective_query.specs.Fronts.{Completes, IsNext, HasLeastKeys};
+ghost use Rattle.collective_query.specs.Picks.{AreNear, AreMeasured};
+
+use crate::costing::{farthest_of, least_cost};
+use place_map::Pick;
+use std::alloc::AllocError;
+use std::cmp::Ordering;
+
+// Whether a pick comes before another, if there is another.
+fn comes_first(pick: &Pick, other: &Option<Pick>) -> bool
+    ensures before { result ≡ true → IfSome other.now (λ other. is_lt (pick_cmp pick.now other) ≡ true) }
+    ensures after { result ≡ false → IsSomeAnd other.now (λ other. is_lt (pick_cmp pick.now other) ≡ false) }
+{
+    match other {
+        Some(other) => pick.cmp(other).is_lt(),
+        None => true,
+    }
+}
+
+// Whether a front can go on with a pick, and then with one of each list, and cost at most so much.
+fn completes(
+    lists: &[Vec<Pick>],
+    front: &mut Vec<Pick>,
+    pick: &Pick,
+    far: u64,
+    wide: u64,
+    most: u64,
+) -> Result<bool, AllocError>
+    requires near { AllByRecursion (λ (list : Vec Pick Global). AreNear list.items) lists.now }
+    requires far { far ≤ 4024922359 }
+    requires wide { wide ≤ 4024922359 }
+    requires most { most ≤ 8049844718 }
+    requires pick { pick.now.dist ≤ 4024922359 }
+    ensures same { OnOk result (front.new.items ≡ front.old.items) }
+    ensures completed { IfOk result (λ completed. completed ≡ true → (at : Position) → far ≡ farthest at front.old.items → wide ≡ diameter front.old.items
+        → AllByRecursion (λ (list : Vec Pick Global). AreMeasured at list.items) lists.now → pick.now.dist ≡ distance at pick.now.point
+        → Completes at (lists_in lists.now) most (front.old.items ++ pick.now ∷ [])) }
+    ensures refused { IfOk result (λ completed. completed ≡ false → (at : Position) → far ≡ farthest at front.old.items → wide ≡ diameter front.old.items
+        → AllByRecursion (λ (list : Vec Pick Global). AreMeasured at list.items) lists.now → pick.now.dist ≡ distance at pick.now.point
+        → Completes at (lists_in lists.now) most (front.old.items ++ pick.now ∷ []) → ⊥) }
+{
+    let further = far.max(pick.dist);
+    let wider = wide.max(farthest_of(&pick.point, &*front));
+    front.push(*pick)?;
+    let least = least_cost(lists, front, further, wider, most + 1, most)?;
+    front.pop();
+    Ok(least <= most)
+}
+
+// The least of the next pick so far and one more, if a front can go on with it, and then with one of each of the lists, and cost at most so much.
+fn next_of(
+    pick: &Pick,
+    next: Option<Pick>,
+    lists: &[Vec<Pick>],
+    front: &mut Vec<Pick>,
+    far: u64,
+    wide: u64,
+    most: u64,
+) -> Result<Option<Pick>, AllocError>
+    requires near { AllByRecursion (λ (list : Vec Pick Global). AreNear list.items) lists.now }
+    requires far { far ≤ 4024922359 }
+    requires wide { wide ≤ 4024922359 }
+    requires most { most ≤ 8049844718 }
+    requires pick { pick.now.dist ≤ 4024922359 }
+    requires next { IfSome next (λ pick. pick.dist ≤ 4024922359) }
+    ensures same { OnOk result (front.new.items ≡ front.old.items) }
+    ensures near { IfOk result (λ new. IfSome new (λ pick. pick.dist ≤ 4024922359)) }
+    ensures next { IfOk result (λ new. (at : Position) → far ≡ farthest at front.old.items → wide ≡ diameter front.old.items
+        → AllByRecursion (λ (list : Vec Pick Global). AreMeasured at list.items) lists.now → pick.now.dist ≡ distance at pick.now.point → (picks : List Pick)
+        → IsNext at (lists_in lists.now) most front.old.items picks next → IsNext at (lists_in lists.now) most front.old.items (picks ++ pick.now ∷ []) new) }
+{
+    if !comes_first(pick, &next) {
+        return Ok(next);
+    }
+    if completes(lists, front, pick, far, wide, most)? {
+        return Ok(Some(*pick));
+    }
+    Ok(next)
+}
+
+// The least pick of a list that a front can go on with, and then with one of each of the lists, and cost at most so much.
+fn least_next(
+    list: &[Pick],
+    lists: &[Vec<Pick>],
+    front: &mut Vec<Pick>,
+    far: u64,
+    wide: u64,
+    most: u64,
+) -> Result<Option<Pick>, AllocError>
+    requires near { AllByRecursion (λ (list : Vec Pick Global). AreNear list.items) lists.now }
+    requires far { far ≤ 4024922359 }
+    requires wide { wide ≤ 4024922359 }
+    requires most { most ≤ 8049844718 }
+    requires list { AreNear list.now }
+    ensures same { OnOk result (front.new.items ≡ front.old.items) }
+    ensures near { IfOk result (λ next. IfSome next (λ pick. pick.dist ≤ 4024922359)) }
+    ensures next { IfOk result (λ next. (at : Position) → far ≡ farthest at front.old.items → wide ≡ diameter front.old.items
+        → AllByRecursion (λ (list : Vec Pick Global). AreMeasured at list.items) lists.now → AreMeasured at list.now
+        → IsNext at (lists_in lists.now) most front.old.items list.now next) }
+{
+    let mut next = None;
+    for pick in list {
+        next = next_of(pick, next, lists, front, far, wide, most)?;
+    }
+    Ok(next)
+}
+
+/// Goes on a front with the least pick of each of the first lists in turn that lets it go on with one of each of `lists`, and cost at most `most`.
+/// Returns whether there are such picks.
+pub(crate) fn least_keys(
+    firsts: &[Vec<Pick>],
+    lists: &[Vec<Pick>],
+    front: &mut Vec<Pick>,
+    far: u64,
+    wide: u64,
+    most: u64,
+) -> Result<bool, AllocError>
+    requires near { AllByRecursion (λ (list : Vec Pick Global). AreNear list.items) lists.now }
+    requires far { far ≤ 4024922359 }
+    requires wide { wide ≤ 4024922359 }
+    requires most { most ≤ 8049844718 }
+    requires firsts { AllByRecursion (λ (list : Vec Pick Global). AreNear list.items) firsts.now }
+    ensures found { IfOk result (λ found. found ≡ true → (at : Position) → far ≡ farthest at front.old.items → wide ≡ diameter front.old.items
+        → AllByRecursion (λ (list : Vec Pick Global). AreMeasured at list.items) lists.now → AllByRecursion (λ (list : Vec Pick Global). AreMeasured at list.items) firsts.now
+        → (firsts.now ≡ [] → Completes at (lists_in lists.now) most front.old.items)
+        → HasLeastKeys at (lists_in firsts.now) (lists_in lists.now) most front.old.items front.new.items) }
+    ensures none { IfOk result (λ found. found ≡ false → (at : Position) → far ≡ farthest at front.old.items → wide ≡ diameter front.old.items
+        → AllByRecursion (λ (list : Vec Pick Global). AreMeasured at list.items) lists.now → AllByRecursion (λ (list : Vec Pick Global). AreMeasured at list.items) firsts.now
+        → ((list : List Pick) → Contains (lists_in firsts.now) list → Contains (lists_in lists.now) list)
+        → Completes at (lists_in lists.now) most front.old.items → ⊥) }
+{
+    let Some((list, others)) = firsts.split_first() else {
+        return Ok(true);
+    };
+    let pick = match least_next(list, lists, front, far, wide, most)? {
+        Some(pick) => pick,
+        None => return Ok(false),
+    };
+    let further = far.max(pick.dist);
+    let wider = wide.max(farthest_of(&pick.point, &*front));
+    front.push(pick)?;
+    let found = least_keys(others, lists, front, further, wider, most)?;
+    Ok(found)
+}
