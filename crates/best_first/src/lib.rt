@@ -14,6 +14,3 @@ mod search;
 pub use item::Item;
 pub use ranked::Ranked;
 pub use search::first_k;
-
-#[cfg(test)]
-mod tests;

@@ -19,6 +19,3 @@ mod walk;
 
 pub use nearest_query::nearest;
 pub use region_queries::{inside, range};
-
-#[cfg(test)]
-mod tests;

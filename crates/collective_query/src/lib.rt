@@ -31,6 +31,3 @@ mod search;
 mod sieving;
 
 pub use query::group;
-
-#[cfg(test)]
-mod tests;

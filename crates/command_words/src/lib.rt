@@ -9,8 +9,6 @@ mod command;
 mod job;
 mod line;
 mod task;
-#[cfg(test)]
-mod tests;
 mod values;
 
 pub use job::{Action, Job, PolicyName, WordsFault};

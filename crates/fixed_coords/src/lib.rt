@@ -11,8 +11,6 @@ mod fault;
 mod number;
 mod read;
 mod size;
-#[cfg(test)]
-mod tests;
 mod write;
 
 pub use fault::NumberFault;

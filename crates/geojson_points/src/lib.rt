@@ -10,8 +10,6 @@ mod feature;
 mod object;
 mod outcome;
 mod taken;
-#[cfg(test)]
-mod tests;
 mod text;
 
 pub use fault::LoadFault;

@@ -10,8 +10,6 @@ mod place;
 mod rooms;
 mod seals;
 mod table;
-#[cfg(test)]
-mod tests;
 mod written;
 
 pub use hints::Hints;

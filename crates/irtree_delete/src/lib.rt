@@ -18,6 +18,3 @@ mod taking;
 pub use orphan::Orphan;
 pub use removing::remove_at;
 pub use taking::take_out;
-
-#[cfg(test)]
-mod tests;

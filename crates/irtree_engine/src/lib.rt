@@ -25,10 +25,6 @@ mod fault;
 mod opening;
 mod queries;
 mod reading;
-#[cfg(test)]
-mod search_tests;
-#[cfg(test)]
-mod tests;
 mod updating;
 
 pub use engine::Engine;

@@ -19,7 +19,5 @@ mod part;
 mod put;
 mod root;
 mod store;
-#[cfg(test)]
-mod tests;
 
 pub use insert::insert_at;

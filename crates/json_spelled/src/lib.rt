@@ -21,6 +21,3 @@ mod tree;
 
 pub use read::read_tree;
 pub use tree::{JsonFault, Tree};
-
-#[cfg(test)]
-mod tests;

@@ -8,8 +8,6 @@
 
 mod literal;
 mod scan;
-#[cfg(test)]
-mod tests;
 mod token;
 
 pub use literal::literals_are_json;

@@ -4,7 +4,5 @@
 #![tactic(auto)]
 
 mod made;
-#[cfg(test)]
-mod tests;
 
 pub use made::{Made, Maker};

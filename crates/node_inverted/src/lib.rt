@@ -44,6 +44,3 @@ pub use rows::{row, set_row};
 pub use sharing::{rising, rows_at, shared_by};
 pub use taking::{NodeRow, take_rows};
 pub use words::words_of;
-
-#[cfg(test)]
-mod tests;

@@ -3,7 +3,5 @@
 
 mod cache;
 mod shelf;
-#[cfg(test)]
-mod tests;
 
 pub use cache::{Cache, Memory};

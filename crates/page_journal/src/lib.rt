@@ -17,8 +17,6 @@ mod fault;
 mod gate;
 mod records;
 mod recovery;
-#[cfg(test)]
-mod tests;
 
 pub use appending::append;
 pub use checkpointing::checkpoint;

@@ -21,6 +21,3 @@ pub use draft::LeafDraft;
 pub use layout::Layout;
 pub use map::PagedMap;
 pub use replacing::RowSpot;
-
-#[cfg(test)]
-mod tests;

@@ -26,6 +26,3 @@ pub use query::{Answer, Chosen, Expr, Pick, Picks, Query, Terms, Weights};
 pub use state::{NUMBER_MAX, PLACES_MAX, State};
 pub use top::{cost_of, has_some, relevance_of, sum_of_weights};
 pub use update::{Applied, Update, UpdateFault};
-
-#[cfg(test)]
-mod tests;

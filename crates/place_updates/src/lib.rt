@@ -12,8 +12,6 @@ mod place;
 mod putting;
 mod releasing;
 mod removing;
-#[cfg(test)]
-mod tests;
 mod words;
 
 pub use place::place_at;

@@ -14,8 +14,6 @@ mod bytes;
 mod counted;
 mod pairs;
 mod stored;
-#[cfg(test)]
-mod tests;
 
 pub use bytes::{number_bytes, number_of_bytes};
 pub use counted::{COUNTED_BYTES, Counted};

@@ -10,6 +10,3 @@ mod leaf;
 mod round;
 
 pub use finding::find;
-
-#[cfg(test)]
-mod tests;

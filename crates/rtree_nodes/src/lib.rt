@@ -29,8 +29,6 @@ mod parting;
 mod reach;
 mod reading;
 mod spare;
-#[cfg(test)]
-mod tests;
 mod writing;
 
 pub use codec::same_page;

@@ -15,6 +15,3 @@ pub use key::{KEY_TEXT_MAX, Key, KeyFault};
 pub use memory::Memory;
 pub use point::{LATITUDE_MAX, LONGITUDE_MAX, Point};
 pub use rect::Rect;
-
-#[cfg(test)]
-mod tests;

@@ -7,8 +7,6 @@
 mod deleting;
 mod entry;
 mod inserting;
-#[cfg(test)]
-mod tests;
 
 pub use deleting::delete;
 pub use entry::Entry;

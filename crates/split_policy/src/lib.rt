@@ -19,6 +19,3 @@ mod seeds;
 pub use halving::Halving;
 pub use policy::SplitPolicy;
 pub use quadratic::Quadratic;
-
-#[cfg(test)]
-mod tests;

@@ -7,19 +7,13 @@
 #![tactic(auto)]
 
 mod file_station;
-#[cfg(test)]
-mod file_tests;
 mod opening;
 mod output;
 mod scratch_station;
 mod std_source;
 mod store_file;
 mod store_files;
-#[cfg(test)]
-mod tests;
 mod trouble;
-#[cfg(test)]
-mod watched;
 
 pub use file_station::FileStation;
 pub use scratch_station::ScratchStation;

@@ -17,8 +17,6 @@ mod reading;
 mod releasing;
 mod tables;
 mod taking;
-#[cfg(test)]
-mod tests;
 mod words;
 mod writing;
 

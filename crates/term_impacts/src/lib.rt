@@ -9,8 +9,6 @@
 
 mod folding;
 mod tally;
-#[cfg(test)]
-mod tests;
 mod text;
 mod text_words;
 mod word;

@@ -4,6 +4,3 @@
 mod query;
 
 pub use query::top;
-
-#[cfg(test)]
-mod tests;

@@ -6,8 +6,6 @@
 
 mod putting;
 mod taking;
-#[cfg(test)]
-mod tests;
 
 pub use putting::put_entry;
 pub use taking::take_entry;

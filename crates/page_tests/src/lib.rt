@@ -1,0 +1,13 @@
+//! Tests of the crates of pages: cache, journal, store, maps of pages, and the tables of places and words.
+#![tactic(auto)]
+
+#[cfg(test)]
+mod held_pages_tests;
+#[cfg(test)]
+mod page_cache_tests;
+#[cfg(test)]
+mod page_journal_tests;
+#[cfg(test)]
+mod paged_map_tests;
+#[cfg(test)]
+mod store_tables_tests;

@@ -1,0 +1,141 @@
+use command_words::{Job, WordsFault, explain_words, read_words};
+use std::alloc::{AllocError, Global};
+use std::fmt::Write;
+use std::test::Fail;
+
+// Words, and what they ask for: the store, the action, the batch, the cache, the policy, the seed, the count and the property in brackets.
+static LINES: &str = "\
+- run > - run 1000 1024 Quadratic 0 1000
+town.store load > town.store load 1000 1024 Quadratic 0 1000
+- load --batch 1 --cache 0 --text name > - load 1 0 Quadratic 0 1000 [name]
+- load --batch=10000 --cache=65536 --text=name > - load 10000 65536 Quadratic 0 1000 [name]
+--cache 7 - run > - run 1000 7 Quadratic 0 1000
+- --text= load > - load 1000 1024 Quadratic 0 1000 []
+- load --text=--batch > - load 1000 1024 Quadratic 0 1000 [--batch]
+- load --batch +5 --cache 007 > - load 5 7 Quadratic 0 1000
+--cache=3 -- -x run > -x run 1000 3 Quadratic 0 1000
+- run --policy quadratic > - run 1000 1024 Quadratic 0 1000
+- run --policy=halving > - run 1000 1024 Halving 0 1000
+--policy halving - load --text name > - load 1000 1024 Halving 0 1000 [name]
+- make > - make 1000 1024 Quadratic 0 1000
+- make --from 7 --count 5000 > - make 1000 1024 Quadratic 7 5000
+- make --from=0 --count=1 --batch 10 --cache 0 --policy halving > - make 10 0 Halving 0 1
+--count 100000 - --from 18446744073709551615 make > - make 1000 1024 Quadratic 18446744073709551615 100000
+> Line
+- > Line
+- dance > Line
+- Run > Line
+- run - > Line
+-x run > Line
+- run -h > Line
+--help > Line
+- load --batch > Line
+- load --batch 0 > Line
+- load --batch=10001 > Line
+- load --batch=-1 > Line
+- load --batch= > Line
+- load --batch 1.5 > Line
+- load --cache 65537 > Line
+- load --cache 18446744073709551616 > Line
+- load --batch 1 --batch 1 > Line
+- load --text a --text=b > Line
+- load --bat 5 > Line
+- make --count 0 > Line
+- make --count 100001 > Line
+- make --count > Line
+- make --from 18446744073709551616 > Line
+- make --from=-1 > Line
+- make --from= > Line
+- make --from 1 --from 1 > Line
+- make --count 5 --count=5 > Line
+- run --batch 1 --text > Line
+- run --policy > Line
+- run --policy= > Line
+- run --policy Halving > Line
+- load --policy linear > Line
+- run --policy halving --policy halving > Line
+- run --batch 1 --policy linear > Line
+- run --batch 1 > Unused
+--text=name - run > Unused
+- run --cache 1 --text name > Unused
+--policy halving --batch 1 - run > Unused
+- run --count 5 > Unused
+- run --from=0 > Unused
+- load --count 5 > Unused
+--from 0 - load > Unused
+- make --text name > Unused
+";
+
+// The words that spaces separate.
+fn words_of(alloc: Global, line: &str) -> Result<Vec<String>, AllocError> {
+    let mut words = Vec::new(alloc);
+    for word in line.split(' ') {
+        if !word.is_empty() {
+            words.push(word.to_string(alloc)?)?;
+        }
+    }
+    Ok(words)
+}
+
+fn told(alloc: Global, read: &Result<Job, WordsFault>) -> Result<String, AllocError> {
+    let mut text = String::new(alloc);
+    match read {
+        Ok(job) => {
+            let store = job.store.as_str();
+            let action = job.action;
+            let batch = job.batch;
+            let cache = job.cache;
+            let policy = job.policy;
+            let from = job.from;
+            let count = job.count;
+            write!(
+                text,
+                "{store} {action} {batch} {cache} {policy:?} {from} {count}"
+            )?;
+            if let Some(property) = &job.text {
+                let property = property.as_str();
+                write!(text, " [{property}]")?;
+            }
+        }
+        Err(fault) => write!(text, "{fault:?}")?,
+    }
+    Ok(text)
+}
+
+#[test]
+fn words_ask_for_their_job(rt: HostRuntime) -> Result<(), Fail> {
+    for line in LINES.lines() {
+        let (given, wanted) = line.split_once("> ").ok_or("a line without its job")?;
+        let words = words_of(rt.alloc(), given)?;
+        let read = read_words(rt.alloc(), &words);
+        assert_eq!(rt; told(rt.alloc(), &read)?.as_str(), wanted, "of {given}");
+        let explained = explain_words(rt.alloc(), &words)?;
+        assert_eq!(rt; explained.is_some(), read.is_err(), "of {given}");
+    }
+    Ok(())
+}
+
+// Words that are refused, and what a person is told.
+static REFUSALS: &str = "\
+- dance > unknown action 'dance', expected run, load or make
+- run --batch 1 > the action run doesn't use '--batch'
+- load --from 1 > the action load doesn't use '--from'
+- load --policy linear > unknown policy 'linear', expected quadratic or halving
+- run --policy > a value is required for '--policy <POLICY>' but none was supplied
+- load --batch 0 > invalid value '0' for '--batch <PLACES>': 0 is not in 1..=10000
+- make --count 0 > invalid value '0' for '--count <NUMBER>': 0 is not in 1..=100000
+- load --cach 5 > unexpected argument '--cach' found
+- load --text > a value is required for '--text <PROPERTY>' but none was supplied
+- > the following required arguments were not provided: <ACTION>
+";
+
+#[test]
+fn a_refusal_names_the_word(rt: HostRuntime) -> Result<(), Fail> {
+    for line in REFUSALS.lines() {
+        let (given, wanted) = line.split_once(" > ").ok_or("a line without its text")?;
+        let words = words_of(rt.alloc(), given)?;
+        let text = explain_words(rt.alloc(), &words)?.ok_or("words that are accepted")?;
+        assert_eq!(rt; text.as_str(), wanted, "of {given}");
+    }
+    Ok(())
+}

@@ -1,0 +1,23 @@
+//! Tests of the crates of texts and values: words, numbers, GeoJSON, rows of bytes, command words, and the map of places that scans.
+#![tactic(auto)]
+
+#[cfg(test)]
+mod command_words_tests;
+#[cfg(test)]
+mod fixed_coords_tests;
+#[cfg(test)]
+mod geojson_points_tests;
+#[cfg(test)]
+mod json_spelled_tests;
+#[cfg(test)]
+mod line_tokens_tests;
+#[cfg(test)]
+mod made_places_tests;
+#[cfg(test)]
+mod place_map_tests;
+#[cfg(test)]
+mod row_codec_tests;
+#[cfg(test)]
+mod spatial_base_tests;
+#[cfg(test)]
+mod term_impacts_tests;

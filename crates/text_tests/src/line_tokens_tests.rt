@@ -1,0 +1,62 @@
+use line_tokens::{Quoted, Token, next_token};
+use std::alloc::AllocError;
+use std::fmt::Write;
+use std::test::Fail;
+
+/// Lines, and their tokens: a run as `run:..`, what a literal says as `says:..`, each token before a `|`.
+static LINES: [(&str, &str); 9] = [
+    // Nothing but blanks has no token.
+    ("", ""),
+    (" \t ", ""),
+    // Tabs separate as spaces do, however many stand there.
+    ("\tadd  Nyhavn\t12.59 ", "run:add|run:Nyhavn|run:12.59|"),
+    // A parenthesis ends a run and is a token by itself; other marks belong to a run.
+    (
+        "(caf\u{e9})and #1*20",
+        "(|run:caf\u{e9}|)|run:and|run:#1*20|",
+    ),
+    // A literal keeps its blanks and may be empty; it ends a run, and a run may begin at its end.
+    ("show\"a (b)\"\"\"to", "run:show|says:a (b)|says:|run:to|"),
+    // Escapes say other characters; half a surrogate pair says U+FFFD.
+    (
+        "\"\\\"\\u00e9\\n\\ud83d\\ude00\\ud83d\" x",
+        "says:\"\u{e9}\n\u{1f600}\u{fffd}|run:x|",
+    ),
+    // A literal that doesn't end, a tab in one and an escape that is none break the rest of the line.
+    ("remove \"a b", "run:remove|broken|"),
+    ("x \"a\tb\" c", "run:x|broken|"),
+    ("x \"a\\e\" c", "run:x|broken|"),
+];
+
+/// Appends a token.
+fn tell(out: &mut String, token: &Token) -> Result<(), AllocError> {
+    match token {
+        Token::Bare(run) => write!(out, "run:{run}|")?,
+        Token::Quoted(literal) => {
+            let says = literal.as_str();
+            write!(out, "says:{says}|")?
+        }
+        Token::Open => write!(out, "(|")?,
+        Token::Close => write!(out, ")|")?,
+        Token::Broken => write!(out, "broken|")?,
+    }
+    Ok(())
+}
+
+#[test]
+fn lines_have_their_tokens(rt: HostRuntime) -> Result<(), Fail> {
+    for (line, wanted) in LINES.iter() {
+        let mut told = String::new(rt.alloc());
+        let mut text: &str = line;
+        // A token has a byte at least, so one step more finds the end of each line.
+        for _ in 0..=line.len() {
+            let Some((token, rest)) = next_token(rt.alloc(), text)? else {
+                break;
+            };
+            tell(&mut told, &token)?;
+            text = rest;
+        }
+        assert_eq!(rt; told.as_str(), *wanted);
+    }
+    Ok(())
+}

@@ -1,0 +1,19 @@
+//! Tests of the tree's crates: nodes, the rows of their words, policies, and entries that are put in and taken out.
+#![tactic(auto)]
+
+#[cfg(test)]
+mod irtree_delete_tests;
+#[cfg(test)]
+mod irtree_insert_tests;
+#[cfg(test)]
+mod node_inverted_tests;
+#[cfg(test)]
+mod rtree_find_tests;
+#[cfg(test)]
+mod rtree_nodes_tests;
+#[cfg(test)]
+mod split_condense_tests;
+#[cfg(test)]
+mod split_policy_tests;
+#[cfg(test)]
+mod tree_updates_tests;

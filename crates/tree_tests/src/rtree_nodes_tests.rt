@@ -1,0 +1,213 @@
+//! Pages whose bytes were worked out by hand from the format.
+use page_face::Page;
+use rtree_nodes::{
+    Node, Slot, bounds, child_at, clear_slot, count, free_slot, new_node, put_slot, slot_at,
+    split_off,
+};
+use spatial_base::{Key, Point, Rect};
+use std::test::Fail;
+
+// The bytes that aren't 0 of a leaf with two places: at slot 0, 1 degree west and 50 degrees north, the key "ab"; at slot 2, the point
+// 1 -1 in units of 10^-7 degrees, the automatic key 258.
+static LEAF: [(usize, u8); 21] = [
+    (0, 3),
+    (7, 5),
+    (16, 0xff),
+    (17, 0x67),
+    (18, 0x69),
+    (19, 0x80),
+    (20, 0x1d),
+    (21, 0xcd),
+    (22, 0x65),
+    (25, 0x61),
+    (26, 0x62),
+    (89, 2),
+    (167, 1),
+    (168, 0xff),
+    (169, 0xff),
+    (170, 0xff),
+    (171, 0xff),
+    (172, 1),
+    (179, 1),
+    (180, 2),
+    (237, 8),
+];
+
+// The bytes that aren't 0 of a node of level 2 with two children: at slot 0, the rectangle -1 -2 1 2 and page 258; at slot 31,
+// the rectangle 0x01020304 5 0x01020305 6 and page 0x0a0b0c0d.
+static INNER: [(usize, u8); 30] = [
+    (0, 3),
+    (1, 2),
+    (4, 0x80),
+    (7, 1),
+    (16, 0xff),
+    (17, 0xff),
+    (18, 0xff),
+    (19, 0xff),
+    (20, 0xff),
+    (21, 0xff),
+    (22, 0xff),
+    (23, 0xfe),
+    (27, 1),
+    (31, 2),
+    (34, 1),
+    (35, 2),
+    (636, 1),
+    (637, 2),
+    (638, 3),
+    (639, 4),
+    (643, 5),
+    (644, 1),
+    (645, 2),
+    (646, 3),
+    (647, 5),
+    (651, 6),
+    (652, 10),
+    (653, 11),
+    (654, 12),
+    (655, 13),
+];
+
+// Two bytes of the leaf that are changed, and the number of the rule that is broken then: 3 Kind, 4 Fill, 6 Spare, 8 Value. Where
+// several are, it is the first in the order of the checks.
+static BROKEN_LEAF: [(usize, u8, usize, u8, u8); 8] = [
+    // another kind, and no slot
+    (0, 4, 7, 0, 3),
+    // no slot, and a spare byte
+    (7, 0, 2, 1, 4),
+    // a spare byte, and a point off the map
+    (3, 1, 16, 0x80, 6),
+    // the last byte before the slots
+    (15, 1, 15, 1, 6),
+    // a byte of slot 1, which isn't used
+    (90, 1, 90, 1, 6),
+    // the first byte behind slot 31
+    (2384, 1, 2384, 1, 6),
+    // a longitude of more than 180 degrees west
+    (16, 0x80, 16, 0x80, 8),
+    // a text of no byte
+    (89, 0, 89, 0, 8),
+];
+
+// The same of the inner node.
+static BROKEN_INNER: [(usize, u8, usize, u8, u8); 4] = [
+    // a byte of slot 30, which isn't used, and a rectangle that is none
+    (616, 1, 647, 3, 6),
+    // the first byte behind slot 31
+    (656, 1, 656, 1, 6),
+    // the east of slot 31 is less than its west
+    (647, 3, 647, 3, 8),
+    // a latitude of more than 90 degrees
+    (648, 0x7f, 648, 0x7f, 8),
+];
+
+fn page_of(bytes: &[(usize, u8)]) -> Page {
+    changed([0; 4096], bytes)
+}
+
+fn changed(mut page: Page, bytes: &[(usize, u8)]) -> Page {
+    for &(at, byte) in bytes {
+        if at < page.len() {
+            page[at] = byte;
+        }
+    }
+    page
+}
+
+#[test]
+fn a_leaf_is_these_bytes(rt: HostRuntime) -> Result<(), Fail> {
+    let west = Slot::Place {
+        point: Point::new(-10_000_000, 500_000_000).ok_or("off the map")?,
+        key: Key::of_text("ab").map_err(|_| "refused")?,
+    };
+    let near = Slot::Place {
+        point: Point::new(1, -1).ok_or("off the map")?,
+        key: Key::auto(258),
+    };
+    let mut page = new_node(0);
+    put_slot(&mut page, 2, &near);
+    put_slot(&mut page, 0, &west);
+    assert!(rt; page.as_slice() == page_of(&LEAF).as_slice());
+    let node = Node::decode(&page).map_err(|_| "refused")?;
+    assert!(rt; node.slots.slot(0) == west);
+    assert!(rt; node.slots.slot(2) == near);
+    assert!(rt; node.encode().as_slice() == page.as_slice());
+    assert!(rt; free_slot(&page) == Some(1));
+    assert_eq!(rt; count(&page), 2);
+    Ok(())
+}
+
+#[test]
+fn an_inner_node_is_these_bytes(rt: HostRuntime) -> Result<(), Fail> {
+    let first = Slot::Child {
+        rect: Rect::new(-1, -2, 1, 2).ok_or("no rectangle")?,
+        page: 258,
+    };
+    let last = Slot::Child {
+        rect: Rect::new(0x0102_0304, 5, 0x0102_0305, 6).ok_or("no rectangle")?,
+        page: 0x0a0b_0c0d,
+    };
+    let mut page = new_node(2);
+    put_slot(&mut page, 31, &last);
+    put_slot(&mut page, 0, &first);
+    assert!(rt; page.as_slice() == page_of(&INNER).as_slice());
+    assert_eq!(rt; child_at(&page, 31), 0x0a0b_0c0d);
+    assert!(rt; slot_at(&page, 0) == Ok(Some(first)));
+    assert!(rt; slot_at(&page, 1) == Ok(None));
+    assert!(rt; bounds(&page) == Ok(Rect::new(-1, -2, 0x0102_0305, 6).ok_or("no rectangle")?));
+    Ok(())
+}
+
+// The number of the rule that a page is refused for.
+fn broken_rule(page: &Page) -> Option<u8> {
+    match Node::decode(page) {
+        Ok(_) => None,
+        Err(rule) => Some(rule as u8),
+    }
+}
+
+#[test]
+fn the_first_broken_rule_is_named(rt: HostRuntime) {
+    for &(first, byte, second, other, number) in &BROKEN_LEAF {
+        let page = changed(page_of(&LEAF), &[(first, byte), (second, other)]);
+        assert!(rt; broken_rule(&page) == Some(number), "leaf {first}");
+    }
+    for &(first, byte, second, other, number) in &BROKEN_INNER {
+        let page = changed(page_of(&INNER), &[(first, byte), (second, other)]);
+        assert!(rt; broken_rule(&page) == Some(number), "inner {first}");
+    }
+}
+
+#[test]
+fn a_full_leaf_at_the_ends_of_the_map_comes_back(rt: HostRuntime) -> Result<(), Fail> {
+    let corners = [
+        Point::new(-1_800_000_000, -900_000_000).ok_or("off the map")?,
+        Point::new(1_800_000_000, 900_000_000).ok_or("off the map")?,
+    ];
+    let mut page = new_node(0);
+    for i in 0..32 {
+        let slot = Slot::Place {
+            point: corners[i % 2],
+            key: Key::auto(u64::MAX - i as u64),
+        };
+        put_slot(&mut page, i, &slot);
+    }
+    let node = Node::decode(&page).map_err(|_| "refused")?;
+    assert_eq!(rt; node.used, u32::MAX);
+    assert!(rt; node.encode().as_slice() == page.as_slice());
+    assert!(rt;
+        bounds(&page)
+            == Ok(Rect::new(-1_800_000_000, -900_000_000, 1_800_000_000, 900_000_000).ok_or(
+                "no rectangle"
+            )?)
+    );
+    assert!(rt; free_slot(&page).is_none());
+    let other = split_off(&mut page, 0xffff_0000);
+    assert_eq!(rt; count(&page), 16);
+    assert_eq!(rt; count(&other), 16);
+    for i in 0..16 {
+        clear_slot(&mut page, i);
+    }
+    assert!(rt; page.as_slice() == new_node(0).as_slice());
+    Ok(())
+}
