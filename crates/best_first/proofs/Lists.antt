@@ -1,8 +1,10 @@
 -- What holds of all members of a list.
-use Rattle.std.proofs.Common.{ℕ, List, [], ◌∷◌, ◌++◌, zero, suc, take, IsPermutation}
+use Rattle.std.proofs.Common.{◌≡◌, ℕ, List, [], ◌∷◌, ◌++◌, zero, suc, take, IsPermutation, arith, refl, sym, sum_by, ◌∙◌}
 use Rattle.std.specs.List.{AllByRecursion, flat_map, Contains}
 use Rattle.std.proofs.lemmas.List.Elements.{All-contains_itself, All-from_recursion, recursion_from_All}
 use Rattle.std.proofs.lemmas.List.Sorted.{All-permutation}
+use Rattle.std.proofs.lemmas.List.Sums.{sum_by-cons, sum_by-append}
+use Rattle.ranking.specs.Members.{SameMembers}
 
 -- what follows from it holds of all, too
 pub all_weaker : {X : Type 0} (P Q : X → Type 0) → ((x : X) → P x → Q x) → (xs : List X) → AllByRecursion P xs → AllByRecursion Q xs
@@ -42,3 +44,12 @@ all_taken P (suc k) (x ∷ xs) h = (h.0, all_taken P k xs h.1)
 -- a list contains its members
 pub all_in : {X : Type 0} (xs : List X) → AllByRecursion (Contains xs) xs
 all_in xs = recursion_from_All (Contains xs) xs (All-contains_itself xs)
+
+-- what the members give weighs what they weigh by what each gives
+pub sum_by-flat_map : {X Y : Type 0} (f : Y → ℕ) (g : X → List Y) (xs : List X) → sum_by f (flat_map g xs) ≡ sum_by (λ x. sum_by f (g x)) xs
+sum_by-flat_map f g [] = refl
+sum_by-flat_map f g (x ∷ xs) = omega (arith, sum_by-append f (g x) (flat_map g xs), sum_by-cons (λ x. sum_by f (g x)) x xs, sum_by-flat_map f g xs)
+
+-- what the same members give has the same members
+pub flat_map_same : {X Y : Type 0} (g : X → List Y) (xs ys : List X) → SameMembers xs ys → SameMembers (flat_map g xs) (flat_map g ys)
+flat_map_same g xs ys h = λ f. sum_by-flat_map f g ys ∙ h (λ x. sum_by f (g x)) ∙ sym (sum_by-flat_map f g xs)

@@ -28,7 +28,8 @@ use Rattle.boolean_queries.specs.declared.region.Region.TheVariants.{Within, Ins
 use Rattle.boolean_queries.specs.Regions.{has_point, IsOnTheMap}
 use Rattle.boolean_queries.specs.Near.{in_order, listed, touches}
 use Rattle.boolean_queries.specs.Opens.{hits_in, gives, opens_in}
-use Rattle.boolean_queries.proofs.Lists.{in-order-sum, in-order-flat, sum_by-flat_map}
+use Rattle.best_first.proofs.Lists.{sum_by-flat_map}
+use Rattle.boolean_queries.proofs.Lists.{in-order-sum, in-order-flat}
 use Rattle.boolean_queries.proofs.Covers.{leaf-places, below-nothing, region-without, filter-without}
 
 -- the hits of a place outside the region, or of one that doesn't pass the filter

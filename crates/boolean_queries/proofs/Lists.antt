@@ -3,7 +3,7 @@ use Rattle.std.proofs.Common.{◌≡◌, ℕ, zero, suc, ◌+◌, ◌<◌, ◌�
 use Rattle.std.specs.List.{AllByRecursion, flat_map}
 use Rattle.std.proofs.lemmas.List.{length-append}
 use Rattle.std.proofs.lemmas.Grind.{flat_map-append}
-use Rattle.std.proofs.lemmas.List.Sums.{sum_by-append, sum_by-cons}
+use Rattle.std.proofs.lemmas.List.Sums.{sum_by-append}
 use Rattle.rtree_shape.specs.Slots.{sum_to}
 use Rattle.best_first.proofs.Lists.{all_append}
 use Rattle.boolean_queries.specs.Near.{in_order}
@@ -47,8 +47,3 @@ pub in-order-few : {X : Type 0} (n : ℕ) (f : ℕ → List X) → ((i : ℕ) �
 unfolding in_order
 in-order-few zero f h = omega arith
 in-order-few (suc n) f h = let a = length-append (in_order n f) (f n) in let b = h n (omega arith) in let c = in-order-few n f (λ i l. h i (omega arith)) in omega arith
-
--- the sum over what each member gives
-pub sum_by-flat_map : {X Y : Type 0} (f : Y → ℕ) (g : X → List Y) (xs : List X) → sum_by f (flat_map g xs) ≡ sum_by (λ x. sum_by f (g x)) xs
-sum_by-flat_map f g [] = refl
-sum_by-flat_map f g (x ∷ xs) = omega (arith, sum_by-append f (g x) (flat_map g xs), sum_by-cons (λ x. sum_by f (g x)) x xs, sum_by-flat_map f g xs)

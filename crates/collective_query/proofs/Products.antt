@@ -2,7 +2,8 @@
 use Rattle.std.proofs.Common.{ℕ, sum_by, arith, ◌∙◌, ◌≡◌, List, [], ◌∷◌, ◌++◌, map, refl, subst, ⊎_elim}
 use Rattle.std.proofs.lemmas.List.Sums.{sum_by-cons, sum_by-append}
 use Rattle.std.specs.List.{AllByRecursion, Contains, flat_map}
-use Rattle.ranking.specs.Members.{SameMembers, flat_map_same}
+use Rattle.ranking.specs.Members.{SameMembers}
+use Rattle.best_first.proofs.Lists.{flat_map_same}
 use Rattle.best_first.proofs.Lists.{all_in, all_weaker, flat_all}
 use Rattle.place_map.specs.Group.{product}
 use Rattle.collective_query.specs.Choices.{IsChoice}

@@ -59,7 +59,3 @@ pub record IsMadeOf (bytes : List ℕ) (parts : Parts) : Type 0 where
 -- the bytes are a number
 abbrev pub IsNumber : List ℕ → Type 0
 IsNumber bytes = (parts : Parts) × IsMadeOf bytes parts
-
--- the bytes begin a number, or are one: some bytes after them make it whole
-abbrev pub BeginsNumber : List ℕ → Type 0
-BeginsNumber bytes = (rest : List ℕ) × IsNumber (bytes ++ rest)

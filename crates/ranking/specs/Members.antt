@@ -1,6 +1,6 @@
 -- A ranking and the members of what is ranked: only they decide it, and a list in order is its own.
-use Rattle.std.proofs.Common.{◌≡◌, ℕ, suc, zero, ◌+◌, ◌<◌, ◌≤◌, Bool, true, false, cond, List, [], ◌∷◌, ◌++◌, take, length, sum_by, refl, sym, ap, ◌∙◌, arith, ◌⊎◌, inl, inr, ⊎_elim, IsPermutation, get_or}
-use Rattle.std.specs.List.{AllByRecursion, flat_map}
+use Rattle.std.proofs.Common.{◌≡◌, ℕ, suc, zero, ◌+◌, ◌<◌, ◌≤◌, Bool, true, false, cond, List, [], ◌∷◌, ◌++◌, length, sum_by, refl, sym, ap, ◌∙◌, arith, ◌⊎◌, inl, inr, ⊎_elim, IsPermutation, get_or}
+use Rattle.std.specs.List.{AllByRecursion}
 use Rattle.std.specs.Cmp.{IsStrictWeakOrder}
 use Rattle.std.specs.List.Sorted.{IsSortedBy}
 use Rattle.std.proofs.lemmas.Bool.{cases_Bool}
@@ -16,14 +16,6 @@ SameMembers {X} xs ys = (weight : X → ℕ) → sum_by weight ys ≡ sum_by wei
 
 sum_by-middle : {X : Type 0} (f : X → ℕ) (a : List X) (x : X) (b : List X) → sum_by f (a ++ x ∷ b) ≡ f x + sum_by f (a ++ b)
 sum_by-middle f a x b = omega (arith, sum_by-append f a (x ∷ b), sum_by-append f a b, sum_by-cons f x b)
-
-sum_by-flat_map : {X Y : Type 0} (f : Y → ℕ) (g : X → List Y) (xs : List X) → sum_by f (flat_map g xs) ≡ sum_by (λ x. sum_by f (g x)) xs
-sum_by-flat_map f g [] = refl
-sum_by-flat_map f g (x ∷ xs) = omega (arith, sum_by-append f (g x) (flat_map g xs), sum_by-cons (λ x. sum_by f (g x)) x xs, sum_by-flat_map f g xs)
-
--- what the same members give has the same members
-pub flat_map_same : {X Y : Type 0} (g : X → List Y) (xs ys : List X) → SameMembers xs ys → SameMembers (flat_map g xs) (flat_map g ys)
-flat_map_same g xs ys h = λ f. sum_by-flat_map f g ys ∙ h (λ x. sum_by f (g x)) ∙ sym (sum_by-flat_map f g xs)
 
 module _ {X : Type 0} {before : X → X → Bool} (o : IsLinear before) where
   itself : (x : X) → before x x ≡ false
@@ -60,10 +52,6 @@ module _ {X : Type 0} {before : X → X → Bool} (o : IsLinear before) where
       let r = found x ys (omega (arith, sum_by-cons (at x) x xs, at_itself x)) in
       let ih = ranked_same xs (r.0 ++ r.1) (λ f. omega (arith, h f, ap (sum_by f) r.2, sum_by-middle f r.0 x r.1, sum_by-cons f x xs)) in
       ap (ranked before) r.2 ∙ ranked_middle o r.0 x r.1 ∙ ap (placed before x) ih
-
-  -- what each of a list gives, ranked and cut: the list's order doesn't matter
-  pub first_moved : {E : Type 0} (g : E → List X) (k : ℕ) (es fs : List E) → IsPermutation es fs → first before k (flat_map g fs) ≡ first before k (flat_map g es)
-  first_moved g k es fs p = ap (take k) (ranked_same (flat_map g es) (flat_map g fs) (flat_map_same g es fs (λ f. sum_by-IsPermutation f es fs p)))
 
   all_ranked : (P : X → Type 0) (xs : List X) → AllByRecursion P xs → AllByRecursion P (ranked before xs)
   all_ranked P [] h = h

@@ -5,7 +5,7 @@ use Rattle.std.proofs.lemmas.Nat.{mul-le}
 use Rattle.std.proofs.lemmas.Int.{ints, clamps}
 use Rattle.spatial_base.specs.Root.{root, root_of_digits}
 use Rattle.spatial_base.specs.Point.{Position, IsOnMap, gap, distance}
-use Rattle.spatial_base.specs.Rect.{Bounds, Holds, Covers, rect_of, joined, clamped, mindist_of}
+use Rattle.spatial_base.specs.Rect.{Bounds, Holds, Covers, joined, clamped, mindist_of}
 use Rattle.spatial_base.specs.RootLaws.{root-IsRoot, root_below}
 
 -- a distance is the same both ways
@@ -42,24 +42,6 @@ mindist-below r p q f g h =
     line-le _ _ (gap p.x q.x) (gap p.y q.y) (omega (arith, ints)) (omega (arith, ints))
     (gap_nearest r.west r.east p.x q.x h.west h.east)
     (gap_nearest r.south r.north p.y q.y h.south h.north)
-
--- a rectangle that covers another holds its points
-pub Covers-Holds : (outer inner : Bounds) (p : Position) → Covers outer inner → Holds inner p → Holds outer p
-Covers-Holds outer inner p c h = record {
-  west = omega (arith, ints);
-  east = omega (arith, ints);
-  south = omega (arith, ints);
-  north = omega (arith, ints);
-}
-
--- the rectangle of a point holds it
-pub Holds-rect_of : (p : Position) → Holds (rect_of p) p
-Holds-rect_of p = record {
-  west = omega (arith, ints);
-  east = omega (arith, ints);
-  south = omega (arith, ints);
-  north = omega (arith, ints);
-}
 
 -- the least rectangle round two covers the first
 pub joined-first : (a b : Bounds) → Covers (joined a b) a

@@ -3,7 +3,8 @@ use Rattle.std.proofs.Common.{◌≡◌, ℕ, List, [], ◌∷◌, All, map, sym
 use Rattle.std.specs.List.{AllByRecursion, Contains}
 use Rattle.spatial_base.specs.Key.{Name}
 use Rattle.spatial_base.specs.Point.{Position}
-use Rattle.ranking.specs.Members.{SameMembers, flat_map_same}
+use Rattle.ranking.specs.Members.{SameMembers}
+use Rattle.best_first.proofs.Lists.{flat_map_same}
 use Rattle.best_first.proofs.Lists.{all_in}
 use Rattle.page_face.specs.FreeList.{PageMap}
 use Rattle.place_map.specs.declared.query.Pick.{Pick}

@@ -6,7 +6,8 @@ use Rattle.std.specs.List.{flat_map}
 use Rattle.spatial_base.specs.Key.{Name, form_of}
 use Rattle.term_impacts.specs.Pairs as texts
 use Rattle.ranking.specs.First.{ranked, first}
-use Rattle.ranking.specs.Members.{SameMembers, flat_map_same, ranked_same}
+use Rattle.ranking.specs.Members.{SameMembers, ranked_same}
+use Rattle.best_first.proofs.Lists.{flat_map_same}
 use Rattle.place_map.specs.declared.hit.Hit.{Hit}
 use Rattle.place_map.specs.declared.query.Query.{Query}
 use Rattle.place_map.specs.declared.query.Query.TheVariants.{Range, Inside, Nearest, Top, Group}
