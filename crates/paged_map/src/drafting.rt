@@ -152,6 +152,11 @@ impl LeafDraft {
         ensures put { (count : ℕ) (pages : PageMap) (root : ℕ) (rows : List Row) → IsLeafDraft count self.old → IsKeyOf self.old (number key.now) → Drafts pages root rows self.old
             → IsTrue result → Drafts pages root (put (number key.now) value.now rows) self.new }
         ensures refused { result ≡ false → self.new ≡ self.old }
+
+        // It is refused only where the leaf is full and has no row at the key.
+        ensures full { result ≡ false → 4096 < 16 + (self.old.form.key + self.old.form.value) * (self.old.count + 1) }
+        ensures absent { (count : ℕ) (pages : PageMap) (root : ℕ) (rows : List Row) → IsLeafDraft count self.old → IsKeyOf self.old (number key.now) → Drafts pages root rows self.old
+            → result ≡ false → lookup (number key.now) rows ≡ None }
     {
         let spot = spot_of(&self.bytes, self.form, self.count, key);
         if !has_room(self.form, self.count, spot.gone) {
@@ -174,6 +179,9 @@ impl LeafDraft {
         ensures removed { (count : ℕ) (pages : PageMap) (root : ℕ) (rows : List Row) → IsLeafDraft count self.old → IsKeyOf self.old (number key.now) → Drafts pages root rows self.old
             → IsTrue result → Drafts pages root (without (number key.now) rows) self.new }
         ensures refused { result ≡ false → self.new ≡ self.old }
+
+        // It is refused only where the leaf has no more rows than it must have.
+        ensures fewest { result ≡ false → self.old.count ≤ self.old.least }
     {
         let spot = spot_of(&self.bytes, self.form, self.count, key);
         if spot.gone == 0 {

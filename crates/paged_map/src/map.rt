@@ -1,5 +1,5 @@
 //! A map by its root.
-ghost use Rattle.std.specs.Prelude.{◌≡◌, ◌≢◌, ◌⊎◌, ℕ, ◌≤◌, List, length, IfOk, IfSome, IsTrue, IsErrOf, OnOk, OnErr, is_some};
+ghost use Rattle.std.specs.Prelude.{◌≡◌, ◌≢◌, ◌⊎◌, ◌↔◌, ℕ, ◌<◌, ◌≤◌, List, length, IfOk, IfSome, IsTrue, IsErrOf, OnOk, OnErr, is_some};
 ghost use Rattle.page_face.specs.Calls.{Reads, Changes, FailsReading, FailsChanging};
 ghost use Rattle.page_face.specs.Causes.{Rose};
 ghost use Rattle.page_face.specs.Number.{number};
@@ -177,6 +177,7 @@ impl<L: Layout> PagedMap<L> {
         requires key { length key.now ≡ L.KEY }
         requires form { draft.old.form ≡ L.form }
         ensures form { draft.new.form ≡ L.form }
+        ensures empty { IfOk result (λ some. IsTrue some ↔ 0 < self.now.root) }
         ensures sound { IfOk result (λ some. IsTrue some → IsLeafDraft (P.count pages.new) draft.new) }
         ensures holds { IfOk result (λ some. IsTrue some → IsKeyOf draft.new (number key.now)) }
         ensures drafts { IsMap L.form (P.pages pages.old) self.now.root

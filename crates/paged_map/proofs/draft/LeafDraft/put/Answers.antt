@@ -1,8 +1,9 @@
-use Rattle.std.proofs.Common.{rules, arith, ◌≡◌, ◌+◌, ◌-◌, ◌*◌, ◌≤◌, ℕ, List, ◌∙◌, sym, ap, subst}
+use Rattle.std.proofs.Common.{rules, arith, ◌≡◌, ◌+◌, ◌-◌, ◌*◌, ◌≤◌, ℕ, List, ◌∙◌, refl, sym, ap, subst}
 use Rattle.page_face.specs.Nodes.{count_of}
 use Rattle.page_face.specs.Number.{number}
 use Rattle.btree_nodes.specs.Build.{image}
 use Rattle.btree_nodes.specs.Rows.{put}
+use Rattle.btree_nodes.proofs.Finds.{missed, place_as}
 use Rattle.btree_nodes.proofs.Puts.{put-edit}
 use Rattle.btree_delete.proofs.Joins.{few, width-some}
 use Rattle.btree_search.specs.Steps.{low_of, high_of}
@@ -10,9 +11,23 @@ use Rattle.paged_map.specs.Drafts.{IsKeyOf, IsLeafDraft}
 use Rattle.paged_map.specs.Edits.{edited}
 use Rattle.paged_map.specs.declared.draft.LeafDraft.{LeafDraft}
 use Rattle.paged_map.specs.declared.editing.Cut.{Cut}
-use Rattle.paged_map.proofs.Drafts.{drafted-leaf, drafted-edit, made-count}
+use Rattle.paged_map.proofs.Drafts.{drafted-leaf, drafted-edit, drafted-lookup, made-count}
 use Rattle.paged_map.proofs.Edits.{IsEdited, put-leaf, room-fits}
 use Rattle.paged_map.proofs.draft.LeafDraft.put.Goals as goal
+
+-- a leaf without room has no row at the key: one row in place of another always fits
+pub returns-then-not-has_room-clause-absent : goal.returns-then-not-has_room-clause-absent
+returns-then-not-has_room-clause-absent c = λ count pages root rows is key drafted no.
+    let d : LeafDraft = c.args.self.now in
+    let k : ℕ = number c.args.key.now in
+    let p = c.spot_of-spot.ensures in
+    let fits : 16 + (d.form.key + d.form.value) * d.count ≤ 4096 = d.fits in
+    drafted-lookup d.form pages root d.least d.page (low_of d.form d.bounds) (high_of d.form d.bounds) d.bytes rows drafted k key.0 key.1
+    ∙ missed d.form d.bytes (low_of d.form d.bounds) (high_of d.form d.bounds) k c.spot_of-spot.result.at (place_as refl is.is refl p.place) is.within key.0 key.1
+    (λ small same. p.none (λ one.
+    let same_count : (d.count + 1 - c.spot_of-spot.result.gone) ≡ d.count = omega (arith, one) in
+    let room : 16 + (d.form.key + d.form.value) * (d.count + 1 - c.spot_of-spot.result.gone) ≤ 4096 = subst (λ (n : ℕ). 16 + (d.form.key + d.form.value) * n ≤ 4096) (sym same_count) fits in
+    absurd (search rules)) (omega (arith, is.is, small)) same)
 
 pub edit-requires-clause-fits : goal.edit-requires-clause-fits
 edit-requires-clause-fits c =
