@@ -117,10 +117,6 @@ next-on b d node from at (Some found) le same quiet next =
       ];
     }
 
--- the first row from a word on, in bytes that are the same from there on
-pub next-now : (b now : Bytes) (node at : ℕ) (o : Option (ℕ × List ℕ)) → ((w i : ℕ) → at ≤ w → now node w i ≡ b node w i) → Next b node at o → Next now node at o
-next-now b now node at o same next = next-on now b node at at o (omega arith) (λ w i l. sym (same w i l)) (λ w i l m. absurd (omega arith)) next
-
 -- the row that follows isn't before the word
 pub next-from : (b : Bytes) (node word : ℕ) (o : Option (ℕ × List ℕ)) → Next b node word o → IsFrom word o
 next-from b node word None next = tt

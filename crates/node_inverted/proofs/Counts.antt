@@ -1,17 +1,12 @@
 -- Words that are counted.
-use Rattle.std.proofs.Common.{◌≡◌, ℕ, zero, suc, ◌+◌, ◌-◌, ◌<◌, ◌≤◌, ◌⊎◌, inl, inr, min, arith, refl, sym, ap, ◌∙◌, List, [], ◌∷◌, ◌++◌, if◌then◌else◌, true, false, Bool, nat_lt, ◌&&◌, slice_index_or, slice_set, length, rules}
+use Rattle.std.proofs.Common.{◌≡◌, ℕ, zero, suc, ◌+◌, ◌-◌, ◌<◌, ◌≤◌, ◌⊎◌, inl, inr, min, arith, refl, sym, ap, ◌∙◌, List, [], ◌∷◌, if◌then◌else◌, true, false, Bool, nat_lt, ◌&&◌, slice_index_or, slice_set, length, rules}
 use Rattle.std.proofs.lemmas.Bool.Decides.{nat_tests}
 use Rattle.page_face.specs.FreeList.{are_zero}
 use Rattle.rtree_shape.specs.Slots.{sum_to}
 use Rattle.node_inverted.specs.Rows.{Bytes}
 use Rattle.node_inverted.specs.Impacts.{impact_in}
-use Rattle.node_inverted.specs.Counts.{sign, most, both, counted_on, shared_in, impact_33, alike, cell}
+use Rattle.node_inverted.specs.Counts.{sign, most, both, counted_on, impact_33, alike, cell}
 use Rattle.node_inverted.proofs.Bytes.{zero-at}
-
--- one word more
-pub shared-push : (b : Bytes) (node slot : ℕ) (pairs : List (ℕ × ℕ)) (pair : ℕ × ℕ) → shared_in b node slot (pairs ++ pair ∷ []) ≡ shared_in b node slot pairs + sign (b node pair.0 slot)
-shared-push b node slot [] pair = refl
-shared-push b node slot (q ∷ pairs) pair = let h = shared-push b node slot pairs pair in omega arith
 
 -- a count that stays at its last value
 pub capped : (a s m : ℕ) → min (min a m + s) m ≡ min (a + s) m

@@ -1,11 +1,11 @@
 -- Rows of words that are changed in memory, leaf by leaf.
-use Rattle.std.proofs.Common.{◌≡◌, ℕ, ◌^◌, ◌<◌, ◌≤◌, refl, sym, ap, ◌∙◌, subst, None, List, ◌++◌, true, slice_index}
+use Rattle.std.proofs.Common.{◌≡◌, ℕ, ◌^◌, ◌<◌, sym, ap, ◌∙◌, subst, None, List, ◌++◌, true, slice_index}
 use Rattle.std.proofs.Math.Path.{fun_ext}
 use Rattle.page_face.specs.FreeList.{PageMap, are_zero}
 use Rattle.btree_nodes.specs.declared.form.Form.{Form}
 use Rattle.btree_nodes.specs.Nodes.{rows_in}
 use Rattle.btree_nodes.specs.Rows.{Row, IsWithin, lookup, put, without}
-use Rattle.btree_nodes.specs.Supply.{View, view}
+use Rattle.btree_nodes.specs.Supply.{View}
 use Rattle.btree_nodes.proofs.Spans.{within-append}
 use Rattle.paged_map.specs.Drafts.{IsDrafted}
 use Rattle.paged_map.specs.Maps.{HasBecome}

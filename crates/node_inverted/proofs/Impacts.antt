@@ -93,17 +93,8 @@ impact-one (q ∷ ps) p w = let h = impact-one ps p w in let a : max (max (impac
 pub only-max : (node slot : ℕ) (f g : ℕ → ℕ) (n w i : ℕ) → max (only node slot f n w i) (only node slot g n w i) ≡ only node slot (λ v. max (f v) (g v)) n w i
 only-max node slot f g n w i = elim ((n == node) && (i == slot)) as (λ b. max (if b then f w else 0) (if b then g w else 0) ≡ (if b then max (f w) (g w) else 0)) [ true ↦ refl | false ↦ refl ]
 
-assoc : (a b c : ℕ) → max (max a b) c ≡ max a (max b c)
-assoc a b c = omega arith
-
 assoc-swap : (a b c : ℕ) → max (max a b) c ≡ max a (max c b)
 assoc-swap a b c = omega arith
-
--- one pair more
-pub only-next : (node slot : ℕ) (ps : List (ℕ × ℕ)) (p : ℕ × ℕ) (old : ℕ) (n w i : ℕ)
-    → max (max old (only node slot (impact_in ps) n w i)) (only node slot (impact_at p) n w i) ≡ max old (only node slot (impact_in (ps ++ p ∷ [])) n w i)
-only-next node slot ps p old n w i = assoc old _ _ ∙ ap (max old) (only-max node slot (impact_in ps) (impact_at p) n w i
-    ∙ ap (λ (k : ℕ). if (n == node) && (i == slot) then k else 0) (sym (impact-one ps p w)))
 
 -- no pair
 pub only-none : (node slot old n w i : ℕ) → old ≡ max old (only node slot (impact_in []) n w i)

@@ -1,12 +1,13 @@
 -- Rows of a node that were read.
-use Rattle.std.proofs.Common.{◌≡◌, ℕ, zero, suc, ◌+◌, ◌<◌, ◌≤◌, max, inl, inr, arith, refl, sym, ap, ◌∙◌, List, [], ◌∷◌, ◌++◌, length, get_or, ◌==◌, nat_lt, true, false, slice_index, slice_index_or}
+use Rattle.std.proofs.Common.{◌≡◌, ℕ, zero, suc, ◌+◌, ◌<◌, ◌≤◌, max, inl, inr, arith, refl, sym, ap, ◌∙◌, List, [], ◌∷◌, ◌++◌, length, filter, get_or, ◌==◌, nat_lt, true, false, slice_index, slice_index_or}
 use Rattle.std.proofs.lemmas.Bool.Decides.{nat_tests}
 use Rattle.rtree_shape.proofs.Amounts.{same_or}
 use Rattle.node_inverted.specs.Rows.{Bytes, HasBytes}
 use Rattle.node_inverted.specs.Counts.{shared_in, sign}
 use Rattle.node_inverted.specs.Impacts.{impact_at, impact_in, raised}
-use Rattle.node_inverted.specs.Known.{AreRowsAt}
+use Rattle.node_inverted.specs.Known.{AreRowsAt, rises}
 use Rattle.node_inverted.proofs.Lifts.{impact-here, impact-other}
+use Rattle.node_inverted.proofs.Lookups.{less_or}
 
 -- one word more
 pub known-push : (b : Bytes) (node : ℕ) (ps : List (ℕ × ℕ)) (rs : List (List ℕ)) (p : ℕ × ℕ) (r : List ℕ) → AreRowsAt b node ps rs → HasBytes r (b node p.0) → AreRowsAt b node (ps ++ p ∷ []) (rs ++ r ∷ [])
@@ -53,22 +54,16 @@ join x a b c e = omega arith
 skip : (x a b c : ℕ) → max x a ≡ max x b → c ≤ x → max x a ≡ max x (max b c)
 skip x a b c e l = omega arith
 
--- an impact that isn't above a byte
-pub not-above : (a b impact : ℕ) → a ≡ b → nat_lt a impact ≡ false → impact ≤ b
-not-above a b impact e f = grind (arith, nat_tests)
-
--- one word more that rises
-pub rising-push : (x : ℕ → ℕ) (have out : List (ℕ × ℕ)) (p : ℕ × ℕ) → ((w : ℕ) → max (x w) (impact_in out w) ≡ max (x w) (impact_in have w))
-    → (w : ℕ) → max (x w) (max (impact_in out w) (impact_at p w)) ≡ max (x w) (max (impact_in have w) (impact_at p w))
-rising-push x have out p h w = join (x w) (impact_in out w) (impact_in have w) (impact_at p w) (h w)
-
--- one that doesn't
-pub rising-skip : (x : ℕ → ℕ) (have out : List (ℕ × ℕ)) (p : ℕ × ℕ) → ((w : ℕ) → max (x w) (impact_in out w) ≡ max (x w) (impact_in have w)) → p.1 ≤ x p.0
-    → (w : ℕ) → max (x w) (impact_in out w) ≡ max (x w) (max (impact_in have w) (impact_at p w))
-rising-skip x have out p h l w = skip (x w) (impact_in out w) (impact_in have w) (impact_at p w) (h w) (elim (same_or p.0 w) [
-  | inl e ↦ let a = impact-here p.0 p.1 w e in let q = ap x e in omega arith
-  | inr k ↦ let a = impact-other p.0 p.1 w k in omega arith
-])
+-- the words that rise raise a slot as all of them
+pub rising-all : (b : Bytes) (node slot : ℕ) (ps : List (ℕ × ℕ)) (w : ℕ) → max (b node w slot) (impact_in (filter (rises b node slot) ps) w) ≡ max (b node w slot) (impact_in ps w)
+rising-all b node slot [] w = refl
+rising-all b node slot (p ∷ ps) w = let h = rising-all b node slot ps w in elim (less_or (b node p.0 slot) p.1) [
+  | inl l ↦ let t : nat_lt (b node p.0 slot) p.1 ≡ true = grind (arith, nat_tests) in rw t (join (b node w slot) (impact_in (filter (rises b node slot) ps) w) (impact_in ps w) (impact_at p w) h)
+  | inr k ↦ let t : nat_lt (b node p.0 slot) p.1 ≡ false = grind (arith, nat_tests) in rw t (skip (b node w slot) (impact_in (filter (rises b node slot) ps) w) (impact_in ps w) (impact_at p w) h (elim (same_or p.0 w) [
+    | inl e ↦ let a = impact-here p.0 p.1 w e in let q = ap (λ (v : ℕ). b node v slot) e in omega arith
+    | inr n ↦ let a = impact-other p.0 p.1 w n in omega arith
+  ]))
+]
 
 -- to raise a slot by words that have the same byte above it is the same
 pub raised-by : (b : Bytes) (node slot : ℕ) (ps qs : List (ℕ × ℕ)) → ((w : ℕ) → max (b node w slot) (impact_in ps w) ≡ max (b node w slot) (impact_in qs w))

@@ -1,5 +1,5 @@
 //! Rows of a node that are changed leaf by leaf.
-ghost use Rattle.std.specs.Prelude.{◌≡◌, ◌≢◌, ◌+◌, ◌<◌, ◌≤◌, ℕ, List, length, false, IfOk, IsErrOf, IsTrue, OnErr, OnOk};
+ghost use Rattle.std.specs.Prelude.{◌≡◌, ◌≢◌, ◌≤◌, ℕ, List, false, IfOk, IsErrOf, IsTrue, OnErr, OnOk};
 ghost use Rattle.page_face.specs.Calls.{Changes, FailsChanging, FailsReading, Reads};
 ghost use Rattle.page_face.specs.FreeList.{PageMap};
 ghost use Rattle.btree_nodes.specs.Damages.{AreTold};
@@ -10,14 +10,16 @@ ghost use Rattle.paged_map.specs.Maps.{AreCounted};
 ghost use Rattle.rtree_shape.specs.Stock.{rows_form};
 ghost use Rattle.node_inverted.specs.Rows.{Bytes, HasBytes, IsRows, bytes_in};
 ghost use Rattle.node_inverted.specs.Turns.{Turns, with_row};
-ghost use Rattle.node_inverted.specs.Drafts.{IsDrafting, IsRowOf, Reaches, SetsUntil, with_rows};
+ghost use Rattle.node_inverted.specs.Drafts.{EditsUntil, IsDrafting, IsRowOf, Reaches, edited, edited_by, edits_in, with_rows};
 
 use crate::Tree;
+use crate::edits::{RowEdit, RowEdits};
 use crate::key::RowKey;
 use crate::layout::WordRows;
+use crate::raising::set_byte;
 use crate::row_draft::RowDraft;
-use crate::rows::set_row;
-use crate::slots::{clear_row, is_clear};
+use crate::rows::{find_row, set_row};
+use crate::slots::{clear_row, greater, is_clear, put_byte};
 use crate::taking::NodeRow;
 use page_face::{Damage, PageFault, Pages};
 use paged_map::PagedMap;
@@ -94,20 +96,41 @@ impl RowDraft {
     }
 }
 
-// Sets the first of some rows in a draft of its leaf, and those behind it as far as they belong to that leaf and go into it. Returns those
-// that are left.
-fn set_in_draft<'a>(draft: &mut RowDraft, node: u32, rows: &'a [NodeRow]) -> &'a [NodeRow]
+// Changes a row in a draft. Returns `false` if the row belongs to another leaf, or if the leaf would have too many rows then, or too few;
+// then nothing has changed.
+fn edit_in(draft: &mut RowDraft, node: u32, number: u64, edit: &RowEdit<'_>) -> bool
     ensures sound { (count : ℕ) → IsLeafDraft count draft.old.leaf → IsLeafDraft count draft.new.leaf }
-    ensures set { (count : ℕ) (pages : PageMap) (root : ℕ) (b : Bytes) → IsLeafDraft count draft.old.leaf → IsDrafting pages root b draft.old
-        → SetsUntil pages root node rows.now b result.now draft.new }
-    ensures fewer { length result.now ≤ length rows.now }
+    ensures edited { (count : ℕ) (pages : PageMap) (root : ℕ) (b : Bytes) → IsLeafDraft count draft.old.leaf → IsDrafting pages root b draft.old
+        → IsTrue result → IsDrafting pages root (edited node number edit.now b) draft.new }
+    ensures refused { result ≡ false → draft.new ≡ draft.old }
 {
-    let mut left = rows;
-    while let Some((row, rest)) = left.split_first() {
-        if !draft.holds(node, row.number) {
-            return left;
+    if !draft.holds(node, number) {
+        return false;
+    }
+    match edit {
+        RowEdit::Set(row) => draft.set(node, number, row),
+        RowEdit::Raise(slot, impact) => {
+            let mut row = draft.row(node, number);
+            let byte = greater(row[slot.at], *impact);
+            if row[slot.at] == byte {
+                return true;
+            }
+            put_byte(&mut row, slot.at, byte);
+            draft.set(node, number, &row)
         }
-        if !draft.set(node, row.number, &row.bytes) {
+    }
+}
+
+// Changes rows in a draft, one after another, as far as they belong to its leaf and go into it. Returns the changes that are left.
+fn edit_in_draft<'a>(draft: &mut RowDraft, node: u32, edits: &RowEdits<'a>) -> RowEdits<'a>
+    ensures sound { (count : ℕ) → IsLeafDraft count draft.old.leaf → IsLeafDraft count draft.new.leaf }
+    ensures edited { (count : ℕ) (pages : PageMap) (root : ℕ) (b : Bytes) → IsLeafDraft count draft.old.leaf → IsDrafting pages root b draft.old
+        → EditsUntil pages root node edits.now b result draft.new }
+    ensures fewer { edits_in result ≤ edits_in edits.now }
+{
+    let mut left = *edits;
+    while let Some((number, edit, rest)) = left.split_first() {
+        if !edit_in(draft, node, number, &edit) {
             return left;
         }
         left = rest;
@@ -115,62 +138,97 @@ fn set_in_draft<'a>(draft: &mut RowDraft, node: u32, rows: &'a [NodeRow]) -> &'a
     left
 }
 
-// Sets the first of some rows of a node. Returns those that are left.
-fn set_first<'a, P: Pages>(
+// Changes one row, which is looked for.
+fn edit_one<P: Pages>(
     pages: &mut P,
     tree: &mut Tree,
     node: u32,
-    rows: &'a [NodeRow],
-) -> Result<&'a [NodeRow], PageFault>
-    requires some { 0 < length rows.now }
+    number: u64,
+    edit: &RowEdit<'_>,
+) -> Result<(), PageFault>
     ensures turns { (free : List ℕ) → IsRows (view (P.pages pages.old) (P.count pages.old) (P.first pages.old) free) tree.old.rows
-        → IfOk result (λ left. Reaches (view (P.pages pages.old) (P.count pages.old) (P.first pages.old) free) tree.old.rows (P.pages pages.new) (P.count pages.new) (P.first pages.new) tree.new.rows
-        (with_rows node left.now) (with_rows node rows.now (bytes_in (P.pages pages.old) tree.old.rows))) }
-    ensures fewer { IfOk result (λ left. length left.now < length rows.now) }
+        → OnOk result (Turns (view (P.pages pages.old) (P.count pages.old) (P.first pages.old) free) tree.old.rows (P.pages pages.new) (P.count pages.new) (P.first pages.new) tree.new.rows
+        (edited node number edit.now (bytes_in (P.pages pages.old) tree.old.rows))) }
     ensures root { tree.new.root ≡ tree.old.root }
     ensures honest { (free : List ℕ) → IsRows (view (P.pages pages.old) (P.count pages.old) (P.first pages.old) free) tree.old.rows → AreTold (P.pages pages.old) (P.count pages.old)
         → (damage : Damage) → ¬ IsErrOf result (PageFault.Damaged damage) }
     ensures fails { FailsChanging P.Pages pages.old pages.new result }
     ensures frame { Changes P.Pages pages.old pages.new }
 {
-    let Some((first, rest)) = rows.split_first() else {
-        return Ok(rows);
-    };
-    set_row(pages, tree, node, first.number, &first.bytes)?;
-    Ok(rest)
+    match edit {
+        RowEdit::Set(row) => set_row(pages, tree, node, number, row),
+        RowEdit::Raise(slot, impact) => {
+            let mut there = clear_row();
+            let spot = find_row(pages, tree, node, number, &mut there)?;
+            let byte = greater(there[slot.at], *impact);
+            set_byte(pages, tree, node, slot.at, number, spot, &there, byte)
+        }
+    }
 }
 
-// Sets the first of some rows of a node, and those behind it that belong to the same leaf. Returns those that are left.
-fn set_leaf<'a, P: Pages>(
+// Changes one row, and of those behind it those that belong to the same leaf. Returns the changes that are left.
+fn edit_leaf<'a, P: Pages>(
     pages: &mut P,
     tree: &mut Tree,
     node: u32,
-    rows: &'a [NodeRow],
+    number: u64,
+    first: &RowEdit<'a>,
+    behind: &RowEdits<'a>,
     draft: &mut RowDraft,
-) -> Result<&'a [NodeRow], PageFault>
-    requires some { 0 < length rows.now }
+) -> Result<RowEdits<'a>, PageFault>
     ensures turns { (free : List ℕ) → IsRows (view (P.pages pages.old) (P.count pages.old) (P.first pages.old) free) tree.old.rows
         → IfOk result (λ left. Reaches (view (P.pages pages.old) (P.count pages.old) (P.first pages.old) free) tree.old.rows (P.pages pages.new) (P.count pages.new) (P.first pages.new) tree.new.rows
-        (with_rows node left.now) (with_rows node rows.now (bytes_in (P.pages pages.old) tree.old.rows))) }
-    ensures fewer { IfOk result (λ left. length left.now < length rows.now) }
+        (edited_by node left) (edited_by node behind.now (edited node number first.now (bytes_in (P.pages pages.old) tree.old.rows)))) }
+    ensures fewer { IfOk result (λ left. edits_in left ≤ edits_in behind.now) }
     ensures root { tree.new.root ≡ tree.old.root }
     ensures honest { (free : List ℕ) → IsRows (view (P.pages pages.old) (P.count pages.old) (P.first pages.old) free) tree.old.rows → AreTold (P.pages pages.old) (P.count pages.old)
         → (damage : Damage) → ¬ IsErrOf result (PageFault.Damaged damage) }
     ensures fails { FailsChanging P.Pages pages.old pages.new result }
     ensures frame { Changes P.Pages pages.old pages.new }
 {
-    let Some(first) = rows.first() else {
-        return Ok(rows);
-    };
-    if !draft.open(pages, tree, node, first.number)? {
-        return set_first(pages, tree, node, rows);
+    let there = draft.open(pages, tree, node, number)?;
+    if there && edit_in(draft, node, number, first) {
+        let left = edit_in_draft(draft, node, behind);
+        draft.write(pages, tree)?;
+        return Ok(left);
     }
-    let left = set_in_draft(draft, node, rows);
-    if left.len() == rows.len() {
-        return set_first(pages, tree, node, rows);
+    edit_one(pages, tree, node, number, first)?;
+    Ok(*behind)
+}
+
+/// Changes rows of a node, one after another. Fails and costs as [`set_rows`].
+pub(crate) fn edit_rows<P: Pages>(
+    pages: &mut P,
+    tree: &mut Tree,
+    node: u32,
+    edits: &RowEdits<'_>,
+) -> Result<(), PageFault>
+    ensures turns { (free : List ℕ) → IsRows (view (P.pages pages.old) (P.count pages.old) (P.first pages.old) free) tree.old.rows
+        → OnOk result (Turns (view (P.pages pages.old) (P.count pages.old) (P.first pages.old) free) tree.old.rows (P.pages pages.new) (P.count pages.new) (P.first pages.new) tree.new.rows
+        (edited_by node edits.now (bytes_in (P.pages pages.old) tree.old.rows))) }
+    ensures root { tree.new.root ≡ tree.old.root }
+    ensures kept { OnErr result (tree.new ≡ tree.old) }
+    ensures honest { (free : List ℕ) → IsRows (view (P.pages pages.old) (P.count pages.old) (P.first pages.old) free) tree.old.rows → AreTold (P.pages pages.old) (P.count pages.old)
+        → (damage : Damage) → ¬ IsErrOf result (PageFault.Damaged damage) }
+    ensures fails { FailsChanging P.Pages pages.old pages.new result }
+    ensures frame { Changes P.Pages pages.old pages.new }
+{
+    let mut changed = *tree;
+    let mut draft = RowDraft::blank();
+    let mut left = *edits;
+    while let Some((number, first, behind)) = left.split_first() {
+        left = edit_leaf(
+            pages,
+            &mut changed,
+            node,
+            number,
+            &first,
+            &behind,
+            &mut draft,
+        )?;
     }
-    draft.write(pages, tree)?;
-    Ok(left)
+    *tree = changed;
+    Ok(())
 }
 
 /// Sets these rows of a node, one after another.
@@ -198,12 +256,5 @@ pub(crate) fn set_rows<P: Pages>(
     ensures fails { FailsChanging P.Pages pages.old pages.new result }
     ensures frame { Changes P.Pages pages.old pages.new }
 {
-    let mut changed = *tree;
-    let mut draft = RowDraft::blank();
-    let mut left = rows;
-    while !left.is_empty() {
-        left = set_leaf(pages, &mut changed, node, left, &mut draft)?;
-    }
-    *tree = changed;
-    Ok(())
+    edit_rows(pages, tree, node, &RowEdits::Sets(rows))
 }

@@ -16,6 +16,7 @@ mod ascent;
 mod columns;
 mod drafting;
 mod dropping;
+mod edits;
 mod key;
 mod layout;
 mod leaf;

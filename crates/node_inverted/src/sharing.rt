@@ -1,5 +1,5 @@
 //! Words that an entry shares with a node's slots.
-ghost use Rattle.std.specs.Prelude.{◌≡◌, ◌+◌, ◌<◌, ◌++◌, ◌∷◌, [], ℕ, List, min, nat_lt, IfErr, IfOk, IsErrOf, OnOk, slice_index, slice_index_or};
+ghost use Rattle.std.specs.Prelude.{◌≡◌, ◌+◌, ◌<◌, ◌++◌, ◌∷◌, [], ℕ, List, filter, min, nat_lt, IfErr, IfOk, IsErrOf, OnOk, slice_index, slice_index_or};
 ghost use Rattle.page_face.specs.Calls.{Reads, FailsReading};
 ghost use Rattle.btree_nodes.specs.Damages.{AreTold, AskedSince, AsksOnly};
 ghost use Rattle.btree_nodes.specs.Tree.{IsMap, map_uses};
@@ -8,7 +8,7 @@ ghost use Rattle.rtree_shape.specs.Stock.{rows_form};
 ghost use Rattle.node_inverted.specs.Rows.{Bytes, HasBytes, bytes_in};
 ghost use Rattle.node_inverted.specs.Counts.{most, shared_in, sign};
 ghost use Rattle.node_inverted.specs.Impacts.{impact_in, raised};
-ghost use Rattle.node_inverted.specs.Known.{AreRowsAt};
+ghost use Rattle.node_inverted.specs.Known.{AreRowsAt, rises};
 
 use crate::Tree;
 use crate::rows::row;
@@ -118,6 +118,8 @@ pub fn rising(
     requires { slot < 32 }
     ensures raised { (b : Bytes) (node : ℕ) → AreRowsAt b node words.now rows.now
         → IfOk result (λ rising. (n w i : ℕ) → raised node slot (impact_in rising.items) b n w i ≡ raised node slot (impact_in words.now) b n w i) }
+    ensures only { (b : Bytes) (node : ℕ) → AreRowsAt b node words.now rows.now
+        → IfOk result (λ rising. rising.items ≡ filter (rises b node slot) words.now) }
     ensures memory { IfErr result (λ fault. fault ≡ PageFault.Memory) }
 {
     let mut rising = Vec::new(alloc);

@@ -1,5 +1,5 @@
 //! The words of a node.
-ghost use Rattle.std.specs.Prelude.{◌≡◌, ◌+◌, ◌<◌, ◌≤◌, ◌^◌, ℕ, max, IfErr, IfOk, IfSome, IsErrOf, OnOk};
+ghost use Rattle.std.specs.Prelude.{◌≡◌, ◌+◌, ◌<◌, ◌≤◌, ◌^◌, ◌++◌, ◌∷◌, [], ℕ, max, IfErr, IfOk, IfSome, IsErrOf, OnOk};
 ghost use Rattle.page_face.specs.Calls.{Reads, FailsReading};
 ghost use Rattle.btree_nodes.specs.Damages.{AreTold, AsksOnly};
 ghost use Rattle.btree_nodes.specs.Tree.{IsMap, map_uses};
@@ -27,6 +27,7 @@ pub(crate) fn push_word(
 ) -> Result<(), PageFault>
     ensures impacts { OnOk result ((w : ℕ) → impact_in words.new.items w ≡ max (impact_in words.old.items w) (impact_at (number, impact) w)) }
     ensures ordered { (at : ℕ) → AreWords 0 at words.old.items → at ≤ number → OnOk result (AreWords 0 (number + 1) words.new.items) }
+    ensures items { 0 < impact → OnOk result (words.new.items ≡ words.old.items ++ (number, impact) ∷ []) }
     ensures memory { IfErr result (λ fault. fault ≡ PageFault.Memory) }
 {
     if impact == 0 {

@@ -1,52 +1,16 @@
-use Rattle.std.proofs.Common.{◌≡◌, ℕ, ◌∙◌, ap, sym, subst, refl, arith, length, List, [], ◌∷◌, Err}
-use Rattle.std.proofs.Math.Path.{fun_ext}
-use Rattle.std.proofs.lemmas.Bool.Decides.{nat_tests}
-use Rattle.std.proofs.lemmas.Result.{err_from_is_err_and}
-use Rattle.page_face.specs.declared.fault.PageFault.TheVariants.{Damaged}
-use Rattle.page_face.proofs.Frames.{changes_then}
-use Rattle.btree_nodes.specs.Supply.{View, view}
+use Rattle.std.proofs.Common.{ℕ, subst}
+use Rattle.std.specs.Result.{OnOk}
+use Rattle.btree_nodes.specs.Supply.{view}
 use Rattle.node_inverted.specs.Rows.{Bytes, bytes_in}
 use Rattle.node_inverted.specs.Turns.{Turns}
-use Rattle.node_inverted.specs.Drafts.{raised_by}
-use Rattle.node_inverted.proofs.Turned.{turns-further}
 use Rattle.node_inverted.proofs.Impacts.{raised-all}
-use Rattle.node_inverted.proofs.Told.{told-turned}
 use Rattle.node_inverted.proofs.raising.raise.Goals as goal
-
-pub loop-left-preserved : goal.loop-left-preserved
-loop-left-preserved g c = record {
-  root = c.in_ok-left.ensures.root ∙ c.loop-left.invariant.root;
-  turns = λ free rows.
-      let before : View = view (g.P.Pages.pages c.args.pages.now) (g.P.Pages.count c.args.pages.now) (g.P.Pages.first c.args.pages.now) free in
-      let t = c.loop-left.invariant.turns free rows in
-      let s = c.in_ok-left.ensures.turns t.turn.free t.turn.rows in
-      record {
-        bytes = s.bytes;
-        turn = turns-further before c.args.tree.now.rows (g.P.Pages.pages c.loop-left.pages) (g.P.Pages.count c.loop-left.pages) (g.P.Pages.first c.loop-left.pages) c.loop-left.changed.rows t.bytes t.turn
-            (g.P.Pages.pages c.raise_leaf.new.pages) (g.P.Pages.count c.raise_leaf.new.pages) (g.P.Pages.first c.raise_leaf.new.pages) c.raise_leaf.new.tree.rows s.bytes s.turn;
-        is = s.is ∙ ap (raised_by c.args.node c.args.slot c.loop-left.left.now) (fun_ext (λ n. fun_ext (λ w. fun_ext (λ i. t.turn.is n w i)))) ∙ t.is;
-      };
-  frame = changes_then g.P.Pages g.met.P.Pages.goes_further _ _ _ c.loop-left.invariant.frame c.raise_leaf.ensures.frame;
-}
-
-pub returns-in_err-left-clause-honest : goal.returns-in_err-left-clause-honest
-returns-in_err-left-clause-honest g c free rows told damage =
-    let before : View = view (g.P.Pages.pages c.args.pages.now) (g.P.Pages.count c.args.pages.now) (g.P.Pages.first c.args.pages.now) free in
-    let t = c.loop-left.invariant.turns free rows in
-    let p = err_from_is_err_and c.from_residual.result c.from_residual.ensures.1 in
-    λ e. (let same : c.in_err-left.field-0.0 ≡ Damaged damage = cc (p.1, p.2, e) in
-    c.in_err-left.ensures.honest t.turn.free t.turn.rows (told-turned before c.args.tree.now.rows (g.P.Pages.pages c.loop-left.pages) (g.P.Pages.count c.loop-left.pages) (g.P.Pages.first c.loop-left.pages) c.loop-left.changed.rows
-    t.bytes t.turn told) damage (ap Err same))
-
-no-pairs : (ps : List (ℕ × ℕ)) → length ps ≡ 0 → ps ≡ []
-no-pairs [] e = refl
-no-pairs (p ∷ ps) e = absurd (omega arith)
 
 pub returns-clause-turns : goal.returns-clause-turns
 returns-clause-turns g c = λ free rows.
-    let before : View = view (g.P.Pages.pages c.args.pages.now) (g.P.Pages.count c.args.pages.now) (g.P.Pages.first c.args.pages.now) free in
-    let b : Bytes = bytes_in (g.P.Pages.pages c.args.pages.now) c.args.tree.now.rows in
-    let t = c.loop-left.invariant.turns free rows in
-    let none : c.loop-left.left.now ≡ [] = no-pairs c.loop-left.left.now (grind (arith, nat_tests)) in
-    subst (Turns before c.args.tree.now.rows (g.P.Pages.pages c.loop-left.pages) (g.P.Pages.count c.loop-left.pages) (g.P.Pages.first c.loop-left.pages) c.loop-left.changed.rows)
-    (ap (λ (ps : List (ℕ × ℕ)). raised_by c.args.node c.args.slot ps t.bytes) (sym none) ∙ t.is ∙ raised-all c.args.node c.args.slot c.args.pairs.now b) t.turn
+    let p = g.P.Pages in
+    let old = c.args.pages.now in
+    let new = c.edit_rows.new.pages in
+    let root : ℕ = c.args.tree.now.rows in
+    subst (λ (b : Bytes). OnOk c.edit_rows.result (Turns (view (p.pages old) (p.count old) (p.first old) free) root (p.pages new) (p.count new) (p.first new) c.edit_rows.new.tree.rows b))
+    (raised-all c.args.node c.args.slot c.args.pairs.now (bytes_in (p.pages old) root)) (c.edit_rows.ensures.turns free rows)

@@ -1,6 +1,5 @@
-use Rattle.std.proofs.Common.{◌≡◌, ℕ, ◌^◌, ◌<◌, ◌≤◌, List, sym, ap, ◌∙◌, subst, true, false}
+use Rattle.std.proofs.Common.{◌≡◌, ℕ, ◌^◌, ◌<◌, ◌≤◌, sym, ◌∙◌, subst, true, false}
 use Rattle.page_face.specs.FreeList.{are_zero}
-use Rattle.page_face.specs.Number.{number as number_of_bytes}
 use Rattle.btree_nodes.specs.Rows.{put, without}
 use Rattle.btree_search.specs.Steps.{low_of, high_of}
 use Rattle.paged_map.specs.Drafts.{Drafts}

@@ -1,21 +1,21 @@
-use Rattle.std.proofs.Common.{◌≡◌, ℕ, List, length}
+use Rattle.std.proofs.Common.{◌≡◌, ℕ, List}
 use Rattle.page_face.specs.Calls.{Changes}
 use Rattle.btree_nodes.specs.Supply.{view}
 use Rattle.node_inverted.specs.Rows.{IsRows, bytes_in}
-use Rattle.node_inverted.specs.Drafts.{Reaches, raised_by}
-use Rattle.node_inverted.proofs.raising.raise.Given as goal
+use Rattle.node_inverted.specs.Drafts.{Reaches, edited_by, edits_in}
+use Rattle.node_inverted.proofs.drafting.edit_rows.Given as goal
 
--- what is left leads to what all the pairs lead to
-abbrev pub invariant-loop-left : goal.invariant-loop-left
-invariant-loop-left g l =
+-- what is left leads to what all the changes lead to
+abbrev pub invariant-loop-number : goal.invariant-loop-number
+invariant-loop-number g l =
     let p = g.P.Pages in
     record {
       root : l.changed.root ≡ l.fn.tree.root;
       turns : (free : List ℕ) → IsRows (view (p.pages l.fn.pages) (p.count l.fn.pages) (p.first l.fn.pages) free) l.fn.tree.rows
           → Reaches (view (p.pages l.fn.pages) (p.count l.fn.pages) (p.first l.fn.pages) free) l.fn.tree.rows (p.pages l.pages) (p.count l.pages) (p.first l.pages) l.changed.rows
-          (raised_by l.node l.slot l.left) (raised_by l.node l.slot l.pairs (bytes_in (p.pages l.fn.pages) l.fn.tree.rows));
+          (edited_by l.node l.left) (edited_by l.node l.edits (bytes_in (p.pages l.fn.pages) l.fn.tree.rows));
       frame : Changes p l.fn.pages l.pages;
     }
 
-abbrev pub decreases-loop-left : goal.decreases-loop-left
-decreases-loop-left g l = length l.left
+abbrev pub decreases-loop-number : goal.decreases-loop-number
+decreases-loop-number g l = edits_in l.left
