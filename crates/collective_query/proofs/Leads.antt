@@ -87,7 +87,7 @@ pub one-tried : (at : Position) (best : Chosen) → best.cost ≡ choice_cost at
 one-tried at best is = λ i. Some record { cost = is i; picks = best.picks }
 
 -- no choice before a best one comes before a better one
-chained : (at : Position) (old new choice : List Pick) → is_cheaper at old new ≡ false → is_cheaper at choice old ≡ false → is_cheaper at choice new ≡ false
+pub chained : (at : Position) (old new choice : List Pick) → is_cheaper at old new ≡ false → is_cheaper at choice old ≡ false → is_cheaper at choice new ≡ false
 chained at old new choice = (choices_linear at).chain new old choice
 
 -- a choice that costs more comes after

@@ -13,3 +13,4 @@ pub mod Agreements
 pub mod Firsts
 pub mod Opened
 pub mod Leads
+pub mod Behind

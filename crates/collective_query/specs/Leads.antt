@@ -1,11 +1,12 @@
 -- Choices that take one pick of one of the lists: the lead pick.
 use Rattle.std.specs.Prelude.{◌≡◌, ℕ, zero, suc, ◌<◌, ◌+◌, ◌≤◌, false, List, [], ◌∷◌, Vec, Option, Some, None, length, get_or}
 use Rattle.std.specs.List.{AllByRecursion, Contains}
+use Rattle.std.specs.Ordering.{is_lt}
 use Rattle.std.specs.declared.alloc.Global.{Global}
 use Rattle.spatial_base.specs.Point.{Position, distance}
 use Rattle.place_map.specs.declared.query.Pick.{Pick}
 use Rattle.place_map.specs.declared.query.Chosen.{Chosen}
-use Rattle.place_map.specs.Group.{is_cheaper}
+use Rattle.place_map.specs.Group.{pick_cmp, is_cheaper}
 use Rattle.place_map.specs.Search.{lists_in}
 use Rattle.collective_query.specs.Choices.{IsChoice, AreCut}
 use Rattle.collective_query.specs.Tried.{IsChosen, IsFirst}
@@ -21,6 +22,10 @@ led_by (suc at) x (list ∷ lists) = list ∷ led_by at x lists
 pub record AreLeads (lists : List (List Pick)) (at : ℕ) (leads : List Pick) : Type 0 where
   pub inside : at < length lists
   pub among : AllByRecursion (Contains (get_or lists at [])) leads
+
+-- a pick is at the point of another, and doesn't come before it
+abbrev pub IsBehind : Pick → Pick → Type 0
+IsBehind pick other = (pick.point ≡ other.point) × (is_lt (pick_cmp pick other) ≡ false)
 
 -- A pick in a cut round a lead place: a choice with both may cost at most so much, by the distance to the point of either and that between them.
 abbrev pub IsBeside : Position → Pick → ℕ → Pick → Type 0

@@ -1,12 +1,12 @@
 //! The search that is led by the picks of one word.
-ghost use Rattle.std.specs.Prelude.{◌≡◌, ◌<◌, ◌≤◌, ◌++◌, ◌∷◌, [], ℕ, List, Vec, Option, Some, OnOk, IfSome, IfNone, length};
+ghost use Rattle.std.specs.Prelude.{◌≡◌, ◌<◌, ◌≤◌, ◌++◌, ◌∷◌, [], ℕ, true, List, Vec, Option, Some, OnOk, IfSome, IsSomeAnd, IfNone, length};
 ghost use Rattle.std.specs.List.{AllByRecursion, Contains};
 ghost use Rattle.std.specs.declared.alloc.Global.{Global};
 ghost use Rattle.spatial_base.specs.Point.{distance};
 ghost use Rattle.place_map.specs.declared.query.Pick.{Pick};
 ghost use Rattle.place_map.specs.Search.{lists_in};
 ghost use Rattle.tree_ranking.specs.Fits.{FitsTree, nodes_at};
-ghost use Rattle.collective_query.specs.Leads.{led_by, AreLeads, IsWanted, Betters, Follows};
+ghost use Rattle.collective_query.specs.Leads.{led_by, AreLeads, IsBehind, IsWanted, Betters, Follows};
 ghost use Rattle.collective_query.specs.Opened.{FindsPicks};
 ghost use Rattle.collective_query.specs.Picks.{AreNear, AreMeasured, GoesBeyond, picks_of};
 ghost use Rattle.collective_query.specs.Searches.{Searches};
@@ -22,6 +22,7 @@ use page_face::{PageFault, Pages};
 use place_map::{Chosen, Pick};
 use spatial_base::Point;
 use std::alloc::Global;
+use std::cmp::Ordering;
 use term_impacts::Word;
 use tree_entries::Ids;
 
@@ -217,7 +218,25 @@ fn follow_likely<P: Pages>(
     follow(alloc, pages, tree, ids, at, words, nearest, lead, own, best)
 }
 
-// Leaves the best of the best choice so far and all choices that take one of the lead picks.
+// Whether a pick is at the point of another.
+fn is_at(pick: &Pick, other: &Pick) -> bool
+    ensures { result ≡ true → pick.now.point ≡ other.now.point }
+{
+    pick.point == other.point
+}
+
+// Whether a pick is at the point of another, if there is another, and doesn't come before it.
+fn is_behind(pick: &Pick, other: &Option<Pick>) -> bool
+    ensures { result ≡ true → IsSomeAnd other.now (IsBehind pick.now) }
+{
+    match other {
+        Some(other) => is_at(pick, other) && !pick.cmp(other).is_lt(),
+        None => false,
+    }
+}
+
+// Leaves the best of the best choice so far and all choices that take one of the lead picks. Of leads at one point, which come one behind the
+// other, only the first is followed: with another one in its place a choice costs as much, and has greater keys.
 fn follow_each<P: Pages>(
     alloc: Global,
     pages: &mut P,
@@ -245,11 +264,16 @@ fn follow_each<P: Pages>(
     ensures cost { OnOk result (best.new.cost ≤ best.old.cost) }
     ensures search { Searches P.Pages tree.now pages.old pages.new result }
 {
+    let mut last = None;
     for lead in leads {
+        if is_behind(lead, &last) {
+            continue;
+        }
         match follow_likely(alloc, pages, tree, ids, at, words, nearest, lead, own, best) {
             Ok(()) => {}
             Err(fault) => return Err(fault),
         }
+        last = Some(*lead);
     }
     Ok(())
 }
@@ -258,10 +282,11 @@ fn follow_each<P: Pages>(
 ///
 /// The choices of the picks nearest to the word's first one are tried, so that the best choice costs little. Then each of its picks that are no
 /// farther from the point than this one costs is followed: all choices with it that cost no more are searched, if the words that aren't frequent
-/// round it let one cost so little.
+/// round it let one cost so little. Of the picks at one point only the first is followed: no choice with another one of them is better.
 ///
 /// Returns an error, and looks at pages, as a nearest query for each other word does, then as a range query for the word, if its nearest picks
-/// end before the cost, and then as at most two range queries for each other word round each of the picks that are followed.
+/// end before the cost, and then as at most two range queries for each other word round each point of its picks, however many are at it. (Picks
+/// of several points that are equally far from the query's may alternate by their keys. Then these points are searched round more than once.)
 pub(crate) fn search_by_lead<P: Pages>(
     alloc: Global,
     pages: &mut P,

@@ -8,7 +8,8 @@
 //! Where they may not be, one word leads: that whose nearest place is farthest, since few places hold it as near as that. Each choice takes one
 //! of the lead's places, and a choice that costs no more than the best one so far has its other places in a circle round it: their distance
 //! from it and its own from the point are at most that cost together. So a frequent word is looked for in a small circle round each place of a
-//! rare one, and not in the large one round the point. No triangle inequality is used, since distances are rounded down.
+//! rare one, and not in the large one round the point. No triangle inequality is used, since distances are rounded down. Of rare places at one
+//! point that come one behind the other only the first is looked round: with another in its place a choice costs as much.
 //!
 //! Where a word is frequent in such a circle, the words that aren't are looked for first: a lead with which their places cost too much is left,
 //! and the many places of the frequent word aren't looked for.

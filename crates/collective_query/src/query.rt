@@ -64,12 +64,12 @@ fn least_among(alloc: Global, at: &Point, lists: &[Vec<Pick>]) -> Result<Option<
 /// Refuses `Damaged` with a rule that a page read in this call breaks, never over a whole tree; `Disk`, `Stopped`, and `Memory` if it runs out
 /// of memory. The tree is as before in any case.
 ///
-/// Searches the tree for the five nearest places of each word. Between these the choices are searched, in memory. If the five places of a
-/// word all lie at most as far from the point as the least of these choices costs, the word whose nearest place is farthest leads: one search
-/// for each other word finds its places nearest to that place, and at most one more the lead's places that are no farther than the least choice
-/// costs by then. Round each of these the other words whose five places all lie as near as that are searched for, in a circle of the rest of
-/// the cost: where a word is frequent there, first those that aren't; and then, if these let a choice cost so little, each of them once, as long
-/// as the words before it have a place there. A node is opened only where one of the words is held below it, or if it is the root.
+/// Searches the tree for the five nearest places of each word. Between these the choices are searched, in memory. If the five places of a word
+/// all lie at most as far from the point as the least of these choices costs, the word whose nearest place is farthest leads: one search for
+/// each other word finds its places nearest to that place, and at most one more the lead's places that are no farther than the least choice
+/// costs by then. Round each of their points the other words whose five places all lie as near as that are searched for, in a circle of the rest
+/// of the cost: where a word is frequent there, first those that aren't; and then, if these let a choice cost so little, each of them once, as
+/// long as the words before it have a place there. A node is opened only where one of the words is held below it, or if it is the root.
 ///
 /// It keeps the places found round one lead at a time. In the worst case the search among them goes through as many choices as there are: where
 /// places of any two words lie near enough to each other and those of three or more don't.

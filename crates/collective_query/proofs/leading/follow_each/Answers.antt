@@ -1,6 +1,6 @@
-use Rattle.std.proofs.Common.{◌≡◌, ◌+◌, ◌++◌, ◌∷◌, [], ◌∙◌, ℕ, List, get_or, ap, sym, subst, take, rules, arith}
+use Rattle.std.proofs.Common.{◌≡◌, ◌+◌, ◌++◌, ◌∷◌, [], ◌∙◌, ℕ, List, get_or, ap, sym, subst, take, rules, arith, IfSome}
 use Rattle.std.proofs.lemmas.List.{take_all, take_more}
-use Rattle.std.proofs.lemmas.List.Elements.{Contains-get_or}
+use Rattle.std.proofs.lemmas.List.Elements.{Contains-get_or, Contains-append_right}
 use Rattle.std.specs.List.{Contains}
 use Rattle.page_face.specs.FreeList.{PageMap}
 use Rattle.place_map.specs.declared.query.Pick.{Pick}
@@ -10,8 +10,9 @@ use Rattle.collective_query.specs.Leads.{AreLeads, Follows}
 use Rattle.collective_query.specs.Opened.{FindsPicks}
 use Rattle.collective_query.specs.TreePicks.{tree_lists, first_lists}
 use Rattle.collective_query.specs.Tried.{IsChosen}
+use Rattle.collective_query.proofs.Behind.{behind-follows, still-among}
 use Rattle.collective_query.proofs.Leads.{none-follows, follows-then}
-use Rattle.collective_query.proofs.Members.{all-among}
+use Rattle.collective_query.proofs.Members.{all-among, contains-here}
 use Rattle.collective_query.proofs.Searches.{searches-give, searches-refused, searches-then}
 use Rattle.collective_query.proofs.leading.follow_each.Goals as goal
 
@@ -21,9 +22,32 @@ loop-lead-init g c = record {
       let tree = c.args.tree.now in
       let all : List (List Pick) = tree_lists c.args.ids.now c.args.at.now (nodes_at (g.P.Pages.pages c.args.pages.now) tree) tree.root c.args.words.now in
       (none-follows c.args.at.now all c.args.own c.args.best.now was, start);
+  last = tt;
   cost = omega arith;
   search = search rules;
 }
+
+pub loop-lead-preserved-then-is_behind : goal.loop-lead-preserved-then-is_behind
+loop-lead-preserved-then-is_behind g c =
+    let h = c.loop-lead.invariant in
+    let tree = c.args.tree.now in
+    let from = c.args.at.now in
+    let own = c.args.own in
+    let leads : List Pick = c.args.leads.now in
+    let lead : Pick = c.lead-item.result in
+    let at : ℕ = c.loop-lead.lead-index in
+    let first : Chosen = c.args.best.now in
+    let best : Chosen = c.loop-lead.best in
+    let all : List (List Pick) = tree_lists c.args.ids.now from (nodes_at (g.P.Pages.pages c.args.pages.now) tree) tree.root c.args.words.now in
+    let more : take (at + 1) leads ≡ take at leads ++ lead ∷ [] = take_more leads at lead c.loop-lead-test.true ∙ ap (λ (l : Pick). take at leads ++ l ∷ []) (sym c.lead-item.is) in
+    record {
+      followed = λ fits same are was before known has each start.
+          let so_far = h.followed fits same are was before known has each start in
+          (subst (λ (l : List Pick). Follows from all own l first best) (sym more) (behind-follows from all own (take at leads) lead c.loop-lead.last first best h.last (c.is_behind.ensures c.if-is_behind.true) so_far.0), so_far.1);
+      last = subst (λ (l : List Pick). IfSome c.loop-lead.last (Contains l)) (sym more) (still-among c.loop-lead.last (take at leads) (lead ∷ []) h.last);
+      cost = h.cost;
+      search = h.search;
+    }
 
 pub loop-lead-preserved : goal.loop-lead-preserved
 loop-lead-preserved g c =
@@ -61,6 +85,7 @@ loop-lead-preserved g c =
           before known has (each lead member)
           (subst (λ (p : PageMap). FindsPicks p tree ids from words before between (known ++ best.picks)) (sym f.pages) so_far.1)) in
           (subst (λ (l : List Pick). Follows from (all old) own l first new) (sym more) (follows-then from (all old) own (take at leads) (lead ∷ []) first best new so_far.0 step.0), step.1);
+      last = subst (λ (l : List Pick). Contains l lead) (sym more) (Contains-append_right (take at leads) (lead ∷ []) lead (contains-here lead []));
       cost = omega (arith, c.in-Ok.ensures.cost, h.cost);
       search = searches-give P tree _ _ _ _ 0 c.in-Ok.is (searches-then P g.met.P.Pages.goes_further g.met.P.Pages.reads_further tree _ _ _ _ _ h.search c.follow_likely.ensures.search);
     }

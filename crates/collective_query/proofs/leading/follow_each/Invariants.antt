@@ -1,4 +1,4 @@
-use Rattle.std.proofs.Common.{◌≡◌, ◌≤◌, ℕ, List, ◌++◌, take, Ok}
+use Rattle.std.proofs.Common.{◌≡◌, ◌≤◌, ℕ, List, ◌++◌, take, Ok, IfSome}
 use Rattle.std.specs.List.{Contains}
 use Rattle.place_map.specs.declared.query.Pick.{Pick}
 use Rattle.place_map.specs.Search.{lists_in}
@@ -11,7 +11,7 @@ use Rattle.collective_query.specs.TreePicks.{tree_lists, first_lists}
 use Rattle.collective_query.specs.Tried.{IsChosen}
 use Rattle.collective_query.proofs.leading.follow_each.Given as goal
 
--- the lead picks so far were followed
+-- the lead picks so far were followed, the last of them among them
 abbrev pub invariant-loop-lead : goal.invariant-loop-lead
 invariant-loop-lead g l =
     let p = g.P.Pages in
@@ -25,6 +25,7 @@ invariant-loop-lead g l =
           → FindsPicks (p.pages l.fn.pages) l.tree l.ids l.at l.words before (p.asked l.fn.pages) (known ++ l.fn.best.picks)
           → Follows l.at (tree_lists l.ids l.at nodes l.tree.root l.words) l.own (take l.lead-index l.leads) l.fn.best l.best
           × FindsPicks (p.pages l.fn.pages) l.tree l.ids l.at l.words before (p.asked l.pages) (known ++ l.best.picks);
+      last : IfSome l.last (Contains (take l.lead-index l.leads));
       cost : l.best.cost ≤ l.fn.best.cost;
       search : Searches {X = ℕ} p l.tree l.fn.pages l.pages (Ok 0);
     }

@@ -1,0 +1,124 @@
+-- A lead pick at the point of one that was followed, and behind it in the picks' order, needn't be followed.
+use Rattle.std.proofs.Common.{◌≡◌, ℕ, zero, suc, ◌+◌, max, false, List, [], ◌∷◌, ◌++◌, Option, Some, None, IfSome, IsSomeAnd, refl, sym, ap, subst, ◌∙◌, ⊎_elim}
+use Rattle.std.proofs.lemmas.List.Elements.{Contains-append_left}
+use Rattle.std.specs.Cmp.{nat_cmp_is}
+use Rattle.std.specs.Cmp.Lexicographic.{slice_cmp}
+use Rattle.std.specs.List.{Contains}
+use Rattle.std.specs.Ordering.{nat_cmp, is_lt, ordering_then}
+use Rattle.std.specs.declared.cmp.Ordering.{Ordering}
+use Rattle.std.specs.declared.cmp.Ordering.TheVariants.{Less, Equal, Greater}
+use Rattle.best_first.proofs.Lists.{all_append}
+use Rattle.spatial_base.specs.Point.{Position, distance}
+use Rattle.place_map.specs.declared.query.Pick.{Pick}
+use Rattle.place_map.specs.declared.query.Chosen.{Chosen}
+use Rattle.place_map.specs.Group.{farthest, diameter, choice_cost, pick_cmp, is_cheaper}
+use Rattle.collective_query.specs.Choices.{IsChoice}
+use Rattle.collective_query.specs.Leads.{led_by, IsBehind, Follows}
+use Rattle.collective_query.specs.Tried.{IsFirst}
+use Rattle.collective_query.proofs.Costs.{farthest-cons}
+use Rattle.collective_query.proofs.Leads.{chained}
+use Rattle.collective_query.proofs.Least.{itself}
+use Rattle.collective_query.proofs.Members.{all-among, contains-here, contains-cases, contains-none}
+
+-- each pick is at the point of the other choice's
+abbrev AreAt : List Pick → List Pick → Type 0
+AreAt [] [] = Unit {0}
+AreAt [] (y ∷ ys) = ⊥
+AreAt (x ∷ xs) [] = ⊥
+AreAt (x ∷ xs) (y ∷ ys) = (x.point ≡ y.point) × AreAt xs ys
+
+at-itself : (picks : List Pick) → AreAt picks picks
+at-itself [] = tt
+at-itself (pick ∷ picks) = (refl, at-itself picks)
+
+-- they are as far from a point
+same-far : (point : Position) (xs ys : List Pick) → AreAt xs ys → farthest point xs ≡ farthest point ys
+same-far point [] [] same = refl
+same-far point [] (y ∷ ys) same = absurd same
+same-far point (x ∷ xs) [] same = absurd same
+same-far point (x ∷ xs) (y ∷ ys) same =
+    farthest-cons point x xs ∙ (λ i. max (distance point (same.0 i)) (same-far point xs ys same.1 i)) ∙ sym (farthest-cons point y ys)
+
+-- and from each other
+same-wide : (xs ys : List Pick) → AreAt xs ys → diameter xs ≡ diameter ys
+same-wide [] [] same = refl
+same-wide [] (y ∷ ys) same = absurd same
+same-wide (x ∷ xs) [] same = absurd same
+same-wide (x ∷ xs) (y ∷ ys) same = λ i. max ((ap (λ point. farthest point xs) same.0 ∙ same-far y.point xs ys same.1) i) (same-wide xs ys same.1 i)
+
+-- what is before neither by the first nor by the second comparison isn't before
+not-then : (a b : Ordering) → is_lt a ≡ false → is_lt b ≡ false → is_lt (ordering_then a b) ≡ false
+not-then Less b h g = h
+not-then Equal b h g = g
+not-then Greater b h g = refl
+
+-- the second of two comparisons, where the first tells nothing
+not-second : (a b : Ordering) → a ≡ Equal → is_lt (ordering_then a b) ≡ false → is_lt b ≡ false
+not-second Less b tie h = absurd (cc)
+not-second Equal b tie h = h
+not-second Greater b tie h = absurd (cc)
+
+-- the first of two
+not-first : (a b : Ordering) → is_lt (ordering_then a b) ≡ false → is_lt a ≡ false
+not-first Less b h = h
+not-first Equal b h = refl
+not-first Greater b h = refl
+
+tie : (a b : ℕ) → a ≡ b → nat_cmp a b ≡ Equal
+tie a b same = sym (nat_cmp_is a b Equal same)
+
+-- no list of picks comes before itself
+list-itself : (at : Position) (picks : List Pick) → is_lt (slice_cmp pick_cmp picks picks) ≡ false
+list-itself at picks =
+    not-second (nat_cmp (choice_cost at picks) (choice_cost at picks)) (slice_cmp pick_cmp picks picks) (tie (choice_cost at picks) (choice_cost at picks) refl) (itself at picks)
+
+-- nor does a pick
+pick-itself : (at : Position) (pick : Pick) → is_lt (pick_cmp pick pick) ≡ false
+pick-itself at pick = not-first (pick_cmp pick pick) Equal (list-itself at (pick ∷ []))
+
+-- a choice at the points of another one comes behind it, where its picks do
+comes-behind : (at : Position) (xs ys : List Pick) → AreAt xs ys → is_lt (slice_cmp pick_cmp xs ys) ≡ false → is_cheaper at xs ys ≡ false
+comes-behind at xs ys same after =
+    let costs : choice_cost at xs ≡ choice_cost at ys = λ i. same-far at xs ys same i + same-wide xs ys same i in
+    not-then (nat_cmp (choice_cost at xs) (choice_cost at ys)) (slice_cmp pick_cmp xs ys) (ap is_lt (tie (choice_cost at xs) (choice_cost at ys) costs)) after
+
+-- a choice with a lead, and the one with another pick at its point in its place, which it comes behind
+instead : (from : Position) (lists : List (List Pick)) (own : ℕ) (lead other : Pick) (choice : List Pick) → IsBehind lead other → IsChoice (led_by own lead lists) choice
+    → (new : List Pick) × IsChoice (led_by own other lists) new × AreAt choice new × (is_lt (slice_cmp pick_cmp choice new) ≡ false)
+instead from [] own lead other choice behind is = (choice, is, at-itself choice, list-itself from choice)
+instead from (list ∷ lists) zero lead other [] behind is = absurd is
+instead from (list ∷ lists) zero lead other (y ∷ ys) behind is = ⊎_elim
+    (λ (one : lead ≡ y). (
+      other ∷ ys,
+      (contains-here other [], is.1),
+      (subst (λ (p : Pick). p.point ≡ other.point) one behind.0, at-itself ys),
+      not-then (pick_cmp y other) (slice_cmp pick_cmp ys ys) (subst (λ (p : Pick). is_lt (pick_cmp p other) ≡ false) one behind.1) (list-itself from ys),
+    ))
+    (λ (later : Contains [] y). absurd (contains-none y later))
+    (contains-cases lead [] y is.0)
+instead from (list ∷ lists) (suc own) lead other [] behind is = absurd is
+instead from (list ∷ lists) (suc own) lead other (y ∷ ys) behind is =
+    let rest = instead from lists own lead other ys behind is.1 in
+    (y ∷ rest.0, (is.0, rest.1), (refl, rest.2), not-then (pick_cmp y y) (slice_cmp pick_cmp ys rest.0) (pick-itself from y) rest.3)
+
+-- so no choice with it comes before the best one, where none with the other does
+behind-first : (at : Position) (lists : List (List Pick)) (own : ℕ) (lead other : Pick) (best : Chosen) → IsBehind lead other → IsFirst at (led_by own other lists) best → IsFirst at (led_by own lead lists) best
+behind-first at lists own lead other best behind first choice is =
+    let new = instead at lists own lead other choice behind is in
+    chained at new.0 best.picks choice (first new.0 new.1) (comes-behind at choice new.0 new.2 new.3)
+
+-- and so it is followed with that one
+pub behind-follows : (at : Position) (lists : List (List Pick)) (own : ℕ) (some : List Pick) (lead : Pick) (last : Option Pick) (old best : Chosen) → IfSome last (Contains some)
+    → IsSomeAnd last (IsBehind lead) → Follows at lists own some old best → Follows at lists own (some ++ lead ∷ []) old best
+behind-follows at lists own some lead None old best among is follows = absurd is
+behind-follows at lists own some lead (Some other) old best among is follows = record {
+  chosen = follows.chosen;
+  after = follows.after;
+  first = all_append (λ pick. IsFirst at (led_by own pick lists) best) some (lead ∷ []) follows.first
+      (behind-first at lists own lead other best is (all-among (λ pick. IsFirst at (led_by own pick lists) best) some other follows.first among), tt);
+}
+
+-- the last one that was followed is still among them when there are more
+pub still-among : (last : Option Pick) (some more : List Pick) → IfSome last (Contains some) → IfSome last (Contains (some ++ more))
+still-among None some more among = tt
+still-among (Some other) some more among = Contains-append_left some more other among
