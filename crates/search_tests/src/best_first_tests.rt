@@ -44,7 +44,7 @@ fn is_given(level: u8, item: &Item) -> bool
 }
 
 // What the node of a page gives by the table.
-#[tactic(auto, using(crate::proofs::Lists::all_append))]
+#[tactic(auto, using(best_first::proofs::Lists::all_append))]
 fn given(alloc: Global, rows: &[(u32, Item)], page: u32, level: u8) -> Result<Vec<Item>, PageFault>
     ensures few { IfOk result (λ items. length items.items ≤ 32) }
     ensures children { IfOk result (λ items. AllByRecursion (IsGivenAt level) items.items) }
