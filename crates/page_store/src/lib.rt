@@ -19,8 +19,6 @@ mod page;
 mod pages;
 mod store;
 mod superblock;
-#[cfg(test)]
-mod tests;
 
 pub use committing::JOURNAL_MAX;
 pub use opening::{OpenFault, recover_superblock};

@@ -8,6 +8,8 @@ mod page_cache_tests;
 #[cfg(test)]
 mod page_journal_tests;
 #[cfg(test)]
+mod page_store_tests;
+#[cfg(test)]
 mod paged_map_tests;
 #[cfg(test)]
 mod store_tables_tests;

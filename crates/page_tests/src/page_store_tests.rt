@@ -1,7 +1,7 @@
 //! Stores that are opened, committed, dropped, stopped and cut off.
-use crate::{OpenFault, Store};
 use disk_model::{CallKind, Fail, MemoryStation, Tear};
 use page_face::{Damage, Page, PageFault, Pages, Rule, free_page};
+use page_store::{OpenFault, Store};
 use std::alloc::Global;
 use std::test::Fail as Failure;
 
@@ -132,8 +132,8 @@ enum Answer {
     Number(u32),
     // the first byte of a page that was read
     First(u8),
-    // the first byte of a page that is lent, and how often the disk was read for it
-    Lent(u8, u64),
+    // the first byte of a page that is lent
+    Lent(u8),
     Refused(PageFault),
     NotSaid,
 }
@@ -147,9 +147,8 @@ fn done(ended: Result<(), PageFault>) -> Answer {
 
 // Looks at a page.
 fn looked_at(store: &mut Store<'_, MemoryStation>, page: u32) -> Answer {
-    let before = store.disk.reads();
     match store.look(page) {
-        Ok(()) => Answer::Lent(store.looked()[0], store.disk.reads().saturating_sub(before)),
+        Ok(()) => Answer::Lent(store.looked()[0]),
         Err(fault) => Answer::Refused(fault),
     }
 }
@@ -193,7 +192,7 @@ enum Image {
     Committed,
 }
 
-// A store's calls with their answers, the log that they leave, and what the store then holds after a crash.
+// A store's calls with their answers, the log that they leave, how often they read the disk, and what the store then holds after a crash.
 struct Run {
     image: Image,
     cache: u32,
@@ -201,6 +200,7 @@ struct Run {
     fail: u64,
     calls: &'static [(Call, Answer)],
     log: &'static [u32],
+    reads: u64,
     holds: (u32, u32, u8),
 }
 
@@ -217,6 +217,7 @@ static RUNS: [Run; 9] = [
             (Call::Counted, Answer::Number(3)),
         ],
         log: &[],
+        reads: 3,
         holds: (3, 0, 4),
     },
     // a commit that fails
@@ -232,6 +233,7 @@ static RUNS: [Run; 9] = [
             (Call::Commit, Answer::Refused(PageFault::Stopped)),
         ],
         log: &[],
+        reads: 0,
         holds: (1, 0, 0),
     },
     // what is abandoned is as committed
@@ -250,6 +252,7 @@ static RUNS: [Run; 9] = [
             (Call::Say, Answer::Number(2)),
         ],
         log: &[1, 1],
+        reads: 1,
         holds: (2, 7, 7),
     },
     // a page from the overlay, the journal, and its place
@@ -272,6 +275,7 @@ static RUNS: [Run; 9] = [
             (Call::Commit, Answer::Done),
         ],
         log: &[1, 1, 1],
+        reads: 1,
         holds: (2, 0, 8),
     },
     // a checkpoint that fails
@@ -290,6 +294,7 @@ static RUNS: [Run; 9] = [
             (Call::Read(1), Answer::Refused(PageFault::Stopped)),
         ],
         log: &[],
+        reads: 0,
         holds: (2, 0, 7),
     },
     // caches of 0, 1 and 2 pages
@@ -298,13 +303,14 @@ static RUNS: [Run; 9] = [
         cache: 0,
         fail: 0,
         calls: &[
-            (Call::Look(1), Answer::Lent(1, 1)),
-            (Call::Look(1), Answer::Lent(1, 1)),
-            (Call::Look(2), Answer::Lent(2, 1)),
-            (Call::Look(1), Answer::Lent(1, 1)),
-            (Call::Look(1), Answer::Lent(1, 1)),
+            (Call::Look(1), Answer::Lent(1)),
+            (Call::Look(1), Answer::Lent(1)),
+            (Call::Look(2), Answer::Lent(2)),
+            (Call::Look(1), Answer::Lent(1)),
+            (Call::Look(1), Answer::Lent(1)),
         ],
         log: &[1, 1, 2, 1, 1],
+        reads: 5,
         holds: (3, 0, 1),
     },
     Run {
@@ -312,13 +318,14 @@ static RUNS: [Run; 9] = [
         cache: 1,
         fail: 0,
         calls: &[
-            (Call::Look(1), Answer::Lent(1, 1)),
-            (Call::Look(1), Answer::Lent(1, 0)),
-            (Call::Look(2), Answer::Lent(2, 1)),
-            (Call::Look(1), Answer::Lent(1, 1)),
-            (Call::Look(1), Answer::Lent(1, 0)),
+            (Call::Look(1), Answer::Lent(1)),
+            (Call::Look(1), Answer::Lent(1)),
+            (Call::Look(2), Answer::Lent(2)),
+            (Call::Look(1), Answer::Lent(1)),
+            (Call::Look(1), Answer::Lent(1)),
         ],
         log: &[1, 1, 2, 1, 1],
+        reads: 3,
         holds: (3, 0, 1),
     },
     Run {
@@ -326,13 +333,14 @@ static RUNS: [Run; 9] = [
         cache: 2,
         fail: 0,
         calls: &[
-            (Call::Look(1), Answer::Lent(1, 1)),
-            (Call::Look(1), Answer::Lent(1, 0)),
-            (Call::Look(2), Answer::Lent(2, 1)),
-            (Call::Look(1), Answer::Lent(1, 0)),
-            (Call::Look(1), Answer::Lent(1, 0)),
+            (Call::Look(1), Answer::Lent(1)),
+            (Call::Look(1), Answer::Lent(1)),
+            (Call::Look(2), Answer::Lent(2)),
+            (Call::Look(1), Answer::Lent(1)),
+            (Call::Look(1), Answer::Lent(1)),
         ],
         log: &[1, 1, 2, 1, 1],
+        reads: 2,
         holds: (3, 0, 1),
     },
     // a look lends what was written or committed last
@@ -345,23 +353,24 @@ static RUNS: [Run; 9] = [
             (Call::Take, Answer::Number(2)),
             (Call::Write(2, 5), Answer::Done),
             (Call::Write(1, 6), Answer::Done),
-            (Call::Look(1), Answer::Lent(6, 0)),
+            (Call::Look(1), Answer::Lent(6)),
             (Call::Commit, Answer::Done),
-            (Call::Look(1), Answer::Lent(6, 0)),
-            (Call::Look(2), Answer::Lent(5, 0)),
+            (Call::Look(1), Answer::Lent(6)),
+            (Call::Look(2), Answer::Lent(5)),
             (Call::Settle, Answer::Done),
-            (Call::Look(2), Answer::Lent(5, 0)),
-            (Call::Look(1), Answer::Lent(6, 1)),
+            (Call::Look(2), Answer::Lent(5)),
+            (Call::Look(1), Answer::Lent(6)),
             (Call::Write(1, 7), Answer::Done),
-            (Call::Look(1), Answer::Lent(7, 0)),
+            (Call::Look(1), Answer::Lent(7)),
             (Call::Abandon, Answer::Done),
-            (Call::Look(1), Answer::Lent(6, 0)),
+            (Call::Look(1), Answer::Lent(6)),
             (Call::Write(1, 8), Answer::Done),
             (Call::Commit, Answer::Done),
             (Call::Settle, Answer::Done),
-            (Call::Look(1), Answer::Lent(8, 0)),
+            (Call::Look(1), Answer::Lent(8)),
         ],
         log: &[1, 1, 2, 2, 1, 1, 1, 1],
+        reads: 1,
         holds: (3, 0, 8),
     },
 ];
@@ -400,6 +409,13 @@ fn station(alloc: Global, image: Image) -> Result<MemoryStation, Failure> {
     }
 }
 
+// How often opening a store reads the disk.
+fn opening_reads(alloc: Global, image: Image) -> Result<u64, Failure> {
+    let mut station = station(alloc, image)?;
+    let _held = Store::open(alloc, &mut station, 0).is_ok();
+    Ok(station.reads())
+}
+
 #[test]
 fn calls_answer_as_the_pages_stand(rt: HostRuntime) -> Result<(), Failure> {
     for run in &RUNS {
@@ -421,6 +437,13 @@ fn calls_answer_as_the_pages_stand(rt: HostRuntime) -> Result<(), Failure> {
             Err(_) => assert!(rt; false),
         }
         assert_eq!(rt; station.faults(), (run.fail.min(1), 0));
+        let opening = opening_reads(rt.alloc(), run.image)?;
+        assert_eq!(rt;
+            station.reads().saturating_sub(opening),
+            run.reads,
+            "{:?}",
+            run.image
+        );
         let mut crashed = station.crashed(Tear::Lost)?;
         assert_eq!(rt; held(rt.alloc(), &mut crashed), Ok(run.holds));
     }
