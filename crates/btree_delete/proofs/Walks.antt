@@ -1,11 +1,14 @@
 -- One step down a tree: what a page's child has is what the page has.
 use Rattle.std.proofs.Common.{append_assoc, ◌≡◌, ℕ, zero, suc, ◌<◌, ◌≤◌, inl, inr, List, [], ◌∷◌, ◌++◌, length, arith, refl, sym, ap, ◌∙◌, subst, Result, Err, Option, Some, None}
 use Rattle.page_face.specs.FreeList.{PageMap}
+use Rattle.page_face.specs.Calls.{Reads, TakesNone}
 use Rattle.page_face.specs.Causes.{IsUncounted, asked_after}
 use Rattle.page_face.specs.declared.fault.Rule.{Rule}
 use Rattle.page_face.specs.declared.fault.Damage.{Damage}
 use Rattle.page_face.specs.declared.fault.PageFault.{PageFault}
 use Rattle.page_face.specs.declared.fault.PageFault.TheVariants.{Damaged}
+use Rattle.page_face.specs.declared.pages.Pages.{Ghosts}
+use Rattle.page_face.proofs.Frames.{takes_none_then, reads_take_none}
 use Rattle.btree_nodes.specs.declared.form.Form.{Form}
 use Rattle.page_face.specs.Nodes.{count_of}
 use Rattle.btree_nodes.specs.Tree.{IsTree, uses}
@@ -37,15 +40,6 @@ damage-rule form pages count damage least zero page low high bytes rule fault is
 damage-rule form pages count damage least (suc level) page low high bytes rule fault is e f h =
     let same : record { page = page; rule = rule } ≡ damage = cc in
     subst (λ (d : Damage). IsDamaged form pages count d least (suc level) page low high) same (inl (refl, inr (subst (λ (b : List ℕ). BreaksInner rule form least (suc level) low high b) is h)))
-
--- a page asked for stays so when more are
-pub asked-later : (mine : ℕ → ℕ) (before middle after : List ℕ) (page : ℕ) → AskedSince before middle page → AsksOnly mine middle after → AskedSince before after page
-asked-later mine before middle after page a m = record {
-  front = a.front;
-  back = a.back ++ m.more;
-  is = m.is ∙ ap (λ (x : List ℕ). x ++ m.more) a.is ∙ append_assoc before (a.front ++ (page ∷ a.back)) m.more
-      ∙ ap (λ (x : List ℕ). before ++ x) (append_assoc a.front (page ∷ a.back) m.more);
-}
 
 -- a page that is asked for now
 pub asked-now : (mine : ℕ → ℕ) (before middle after : List ℕ) (page : ℕ) → AsksOnly mine before middle → after ≡ middle ++ page ∷ [] → AskedSince before after page
@@ -139,3 +133,9 @@ uses-most form old bytes level l page at up is small child n e =
     let b = child-uses form old l page at (inside form old bytes level l page at up is small) n in
     let d : uses form old level page n ≡ uses form old (suc l) page n = ap (λ (k : ℕ). uses form old k page n) up in
     omega arith
+
+-- a page read, and then more looked at
+pub read-looked : {P : Type 0} (g : Ghosts P) (further : (a b c : P) → g.follows_from a b → g.follows_from b c → g.follows_from a c) (a b c : P)
+    → g.count b ≡ g.count a → g.room b ≡ g.room a → g.faults a ≤ g.faults b → g.refused b ≡ g.refused a → g.is_stopped b ≡ g.is_stopped a → g.follows_from a b → Reads g b c → TakesNone g a c
+read-looked g further a b c count room faults refused goes_on follows looked =
+    takes_none_then g further a b c (record { count = count; room = room; faults = faults; refused = refused; goes_on = goes_on; follows = follows }) (reads_take_none g b c looked)

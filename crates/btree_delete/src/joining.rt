@@ -1,5 +1,5 @@
 //! Two neighbouring pages, one of which has too few cells.
-ghost use Rattle.std.specs.Prelude.{◌≡◌, ◌≢◌, ◌+◌, ◌*◌, ◌<◌, ◌≤◌, ◌++◌, ℕ, List, length, IfOk};
+ghost use Rattle.std.specs.Prelude.{◌≡◌, ◌≢◌, ◌+◌, ◌*◌, ◌<◌, ◌≤◌, ◌++◌, ℕ, List, length, IfOk, OnOk};
 ghost use Rattle.page_face.specs.Calls.{FailsWriting, Writes};
 ghost use Rattle.page_face.specs.Causes.{IsUncounted};
 ghost use Rattle.page_face.specs.Number.{number};
@@ -7,6 +7,7 @@ ghost use Rattle.btree_nodes.specs.Supply.{IsSupplied, view, spare, one_at};
 ghost use Rattle.page_face.specs.Nodes.{count_of};
 ghost use Rattle.btree_nodes.specs.Nodes.{width_of, half_of};
 ghost use Rattle.btree_nodes.specs.Tree.{IsTree, rows_at, uses};
+ghost use Rattle.btree_nodes.specs.Damages.{AreTold};
 ghost use Rattle.btree_delete.specs.Body.{IsBody, body_rows, body_uses};
 ghost use Rattle.btree_delete.specs.Mended.{Becomes, joined};
 
@@ -53,6 +54,7 @@ fn join_in<P: Pages>(
         (P.pages pages.new) (P.count pages.new) (P.first pages.new) level low high
         (body_rows form (P.pages pages.old) level left_count left_cells.now ++ body_rows form (P.pages pages.old) level right_count right_cells.now)
         (joined merged low left right (number middle.new))) }
+    ensures told { AreTold (P.pages pages.old) (P.count pages.old) → OnOk result (AreTold (P.pages pages.new) (P.count pages.new)) }
 
     ensures damaged { (damage : Damage) → result ≢ Err (PageFault.Damaged damage) }
     ensures fails { FailsWriting P.Pages pages.old result }
@@ -109,6 +111,7 @@ pub fn join<P: Pages>(
         (P.pages pages.new) (P.count pages.new) (P.first pages.new) level low high
         (rows_at form (P.pages pages.old) level left ++ rows_at form (P.pages pages.old) level right)
         (joined merged low left right (number middle.new))) }
+    ensures told { AreTold (P.pages pages.old) (P.count pages.old) → OnOk result (AreTold (P.pages pages.new) (P.count pages.new)) }
 
     ensures damaged { (damage : Damage) → result ≢ Err (PageFault.Damaged damage) }
     ensures fails { FailsWriting P.Pages pages.old result }

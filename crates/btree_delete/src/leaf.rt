@@ -1,5 +1,5 @@
 //! A row that is taken out of a leaf.
-ghost use Rattle.std.specs.Prelude.{◌≡◌, ◌≢◌, ◌+◌, ◌*◌, ◌<◌, ◌≤◌, ℕ, List, length, IfOk, IsErrOf};
+ghost use Rattle.std.specs.Prelude.{◌≡◌, ◌≢◌, ◌+◌, ◌*◌, ◌<◌, ◌≤◌, ℕ, List, length, IfOk, OnOk, IsErrOf};
 ghost use Rattle.page_face.specs.Calls.{FailsWriting, Writes};
 ghost use Rattle.page_face.specs.Causes.{IsUncounted};
 ghost use Rattle.page_face.specs.Number.{number};
@@ -10,7 +10,7 @@ ghost use Rattle.page_face.specs.Nodes.{count_of};
 ghost use Rattle.btree_nodes.specs.Nodes.{rows_in};
 ghost use Rattle.btree_delete.specs.Removal.{IsOut, HasRemoved, Lessens, IsSame};
 ghost use Rattle.btree_nodes.specs.Bounds.{upper_of};
-ghost use Rattle.btree_nodes.specs.Damages.{BreaksLeaf};
+ghost use Rattle.btree_nodes.specs.Damages.{AreTold, BreaksLeaf};
 
 use crate::cells::without;
 use crate::node::has_key;
@@ -42,6 +42,7 @@ pub fn take_out<P: Pages>(
         → IfOk result (IsOut form (view (P.pages pages.old) (P.count pages.old) (P.first pages.old) free) (one_at page)
         (P.pages pages.new) (P.count pages.new) (P.first pages.new) 0 page low high (number key.now) (rows_in form bytes.old) bytes.new) }
     ensures less { IfOk result (λ left. (left + 1 ≡ count) × (0 < left → left ≡ count_of bytes.new)) }
+    ensures told { AreTold (P.pages pages.old) (P.count pages.old) → OnOk result (AreTold (P.pages pages.new) (P.count pages.new)) }
 
     ensures damaged { (damage : Damage) → result ≢ Err (PageFault.Damaged damage) }
     ensures fails { FailsWriting P.Pages pages.old result }
@@ -85,9 +86,11 @@ pub fn remove_leaf<P: Pages>(
         (P.pages pages.new) (P.count pages.new) (P.first pages.new) 0 page (number low.now) (upper_of form.key high.now) (number key.now) (rows_in form bytes.old) bytes.new) }
     ensures less { IfOk result (Lessens form 0 least bytes.old bytes.new) }
     ensures same { IfOk result (IsSame (P.pages pages.old) (P.pages pages.new) (P.first pages.old) (P.first pages.new)) }
+    ensures told { AreTold (P.pages pages.old) (P.count pages.old) → OnOk result (AreTold (P.pages pages.new) (P.count pages.new)) }
 
     ensures damaged { (damage : Damage) → IsErrOf result (PageFault.Damaged damage)
         → (damage.page ≡ page) × BreaksLeaf damage.rule form least (number low.now) (upper_of form.key high.now) bytes.old }
+    ensures stays { (damage : Damage) → IsErrOf result (PageFault.Damaged damage) → P.pages pages.new ≡ P.pages pages.old }
     ensures fails { FailsWriting P.Pages pages.old result }
     ensures frame { Writes P.Pages pages.old pages.new }
 {

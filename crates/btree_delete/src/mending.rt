@@ -8,6 +8,7 @@ ghost use Rattle.btree_nodes.specs.Nodes.{IsInner, entries_in, width_of, half_of
 ghost use Rattle.btree_nodes.specs.Tree.{uses, total, with_low};
 ghost use Rattle.btree_nodes.specs.Bounds.{child_of};
 ghost use Rattle.btree_nodes.specs.Store.{below_rows};
+ghost use Rattle.btree_nodes.specs.Damages.{AreTold};
 ghost use Rattle.btree_delete.specs.Mended.{Becomes, HasPair};
 
 use crate::cells::{rekeyed, without};
@@ -57,6 +58,7 @@ fn mend_in<P: Pages>(
     ensures bytes { OnOk result (bytes.new ≡ P.pages pages.new page) }
     ensures counted { IfOk result (λ left. left ≡ count_of bytes.new) }
     ensures range { IfOk result (λ left. (1 ≤ left) × (left ≤ count) × (count ≤ left + 1)) }
+    ensures told { AreTold (P.pages pages.old) (P.count pages.old) → OnOk result (AreTold (P.pages pages.new) (P.count pages.new)) }
 
     ensures damaged { (damage : Damage) → result ≢ Err (PageFault.Damaged damage) }
     ensures fails { FailsWriting P.Pages pages.old result }
@@ -131,6 +133,7 @@ pub fn mend<P: Pages>(
     ensures bytes { OnOk result (bytes.new ≡ P.pages pages.new page) }
     ensures counted { IfOk result (λ left. left ≡ count_of bytes.new) }
     ensures range { IfOk result (λ left. (1 ≤ left) × (left ≤ count) × (count ≤ left + 1)) }
+    ensures told { AreTold (P.pages pages.old) (P.count pages.old) → OnOk result (AreTold (P.pages pages.new) (P.count pages.new)) }
 
     ensures damaged { (damage : Damage) → result ≢ Err (PageFault.Damaged damage) }
     ensures fails { FailsWriting P.Pages pages.old result }

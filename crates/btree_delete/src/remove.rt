@@ -1,5 +1,5 @@
 //! A row that is taken out of a tree.
-ghost use Rattle.std.specs.Prelude.{◌≡◌, ℕ, ◌+◌, ◌<◌, ◌≤◌, List, length, IfOk, IsErrOf};
+ghost use Rattle.std.specs.Prelude.{◌≡◌, ℕ, ◌+◌, ◌<◌, ◌≤◌, List, length, IfOk, OnOk, IsErrOf};
 ghost use Rattle.page_face.specs.Calls.{FailsReading, TakesNone};
 ghost use Rattle.page_face.specs.Causes.{IsUncounted};
 ghost use Rattle.page_face.specs.Number.{number};
@@ -49,6 +49,7 @@ pub fn remove_in<P: Pages>(
         (rows_at form (P.pages pages.old) level page) bytes.new) }
     ensures less { IfOk result (Lessens form level least bytes.old bytes.new) }
     ensures same { IfOk result (IsSame (P.pages pages.old) (P.pages pages.new) (P.first pages.old) (P.first pages.new)) }
+    ensures told { AreTold (P.pages pages.old) (P.count pages.old) → OnOk result (AreTold (P.pages pages.new) (P.count pages.new)) }
 
     ensures damaged { AreTold (P.pages pages.old) (P.count pages.old) → bytes.old ≡ P.pages pages.old page
         → (damage : Damage) → IsErrOf result (PageFault.Damaged damage)
@@ -59,6 +60,9 @@ pub fn remove_in<P: Pages>(
         → IsTree form least (P.pages pages.old) level page (number low.now) (upper_of form.key high.now)
         → (damage : Damage) → IsErrOf result (PageFault.Damaged damage)
         → IsDamaged form (P.pages pages.old) (P.count pages.old) damage least level page (number low.now) (upper_of form.key high.now) }
+
+    // All pages are read before one is written.
+    ensures stays { (damage : Damage) → IsErrOf result (PageFault.Damaged damage) → P.pages pages.new ≡ P.pages pages.old }
     ensures named { (before : List ℕ) → AskedSince before (P.asked pages.old) page
         → (damage : Damage) → IsErrOf result (PageFault.Damaged damage) → AskedSince before (P.asked pages.new) damage.page }
     ensures own { AreTold (P.pages pages.old) (P.count pages.old) → bytes.old ≡ P.pages pages.old page

@@ -1,5 +1,5 @@
 //! An inner page after a row was taken out below it.
-ghost use Rattle.std.specs.Prelude.{◌≡◌, ◌≢◌, ◌+◌, ◌*◌, ◌<◌, ◌≤◌, ◌∷◌, [], ℕ, suc, List, IfOk};
+ghost use Rattle.std.specs.Prelude.{◌≡◌, ◌≢◌, ◌+◌, ◌*◌, ◌<◌, ◌≤◌, ◌∷◌, [], ℕ, suc, List, IfOk, OnOk};
 ghost use Rattle.page_face.specs.Calls.{FailsWriting, Writes};
 ghost use Rattle.page_face.specs.Causes.{IsUncounted};
 ghost use Rattle.btree_nodes.specs.Supply.{IsSupplied, view, spare, one_at};
@@ -8,6 +8,7 @@ ghost use Rattle.btree_nodes.specs.Nodes.{IsInner, entries_in, width_of, half_of
 ghost use Rattle.btree_nodes.specs.Tree.{uses, total, with_low};
 ghost use Rattle.btree_nodes.specs.Bounds.{child_of};
 ghost use Rattle.btree_nodes.specs.Store.{below_rows};
+ghost use Rattle.btree_nodes.specs.Damages.{AreTold};
 ghost use Rattle.btree_delete.specs.Mended.{Becomes, HasLow, IsBeside};
 ghost use Rattle.btree_delete.specs.Looks.{HasLooked, HasBeside};
 
@@ -65,6 +66,7 @@ pub fn settle<P: Pages>(
     ensures bytes { bytes.old ≡ P.pages pages.old page → IfOk result (λ n. bytes.new ≡ P.pages pages.new page) }
     ensures counted { IfOk result (λ n. n ≡ count_of bytes.new) }
     ensures range { IfOk result (λ n. (1 ≤ n) × (n ≤ found.count) × (found.count ≤ n + 1)) }
+    ensures told { AreTold (P.pages pages.old) (P.count pages.old) → OnOk result (AreTold (P.pages pages.new) (P.count pages.new)) }
 
     ensures damaged { (damage : Damage) → result ≢ Err (PageFault.Damaged damage) }
     ensures fails { FailsWriting P.Pages pages.old result }
@@ -140,6 +142,7 @@ pub fn settle_if_low<P: Pages>(
     ensures bytes { bytes.old ≡ P.pages pages.old page → IfOk result (λ n. bytes.new ≡ P.pages pages.new page) }
     ensures counted { IfOk result (λ n. n ≡ count_of bytes.new) }
     ensures range { IfOk result (λ n. (1 ≤ n) × (n ≤ found.count) × (found.count ≤ n + 1)) }
+    ensures told { AreTold (P.pages pages.old) (P.count pages.old) → OnOk result (AreTold (P.pages pages.new) (P.count pages.new)) }
 
     ensures damaged { (damage : Damage) → result ≢ Err (PageFault.Damaged damage) }
     ensures fails { FailsWriting P.Pages pages.old result }

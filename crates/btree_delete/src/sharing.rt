@@ -1,10 +1,11 @@
 //! The cells of two neighbours, gathered and written anew.
-ghost use Rattle.std.specs.Prelude.{◌≡◌, ◌≢◌, ◌+◌, ◌-◌, ◌*◌, ◌/◌, ◌<◌, ◌≤◌, ℕ, List, length, take, drop, IfOk};
+ghost use Rattle.std.specs.Prelude.{◌≡◌, ◌≢◌, ◌+◌, ◌-◌, ◌*◌, ◌/◌, ◌<◌, ◌≤◌, ℕ, List, length, take, drop, IfOk, OnOk};
 ghost use Rattle.page_face.specs.Calls.{FailsWriting, Writes};
 ghost use Rattle.page_face.specs.Causes.{IsUncounted};
 ghost use Rattle.page_face.specs.Number.{number};
 ghost use Rattle.btree_nodes.specs.Supply.{IsSupplied, view, spare, one_at};
 ghost use Rattle.btree_nodes.specs.Nodes.{width_of, half_of};
+ghost use Rattle.btree_nodes.specs.Damages.{AreTold};
 ghost use Rattle.btree_delete.specs.Body.{kind_of, IsBody, body_rows, body_uses, cleared};
 ghost use Rattle.btree_delete.specs.Mended.{Becomes, joined};
 
@@ -64,6 +65,7 @@ pub fn share<P: Pages>(
         (λ n. one_at left n + one_at right n + body_uses form (P.pages pages.old) level count cells.old n)
         (P.pages pages.new) (P.count pages.new) (P.first pages.new) level low high
         (body_rows form (P.pages pages.old) level count cells.old) (joined merged low left right (number middle.new))) }
+    ensures told { AreTold (P.pages pages.old) (P.count pages.old) → OnOk result (AreTold (P.pages pages.new) (P.count pages.new)) }
 
     ensures damaged { (damage : Damage) → result ≢ Err (PageFault.Damaged damage) }
     ensures fails { FailsWriting P.Pages pages.old result }

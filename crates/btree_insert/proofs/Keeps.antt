@@ -8,13 +8,9 @@ use Rattle.btree_nodes.specs.Build.{image}
 use Rattle.btree_nodes.specs.Nodes.{IsLeaf, IsInner}
 use Rattle.btree_nodes.specs.Tree.{level_of}
 use Rattle.btree_nodes.specs.Damages.{AreTold}
+use Rattle.btree_nodes.proofs.Tolds.{image_told}
 use Rattle.btree_nodes.proofs.Supplies.{with-same, with-other}
 use Rattle.btree_insert.specs.Keeps.{KeepsOthers, KeepsAbove}
-
--- a page that was made tells
-pub image-told : (number kind level count : ℕ) (cells : List ℕ) → 0 < length (image number kind level count cells)
-unfolding image
-image-told number kind level count cells = omega arith
 
 -- a page tells still where one was written
 page-told : (old : PageMap) (bytes : List ℕ) (page n : ℕ) → 0 < length bytes → (n ≢ page → 0 < length (old n)) → 0 < length (with_page page bytes old n)
@@ -30,9 +26,26 @@ pub one-kept : (number kind level cells_count page count count' : ℕ) (cells : 
 one-kept number kind level cells_count page count count' cells old new told is same =
     let bytes : List ℕ = image number kind level cells_count cells in
     rw (is, same) record {
-      told = λ n a b. page-told old bytes page n (image-told number kind level cells_count cells) (λ f. told n a b);
+      told = λ n a b. page-told old bytes page n (image_told number kind level cells_count cells) (λ f. told n a b);
       others = λ n a f g. with-other old bytes page n f;
     }
+
+-- what is counted behind a take was counted before, but for the page taken
+before-take : (count more first next page : ℕ) → (first ≡ 0 → (page ≡ count) × (more ≡ count + 1) × (next ≡ 0)) → (0 < first → (page ≡ first) × (more ≡ count))
+    → (n : ℕ) → n < more → (n ≡ page → ⊥) → n < count
+before-take count more first next page isnew isfree n a f =
+    ⊎_elim
+    (λ (h : 0 < first). let i = (isfree h).1 in omega arith)
+    (λ h. let i = isnew (omega arith) in let p = i.0 in let q = i.1 in ⊎_elim (λ (e : n ≡ count). absurd (f (e ∙ sym p))) (λ (e : n ≡ count → ⊥). omega arith) (cases_eq n count))
+    (cases_lt 0 first)
+
+-- a page was taken and written
+pub told-taken : (old taken new : PageMap) (count more count' first next page : ℕ) (bytes : List ℕ) → AreTold old count
+    → (first ≡ 0 → (page ≡ count) × (more ≡ count + 1) × (next ≡ 0)) → (0 < first → (page ≡ first) × (more ≡ count)) → ((n : ℕ) → (n ≡ page → ⊥) → taken n ≡ old n)
+    → new ≡ with_page page bytes taken → count' ≡ more → 0 < length bytes → AreTold new count'
+told-taken old taken new count more count' first next page bytes told isnew isfree others is same some n a b =
+    subst (λ (p : PageMap). 0 < length (p n)) (sym is)
+    (page-told taken bytes page n some (λ f. subst (λ (x : List ℕ). 0 < length x) (sym (others n f)) (told n a (before-take count more first next page isnew isfree n (omega arith) f))))
 
 module _ (old taken first_written new : PageMap) (count more first next page right count' : ℕ) (front back : List ℕ)
     (isnew : first ≡ 0 → (right ≡ count) × (more ≡ count + 1) × (next ≡ 0)) (isfree : 0 < first → (right ≡ first) × (more ≡ count))
@@ -48,18 +61,10 @@ module _ (old taken first_written new : PageMap) (count more first next page rig
       (λ h. let i = (isnew (omega arith)).0 in absurd (omega arith))
       (cases_lt 0 first)
 
-  -- what is counted behind the take was counted before, but for the page taken
-  before-take : (n : ℕ) → n < more → (n ≡ right → ⊥) → n < count
-  before-take n a f =
-      ⊎_elim
-      (λ (h : 0 < first). let i = (isfree h).1 in omega arith)
-      (λ h. let i = isnew (omega arith) in let p = i.0 in let q = i.1 in ⊎_elim (λ (e : n ≡ count). absurd (f (e ∙ sym p))) (λ (e : n ≡ count → ⊥). omega arith) (cases_eq n count))
-      (cases_lt 0 first)
-
   pub two-kept : KeepsOthers page old count new count'
   two-kept = rw (two, one, same) record {
     told = λ n a b. page-told (with_page page front taken) back right n some_too (λ f.
-        page-told taken front page n some (λ h. subst (λ (x : List ℕ). 0 < length x) (sym (others n f)) (told n a (before-take n b f))));
+        page-told taken front page n some (λ h. subst (λ (x : List ℕ). 0 < length x) (sym (others n f)) (told n a (before-take count more first next right isnew isfree n b f))));
     others = λ n a f g.
         let r = not-taken n a g in
         with-other (with_page page front taken) back right n r ∙ with-other taken front page n f ∙ others n r;

@@ -254,6 +254,9 @@ pub fn put_leaf<P: Pages>(
     ensures damaged { (damage : Damage) → IsErrOf result (PageFault.Damaged damage)
         → ((damage.page ≡ page) × BreaksLeaf damage.rule form least (number low.now) (upper_of form.key high.now) (P.looked pages.old))
         ⊎ IsRefusedTake (P.pages pages.new) (P.count pages.new) (P.first pages.new) damage }
+    ensures stays { (damage : Damage) → IsErrOf result (PageFault.Damaged damage)
+        → ((P.pages pages.new ≡ P.pages pages.old) × (P.count pages.new ≡ P.count pages.old))
+        ⊎ IsRefusedTake (P.pages pages.new) (P.count pages.new) (P.first pages.new) damage }
     ensures fails { FailsChanging P.Pages pages.old pages.new result }
     ensures frame { Changes P.Pages pages.old pages.new }
     ensures asked { P.asked pages.new ≡ P.asked pages.old }

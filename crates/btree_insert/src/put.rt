@@ -75,6 +75,12 @@ pub fn put_in<P: Pages>(
         → (damage : Damage) → IsErrOf result (PageFault.Damaged damage)
         → (IsDamaged form (P.pages pages.old) (P.count pages.old) damage least level page (low_of form bounds.old) (high_of form bounds.old) × AskedSince before (P.asked pages.new) damage.page)
         ⊎ IsRefusedTake (P.pages pages.new) (P.count pages.new) (P.first pages.new) damage }
+
+    // Each check comes before a page is written.
+    ensures stays { AreTold (P.pages pages.old) (P.count pages.old) → P.looked pages.old ≡ P.pages pages.old page
+        → (damage : Damage) → IsErrOf result (PageFault.Damaged damage)
+        → ((P.pages pages.new ≡ P.pages pages.old) × (P.count pages.new ≡ P.count pages.old))
+        ⊎ IsRefusedTake (P.pages pages.new) (P.count pages.new) (P.first pages.new) damage }
     ensures own { (before : List ℕ) → P.asked pages.old ≡ before ++ page ∷ []
         → AreTold (P.pages pages.old) (P.count pages.old) → P.looked pages.old ≡ P.pages pages.old page
         → AsksOnly (uses form (P.pages pages.old) level page) before (P.asked pages.new) }

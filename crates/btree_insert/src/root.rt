@@ -9,7 +9,7 @@ ghost use Rattle.btree_nodes.specs.Build.{image};
 ghost use Rattle.btree_nodes.specs.Supply.{IsSupplied, view, spare};
 ghost use Rattle.btree_nodes.specs.Nodes.{half_of};
 ghost use Rattle.btree_nodes.specs.Tree.{IsFan, IsTree, uses, total};
-ghost use Rattle.btree_nodes.specs.Damages.{IsRefusedTake};
+ghost use Rattle.btree_nodes.specs.Damages.{AreTold, IsRefusedTake};
 ghost use Rattle.btree_nodes.specs.Store.{IsGrown, below_rows};
 ghost use Rattle.btree_insert.specs.Starts.{no_page};
 
@@ -82,6 +82,7 @@ pub fn grow_root<P: Pages>(
         (P.pages pages.new) (P.count pages.new) (P.first pages.new) (suc below) root 0 high
         (below_rows form (P.pages pages.old) below ((0, left) ∷ ((number middle.now, right) ∷ []))) 0 0) }
     ensures some { IfOk result (λ root. 0 < root) }
+    ensures told { AreTold (P.pages pages.old) (P.count pages.old) → OnOk result (AreTold (P.pages pages.new) (P.count pages.new)) }
 
     ensures honest { (free : List ℕ) → IsSupplied (view (P.pages pages.old) (P.count pages.old) (P.first pages.old) free) → (damage : Damage) → result ≢ Err (PageFault.Damaged damage) }
     ensures damaged { (damage : Damage) → IsErrOf result (PageFault.Damaged damage) → IsRefusedTake (P.pages pages.new) (P.count pages.new) (P.first pages.new) damage }
@@ -151,6 +152,7 @@ pub fn first_leaf<P: Pages>(
         → IfOk result (λ root. IsGrown form 1 (view (P.pages pages.old) (P.count pages.old) (P.first pages.old) free) no_page
         (P.pages pages.new) (P.count pages.new) (P.first pages.new) 0 root 0 (256 ^ form.key) ((number key.now, value.now) ∷ []) 0 0) }
     ensures some { IfOk result (λ root. 0 < root) }
+    ensures told { AreTold (P.pages pages.old) (P.count pages.old) → OnOk result (AreTold (P.pages pages.new) (P.count pages.new)) }
 
     ensures honest { (free : List ℕ) → IsSupplied (view (P.pages pages.old) (P.count pages.old) (P.first pages.old) free) → (damage : Damage) → result ≢ Err (PageFault.Damaged damage) }
     ensures damaged { (damage : Damage) → IsErrOf result (PageFault.Damaged damage) → IsRefusedTake (P.pages pages.new) (P.count pages.new) (P.first pages.new) damage }

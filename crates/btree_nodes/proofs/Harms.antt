@@ -10,7 +10,7 @@ use Rattle.page_face.specs.Nodes.{IsNode}
 use Rattle.btree_nodes.specs.Nodes.{half_of, entries_in}
 use Rattle.btree_nodes.specs.Nodes.{Entry as Pair}
 use Rattle.btree_nodes.specs.Tree.{IsFan, IsTree, uses, total, with_low, next_key}
-use Rattle.btree_nodes.specs.Damages.{Breaks, SomeChild, IsDamaged, AskedSince, AsksOnly}
+use Rattle.btree_nodes.specs.Damages.{Breaks, SomeChild, IsDamaged, AskedSince, KeepsAsked, AsksOnly}
 use Rattle.btree_nodes.proofs.Orders.{fan-any}
 use Rattle.btree_nodes.proofs.Frames.{with_low-total}
 use Rattle.btree_nodes.proofs.Supplies.{one_at-same}
@@ -94,6 +94,15 @@ asked-before mine before middle after page m a = record {
   back = a.back;
   is = a.is ∙ ap (λ (x : List ℕ). x ++ (a.front ++ (page ∷ a.back))) m.is ∙ append_assoc before m.more (a.front ++ (page ∷ a.back))
       ∙ ap (λ (x : List ℕ). before ++ x) (sym (append_assoc m.more a.front (page ∷ a.back)));
+}
+
+-- a page that was asked for stays so where more are
+pub asks-keep : (mine : ℕ → ℕ) (old new : List ℕ) → AsksOnly mine old new → KeepsAsked old new
+asks-keep mine old new m before page a = record {
+  front = a.front;
+  back = a.back ++ m.more;
+  is = m.is ∙ ap (λ (x : List ℕ). x ++ m.more) a.is ∙ append_assoc before (a.front ++ (page ∷ a.back)) m.more
+      ∙ ap (λ (x : List ℕ). before ++ x) (append_assoc a.front (page ∷ a.back) m.more);
 }
 
 own-append : (P : ℕ → Type 0) (xs ys : List ℕ) → AllByRecursion P xs → AllByRecursion P ys → AllByRecursion P (xs ++ ys)

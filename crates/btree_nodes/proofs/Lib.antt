@@ -17,3 +17,4 @@ pub mod Harms
 pub mod Firsts
 pub mod Checks
 pub mod Walks
+pub mod Tolds

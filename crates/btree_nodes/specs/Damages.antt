@@ -65,6 +65,10 @@ pub record AskedSince (before after : List ℕ) (page : ℕ) : Type 0 where
   pub back : List ℕ
   pub is : after ≡ before ++ (front ++ (page ∷ back))
 
+-- what was asked for stays so
+abbrev pub KeepsAsked : List ℕ → List ℕ → Type 0
+KeepsAsked old new = (before : List ℕ) (n : ℕ) → AskedSince before old n → AskedSince before new n
+
 -- only pages of `mine` were asked for
 pub record AsksOnly (mine : ℕ → ℕ) (before after : List ℕ) : Type 0 where
   pub more : List ℕ

@@ -1,5 +1,5 @@
 -- What a call refuses, and which pages it asks for, behind one that only read.
-use Rattle.std.proofs.Common.{◌≡◌, ◌⊎◌, ℕ, List, inl, inr, subst, ⊎_elim}
+use Rattle.std.proofs.Common.{◌≡◌, ◌⊎◌, ℕ, List, inl, inr, subst, ⊎_elim, ◌∙◌}
 use Rattle.page_face.specs.FreeList.{PageMap}
 use Rattle.page_face.specs.declared.fault.Damage.{Damage}
 use Rattle.btree_nodes.specs.declared.form.Form.{Form}
@@ -35,6 +35,12 @@ module _ (form : Form) (root : ℕ) (p p' : PageMap) (k k' : ℕ) (e : p' ≡ p)
   refused-behind damage Other h told =
       ⊎_elim {C = (IsMapDamaged form p k root damage × AskedSince before after damage.page) ⊎ Other}
       (λ b. inl (both-behind damage (λ t. b) told)) (λ o. inr o) (h (told-behind told))
+
+-- pages that stay as a call found them, behind one that only read
+pub stays-behind : (p p' p'' : PageMap) (k k' k'' : ℕ) (Other : Type 0) → p' ≡ p → k' ≡ k → (AreTold p' k' → ((p'' ≡ p') × (k'' ≡ k')) ⊎ Other) → AreTold p k
+    → ((p'' ≡ p) × (k'' ≡ k)) ⊎ Other
+stays-behind p p' p'' k k' k'' Other e g h told =
+    ⊎_elim {C = ((p'' ≡ p) × (k'' ≡ k)) ⊎ Other} (λ s. inl (s.0 ∙ e, s.1 ∙ g)) (λ o. inr o) (h (rw (e, g) told))
 
 -- what is said of a view by other names is said of it
 pub claim-behind : (Claim : PageMap → ℕ → ℕ → Type 0) (p p' : PageMap) (k k' f f' : ℕ) → p' ≡ p → k' ≡ k → f' ≡ f → Claim p' k' f' → Claim p k f

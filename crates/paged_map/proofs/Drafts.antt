@@ -1,5 +1,5 @@
 -- A leaf whose rows are changed in memory before it is written.
-use Rattle.std.proofs.Common.{◌≡◌, ℕ, ◌+◌, ◌-◌, ◌*◌, ◌^◌, ◌<◌, ◌≤◌, List, ◌++◌, arith, sym, ap, ◌∙◌, subst}
+use Rattle.std.proofs.Common.{◌≡◌, ℕ, ◌^◌, ◌<◌, ◌≤◌, List, ◌++◌, arith, sym, ap, ◌∙◌, subst}
 use Rattle.page_face.specs.Causes.{IsUncounted}
 use Rattle.page_face.specs.FreeList.{PageMap, with_page}
 use Rattle.page_face.specs.Nodes.{count_of}
@@ -7,7 +7,7 @@ use Rattle.btree_nodes.specs.declared.form.Form.{Form}
 use Rattle.btree_nodes.specs.Rows.{Row, IsWithin, IsEdit, lookup}
 use Rattle.btree_nodes.specs.Nodes.{IsLeaf, rows_in}
 use Rattle.btree_nodes.specs.Supply.{view, one_at, Moves}
-use Rattle.btree_nodes.specs.Tree.{map_rows, map_uses}
+use Rattle.btree_nodes.specs.Tree.{map_uses}
 use Rattle.btree_nodes.proofs.Spans.{lookup-above, lookup-below, lookup-append_left, lookup-append_right}
 use Rattle.btree_nodes.specs.Build.{image}
 use Rattle.btree_nodes.proofs.Supplies.{moves-write, with-other}

@@ -205,6 +205,7 @@ impl LeafDraft {
         ensures becomes { (root : ℕ) (rows : List Row) (free : List ℕ) → IsKept self.now.form (view (P.pages pages.old) (P.count pages.old) (P.first pages.old) free) root
             → Drafts (P.pages pages.old) root rows self.now
             → OnOk result (HasBecome self.now.form (view (P.pages pages.old) (P.count pages.old) (P.first pages.old) free) (P.pages pages.new) (P.count pages.new) (P.first pages.new) root root rows) }
+        ensures told { AreTold (P.pages pages.old) (P.count pages.old) → OnOk result (AreTold (P.pages pages.new) (P.count pages.new)) }
         ensures damaged { (damage : Damage) → result ≢ Err (PageFault.Damaged damage) }
         ensures asked { P.asked pages.new ≡ P.asked pages.old }
         ensures fails { FailsReading P.Pages pages.old pages.new result }

@@ -7,6 +7,7 @@ ghost use Rattle.page_face.specs.FreeList.{with_page};
 ghost use Rattle.page_face.specs.Number.{number};
 ghost use Rattle.page_face.specs.Sound.{IsSound};
 ghost use Rattle.btree_nodes.specs.Build.{image};
+ghost use Rattle.btree_nodes.specs.Damages.{AreTold};
 ghost use Rattle.paged_map.specs.Edits.{edited};
 
 use btree_nodes::{Form, compare, key_of, place, splice, write_at};
@@ -145,6 +146,7 @@ pub fn write_leaf<P: Pages>(
         (image form.map 1 0 count (edited cut.size cut.from cut.until first.now second.now (P.looked pages.old))) }
     ensures written { OnOk result (P.pages pages.new
         ≡ with_page page (image form.map 1 0 count (edited cut.size cut.from cut.until first.now second.now (P.looked pages.old))) (P.pages pages.old)) }
+    ensures told { AreTold (P.pages pages.old) (P.count pages.old) → OnOk result (AreTold (P.pages pages.new) (P.count pages.new)) }
 
     ensures damaged { (damage : Damage) → result ≢ Err (PageFault.Damaged damage) }
     ensures fails { FailsReading P.Pages pages.old pages.new result }

@@ -205,8 +205,8 @@ impl<L: Layout> PagedMap<L> {
     /// Puts a row: the value at the key is this one from now on. Returns whether the key was there.
     ///
     /// Returns `Damaged` with a rule that a page asked for in this call breaks in its place, or as a `take` returned it; `Disk`,
-    /// `NoRoom`, `Stopped`, or `Memory` if it runs out of memory. After a failure the root is as before, and pages may have
-    /// changed: they are to be abandoned.
+    /// `NoRoom`, `Stopped`, or `Memory` if it runs out of memory. After a failure the root is as before. If a page breaks a rule
+    /// in its place, no page has changed; after any other failure pages may have changed: they are to be abandoned.
     ///
     /// Looks at one page a level. If the leaf that the key belongs to has the key, or room for one more row, writes that leaf
     /// alone, and copies its bytes once, into the new page. Else reads each of these pages by value once more, writes two
@@ -224,12 +224,18 @@ impl<L: Layout> PagedMap<L> {
             (put (number key.now) value.now (map_rows L.form (P.pages pages.old) self.old.root))) }
         ensures had { IsMap L.form (P.pages pages.old) self.old.root → IfOk result (λ had. had ≡ is_some (lookup (number key.now) (map_rows L.form (P.pages pages.old) self.old.root))) }
         ensures root_stays { OnErr result (self.new.root ≡ self.old.root) }
+        ensures told { AreTold (P.pages pages.old) (P.count pages.old) → OnOk result (AreTold (P.pages pages.new) (P.count pages.new)) }
 
         // On a well-formed map and a free list that ends at 0 no page is damaged.
         ensures honest { (free : List ℕ) → IsKept L.form (view (P.pages pages.old) (P.count pages.old) (P.first pages.old) free) self.old.root
             → (damage : Damage) → result ≢ Err (PageFault.Damaged damage) }
         ensures damaged { AreTold (P.pages pages.old) (P.count pages.old) → (damage : Damage) → IsErrOf result (PageFault.Damaged damage)
             → (IsMapDamaged L.form (P.pages pages.old) (P.count pages.old) self.old.root damage × AskedSince (P.asked pages.old) (P.asked pages.new) damage.page)
+            ⊎ IsRefusedTake (P.pages pages.new) (P.count pages.new) (P.first pages.new) damage }
+
+        // A rule that a page breaks is found before a page is written.
+        ensures stays { AreTold (P.pages pages.old) (P.count pages.old) → (damage : Damage) → IsErrOf result (PageFault.Damaged damage)
+            → ((P.pages pages.new ≡ P.pages pages.old) × (P.count pages.new ≡ P.count pages.old))
             ⊎ IsRefusedTake (P.pages pages.new) (P.count pages.new) (P.first pages.new) damage }
         ensures own { AreTold (P.pages pages.old) (P.count pages.old)
             → AsksOnly (map_uses L.form (P.pages pages.old) self.old.root) (P.asked pages.old) (P.asked pages.new) }
@@ -269,6 +275,7 @@ impl<L: Layout> PagedMap<L> {
         ensures becomes { (free : List ℕ) → IsKept L.form (view (P.pages pages.old) (P.count pages.old) (P.first pages.old) free) self.now.root
             → OnOk result (HasBecome L.form (view (P.pages pages.old) (P.count pages.old) (P.first pages.old) free) (P.pages pages.new) (P.count pages.new) (P.first pages.new) self.now.root self.now.root
             (put (number key.now) value.now (map_rows L.form (P.pages pages.old) self.now.root))) }
+        ensures told { AreTold (P.pages pages.old) (P.count pages.old) → OnOk result (AreTold (P.pages pages.new) (P.count pages.new)) }
 
         // No page is damaged: the leaf was found sound.
         ensures honest { (damage : Damage) → result ≢ Err (PageFault.Damaged damage) }
@@ -284,8 +291,8 @@ impl<L: Layout> PagedMap<L> {
     /// Takes the row at a key out. Returns whether the key was there.
     ///
     /// Returns `Damaged` with a rule that a page asked for in this call breaks in its place, `Disk`, `Stopped`, or `Memory` if
-    /// it runs out of memory. After a failure the root is as before, and pages may have changed: they are to be abandoned. If
-    /// the key isn't there, all pages are as before.
+    /// it runs out of memory. After a failure the root is as before. After `Damaged` no page has changed; after any other failure
+    /// pages may have changed: they are to be abandoned. If the key isn't there, all pages are as before.
     ///
     /// Looks at one page a level. If the key isn't there, writes none. If the leaf that it belongs to has more rows than it
     /// must have, writes that leaf alone, and copies its bytes once, into the new page. Else reads at most two pages a level by
@@ -297,12 +304,16 @@ impl<L: Layout> PagedMap<L> {
             × HasBecome L.form (view (P.pages pages.old) (P.count pages.old) (P.first pages.old) free) (P.pages pages.new) (P.count pages.new) (P.first pages.new) self.old.root self.new.root
             (without (number key.now) (map_rows L.form (P.pages pages.old) self.old.root))) }
         ensures kept { OnErr result (self.new ≡ self.old) }
+        ensures told { AreTold (P.pages pages.old) (P.count pages.old) → OnOk result (AreTold (P.pages pages.new) (P.count pages.new)) }
 
         // On a well-formed map and a free list that ends at 0 no page is damaged.
         ensures honest { (free : List ℕ) → IsKept L.form (view (P.pages pages.old) (P.count pages.old) (P.first pages.old) free) self.old.root
             → (damage : Damage) → result ≢ Err (PageFault.Damaged damage) }
         ensures damaged { AreTold (P.pages pages.old) (P.count pages.old) → (damage : Damage) → IsErrOf result (PageFault.Damaged damage)
             → IsMapDamaged L.form (P.pages pages.old) (P.count pages.old) self.old.root damage × AskedSince (P.asked pages.old) (P.asked pages.new) damage.page }
+
+        // All pages are read before one is written.
+        ensures stays { (damage : Damage) → IsErrOf result (PageFault.Damaged damage) → P.pages pages.new ≡ P.pages pages.old }
         ensures own { AreTold (P.pages pages.old) (P.count pages.old)
             → AsksOnly (map_uses L.form (P.pages pages.old) self.old.root) (P.asked pages.old) (P.asked pages.new) }
         ensures fails { FailsReading P.Pages pages.old pages.new result }

@@ -1,5 +1,5 @@
 //! A row that is taken out of a map by its root.
-ghost use Rattle.std.specs.Prelude.{◌≡◌, ◌≢◌, ℕ, ◌^◌, ◌<◌, ◌≤◌, List, length, IfOk, IsErrOf, IsTrue, is_some};
+ghost use Rattle.std.specs.Prelude.{◌≡◌, ◌≢◌, ℕ, ◌^◌, ◌<◌, ◌≤◌, List, length, IfOk, OnOk, IsErrOf, IsTrue, is_some};
 ghost use Rattle.page_face.specs.Calls.{Changes, FailsReading};
 ghost use Rattle.page_face.specs.Causes.{Rose, IsUncounted};
 ghost use Rattle.page_face.specs.Number.{number};
@@ -35,6 +35,7 @@ fn root_after<P: Pages>(
         → ((n : ℕ) → mine n ≡ map_uses form before.pages root n)
         → IsOut form before mine (P.pages pages.old) (P.count pages.old) (P.first pages.old) level root 0 (256 ^ form.key) key rows bytes.now left
         → IfOk result (λ top. HasBecome form before (P.pages pages.new) (P.count pages.new) (P.first pages.new) root top (without key rows)) }
+    ensures told { AreTold (P.pages pages.old) (P.count pages.old) → OnOk result (AreTold (P.pages pages.new) (P.count pages.new)) }
 
     ensures damaged { (damage : Damage) → result ≢ Err (PageFault.Damaged damage) }
     ensures disk { result ≢ Err PageFault.Disk }
@@ -72,10 +73,12 @@ pub fn remove_below<P: Pages>(
     ensures removed { (free : List ℕ) → IsKept form (view (P.pages pages.old) (P.count pages.old) (P.first pages.old) free) root
         → IfOk result (λ rooted. (rooted.had ≡ is_some (lookup (number key.now) (map_rows form (P.pages pages.old) root)))
         × HasBecome form (view (P.pages pages.old) (P.count pages.old) (P.first pages.old) free) (P.pages pages.new) (P.count pages.new) (P.first pages.new) root rooted.root (without (number key.now) (map_rows form (P.pages pages.old) root))) }
+    ensures told { AreTold (P.pages pages.old) (P.count pages.old) → OnOk result (AreTold (P.pages pages.new) (P.count pages.new)) }
 
     ensures honest { (free : List ℕ) → IsKept form (view (P.pages pages.old) (P.count pages.old) (P.first pages.old) free) root → (damage : Damage) → result ≢ Err (PageFault.Damaged damage) }
     ensures damaged { AreTold (P.pages pages.old) (P.count pages.old) → (damage : Damage) → IsErrOf result (PageFault.Damaged damage)
         → IsMapDamaged form (P.pages pages.old) (P.count pages.old) root damage × AskedSince (P.asked pages.old) (P.asked pages.new) damage.page }
+    ensures stays { (damage : Damage) → IsErrOf result (PageFault.Damaged damage) → P.pages pages.new ≡ P.pages pages.old }
     ensures own { AreTold (P.pages pages.old) (P.count pages.old) → AsksOnly (map_uses form (P.pages pages.old) root) (P.asked pages.old) (P.asked pages.new) }
     ensures disk { IsErrOf result PageFault.Disk → Rose (P.faults pages.old) (P.faults pages.new) }
     ensures room_left { result ≢ Err PageFault.NoRoom }
@@ -128,10 +131,12 @@ pub fn remove_row<P: Pages>(
     ensures removed { (free : List ℕ) → IsKept form (view (P.pages pages.old) (P.count pages.old) (P.first pages.old) free) root
         → IfOk result (λ rooted. (rooted.had ≡ is_some (lookup (number key.now) (map_rows form (P.pages pages.old) root)))
         × HasBecome form (view (P.pages pages.old) (P.count pages.old) (P.first pages.old) free) (P.pages pages.new) (P.count pages.new) (P.first pages.new) root rooted.root (without (number key.now) (map_rows form (P.pages pages.old) root))) }
+    ensures told { AreTold (P.pages pages.old) (P.count pages.old) → OnOk result (AreTold (P.pages pages.new) (P.count pages.new)) }
 
     ensures honest { (free : List ℕ) → IsKept form (view (P.pages pages.old) (P.count pages.old) (P.first pages.old) free) root → (damage : Damage) → result ≢ Err (PageFault.Damaged damage) }
     ensures damaged { AreTold (P.pages pages.old) (P.count pages.old) → (damage : Damage) → IsErrOf result (PageFault.Damaged damage)
         → IsMapDamaged form (P.pages pages.old) (P.count pages.old) root damage × AskedSince (P.asked pages.old) (P.asked pages.new) damage.page }
+    ensures stays { (damage : Damage) → IsErrOf result (PageFault.Damaged damage) → P.pages pages.new ≡ P.pages pages.old }
     ensures own { AreTold (P.pages pages.old) (P.count pages.old) → AsksOnly (map_uses form (P.pages pages.old) root) (P.asked pages.old) (P.asked pages.new) }
     ensures fails { FailsReading P.Pages pages.old pages.new result }
     ensures count { P.count pages.new ≡ P.count pages.old }

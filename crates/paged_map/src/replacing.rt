@@ -5,6 +5,7 @@ ghost use Rattle.page_face.specs.Number.{number};
 ghost use Rattle.btree_nodes.specs.Rows.{put};
 ghost use Rattle.btree_nodes.specs.Supply.{view};
 ghost use Rattle.btree_nodes.specs.Tree.{map_rows};
+ghost use Rattle.btree_nodes.specs.Damages.{AreTold};
 ghost use Rattle.paged_map.specs.Maps.{HasBecome, IsKept};
 ghost use Rattle.paged_map.specs.Spots.{IsInLeaf, IsRowAt};
 
@@ -39,6 +40,7 @@ pub fn replace_at<P: Pages>(
     ensures becomes { (root : ℕ) (free : List ℕ) → IsKept form (view (P.pages pages.old) (P.count pages.old) (P.first pages.old) free) root
         → IsInLeaf form (P.pages pages.old) root (P.looked pages.old) (number key.now) spot.now
         → OnOk result (HasBecome form (view (P.pages pages.old) (P.count pages.old) (P.first pages.old) free) (P.pages pages.new) (P.count pages.new) (P.first pages.new) root root (put (number key.now) value.now (map_rows form (P.pages pages.old) root))) }
+    ensures told { AreTold (P.pages pages.old) (P.count pages.old) → OnOk result (AreTold (P.pages pages.new) (P.count pages.new)) }
 
     ensures honest { (damage : Damage) → result ≢ Err (PageFault.Damaged damage) }
     ensures asked { P.asked pages.new ≡ P.asked pages.old }

@@ -42,7 +42,3 @@ HasWrongLevel pages root before after page = ((page ≡ root) × IfTold pages pa
 pub record IsHarm (pages : PageMap) (count root : ℕ) (before after : List ℕ) (damage : Damage) : Type 0 where
   pub asked : AskedSince before after damage.page
   pub breaks : BreaksAlone damage.rule pages count damage.page ⊎ ((damage.rule ≡ Level) × HasWrongLevel pages root before after damage.page)
-
--- what was asked for stays so
-abbrev pub KeepsAsked : List ℕ → List ℕ → Type 0
-KeepsAsked old new = (before : List ℕ) (n : ℕ) → AskedSince before old n → AskedSince before new n

@@ -2,9 +2,9 @@
 ghost use Rattle.std.specs.Prelude.{◌≡◌, ◌≢◌, ℕ, ◌<◌, ◌≤◌, ◌^◌, List, length, IfOk, OnOk, IsErrOf};
 ghost use Rattle.page_face.specs.Calls.{Reads, FailsReading};
 ghost use Rattle.page_face.specs.declared.fault.Rule.TheVariants.{Level as WrongLevel};
-ghost use Rattle.btree_nodes.specs.Damages.{AskedSince};
+ghost use Rattle.btree_nodes.specs.Damages.{AskedSince, KeepsAsked};
 ghost use Rattle.rtree_nodes.specs.Pages.{level_in};
-ghost use Rattle.rtree_find.specs.Harms.{BreaksAlone, BreaksPlace, KeepsAsked};
+ghost use Rattle.rtree_find.specs.Harms.{BreaksAlone, BreaksPlace};
 
 use btree_nodes::damaged;
 use page_face::{Damage, PageFault, Pages, Rule};

@@ -1,7 +1,7 @@
 //! The entry of a point and a key, by a search down from the root.
 ghost use Rattle.std.specs.Prelude.{◌≡◌, ◌≢◌, ℕ, ◌<◌, ◌≤◌, List, length, IfOk, IfSome, IsErrOf, Ok, Err, None, true, false, slice_index};
 ghost use Rattle.page_face.specs.Calls.{Reads, FailsReading};
-ghost use Rattle.btree_nodes.specs.Damages.{AskedSince};
+ghost use Rattle.btree_nodes.specs.Damages.{AskedSince, KeepsAsked};
 ghost use Rattle.rtree_shape.specs.Slots.{got};
 ghost use Rattle.spatial_base.specs.Key.{form_of};
 ghost use Rattle.rtree_shape.specs.Stock.{view};
@@ -12,7 +12,7 @@ ghost use Rattle.rtree_nodes.specs.Reach.{place_item};
 ghost use Rattle.rtree_nodes.specs.Pages.{level_in, stored_in, node_of};
 ghost use Rattle.rtree_find.specs.Entries.{is_entry};
 ghost use Rattle.rtree_find.specs.Subtrees.{IsNodeAt, AreCounted, Finds};
-ghost use Rattle.rtree_find.specs.Harms.{IsHarm, KeepsAsked};
+ghost use Rattle.rtree_find.specs.Harms.{IsHarm};
 
 use crate::entering::{enter_child, enter_root};
 use crate::leaf::place_slot;

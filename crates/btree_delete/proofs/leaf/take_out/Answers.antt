@@ -2,6 +2,7 @@ use Rattle.std.proofs.Common.{arith, ◌+◌, ◌-◌, ℕ, List, sym, ap, ◌�
 use Rattle.page_face.specs.Number.{number}
 use Rattle.btree_nodes.specs.Build.{image}
 use Rattle.btree_nodes.specs.declared.form.Shape.{Shape}
+use Rattle.btree_nodes.proofs.Tolds.{told_given}
 use Rattle.page_face.specs.Nodes.{count_of}
 use Rattle.btree_delete.specs.Body.{without_cell, cells_in}
 use Rattle.btree_delete.proofs.Gives.{page-some}
@@ -33,3 +34,8 @@ returns-clause-out g c = λ low high free is place same within from to supplied 
     b.written
     (c.without.ensures ∙ ap (λ (s : Shape). image s.number s.kind s.level (c.args.count - 1) (without_cell s.width c.args.at (cells_in s.width c.args.count c.args.bytes.now))) c.leaf.ensures)
     supplied once b.count b.first
+
+pub returns-then-count-eq1-clause-told : goal.returns-then-count-eq1-clause-told
+returns-then-count-eq1-clause-told g c = λ told.
+    let b = c.in_ok-give_back.ensures in
+    told_given (g.P.Pages.pages c.args.pages.now) (g.P.Pages.pages c.give_back.new.self) c.args.page (g.P.Pages.count c.args.pages.now) (g.P.Pages.count c.give_back.new.self) b.freed.0 b.others b.count told

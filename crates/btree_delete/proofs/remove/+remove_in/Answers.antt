@@ -1,26 +1,47 @@
-use Rattle.std.proofs.Common.{arith, ◌≡◌, ◌+◌, ◌-◌, ◌*◌, ◌<◌, ◌≤◌, ℕ, ◌∙◌, sym, ap, length, List, subst, Option, refl, suc, Err}
+use Rattle.std.proofs.Common.{arith, ◌≡◌, ◌+◌, ◌-◌, ◌*◌, ◌<◌, ◌≤◌, ℕ, ◌∙◌, sym, ap, length, List, subst, Option, refl, suc, Err, Bool, IsTrue}
+use Rattle.std.specs.Result.{IfOk}
 use Rattle.std.proofs.lemmas.Result.{err_from_is_err_and}
 use Rattle.page_face.specs.FreeList.{PageMap}
 use Rattle.page_face.specs.declared.fault.Damage.{Damage}
 use Rattle.page_face.specs.Number.{number}
-use Rattle.btree_nodes.specs.Supply.{view, spare}
+use Rattle.btree_nodes.specs.Supply.{view, spare, one_at}
 use Rattle.btree_nodes.specs.Rows.{lookup}
 use Rattle.page_face.specs.Nodes.{count_of}
-use Rattle.btree_nodes.specs.Nodes.{width_of, least_of_root}
+use Rattle.btree_nodes.specs.Nodes.{width_of, least_of_root, rows_in}
 use Rattle.btree_nodes.specs.Tree.{IsTree, rows_at, uses}
 use Rattle.btree_nodes.specs.Bounds.{upper_of, child_of}
 use Rattle.btree_nodes.specs.Damages.{IsDamaged, AreTold, AskedSince, AsksOnly}
 use Rattle.std.proofs.Math.Nat.{mul-le-mul_left}
 use Rattle.page_face.specs.Causes.{IsUncounted}
 use Rattle.btree_nodes.proofs.Trees.{tree-size}
-use Rattle.btree_nodes.proofs.Harms.{asks-here, asks-nothing}
+use Rattle.btree_nodes.proofs.Harms.{asks-here, asks-keep, asks-nothing}
+use Rattle.page_face.proofs.Frames.{takes_none_then, writes_take_none}
 use Rattle.btree_delete.specs.Removal.{HasRemoved, Lessens, IsOut, IsLess}
 use Rattle.btree_delete.specs.Mended.{IsBeside}
 use Rattle.btree_delete.proofs.Settles.{half_some}
 use Rattle.btree_delete.proofs.Rises.{rise, child-claim}
 use Rattle.btree_nodes.proofs.Walks.{same-fault, told-read, uses-self, asks-read, damage-link, uses-below, tree-below, damage-below, lookup-below}
-use Rattle.btree_delete.proofs.Walks.{uses-most, named-refused, asked-later, asked-from, asked-child, beside-is, own-looked, own-below, damage-looked, damage-in_tree}
+use Rattle.btree_delete.proofs.Walks.{read-looked, uses-most, named-refused, asked-from, asked-child, beside-is, own-looked, own-below, damage-looked, damage-in_tree}
 use Rattle.btree_delete.proofs.remove.+remove_in.Goals as goal
+
+pub returns-then-level-eq0-clause-removed : goal.returns-then-level-eq0-clause-removed
+returns-then-level-eq0-clause-removed g t c = λ free is tree supplied once.
+    let form = c.args.form in
+    let page : ℕ = c.args.page in
+    let old : PageMap = g.P.Pages.pages c.args.pages.now in
+    let count : ℕ = g.P.Pages.count c.args.pages.now in
+    let first : ℕ = g.P.Pages.first c.args.pages.now in
+    let new : PageMap = g.P.Pages.pages c.remove_leaf.new.pages in
+    let count' : ℕ = g.P.Pages.count c.remove_leaf.new.pages in
+    let first' : ℕ = g.P.Pages.first c.remove_leaf.new.pages in
+    let lo : ℕ = number c.args.low.now in
+    let hi : ℕ = upper_of form.key c.args.high.now in
+    let key : ℕ = number c.args.key.now in
+    let z : c.args.level ≡ 0 = c.if-level-eq0.true in
+    let once' : (n : ℕ) → one_at page n + spare free count n ≤ 1 = subst (λ (k : ℕ). (n : ℕ) → uses form old k page n + spare free count n ≤ 1) z once in
+    subst (λ (k : ℕ). IfOk c.remove_leaf.result (HasRemoved form (view old count first free) (uses form old k page) new count' first' k page lo hi key (rows_at form old k page) c.remove_leaf.new.bytes)) (sym z)
+    (subst (λ (b : List ℕ). IfOk c.remove_leaf.result (HasRemoved form (view old count first free) (one_at page) new count' first' 0 page lo hi key (rows_in form b) c.remove_leaf.new.bytes)) is
+    (c.remove_leaf.ensures.removed free is supplied once'))
 
 pub returns-then-level-eq0-clause-named : goal.returns-then-level-eq0-clause-named
 returns-then-level-eq0-clause-named g t c = λ before asked damage e.
@@ -174,7 +195,7 @@ returns-in_err-beside-clause-named g t c =
     rw (passed.1, passed.2) (λ before asked damage r.
     let was = c.in_err-beside.was ∙ ap Err (same-fault {T = Option ℕ} _ _ r) in
     asked-from before a1 (g.P.Pages.asked c.look_if_low.new.pages) page damage.page
-    (asked-later (λ _. 1) before a0 a1 page asked (asks-here (λ _. 1) a0 a1 child (omega arith) read.asked)) (c.look_if_low.ensures.named damage was))
+    (asks-keep (λ _. 1) a0 a1 (asks-here (λ _. 1) a0 a1 child (omega arith) read.asked) before page asked) (c.look_if_low.ensures.named damage was))
 
 pub returns-in_err-beside-clause-own : goal.returns-in_err-beside-clause-own
 returns-in_err-beside-clause-own g t c = λ told is.
@@ -324,7 +345,7 @@ returns-in_err-removed-clause-named g t c =
     let passed = err_from_is_err_and c.from_residual-in_err-removed.result c.from_residual-in_err-removed.ensures.1 in
     rw (passed.1, passed.2) (λ before asked damage r.
     let was = c.in_err-removed.was ∙ ap Err (same-fault {T = Option ℕ} _ _ r) in
-    c.remove_in.ensures.named before (asked-later (λ _. 1) before a1 a2 child (asked-child before a0 a1 page child asked read.asked) look.more) damage was)
+    c.remove_in.ensures.named before (asks-keep (λ _. 1) a1 a2 look.more before child (asked-child before a0 a1 page child asked read.asked)) damage was)
 
 pub returns-in_err-removed-clause-own : goal.returns-in_err-removed-clause-own
 returns-in_err-removed-clause-own g t c = λ told is.
@@ -557,3 +578,46 @@ returns-clause-removed g t c = λ free is tree supplied once.
     let r = c.in_ok-entries.ensures.range.0 in
     let whole = risen.then_out (g.P.Pages.pages c.settle_if_low.new.pages) (g.P.Pages.count c.settle_if_low.new.pages) (g.P.Pages.first c.settle_if_low.new.pages) c.in_ok-entries.entries c.settle_if_low.new.bytes r became (c.in_ok-entries.ensures.bytes risen.here) in
     subst (λ (k : ℕ). IsOut form (view old count first free) (uses form old k page) (g.P.Pages.pages c.settle_if_low.new.pages) (g.P.Pages.count c.settle_if_low.new.pages) (g.P.Pages.first c.settle_if_low.new.pages) k page lo hi key (rows_at form old k page) c.settle_if_low.new.bytes c.in_ok-entries.entries) (sym up) whole
+
+pub returns-in_err-removed-clause-frame : goal.returns-in_err-removed-clause-frame
+returns-in_err-removed-clause-frame g t c =
+    let p = g.P.Pages in
+    let r = c.in_ok-below.ensures in
+    takes_none_then p g.met.P.Pages.goes_further _ _ _ (read-looked p g.met.P.Pages.goes_further _ _ _ r.count r.room r.faults r.refused r.goes_on r.follows c.look_if_low.ensures.frame) c.remove_in.ensures.frame
+
+pub returns-in-None-clause-frame : goal.returns-in-None-clause-frame
+returns-in-None-clause-frame g t c =
+    let p = g.P.Pages in
+    let r = c.in_ok-below.ensures in
+    takes_none_then p g.met.P.Pages.goes_further _ _ _ (read-looked p g.met.P.Pages.goes_further _ _ _ r.count r.room r.faults r.refused r.goes_on r.follows c.look_if_low.ensures.frame) c.remove_in.ensures.frame
+
+pub returns-in_err-entries-clause-fails : goal.returns-in_err-entries-clause-fails
+returns-in_err-entries-clause-fails g t c =
+    let p = g.P.Pages in
+    let r = c.in_ok-below.ensures in
+    let before = takes_none_then p g.met.P.Pages.goes_further _ _ _ (read-looked p g.met.P.Pages.goes_further _ _ _ r.count r.room r.faults r.refused r.goes_on r.follows c.look_if_low.ensures.frame) c.remove_in.ensures.frame in
+    let s = c.settle_if_low.ensures.fails in
+    let passed = err_from_is_err_and c.from_residual-in_err-entries.result c.from_residual-in_err-entries.ensures.1 in
+    rw (passed.1, passed.2) (record {
+      disk = λ e. absurd (s.disk (c.in_err-entries.was ∙ ap Err (same-fault {T = Option ℕ} _ _ e)));
+      room_left = λ e. s.room_left (c.in_err-entries.was ∙ ap Err (same-fault {T = Option ℕ} _ _ e));
+      stopped = λ e. subst (λ (b : Bool). IsTrue b) before.goes_on (s.stopped (c.in_err-entries.was ∙ ap Err (same-fault {T = Option ℕ} _ _ e)));
+    })
+
+pub returns-in_err-entries-clause-frame : goal.returns-in_err-entries-clause-frame
+returns-in_err-entries-clause-frame g t c =
+    let p = g.P.Pages in
+    let r = c.in_ok-below.ensures in
+    takes_none_then p g.met.P.Pages.goes_further _ _ _ (takes_none_then p g.met.P.Pages.goes_further _ _ _ (read-looked p g.met.P.Pages.goes_further _ _ _ r.count r.room r.faults r.refused r.goes_on r.follows c.look_if_low.ensures.frame) c.remove_in.ensures.frame) (writes_take_none p _ _ c.settle_if_low.ensures.frame)
+
+pub returns-clause-frame : goal.returns-clause-frame
+returns-clause-frame g t c =
+    let p = g.P.Pages in
+    let r = c.in_ok-below.ensures in
+    takes_none_then p g.met.P.Pages.goes_further _ _ _ (takes_none_then p g.met.P.Pages.goes_further _ _ _ (read-looked p g.met.P.Pages.goes_further _ _ _ r.count r.room r.faults r.refused r.goes_on r.follows c.look_if_low.ensures.frame) c.remove_in.ensures.frame) (writes_take_none p _ _ c.settle_if_low.ensures.frame)
+
+pub returns-clause-told : goal.returns-clause-told
+returns-clause-told g t c = λ told.
+    let read = c.in_ok-below.ensures in
+    let look = c.look_if_low.ensures.frame in
+    c.in_ok-entries.ensures.told (c.in_ok-removed.ensures.told (rw (look.pages, read.pages, look.count, read.count) told))

@@ -3,6 +3,7 @@ use Rattle.page_face.specs.FreeList.{PageMap}
 use Rattle.btree_nodes.specs.Nodes.{half_of}
 use Rattle.btree_nodes.specs.Tree.{uses, rows_at}
 use Rattle.btree_nodes.specs.Supply.{view}
+use Rattle.btree_nodes.proofs.Tolds.{told_given}
 use Rattle.btree_delete.specs.Mended.{Becomes}
 use Rattle.btree_delete.proofs.Gives.{page-some}
 use Rattle.btree_delete.proofs.Lowers.{lowered}
@@ -20,3 +21,8 @@ returns-clause-lowered g c = λ low high below least free is tree supplied once.
     b.freed.0 b.freed.1 b.others b.count b.freed.2 in
     subst (λ (r : ℕ). Becomes c.args.form (half_of c.args.form below) (view old count first free) (uses c.args.form old (suc below) c.args.page) new (g.P.Pages.count c.give_back.new.self) (g.P.Pages.first c.give_back.new.self) below low high
     (rows_at c.args.form old (suc below) c.args.page) ((low, r) ∷ [])) (sym c.child_at-root.ensures) made
+
+pub returns-clause-told : goal.returns-clause-told
+returns-clause-told g c = λ told.
+    let b = c.in_ok-give_back.ensures in
+    told_given (g.P.Pages.pages c.args.pages.now) (g.P.Pages.pages c.give_back.new.self) c.args.page (g.P.Pages.count c.args.pages.now) (g.P.Pages.count c.give_back.new.self) b.freed.0 b.others b.count told

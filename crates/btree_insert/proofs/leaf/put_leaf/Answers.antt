@@ -58,3 +58,9 @@ returns-in-Err-clause-damaged g c = λ damage e.
       ap (λ (d : Damage). d.page) same,
       subst (λ (r : Rule). BreaksLeaf r c.args.form c.args.least (number c.args.low.now) (upper_of c.args.form.key c.args.high.now) (g.P.Pages.looked c.args.pages.now)) (sym (ap (λ (d : Damage). d.rule) same)) c.in-Err.ensures.breaks,
     )
+
+pub returns-in-Ok-clause-stays : goal.returns-in-Ok-clause-stays
+returns-in-Ok-clause-stays g c = λ damage e. inr (c.put_row.ensures.damaged damage e)
+
+pub returns-in-Err-clause-stays : goal.returns-in-Err-clause-stays
+returns-in-Err-clause-stays g c = λ damage e. inl (c.leaf_count.ensures.frame.pages, c.leaf_count.ensures.frame.count)

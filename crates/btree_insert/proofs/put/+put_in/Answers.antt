@@ -72,6 +72,9 @@ returns-then-level-eq0-clause-damaged g t c = λ before asked told is damage e.
     ))
     (λ r. inr r) (c.put_leaf.ensures.damaged damage e)
 
+pub returns-then-level-eq0-clause-stays : goal.returns-then-level-eq0-clause-stays
+returns-then-level-eq0-clause-stays g t c = λ told is damage e. c.put_leaf.ensures.stays damage e
+
 pub returns-then-level-eq0-clause-own : goal.returns-then-level-eq0-clause-own
 returns-then-level-eq0-clause-own g t c = λ before asked told is. asks-here (uses c.args.form (g.P.Pages.pages c.args.pages.now) c.args.level c.args.page) before _ c.args.page (uses-self c.args.form (g.P.Pages.pages c.args.pages.now) c.args.level c.args.page) (c.put_leaf.ensures.asked ∙ asked)
 
@@ -86,6 +89,9 @@ returns-in_err-step-clause-damaged g t c =
     rw (passed.1, passed.2) (λ before asked told is damage e.
     let was = c.in_err-step.was ∙ ap Err (same-fault {T = Grown} _ _ e) in
     inl (c.go_down.ensures.damaged is damage was, c.go_down.ensures.named before asked damage was))
+
+pub returns-in_err-step-clause-stays : goal.returns-in_err-step-clause-stays
+returns-in_err-step-clause-stays g t c = λ told is damage e. inl (c.go_down.ensures.frame.pages, c.go_down.ensures.frame.count)
 
 pub returns-in_err-step-clause-own : goal.returns-in_err-step-clause-own
 returns-in_err-step-clause-own g t c = λ before asked told is. c.go_down.ensures.own before asked is
@@ -139,6 +145,19 @@ returns-in_err-grown-clause-damaged g t c =
       asked-sooner before _ c.args.page damage.page (subst (λ (x : List ℕ). AskedSince x (g.P.Pages.asked c.put_in.new.pages) damage.page) asked d.1),
     ))
     (λ r. inr r) (c.put_in.ensures.damaged (g.P.Pages.asked c.args.pages.now) step.asked known.0 known.1 damage (c.in_err-grown.was ∙ e)))
+
+pub returns-in_err-grown-clause-stays : goal.returns-in_err-grown-clause-stays
+returns-in_err-grown-clause-stays g t c =
+    let passed = err_from_is_err_and c.from_residual-in_err-grown.result c.from_residual-in_err-grown.ensures.1 in
+    let form : Form = c.args.form in
+    let old : PageMap = g.P.Pages.pages c.args.pages.now in
+    let l : ℕ = c.args.level - 1 in
+    let up : c.args.level ≡ suc l = omega arith in
+    let step = c.in_ok-step.ensures in
+    let f = step.frame in
+    rw (passed.1, passed.2) (λ told is damage e.
+    let known = mid-told c.args.least old c.args.page l up is step.steps c.requires.from c.requires.to c.least_at.ensures.is f.pages f.count f.first step.gives told step.counted in
+    ⊎_elim (λ same. inl (same.0 ∙ f.pages, same.1 ∙ f.count)) (λ r. inr r) (c.put_in.ensures.stays known.0 known.1 damage (c.in_err-grown.was ∙ e)))
 
 pub returns-in_err-grown-clause-own : goal.returns-in_err-grown-clause-own
 returns-in_err-grown-clause-own g t c = λ before asked told is.
@@ -221,6 +240,23 @@ returns-in_err-more-clause-damaged g t c =
     let step = c.in_ok-step.ensures in
     let f = step.frame in
     rw (passed.1, passed.2) (λ before asked told is damage e.
+    let known = mid-told c.args.least old c.args.page l up is step.steps c.requires.from c.requires.to c.least_at.ensures.is f.pages f.count f.first step.gives told step.counted in
+    let kept = mid-kept c.args.least old c.args.page l up is step.steps c.requires.from c.requires.to c.least_at.ensures.is f.pages f.count f.first step.gives _ _ (c.in_ok-grown.ensures.kept known.0 known.1) in
+    let inner = subst (λ (k : ℕ). IsInner form c.args.least k (g.P.Pages.looked c.args.pages.now)) up step.sound in
+    let same = page-kept form c.args.least l c.args.page (g.P.Pages.count c.args.pages.now) _ (g.P.Pages.looked c.args.pages.now) old _ is inner (counted-below _ _ c.requires.counted) kept in
+    inr (c.relink.ensures.damaged (subst (IsInner form c.args.least (suc l)) (sym same) inner) (subst (λ (b : List ℕ). c.in_ok-step.step.at < count_of b) (sym same) step.steps.within) damage
+    (c.in_err-more.was ∙ ap Err (same-fault {T = Grown} _ _ e))))
+
+pub returns-in_err-more-clause-stays : goal.returns-in_err-more-clause-stays
+returns-in_err-more-clause-stays g t c =
+    let passed = err_from_is_err_and c.from_residual-in_err-more.result c.from_residual-in_err-more.ensures.1 in
+    let form : Form = c.args.form in
+    let old : PageMap = g.P.Pages.pages c.args.pages.now in
+    let l : ℕ = c.args.level - 1 in
+    let up : c.args.level ≡ suc l = omega arith in
+    let step = c.in_ok-step.ensures in
+    let f = step.frame in
+    rw (passed.1, passed.2) (λ told is damage e.
     let known = mid-told c.args.least old c.args.page l up is step.steps c.requires.from c.requires.to c.least_at.ensures.is f.pages f.count f.first step.gives told step.counted in
     let kept = mid-kept c.args.least old c.args.page l up is step.steps c.requires.from c.requires.to c.least_at.ensures.is f.pages f.count f.first step.gives _ _ (c.in_ok-grown.ensures.kept known.0 known.1) in
     let inner = subst (λ (k : ℕ). IsInner form c.args.least k (g.P.Pages.looked c.args.pages.now)) up step.sound in

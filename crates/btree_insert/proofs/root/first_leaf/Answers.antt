@@ -3,6 +3,8 @@ use Rattle.std.proofs.lemmas.Result.{err_from_is_err_and}
 use Rattle.page_face.specs.Number.{number}
 use Rattle.btree_nodes.proofs.Numbers.{number_below}
 use Rattle.btree_nodes.proofs.Supplies.{take-honest, refused-same}
+use Rattle.btree_nodes.proofs.Tolds.{image_told}
+use Rattle.btree_insert.proofs.Keeps.{told-taken}
 use Rattle.btree_insert.proofs.Roots.{planted}
 use Rattle.btree_insert.proofs.root.first_leaf.Goals as goal
 
@@ -25,3 +27,10 @@ returns-in_err-root-clause-damaged g c =
     let kept = c.in_err-root.ensures.kept in
     rw (passed.1, passed.2) (λ damage e. refused-same (g.P.Pages.pages c.args.pages.now) (g.P.Pages.pages c.take.new.self) (g.P.Pages.count c.args.pages.now) (g.P.Pages.count c.take.new.self)
     (g.P.Pages.first c.args.pages.now) (g.P.Pages.first c.take.new.self) damage kept.0 kept.1 kept.2 (c.take.ensures.damaged damage (c.in_err-root.was ∙ e)))
+
+pub returns-clause-told : goal.returns-clause-told
+returns-clause-told g c = λ told.
+    let t = c.in_ok-root.ensures in
+    let w = c.in_ok-write_leaf.ensures in
+    told-taken (g.P.Pages.pages c.args.pages.now) (g.P.Pages.pages c.take.new.self) (g.P.Pages.pages c.write_leaf.new.pages) (g.P.Pages.count c.args.pages.now) (g.P.Pages.count c.take.new.self) (g.P.Pages.count c.write_leaf.new.pages)
+    (g.P.Pages.first c.args.pages.now) (g.P.Pages.first c.take.new.self) c.in_ok-root.root _ told t.counts_one (λ h. let f = t.takes_free h in (f.0, f.1)) t.others w.written w.frame.count (image_told _ _ _ _ _)

@@ -1,8 +1,9 @@
 use Rattle.std.proofs.Common.{◌∙◌}
 use Rattle.std.proofs.lemmas.Result.{err_from_is_err_and}
+use Rattle.btree_nodes.proofs.Tolds.{image_told}
 use Rattle.btree_nodes.proofs.Splits.{is_split}
 use Rattle.btree_nodes.proofs.Supplies.{take-honest, refused-same}
-use Rattle.btree_insert.proofs.Keeps.{two-kept, image-told}
+use Rattle.btree_insert.proofs.Keeps.{two-kept}
 use Rattle.btree_insert.proofs.split.split_page.Goals as goal
 
 pub returns-clause-split : goal.returns-clause-split
@@ -32,4 +33,4 @@ returns-clause-kept g c = λ told.
     two-kept (g.P.Pages.pages c.args.pages.now) (g.P.Pages.pages c.take.new.self) (g.P.Pages.pages c.store_one.new.pages) (g.P.Pages.pages c.store_one-2.new.pages)
     (g.P.Pages.count c.args.pages.now) (g.P.Pages.count c.take.new.self) (g.P.Pages.first c.args.pages.now) (g.P.Pages.first c.take.new.self) c.args.page c.in_ok-right.right (g.P.Pages.count c.store_one-2.new.pages) _ _
     t.counts_one (λ h. let f = t.takes_free h in (f.0, f.1)) (g.met.P.Pages.first_is_counted c.args.pages.now) t.takeable t.others c.in_ok-store_one.ensures.written c.in_ok-store_one-2.ensures.written
-    (c.in_ok-store_one-2.ensures.frame.count ∙ c.in_ok-store_one.ensures.frame.count) (image-told _ _ _ _ _) (image-told _ _ _ _ _) told
+    (c.in_ok-store_one-2.ensures.frame.count ∙ c.in_ok-store_one.ensures.frame.count) (image_told _ _ _ _ _) (image_told _ _ _ _ _) told

@@ -21,6 +21,7 @@ use Rattle.btree_nodes.proofs.Walks.{same-fault, told-read, uses-self, asks-read
 use Rattle.btree_search.specs.Steps.{low_of, high_of}
 use Rattle.btree_search.proofs.Roots.{enter, named-first}
 use Rattle.btree_insert.proofs.Roots.{to-root, rooted}
+use Rattle.paged_map.proofs.Behind.{stays-behind}
 use Rattle.paged_map.proofs.Maps.{map-tree, map-rows, map-uses, map-damage, map-undamaged, kept-counted, becomes}
 use Rattle.paged_map.proofs.putting.put_below.Goals as goal
 
@@ -65,6 +66,9 @@ returns-in-Err-clause-damaged g c =
       map-damage form old count root damage some (damage-link form old count damage (least_of_root lv) lv root 0 (256 ^ form.key) d.0 d.1),
       named-first (g.P.Pages.asked c.args.pages.now) (g.P.Pages.asked c.look.new.self) root c.look.result damage c.look.ensures.asked was (ap (λ (x : Damage). x.page) d.0),
     ))
+
+pub returns-in-Err-clause-stays : goal.returns-in-Err-clause-stays
+returns-in-Err-clause-stays g c = λ told damage e. inl (c.look.ensures.pages, c.look.ensures.count)
 
 pub returns-in-Err-clause-own : goal.returns-in-Err-clause-own
 returns-in-Err-clause-own g c = λ told.
@@ -125,6 +129,19 @@ returns-in_err-grown-clause-damaged g c =
     old (g.P.Pages.pages c.look.new.self) count (g.P.Pages.count c.look.new.self) lv c.level-level.result (least_of_root lv) c.root_least.result 0 (low_of form c.all-bounds.result) (256 ^ form.key) (high_of form c.all-bounds.result) read.pages read.count e_level e_least (c.all-bounds.ensures.low form.key) (c.all-bounds.ensures.high form.key) (λ a b. c.put_in.ensures.damaged asked read.asked a b damage (c.in_err-grown.was ∙ ap Err (same-fault {T = Rooted} _ _ e))) in
     ⊎_elim (λ d. inl (map-damage form old count root damage some d.0, d.1)) (λ r. inr r) (claim told bytes))
 
+pub returns-in_err-grown-clause-stays : goal.returns-in_err-grown-clause-stays
+returns-in_err-grown-clause-stays g c =
+    let passed = err_from_is_err_and c.from_residual.result c.from_residual.ensures.1 in
+    let old : PageMap = g.P.Pages.pages c.args.pages.now in
+    let count : ℕ = g.P.Pages.count c.args.pages.now in
+    let root : ℕ = c.args.root in
+    let read = c.in-Ok.ensures in
+    rw (passed.1, passed.2) (λ told damage e.
+    let bytes = read.gives (told-read old count root told (λ u. let f = read.uncounted u in cc)) ∙ sym (ap (λ (p : PageMap). p root) read.pages) in
+    stays-behind old (g.P.Pages.pages c.look.new.self) (g.P.Pages.pages c.put_in.new.pages) count (g.P.Pages.count c.look.new.self) (g.P.Pages.count c.put_in.new.pages)
+    (IsRefusedTake (g.P.Pages.pages c.put_in.new.pages) (g.P.Pages.count c.put_in.new.pages) (g.P.Pages.first c.put_in.new.pages) damage) read.pages read.count
+    (λ t. c.put_in.ensures.stays t bytes damage (c.in_err-grown.was ∙ ap Err (same-fault {T = Rooted} _ _ e))) told)
+
 pub returns-in_err-grown-clause-own : goal.returns-in_err-grown-clause-own
 returns-in_err-grown-clause-own g c = λ told.
     let form : Form = c.args.form in
@@ -142,6 +159,15 @@ returns-in_err-grown-clause-own g c = λ told.
     let claim = enter (λ p k v l w h. AreTold p k → g.P.Pages.looked c.look.new.self ≡ p root → AsksOnly (uses form p v root) asked (g.P.Pages.asked c.put_in.new.pages))
     old (g.P.Pages.pages c.look.new.self) count (g.P.Pages.count c.look.new.self) lv c.level-level.result (least_of_root lv) c.root_least.result 0 (low_of form c.all-bounds.result) (256 ^ form.key) (high_of form c.all-bounds.result) read.pages read.count e_level e_least (c.all-bounds.ensures.low form.key) (c.all-bounds.ensures.high form.key) (c.put_in.ensures.own asked read.asked) in
     asks-more (uses form old lv root) (map_uses form old root) asked _ (λ n h. let m = map-uses form old root n some in omega arith) (claim told bytes)
+
+pub returns-then-grown-eq0-clause-told : goal.returns-then-grown-eq0-clause-told
+returns-then-grown-eq0-clause-told g c = λ told.
+    let old : PageMap = g.P.Pages.pages c.args.pages.now in
+    let count : ℕ = g.P.Pages.count c.args.pages.now in
+    let root : ℕ = c.args.root in
+    let read = c.in-Ok.ensures in
+    let bytes = read.gives (told-read old count root told (λ u. let f = read.uncounted u in cc)) ∙ sym (ap (λ (p : PageMap). p root) read.pages) in
+    (c.in_ok-grown.ensures.kept (rw (read.pages, read.count) told) bytes).told
 
 pub returns-then-grown-eq0-clause-becomes : goal.returns-then-grown-eq0-clause-becomes
 returns-then-grown-eq0-clause-becomes g c = λ free kept.
@@ -255,6 +281,11 @@ returns-in_err-top-clause-damaged g c =
     let passed = err_from_is_err_and c.from_residual-in_err-top.result c.from_residual-in_err-top.ensures.1 in
     rw (passed.1, passed.2) (λ told damage e. inr (c.grow_root.ensures.damaged damage (c.in_err-top.was ∙ ap Err (same-fault {T = Rooted} _ _ e))))
 
+pub returns-in_err-top-clause-stays : goal.returns-in_err-top-clause-stays
+returns-in_err-top-clause-stays g c =
+    let passed = err_from_is_err_and c.from_residual-in_err-top.result c.from_residual-in_err-top.ensures.1 in
+    rw (passed.1, passed.2) (λ told damage e. inr (c.grow_root.ensures.damaged damage (c.in_err-top.was ∙ ap Err (same-fault {T = Rooted} _ _ e))))
+
 pub returns-in_err-top-clause-own : goal.returns-in_err-top-clause-own
 returns-in_err-top-clause-own g c = λ told.
     let form : Form = c.args.form in
@@ -272,6 +303,15 @@ returns-in_err-top-clause-own g c = λ told.
     let claim = enter (λ p k v l w h. AreTold p k → g.P.Pages.looked c.look.new.self ≡ p root → AsksOnly (uses form p v root) asked (g.P.Pages.asked c.put_in.new.pages))
     old (g.P.Pages.pages c.look.new.self) count (g.P.Pages.count c.look.new.self) lv c.level-level.result (least_of_root lv) c.root_least.result 0 (low_of form c.all-bounds.result) (256 ^ form.key) (high_of form c.all-bounds.result) read.pages read.count e_level e_least (c.all-bounds.ensures.low form.key) (c.all-bounds.ensures.high form.key) (c.put_in.ensures.own asked read.asked) in
     subst (λ (x : List ℕ). AsksOnly (map_uses form old root) asked x) (sym c.grow_root.ensures.asked) (asks-more (uses form old lv root) (map_uses form old root) asked _ (λ n h. let m = map-uses form old root n some in omega arith) (claim told bytes))
+
+pub returns-clause-told : goal.returns-clause-told
+returns-clause-told g c = λ told.
+    let old : PageMap = g.P.Pages.pages c.args.pages.now in
+    let count : ℕ = g.P.Pages.count c.args.pages.now in
+    let root : ℕ = c.args.root in
+    let read = c.in-Ok.ensures in
+    let bytes = read.gives (told-read old count root told (λ u. let f = read.uncounted u in cc)) ∙ sym (ap (λ (p : PageMap). p root) read.pages) in
+    c.in_ok-top.ensures.told (c.in_ok-grown.ensures.kept (rw (read.pages, read.count) told) bytes).told
 
 pub returns-clause-becomes : goal.returns-clause-becomes
 returns-clause-becomes g c = λ free kept.

@@ -16,7 +16,7 @@ use Rattle.btree_search.specs.Steps.{low_of, high_of}
 use Rattle.btree_insert.proofs.PutLeaf.{put-had}
 use Rattle.paged_map.specs.Edits.{edited}
 use Rattle.paged_map.specs.declared.editing.Cut.{Cut}
-use Rattle.paged_map.proofs.Behind.{own-behind, refused-behind, kept-behind}
+use Rattle.paged_map.proofs.Behind.{own-behind, refused-behind, kept-behind, stays-behind}
 use Rattle.paged_map.proofs.Edits.{edit-leaf, edited-sound, put-leaf, room-fits, place-looked, some-looked, none-looked}
 use Rattle.paged_map.proofs.Leaves.{lookup-leaf}
 use Rattle.paged_map.proofs.putting.put_row.Goals as goal
@@ -33,6 +33,12 @@ returns-in-Err-Damaged-clause-damaged g c = λ told damage e.
     refused-behind c.args.form c.args.root (g.P.Pages.pages c.args.pages.now) (g.P.Pages.pages c.locate.new.pages) (g.P.Pages.count c.args.pages.now) (g.P.Pages.count c.locate.new.pages) f.pages f.count
     (g.P.Pages.asked c.args.pages.now) (g.P.Pages.asked c.locate.new.pages) (g.P.Pages.asked c.put_below.new.pages) c.in-Err-Damaged.ensures.own damage
     (IsRefusedTake (g.P.Pages.pages c.put_below.new.pages) (g.P.Pages.count c.put_below.new.pages) (g.P.Pages.first c.put_below.new.pages) damage) (λ t. c.put_below.ensures.damaged t damage e) told
+
+pub returns-in-Err-Damaged-clause-stays : goal.returns-in-Err-Damaged-clause-stays
+returns-in-Err-Damaged-clause-stays g c = λ told damage e.
+    let f = c.in-Err-Damaged.ensures.frame in
+    stays-behind (g.P.Pages.pages c.args.pages.now) (g.P.Pages.pages c.locate.new.pages) (g.P.Pages.pages c.put_below.new.pages) (g.P.Pages.count c.args.pages.now) (g.P.Pages.count c.locate.new.pages) (g.P.Pages.count c.put_below.new.pages)
+    (IsRefusedTake (g.P.Pages.pages c.put_below.new.pages) (g.P.Pages.count c.put_below.new.pages) (g.P.Pages.first c.put_below.new.pages) damage) f.pages f.count (λ t. c.put_below.ensures.stays t damage e) told
 
 pub returns-in-Err-Damaged-clause-own : goal.returns-in-Err-Damaged-clause-own
 returns-in-Err-Damaged-clause-own g c = λ told.
@@ -52,6 +58,12 @@ returns-then-not-has_room-clause-damaged g c = λ told damage e.
     refused-behind c.args.form c.args.root (g.P.Pages.pages c.args.pages.now) (g.P.Pages.pages c.locate.new.pages) (g.P.Pages.count c.args.pages.now) (g.P.Pages.count c.locate.new.pages) f.pages f.count
     (g.P.Pages.asked c.args.pages.now) (g.P.Pages.asked c.locate.new.pages) (g.P.Pages.asked c.put_below-then-not-has_room.new.pages) c.in-Ok.ensures.own damage
     (IsRefusedTake (g.P.Pages.pages c.put_below-then-not-has_room.new.pages) (g.P.Pages.count c.put_below-then-not-has_room.new.pages) (g.P.Pages.first c.put_below-then-not-has_room.new.pages) damage) (λ t. c.put_below-then-not-has_room.ensures.damaged t damage e) told
+
+pub returns-then-not-has_room-clause-stays : goal.returns-then-not-has_room-clause-stays
+returns-then-not-has_room-clause-stays g c = λ told damage e.
+    let f = c.in-Ok.ensures.frame in
+    stays-behind (g.P.Pages.pages c.args.pages.now) (g.P.Pages.pages c.locate.new.pages) (g.P.Pages.pages c.put_below-then-not-has_room.new.pages) (g.P.Pages.count c.args.pages.now) (g.P.Pages.count c.locate.new.pages) (g.P.Pages.count c.put_below-then-not-has_room.new.pages)
+    (IsRefusedTake (g.P.Pages.pages c.put_below-then-not-has_room.new.pages) (g.P.Pages.count c.put_below-then-not-has_room.new.pages) (g.P.Pages.first c.put_below-then-not-has_room.new.pages) damage) f.pages f.count (λ t. c.put_below-then-not-has_room.ensures.stays t damage e) told
 
 pub returns-then-not-has_room-clause-own : goal.returns-then-not-has_room-clause-own
 returns-then-not-has_room-clause-own g c = λ told.

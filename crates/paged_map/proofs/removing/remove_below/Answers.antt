@@ -72,6 +72,9 @@ returns-in_err-bytes-clause-damaged g c =
       named-first (g.P.Pages.asked c.args.pages.now) (g.P.Pages.asked c.read.new.self) root c.read.result damage c.read.ensures.asked was (ap (λ (x : Damage). x.page) d.0),
     ))
 
+pub returns-in_err-bytes-clause-stays : goal.returns-in_err-bytes-clause-stays
+returns-in_err-bytes-clause-stays g c = λ damage e. c.read.ensures.pages
+
 pub returns-in_err-bytes-clause-own : goal.returns-in_err-bytes-clause-own
 returns-in_err-bytes-clause-own g c = λ told.
     let form : Form = c.args.form in
@@ -129,6 +132,11 @@ returns-in_err-removed-clause-damaged g c =
     let claim = enter (λ f p k v l w. AreTold p k → c.in_ok-bytes.bytes ≡ p root → IsDamaged f p k damage l v root w (256 ^ f.key))
     form form old (g.P.Pages.pages c.read.new.self) count (g.P.Pages.count c.read.new.self) lv c.level-level.result (least_of_root lv) c.root_least.result 0 (number c.least_key.result.now) refl read.pages read.count e_level e_least c.least_key.ensures.least (λ a b. c.remove_in.ensures.damaged a b damage was) in
     (map-damage form old count root damage some (claim told bytes), c.remove_in.ensures.named asked (asked-here asked (g.P.Pages.asked c.read.new.self) root read.asked) damage was))
+
+pub returns-in_err-removed-clause-stays : goal.returns-in_err-removed-clause-stays
+returns-in_err-removed-clause-stays g c =
+    let passed = err_from_is_err_and c.from_residual-in_err-removed.result c.from_residual-in_err-removed.ensures.1 in
+    rw (passed.1, passed.2) (λ damage e. c.remove_in.ensures.stays damage (c.in_err-removed.was ∙ ap Err (same-fault {T = Rooted} _ _ e)) ∙ c.in_ok-bytes.ensures.pages)
 
 pub returns-in_err-removed-clause-own : goal.returns-in_err-removed-clause-own
 returns-in_err-removed-clause-own g c = λ told.

@@ -39,6 +39,9 @@ returns-in-Err-Damaged-clause-damaged g c = λ told damage e.
     both-behind c.args.form c.args.root (g.P.Pages.pages c.args.pages.now) (g.P.Pages.pages c.locate.new.pages) (g.P.Pages.count c.args.pages.now) (g.P.Pages.count c.locate.new.pages) f.pages f.count
     (g.P.Pages.asked c.args.pages.now) (g.P.Pages.asked c.locate.new.pages) (g.P.Pages.asked c.remove_below.new.pages) c.in-Err-Damaged.ensures.own damage (λ t. c.remove_below.ensures.damaged t damage e) told
 
+pub returns-in-Err-Damaged-clause-stays : goal.returns-in-Err-Damaged-clause-stays
+returns-in-Err-Damaged-clause-stays g c = λ damage e. c.remove_below.ensures.stays damage e ∙ c.in-Err-Damaged.ensures.frame.pages
+
 pub returns-in-Err-Damaged-clause-own : goal.returns-in-Err-Damaged-clause-own
 returns-in-Err-Damaged-clause-own g c = λ told.
     let f = c.in-Err-Damaged.ensures.frame in
@@ -85,6 +88,9 @@ returns-then-leaf-clause-damaged g c = λ told damage e.
     let f = c.in-Ok.ensures.frame in
     both-behind c.args.form c.args.root (g.P.Pages.pages c.args.pages.now) (g.P.Pages.pages c.locate.new.pages) (g.P.Pages.count c.args.pages.now) (g.P.Pages.count c.locate.new.pages) f.pages f.count
     (g.P.Pages.asked c.args.pages.now) (g.P.Pages.asked c.locate.new.pages) (g.P.Pages.asked c.remove_below-then-leaf.new.pages) c.in-Ok.ensures.own damage (λ t. c.remove_below-then-leaf.ensures.damaged t damage e) told
+
+pub returns-then-leaf-clause-stays : goal.returns-then-leaf-clause-stays
+returns-then-leaf-clause-stays g c = λ damage e. c.remove_below-then-leaf.ensures.stays damage e ∙ c.in-Ok.ensures.frame.pages
 
 pub returns-then-leaf-clause-own : goal.returns-then-leaf-clause-own
 returns-then-leaf-clause-own g c = λ told.

@@ -1,12 +1,12 @@
 use Rattle.std.proofs.Common.{◌≡◌, ◌<◌, ℕ}
 use Rattle.page_face.specs.Calls.{Reads}
+use Rattle.btree_nodes.specs.Damages.{KeepsAsked}
 use Rattle.rtree_shape.specs.Slots.{got}
 use Rattle.rtree_shape.specs.Trees.{below}
 use Rattle.rtree_shape.specs.Made.{nodes_in}
 use Rattle.rtree_nodes.specs.Pages.{node_of}
 use Rattle.rtree_find.specs.Entries.{is_entry}
 use Rattle.rtree_find.specs.Subtrees.{IsNodeAt}
-use Rattle.rtree_find.specs.Harms.{KeepsAsked}
 use Rattle.rtree_find.proofs.finding.+seek.Given as goal
 
 -- each step down is to a lower level, so that it ends on any bytes

@@ -1,4 +1,4 @@
-use Rattle.std.proofs.Common.{arith, ◌≡◌, ℕ, List, ◌∙◌, refl, sym, ap, Some}
+use Rattle.std.proofs.Common.{arith, ℕ, List, ◌∙◌, refl, sym, ap, Some}
 use Rattle.page_face.specs.Number.{number}
 use Rattle.btree_nodes.proofs.Finds.{found, missed, place_as}
 use Rattle.btree_search.specs.Steps.{low_of, high_of}

@@ -1,8 +1,6 @@
-use Rattle.std.proofs.Common.{◌≡◌, ℕ, List, ◌++◌, ◌∙◌, sym, ap}
-use Rattle.page_face.specs.FreeList.{PageMap}
+use Rattle.std.proofs.Common.{ℕ, List, ◌++◌, ◌∙◌, sym, ap}
 use Rattle.btree_nodes.specs.declared.form.Form.{Form}
 use Rattle.btree_nodes.specs.Nodes.{rows_in}
-use Rattle.btree_nodes.specs.Rows.{Row}
 use Rattle.paged_map.proofs.draft.LeafDraft.open.Goals as goal
 
 pub returns-in-Ok-clause-drafts : goal.returns-in-Ok-clause-drafts

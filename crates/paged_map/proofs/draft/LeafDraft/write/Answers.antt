@@ -1,4 +1,4 @@
-use Rattle.std.proofs.Common.{◌≡◌, ℕ, List, sym, subst}
+use Rattle.std.proofs.Common.{sym, subst}
 use Rattle.page_face.specs.FreeList.{PageMap}
 use Rattle.page_face.specs.Sound.{IsSound}
 use Rattle.page_face.specs.declared.seal.Seal.{Seal}

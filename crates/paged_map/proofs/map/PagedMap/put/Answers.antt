@@ -27,6 +27,11 @@ returns-in_err-leaf-clause-damaged g c =
     let passed = err_from_is_err_and c.from_residual.result c.from_residual.ensures.1 in
     rw (passed.1, passed.2) (λ told damage e. inr (c.first_leaf.ensures.damaged damage (c.in_err-leaf.was ∙ ap Err (same-fault {T = Bool} _ _ e))))
 
+pub returns-in_err-leaf-clause-stays : goal.returns-in_err-leaf-clause-stays
+returns-in_err-leaf-clause-stays g c =
+    let passed = err_from_is_err_and c.from_residual.result c.from_residual.ensures.1 in
+    rw (passed.1, passed.2) (λ told damage e. inr (c.first_leaf.ensures.damaged damage (c.in_err-leaf.was ∙ ap Err (same-fault {T = Bool} _ _ e))))
+
 pub returns-in_err-leaf-clause-own : goal.returns-in_err-leaf-clause-own
 returns-in_err-leaf-clause-own g c = λ told. asks-nothing _ _ _ c.first_leaf.ensures.asked
 
@@ -84,6 +89,11 @@ returns-in_err-rooted-clause-damaged g c =
     rw (passed.1, passed.2) (λ told damage e'.
     subst (λ (f : Form). (IsMapDamaged f old count root damage × AskedSince (g.P.Pages.asked c.args.pages.now) (g.P.Pages.asked c.put_row.new.pages) damage.page) ⊎ IsRefusedTake (g.P.Pages.pages c.put_row.new.pages) (g.P.Pages.count c.put_row.new.pages) (g.P.Pages.first c.put_row.new.pages) damage) e
     (c.put_row.ensures.damaged told damage (c.in_err-rooted.was ∙ ap Err (same-fault {T = Bool} _ _ e'))))
+
+pub returns-in_err-rooted-clause-stays : goal.returns-in_err-rooted-clause-stays
+returns-in_err-rooted-clause-stays g c =
+    let passed = err_from_is_err_and c.from_residual-in_err-rooted.result c.from_residual-in_err-rooted.ensures.1 in
+    rw (passed.1, passed.2) (λ told damage e. c.put_row.ensures.stays told damage (c.in_err-rooted.was ∙ ap Err (same-fault {T = Bool} _ _ e)))
 
 pub returns-in_err-rooted-clause-own : goal.returns-in_err-rooted-clause-own
 returns-in_err-rooted-clause-own g c = λ told.

@@ -56,6 +56,11 @@ returns-in_err-after-clause-damaged g c =
     subst (λ (f : Form). IsMapDamaged f old count root damage × AskedSince (g.P.Pages.asked c.args.pages.now) (g.P.Pages.asked c.remove_row.new.pages) damage.page) e
     (c.remove_row.ensures.damaged told damage (c.in_err-after.was ∙ ap Err (same-fault {T = Bool} _ _ e'))))
 
+pub returns-in_err-after-clause-stays : goal.returns-in_err-after-clause-stays
+returns-in_err-after-clause-stays g c =
+    let passed = err_from_is_err_and c.from_residual.result c.from_residual.ensures.1 in
+    rw (passed.1, passed.2) (λ damage e. c.remove_row.ensures.stays damage (c.in_err-after.was ∙ ap Err (same-fault {T = Bool} _ _ e)))
+
 pub returns-in_err-after-clause-own : goal.returns-in_err-after-clause-own
 returns-in_err-after-clause-own g c = λ told.
     let form : Form = g.L.Layout.form in
