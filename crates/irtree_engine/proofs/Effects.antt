@@ -12,7 +12,7 @@ use Rattle.btree_nodes.specs.Supply.{view}
 use Rattle.place_map.specs.declared.place.Place.{Place}
 use Rattle.place_map.specs.declared.update.Applied.TheVariants.{New, Replaced, Gone, Absent}
 use Rattle.place_map.specs.declared.update.UpdateFault.TheVariants.{Full, Worn}
-use Rattle.place_map.specs.Restored.{IsSerialAbove}
+use Rattle.place_map.specs.State.{IsSerialAbove}
 use Rattle.place_map.specs.State as states
 use Rattle.place_map.specs.Update.{Effect, put_at, refuses, removed_at}
 use Rattle.row_codec.specs.declared.stored.Stored.{Stored}

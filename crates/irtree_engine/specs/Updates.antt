@@ -1,26 +1,17 @@
 -- What updates do to the state that an image stands for, and why they are refused.
-use Rattle.std.specs.Prelude.{◌≡◌, ◌⊎◌, ℕ, ◌≤◌, ◌^◌, List, [], ◌∷◌, Some, None, Result, Ok, Err}
+use Rattle.std.specs.Prelude.{◌≡◌, ◌⊎◌, ℕ, ◌≤◌, ◌^◌, List, [], ◌∷◌, Result, Ok, Err}
 use Rattle.disk_model.specs.World.{World, Image}
 use Rattle.page_face.specs.FreeList.{PageMap}
 use Rattle.page_store.specs.declared.superblock.Superblock.{Superblock}
-use Rattle.spatial_base.specs.Key.{Text, Auto}
 use Rattle.place_map.specs.State.{Contents}
 use Rattle.place_map.specs.Update.{effect_of}
 use Rattle.place_map.specs.declared.update.Applied.{Applied}
 use Rattle.place_map.specs.declared.update.Update.{Update}
-use Rattle.place_map.specs.declared.update.Update.TheVariants.{Put, Remove}
 use Rattle.place_map.specs.declared.update.UpdateFault.{UpdateFault}
 use Rattle.place_map.specs.declared.update.UpdateFault.TheVariants as updates
 use Rattle.store_meaning.specs.Stands.{PagesStand, Stands}
 use Rattle.irtree_engine.specs.declared.fault.EngineFault.{EngineFault}
 use Rattle.irtree_engine.specs.declared.fault.EngineFault.TheVariants.{Disk, Damaged, Full, Worn, NoRoom, Stopped, Memory}
-
--- a key that a Put names is a text key
-abbrev pub NamesText : Update → Type 0
-NamesText (Put (Some (Text bytes)) point words) = Unit {0}
-NamesText (Put (Some (Auto serial)) point words) = ⊥
-NamesText (Put None point words) = Unit {0}
-NamesText (Remove key) = Unit {0}
 
 -- what follows an update that is accepted, or what refuses it
 abbrev pub accepted : Result Applied UpdateFault → Result Contents UpdateFault → Result Contents UpdateFault

@@ -3,11 +3,10 @@ ghost use Rattle.std.specs.Prelude.{◌≡◌, ℕ, ◌≤◌, ◌<◌, ◌+◌,
 ghost use Rattle.std.specs.List.{AllByRecursion};
 ghost use Rattle.page_face.specs.Causes.{Rose};
 ghost use Rattle.btree_nodes.specs.Damages.{AreTold};
-ghost use Rattle.place_map.specs.Restored.{IsSerialAbove};
-ghost use Rattle.place_map.specs.State.{Contents};
-ghost use Rattle.place_map.specs.Update.{effect_of, key_for, put_at, removed_at, serial_after};
+ghost use Rattle.place_map.specs.State.{Contents, IsSerialAbove};
+ghost use Rattle.place_map.specs.Update.{NamesText, effect_of, key_for, put_at, removed_at, serial_after};
 ghost use Rattle.store_meaning.specs.Stands.{PagesStand, tables_in};
-ghost use Rattle.irtree_engine.specs.Updates.{NamesText, IsUpdateFault, IsDueTo, IsAtLimit, StandForOutcome, state_after_all};
+ghost use Rattle.irtree_engine.specs.Updates.{IsUpdateFault, IsDueTo, IsAtLimit, StandForOutcome, state_after_all};
 ghost use Rattle.irtree_engine.specs.Changes.{block_with, head_with, tree_in, AreHeadNumbers};
 
 use crate::EngineFault;

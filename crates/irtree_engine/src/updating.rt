@@ -6,11 +6,11 @@ ghost use Rattle.disk_model.specs.World as worlds;
 ghost use Rattle.page_face.specs.Causes.{Rose};
 ghost use Rattle.page_store.specs.Store.{Rests};
 ghost use Rattle.place_map.specs.State.{Contents};
-ghost use Rattle.place_map.specs.Update.{effect_of};
+ghost use Rattle.place_map.specs.Update.{NamesText, effect_of};
 ghost use Rattle.store_meaning.specs.Stands.{PagesStand};
 ghost use Rattle.irtree_engine.specs.Changes.{block_with};
 ghost use Rattle.irtree_engine.specs.Holding.{HoldsState};
-ghost use Rattle.irtree_engine.specs.Updates.{NamesText, LeavesOneOf, LeavesAllOrNone, StandsForOutcome, IsUpdateFault, IsCommitFault, IsDueTo, IsAtLimit, IsLater, state_after_all};
+ghost use Rattle.irtree_engine.specs.Updates.{LeavesOneOf, LeavesAllOrNone, StandsForOutcome, IsUpdateFault, IsCommitFault, IsDueTo, IsAtLimit, IsLater, state_after_all};
 
 use crate::{Engine, EngineFault, change};
 use disk_model::Station;

@@ -2,7 +2,7 @@
 ghost use Rattle.std.specs.Prelude.{◌≡◌};
 ghost use Rattle.place_map.specs.Query.{IsWithinLimits};
 ghost use Rattle.query_lang.specs.Plain.{IsSound};
-ghost use Rattle.irtree_engine.specs.Updates.{NamesText};
+ghost use Rattle.place_map.specs.Update.{NamesText};
 
 use crate::dice::{Dice, Ground, query_line, write_point, write_words};
 use crate::runs::ROOM;

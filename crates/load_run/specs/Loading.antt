@@ -12,7 +12,8 @@ use Rattle.geojson_points.specs.declared.fault.LoadFault.{LoadFault}
 use Rattle.geojson_points.specs.declared.fault.LoadFault.TheVariants as loads
 use Rattle.store_meaning.specs.Stands.{Stands}
 use Rattle.irtree_engine.specs.Holding.{HoldsState}
-use Rattle.irtree_engine.specs.Updates.{NamesText, LeavesAllOrNone, StandsForOutcome, state_after_all}
+use Rattle.place_map.specs.Update.{NamesText}
+use Rattle.irtree_engine.specs.Updates.{LeavesAllOrNone, StandsForOutcome, state_after_all}
 use Rattle.run_protocol.specs.Left.{LeftBySteps, StopsAtBatch}
 use Rattle.run_protocol.specs.Load.{Closing, IsTaken, Step, load, load_max, load_transcript, says_loaded, steps}
 use Rattle.run_protocol.specs.Said.{EndsAs, SaysFrontOf}

@@ -5,7 +5,7 @@ ghost use Rattle.place_map.specs.State.{Contents};
 ghost use Rattle.place_map.specs.declared.update.Update.{Update};
 ghost use Rattle.geojson_points.specs.Takes.{Item, Placed, Skipped, HasTextKey, item_of, place_of};
 ghost use Rattle.irtree_engine.specs.Holding.{HoldsState};
-ghost use Rattle.irtree_engine.specs.Updates.{NamesText};
+ghost use Rattle.place_map.specs.Update.{NamesText};
 ghost use Rattle.run_protocol.specs.Causes.{HasEngineEnd};
 ghost use Rattle.run_protocol.specs.Load.{Closing, Step, Store, places_among, put_of, says_loaded};
 ghost use Rattle.run_protocol.specs.Said.{SaysAll};

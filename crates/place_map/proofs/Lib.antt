@@ -5,3 +5,4 @@ pub mod Picks
 pub mod Relevance
 pub mod Rows
 pub mod Scans
+pub mod Serials

@@ -10,7 +10,7 @@ use Rattle.place_map.specs.Restored.{Rows, keys_in, places_in}
 use Rattle.place_map.proofs.Ascending.{insert_last}
 
 -- places keep the keys of their rows
-keys_stay : (rows : Rows) → keys_of (places_in rows) ≡ keys_in rows
+pub keys_stay : (rows : Rows) → keys_of (places_in rows) ≡ keys_in rows
 keys_stay [] = refl
 keys_stay (row ∷ rows) = ap (λ keys. row.0 ∷ keys) (keys_stay rows)
 

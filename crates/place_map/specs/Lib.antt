@@ -1,8 +1,10 @@
 pub mod Answer
 pub mod Filter
+pub mod Forms
 pub mod Group
 pub mod GroupLaws
 pub mod Hit
+pub mod Limits
 pub mod Query
 pub mod Restored
 pub mod Search

@@ -4,6 +4,7 @@ use Rattle.std.specs.List.{IsDistinct}
 use Rattle.std.specs.Str.{bytes_eq}
 use Rattle.place_map.specs.declared.query.Query.{Query}
 use Rattle.place_map.specs.declared.query.Query.TheVariants.{Range, Inside, Nearest, Top, Group}
+use Rattle.place_map.specs.Limits.{IsFilter}
 
 -- how many hits may be asked for
 pub record IsCount (k : ℕ) : Type 0 where
@@ -34,8 +35,8 @@ pub record IsScale (alpha reach : ℕ) : Type 0 where
 
 -- the query keeps the limits
 abbrev pub IsWithinLimits : Query → Type 0
-IsWithinLimits (Range at radius filter) = radius ≤ 10 ^ 12
-IsWithinLimits (Inside rect filter) = Unit {0}
-IsWithinLimits (Nearest at k filter) = IsCount k
+IsWithinLimits (Range at radius filter) = (radius ≤ 10 ^ 12) × IsFilter filter
+IsWithinLimits (Inside rect filter) = IsFilter filter
+IsWithinLimits (Nearest at k filter) = IsCount k × IsFilter filter
 IsWithinLimits (Top at k alpha reach words) = IsCount k × IsScale alpha reach × IsWeights words
 IsWithinLimits (Group at words) = IsTerms words

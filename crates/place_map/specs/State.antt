@@ -1,9 +1,9 @@
 -- The map of live places.
-use Rattle.std.specs.Prelude.{ℕ, List, [], Option, Some, None}
+use Rattle.std.specs.Prelude.{ℕ, ◌+◌, ◌<◌, ◌≤◌, ◌^◌, List, [], length, Option, Some, None, All}
 use Rattle.std.specs.Borrow.{Bor}
 use Rattle.std.specs.BTreeMap.{insert_entry, is_at}
-use Rattle.std.specs.Map.{lookup, remove_entry}
-use Rattle.spatial_base.specs.Key.{Name, key_cmp}
+use Rattle.std.specs.Map.{keys_of, lookup, remove_entry}
+use Rattle.spatial_base.specs.Key.{Name, Text, Auto, key_cmp}
 use Rattle.spatial_base.specs.Point.{Position}
 use Rattle.place_map.specs.declared.place.Place.{Place}
 
@@ -16,6 +16,23 @@ pub record Contents : Type 0 where
   pub places : Places
   pub serial : ℕ
   pub number : ℕ
+
+-- a next serial and an update number that a state may have
+pub record AreNumbers (serial number : ℕ) : Type 0 where
+  pub some : 1 ≤ serial
+  pub few : serial ≤ number + 1
+  pub last : number ≤ 2 ^ 40
+
+-- an automatic key is below the next serial
+abbrev pub IsSerialAbove : ℕ → Name → Type 0
+IsSerialAbove serial (Text bytes) = Unit {0}
+IsSerialAbove serial (Auto given) = given < serial
+
+-- what holds of each state: fewer than 2^32 places live, the numbers fit, and no live key is an automatic one that is yet to be given
+pub record IsState (state : Contents) : Type 0 where
+  pub few : length state.places < 2 ^ 32
+  pub numbers : AreNumbers state.serial state.number
+  pub given : All (IsSerialAbove state.serial) (keys_of state.places)
 
 -- the state in which nothing was put yet
 abbrev pub opening : Contents

@@ -1,6 +1,6 @@
 -- What an update does.
 use Rattle.std.specs.Prelude.{◌≡◌, ℕ, ◌+◌, ◌^◌, ◌==◌, ◌&&◌, nat_le, if◌then◌else◌, length, Option, Some, None, is_some, is_none, Result, Ok, Err}
-use Rattle.spatial_base.specs.Key.{Name, Auto}
+use Rattle.spatial_base.specs.Key.{Name, Text, Auto}
 use Rattle.place_map.specs.declared.place.Place.{Place}
 use Rattle.place_map.specs.declared.update.Update.{Update}
 use Rattle.place_map.specs.declared.update.Update.TheVariants.{Put, Remove}
@@ -9,6 +9,13 @@ use Rattle.place_map.specs.declared.update.Applied.TheVariants.{New, Replaced, G
 use Rattle.place_map.specs.declared.update.UpdateFault.{UpdateFault}
 use Rattle.place_map.specs.declared.update.UpdateFault.TheVariants.{Full, Worn, Memory}
 use Rattle.place_map.specs.State.{Contents, place_at, with_place, without_place}
+
+-- a key that a Put names is a text key
+abbrev pub NamesText : Update → Type 0
+NamesText (Put (Some (Text bytes)) point words) = Unit {0}
+NamesText (Put (Some (Auto serial)) point words) = ⊥
+NamesText (Put None point words) = Unit {0}
+NamesText (Remove key) = Unit {0}
 
 -- the state after an update, and what it answered
 pub record Effect : Type 0 where

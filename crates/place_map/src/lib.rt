@@ -19,7 +19,10 @@ mod top;
 mod update;
 
 pub use hit::{Hit, Hits};
-pub use limits::{ALPHA_MAX, COUNT_MAX, RADIUS_MAX, REACH_MAX, TERMS_MAX, WEIGHT_MAX};
+pub use limits::{
+    ALPHA_MAX, COUNT_MAX, EXPR_LEVELS_MAX, EXPR_WORDS_MAX, RADIUS_MAX, REACH_MAX, TERMS_MAX,
+    WEIGHT_MAX,
+};
 pub use listed::Listed;
 pub use place::Place;
 pub use query::{Answer, Chosen, Expr, Pick, Picks, Query, Terms, Weights};

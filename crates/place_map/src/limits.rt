@@ -1,10 +1,13 @@
 // The limits of queries.
-ghost use Rattle.std.specs.Prelude.{◌≡◌, ◌↔◌, false, IsTrue, map, All};
+ghost use Rattle.std.specs.Prelude.{◌≡◌, ◌↔◌, ◌≤◌, ◌-◌, false, IsTrue, map, All, SomeIff};
 ghost use Rattle.std.specs.List.{AllByRecursion, IsDistinct};
 ghost use Rattle.std.specs.Str.{bytes_eq};
+ghost use Rattle.place_map.specs.Forms.{form_seen};
+ghost use Rattle.place_map.specs.Limits as limits;
+ghost use Rattle.place_map.specs.Limits.{IsExpression, IsFilter, levels_as, words_in};
 ghost use Rattle.place_map.specs.Query.{IsCount, IsScale, IsTerms, IsWeight, IsWeights, IsWithinLimits};
 
-use crate::Query;
+use crate::{Expr, Query};
 use term_impacts::Word;
 
 /// The greatest radius of a range query, in degrees times 10^7.
@@ -24,6 +27,91 @@ pub const TERMS_MAX: usize = 8;
 
 /// The greatest weight of a word.
 pub const WEIGHT_MAX: u8 = 20;
+
+/// At most how many words a filter may name.
+pub const EXPR_WORDS_MAX: usize = 64;
+
+/// At most how many levels of `not` and parentheses it may take to write a filter.
+pub const EXPR_LEVELS_MAX: u8 = 32;
+
+// As what an expression is written: whole, as one of those that `or` joins, or as one of those that `and` joins.
+#[derive(Clone, Copy)]
+enum Form {
+    Whole,
+    Term,
+    Factor,
+}
+
+// The level of the parentheses around what `or` joins.
+fn around_or(form: Form) -> u8
+    ensures { result ≡ limits.around_or (form_seen form) }
+{
+    match form {
+        Form::Whole => 0,
+        Form::Term | Form::Factor => 1,
+    }
+}
+
+// The level of the parentheses around what `and` joins.
+fn around_and(form: Form) -> u8
+    ensures { result ≡ limits.around_and (form_seen form) }
+{
+    match form {
+        Form::Whole | Form::Term => 0,
+        Form::Factor => 1,
+    }
+}
+
+// How many words are left of so many where those of an expression are named, and `None` where there are too few.
+fn words_left(expr: &Expr, left: usize) -> Option<usize>
+    ensures { SomeIff result (words_in expr.now ≤ left) (left - words_in expr.now) }
+{
+    match expr {
+        Expr::Has(_) => left.checked_sub(1),
+        Expr::Not(one) => words_left(one, left),
+        Expr::And(one, other) => words_left(other, words_left(one, left)?),
+        Expr::Or(one, other) => words_left(other, words_left(one, left)?),
+    }
+}
+
+// Whether an expression can be written in a form on so many levels.
+fn keeps_levels(expr: &Expr, form: Form, left: u8) -> bool
+    ensures { IsTrue result ↔ (levels_as (form_seen form) expr.now ≤ left) }
+{
+    match expr {
+        Expr::Has(_) => true,
+        Expr::Not(one) => 1 <= left && keeps_levels(one, Form::Factor, left - 1),
+        Expr::And(one, other) => {
+            let around = around_and(form);
+            around <= left
+                && keeps_levels(one, Form::Term, left - around)
+                && keeps_levels(other, Form::Factor, left - around)
+        }
+        Expr::Or(one, other) => {
+            let around = around_or(form);
+            around <= left
+                && keeps_levels(one, Form::Whole, left - around)
+                && keeps_levels(other, Form::Term, left - around)
+        }
+    }
+}
+
+// Whether an expression may be asked for.
+fn is_expression(expr: &Expr) -> bool
+    ensures { IsTrue result ↔ IsExpression expr.now }
+{
+    words_left(expr, EXPR_WORDS_MAX).is_some() && keeps_levels(expr, Form::Whole, EXPR_LEVELS_MAX)
+}
+
+// Whether a filter may be asked for.
+fn is_filter(filter: &Option<Expr>) -> bool
+    ensures { IsTrue result ↔ IsFilter filter.now }
+{
+    match filter {
+        Some(expr) => is_expression(expr),
+        None => true,
+    }
+}
 
 // Whether so many hits may be asked for.
 fn is_count(k: u16) -> bool
@@ -105,14 +193,17 @@ fn are_weights(words: &[(Word, u8)]) -> bool
 
 impl Query {
     /// Whether the query keeps the limits that `State::answer` asks for: a radius of at most 10^12, 1 to 1000 hits, an alpha of at
-    /// most 1000, a reach of 1 to 4,024,922,359, and 1 to 8 distinct words with weights of 1 to 20.
+    /// most 1000, a reach of 1 to 4,024,922,359, 1 to 8 distinct words with weights of 1 to 20, and a filter of at most 64 words
+    /// that can be written on 32 levels of `not` and parentheses.
+    ///
+    /// It looks at each part of a filter twice at most, and stops at the first limit that is passed.
     pub fn is_within_limits(&self) -> bool
         ensures { IsTrue result ↔ IsWithinLimits self.now }
     {
         match self {
-            Query::Range { radius, .. } => *radius <= RADIUS_MAX,
-            Query::Inside { .. } => true,
-            Query::Nearest { k, .. } => is_count(*k),
+            Query::Range { radius, filter, .. } => *radius <= RADIUS_MAX && is_filter(filter),
+            Query::Inside { filter, .. } => is_filter(filter),
+            Query::Nearest { k, filter, .. } => is_count(*k) && is_filter(filter),
             Query::Top {
                 k,
                 alpha,

@@ -31,14 +31,14 @@ pub enum Query {
         at: Point,
         /// The greatest distance that counts, at most 10^12.
         radius: u64,
-        /// What a place has to meet.
+        /// What a place has to meet, in at most 64 words and 32 levels of `not` and parentheses.
         filter: Option<Expr>,
     },
     /// The places in a rectangle, its border included, by key.
     Inside {
         /// The rectangle.
         rect: Rect,
-        /// What a place has to meet.
+        /// What a place has to meet, in at most 64 words and 32 levels of `not` and parentheses.
         filter: Option<Expr>,
     },
     /// The places nearest to a point, by distance and then by key.
@@ -47,7 +47,7 @@ pub enum Query {
         at: Point,
         /// At most how many hits are answered, 1 to 1000.
         k: u16,
-        /// What a place has to meet.
+        /// What a place has to meet, in at most 64 words and 32 levels of `not` and parentheses.
         filter: Option<Expr>,
     },
     /// The places of least cost among those that hold one of the words, by cost and then by key.

@@ -2,8 +2,8 @@
 ghost use Rattle.std.specs.Prelude.{◌≡◌, ◌↔◌, All, IsTrue, IfOk, OnOk};
 ghost use Rattle.std.specs.List.Sorted.{IsStrictlySortedBy};
 ghost use Rattle.spatial_base.specs.Key.{key_cmp};
-ghost use Rattle.place_map.specs.State.{with_place};
-ghost use Rattle.place_map.specs.Restored.{IsSerialAbove, AreNumbers, AreStatePlaces, keys_in, places_in};
+ghost use Rattle.place_map.specs.State.{AreNumbers, IsSerialAbove, with_place};
+ghost use Rattle.place_map.specs.Restored.{AreStatePlaces, keys_in, places_in};
 
 use crate::Place;
 use crate::state::NUMBER_MAX;

@@ -1,15 +1,16 @@
 // The map of live places.
 ghost use Rattle.std.specs.Prelude.{◌≡◌, ◌≤◌, ◌+◌, ◌<◌, ◌↔◌, ◌^◌, length, IfOk, IfSome, IsSome};
+ghost use Rattle.spatial_base.specs.Key.{text_of};
 ghost use Rattle.place_map.specs.State.{opening};
 ghost use Rattle.place_map.specs.Restored.{AreStatePlaces, places_in};
-ghost use Rattle.place_map.specs.Update.{Gives, effect_of, put_at, removed_at, key_for, serial_after};
+ghost use Rattle.place_map.specs.Update.{Gives, NamesText, effect_of, put_at, removed_at, key_for, serial_after};
 ghost use Rattle.std.specs.List.{flat_map};
 ghost use Rattle.ranking.specs.First.{ranked, first};
 ghost use Rattle.place_map.specs.Hit.{comes_before};
 ghost use Rattle.place_map.specs.declared.query.Answer.TheVariants as answers;
 ghost use Rattle.place_map.specs.Answer.{answer_of, hits_of};
 ghost use Rattle.place_map.specs.Query.{IsWithinLimits};
-ghost use Rattle.place_map.specs.State.{place_at, shown};
+ghost use Rattle.place_map.specs.State.{IsSerialAbove, place_at, shown};
 
 use crate::group::least_group;
 use crate::restored::{are_state_places, map_of};
@@ -30,7 +31,8 @@ pub const NUMBER_MAX: u64 = 1 << 40;
 /// The live places by key, the next serial and the update number.
 ///
 /// Contracts see it as a record: the list of keys and places in the keys' order, and the two numbers. The next serial
-/// is at most the update number plus 1.
+/// is at least 1 and at most the update number plus 1, and above each automatic key that lives: so a key that a Put
+/// takes by itself never lives already.
 #[derive(Drop)]
 pub struct State {
     alloc: Global,
@@ -40,14 +42,13 @@ pub struct State {
 }
 
 impl Model for State {
-    ghost use Rattle.std.specs.Prelude.{◌≤◌, ◌<◌, ◌+◌, ◌^◌, length};
-    ghost use Rattle.place_map.specs.State.{Contents};
+    ghost use Rattle.place_map.specs.State.{Contents, IsState};
 
     ghost Value = { Contents };
 
     ghost view = { λ s. record { places = s.places.entries; serial = s.serial; number = s.number } };
 
-    ghost invariant = { λ s. (length s.places.entries < 2 ^ 32) × (s.serial ≤ s.number + 1) × (s.number ≤ 2 ^ 40) };
+    ghost invariant = { λ s. IsState (record { places = s.places.entries; serial = s.serial; number = s.number }) };
 }
 
 impl State {
@@ -115,10 +116,13 @@ impl State {
 
     /// Changes the map by one update. It looks the key up once, or twice where 200,000 places live.
     ///
+    /// A key that a Put names is a text key: automatic keys are given by the state alone.
+    ///
     /// Refuses `Full` exactly where 200,000 or more places live and the key is new, else `Worn` exactly where the update
     /// number is 2^40 and the update would change the map; `Memory` may come instead of any answer. After a refusal
     /// the state is as before.
     pub fn apply(&mut self, update: Update) -> Result<Applied, UpdateFault>
+        requires { NamesText update }
         ensures { Gives self.old (effect_of self.old update) self.new result }
     {
         match update {
@@ -132,9 +136,12 @@ impl State {
 
     // The key under which a place is put, and the next serial then.
     fn named(&self, key: Option<Key>) -> (Key, u64)
+        requires { IfSome key (λ name. IsSome (text_of name)) }
         ensures key { result.0 ≡ key_for self.now key }
         ensures serial { result.1 ≡ serial_after self.now key }
+        ensures rises { self.now.serial ≤ result.1 }
         ensures few { result.1 ≤ self.now.number + 2 }
+        ensures above { IsSerialAbove result.1 result.0 }
     {
         match key {
             Some(key) => (key, self.serial),
@@ -144,7 +151,9 @@ impl State {
 
     // Puts a place at a key, and leaves this next serial.
     fn put(&mut self, key: Key, serial: u64, place: Place) -> Result<Applied, UpdateFault>
-        requires { serial ≤ self.old.number + 2 }
+        requires rises { self.old.serial ≤ serial }
+        requires few { serial ≤ self.old.number + 2 }
+        requires above { IsSerialAbove serial key }
         ensures { Gives self.old (put_at self.old key serial place) self.new result }
     {
         if self.places.len() >= PLACES_MAX && !self.places.contains_key(&key) {

@@ -1,5 +1,6 @@
 pub mod Clauses
 pub mod Filters
+pub mod Limits
 pub mod Lines
 pub mod Naming
 pub mod Numbers

@@ -1,13 +1,12 @@
 -- What a line says, wherever the boxes of its expression stand.
-use Rattle.std.specs.Prelude.{Option, Some, None, option_map}
+use Rattle.std.specs.Prelude.{Option, option_map}
 use Rattle.std.specs.declared.alloc.Global.{Global}
 use Rattle.std.specs.declared.boxed.Box.{Box}
 use denote.RawPtr.{null_ptr}
 use Rattle.place_map.specs.declared.query.Expr.{Expr}
 use Rattle.place_map.specs.declared.query.Expr.TheVariants.{Has, Not, And, Or, Not', And', Or'}
-use Rattle.spatial_base.specs.Key.{Text, Auto}
-use Rattle.place_map.specs.declared.update.Update.TheVariants as updates
 use Rattle.place_map.specs.Query.{IsWithinLimits}
+use Rattle.place_map.specs.Update.{NamesText}
 use Rattle.place_map.specs.declared.query.Query.{Query}
 use Rattle.place_map.specs.declared.query.Query.TheVariants.{Range, Inside, Nearest, Top, Group}
 use Rattle.query_lang.specs.declared.line.Line.{Line}
@@ -47,10 +46,7 @@ plain_line lines.Count = lines.Count
 -- what the calls that take the parts of a line ask of them: a query keeps the limits, and a place is put at a text key
 abbrev pub IsSound : Line → Type 0
 IsSound lines.Nothing = Unit {0}
-IsSound (lines.Do (updates.Put (Some (Text bytes)) point words)) = Unit {0}
-IsSound (lines.Do (updates.Put (Some (Auto serial)) point words)) = ⊥
-IsSound (lines.Do (updates.Put None point words)) = Unit {0}
-IsSound (lines.Do (updates.Remove key)) = Unit {0}
+IsSound (lines.Do update) = NamesText update
 IsSound (lines.Ask query explain) = IsWithinLimits query
 IsSound (lines.Show key) = Unit {0}
 IsSound lines.Count = Unit {0}

@@ -4,13 +4,10 @@ ghost use Rattle.query_lang.specs.Expression as spec;
 ghost use Rattle.query_lang.specs.Expression.{plain_clause};
 ghost use Rattle.query_lang.specs.Reader.{Answers};
 
-use place_map::Expr;
+use place_map::{EXPR_WORDS_MAX, Expr};
 use query_replies::LineFault;
 use std::alloc::Global;
 use term_impacts::one_word;
-
-/// The greatest number of words of an expression.
-const EXPR_WORDS_MAX: usize = 64;
 
 /// An expression, and how many words its filter has up to its end.
 #[derive(Drop)]

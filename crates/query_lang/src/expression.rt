@@ -1,5 +1,6 @@
 //! Expressions.
 ghost use Rattle.std.specs.Prelude.{◌≡◌, ◌≢◌, ◌+◌, ℕ, codes, Some, None, option_map, IfOk, IfErr};
+ghost use Rattle.place_map.specs.Limits.{IsFilter};
 ghost use Rattle.line_tokens.specs.Seen.{seen};
 ghost use Rattle.line_tokens.specs.Token.{token_of};
 ghost use Rattle.query_lang.specs.Expression as spec;
@@ -11,12 +12,9 @@ use crate::clause::{Clause, both, either, named, negated};
 use crate::kind::{Kind, is_word, kind_in};
 use crate::part::{end, next, token};
 use line_tokens::Token;
-use place_map::Expr;
+use place_map::{EXPR_LEVELS_MAX, Expr};
 use query_replies::LineFault;
 use std::alloc::Global;
-
-/// The greatest number of levels of parentheses and `not`.
-const LEVELS_MAX: u8 = 32;
 
 // The text behind a bare word, where that is the next token.
 fn behind_word<'a>(alloc: Global, word: &str, text: &'a str) -> Result<Option<&'a str>, LineFault>
@@ -273,7 +271,7 @@ fn joined_conjunction(
 fn condition(alloc: Global, text: &str) -> Result<Expr, LineFault>
     ensures { Answers (λ expr. Some (plain expr)) result (condition text.now) }
 {
-    let (clause, text) = match expression(alloc, LEVELS_MAX, 0, text) {
+    let (clause, text) = match expression(alloc, EXPR_LEVELS_MAX, 0, text) {
         Ok(read) => read,
         Err(fault) => return Err(fault),
     };
@@ -282,9 +280,10 @@ fn condition(alloc: Global, text: &str) -> Result<Expr, LineFault>
     Ok(expr)
 }
 
-/// `where` and a filter up to the end of the line, or none where the line ends.
+/// `where` and a filter up to the end of the line, or none where the line ends. A filter keeps the limits.
 pub(crate) fn filter(alloc: Global, text: &str) -> Result<Option<Expr>, LineFault>
-    ensures { Answers plain_filter result (filter_of text.now) }
+    ensures says { Answers plain_filter result (filter_of text.now) }
+    ensures sound { IfOk result IsFilter }
 {
     let found = match token(alloc, text) {
         Ok(found) => found,

@@ -8,7 +8,7 @@ ghost use Rattle.query_lang.specs.declared.line.Line.TheVariants as lines;
 ghost use Rattle.query_replies.specs.Reply.{HasReason};
 ghost use Rattle.place_map.specs.Query.{IsWithinLimits};
 ghost use Rattle.irtree_engine.specs.Holding.{HoldsState};
-ghost use Rattle.irtree_engine.specs.Updates.{NamesText};
+ghost use Rattle.place_map.specs.Update.{NamesText};
 ghost use Rattle.run_protocol.specs.Asking.{IsAsking, ReadsForLine};
 ghost use Rattle.run_protocol.specs.Causes.{HasEngineEnd};
 ghost use Rattle.script_run.specs.Lines.{refused_by, IsLineEnd, RepliesTo, RunsLines};

@@ -2,7 +2,7 @@
 ghost use Rattle.std.specs.Prelude.{◌≡◌, IfOk};
 ghost use Rattle.place_map.specs.Query.{IsWithinLimits};
 ghost use Rattle.spatial_base.specs.Key.{Text};
-ghost use Rattle.irtree_engine.specs.Updates.{NamesText};
+ghost use Rattle.place_map.specs.Update.{NamesText};
 
 use disk_model::MemoryStation;
 use irtree_engine::{Engine, EngineFault};

@@ -8,7 +8,7 @@ use Rattle.page_face.specs.FreeList.{PageMap}
 use Rattle.page_store.specs.Superblock.{IsInRange}
 use Rattle.page_store.specs.declared.superblock.Superblock.{Superblock}
 use Rattle.btree_nodes.specs.Supply.{view}
-use Rattle.place_map.specs.Restored.{IsSerialAbove}
+use Rattle.place_map.specs.State.{IsSerialAbove}
 use Rattle.place_map.specs.State as states
 use Rattle.row_codec.specs.declared.stored.Stored.{Stored}
 use Rattle.rtree_shape.specs.Slots.{got}

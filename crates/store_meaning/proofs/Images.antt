@@ -11,8 +11,7 @@ use Rattle.page_store.specs.Superblock.{IsInRange, empty_store, fields_of, is_ze
 use Rattle.page_store.specs.declared.superblock.Superblock.{Superblock}
 use Rattle.btree_nodes.specs.Supply.{uncounted}
 use Rattle.node_inverted.specs.Rows.{bytes_of}
-use Rattle.place_map.specs.Restored.{IsSerialAbove}
-use Rattle.place_map.specs.State.{Contents, opening}
+use Rattle.place_map.specs.State.{Contents, IsSerialAbove, opening}
 use Rattle.store_tables.specs.Entries.{Entries, no_entries}
 use Rattle.store_tables.specs.Holding.{Holds}
 use Rattle.store_tables.specs.Words.{WordsAgree}

@@ -9,7 +9,7 @@ use Rattle.term_impacts.specs.Pairs.{IsWordMap}
 use Rattle.spatial_base.specs.Key.{Name, Text, Auto, key_cmp, key_cmp_total}
 use Rattle.spatial_base.specs.Point.{Position, IsOnMap}
 use Rattle.place_map.specs.declared.place.Place.{Place}
-use Rattle.place_map.specs.Restored.{IsSerialAbove}
+use Rattle.place_map.specs.State.{IsSerialAbove}
 use Rattle.place_map.specs.State as states
 use Rattle.row_codec.specs.declared.stored.Stored.{Stored}
 use Rattle.row_codec.specs.Pairs.{Pair}

@@ -5,7 +5,7 @@ use Rattle.std.specs.BTreeMap.{is_at}
 use Rattle.std.specs.List.Sorted.{IsStrictlySortedBy}
 use Rattle.std.specs.Map.{keys_of}
 use Rattle.spatial_base.specs.Key.{Name, key_cmp}
-use Rattle.place_map.specs.Restored.{IsSerialAbove}
+use Rattle.place_map.specs.State.{IsSerialAbove}
 use Rattle.place_map.specs.State as states
 use Rattle.row_codec.specs.declared.stored.Stored.{Stored}
 use Rattle.store_tables.specs.Coded.{IsPlaceEntry}

@@ -10,8 +10,7 @@ use Rattle.btree_nodes.specs.Supply.{view, spare}
 use Rattle.btree_nodes.specs.Tree.{IsMap, map_rows, map_uses}
 use Rattle.spatial_base.specs.Key.{Name}
 use Rattle.place_map.specs.declared.place.Place.{Place}
-use Rattle.place_map.specs.Restored.{IsSerialAbove}
-use Rattle.place_map.specs.State.{Contents, Places}
+use Rattle.place_map.specs.State.{Contents, IsSerialAbove, Places}
 use Rattle.row_codec.specs.declared.counted.Counted.{Counted}
 use Rattle.row_codec.specs.declared.stored.Stored.{Stored}
 use Rattle.rtree_shape.specs.Slots.{Item}

@@ -2,12 +2,11 @@ use Rattle.std.proofs.Common.{◌≡◌, ◌+◌, ◌≤◌, Ok, IfErr, IfOk, sy
 use Rattle.spatial_base.specs.Key.{Name}
 use Rattle.place_map.specs.declared.update.Update.{Update}
 use Rattle.place_map.specs.declared.update.Update.TheVariants.{Put}
-use Rattle.place_map.specs.Restored.{IsSerialAbove}
-use Rattle.place_map.specs.State.{Contents}
-use Rattle.place_map.specs.Update.{Effect, effect_of, key_for, serial_after}
+use Rattle.place_map.specs.State.{Contents, IsSerialAbove}
+use Rattle.place_map.specs.Update.{Effect, NamesText, effect_of, key_for, serial_after}
 use Rattle.store_meaning.specs.Stands.{PagesStand}
 use Rattle.irtree_engine.specs.Changes.{block_with}
-use Rattle.irtree_engine.specs.Updates.{IsDueTo, NamesText}
+use Rattle.irtree_engine.specs.Updates.{IsDueTo}
 use Rattle.irtree_engine.proofs.Named.{named-above, put-effect, serial-rises}
 use Rattle.irtree_engine.proofs.change.update.Goals as goal
 

@@ -3,7 +3,8 @@ use Rattle.std.proofs.lemmas.Result.{err_from_is_err_and}
 use Rattle.std.specs.List.{AllByRecursion}
 use Rattle.irtree_engine.specs.declared.fault.EngineFault.{EngineFault}
 use Rattle.irtree_engine.specs.Changes.{block_with}
-use Rattle.irtree_engine.specs.Updates.{IsDueTo, NamesText, state_after_all}
+use Rattle.place_map.specs.Update.{NamesText}
+use Rattle.irtree_engine.specs.Updates.{IsDueTo, state_after_all}
 use Rattle.irtree_engine.proofs.Batches.{updated-all, updated-due, updated-more}
 use Rattle.irtree_engine.proofs.change.update_all.Goals as goal
 

@@ -3,7 +3,7 @@ use Rattle.std.specs.List.{AllByRecursion}
 use Rattle.place_map.specs.State.{Contents}
 use Rattle.store_meaning.specs.Stands.{PagesStand}
 use Rattle.irtree_engine.specs.Changes.{block_with}
-use Rattle.irtree_engine.specs.Updates.{NamesText}
+use Rattle.place_map.specs.Update.{NamesText}
 use Rattle.irtree_engine.proofs.Batches.{AreUpdated}
 use Rattle.irtree_engine.proofs.change.update_all.Given as goal
 

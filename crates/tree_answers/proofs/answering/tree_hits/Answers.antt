@@ -74,7 +74,7 @@ returns-in-Nearest-clause-opened g c = λ free whole told.
     let x : unsigned_abs r.at.x ≤ 1800000000 = subst (λ (z : ℤ). unsigned_abs z ≤ 1800000000) c.x-x.ensures.value c.x-x.ensures.within in
     let y : unsigned_abs r.at.y ≤ 900000000 = subst (λ (z : ℤ). unsigned_abs z ≤ 900000000) c.y-y.ensures.value c.y-y.ensures.within in
     let limits : IsWithinLimits (Nearest r.at r.k r.filter) = subst IsWithinLimits r.is c.requires in
-    let some : 0 < r.k = let one = limits.some in omega arith in
+    let some : 0 < r.k = let one = limits.0.some in omega arith in
     let Few : Query → Vec Hit Global → Type 0 = λ q found. FewOpened (IsRowsPage pages tree) pages tree ids q old new found.items in
     subst (λ (q : Query). IfOk c.nearest.result (Few q)) (ap (λ (f : Option Expr). Nearest r.at r.k f) same ∙ sym r.is)
     (ok-both c.nearest.result _ _ (Few (Nearest r.at r.k lent))
