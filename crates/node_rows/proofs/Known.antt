@@ -6,7 +6,7 @@ use Rattle.node_rows.specs.Rows.{Bytes, HasBytes}
 use Rattle.node_rows.specs.Counts.{shared_in, sign}
 use Rattle.node_rows.specs.Impacts.{impact_at, impact_in, raised}
 use Rattle.node_rows.specs.Known.{AreRowsAt, rises}
-use Rattle.node_rows.proofs.Words.{impact-here, impact-other}
+use Rattle.node_rows.proofs.Pairs.{impact-here, impact-other}
 use Rattle.node_rows.proofs.Lookups.{less_or}
 
 -- one word more

@@ -7,7 +7,7 @@ pub mod Found
 pub mod Faults
 pub mod Ascents
 pub mod Impacts
-pub mod Words
+pub mod Pairs
 pub mod Counts
 pub mod Copies
 pub mod Known

@@ -6,7 +6,7 @@ use Rattle.node_rows.specs.Words.{no_bytes}
 use Rattle.node_inverted.specs.Lifts.{bytes_at, lifted_at, lifted_by}
 use Rattle.node_inverted.specs.declared.taking.NodeRow.{NodeRow}
 use Rattle.node_rows.proofs.Ascents.{ascend, rest, left}
-use Rattle.node_rows.proofs.Words.{max-none, max-zero}
+use Rattle.node_rows.proofs.Pairs.{max-none, max-zero}
 use Rattle.node_inverted.proofs.Lifts.{lifted-here, lifted-other, rows-wider}
 use Rattle.node_inverted.proofs.taking.list_next.Goals as goal
 

@@ -5,7 +5,7 @@ use Rattle.node_rows.specs.Ascents.{until}
 use Rattle.node_rows.specs.Impacts.{impact_in, impact_at}
 use Rattle.node_rows.specs.Words.{slot_of, no_bytes}
 use Rattle.node_rows.proofs.Ascents.{ascend, rest, left}
-use Rattle.node_rows.proofs.Words.{impact-here, impact-other, max-none, max-zero, words-wider}
+use Rattle.node_rows.proofs.Pairs.{impact-here, impact-other, max-none, max-zero, words-wider}
 use Rattle.node_rows.proofs.columns.column_next.Goals as goal
 
 pub returns-clause-words : goal.returns-clause-words

@@ -6,7 +6,7 @@ use Rattle.node_rows.specs.Impacts.{impact_in, impact_at}
 use Rattle.node_rows.specs.Words.{tops_of, no_bytes}
 use Rattle.node_rows.proofs.Ascents.{ascend, rest, left}
 use Rattle.node_rows.proofs.Impacts.{top-clear, top-row}
-use Rattle.node_rows.proofs.Words.{impact-here, impact-other, max-none, max-zero, words-wider}
+use Rattle.node_rows.proofs.Pairs.{impact-here, impact-other, max-none, max-zero, words-wider}
 use Rattle.node_rows.proofs.words.add_next.Goals as goal
 
 pub returns-clause-words : goal.returns-clause-words

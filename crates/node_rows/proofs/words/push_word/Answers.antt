@@ -2,7 +2,7 @@ use Rattle.std.proofs.Common.{◌<◌, ◌+◌, ℕ, ◌∙◌, ap, sym, subst, 
 use Rattle.node_rows.specs.Impacts.{impact_in}
 use Rattle.node_rows.specs.Words.{AreWords}
 use Rattle.node_rows.proofs.Impacts.{impact-one}
-use Rattle.node_rows.proofs.Words.{impact-none, words-push, words-wider}
+use Rattle.node_rows.proofs.Pairs.{impact-none, words-push, words-wider}
 use Rattle.node_rows.proofs.words.push_word.Goals as goal
 
 pub returns-then-impact-eq0-clause-impacts : goal.returns-then-impact-eq0-clause-impacts
