@@ -11,3 +11,4 @@ pub mod Pairs
 pub mod Counts
 pub mod Copies
 pub mod Known
+pub mod Harms

@@ -8,6 +8,7 @@ ghost use Rattle.btree_nodes.specs.Tree.{IsMap, map_rows, map_uses};
 ghost use Rattle.paged_map.specs.Maps.{AreCounted, HasBecome, IsKept, IsMapDamaged};
 ghost use Rattle.paged_map.specs.Spots.{IsSpot};
 ghost use Rattle.rtree_shape.specs.Stock.{rows_form};
+ghost use Rattle.node_rows.specs.Damages.{IsRowsHarm};
 ghost use Rattle.node_rows.specs.Rows.{HasBytes, IsRows, bytes_in, key_of};
 ghost use Rattle.node_rows.specs.Turns.{Turns, with_row};
 
@@ -67,6 +68,10 @@ pub fn find_row<P: Pages>(
     ensures spot { IfOk result (λ found. IfSome found (IsSpot rows_form (P.pages pages.new) (P.count pages.new) tree.now.rows (P.looked pages.new) (key_of node number))) }
     ensures honest { IsMap rows_form (P.pages pages.old) tree.now.rows → AreCounted (map_uses rows_form (P.pages pages.old) tree.now.rows) (P.count pages.old)
         → AreTold (P.pages pages.old) (P.count pages.old) → (damage : Damage) → ¬ IsErrOf result (PageFault.Damaged damage) }
+    ensures damaged { AreTold (P.pages pages.old) (P.count pages.old) → (damage : Damage) → IsErrOf result (PageFault.Damaged damage)
+        → IsMapDamaged rows_form (P.pages pages.old) (P.count pages.old) tree.now.rows damage × AskedSince (P.asked pages.old) (P.asked pages.new) damage.page }
+    ensures own { AreTold (P.pages pages.old) (P.count pages.old)
+        → AsksOnly (map_uses rows_form (P.pages pages.old) tree.now.rows) (P.asked pages.old) (P.asked pages.new) }
     ensures fails { FailsReading P.Pages pages.old pages.new result }
     ensures frame { Reads P.Pages pages.old pages.new }
 {
@@ -92,10 +97,14 @@ fn put_row<P: Pages>(
         (put (key_of key.node key.number) row.now (map_rows rows_form (P.pages pages.old) tree.old.rows))) }
     ensures root { tree.new.root ≡ tree.old.root }
     ensures kept { OnErr result (tree.new ≡ tree.old) }
+    ensures told { AreTold (P.pages pages.old) (P.count pages.old) → OnOk result (AreTold (P.pages pages.new) (P.count pages.new)) }
     ensures honest { (free : List ℕ) → IsKept rows_form (view (P.pages pages.old) (P.count pages.old) (P.first pages.old) free) tree.old.rows
         → (damage : Damage) → ¬ IsErrOf result (PageFault.Damaged damage) }
     ensures damaged { AreTold (P.pages pages.old) (P.count pages.old) → (damage : Damage) → IsErrOf result (PageFault.Damaged damage)
         → (IsMapDamaged rows_form (P.pages pages.old) (P.count pages.old) tree.old.rows damage × AskedSince (P.asked pages.old) (P.asked pages.new) damage.page)
+        ⊎ IsRefusedTake (P.pages pages.new) (P.count pages.new) (P.first pages.new) damage }
+    ensures stays { AreTold (P.pages pages.old) (P.count pages.old) → (damage : Damage) → IsErrOf result (PageFault.Damaged damage)
+        → ((P.pages pages.new ≡ P.pages pages.old) × (P.count pages.new ≡ P.count pages.old))
         ⊎ IsRefusedTake (P.pages pages.new) (P.count pages.new) (P.first pages.new) damage }
     ensures own { AreTold (P.pages pages.old) (P.count pages.old)
         → AsksOnly (map_uses rows_form (P.pages pages.old) tree.old.rows) (P.asked pages.old) (P.asked pages.new) }
@@ -115,10 +124,12 @@ fn remove_row<P: Pages>(pages: &mut P, tree: &mut Tree, key: RowKey) -> Result<(
         (without (key_of key.node key.number) (map_rows rows_form (P.pages pages.old) tree.old.rows))) }
     ensures root { tree.new.root ≡ tree.old.root }
     ensures kept { OnErr result (tree.new ≡ tree.old) }
+    ensures told { AreTold (P.pages pages.old) (P.count pages.old) → OnOk result (AreTold (P.pages pages.new) (P.count pages.new)) }
     ensures honest { (free : List ℕ) → IsKept rows_form (view (P.pages pages.old) (P.count pages.old) (P.first pages.old) free) tree.old.rows
         → (damage : Damage) → ¬ IsErrOf result (PageFault.Damaged damage) }
     ensures damaged { AreTold (P.pages pages.old) (P.count pages.old) → (damage : Damage) → IsErrOf result (PageFault.Damaged damage)
         → IsMapDamaged rows_form (P.pages pages.old) (P.count pages.old) tree.old.rows damage × AskedSince (P.asked pages.old) (P.asked pages.new) damage.page }
+    ensures stays { (damage : Damage) → IsErrOf result (PageFault.Damaged damage) → (P.pages pages.new ≡ P.pages pages.old) × (P.count pages.new ≡ P.count pages.old) }
     ensures own { AreTold (P.pages pages.old) (P.count pages.old)
         → AsksOnly (map_uses rows_form (P.pages pages.old) tree.old.rows) (P.asked pages.old) (P.asked pages.new) }
     ensures fails { FailsChanging P.Pages pages.old pages.new result }
@@ -133,8 +144,8 @@ fn remove_row<P: Pages>(pages: &mut P, tree: &mut Tree, key: RowKey) -> Result<(
 /// Sets the row of a node for a word, by the word's number. A row of zeros is removed.
 ///
 /// Returns `Damaged` with a rule that a page asked for in this call breaks in its place, or as a `take` returned it; `Disk`,
-/// `NoRoom`, `Stopped`, or `Memory` if it runs out of memory. After a failure `tree` is as before, and pages may have changed:
-/// they are to be abandoned.
+/// `NoRoom`, `Stopped`, or `Memory` if it runs out of memory. After a failure `tree` is as before. If a page breaks a rule in its
+/// place, no page has changed; after any other failure pages may have changed: they are to be abandoned.
 ///
 /// Looks at one page a level of the rows' map. Writes the leaf of the row alone if it has room, or more rows than it must have.
 /// Else writes at most three pages a level, and reads at most two by value. A row of zeros that isn't stored writes nothing.
@@ -150,12 +161,18 @@ pub fn set_row<P: Pages>(
         (with_row node number row.now (bytes_in (P.pages pages.old) tree.old.rows))) }
     ensures root { tree.new.root ≡ tree.old.root }
     ensures kept { OnErr result (tree.new ≡ tree.old) }
+    ensures told { AreTold (P.pages pages.old) (P.count pages.old) → OnOk result (AreTold (P.pages pages.new) (P.count pages.new)) }
 
     // On a well-formed map and a free list that ends at 0 no page is damaged.
     ensures honest { (free : List ℕ) → IsKept rows_form (view (P.pages pages.old) (P.count pages.old) (P.first pages.old) free) tree.old.rows
         → (damage : Damage) → ¬ IsErrOf result (PageFault.Damaged damage) }
     ensures damaged { AreTold (P.pages pages.old) (P.count pages.old) → (damage : Damage) → IsErrOf result (PageFault.Damaged damage)
         → (IsMapDamaged rows_form (P.pages pages.old) (P.count pages.old) tree.old.rows damage × AskedSince (P.asked pages.old) (P.asked pages.new) damage.page)
+        ⊎ IsRefusedTake (P.pages pages.new) (P.count pages.new) (P.first pages.new) damage }
+
+    // A rule that a page breaks is found before a page is written.
+    ensures stays { AreTold (P.pages pages.old) (P.count pages.old) → (damage : Damage) → IsErrOf result (PageFault.Damaged damage)
+        → ((P.pages pages.new ≡ P.pages pages.old) × (P.count pages.new ≡ P.count pages.old))
         ⊎ IsRefusedTake (P.pages pages.new) (P.count pages.new) (P.first pages.new) damage }
     ensures own { AreTold (P.pages pages.old) (P.count pages.old)
         → AsksOnly (map_uses rows_form (P.pages pages.old) tree.old.rows) (P.asked pages.old) (P.asked pages.new) }
@@ -182,7 +199,9 @@ fn replace_row<P: Pages>(
     ensures put { (free : List ℕ) → IsKept rows_form (view (P.pages pages.old) (P.count pages.old) (P.first pages.old) free) tree.now.rows
         → OnOk result (HasBecome rows_form (view (P.pages pages.old) (P.count pages.old) (P.first pages.old) free) (P.pages pages.new) (P.count pages.new) (P.first pages.new) tree.now.rows tree.now.rows
         (put (key_of key.node key.number) row.now (map_rows rows_form (P.pages pages.old) tree.now.rows))) }
+    ensures told { AreTold (P.pages pages.old) (P.count pages.old) → OnOk result (AreTold (P.pages pages.new) (P.count pages.new)) }
     ensures honest { (damage : Damage) → ¬ IsErrOf result (PageFault.Damaged damage) }
+    ensures asked { P.asked pages.new ≡ P.asked pages.old }
     ensures fails { FailsChanging P.Pages pages.old pages.new result }
     ensures frame { Changes P.Pages pages.old pages.new }
 {
@@ -208,8 +227,13 @@ pub fn set_found<P: Pages>(
         (with_row node number row.now (bytes_in (P.pages pages.old) tree.old.rows))) }
     ensures root { tree.new.root ≡ tree.old.root }
     ensures kept { OnErr result (tree.new ≡ tree.old) }
+    ensures told { AreTold (P.pages pages.old) (P.count pages.old) → OnOk result (AreTold (P.pages pages.new) (P.count pages.new)) }
     ensures honest { (free : List ℕ) → IsKept rows_form (view (P.pages pages.old) (P.count pages.old) (P.first pages.old) free) tree.old.rows
         → (damage : Damage) → ¬ IsErrOf result (PageFault.Damaged damage) }
+    ensures damaged { AreTold (P.pages pages.old) (P.count pages.old) → (damage : Damage) → IsErrOf result (PageFault.Damaged damage)
+        → IsRowsHarm (P.pages pages.new) (P.count pages.new) (P.first pages.new) (P.asked pages.old) (P.asked pages.new) damage }
+    ensures own { AreTold (P.pages pages.old) (P.count pages.old)
+        → AsksOnly (map_uses rows_form (P.pages pages.old) tree.old.rows) (P.asked pages.old) (P.asked pages.new) }
     ensures fails { FailsChanging P.Pages pages.old pages.new result }
     ensures frame { Changes P.Pages pages.old pages.new }
 {
