@@ -18,7 +18,7 @@ use Rattle.rtree_nodes.specs.Pages.{level_in, is_used, is_form, stored_in, node_
 use Rattle.rtree_nodes.proofs.Formed.{form-parts, form-node, other-node, stored-used, stored-unused}
 use Rattle.rtree_nodes.proofs.Children.{point_from, leaf-form, leaf-item}
 use Rattle.rtree_nodes.proofs.Cells.{map-from}
-use Rattle.node_inverted.specs.Rows.{bytes_in}
+use Rattle.node_rows.specs.Rows.{bytes_in}
 use Rattle.irtree_shape.specs.Words.{joined_item}
 use Rattle.irtree_shape.specs.Made.{nodes_in}
 use Rattle.tree_entries.specs.Entries.{point_of, rect_of_item}

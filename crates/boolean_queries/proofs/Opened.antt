@@ -11,7 +11,7 @@ use Rattle.rtree_shape.proofs.Amounts.{amount-same}
 use Rattle.rtree_nodes.specs.Pages.{level_in, stored_in, node_of}
 use Rattle.rtree_find.specs.Subtrees.{IsNodeAt}
 use Rattle.rtree_find.proofs.Subtrees.{IsRead, some-read}
-use Rattle.node_inverted.specs.Rows.{bytes_in}
+use Rattle.node_rows.specs.Rows.{bytes_in}
 use Rattle.irtree_shape.specs.Words.{joined_item, words_on}
 use Rattle.irtree_shape.specs.Made.{nodes_in}
 use Rattle.best_first.specs.declared.item.Item as best

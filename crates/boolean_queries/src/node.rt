@@ -9,7 +9,7 @@ ghost use Rattle.paged_map.specs.Maps.{AreCounted};
 ghost use Rattle.rtree_shape.specs.Stock.{rows_form};
 ghost use Rattle.rtree_nodes.specs.Pages.{node_of};
 ghost use Rattle.rtree_find.specs.Subtrees.{IsNodeAt};
-ghost use Rattle.node_inverted.specs.Rows.{bytes_in};
+ghost use Rattle.node_rows.specs.Rows.{bytes_in};
 ghost use Rattle.irtree_shape.specs.Made.{nodes_in};
 ghost use Rattle.tree_entries.specs.Masks.{has_slot, Marks};
 ghost use Rattle.tree_entries.specs.Numbers.{byte_of};

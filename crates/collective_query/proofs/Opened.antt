@@ -20,8 +20,8 @@ use Rattle.place_map.specs.Hit.{comes_before}
 use Rattle.place_map.specs.Search.{lists_in}
 use Rattle.rtree_shape.specs.Slots.{Item, NodeMap}
 use Rattle.rtree_shape.specs.Stock.{rows_form}
-use Rattle.node_inverted.specs.declared.roots.Tree.{Tree}
-use Rattle.node_inverted.specs.Rows.{bytes_in}
+use Rattle.node_rows.specs.declared.roots.Tree.{Tree}
+use Rattle.node_rows.specs.Rows.{bytes_in}
 use Rattle.best_first.specs.Openings.{Opened}
 use Rattle.tree_entries.specs.Entries.{point_of, tree_places}
 use Rattle.tree_entries.specs.Hits.{hit_near, near_item, range_item}

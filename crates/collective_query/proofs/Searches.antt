@@ -11,8 +11,8 @@ use Rattle.page_face.specs.declared.pages.Pages.{Ghosts}
 use Rattle.page_face.proofs.Frames.{reads_then}
 use Rattle.btree_nodes.specs.Damages.{AreTold, AskedSince}
 use Rattle.btree_nodes.proofs.Walks.{same-fault}
-use Rattle.node_inverted.specs.declared.roots.Tree.{Tree}
-use Rattle.node_inverted.proofs.Faults.{reads-none}
+use Rattle.node_rows.specs.declared.roots.Tree.{Tree}
+use Rattle.node_rows.proofs.Faults.{reads-none}
 use Rattle.best_first.proofs.Logs.{asked_sooner}
 use Rattle.tree_ranking.specs.Harms.{IsHarm}
 use Rattle.boolean_queries.specs.Harms.{IsQueryHarm}

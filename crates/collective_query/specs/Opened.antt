@@ -7,7 +7,7 @@ use Rattle.place_map.specs.declared.query.Pick.{Pick}
 use Rattle.place_map.specs.declared.query.Chosen.{Chosen}
 use Rattle.rtree_shape.specs.Slots.{Item}
 use Rattle.rtree_shape.specs.Stock.{rows_form}
-use Rattle.node_inverted.specs.declared.roots.Tree.{Tree}
+use Rattle.node_rows.specs.declared.roots.Tree.{Tree}
 use Rattle.tree_entries.specs.Numbers.{Numbers}
 use Rattle.tree_ranking.specs.Fits.{nodes_at}
 use Rattle.opened_nodes.specs.Words.{OpensFewForWords}

@@ -7,7 +7,7 @@ use Rattle.page_face.specs.declared.fault.PageFault.{PageFault}
 use Rattle.page_face.specs.declared.fault.PageFault.TheVariants.{Damaged}
 use Rattle.page_face.specs.declared.pages.Pages.{Ghosts}
 use Rattle.btree_nodes.specs.Damages.{AreTold}
-use Rattle.node_inverted.specs.declared.roots.Tree.{Tree}
+use Rattle.node_rows.specs.declared.roots.Tree.{Tree}
 use Rattle.tree_ranking.specs.Fits.{FitsTree}
 use Rattle.tree_ranking.specs.Harms.{IsHarm}
 use Rattle.boolean_queries.specs.Harms.{IsQueryHarm}

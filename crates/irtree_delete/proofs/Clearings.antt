@@ -2,11 +2,11 @@
 use Rattle.std.proofs.Common.{◌≡◌, ℕ, inl, inr, refl, sym, ap, ◌∙◌, List, ◌∷◌, [], ◌++◌, if◌then◌else◌, ◌==◌, true, false, Bool, arith}
 use Rattle.std.proofs.lemmas.Bool.Decides.{nat_tests}
 use Rattle.rtree_shape.proofs.Amounts.{same_or}
-use Rattle.node_inverted.specs.Rows.{Bytes}
-use Rattle.node_inverted.specs.Impacts.{with_byte}
+use Rattle.node_rows.specs.Rows.{Bytes}
+use Rattle.node_rows.specs.Impacts.{with_byte}
 use Rattle.node_inverted.specs.Refreshing.{is_named, on_words}
-use Rattle.node_inverted.proofs.Bytes.{and_false}
-use Rattle.node_inverted.proofs.Impacts.{byte-here, byte-elsewhere, byte-another, byte-beside}
+use Rattle.node_rows.proofs.Bytes.{and_false}
+use Rattle.node_rows.proofs.Impacts.{byte-here, byte-elsewhere, byte-another, byte-beside}
 use Rattle.node_inverted.proofs.Refreshes.{named-push, named-same}
 use Rattle.irtree_delete.specs.Clears.{cleared}
 

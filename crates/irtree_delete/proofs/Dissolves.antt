@@ -8,8 +8,8 @@ use Rattle.btree_nodes.proofs.Supplies.{one_at-same, one_at-is, with-same, with-
 use Rattle.rtree_shape.specs.Slots.{Item, NodeView, tops}
 use Rattle.rtree_shape.specs.Stock.{View, view, plain, spare_in, rows_form}
 use Rattle.rtree_nodes.specs.Pages.{node_of}
-use Rattle.node_inverted.specs.Rows.{Bytes, bytes_in}
-use Rattle.node_inverted.specs.Turns.{Turns, HasNone, dropped}
+use Rattle.node_rows.specs.Rows.{Bytes, bytes_in}
+use Rattle.node_rows.specs.Turns.{Turns, HasNone, dropped}
 use Rattle.irtree_shape.specs.Words.{joined, AreBlank}
 use Rattle.irtree_shape.specs.Stock.{IsSupplied, Moves}
 use Rattle.irtree_shape.specs.Made.{nodes_in, IsBlank}

@@ -8,9 +8,9 @@ use Rattle.rtree_shape.specs.Stock.{View, view, plain}
 use Rattle.rtree_shape.specs.Loose.{Loose, with_opt}
 use Rattle.rtree_shape.proofs.Amounts.{same_or}
 use Rattle.rtree_nodes.specs.Pages.{node_of, slots_in}
-use Rattle.node_inverted.specs.Rows.{bytes_in}
-use Rattle.node_inverted.specs.Turns.{Turns}
-use Rattle.node_inverted.specs.Impacts.{refreshed, top_at}
+use Rattle.node_rows.specs.Rows.{bytes_in}
+use Rattle.node_rows.specs.Turns.{Turns}
+use Rattle.node_rows.specs.Impacts.{refreshed, top_at}
 use Rattle.node_inverted.specs.Refreshing.{is_named}
 use Rattle.node_inverted.proofs.Refreshes.{refreshed-here, refreshed-beside, refreshed-elsewhere}
 use Rattle.irtree_shape.specs.Words.{joined_item, words_on, joined, AreBlank}

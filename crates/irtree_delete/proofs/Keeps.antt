@@ -4,11 +4,11 @@ use Rattle.rtree_shape.specs.Slots.{Item, Slots, got, one, amount}
 use Rattle.rtree_shape.specs.Loose.{total_loose}
 use Rattle.rtree_shape.proofs.Amounts.{amount-at}
 use Rattle.rtree_shape.proofs.Sums.{top-same, top-zero}
-use Rattle.node_inverted.specs.Rows.{Bytes}
-use Rattle.node_inverted.specs.Turns.{HasNone}
-use Rattle.node_inverted.specs.Impacts.{top_at}
+use Rattle.node_rows.specs.Rows.{Bytes}
+use Rattle.node_rows.specs.Turns.{HasNone}
+use Rattle.node_rows.specs.Impacts.{top_at}
 use Rattle.node_inverted.specs.Refreshing.{is_named}
-use Rattle.node_inverted.proofs.Refreshes.{top-at-same, top-clear}
+use Rattle.node_rows.proofs.Impacts.{top-at-same, top-clear}
 use Rattle.irtree_shape.specs.Words.{AreBlank}
 use Rattle.irtree_delete.specs.declared.orphan.Orphan.{Orphan}
 use Rattle.irtree_delete.specs.Orphans.{loose_in}

@@ -6,9 +6,9 @@ use Rattle.rtree_shape.specs.Slots.{Item, Slots}
 use Rattle.rtree_shape.specs.Stock.{View, view, plain}
 use Rattle.rtree_shape.specs.Loose.{Loose, with_opt}
 use Rattle.rtree_nodes.specs.Pages.{node_of, slots_in}
-use Rattle.node_inverted.specs.Rows.{bytes_in}
-use Rattle.node_inverted.specs.Turns.{Turns}
-use Rattle.node_inverted.specs.Impacts.{impact_in}
+use Rattle.node_rows.specs.Rows.{bytes_in}
+use Rattle.node_rows.specs.Turns.{Turns}
+use Rattle.node_rows.specs.Impacts.{impact_in}
 use Rattle.node_inverted.specs.Refreshing.{is_named, on_words}
 use Rattle.irtree_shape.specs.Words.{worded, words_on, joined, AreBlank}
 use Rattle.irtree_shape.specs.Stock.{Moves}

@@ -9,7 +9,7 @@ use Rattle.rtree_shape.specs.Loose.{Leads}
 use Rattle.rtree_shape.proofs.Fells.{least-between}
 use Rattle.rtree_nodes.specs.Pages.{node_of, slots_in, level_in}
 use Rattle.rtree_nodes.proofs.Bounding.{some-form}
-use Rattle.node_inverted.specs.Rows.{bytes_in}
+use Rattle.node_rows.specs.Rows.{bytes_in}
 use Rattle.irtree_shape.specs.Made.{nodes_in}
 use Rattle.irtree_shape.specs.Loose.{IsTaking}
 use Rattle.irtree_shape.specs.Whole.{level_at, IsWhole}

@@ -6,9 +6,9 @@ use Rattle.rtree_shape.specs.Slots.{Item, Slots, NodeMap, amount, Each}
 use Rattle.rtree_shape.specs.Trees.{IsItem}
 use Rattle.rtree_shape.specs.Stock.{View, view}
 use Rattle.rtree_shape.specs.Loose.{Loose, total_loose, AllLoose}
-use Rattle.node_inverted.specs.Rows.{Bytes, bytes_in}
-use Rattle.node_inverted.specs.Turns.{HasNone}
-use Rattle.node_inverted.specs.Impacts.{top_at}
+use Rattle.node_rows.specs.Rows.{Bytes, bytes_in}
+use Rattle.node_rows.specs.Turns.{HasNone}
+use Rattle.node_rows.specs.Impacts.{top_at}
 use Rattle.node_inverted.specs.Refreshing.{is_named}
 use Rattle.irtree_shape.specs.Words.{words_on}
 use Rattle.irtree_shape.specs.Stock.{Moves}

@@ -9,7 +9,7 @@ use Rattle.rtree_nodes.specs.declared.content.Slot.{Slot}
 use Rattle.rtree_nodes.specs.Breaks.{BreaksHeader}
 use Rattle.rtree_nodes.specs.Pages.{is_form, level_in, slots_in}
 use Rattle.rtree_nodes.specs.Reach.{item_of, is_place}
-use Rattle.node_inverted.specs.Impacts.{impact_in}
+use Rattle.node_rows.specs.Impacts.{impact_in}
 use Rattle.irtree_shape.specs.Words.{worded}
 use Rattle.irtree_delete.specs.declared.orphan.Orphan.{Orphan}
 

@@ -4,8 +4,8 @@ ghost use Rattle.page_face.specs.Calls.{Changes, FailsChanging};
 ghost use Rattle.page_face.specs.declared.fault.Damage.{Damage};
 ghost use Rattle.btree_nodes.specs.Damages.{AreTold};
 ghost use Rattle.btree_nodes.specs.Supply.{view};
-ghost use Rattle.node_inverted.specs.Rows.{IsRows, bytes_in};
-ghost use Rattle.node_inverted.specs.Turns.{Turns};
+ghost use Rattle.node_rows.specs.Rows.{IsRows, bytes_in};
+ghost use Rattle.node_rows.specs.Turns.{Turns};
 ghost use Rattle.node_inverted.specs.Refreshing.{on_words};
 ghost use Rattle.irtree_delete.specs.Clears.{cleared};
 

@@ -7,7 +7,7 @@ ghost use Rattle.rtree_shape.specs.Slots.{Item};
 ghost use Rattle.rtree_shape.specs.Stock.{view};
 ghost use Rattle.rtree_shape.specs.Loose.{Leads};
 ghost use Rattle.rtree_nodes.specs.Pages.{node_of};
-ghost use Rattle.node_inverted.specs.Impacts.{impact_in};
+ghost use Rattle.node_rows.specs.Impacts.{impact_in};
 ghost use Rattle.irtree_shape.specs.Words.{worded};
 ghost use Rattle.irtree_shape.specs.Made.{nodes_in};
 ghost use Rattle.irtree_shape.specs.Whole.{level_at, IsWhole, IsFelled};

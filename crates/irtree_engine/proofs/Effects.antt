@@ -16,7 +16,7 @@ use Rattle.place_map.specs.State.{IsSerialAbove}
 use Rattle.place_map.specs.State as states
 use Rattle.place_map.specs.Update.{Effect, put_at, refuses, removed_at}
 use Rattle.row_codec.specs.declared.stored.Stored.{Stored}
-use Rattle.node_inverted.specs.declared.roots.Tree.{Tree}
+use Rattle.node_rows.specs.declared.roots.Tree.{Tree}
 use Rattle.rtree_shape.specs.Slots.{Item}
 use Rattle.rtree_shape.specs.Stock as stock
 use Rattle.rtree_nodes.specs.Pages.{node_of}

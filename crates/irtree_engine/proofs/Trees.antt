@@ -14,7 +14,7 @@ use Rattle.rtree_nodes.specs.Pages.{node_of}
 use Rattle.irtree_shape.specs.Made.{nodes_in}
 use Rattle.irtree_shape.specs.Whole.{IsWhole}
 use Rattle.tree_updates.specs.Regrown.{HasEntry, IsRegrown}
-use Rattle.node_inverted.specs.declared.roots.Tree.{Tree}
+use Rattle.node_rows.specs.declared.roots.Tree.{Tree}
 use Rattle.store_tables.specs.declared.tables.Tables.{Tables}
 use Rattle.store_tables.specs.Entries.{Entries, place_of_key}
 use Rattle.store_tables.specs.Holding.{IsChanged}

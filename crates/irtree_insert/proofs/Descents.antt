@@ -14,10 +14,10 @@ use Rattle.rtree_nodes.specs.Pages.{node_of, slots_in, level_in, mask_of, is_for
 use Rattle.rtree_nodes.proofs.Formed.{form-slots}
 use Rattle.rtree_nodes.proofs.Masks.{slot-bit}
 use Rattle.rtree_nodes.proofs.Bounding.{some-form}
-use Rattle.node_inverted.specs.Rows.{Bytes, bytes_in}
-use Rattle.node_inverted.specs.Impacts.{impact_in, top_at}
-use Rattle.node_inverted.specs.Known.{AreRowsAt}
-use Rattle.node_inverted.proofs.Known.{known-same}
+use Rattle.node_rows.specs.Rows.{Bytes, bytes_in}
+use Rattle.node_rows.specs.Impacts.{impact_in, top_at}
+use Rattle.node_rows.specs.Known.{AreRowsAt}
+use Rattle.node_rows.proofs.Known.{known-same}
 use Rattle.irtree_shape.specs.Words.{joined, worded, words_on}
 use Rattle.irtree_shape.specs.Made.{nodes_in, IsReady, IsOpen, Makes, Puts}
 use Rattle.irtree_shape.specs.Steps.{Steps, crowned_in, relinked}

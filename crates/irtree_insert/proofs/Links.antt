@@ -12,7 +12,7 @@ use Rattle.rtree_shape.specs.Trees.{with_slot}
 use Rattle.rtree_shape.specs.Stock.{View, view, spare_in}
 use Rattle.rtree_shape.proofs.Amounts.{amount-at}
 use Rattle.btree_nodes.proofs.Supplies.{one_at-same}
-use Rattle.node_inverted.specs.Rows.{bytes_in}
+use Rattle.node_rows.specs.Rows.{bytes_in}
 use Rattle.irtree_shape.specs.Words.{joined, words_on}
 use Rattle.irtree_shape.specs.Made.{IsReady, Makes}
 use Rattle.irtree_shape.proofs.Stocks.{moves-none}

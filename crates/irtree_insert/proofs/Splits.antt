@@ -7,9 +7,9 @@ use Rattle.rtree_shape.specs.Slots.{Item, Slots, tops, IsFull, IsPart}
 use Rattle.rtree_shape.specs.Stock.{View, view, spare_in}
 use Rattle.rtree_nodes.specs.Pages.{node_of, slots_in}
 use Rattle.split_policy.specs.Masks.{IsMask}
-use Rattle.node_inverted.specs.Rows.{bytes_in}
-use Rattle.node_inverted.specs.Turns.{moved}
-use Rattle.node_inverted.specs.Impacts.{raised}
+use Rattle.node_rows.specs.Rows.{bytes_in}
+use Rattle.node_rows.specs.Turns.{moved}
+use Rattle.node_rows.specs.Impacts.{raised}
 use Rattle.irtree_shape.specs.Words.{joined, worded, words_on}
 use Rattle.irtree_shape.specs.Stock.{IsSupplied}
 use Rattle.irtree_shape.specs.Made.{nodes_in, IsReady, Makes}

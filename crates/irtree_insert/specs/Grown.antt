@@ -2,8 +2,8 @@
 use Rattle.std.specs.Prelude.{ℕ, Option, None, Some}
 use Rattle.rtree_shape.specs.Slots.{Item}
 use Rattle.rtree_nodes.specs.Reach.{child_item}
-use Rattle.node_inverted.specs.Rows.{Bytes}
-use Rattle.node_inverted.specs.Impacts.{top_at}
+use Rattle.node_rows.specs.Rows.{Bytes}
+use Rattle.node_rows.specs.Impacts.{top_at}
 use Rattle.irtree_insert.specs.declared.grown.Beside.{Beside}
 
 -- the node as an item, without its words

@@ -4,8 +4,8 @@ use Rattle.std.specs.Int.{bit_at}
 use Rattle.rtree_shape.specs.Slots.{Item, Slots, IsFree}
 use Rattle.rtree_shape.specs.Trees.{with_slot}
 use Rattle.rtree_shape.specs.Masks.{kept_of, moved_of}
-use Rattle.node_inverted.specs.Rows.{Bytes}
-use Rattle.node_inverted.specs.Counts.{IsCounted}
+use Rattle.node_rows.specs.Rows.{Bytes}
+use Rattle.node_rows.specs.Counts.{IsCounted}
 
 -- a policy that splits so was asked with the number of words that each two of 33 entries share
 pub record IsAsked (b : Bytes) (page : ℕ) (words : List (ℕ × ℕ)) (splits : List (List ℕ) → ℕ → Type 0) (mask : ℕ) : Type 0 where

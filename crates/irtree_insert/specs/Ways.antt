@@ -1,7 +1,7 @@
 -- The way down.
 use Rattle.std.specs.Prelude.{◌≡◌, ℕ, ◌<◌, min, List, slice_index}
-use Rattle.node_inverted.specs.Rows.{Bytes}
-use Rattle.node_inverted.specs.Counts.{most, shared_in}
+use Rattle.node_rows.specs.Rows.{Bytes}
+use Rattle.node_rows.specs.Counts.{most, shared_in}
 
 -- a policy that chooses so was asked with the number of an entry's words below each slot
 pub record IsChosen (b : Bytes) (page : ℕ) (words : List (ℕ × ℕ)) (chooses : List ℕ → ℕ → Type 0) (at : ℕ) : Type 0 where

@@ -8,7 +8,7 @@ ghost use Rattle.rtree_shape.specs.Made.{Rises};
 ghost use Rattle.rtree_shape.specs.Loose.{Loose};
 ghost use Rattle.rtree_nodes.specs.Reach.{reach_of, item_of};
 ghost use Rattle.rtree_nodes.specs.Pages.{node_of};
-ghost use Rattle.node_inverted.specs.Impacts.{impact_in};
+ghost use Rattle.node_rows.specs.Impacts.{impact_in};
 ghost use Rattle.irtree_shape.specs.Words.{worded};
 ghost use Rattle.irtree_shape.specs.Stock.{IsSupplied};
 ghost use Rattle.irtree_shape.specs.Made.{nodes_in, IsOpen, Puts};

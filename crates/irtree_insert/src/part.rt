@@ -11,7 +11,7 @@ ghost use Rattle.rtree_shape.specs.Made.{Rises};
 ghost use Rattle.rtree_nodes.specs.Reach.{item_of};
 ghost use Rattle.rtree_nodes.specs.Pages.{level_in, slots_in};
 ghost use Rattle.split_policy.specs.Masks.{IsMask};
-ghost use Rattle.node_inverted.specs.Rows.{bytes_in};
+ghost use Rattle.node_rows.specs.Rows.{bytes_in};
 ghost use Rattle.irtree_insert.specs.Fits.{Fits};
 ghost use Rattle.irtree_insert.specs.Drafts.{IsDraft};
 ghost use Rattle.irtree_insert.specs.Parts.{IsAsked, IsParted};

@@ -8,7 +8,7 @@ ghost use Rattle.rtree_shape.specs.Heads.{stand_heads};
 ghost use Rattle.rtree_shape.specs.Stock.{view};
 ghost use Rattle.rtree_nodes.specs.Reach.{reach_of, item_of, is_place};
 ghost use Rattle.rtree_nodes.specs.Pages.{node_of};
-ghost use Rattle.node_inverted.specs.Impacts.{impact_in};
+ghost use Rattle.node_rows.specs.Impacts.{impact_in};
 ghost use Rattle.irtree_shape.specs.Words.{worded};
 ghost use Rattle.irtree_shape.specs.Made.{nodes_in, IsMade, IsRaised};
 ghost use Rattle.irtree_shape.specs.Whole.{IsWhole, IsPlanted};

@@ -10,9 +10,9 @@ use Rattle.rtree_shape.specs.Trees.{with_slot, IsPutFree}
 use Rattle.rtree_shape.specs.Masks.{kept_of, moved_of}
 use Rattle.rtree_shape.specs.Stock.{View, view, spare_in}
 use Rattle.rtree_shape.specs.Made.{Reads}
-use Rattle.node_inverted.specs.Rows.{Bytes, bytes_in}
-use Rattle.node_inverted.specs.Turns.{moved}
-use Rattle.node_inverted.specs.Impacts.{raised}
+use Rattle.node_rows.specs.Rows.{Bytes, bytes_in}
+use Rattle.node_rows.specs.Turns.{moved}
+use Rattle.node_rows.specs.Impacts.{raised}
 use Rattle.node_inverted.proofs.Moves.{moved-node, moved-to}
 use Rattle.irtree_shape.specs.Words.{joined, worded, words_on, AreBlank}
 use Rattle.irtree_shape.specs.Made.{nodes_in, IsBlank, IsReady, IsSplit, Makes}

@@ -12,7 +12,7 @@ use Rattle.rtree_shape.proofs.Amounts.{amount-at}
 use Rattle.rtree_shape.proofs.Frames.{SameSlots, SameItem, slots-frame, item-frame}
 use Rattle.rtree_shape.proofs.Heads.{item-heads, slots-heads, step-heads, total-append}
 use Rattle.rtree_shape.proofs.Steps.{Stepped, stepped}
-use Rattle.node_inverted.specs.Rows.{bytes_in}
+use Rattle.node_rows.specs.Rows.{bytes_in}
 use Rattle.irtree_shape.specs.Stock.{Moves}
 use Rattle.irtree_shape.specs.Steps.{crowned_in}
 use Rattle.irtree_shape.specs.Made.{nodes_in, IsReady, IsOpen, Makes, Puts}

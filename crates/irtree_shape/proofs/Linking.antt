@@ -8,9 +8,9 @@ use Rattle.rtree_shape.specs.Trees.{with_slot, reach_of, uses}
 use Rattle.rtree_shape.specs.Stock.{View, view, spare_in}
 use Rattle.rtree_shape.specs.Made.{Reads}
 use Rattle.rtree_shape.proofs.Amounts.{same_or, with_slot-same, with_slot-other}
-use Rattle.node_inverted.specs.Rows.{bytes_in}
-use Rattle.node_inverted.specs.Impacts.{impact_in, top_at}
-use Rattle.node_inverted.proofs.Refreshes.{top-at-same}
+use Rattle.node_rows.specs.Rows.{bytes_in}
+use Rattle.node_rows.specs.Impacts.{impact_in, top_at}
+use Rattle.node_rows.proofs.Impacts.{top-at-same}
 use Rattle.irtree_shape.specs.Words.{worded, joined_item, words_on}
 use Rattle.irtree_shape.specs.Steps.{Steps, crowned_in, relinked}
 use Rattle.irtree_shape.specs.Made.{nodes_in, IsReady, IsOpen, Makes, Puts}

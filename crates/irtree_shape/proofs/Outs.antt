@@ -3,8 +3,8 @@ use Rattle.std.proofs.Common.{◌≡◌, ℕ, zero, suc, ◌+◌, ◌<◌, ◌�
 use Rattle.page_face.specs.FreeList.{PageMap}
 use Rattle.btree_nodes.specs.Supply.{one_at}
 use Rattle.btree_nodes.proofs.Supplies.{one_at-same, one_at-other}
-use Rattle.node_inverted.specs.Rows.{bytes_in}
-use Rattle.node_inverted.specs.Impacts.{top_at}
+use Rattle.node_rows.specs.Rows.{bytes_in}
+use Rattle.node_rows.specs.Impacts.{top_at}
 use Rattle.rtree_shape.specs.Slots.{Item, Slots, NodeMap, got, amount, Held, Each}
 use Rattle.rtree_shape.specs.Trees.{below, uses, IsItem}
 use Rattle.rtree_shape.specs.Stock.{View, view, spare_in}

@@ -12,8 +12,8 @@ use Rattle.rtree_shape.proofs.Amounts.{same_or}
 use Rattle.rtree_shape.proofs.Heads.{total-append}
 use Rattle.rtree_shape.proofs.Plants.{least-some}
 use Rattle.rtree_shape.proofs.Raises.{one-sum, one-each}
-use Rattle.node_inverted.specs.Rows.{bytes_in}
-use Rattle.node_inverted.specs.Impacts.{impact_in, raised}
+use Rattle.node_rows.specs.Rows.{bytes_in}
+use Rattle.node_rows.specs.Impacts.{impact_in, raised}
 use Rattle.irtree_shape.specs.Words.{worded, joined, words_on}
 use Rattle.irtree_shape.specs.Stock.{Moves}
 use Rattle.irtree_shape.specs.Steps.{Steps, Takes}

@@ -15,8 +15,8 @@ use Rattle.rtree_shape.proofs.Amounts.{same_or, with_slot-same, with_slot-other}
 use Rattle.rtree_shape.proofs.Frames.{item-frame, SameItem}
 use Rattle.rtree_shape.proofs.Heads.{item-heads}
 use Rattle.rtree_shape.proofs.Raises.{two-sum, two-top, two-each}
-use Rattle.node_inverted.specs.Rows.{Bytes, bytes_in}
-use Rattle.node_inverted.specs.Impacts.{refreshed, top_at}
+use Rattle.node_rows.specs.Rows.{Bytes, bytes_in}
+use Rattle.node_rows.specs.Impacts.{refreshed, top_at}
 use Rattle.node_inverted.proofs.Refreshes.{refreshed-here, refreshed-beside}
 use Rattle.irtree_shape.specs.Words.{joined, joined_item, words_on}
 use Rattle.irtree_shape.specs.Stock.{Moves}

@@ -5,8 +5,8 @@ use Rattle.std.proofs.Math.Path.{fun_ext}
 use Rattle.page_face.specs.FreeList.{PageMap}
 use Rattle.rtree_shape.specs.Slots.{Item, NodeMap, tops}
 use Rattle.rtree_shape.specs.Made.{Reads}
-use Rattle.node_inverted.specs.Rows.{Bytes, bytes_in}
-use Rattle.node_inverted.specs.Impacts.{impact_in, top_at}
+use Rattle.node_rows.specs.Rows.{Bytes, bytes_in}
+use Rattle.node_rows.specs.Impacts.{impact_in, top_at}
 use Rattle.node_inverted.proofs.Refreshes.{refreshed-here, refreshed-beside}
 use Rattle.irtree_shape.specs.Words.{worded, joined_item}
 use Rattle.irtree_shape.specs.Steps.{crowned, relinked}

@@ -5,12 +5,13 @@ use Rattle.btree_nodes.specs.Supply.{one_at}
 use Rattle.btree_nodes.specs.Supply as supply
 use Rattle.rtree_shape.specs.Stock.{View, plain, spare_in}
 use Rattle.rtree_shape.proofs.Amounts.{same_or}
-use Rattle.node_inverted.specs.Rows.{Bytes, bytes_in}
-use Rattle.node_inverted.specs.Turns.{Turns}
-use Rattle.node_inverted.specs.Impacts.{impact_in, top_at, raised, refreshed}
+use Rattle.node_rows.specs.Rows.{Bytes, bytes_in}
+use Rattle.node_rows.specs.Turns.{Turns}
+use Rattle.node_rows.specs.Impacts.{impact_in, top_at, raised, refreshed}
 use Rattle.node_inverted.specs.Refreshing.{on_words}
-use Rattle.node_inverted.proofs.Refreshes.{refreshed-here, refreshed-elsewhere, refreshed-beside, renewed-all, top-at-same}
-use Rattle.node_inverted.proofs.Turned.{turns-as, turns-further}
+use Rattle.node_rows.proofs.Impacts.{top-at-same}
+use Rattle.node_inverted.proofs.Refreshes.{refreshed-here, refreshed-elsewhere, refreshed-beside, renewed-all}
+use Rattle.node_rows.proofs.Turned.{turns-as, turns-further}
 use Rattle.irtree_shape.specs.Stock.{IsSupplied}
 use Rattle.irtree_shape.specs.Steps.{Steps, relinked}
 use Rattle.irtree_shape.proofs.Words.{raised-at, raised-beside}

@@ -3,8 +3,8 @@ use Rattle.std.proofs.Common.{◌≡◌, ℕ, ◌+◌, ◌<◌, ◌≤◌, arith
 use Rattle.page_face.specs.FreeList.{PageMap}
 use Rattle.btree_nodes.specs.Supply.{one_at}
 use Rattle.btree_nodes.proofs.Supplies.{none, one_at-same, one_at-other}
-use Rattle.node_inverted.specs.Rows.{bytes_in}
-use Rattle.node_inverted.specs.Turns.{HasNone}
+use Rattle.node_rows.specs.Rows.{bytes_in}
+use Rattle.node_rows.specs.Turns.{HasNone}
 use Rattle.rtree_shape.specs.Slots.{Item, NodeView, amount, tops, filled}
 use Rattle.rtree_shape.specs.Trees.{below, uses, IsItem, IsNode}
 use Rattle.rtree_shape.specs.Stock.{View, view, spare_in}

@@ -2,11 +2,12 @@
 use Rattle.std.proofs.Common.{◌≡◌, ℕ, ◌+◌, max, arith, refl, sym, ap, ◌∙◌, Option, Some, None, option_map, inl, inr, List, [], ◌∷◌, true, false, Bool, ◌==◌, if◌then◌else◌}
 use Rattle.std.proofs.Math.Path.{fun_ext}
 use Rattle.page_face.specs.FreeList.{PageMap}
-use Rattle.node_inverted.specs.Rows.{bytes_in}
-use Rattle.node_inverted.specs.Turns.{HasNone}
-use Rattle.node_inverted.specs.Impacts.{impact_at, impact_in, top_at, refreshed}
+use Rattle.node_rows.specs.Rows.{bytes_in}
+use Rattle.node_rows.specs.Turns.{HasNone}
+use Rattle.node_rows.specs.Impacts.{impact_at, impact_in, top_at, refreshed}
 use Rattle.node_inverted.specs.Refreshing.{is_named}
-use Rattle.node_inverted.proofs.Refreshes.{top-clear, refreshed-here, refreshed-beside}
+use Rattle.node_rows.proofs.Impacts.{top-clear}
+use Rattle.node_inverted.proofs.Refreshes.{refreshed-here, refreshed-beside}
 use Rattle.rtree_shape.specs.Slots.{Item, Slots, got, tops}
 use Rattle.rtree_shape.specs.Trees.{reach_of}
 use Rattle.rtree_shape.specs.Made.{Reads}

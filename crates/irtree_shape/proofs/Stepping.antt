@@ -6,12 +6,12 @@ use Rattle.btree_nodes.specs.Supply.{one_at, tail}
 use Rattle.btree_nodes.specs.Supply as supply
 use Rattle.btree_nodes.proofs.Supplies.{one_at-is, one_at-other, one_at-same, with-other, with-same}
 use Rattle.rtree_shape.specs.Stock.{View, view, plain, spare_in}
-use Rattle.node_inverted.specs.Rows.{Bytes, bytes_in, only}
-use Rattle.node_inverted.specs.Turns.{Turns, moved}
-use Rattle.node_inverted.specs.Impacts.{raised, refreshed}
+use Rattle.node_rows.specs.Rows.{Bytes, bytes_in, only}
+use Rattle.node_rows.specs.Turns.{Turns, moved}
+use Rattle.node_rows.specs.Impacts.{raised, refreshed}
 use Rattle.node_inverted.proofs.Moves.{moved-other}
 use Rattle.node_inverted.proofs.Refreshes.{refreshed-elsewhere}
-use Rattle.node_inverted.proofs.Turned.{turns-as, turns-further}
+use Rattle.node_rows.proofs.Turned.{turns-as, turns-further}
 use Rattle.irtree_shape.specs.Stock.{IsSupplied}
 use Rattle.irtree_shape.specs.Steps.{Steps, Takes, IsPaired}
 use Rattle.irtree_shape.proofs.Stocks.{beside-map, bytes-same, moves-as, moves-beside, moves-further, moves-rows, moves-take, moves-write, taken-beside}

@@ -16,8 +16,8 @@ use Rattle.rtree_shape.specs.Stock.{View, view, plain, rows_form, spare_in}
 use Rattle.rtree_shape.specs.Stock as bare
 use Rattle.rtree_shape.specs.Made.{Reads}
 use Rattle.rtree_shape.proofs.Stocks as bares
-use Rattle.node_inverted.specs.Rows.{Bytes, AreFilled, bytes_in, bytes_of}
-use Rattle.node_inverted.specs.Turns.{Turns}
+use Rattle.node_rows.specs.Rows.{Bytes, AreFilled, bytes_in, bytes_of}
+use Rattle.node_rows.specs.Turns.{Turns}
 use Rattle.irtree_shape.specs.Words.{joined}
 use Rattle.irtree_shape.specs.Stock.{IsSupplied, IsAsBefore, Moves}
 use Rattle.irtree_shape.specs.Made.{nodes_in}

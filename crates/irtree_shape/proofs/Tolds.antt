@@ -9,7 +9,7 @@ use Rattle.btree_nodes.specs.Tree.{IsFan, IsMap, IsTree, level_of, map_uses, nex
 use Rattle.btree_nodes.specs.Tree as tree
 use Rattle.btree_nodes.proofs.Frames.{with_low-total}
 use Rattle.btree_nodes.proofs.Supplies.{counted-none, free-told, one_at-is, uncounted-past}
-use Rattle.node_inverted.specs.Rows.{Bytes, bytes_in}
+use Rattle.node_rows.specs.Rows.{Bytes, bytes_in}
 use Rattle.rtree_shape.specs.Slots.{Item, Slots, got, amount, filled, Held, Each, no_slots}
 use Rattle.rtree_shape.specs.Trees.{uses, IsItem, IsNode, Stands, least_with, node_uses, stand_uses}
 use Rattle.rtree_shape.specs.Stock.{View, rows_form, spare_in}

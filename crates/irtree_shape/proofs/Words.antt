@@ -8,9 +8,9 @@ use Rattle.rtree_shape.specs.Trees.{with_slot, reach_of, IsPutFree}
 use Rattle.rtree_shape.specs.Masks.{kept_of, moved_of}
 use Rattle.rtree_shape.proofs.Sums.{top-same}
 use Rattle.rtree_shape.proofs.Amounts.{same_or, with_slot-same, with_slot-other, amount-same}
-use Rattle.node_inverted.specs.Rows.{Bytes}
-use Rattle.node_inverted.specs.Turns.{moved}
-use Rattle.node_inverted.specs.Impacts.{raised, top_at}
+use Rattle.node_rows.specs.Rows.{Bytes}
+use Rattle.node_rows.specs.Turns.{moved}
+use Rattle.node_rows.specs.Impacts.{raised, top_at}
 use Rattle.node_inverted.proofs.Moves.{moved-node, moved-to}
 use Rattle.irtree_shape.specs.Words.{worded, joined_item, words_on, joined, AreBlank}
 

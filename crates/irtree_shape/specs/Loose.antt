@@ -7,8 +7,8 @@ use Rattle.rtree_shape.specs.Trees.{below, uses, IsItem, IsNode}
 use Rattle.rtree_shape.specs.Stock.{View, view, spare_in}
 use Rattle.rtree_shape.specs.Made.{Reads}
 use Rattle.rtree_shape.specs.Loose.{Loose, total_loose, AllLoose, IsNodeItem, Leads, out_uses, out_below}
-use Rattle.node_inverted.specs.Rows.{bytes_in}
-use Rattle.node_inverted.specs.Turns.{HasNone}
+use Rattle.node_rows.specs.Rows.{bytes_in}
+use Rattle.node_rows.specs.Turns.{HasNone}
 use Rattle.irtree_shape.specs.Words.{AreBlank}
 use Rattle.irtree_shape.specs.Stock.{IsSupplied, Moves}
 use Rattle.irtree_shape.specs.Made.{nodes_in, IsBlank}

@@ -7,7 +7,7 @@ use Rattle.rtree_shape.specs.Trees.{below, uses, IsItem, IsNode, Stands, stand_u
 use Rattle.rtree_shape.specs.Heads.{heads, node_heads, stand_heads, heads_with, total_heads}
 use Rattle.rtree_shape.specs.Stock.{View, view, spare_in}
 use Rattle.rtree_shape.specs.Made.{Reads, sums_with, uses_with, reach_with}
-use Rattle.node_inverted.specs.Rows.{bytes_in}
+use Rattle.node_rows.specs.Rows.{bytes_in}
 use Rattle.irtree_shape.specs.Words.{joined, AreBlank}
 use Rattle.irtree_shape.specs.Stock.{IsSupplied, Moves}
 

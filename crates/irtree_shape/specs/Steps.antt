@@ -4,8 +4,8 @@ use Rattle.page_face.specs.FreeList.{PageMap}
 use Rattle.btree_nodes.specs.Supply.{one_at}
 use Rattle.rtree_shape.specs.Slots.{Item, NodeMap, tops}
 use Rattle.rtree_shape.specs.Stock.{View, view}
-use Rattle.node_inverted.specs.Rows.{Bytes, bytes_in}
-use Rattle.node_inverted.specs.Impacts.{impact_in, raised, refreshed}
+use Rattle.node_rows.specs.Rows.{Bytes, bytes_in}
+use Rattle.node_rows.specs.Impacts.{impact_in, raised, refreshed}
 use Rattle.irtree_shape.specs.Stock.{Moves}
 
 -- The pages `mine` have become `ours`: they hold what `held` does, and their rows say these bytes.

@@ -1,7 +1,7 @@
 -- A well-formed IR-tree over its pages, and what putting a place in or taking one out makes of it.
 use Rattle.std.specs.Prelude.{◌≡◌, ℕ, zero, suc, ◌+◌, ◌≤◌, List, length}
 use Rattle.page_face.specs.FreeList.{PageMap}
-use Rattle.node_inverted.specs.Rows.{bytes_in}
+use Rattle.node_rows.specs.Rows.{bytes_in}
 use Rattle.rtree_shape.specs.Slots.{Item, NodeMap}
 use Rattle.rtree_shape.specs.Trees.{IsTree, node_below, node_uses}
 use Rattle.rtree_shape.specs.Heads.{node_heads, total_heads}

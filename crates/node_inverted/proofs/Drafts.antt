@@ -1,5 +1,5 @@
 -- Rows of words that are changed in memory, leaf by leaf.
-use Rattle.std.proofs.Common.{◌≡◌, ℕ, ◌^◌, ◌<◌, sym, ap, ◌∙◌, subst, None, List, ◌++◌, true, slice_index}
+use Rattle.std.proofs.Common.{◌≡◌, ℕ, ◌^◌, ◌<◌, max, arith, refl, sym, ap, ◌∙◌, subst, None, List, [], ◌∷◌, ◌++◌, ◌&&◌, ◌==◌, if◌then◌else◌, true, false, slice_index}
 use Rattle.std.proofs.Math.Path.{fun_ext}
 use Rattle.page_face.specs.FreeList.{PageMap, are_zero}
 use Rattle.btree_nodes.specs.declared.form.Form.{Form}
@@ -10,10 +10,12 @@ use Rattle.btree_nodes.proofs.Spans.{within-append}
 use Rattle.paged_map.specs.Drafts.{IsDrafted}
 use Rattle.paged_map.specs.Maps.{HasBecome}
 use Rattle.rtree_shape.specs.Stock.{rows_form}
-use Rattle.node_inverted.specs.Rows.{AreFilled, Bytes, IsFilled, byte_in, bytes_of, key_of}
-use Rattle.node_inverted.specs.Turns.{Turns, with_row}
-use Rattle.node_inverted.proofs.Lookups.{lookup-put, lookup-put_other, lookup-without, lookup-without_other}
-use Rattle.node_inverted.proofs.Bytes.{bytes-set, zero-at}
+use Rattle.node_rows.specs.Rows.{AreFilled, Bytes, IsFilled, byte_in, bytes_of, key_of, only}
+use Rattle.node_rows.specs.Turns.{Turns, with_row}
+use Rattle.node_rows.specs.Impacts.{impact_at, impact_in, raised}
+use Rattle.node_inverted.specs.Drafts.{raised_by}
+use Rattle.node_rows.proofs.Lookups.{lookup-put, lookup-put_other, lookup-without, lookup-without_other}
+use Rattle.node_rows.proofs.Bytes.{bytes-set, zero-at}
 
 -- the keys of a map's rows ascend, whatever leaf is drafted
 pub drafted-within : (form : Form) (pages : PageMap) (root least page low high : ℕ) (bytes : List ℕ) (rows : List Row) → IsDrafted form pages root least page low high bytes rows → IsWithin low high (rows_in form bytes)
@@ -48,3 +50,22 @@ turned-become before pages count first root root' rows b filled e h = record {
   is = λ n w i. ap (λ (rs : List Row). bytes_of rs n w i) h.has ∙ ap (λ (f : Bytes). f n w i) e;
   moves = h.moves;
 }
+
+-- two raises of a slot are one
+pub only-max : (node slot : ℕ) (f g : ℕ → ℕ) (n w i : ℕ) → max (only node slot f n w i) (only node slot g n w i) ≡ only node slot (λ v. max (f v) (g v)) n w i
+only-max node slot f g n w i = elim ((n == node) && (i == slot)) as (λ b. max (if b then f w else 0) (if b then g w else 0) ≡ (if b then max (f w) (g w) else 0)) [ true ↦ refl | false ↦ refl ]
+
+assoc-swap : (a b c : ℕ) → max (max a b) c ≡ max a (max c b)
+assoc-swap a b c = omega arith
+
+-- no pair
+pub only-none : (node slot old n w i : ℕ) → old ≡ max old (only node slot (impact_in []) n w i)
+only-none node slot old n w i = elim ((n == node) && (i == slot)) as (λ b. old ≡ max old (if b then 0 else 0)) [ true ↦ omega arith | false ↦ omega arith ]
+
+-- pairs one after another raise a slot as all of them
+pub raised-all : (node slot : ℕ) (pairs : List (ℕ × ℕ)) (b : Bytes) → raised_by node slot pairs b ≡ raised node slot (impact_in pairs) b
+raised-all node slot [] b = fun_ext (λ n. fun_ext (λ w. fun_ext (λ i. only-none node slot (b n w i) n w i)))
+raised-all node slot (p ∷ ps) b =
+    raised-all node slot ps (raised node slot (impact_at p) b)
+    ∙ fun_ext (λ n. fun_ext (λ w. fun_ext (λ i.
+    assoc-swap (b n w i) (only node slot (impact_at p) n w i) (only node slot (impact_in ps) n w i) ∙ ap (max (b n w i)) (only-max node slot (impact_in ps) (impact_at p) n w i))))

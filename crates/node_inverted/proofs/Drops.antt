@@ -1,9 +1,9 @@
 -- Rows that are dropped.
 use Rattle.std.proofs.Common.{◌≡◌, ℕ, inl, inr, arith, refl, sym, ap, ◌∙◌, List, ◌==◌, true, false, slice_index}
 use Rattle.std.proofs.lemmas.Bool.Decides.{nat_tests}
-use Rattle.node_inverted.specs.Rows.{Bytes}
-use Rattle.node_inverted.specs.Turns.{dropped, with_row}
-use Rattle.node_inverted.proofs.Bytes.{with-here, with-elsewhere}
+use Rattle.node_rows.specs.Rows.{Bytes}
+use Rattle.node_rows.specs.Turns.{dropped, with_row}
+use Rattle.node_rows.proofs.Bytes.{with-here, with-elsewhere}
 use Rattle.rtree_shape.proofs.Amounts.{same_or}
 
 -- a word without bytes has none to be dropped

@@ -5,21 +5,21 @@ use Rattle.std.proofs.lemmas.Bool.Decides.{nat_tests}
 use Rattle.page_face.specs.FreeList.{PageMap}
 use Rattle.btree_nodes.specs.Supply.{View, view}
 use Rattle.rtree_shape.proofs.Amounts.{same_or}
-use Rattle.node_inverted.specs.Rows.{Bytes, bytes_in}
-use Rattle.node_inverted.specs.Turns.{Turns, dropped, moved, with_row}
-use Rattle.node_inverted.specs.Ascents.{until}
-use Rattle.node_inverted.specs.Copies.{IsCopy}
+use Rattle.node_rows.specs.Rows.{Bytes, bytes_in}
+use Rattle.node_rows.specs.Turns.{Turns, dropped, moved, with_row}
+use Rattle.node_rows.specs.Ascents.{until}
+use Rattle.node_rows.specs.Copies.{IsCopy}
 use Rattle.node_inverted.specs.Drafts.{with_rows}
 use Rattle.node_inverted.specs.Gathers.{IsDropping, IsMoving, IsRenewing}
-use Rattle.node_inverted.specs.Impacts.{refreshed, with_byte}
+use Rattle.node_rows.specs.Impacts.{refreshed, with_byte}
 use Rattle.node_inverted.specs.Refreshing.{on_words}
-use Rattle.node_inverted.specs.declared.leaf.LeafCopy.{LeafCopy}
+use Rattle.node_rows.specs.declared.leaf.LeafCopy.{LeafCopy}
 use Rattle.node_inverted.specs.declared.taking.NodeRow.{NodeRow}
-use Rattle.node_inverted.proofs.Ascents.{until-left}
-use Rattle.node_inverted.proofs.Bytes.{with-here, with-elsewhere, with-another}
-use Rattle.node_inverted.proofs.Impacts.{byte-here, byte-elsewhere, byte-another, byte-beside}
+use Rattle.node_rows.proofs.Ascents.{until-left}
+use Rattle.node_rows.proofs.Bytes.{with-here, with-elsewhere, with-another}
+use Rattle.node_rows.proofs.Impacts.{byte-here, byte-elsewhere, byte-another, byte-beside}
 use Rattle.node_inverted.proofs.Refreshes.{away, child-same, refreshed-beside}
-use Rattle.node_inverted.proofs.Turned.{turns-as, turns-further}
+use Rattle.node_rows.proofs.Turned.{turns-as, turns-further}
 
 -- bytes that are the same everywhere
 pub bytes-ext : (b d : Bytes) → ((n w i : ℕ) → b n w i ≡ d n w i) → b ≡ d

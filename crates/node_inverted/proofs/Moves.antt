@@ -3,10 +3,10 @@ use Rattle.std.proofs.Common.{◌≡◌, ℕ, inl, inr, arith, refl, sym, ap, �
 use Rattle.std.proofs.lemmas.Bool.Decides.{nat_tests}
 use Rattle.std.specs.Int.{bit_at}
 use Rattle.page_face.specs.FreeList.{are_zero}
-use Rattle.node_inverted.specs.Rows.{Bytes}
-use Rattle.node_inverted.specs.Turns.{moved, with_row}
-use Rattle.node_inverted.specs.Ascents.{on_word}
-use Rattle.node_inverted.proofs.Bytes.{with-here, with-elsewhere, with-another, zero-at}
+use Rattle.node_rows.specs.Rows.{Bytes}
+use Rattle.node_rows.specs.Turns.{moved, with_row}
+use Rattle.node_rows.specs.Ascents.{on_word}
+use Rattle.node_rows.proofs.Bytes.{with-here, with-elsewhere, with-another, zero-at}
 use Rattle.rtree_shape.proofs.Amounts.{same_or}
 
 -- the word that is done

@@ -3,19 +3,17 @@ use Rattle.std.proofs.Common.{◌≡◌, ℕ, suc, ◌+◌, ◌-◌, ◌^◌, �
 use Rattle.std.proofs.lemmas.Bool.Decides.{nat_tests}
 use Rattle.page_face.specs.FreeList.{PageMap}
 use Rattle.btree_nodes.specs.Supply.{View}
-use Rattle.rtree_shape.specs.Slots.{top_to}
 use Rattle.rtree_shape.proofs.Amounts.{same_or}
-use Rattle.rtree_shape.proofs.Sums.{top-same, top-zero}
-use Rattle.node_inverted.specs.Rows.{Bytes, IsRows, bytes_in}
-use Rattle.node_inverted.specs.Turns.{Turns, Next}
-use Rattle.node_inverted.specs.Ascents.{until, left_from}
-use Rattle.node_inverted.specs.Impacts.{with_byte, refreshed, top_at}
+use Rattle.node_rows.specs.Rows.{Bytes, IsRows, bytes_in}
+use Rattle.node_rows.specs.Turns.{Turns, Next}
+use Rattle.node_rows.specs.Ascents.{until, left_from}
+use Rattle.node_rows.specs.Impacts.{with_byte, refreshed, top_at}
 use Rattle.node_inverted.specs.Refreshing.{IsFrom, word_of, lesser_of, byte_ahead, IsRefreshing, IsBounded, is_named, on_words}
-use Rattle.node_inverted.proofs.Lookups.{less_or}
-use Rattle.node_inverted.proofs.Bytes.{and_false}
-use Rattle.node_inverted.proofs.Ascents.{ascend, rest, left, all, start}
-use Rattle.node_inverted.proofs.Impacts.{byte-here, byte-elsewhere, byte-another, byte-beside}
-use Rattle.node_inverted.proofs.Turned.{turned-rest, turns-as, turns-same}
+use Rattle.node_rows.proofs.Lookups.{less_or}
+use Rattle.node_rows.proofs.Bytes.{and_false}
+use Rattle.node_rows.proofs.Ascents.{ascend, rest, left, all, start}
+use Rattle.node_rows.proofs.Impacts.{byte-here, byte-elsewhere, byte-another, byte-beside, top-clear}
+use Rattle.node_rows.proofs.Turned.{turned-rest, turns-as, turns-same}
 
 -- no row ahead is before the least word, and one of them has it
 pub record IsLeast (o p : Option (ℕ × List ℕ)) (word : ℕ) : Type 0 where
@@ -45,20 +43,15 @@ ahead-byte b n k word (Some p) next on from i = elim (same_or p.0 word) [
   | inr d ↦ let t : (p.0 == word) ≡ false = grind (arith, nat_tests) in ap (λ (x : Bool). if x then slice_index p.1 i else 0) t ∙ sym (next.none word i on (omega arith))
 ]
 
+-- the row that follows isn't before the word
+pub next-from : (b : Bytes) (node word : ℕ) (o : Option (ℕ × List ℕ)) → Next b node word o → IsFrom word o
+next-from b node word None next = tt
+next-from b node word (Some found) next = next.on
+
 -- no byte lies before the row ahead
 pub quiet : (b : Bytes) (n k word : ℕ) (o : Option (ℕ × List ℕ)) → Next b n k o → IsFrom word o → (w i : ℕ) → k ≤ w → w < word → b n w i ≡ 0
 quiet b n k word None next from w i a l = next w i a
 quiet b n k word (Some p) next from w i a l = next.none w i a (omega arith)
-
--- a word without bytes has 0 as its greatest
-pub top-clear : (b : Bytes) (n w : ℕ) → ((i : ℕ) → b n w i ≡ 0) → top_at b n w ≡ 0
-unfolding top_at
-top-clear b n w h = top-same 32 (λ i. b n w i) (λ i. 0) (λ i l. h i) ∙ top-zero 32
-
--- the greatest byte of a row is that of its word
-pub top-row : (b : Bytes) (n w : ℕ) (row : List ℕ) → ((i : ℕ) → slice_index row i ≡ b n w i) → top_to 32 (λ i. slice_index row i) ≡ top_at b n w
-unfolding top_at
-top-row b n w row h = top-same 32 (λ i. slice_index row i) (λ i. b n w i) (λ i l. h i)
 
 module _ (node slot child : ℕ) (b : Bytes) (n w i : ℕ) where
   -- the slot that is refreshed
@@ -186,8 +179,3 @@ renewed-all node slot child b ps right n w i = go (is_named ps w) refl
         | inl h ↦ let a : b n w i ≡ b node w slot = rw (f, h) refl in a ∙ right w e ∙ sym (refreshed-here node slot child b n w i f h)
       ]
     ]
-
--- the greatest of the same bytes
-pub top-at-same : (b c : Bytes) (n w : ℕ) → ((i : ℕ) → b n w i ≡ c n w i) → top_at b n w ≡ top_at c n w
-unfolding top_at
-top-at-same b c n w h = top-same 32 (λ i. b n w i) (λ i. c n w i) (λ i l. h i)

@@ -4,9 +4,9 @@ use Rattle.page_face.specs.FreeList.{PageMap}
 use Rattle.btree_nodes.specs.Rows.{Row}
 use Rattle.btree_nodes.specs.Supply.{View}
 use Rattle.paged_map.specs.Drafts.{Drafts, IsKeyOf}
-use Rattle.node_inverted.specs.Rows.{AreFilled, Bytes, bytes_of, key_of}
-use Rattle.node_inverted.specs.Turns.{Turns, with_row}
-use Rattle.node_inverted.specs.Impacts.{impact_at, raised}
+use Rattle.node_rows.specs.Rows.{AreFilled, Bytes, bytes_of, key_of}
+use Rattle.node_rows.specs.Turns.{Turns, with_row}
+use Rattle.node_rows.specs.Impacts.{impact_at, raised}
 use Rattle.node_inverted.specs.declared.edits.RowEdit.{RowEdit}
 use Rattle.node_inverted.specs.declared.edits.RowEdit.TheVariants.{Set, Raise}
 use Rattle.node_inverted.specs.declared.edits.RowEdits.{RowEdits}

@@ -2,14 +2,14 @@
 use Rattle.std.specs.Prelude.{◌≡◌, ℕ, ◌≤◌, List}
 use Rattle.page_face.specs.FreeList.{PageMap}
 use Rattle.btree_nodes.specs.Supply.{View}
-use Rattle.node_inverted.specs.Rows.{Bytes}
-use Rattle.node_inverted.specs.Turns.{Turns, dropped, moved}
-use Rattle.node_inverted.specs.Ascents.{until}
-use Rattle.node_inverted.specs.Copies.{IsCopy}
+use Rattle.node_rows.specs.Rows.{Bytes}
+use Rattle.node_rows.specs.Turns.{Turns, dropped, moved}
+use Rattle.node_rows.specs.Ascents.{until}
+use Rattle.node_rows.specs.Copies.{IsCopy}
 use Rattle.node_inverted.specs.Drafts.{with_rows}
-use Rattle.node_inverted.specs.Impacts.{refreshed, top_at}
+use Rattle.node_rows.specs.Impacts.{refreshed, top_at}
 use Rattle.node_inverted.specs.Refreshing.{on_words}
-use Rattle.node_inverted.specs.declared.leaf.LeafCopy.{LeafCopy}
+use Rattle.node_rows.specs.declared.leaf.LeafCopy.{LeafCopy}
 use Rattle.node_inverted.specs.declared.taking.NodeRow.{NodeRow}
 
 -- bytes of a node are being moved to another one: with what stays and what goes set, the words below k are done; the pages have the words from there on as before

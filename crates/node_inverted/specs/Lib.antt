@@ -1,12 +1,4 @@
-pub mod Rows
-pub mod Turns
-pub mod Ascents
-pub mod Damages
-pub mod Impacts
 pub mod Refreshing
 pub mod Lifts
-pub mod Counts
-pub mod Copies
 pub mod Drafts
 pub mod Gathers
-pub mod Known

@@ -2,10 +2,10 @@
 use Rattle.std.specs.Prelude.{◌≡◌, ℕ, ◌^◌, ◌≤◌, List, [], ◌∷◌, Option, Some, None, ◌==◌, if◌then◌else◌, nat_lt, nat_le, Bool, true, false, slice_index}
 use Rattle.page_face.specs.FreeList.{PageMap}
 use Rattle.btree_nodes.specs.Supply.{View}
-use Rattle.node_inverted.specs.Rows.{Bytes}
-use Rattle.node_inverted.specs.Turns.{Turns, Next}
-use Rattle.node_inverted.specs.Ascents.{until}
-use Rattle.node_inverted.specs.Impacts.{refreshed}
+use Rattle.node_rows.specs.Rows.{Bytes}
+use Rattle.node_rows.specs.Turns.{Turns, Next}
+use Rattle.node_rows.specs.Ascents.{until}
+use Rattle.node_rows.specs.Impacts.{refreshed}
 
 -- the row that lies ahead isn't before this word
 abbrev pub IsFrom : ℕ → Option (ℕ × List ℕ) → Type 0

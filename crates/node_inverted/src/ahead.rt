@@ -5,15 +5,12 @@ ghost use Rattle.btree_nodes.specs.Damages.{AreTold};
 ghost use Rattle.btree_nodes.specs.Tree.{IsMap, map_uses};
 ghost use Rattle.paged_map.specs.Maps.{AreCounted};
 ghost use Rattle.rtree_shape.specs.Stock.{rows_form};
-ghost use Rattle.node_inverted.specs.Rows.{Bytes, bytes_in};
-ghost use Rattle.node_inverted.specs.Turns.{Next};
-ghost use Rattle.node_inverted.specs.Copies.{IsCopy};
+ghost use Rattle.node_rows.specs.Rows.{Bytes, bytes_in};
+ghost use Rattle.node_rows.specs.Turns.{Next};
+ghost use Rattle.node_rows.specs.Copies.{IsCopy};
 ghost use Rattle.node_inverted.specs.Refreshing.{IsFrom, byte_ahead, is_due_at, lesser_of, word_of};
 
-use crate::Tree;
-use crate::ascent::after;
-use crate::leaf::{LeafCopy, next_in};
-use crate::slots::clear_row;
+use node_rows::{LeafCopy, Tree, after, clear_row, next_in};
 use page_face::{Damage, PageFault, Pages};
 
 /// The first row of a node that wasn't gone through yet: its word's number and its bytes.

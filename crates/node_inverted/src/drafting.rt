@@ -8,19 +8,17 @@ ghost use Rattle.btree_nodes.specs.Tree.{IsMap, map_uses};
 ghost use Rattle.paged_map.specs.Drafts.{IsLeafDraft};
 ghost use Rattle.paged_map.specs.Maps.{AreCounted};
 ghost use Rattle.rtree_shape.specs.Stock.{rows_form};
-ghost use Rattle.node_inverted.specs.Rows.{Bytes, HasBytes, IsRows, bytes_in};
-ghost use Rattle.node_inverted.specs.Turns.{Turns, with_row};
+ghost use Rattle.node_rows.specs.Rows.{Bytes, HasBytes, IsRows, bytes_in};
+ghost use Rattle.node_rows.specs.Turns.{Turns, with_row};
 ghost use Rattle.node_inverted.specs.Drafts.{EditsUntil, IsDrafting, IsRowOf, Reaches, edited, edited_by, edits_in, with_rows};
 
-use crate::Tree;
 use crate::edits::{RowEdit, RowEdits};
-use crate::key::RowKey;
-use crate::layout::WordRows;
 use crate::raising::set_byte;
 use crate::row_draft::RowDraft;
-use crate::rows::{find_row, set_row};
-use crate::slots::{clear_row, greater, is_clear, put_byte};
 use crate::taking::NodeRow;
+use node_rows::{
+    RowKey, Tree, WordRows, clear_row, find_row, greater, is_clear, put_byte, set_row,
+};
 use page_face::{Damage, PageFault, Pages};
 use paged_map::PagedMap;
 

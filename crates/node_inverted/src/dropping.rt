@@ -6,18 +6,15 @@ ghost use Rattle.btree_nodes.specs.Supply.{View, view};
 ghost use Rattle.btree_nodes.specs.Tree.{IsMap, map_uses};
 ghost use Rattle.paged_map.specs.Maps.{AreCounted};
 ghost use Rattle.rtree_shape.specs.Stock.{rows_form};
-ghost use Rattle.node_inverted.specs.Rows.{Bytes, IsRows, bytes_in};
-ghost use Rattle.node_inverted.specs.Turns.{Turns, dropped};
-ghost use Rattle.node_inverted.specs.Copies.{IsCopy};
-ghost use Rattle.node_inverted.specs.Ascents.{reached};
+ghost use Rattle.node_rows.specs.Rows.{Bytes, IsRows, bytes_in};
+ghost use Rattle.node_rows.specs.Turns.{Turns, dropped};
+ghost use Rattle.node_rows.specs.Copies.{IsCopy};
+ghost use Rattle.node_rows.specs.Ascents.{reached};
 ghost use Rattle.node_inverted.specs.Gathers.{IsDropping};
 
-use crate::Tree;
-use crate::ascent::after;
 use crate::drafting::set_rows;
-use crate::leaf::{LeafCopy, next_in};
-use crate::slots::clear_row;
 use crate::taking::{NodeRow, ROWS_AT_ONCE, push_row};
+use node_rows::{LeafCopy, Tree, after, clear_row, next_in};
 use page_face::{Damage, PageFault, Pages};
 use std::alloc::Global;
 

@@ -29,7 +29,7 @@ pub(crate) enum RowEdits<'a> {
 }
 
 impl<'a> RowEdits<'a> {
-    ghost use Rattle.node_inverted.specs.Rows.{Bytes};
+    ghost use Rattle.node_rows.specs.Rows.{Bytes};
     ghost use Rattle.node_inverted.specs.Drafts.{edited, edited_by, edits_in};
 
     /// The first row's word, by its number, and its change, and the changes behind it, or `None` if there is none.

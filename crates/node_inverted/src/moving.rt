@@ -6,19 +6,16 @@ ghost use Rattle.btree_nodes.specs.Supply.{View, view};
 ghost use Rattle.btree_nodes.specs.Tree.{IsMap, map_uses};
 ghost use Rattle.paged_map.specs.Maps.{AreCounted};
 ghost use Rattle.rtree_shape.specs.Stock.{rows_form};
-ghost use Rattle.node_inverted.specs.Rows.{Bytes, HasBytes, IsRows, bytes_in};
-ghost use Rattle.node_inverted.specs.Turns.{Turns, HasNone, moved};
-ghost use Rattle.node_inverted.specs.Copies.{IsCopy};
-ghost use Rattle.node_inverted.specs.Ascents.{on_word, until, reached};
+ghost use Rattle.node_rows.specs.Rows.{Bytes, HasBytes, IsRows, bytes_in};
+ghost use Rattle.node_rows.specs.Turns.{Turns, HasNone, moved};
+ghost use Rattle.node_rows.specs.Copies.{IsCopy};
+ghost use Rattle.node_rows.specs.Ascents.{on_word, until, reached};
 ghost use Rattle.node_inverted.specs.Drafts.{with_rows};
 ghost use Rattle.node_inverted.specs.Gathers.{IsMoving};
 
-use crate::Tree;
-use crate::ascent::after;
 use crate::drafting::set_rows;
-use crate::leaf::{LeafCopy, next_in};
-use crate::slots::{is_clear, moving, staying};
 use crate::taking::{NodeRow, ROWS_AT_ONCE, push_row};
+use node_rows::{LeafCopy, Tree, after, is_clear, moving, next_in, staying};
 use page_face::{Damage, PageFault, Pages};
 use std::alloc::Global;
 

@@ -5,15 +5,13 @@ ghost use Rattle.btree_nodes.specs.Damages.{AreTold};
 ghost use Rattle.btree_nodes.specs.Supply.{view};
 ghost use Rattle.paged_map.specs.Spots.{IsSpot};
 ghost use Rattle.rtree_shape.specs.Stock.{rows_form};
-ghost use Rattle.node_inverted.specs.Rows.{HasBytes, IsRows, bytes_in, key_of};
-ghost use Rattle.node_inverted.specs.Turns.{Turns};
-ghost use Rattle.node_inverted.specs.Impacts.{impact_in, raised, with_byte};
+ghost use Rattle.node_rows.specs.Rows.{HasBytes, IsRows, bytes_in, key_of};
+ghost use Rattle.node_rows.specs.Turns.{Turns};
+ghost use Rattle.node_rows.specs.Impacts.{impact_in, raised, with_byte};
 
-use crate::Tree;
 use crate::drafting::edit_rows;
 use crate::edits::{RowEdits, Slot};
-use crate::rows::{find_row, set_found};
-use crate::slots::{clear_row, put_byte};
+use node_rows::{Tree, clear_row, find_row, put_byte, set_found};
 use page_face::{Damage, PageFault, Pages};
 use paged_map::RowSpot;
 

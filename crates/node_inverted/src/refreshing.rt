@@ -6,21 +6,19 @@ ghost use Rattle.btree_nodes.specs.Supply.{View, view};
 ghost use Rattle.btree_nodes.specs.Tree.{IsMap, map_uses};
 ghost use Rattle.paged_map.specs.Maps.{AreCounted};
 ghost use Rattle.rtree_shape.specs.Stock.{rows_form};
-ghost use Rattle.node_inverted.specs.Rows.{Bytes, HasBytes, IsRows, bytes_in};
-ghost use Rattle.node_inverted.specs.Turns.{Turns};
-ghost use Rattle.node_inverted.specs.Copies.{IsCopy};
-ghost use Rattle.node_inverted.specs.Impacts.{refreshed, with_byte};
+ghost use Rattle.node_rows.specs.Rows.{Bytes, HasBytes, IsRows, bytes_in};
+ghost use Rattle.node_rows.specs.Turns.{Turns};
+ghost use Rattle.node_rows.specs.Copies.{IsCopy};
+ghost use Rattle.node_rows.specs.Impacts.{refreshed, with_byte};
 ghost use Rattle.node_inverted.specs.Drafts.{with_rows};
 ghost use Rattle.node_inverted.specs.Gathers.{IsRenewing};
 ghost use Rattle.node_inverted.specs.Refreshing.{IsBounded, IsFrom, IsRefreshing, lesser_of, on_words, word_of};
 
-use crate::Tree;
 use crate::ahead::{Ahead, next_word, pass, row_ahead};
 use crate::drafting::set_rows;
-use crate::leaf::{LeafCopy, next_in};
 use crate::raising::set_byte;
-use crate::slots::{greatest, put_byte};
 use crate::taking::{NodeRow, ROWS_AT_ONCE, push_row};
+use node_rows::{LeafCopy, Tree, greatest, next_in, put_byte};
 use page_face::{Damage, PageFault, Pages};
 use std::alloc::Global;
 

@@ -2,7 +2,7 @@
 ghost use Rattle.std.specs.Prelude.{◌≡◌};
 ghost use Rattle.rtree_shape.specs.Stock.{rows_form};
 
-use crate::leaf::row_form;
+use node_rows::row_form;
 use paged_map::LeafDraft;
 
 /// A copy of a leaf of the rows' map, whose rows are changed in memory before it is written in one call.

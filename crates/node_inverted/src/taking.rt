@@ -6,15 +6,14 @@ ghost use Rattle.btree_nodes.specs.Supply.{view};
 ghost use Rattle.btree_nodes.specs.Tree.{IsMap, map_uses};
 ghost use Rattle.paged_map.specs.Maps.{AreCounted};
 ghost use Rattle.rtree_shape.specs.Stock.{rows_form};
-ghost use Rattle.node_inverted.specs.Rows.{IsRows, bytes_in};
-ghost use Rattle.node_inverted.specs.Copies.{IsCopy};
-ghost use Rattle.node_inverted.specs.Ascents.{reached, until};
-ghost use Rattle.node_inverted.specs.Lifts.{AreOrdered, IsTaken, bytes_at, lifted_at, lifted_by, no_bytes};
+ghost use Rattle.node_rows.specs.Rows.{IsRows, bytes_in};
+ghost use Rattle.node_rows.specs.Copies.{IsCopy};
+ghost use Rattle.node_rows.specs.Ascents.{reached, until};
+ghost use Rattle.node_rows.specs.Words.{no_bytes};
+ghost use Rattle.node_inverted.specs.Lifts.{AreOrdered, IsTaken, bytes_at, lifted_at, lifted_by};
 
-use crate::Tree;
-use crate::ascent::after;
 use crate::dropping::drop_node;
-use crate::leaf::{LeafCopy, next_in};
+use node_rows::{LeafCopy, Tree, after, next_in};
 use page_face::{Damage, PageFault, Pages};
 use std::alloc::Global;
 

@@ -20,8 +20,8 @@ use Rattle.rtree_shape.specs.Trees.{root_least, reach_of}
 use Rattle.rtree_shape.proofs.Heights.{tops-at}
 use Rattle.rtree_nodes.specs.Pages.{node_of}
 use Rattle.rtree_find.specs.Subtrees.{IsNodeAt}
-use Rattle.node_inverted.specs.declared.roots.Tree.{Tree}
-use Rattle.node_inverted.specs.Rows.{bytes_in}
+use Rattle.node_rows.specs.declared.roots.Tree.{Tree}
+use Rattle.node_rows.specs.Rows.{bytes_in}
 use Rattle.irtree_shape.specs.Words.{joined_item}
 use Rattle.irtree_shape.specs.Whole.{IsWell, level_at}
 use Rattle.best_first.specs.declared.item.Item as best

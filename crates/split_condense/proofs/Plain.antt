@@ -12,7 +12,7 @@ use Rattle.rtree_shape.specs.Made as bare_made
 use Rattle.rtree_shape.specs.Whole as bare
 use Rattle.rtree_shape.proofs.Sums.{top-same, top-zero}
 use Rattle.rtree_shape.proofs.Amounts.{amount-same}
-use Rattle.node_inverted.specs.Rows.{bytes_in}
+use Rattle.node_rows.specs.Rows.{bytes_in}
 use Rattle.rtree_nodes.specs.Pages.{node_of}
 use Rattle.irtree_shape.specs.Words.{worded, joined_item, words_on, joined}
 use Rattle.irtree_shape.specs.Made.{nodes_in}

@@ -11,7 +11,7 @@ use Rattle.rtree_shape.specs.Trees.{below, node_below}
 use Rattle.rtree_shape.specs.Loose.{Leads}
 use Rattle.rtree_shape.specs.Made as bare_made
 use Rattle.rtree_shape.proofs.Amounts.{amount-at, same_or}
-use Rattle.node_inverted.specs.Rows.{bytes_in}
+use Rattle.node_rows.specs.Rows.{bytes_in}
 use Rattle.rtree_nodes.specs.Reach.{place_item, reach_of}
 use Rattle.rtree_nodes.specs.Pages.{node_of}
 use Rattle.rtree_find.specs.Entries.{is_entry, is_place_of}

@@ -2,7 +2,7 @@
 use Rattle.std.specs.Prelude.{◌≡◌, ◌≢◌, ℕ, ◌+◌, ◌==◌, if◌then◌else◌, List, take}
 use Rattle.spatial_base.specs.Key.{form_of}
 use Rattle.spatial_base.specs.Point.{Position}
-use Rattle.node_inverted.specs.Impacts.{impact_in}
+use Rattle.node_rows.specs.Impacts.{impact_in}
 use Rattle.rtree_shape.specs.Slots.{Item, NodeMap}
 use Rattle.rtree_nodes.specs.Reach.{place_item}
 use Rattle.rtree_find.specs.Entries.{is_entry}

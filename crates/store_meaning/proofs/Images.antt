@@ -10,7 +10,7 @@ use Rattle.page_store.specs.Contents as stores
 use Rattle.page_store.specs.Superblock.{IsInRange, empty_store, fields_of, is_zero, superblock_in}
 use Rattle.page_store.specs.declared.superblock.Superblock.{Superblock}
 use Rattle.btree_nodes.specs.Supply.{uncounted}
-use Rattle.node_inverted.specs.Rows.{bytes_of}
+use Rattle.node_rows.specs.Rows.{bytes_of}
 use Rattle.place_map.specs.State.{Contents, IsSerialAbove, opening}
 use Rattle.store_tables.specs.Entries.{Entries, no_entries}
 use Rattle.store_tables.specs.Holding.{Holds}

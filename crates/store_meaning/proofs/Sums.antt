@@ -15,7 +15,7 @@ use Rattle.spatial_base.specs.Key.{IsName, Name, form_of, key_cmp, key_cmp_total
 use Rattle.spatial_base.specs.Point.{Position}
 use Rattle.row_codec.specs.declared.stored.Stored.{Stored}
 use Rattle.row_codec.specs.Stored.{held_pairs}
-use Rattle.node_inverted.specs.Impacts.{impact_in}
+use Rattle.node_rows.specs.Impacts.{impact_in}
 use Rattle.rtree_shape.specs.Slots.{Item, got}
 use Rattle.rtree_nodes.specs.Pages.{node_of}
 use Rattle.rtree_find.specs.Entries.{is_entry}

@@ -16,7 +16,7 @@ use Rattle.rtree_shape.specs.Trees.{IsTree, node_below, node_uses}
 use Rattle.rtree_shape.specs.Stock.{View, rows_form, spare_in, view}
 use Rattle.rtree_shape.proofs.Frames.{slots-frame}
 use Rattle.rtree_nodes.specs.Pages.{node_of}
-use Rattle.node_inverted.specs.Rows.{AreFilled, Bytes, bytes_in, bytes_of}
+use Rattle.node_rows.specs.Rows.{AreFilled, Bytes, bytes_in, bytes_of}
 use Rattle.irtree_shape.specs.Words.{joined}
 use Rattle.irtree_shape.specs.Made.{nodes_in, IsBlank}
 use Rattle.irtree_shape.specs.Whole.{IsWell, IsWhole, level_at, tree_sum, tree_uses}

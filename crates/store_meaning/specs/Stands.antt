@@ -16,7 +16,7 @@ use Rattle.row_codec.specs.declared.stored.Stored.{Stored}
 use Rattle.rtree_shape.specs.Slots.{Item}
 use Rattle.rtree_shape.specs.Stock.{rows_form}
 use Rattle.rtree_nodes.specs.Pages.{node_of}
-use Rattle.node_inverted.specs.Rows.{AreFilled, bytes_in}
+use Rattle.node_rows.specs.Rows.{AreFilled, bytes_in}
 use Rattle.irtree_shape.specs.Made.{nodes_in, IsBlank}
 use Rattle.irtree_shape.specs.Whole.{IsWell, tree_uses, tree_sum}
 use Rattle.tree_updates.specs.Regrown.{entry_at}

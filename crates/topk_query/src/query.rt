@@ -6,7 +6,7 @@ ghost use Rattle.btree_nodes.specs.Damages.{AreTold};
 ghost use Rattle.ranking.specs.First.{first};
 ghost use Rattle.place_map.specs.Hit.{comes_before};
 ghost use Rattle.place_map.specs.Query.{IsScale, IsWeights};
-ghost use Rattle.node_inverted.specs.Rows.{bytes_in};
+ghost use Rattle.node_rows.specs.Rows.{bytes_in};
 ghost use Rattle.best_first.specs.Openings.{Opened};
 ghost use Rattle.tree_entries.specs.Entries.{tree_places};
 ghost use Rattle.tree_entries.specs.Hits.{top_item};

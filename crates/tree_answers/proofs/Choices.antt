@@ -12,8 +12,8 @@ use Rattle.place_map.specs.Group.{word_picks, picks_for, choices, group_of, leas
 use Rattle.place_map.specs.State.{Contents}
 use Rattle.row_codec.specs.declared.stored.Stored.{Stored}
 use Rattle.row_codec.specs.Stored.{held_pairs}
-use Rattle.node_inverted.specs.Impacts.{impact_in}
-use Rattle.node_inverted.specs.declared.roots.Tree.{Tree}
+use Rattle.node_rows.specs.Impacts.{impact_in}
+use Rattle.node_rows.specs.declared.roots.Tree.{Tree}
 use Rattle.rtree_shape.specs.Slots.{Item, NodeMap}
 use Rattle.irtree_shape.specs.Whole.{tree_sum}
 use Rattle.tree_entries.specs.Entries.{tree_places}

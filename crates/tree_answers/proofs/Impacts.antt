@@ -11,7 +11,7 @@ use Rattle.row_codec.specs.declared.counted.Counted.{Counted}
 use Rattle.row_codec.specs.declared.stored.Stored.{Stored}
 use Rattle.row_codec.specs.Pairs.{Pair}
 use Rattle.row_codec.specs.Stored.{IsStored, held_pairs}
-use Rattle.node_inverted.specs.Impacts.{impact_in}
+use Rattle.node_rows.specs.Impacts.{impact_in}
 use Rattle.store_tables.specs.Entries.{word_cmp, number_of_word}
 use Rattle.store_tables.specs.Words.{WordTablesAgree, words_of_place}
 use Rattle.store_tables.proofs.EntryLemmas.{equal_test}

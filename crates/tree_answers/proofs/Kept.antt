@@ -4,7 +4,7 @@ use Rattle.page_face.specs.FreeList.{PageMap}
 use Rattle.btree_nodes.specs.Supply as supply
 use Rattle.paged_map.specs.Maps.{AreCounted}
 use Rattle.page_store.specs.declared.superblock.Superblock.{Superblock}
-use Rattle.node_inverted.specs.declared.roots.Tree.{Tree}
+use Rattle.node_rows.specs.declared.roots.Tree.{Tree}
 use Rattle.rtree_shape.specs.Slots.{Item}
 use Rattle.rtree_nodes.specs.Pages.{node_of}
 use Rattle.irtree_shape.specs.Made.{nodes_in}

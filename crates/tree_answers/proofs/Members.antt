@@ -17,8 +17,8 @@ use Rattle.place_map.specs.Hit.{comes_before, hits_linear}
 use Rattle.place_map.specs.State.{Contents}
 use Rattle.row_codec.specs.declared.stored.Stored.{Stored}
 use Rattle.row_codec.specs.Stored.{held_pairs}
-use Rattle.node_inverted.specs.Impacts.{impact_in}
-use Rattle.node_inverted.specs.declared.roots.Tree.{Tree}
+use Rattle.node_rows.specs.Impacts.{impact_in}
+use Rattle.node_rows.specs.declared.roots.Tree.{Tree}
 use Rattle.page_face.specs.FreeList.{PageMap}
 use Rattle.rtree_shape.specs.Slots.{Item, NodeMap}
 use Rattle.rtree_nodes.specs.Pages.{node_of}

@@ -5,7 +5,7 @@ use Rattle.page_face.specs.declared.fault.Damage.{Damage}
 use Rattle.btree_nodes.specs.Damages.{AskedSince, AsksOnly}
 use Rattle.btree_nodes.specs.Tree.{map_uses}
 use Rattle.paged_map.specs.Maps.{IsMapDamaged}
-use Rattle.node_inverted.specs.declared.roots.Tree.{Tree}
+use Rattle.node_rows.specs.declared.roots.Tree.{Tree}
 use Rattle.store_tables.specs.Holding.{texts_form}
 use Rattle.store_tables.specs.declared.tables.Tables.{Tables}
 use Rattle.boolean_queries.specs.Harms.{IsQueryHarm}

@@ -8,7 +8,7 @@ use Rattle.place_map.specs.declared.query.Chosen.{Chosen}
 use Rattle.place_map.specs.declared.query.Query.{Query}
 use Rattle.rtree_shape.specs.Stock.{rows_form}
 use Rattle.rtree_nodes.specs.Pages.{node_of}
-use Rattle.node_inverted.specs.declared.roots.Tree.{Tree}
+use Rattle.node_rows.specs.declared.roots.Tree.{Tree}
 use Rattle.irtree_shape.specs.Made.{nodes_in}
 use Rattle.store_tables.specs.declared.tables.Tables.{Tables}
 use Rattle.store_tables.specs.Entries.{Entries}

@@ -14,7 +14,7 @@ use Rattle.btree_nodes.proofs.Harms.{asked-before, asks-further, asks-nothing}
 use Rattle.btree_nodes.proofs.Walks.{same-fault}
 use Rattle.paged_map.specs.Maps.{IsMapDamaged}
 use Rattle.rtree_shape.specs.Stock.{rows_form}
-use Rattle.node_inverted.proofs.Faults.{reads-none}
+use Rattle.node_rows.proofs.Faults.{reads-none}
 use Rattle.tree_entries.specs.Rows.{LooksAtRows}
 
 -- a call that isn't refused

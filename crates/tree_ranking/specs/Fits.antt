@@ -5,7 +5,7 @@ use Rattle.btree_nodes.specs.Damages.{AreTold}
 use Rattle.rtree_shape.specs.Slots.{NodeMap}
 use Rattle.rtree_shape.specs.Stock.{view}
 use Rattle.rtree_nodes.specs.Pages.{node_of}
-use Rattle.node_inverted.specs.declared.roots.Tree.{Tree}
+use Rattle.node_rows.specs.declared.roots.Tree.{Tree}
 use Rattle.irtree_shape.specs.Made.{nodes_in}
 use Rattle.irtree_shape.specs.Whole.{IsWhole}
 use Rattle.rtree_find.specs.Subtrees.{IsNodeAt, AreCounted}

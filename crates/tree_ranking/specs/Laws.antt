@@ -20,8 +20,8 @@ use Rattle.rtree_shape.specs.Slots as shape
 use Rattle.rtree_shape.specs.Stock.{view, plain, rows_form}
 use Rattle.rtree_shape.proofs.Heights.{root-some}
 use Rattle.rtree_nodes.specs.Pages.{node_of, level_in}
-use Rattle.node_inverted.specs.declared.roots.Tree.{Tree}
-use Rattle.node_inverted.specs.Rows.{bytes_in}
+use Rattle.node_rows.specs.declared.roots.Tree.{Tree}
+use Rattle.node_rows.specs.Rows.{bytes_in}
 use Rattle.irtree_shape.specs.Whole.{IsWhole, level_at, tree_uses}
 use Rattle.rtree_find.proofs.Subtrees.{some-read, child-node, child-counted, page-counted}
 use Rattle.best_first.specs.declared.item.Item.TheVariants.{Node, Place}

@@ -2,7 +2,7 @@
 ghost use Rattle.std.specs.Prelude.{◌≡◌, ◌<◌, ℕ, slice_index, IfOk};
 ghost use Rattle.btree_nodes.specs.Tree.{IsMap};
 ghost use Rattle.rtree_shape.specs.Stock.{rows_form};
-ghost use Rattle.node_inverted.specs.Rows.{bytes_in};
+ghost use Rattle.node_rows.specs.Rows.{bytes_in};
 ghost use Rattle.tree_entries.specs.Masks.{has_slot};
 ghost use Rattle.tree_entries.specs.Numbers.{byte_of};
 ghost use Rattle.tree_entries.specs.Filters.{admits_by};

@@ -9,7 +9,7 @@ ghost use Rattle.paged_map.specs.Maps.{AreCounted};
 ghost use Rattle.rtree_shape.specs.Stock.{rows_form};
 ghost use Rattle.rtree_nodes.specs.Pages.{level_in, stored_in};
 ghost use Rattle.rtree_find.specs.Harms.{BreaksAlone};
-ghost use Rattle.node_inverted.specs.Rows.{bytes_in};
+ghost use Rattle.node_rows.specs.Rows.{bytes_in};
 ghost use Rattle.best_first.specs.declared.item.Item.TheVariants.{Node};
 ghost use Rattle.best_first.specs.Items.{IsGivenAt, IsRootAlone, pages_of};
 ghost use Rattle.best_first.specs.Openings.{AsksNodes};

@@ -20,7 +20,7 @@ fn hold(fault: PageFault, held: Option<PageFault>) -> Option<PageFault>
 
 impl<'q, P: Pages> Ranked<P> for Ranking<'q> {
     ghost use Rattle.btree_nodes.specs.Damages.{AreTold};
-    ghost use Rattle.node_inverted.specs.Rows.{bytes_in};
+    ghost use Rattle.node_rows.specs.Rows.{bytes_in};
     ghost use Rattle.tree_ranking.specs.Fits.{FitsTree, HasNode, nodes_at};
     ghost use Rattle.tree_ranking.specs.Harms.{IsHarm, IsNodePage};
     ghost use Rattle.tree_ranking.specs.Openings.{StandsIn, opened_in, started_in};

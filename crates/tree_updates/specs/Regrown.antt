@@ -5,7 +5,7 @@ use Rattle.spatial_base.specs.Key.{Name, form_of}
 use Rattle.spatial_base.specs.Point.{Position}
 use Rattle.row_codec.specs.declared.stored.Stored.{Stored}
 use Rattle.row_codec.specs.Stored.{held_pairs}
-use Rattle.node_inverted.specs.Impacts.{impact_in}
+use Rattle.node_rows.specs.Impacts.{impact_in}
 use Rattle.rtree_shape.specs.Slots.{Item, NodeMap, got}
 use Rattle.rtree_shape.specs.Stock.{View, view}
 use Rattle.rtree_shape.specs.Made.{Reads}

@@ -6,7 +6,7 @@ use Rattle.btree_nodes.specs.Damages.{AreTold, AskedSince}
 use Rattle.btree_nodes.specs.Tree.{IsMap, map_uses}
 use Rattle.rtree_shape.specs.Stock.{rows_form}
 use Rattle.rtree_nodes.specs.Pages.{level_in, is_form}
-use Rattle.node_inverted.specs.Rows.{bytes_in}
+use Rattle.node_rows.specs.Rows.{bytes_in}
 use Rattle.best_first.proofs.Logs.{asked_sooner, asked_before}
 use Rattle.tree_entries.specs.Masks.{has_slot, Marks}
 use Rattle.tree_entries.specs.Numbers.{byte_of}

@@ -4,12 +4,12 @@ use Rattle.std.proofs.lemmas.Result.{err_from_is_err_and}
 use Rattle.page_face.specs.declared.fault.PageFault.TheVariants.{Damaged}
 use Rattle.page_face.proofs.Frames.{changes_then}
 use Rattle.btree_nodes.specs.Supply.{View, view}
-use Rattle.node_inverted.specs.Rows.{Bytes, bytes_in}
-use Rattle.node_inverted.specs.Impacts.{with_byte}
+use Rattle.node_rows.specs.Rows.{Bytes, bytes_in}
+use Rattle.node_rows.specs.Impacts.{with_byte}
 use Rattle.node_inverted.specs.Refreshing.{on_words}
-use Rattle.node_inverted.proofs.Turned.{turns-same, turns-as, turns-further}
-use Rattle.node_inverted.proofs.Told.{told-turned}
-use Rattle.node_inverted.proofs.Faults.{changes-none}
+use Rattle.node_rows.proofs.Turned.{turns-same, turns-as, turns-further}
+use Rattle.node_rows.proofs.Told.{told-turned}
+use Rattle.node_rows.proofs.Faults.{changes-none}
 use Rattle.irtree_delete.specs.Clears.{cleared}
 use Rattle.irtree_delete.proofs.Clearings.{cleared-next}
 use Rattle.irtree_delete.proofs.clearing.clear_words.Goals as goal

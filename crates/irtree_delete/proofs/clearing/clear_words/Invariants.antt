@@ -1,8 +1,8 @@
 use Rattle.std.proofs.Common.{◌≡◌, ℕ, List, take}
 use Rattle.page_face.specs.Calls.{Changes}
 use Rattle.btree_nodes.specs.Supply.{view}
-use Rattle.node_inverted.specs.Rows.{IsRows, bytes_in}
-use Rattle.node_inverted.specs.Turns.{Turns}
+use Rattle.node_rows.specs.Rows.{IsRows, bytes_in}
+use Rattle.node_rows.specs.Turns.{Turns}
 use Rattle.node_inverted.specs.Refreshing.{on_words}
 use Rattle.irtree_delete.specs.Clears.{cleared}
 use Rattle.irtree_delete.proofs.clearing.clear_words.Given as goal

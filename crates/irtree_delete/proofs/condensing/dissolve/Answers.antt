@@ -2,11 +2,11 @@ use Rattle.std.proofs.Common.{◌≡◌, ℕ, List, ap, ◌∙◌, subst, sym, E
 use Rattle.std.proofs.lemmas.Result.{err_from_is_err_and}
 use Rattle.page_face.specs.declared.fault.PageFault.TheVariants.{Damaged}
 use Rattle.rtree_shape.specs.Stock.{View, view, plain}
-use Rattle.node_inverted.specs.Rows.{bytes_in}
-use Rattle.node_inverted.specs.Turns.{dropped}
+use Rattle.node_rows.specs.Rows.{bytes_in}
+use Rattle.node_rows.specs.Turns.{dropped}
 use Rattle.node_inverted.specs.Lifts.{lifted_at}
 use Rattle.node_inverted.specs.declared.taking.NodeRow.{NodeRow}
-use Rattle.node_inverted.proofs.Told.{told-turned}
+use Rattle.node_rows.proofs.Told.{told-turned}
 use Rattle.irtree_delete.specs.Orphans.{IsUnread}
 use Rattle.irtree_delete.proofs.Dissolves.{moves-dropped, dropped-none}
 use Rattle.irtree_delete.proofs.condensing.dissolve.Goals as goal

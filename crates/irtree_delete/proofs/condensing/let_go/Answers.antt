@@ -5,7 +5,7 @@ use Rattle.rtree_shape.specs.Trees.{IsItem}
 use Rattle.rtree_shape.specs.Loose.{total_loose, AllLoose}
 use Rattle.rtree_nodes.specs.Reach.{item_of}
 use Rattle.rtree_nodes.specs.Pages.{stored_in}
-use Rattle.node_inverted.specs.Impacts.{impact_in}
+use Rattle.node_rows.specs.Impacts.{impact_in}
 use Rattle.irtree_shape.specs.Words.{joined_item, words_on}
 use Rattle.irtree_delete.specs.declared.orphan.Orphan.{Orphan}
 use Rattle.irtree_delete.specs.Orphans.{loose_in, AreLow}

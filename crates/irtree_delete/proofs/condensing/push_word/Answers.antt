@@ -1,7 +1,7 @@
 use Rattle.std.proofs.Common.{ℕ, ◌∙◌, ap, List}
-use Rattle.node_inverted.specs.Impacts.{impact_in}
-use Rattle.node_inverted.proofs.Impacts.{impact-one}
-use Rattle.node_inverted.proofs.Lifts.{impact-none}
+use Rattle.node_rows.specs.Impacts.{impact_in}
+use Rattle.node_rows.proofs.Impacts.{impact-one}
+use Rattle.node_rows.proofs.Pairs.{impact-none}
 use Rattle.irtree_delete.proofs.condensing.push_word.Goals as goal
 
 pub returns-then-impact-eq0-clause-impacts : goal.returns-then-impact-eq0-clause-impacts

@@ -11,7 +11,7 @@ use Rattle.rtree_shape.specs.Loose.{Loose, total_loose}
 use Rattle.rtree_nodes.specs.Pages.{node_of, slots_in, stored_in}
 use Rattle.rtree_nodes.specs.Reach.{child_item}
 use Rattle.rtree_nodes.proofs.Formed.{form-slots}
-use Rattle.node_inverted.specs.Rows.{bytes_in}
+use Rattle.node_rows.specs.Rows.{bytes_in}
 use Rattle.irtree_shape.specs.Words.{joined, words_on}
 use Rattle.irtree_shape.specs.Stock.{Moves}
 use Rattle.irtree_shape.specs.Made.{nodes_in}

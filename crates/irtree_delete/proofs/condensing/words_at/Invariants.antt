@@ -1,5 +1,5 @@
 use Rattle.std.proofs.Common.{◌≡◌, ℕ, take}
-use Rattle.node_inverted.specs.Impacts.{impact_in}
+use Rattle.node_rows.specs.Impacts.{impact_in}
 use Rattle.node_inverted.specs.Lifts.{lifted_at}
 use Rattle.irtree_delete.proofs.condensing.words_at.Given as goal
 

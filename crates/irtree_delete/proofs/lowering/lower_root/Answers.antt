@@ -11,9 +11,9 @@ use Rattle.rtree_shape.specs.Trees.{root_least}
 use Rattle.rtree_shape.specs.Stock.{View, view, plain}
 use Rattle.rtree_nodes.specs.Pages.{node_of, slots_in, level_in}
 use Rattle.rtree_nodes.proofs.Bounding.{some-form}
-use Rattle.node_inverted.specs.Rows.{IsRows, bytes_in}
-use Rattle.node_inverted.specs.Turns.{Turns, dropped}
-use Rattle.node_inverted.proofs.Turned.{view-same as supply-same}
+use Rattle.node_rows.specs.Rows.{IsRows, bytes_in}
+use Rattle.node_rows.specs.Turns.{Turns, dropped}
+use Rattle.node_rows.proofs.Turned.{view-same as supply-same}
 use Rattle.irtree_shape.specs.Words.{joined_item}
 use Rattle.irtree_shape.specs.Stock.{Moves}
 use Rattle.irtree_shape.specs.Made.{nodes_in}

@@ -6,7 +6,7 @@ use Rattle.rtree_shape.specs.Stock.{view, View}
 use Rattle.rtree_shape.specs.Loose.{Loose}
 use Rattle.rtree_nodes.specs.Pages.{node_of}
 use Rattle.rtree_nodes.specs.Reach.{item_of}
-use Rattle.node_inverted.specs.Impacts.{impact_in}
+use Rattle.node_rows.specs.Impacts.{impact_in}
 use Rattle.irtree_shape.specs.Words.{worded}
 use Rattle.irtree_shape.specs.Loose.{IsStanding}
 use Rattle.irtree_shape.proofs.Replants.{standing_popped}

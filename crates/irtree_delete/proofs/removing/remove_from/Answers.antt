@@ -11,8 +11,8 @@ use Rattle.rtree_shape.specs.Loose.{Loose}
 use Rattle.rtree_nodes.specs.Pages.{node_of, slots_in}
 use Rattle.rtree_nodes.specs.Reach.{item_of}
 use Rattle.rtree_nodes.specs.declared.content.Slot.{Slot}
-use Rattle.node_inverted.specs.Rows.{bytes_in}
-use Rattle.node_inverted.specs.Impacts.{impact_in}
+use Rattle.node_rows.specs.Rows.{bytes_in}
+use Rattle.node_rows.specs.Impacts.{impact_in}
 use Rattle.irtree_shape.specs.Words.{worded}
 use Rattle.irtree_shape.specs.Made.{nodes_in}
 use Rattle.irtree_shape.specs.Steps.{crowned_in, crowned}

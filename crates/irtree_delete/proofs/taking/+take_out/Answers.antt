@@ -14,12 +14,12 @@ use Rattle.rtree_nodes.specs.Pages.{node_of, is_form, slots_in, level_in}
 use Rattle.rtree_nodes.specs.Reach.{item_of, is_place}
 use Rattle.rtree_nodes.specs.declared.content.Slot.{Slot}
 use Rattle.rtree_nodes.proofs.Bounding.{some-form}
-use Rattle.node_inverted.specs.Rows.{IsRows, bytes_in}
-use Rattle.node_inverted.specs.Turns.{Turns}
-use Rattle.node_inverted.specs.Impacts.{impact_in, refreshed}
+use Rattle.node_rows.specs.Rows.{IsRows, bytes_in}
+use Rattle.node_rows.specs.Turns.{Turns}
+use Rattle.node_rows.specs.Impacts.{impact_in, refreshed}
 use Rattle.node_inverted.specs.Refreshing.{on_words}
-use Rattle.node_inverted.proofs.Told.{told-turned}
-use Rattle.node_inverted.proofs.Turned.{view-same as supply-same}
+use Rattle.node_rows.proofs.Told.{told-turned}
+use Rattle.node_rows.proofs.Turned.{view-same as supply-same}
 use Rattle.irtree_shape.specs.Words.{worded, words_on, joined}
 use Rattle.irtree_shape.specs.Made.{nodes_in}
 use Rattle.irtree_shape.specs.Loose.{IsTaking, TakesOut, Settles, IsLoosening}

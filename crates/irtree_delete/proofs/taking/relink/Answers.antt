@@ -1,10 +1,10 @@
 use Rattle.std.proofs.lemmas.Result.{on_ok_weaker}
 use Rattle.rtree_shape.specs.Stock.{view, plain}
-use Rattle.node_inverted.specs.Rows.{Bytes, bytes_in}
-use Rattle.node_inverted.specs.Impacts.{refreshed}
+use Rattle.node_rows.specs.Rows.{Bytes, bytes_in}
+use Rattle.node_rows.specs.Impacts.{refreshed}
 use Rattle.node_inverted.specs.Refreshing.{on_words}
 use Rattle.node_inverted.proofs.Refreshes.{renewed-all}
-use Rattle.node_inverted.proofs.Turned.{turns-as}
+use Rattle.node_rows.proofs.Turned.{turns-as}
 use Rattle.irtree_delete.proofs.taking.relink.Goals as goal
 
 pub returns-else-is_condensed-clause-turns : goal.returns-else-is_condensed-clause-turns

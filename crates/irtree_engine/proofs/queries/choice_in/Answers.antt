@@ -1,7 +1,7 @@
 use Rattle.std.proofs.Common.{◌≡◌, ℕ, List, Err, ap, subst}
 use Rattle.page_face.specs.declared.fault.PageFault.TheVariants.{Damaged}
 use Rattle.store_tables.specs.declared.tables.Tables.{Tables}
-use Rattle.node_inverted.specs.declared.roots.Tree.{Tree}
+use Rattle.node_rows.specs.declared.roots.Tree.{Tree}
 use Rattle.place_map.specs.declared.query.Answer.TheVariants.{Group}
 use Rattle.tree_answers.specs.Damages.{IsAnswerHarm}
 use Rattle.tree_answers.specs.Opened.{AreFewOpenedForGroup}

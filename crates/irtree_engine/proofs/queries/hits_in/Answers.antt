@@ -6,7 +6,7 @@ use Rattle.place_map.specs.declared.query.Query.{Query}
 use Rattle.place_map.specs.declared.query.Query.TheVariants.{Range, Inside, Nearest, Top, Group}
 use Rattle.place_map.specs.declared.query.Answer.{Answer}
 use Rattle.place_map.specs.declared.query.Answer.TheVariants as answers
-use Rattle.node_inverted.specs.declared.roots.Tree.{Tree}
+use Rattle.node_rows.specs.declared.roots.Tree.{Tree}
 use Rattle.store_tables.specs.declared.tables.Tables.{Tables}
 use Rattle.store_meaning.specs.Stands.{tables_in}
 use Rattle.tree_answers.specs.Answers.{IsAnswer}

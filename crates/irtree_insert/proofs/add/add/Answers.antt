@@ -4,7 +4,7 @@ use Rattle.rtree_shape.specs.Stock.{View, view}
 use Rattle.rtree_shape.proofs.Parts.{put-sum}
 use Rattle.rtree_nodes.specs.Reach.{reach_of, item_of}
 use Rattle.rtree_nodes.specs.Pages.{node_of, slots_in, level_in}
-use Rattle.node_inverted.specs.Impacts.{impact_in}
+use Rattle.node_rows.specs.Impacts.{impact_in}
 use Rattle.irtree_shape.proofs.Stepping.{steps-raised, steps-write}
 use Rattle.irtree_shape.proofs.Adding.{page_unspared, room_made}
 use Rattle.irtree_insert.specs.Fits.{Fits}

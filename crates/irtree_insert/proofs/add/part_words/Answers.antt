@@ -3,10 +3,10 @@ use Rattle.std.proofs.lemmas.Result.{IfOk-weaker}
 use Rattle.page_face.specs.FreeList.{PageMap}
 use Rattle.btree_nodes.specs.Supply as supply
 use Rattle.rtree_shape.specs.Stock.{View, view, plain}
-use Rattle.node_inverted.specs.Rows.{bytes_in}
-use Rattle.node_inverted.specs.Turns.{Turns, moved}
-use Rattle.node_inverted.specs.Impacts.{impact_in, raised}
-use Rattle.node_inverted.proofs.Told.{told-turned}
+use Rattle.node_rows.specs.Rows.{bytes_in}
+use Rattle.node_rows.specs.Turns.{Turns, moved}
+use Rattle.node_rows.specs.Impacts.{impact_in, raised}
+use Rattle.node_rows.proofs.Told.{told-turned}
 use Rattle.irtree_shape.proofs.Stepping.{steps-parted}
 use Rattle.irtree_insert.proofs.add.part_words.Goals as goal
 use Rattle.irtree_insert.proofs.add.part_words.Goals.{then-is_moved, else-is_moved}

@@ -7,7 +7,7 @@ use Rattle.rtree_shape.specs.Slots.{Item, Slots, filled}
 use Rattle.rtree_shape.specs.Stock.{View, view, plain, rows_form, spare_in}
 use Rattle.rtree_nodes.specs.Reach.{reach_of, item_of, child_item}
 use Rattle.rtree_nodes.specs.Pages.{node_of, slots_in, level_in}
-use Rattle.node_inverted.specs.Impacts.{impact_in}
+use Rattle.node_rows.specs.Impacts.{impact_in}
 use Rattle.irtree_shape.specs.Stock.{IsSupplied}
 use Rattle.irtree_shape.specs.Steps.{IsPaired}
 use Rattle.irtree_shape.proofs.Adding.{page_unspared}

@@ -7,7 +7,7 @@ use Rattle.rtree_shape.specs.Stock.{View, view}
 use Rattle.rtree_shape.proofs.Climbs.{view-same}
 use Rattle.rtree_nodes.specs.Pages.{level_in}
 use Rattle.rtree_nodes.specs.Reach.{item_of}
-use Rattle.node_inverted.specs.Impacts.{impact_in}
+use Rattle.node_rows.specs.Impacts.{impact_in}
 use Rattle.irtree_shape.specs.Words.{worded}
 use Rattle.irtree_insert.specs.declared.insert.Climbed.{Climbed}
 use Rattle.irtree_insert.proofs.Loads.{some-told}

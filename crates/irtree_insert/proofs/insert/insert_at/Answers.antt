@@ -4,7 +4,7 @@ use Rattle.btree_nodes.proofs.Walks.{same-fault}
 use Rattle.rtree_shape.specs.Slots.{Item}
 use Rattle.rtree_shape.specs.Stock.{View, view}
 use Rattle.rtree_nodes.specs.Reach.{item_of}
-use Rattle.node_inverted.specs.Impacts.{impact_in}
+use Rattle.node_rows.specs.Impacts.{impact_in}
 use Rattle.irtree_shape.specs.Words.{worded}
 use Rattle.irtree_insert.proofs.Lands.{place-fits, first-planted, empty-whole, standing-some}
 use Rattle.irtree_insert.proofs.insert.insert_at.Goals as goal

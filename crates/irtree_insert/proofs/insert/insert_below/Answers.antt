@@ -8,7 +8,7 @@ use Rattle.rtree_shape.specs.Stock.{View, view}
 use Rattle.rtree_shape.proofs.Plants.{least-some}
 use Rattle.rtree_nodes.specs.Pages.{node_of}
 use Rattle.rtree_nodes.specs.Reach.{item_of}
-use Rattle.node_inverted.specs.Impacts.{impact_in}
+use Rattle.node_rows.specs.Impacts.{impact_in}
 use Rattle.irtree_shape.specs.Words.{worded}
 use Rattle.irtree_shape.specs.Steps.{crowned}
 use Rattle.irtree_shape.specs.Made.{nodes_in}

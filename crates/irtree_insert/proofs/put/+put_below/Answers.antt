@@ -12,9 +12,9 @@ use Rattle.rtree_shape.specs.Made.{Rises}
 use Rattle.rtree_shape.proofs.Climbs.{view-same}
 use Rattle.rtree_nodes.specs.Reach.{reach_of, item_of}
 use Rattle.rtree_nodes.specs.Pages.{node_of, level_in}
-use Rattle.node_inverted.specs.Rows.{bytes_in}
-use Rattle.node_inverted.specs.Impacts.{impact_in}
-use Rattle.node_inverted.specs.Known.{AreRowsAt}
+use Rattle.node_rows.specs.Rows.{bytes_in}
+use Rattle.node_rows.specs.Impacts.{impact_in}
+use Rattle.node_rows.specs.Known.{AreRowsAt}
 use Rattle.irtree_shape.specs.Words.{worded}
 use Rattle.irtree_shape.specs.Steps.{Steps, crowned_in, relinked}
 use Rattle.irtree_shape.specs.Made.{nodes_in, IsOpen, Puts}

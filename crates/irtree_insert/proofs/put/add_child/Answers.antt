@@ -11,8 +11,8 @@ use Rattle.rtree_shape.specs.Stock.{View, view}
 use Rattle.rtree_shape.specs.Made.{Rises}
 use Rattle.rtree_nodes.specs.Reach.{reach_of}
 use Rattle.rtree_nodes.specs.Pages.{node_of, slots_in}
-use Rattle.node_inverted.specs.Rows.{bytes_in}
-use Rattle.node_inverted.specs.Impacts.{impact_in}
+use Rattle.node_rows.specs.Rows.{bytes_in}
+use Rattle.node_rows.specs.Impacts.{impact_in}
 use Rattle.irtree_shape.specs.Words.{joined, worded, words_on}
 use Rattle.irtree_shape.specs.Steps.{crowned_in}
 use Rattle.irtree_shape.specs.Made.{nodes_in, IsReady, Makes}

@@ -7,7 +7,7 @@ use Rattle.rtree_shape.specs.Stock.{View, view}
 use Rattle.rtree_shape.specs.Made.{Rises}
 use Rattle.rtree_nodes.specs.Reach.{reach_of, child_item}
 use Rattle.rtree_nodes.specs.Pages.{node_of, slots_in, level_in}
-use Rattle.node_inverted.specs.Rows.{bytes_in}
+use Rattle.node_rows.specs.Rows.{bytes_in}
 use Rattle.irtree_shape.specs.Words.{joined, words_on}
 use Rattle.irtree_shape.specs.Steps.{crowned, crowned_in}
 use Rattle.irtree_shape.specs.Made.{nodes_in, IsReady, Makes}

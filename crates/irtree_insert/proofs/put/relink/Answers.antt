@@ -6,11 +6,11 @@ use Rattle.btree_nodes.specs.Supply as supply
 use Rattle.btree_nodes.proofs.Walks.{same-fault}
 use Rattle.paged_map.proofs.Maps.{kept-counted}
 use Rattle.rtree_shape.specs.Stock.{View, view, plain, rows_form}
-use Rattle.node_inverted.specs.Rows.{IsRows, bytes_in}
-use Rattle.node_inverted.specs.Turns.{Turns}
-use Rattle.node_inverted.specs.Impacts.{impact_in, raised}
-use Rattle.node_inverted.proofs.Told.{told-turned}
-use Rattle.node_inverted.proofs.Turned.{turns-as, view-same}
+use Rattle.node_rows.specs.Rows.{IsRows, bytes_in}
+use Rattle.node_rows.specs.Turns.{Turns}
+use Rattle.node_rows.specs.Impacts.{impact_in, raised}
+use Rattle.node_rows.proofs.Told.{told-turned}
+use Rattle.node_rows.proofs.Turned.{turns-as, view-same}
 use Rattle.irtree_shape.proofs.Renewals.{steps-relinked}
 use Rattle.irtree_insert.specs.declared.grown.Beside.{Beside}
 use Rattle.irtree_insert.specs.Grown.{beside_top}

@@ -6,7 +6,7 @@ use Rattle.rtree_shape.specs.Slots.{Item, Slots, NodeView}
 use Rattle.rtree_shape.specs.Stock.{View, view}
 use Rattle.rtree_nodes.specs.Reach.{item_of}
 use Rattle.rtree_nodes.specs.Pages.{node_of, slots_in, level_in}
-use Rattle.node_inverted.specs.Impacts.{impact_in}
+use Rattle.node_rows.specs.Impacts.{impact_in}
 use Rattle.irtree_shape.proofs.Plants.{leaf_spare, leaf_planted}
 use Rattle.irtree_shape.proofs.Stepping.{steps-raised}
 use Rattle.irtree_insert.proofs.Loads.{form-level, leaf-fits}

@@ -2,7 +2,7 @@ use Rattle.std.proofs.Common.{◌≡◌, ◌∙◌, ℕ, List, suc, ap, Err, ref
 use Rattle.std.proofs.lemmas.Result.{err_from_is_err_and}
 use Rattle.page_face.specs.FreeList.{PageMap}
 use Rattle.btree_nodes.proofs.Walks.{same-fault}
-use Rattle.node_inverted.proofs.Told.{told-turned}
+use Rattle.node_rows.proofs.Told.{told-turned}
 use Rattle.rtree_shape.specs.Slots.{Item, Slots, NodeView}
 use Rattle.rtree_shape.specs.Trees.{with_slot}
 use Rattle.rtree_shape.specs.Stock.{View, view, plain}

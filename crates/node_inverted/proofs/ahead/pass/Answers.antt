@@ -1,9 +1,9 @@
 use Rattle.std.proofs.Common.{◌≡◌, ◌≤◌, ◌+◌, ◌^◌, ◌∙◌, ℕ, sym, subst, arith}
 use Rattle.btree_nodes.specs.Tree.{map_rows}
 use Rattle.rtree_shape.specs.Stock.{rows_form}
-use Rattle.node_inverted.specs.Rows.{bytes_in}
-use Rattle.node_inverted.specs.Turns.{Next}
-use Rattle.node_inverted.proofs.Bytes.{bytes-large}
+use Rattle.node_rows.specs.Rows.{bytes_in}
+use Rattle.node_rows.specs.Turns.{Next}
+use Rattle.node_rows.proofs.Bytes.{bytes-large}
 use Rattle.node_inverted.proofs.ahead.pass.Goals as goal
 
 pub returns-in-None-clause-ahead : goal.returns-in-None-clause-ahead

@@ -1,11 +1,11 @@
 use Rattle.std.proofs.Common.{◌≡◌, ◌∙◌, sym, ap, subst, max, ℕ}
 use Rattle.std.proofs.Math.Path.{fun_ext}
-use Rattle.node_inverted.specs.Rows.{Bytes}
-use Rattle.node_inverted.specs.Turns.{with_row}
-use Rattle.node_inverted.specs.Impacts.{impact_at, raised}
+use Rattle.node_rows.specs.Rows.{Bytes}
+use Rattle.node_rows.specs.Turns.{with_row}
+use Rattle.node_rows.specs.Impacts.{impact_at, raised}
 use Rattle.node_inverted.specs.Drafts.{IsDrafting, edited}
 use Rattle.node_inverted.specs.declared.edits.RowEdit.{RowEdit}
-use Rattle.node_inverted.proofs.Impacts.{byte-raised, byte-same, byte-set}
+use Rattle.node_rows.proofs.Impacts.{byte-raised, byte-same, byte-set}
 use Rattle.node_inverted.proofs.drafting.edit_in.Goals as goal
 
 pub returns-in-Set-clause-sound : goal.returns-in-Set-clause-sound

@@ -1,7 +1,7 @@
 use Rattle.std.proofs.Common.{ℕ, ◌≤◌}
 use Rattle.page_face.specs.FreeList.{PageMap}
 use Rattle.paged_map.specs.Drafts.{IsLeafDraft}
-use Rattle.node_inverted.specs.Rows.{Bytes}
+use Rattle.node_rows.specs.Rows.{Bytes}
 use Rattle.node_inverted.specs.Drafts.{EditsUntil, IsDrafting, edits_in}
 use Rattle.node_inverted.proofs.drafting.edit_in_draft.Given as goal
 

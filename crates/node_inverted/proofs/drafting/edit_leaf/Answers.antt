@@ -5,10 +5,10 @@ use Rattle.page_face.specs.declared.fault.PageFault.TheVariants.{Damaged}
 use Rattle.btree_nodes.specs.Supply.{View, view}
 use Rattle.paged_map.proofs.Maps.{kept-counted}
 use Rattle.rtree_shape.specs.Stock.{rows_form}
-use Rattle.node_inverted.specs.Rows.{Bytes, IsRows, bytes_in}
-use Rattle.node_inverted.specs.Turns.{Turns}
+use Rattle.node_rows.specs.Rows.{Bytes, IsRows, bytes_in}
+use Rattle.node_rows.specs.Turns.{Turns}
 use Rattle.node_inverted.specs.Drafts.{IsDrafting, edited}
-use Rattle.node_inverted.proofs.Turned.{view-same}
+use Rattle.node_rows.proofs.Turned.{view-same}
 use Rattle.node_inverted.proofs.drafting.edit_leaf.Goals as goal
 
 pub returns-in_err-there-clause-honest : goal.returns-in_err-there-clause-honest

@@ -4,11 +4,11 @@ use Rattle.std.proofs.lemmas.Result.{err_from_is_err_and}
 use Rattle.page_face.specs.declared.fault.PageFault.TheVariants.{Damaged}
 use Rattle.page_face.proofs.Frames.{changes_then}
 use Rattle.btree_nodes.specs.Supply.{View, view}
-use Rattle.node_inverted.specs.Rows.{Bytes}
-use Rattle.node_inverted.specs.Turns.{Turns}
+use Rattle.node_rows.specs.Rows.{Bytes}
+use Rattle.node_rows.specs.Turns.{Turns}
 use Rattle.node_inverted.specs.Drafts.{edited, edited_by}
-use Rattle.node_inverted.proofs.Turned.{turns-further}
-use Rattle.node_inverted.proofs.Told.{told-turned}
+use Rattle.node_rows.proofs.Turned.{turns-further}
+use Rattle.node_rows.proofs.Told.{told-turned}
 use Rattle.node_inverted.proofs.drafting.edit_rows.Goals as goal
 
 pub loop-number-preserved : goal.loop-number-preserved

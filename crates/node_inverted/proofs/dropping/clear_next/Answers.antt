@@ -1,11 +1,11 @@
 use Rattle.std.proofs.Common.{◌≡◌, ℕ, ◌≤◌, ◌∙◌, sym, ap, subst, arith, refl, List, Some, None, Option, ◌^◌}
-use Rattle.node_inverted.specs.Rows.{Bytes, bytes_in}
-use Rattle.node_inverted.specs.Turns.{Next, dropped, with_row}
-use Rattle.node_inverted.specs.Ascents.{until}
+use Rattle.node_rows.specs.Rows.{Bytes, bytes_in}
+use Rattle.node_rows.specs.Turns.{Next, dropped, with_row}
+use Rattle.node_rows.specs.Ascents.{until}
 use Rattle.node_inverted.specs.Drafts.{with_rows}
-use Rattle.node_inverted.proofs.Turned.{turned-rest}
-use Rattle.node_inverted.proofs.Bytes.{with-another}
-use Rattle.node_inverted.proofs.Ascents.{ascend, rest, left}
+use Rattle.node_rows.proofs.Turned.{turned-rest}
+use Rattle.node_rows.proofs.Bytes.{with-another}
+use Rattle.node_rows.proofs.Ascents.{ascend, rest, left}
 use Rattle.node_inverted.proofs.Drops.{dropped-idle, dropped-set}
 use Rattle.node_inverted.proofs.Gathers.{row-more}
 use Rattle.node_inverted.proofs.dropping.clear_next.Goals as goal

@@ -5,17 +5,17 @@ use Rattle.page_face.proofs.Frames.{changes_then}
 use Rattle.btree_nodes.specs.Supply.{View, view}
 use Rattle.btree_nodes.specs.Tree.{map_rows}
 use Rattle.rtree_shape.specs.Stock.{rows_form}
-use Rattle.node_inverted.specs.Rows.{Bytes, bytes_in}
-use Rattle.node_inverted.specs.Turns.{Turns, dropped}
-use Rattle.node_inverted.specs.Ascents.{until, reached}
+use Rattle.node_rows.specs.Rows.{Bytes, bytes_in}
+use Rattle.node_rows.specs.Turns.{Turns, dropped}
+use Rattle.node_rows.specs.Ascents.{until, reached}
 use Rattle.node_inverted.specs.Drafts.{with_rows}
 use Rattle.node_inverted.specs.Gathers.{IsDropping}
 use Rattle.node_inverted.specs.declared.taking.NodeRow.{NodeRow}
-use Rattle.node_inverted.proofs.Bytes.{bytes-large}
-use Rattle.node_inverted.proofs.Turned.{turns-same, turns-as}
-use Rattle.node_inverted.proofs.Told.{told-turned}
-use Rattle.node_inverted.proofs.Faults.{changes-none}
-use Rattle.node_inverted.proofs.Ascents.{start, all}
+use Rattle.node_rows.proofs.Bytes.{bytes-large}
+use Rattle.node_rows.proofs.Turned.{turns-same, turns-as}
+use Rattle.node_rows.proofs.Told.{told-turned}
+use Rattle.node_rows.proofs.Faults.{changes-none}
+use Rattle.node_rows.proofs.Ascents.{start, all}
 use Rattle.node_inverted.proofs.Drops.{dropped-idle}
 use Rattle.node_inverted.proofs.Gathers.{dropping-none, dropping-set}
 use Rattle.node_inverted.proofs.dropping.drop_node.Goals as goal

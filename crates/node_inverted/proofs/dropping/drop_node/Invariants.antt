@@ -1,9 +1,9 @@
 use Rattle.std.proofs.Common.{◌≡◌, ℕ, List}
 use Rattle.page_face.specs.Calls.{Changes}
 use Rattle.btree_nodes.specs.Supply.{view}
-use Rattle.node_inverted.specs.Rows.{IsRows, bytes_in}
-use Rattle.node_inverted.specs.Copies.{IsCopy}
-use Rattle.node_inverted.specs.Ascents.{reached, left_from}
+use Rattle.node_rows.specs.Rows.{IsRows, bytes_in}
+use Rattle.node_rows.specs.Copies.{IsCopy}
+use Rattle.node_rows.specs.Ascents.{reached, left_from}
 use Rattle.node_inverted.specs.Gathers.{IsDropping}
 use Rattle.node_inverted.proofs.dropping.drop_node.Given as goal
 

@@ -5,8 +5,8 @@ use Rattle.btree_nodes.specs.Supply.{View, view}
 use Rattle.btree_nodes.specs.Damages.{AreTold}
 use Rattle.paged_map.proofs.Maps.{kept-counted}
 use Rattle.rtree_shape.specs.Stock.{rows_form}
-use Rattle.node_inverted.specs.Rows.{IsRows}
-use Rattle.node_inverted.specs.Ascents.{reached}
+use Rattle.node_rows.specs.Rows.{IsRows}
+use Rattle.node_rows.specs.Ascents.{reached}
 use Rattle.node_inverted.proofs.Gathers.{moving-none}
 use Rattle.node_inverted.proofs.moving.move_next.Goals as goal
 

@@ -1,10 +1,10 @@
 use Rattle.std.proofs.Common.{◌≡◌, ℕ, List}
 use Rattle.page_face.specs.Calls.{Changes}
 use Rattle.btree_nodes.specs.Supply.{view}
-use Rattle.node_inverted.specs.Rows.{IsRows, bytes_in}
-use Rattle.node_inverted.specs.Turns.{HasNone}
-use Rattle.node_inverted.specs.Copies.{IsCopy}
-use Rattle.node_inverted.specs.Ascents.{reached, left_from}
+use Rattle.node_rows.specs.Rows.{IsRows, bytes_in}
+use Rattle.node_rows.specs.Turns.{HasNone}
+use Rattle.node_rows.specs.Copies.{IsCopy}
+use Rattle.node_rows.specs.Ascents.{reached, left_from}
 use Rattle.node_inverted.specs.Gathers.{IsMoving}
 use Rattle.node_inverted.proofs.moving.move_slots.Given as goal
 

@@ -1,10 +1,10 @@
 use Rattle.std.proofs.Common.{◌≡◌, ℕ, ◌≤◌, ◌<◌, ◌∙◌, sym, ap, subst, arith, List, Some, None, Option, ◌^◌, refl}
-use Rattle.node_inverted.specs.Rows.{Bytes, bytes_in}
-use Rattle.node_inverted.specs.Turns.{Next, moved}
-use Rattle.node_inverted.specs.Ascents.{on_word, until}
+use Rattle.node_rows.specs.Rows.{Bytes, bytes_in}
+use Rattle.node_rows.specs.Turns.{Next, moved}
+use Rattle.node_rows.specs.Ascents.{on_word, until}
 use Rattle.node_inverted.specs.Drafts.{with_rows}
-use Rattle.node_inverted.proofs.Turned.{turned-rest}
-use Rattle.node_inverted.proofs.Ascents.{ascend, rest, left}
+use Rattle.node_rows.proofs.Turned.{turned-rest}
+use Rattle.node_rows.proofs.Ascents.{ascend, rest, left}
 use Rattle.node_inverted.proofs.Moves.{moved-same, moved-idle, on-here, on-other}
 use Rattle.node_inverted.proofs.moving.part_next.Goals as goal
 

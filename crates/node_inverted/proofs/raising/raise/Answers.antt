@@ -1,9 +1,9 @@
 use Rattle.std.proofs.Common.{ℕ, subst}
 use Rattle.std.specs.Result.{OnOk}
 use Rattle.btree_nodes.specs.Supply.{view}
-use Rattle.node_inverted.specs.Rows.{Bytes, bytes_in}
-use Rattle.node_inverted.specs.Turns.{Turns}
-use Rattle.node_inverted.proofs.Impacts.{raised-all}
+use Rattle.node_rows.specs.Rows.{Bytes, bytes_in}
+use Rattle.node_rows.specs.Turns.{Turns}
+use Rattle.node_inverted.proofs.Drafts.{raised-all}
 use Rattle.node_inverted.proofs.raising.raise.Goals as goal
 
 pub returns-clause-turns : goal.returns-clause-turns

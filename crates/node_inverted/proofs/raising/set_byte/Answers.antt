@@ -1,11 +1,11 @@
 use Rattle.std.proofs.Common.{◌∙◌, sym}
 use Rattle.std.proofs.lemmas.Result.{on_ok_weaker}
 use Rattle.btree_nodes.specs.Supply.{View, view}
-use Rattle.node_inverted.specs.Rows.{Bytes, bytes_in}
-use Rattle.node_inverted.specs.Turns.{with_row}
-use Rattle.node_inverted.specs.Impacts.{with_byte}
-use Rattle.node_inverted.proofs.Turned.{turns-same, turns-as}
-use Rattle.node_inverted.proofs.Impacts.{byte-same, byte-set}
+use Rattle.node_rows.specs.Rows.{Bytes, bytes_in}
+use Rattle.node_rows.specs.Turns.{with_row}
+use Rattle.node_rows.specs.Impacts.{with_byte}
+use Rattle.node_rows.proofs.Turned.{turns-same, turns-as}
+use Rattle.node_rows.proofs.Impacts.{byte-same, byte-set}
 use Rattle.node_inverted.proofs.raising.set_byte.Goals as goal
 
 pub returns-then-row-slot-clause-turns : goal.returns-then-row-slot-clause-turns

@@ -6,10 +6,10 @@ use Rattle.page_face.specs.declared.fault.PageFault.TheVariants.{Damaged}
 use Rattle.btree_nodes.specs.Supply.{View, view}
 use Rattle.paged_map.proofs.Maps.{kept-counted}
 use Rattle.rtree_shape.specs.Stock.{rows_form}
-use Rattle.node_inverted.specs.Rows.{HasBytes, IsRows, bytes_in}
-use Rattle.node_inverted.specs.Turns.{Turns}
-use Rattle.node_inverted.specs.Impacts.{with_byte}
-use Rattle.node_inverted.proofs.Turned.{view-same}
+use Rattle.node_rows.specs.Rows.{HasBytes, IsRows, bytes_in}
+use Rattle.node_rows.specs.Turns.{Turns}
+use Rattle.node_rows.specs.Impacts.{with_byte}
+use Rattle.node_rows.proofs.Turned.{view-same}
 use Rattle.node_inverted.proofs.raising.set_impact.Goals as goal
 
 pub returns-clause-turns : goal.returns-clause-turns

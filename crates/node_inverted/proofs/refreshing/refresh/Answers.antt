@@ -9,12 +9,12 @@ use Rattle.btree_nodes.specs.Tree.{IsMap, map_rows, map_uses}
 use Rattle.paged_map.specs.Maps.{AreCounted}
 use Rattle.paged_map.proofs.Maps.{kept-counted}
 use Rattle.rtree_shape.specs.Stock.{rows_form}
-use Rattle.node_inverted.specs.Rows.{Bytes, bytes_in}
-use Rattle.node_inverted.specs.Ascents.{until}
-use Rattle.node_inverted.specs.Impacts.{refreshed}
+use Rattle.node_rows.specs.Rows.{Bytes, bytes_in}
+use Rattle.node_rows.specs.Ascents.{until}
+use Rattle.node_rows.specs.Impacts.{refreshed}
 use Rattle.node_inverted.specs.Refreshing.{IsBounded, lesser_of, word_of}
-use Rattle.node_inverted.proofs.Bytes.{bytes-large}
-use Rattle.node_inverted.proofs.Told.{told-turned}
+use Rattle.node_rows.proofs.Bytes.{bytes-large}
+use Rattle.node_rows.proofs.Told.{told-turned}
 use Rattle.node_inverted.proofs.Refreshes.{refresh-begins, refreshed-all}
 use Rattle.node_inverted.proofs.refreshing.refresh.Goals as goal
 

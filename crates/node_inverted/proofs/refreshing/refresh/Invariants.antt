@@ -1,9 +1,9 @@
 use Rattle.std.proofs.Common.{◌≡◌, ℕ}
 use Rattle.page_face.specs.Calls.{Changes}
 use Rattle.btree_nodes.specs.Supply.{View}
-use Rattle.node_inverted.specs.Rows.{Bytes}
-use Rattle.node_inverted.specs.Ascents.{left_from}
-use Rattle.node_inverted.specs.Copies.{IsCopy}
+use Rattle.node_rows.specs.Rows.{Bytes}
+use Rattle.node_rows.specs.Ascents.{left_from}
+use Rattle.node_rows.specs.Copies.{IsCopy}
 use Rattle.node_inverted.specs.Refreshing.{IsRefreshing, IsBounded, lesser_of, word_of}
 use Rattle.node_inverted.proofs.refreshing.refresh.Given as goal
 

@@ -8,13 +8,14 @@ use Rattle.btree_nodes.specs.Damages.{AreTold}
 use Rattle.paged_map.specs.Maps.{AreCounted}
 use Rattle.paged_map.proofs.Maps.{kept-counted}
 use Rattle.rtree_shape.specs.Stock.{rows_form}
-use Rattle.node_inverted.specs.Rows.{Bytes, bytes_in}
-use Rattle.node_inverted.specs.Ascents.{until}
-use Rattle.node_inverted.specs.Impacts.{refreshed, with_byte, top_at}
-use Rattle.node_inverted.proofs.Ascents.{left}
-use Rattle.node_inverted.proofs.Turned.{turns-as, turns-further, turned-rest}
-use Rattle.node_inverted.proofs.Told.{told-turned}
-use Rattle.node_inverted.proofs.Refreshes.{least, ahead-byte, top-row, refreshed-next}
+use Rattle.node_rows.specs.Rows.{Bytes, bytes_in}
+use Rattle.node_rows.specs.Ascents.{until}
+use Rattle.node_rows.specs.Impacts.{refreshed, with_byte, top_at}
+use Rattle.node_rows.proofs.Ascents.{left}
+use Rattle.node_rows.proofs.Turned.{turns-as, turns-further, turned-rest}
+use Rattle.node_rows.proofs.Told.{told-turned}
+use Rattle.node_rows.proofs.Impacts.{top-row}
+use Rattle.node_inverted.proofs.Refreshes.{least, ahead-byte, refreshed-next}
 use Rattle.node_inverted.proofs.refreshing.refresh_word.Goals as goal
 
 pub returns-clause-turns : goal.returns-clause-turns

@@ -4,16 +4,16 @@ use Rattle.std.proofs.lemmas.Result.{err_from_is_err_and}
 use Rattle.page_face.specs.declared.fault.PageFault.TheVariants.{Damaged}
 use Rattle.page_face.proofs.Frames.{changes_then}
 use Rattle.btree_nodes.specs.Supply.{View, view}
-use Rattle.node_inverted.specs.Rows.{Bytes, bytes_in}
-use Rattle.node_inverted.specs.Turns.{Turns}
+use Rattle.node_rows.specs.Rows.{Bytes, bytes_in}
+use Rattle.node_rows.specs.Turns.{Turns}
 use Rattle.node_inverted.specs.Drafts.{with_rows}
-use Rattle.node_inverted.specs.Impacts.{refreshed}
+use Rattle.node_rows.specs.Impacts.{refreshed}
 use Rattle.node_inverted.specs.Refreshing.{on_words}
 use Rattle.node_inverted.specs.declared.taking.NodeRow.{NodeRow}
 use Rattle.node_inverted.specs.Gathers.{IsRenewing}
-use Rattle.node_inverted.proofs.Turned.{turns-same}
-use Rattle.node_inverted.proofs.Told.{told-turned}
-use Rattle.node_inverted.proofs.Faults.{changes-none}
+use Rattle.node_rows.proofs.Turned.{turns-same}
+use Rattle.node_rows.proofs.Told.{told-turned}
+use Rattle.node_rows.proofs.Faults.{changes-none}
 use Rattle.node_inverted.proofs.Gathers.{renewing-none, renewing-set}
 use Rattle.node_inverted.proofs.refreshing.renew.Goals as goal
 

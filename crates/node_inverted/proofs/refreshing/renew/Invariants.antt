@@ -1,7 +1,7 @@
 use Rattle.std.proofs.Common.{◌≡◌, ℕ, List, take}
 use Rattle.page_face.specs.Calls.{Changes}
 use Rattle.btree_nodes.specs.Supply.{view}
-use Rattle.node_inverted.specs.Rows.{IsRows, bytes_in}
+use Rattle.node_rows.specs.Rows.{IsRows, bytes_in}
 use Rattle.node_inverted.specs.Gathers.{IsRenewing}
 use Rattle.node_inverted.proofs.refreshing.renew.Given as goal
 

@@ -3,14 +3,13 @@ use Rattle.std.proofs.lemmas.Result.{on_ok_weaker}
 use Rattle.btree_nodes.specs.Tree.{IsMap}
 use Rattle.rtree_shape.proofs.Amounts.{same_or}
 use Rattle.rtree_shape.specs.Stock.{rows_form}
-use Rattle.node_inverted.specs.Rows.{Bytes, bytes_in}
-use Rattle.node_inverted.specs.Turns.{Next}
-use Rattle.node_inverted.specs.Impacts.{refreshed, top_at}
+use Rattle.node_rows.specs.Rows.{Bytes, bytes_in}
+use Rattle.node_rows.specs.Turns.{Next}
+use Rattle.node_rows.specs.Impacts.{refreshed, top_at}
 use Rattle.node_inverted.specs.Drafts.{with_rows}
-use Rattle.node_inverted.proofs.Turned.{turned-rest}
-use Rattle.node_inverted.proofs.Impacts.{byte-here, byte-another}
-use Rattle.node_inverted.proofs.Copies.{next-from}
-use Rattle.node_inverted.proofs.Refreshes.{ahead-byte, away, refreshed-beside, renewed-next, top-row}
+use Rattle.node_rows.proofs.Turned.{turned-rest}
+use Rattle.node_rows.proofs.Impacts.{byte-here, byte-another, top-row}
+use Rattle.node_inverted.proofs.Refreshes.{ahead-byte, away, next-from, refreshed-beside, renewed-next}
 use Rattle.node_inverted.proofs.refreshing.renew_next.Goals as goal
 
 pub returns-clause-renewing : goal.returns-clause-renewing

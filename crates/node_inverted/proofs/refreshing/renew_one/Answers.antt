@@ -5,8 +5,8 @@ use Rattle.btree_nodes.specs.Supply.{View, view}
 use Rattle.btree_nodes.specs.Damages.{AreTold}
 use Rattle.paged_map.proofs.Maps.{kept-counted}
 use Rattle.rtree_shape.specs.Stock.{rows_form}
-use Rattle.node_inverted.specs.Rows.{IsRows, bytes_in}
-use Rattle.node_inverted.specs.Turns.{Turns}
+use Rattle.node_rows.specs.Rows.{IsRows, bytes_in}
+use Rattle.node_rows.specs.Turns.{Turns}
 use Rattle.node_inverted.specs.Drafts.{with_rows}
 use Rattle.node_inverted.specs.declared.taking.NodeRow.{NodeRow}
 use Rattle.node_inverted.proofs.Gathers.{renewing-none, renewing-set}

@@ -1,9 +1,9 @@
 use Rattle.std.proofs.Common.{◌∙◌, sym, ap}
 use Rattle.std.proofs.lemmas.Result.{on_ok_weaker}
-use Rattle.node_inverted.specs.Rows.{Bytes}
+use Rattle.node_rows.specs.Rows.{Bytes}
 use Rattle.node_inverted.specs.Drafts.{with_rows}
 use Rattle.node_inverted.proofs.Gathers.{row-more, row-renewed}
-use Rattle.node_inverted.proofs.Impacts.{byte-same}
+use Rattle.node_rows.proofs.Impacts.{byte-same}
 use Rattle.node_inverted.proofs.refreshing.renew_row.Goals as goal
 
 pub returns-then-row-slot-clause-renewed : goal.returns-then-row-slot-clause-renewed

@@ -1,11 +1,13 @@
 use Rattle.std.proofs.Common.{◌≡◌, ℕ, ◌^◌, ◌+◌, ◌∙◌, max, sym, ap, refl, subst, arith, List, Some, None, Option}
-use Rattle.node_inverted.specs.Rows.{Bytes, bytes_in}
-use Rattle.node_inverted.specs.Turns.{Next}
-use Rattle.node_inverted.specs.Ascents.{until}
-use Rattle.node_inverted.specs.Lifts.{bytes_at, lifted_at, lifted_by, no_bytes}
+use Rattle.node_rows.specs.Rows.{Bytes, bytes_in}
+use Rattle.node_rows.specs.Turns.{Next}
+use Rattle.node_rows.specs.Ascents.{until}
+use Rattle.node_rows.specs.Words.{no_bytes}
+use Rattle.node_inverted.specs.Lifts.{bytes_at, lifted_at, lifted_by}
 use Rattle.node_inverted.specs.declared.taking.NodeRow.{NodeRow}
-use Rattle.node_inverted.proofs.Ascents.{ascend, rest, left}
-use Rattle.node_inverted.proofs.Lifts.{lifted-here, lifted-other, max-none, max-zero, rows-wider}
+use Rattle.node_rows.proofs.Ascents.{ascend, rest, left}
+use Rattle.node_rows.proofs.Pairs.{max-none, max-zero}
+use Rattle.node_inverted.proofs.Lifts.{lifted-here, lifted-other, rows-wider}
 use Rattle.node_inverted.proofs.taking.list_next.Goals as goal
 
 pub returns-clause-listed : goal.returns-clause-listed

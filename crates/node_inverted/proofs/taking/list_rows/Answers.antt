@@ -7,14 +7,15 @@ use Rattle.btree_nodes.specs.Damages.{AreTold}
 use Rattle.btree_nodes.specs.Tree.{IsMap, map_rows, map_uses}
 use Rattle.paged_map.specs.Maps.{AreCounted}
 use Rattle.rtree_shape.specs.Stock.{rows_form}
-use Rattle.node_inverted.specs.Rows.{Bytes, bytes_in}
-use Rattle.node_inverted.specs.Copies.{IsCopy}
-use Rattle.node_inverted.specs.Ascents.{until, reached}
-use Rattle.node_inverted.specs.Lifts.{AreOrdered, bytes_at, lifted_at, no_bytes}
+use Rattle.node_rows.specs.Rows.{Bytes, bytes_in}
+use Rattle.node_rows.specs.Copies.{IsCopy}
+use Rattle.node_rows.specs.Ascents.{until, reached}
+use Rattle.node_rows.specs.Words.{no_bytes}
+use Rattle.node_inverted.specs.Lifts.{AreOrdered, bytes_at, lifted_at}
 use Rattle.node_inverted.specs.declared.taking.NodeRow.{NodeRow}
-use Rattle.node_inverted.proofs.Bytes.{bytes-large}
-use Rattle.node_inverted.proofs.Ascents.{start, all}
-use Rattle.node_inverted.proofs.Faults.{reads-none}
+use Rattle.node_rows.proofs.Bytes.{bytes-large}
+use Rattle.node_rows.proofs.Ascents.{start, all}
+use Rattle.node_rows.proofs.Faults.{reads-none}
 use Rattle.node_inverted.proofs.taking.list_rows.Goals as goal
 
 pub loop-from-init : goal.loop-from-init

@@ -2,10 +2,11 @@ use Rattle.std.proofs.Common.{◌≡◌, ℕ}
 use Rattle.page_face.specs.Calls.{Reads}
 use Rattle.btree_nodes.specs.Tree.{IsMap}
 use Rattle.rtree_shape.specs.Stock.{rows_form}
-use Rattle.node_inverted.specs.Rows.{bytes_in}
-use Rattle.node_inverted.specs.Copies.{IsCopy}
-use Rattle.node_inverted.specs.Ascents.{reached, left_from, until}
-use Rattle.node_inverted.specs.Lifts.{AreOrdered, bytes_at, lifted_at, no_bytes}
+use Rattle.node_rows.specs.Rows.{bytes_in}
+use Rattle.node_rows.specs.Copies.{IsCopy}
+use Rattle.node_rows.specs.Ascents.{reached, left_from, until}
+use Rattle.node_rows.specs.Words.{no_bytes}
+use Rattle.node_inverted.specs.Lifts.{AreOrdered, bytes_at, lifted_at}
 use Rattle.node_inverted.proofs.taking.list_rows.Given as goal
 
 -- the rows before the next word are listed

@@ -6,9 +6,9 @@ use Rattle.btree_nodes.specs.Supply.{View, view}
 use Rattle.btree_nodes.specs.Damages.{AreTold}
 use Rattle.paged_map.proofs.Maps.{kept-counted}
 use Rattle.rtree_shape.specs.Stock.{rows_form}
-use Rattle.node_inverted.specs.Rows.{IsRows, bytes_in}
-use Rattle.node_inverted.specs.Turns.{Turns, dropped}
-use Rattle.node_inverted.proofs.Turned.{view-same}
+use Rattle.node_rows.specs.Rows.{IsRows, bytes_in}
+use Rattle.node_rows.specs.Turns.{Turns, dropped}
+use Rattle.node_rows.proofs.Turned.{view-same}
 use Rattle.node_inverted.proofs.taking.take_rows.Goals as goal
 
 pub returns-clause-taken : goal.returns-clause-taken

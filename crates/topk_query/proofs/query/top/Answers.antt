@@ -6,8 +6,8 @@ use Rattle.spatial_base.specs.Point.{Position}
 use Rattle.ranking.specs.First.{first}
 use Rattle.place_map.specs.declared.hit.Hit.{Hit}
 use Rattle.place_map.specs.Hit.{comes_before}
-use Rattle.node_inverted.specs.declared.roots.Tree.{Tree}
-use Rattle.node_inverted.specs.Rows.{bytes_in}
+use Rattle.node_rows.specs.declared.roots.Tree.{Tree}
+use Rattle.node_rows.specs.Rows.{bytes_in}
 use Rattle.best_first.specs.Openings.{Opened}
 use Rattle.tree_entries.specs.Numbers.{Numbers}
 use Rattle.tree_entries.specs.Entries.{tree_places}

@@ -3,7 +3,7 @@ use Rattle.page_face.specs.FreeList.{PageMap}
 use Rattle.btree_nodes.specs.Tree.{IsMap}
 use Rattle.place_map.specs.declared.query.Expr.{Expr}
 use Rattle.rtree_shape.specs.Stock.{rows_form}
-use Rattle.node_inverted.specs.Rows.{bytes_in}
+use Rattle.node_rows.specs.Rows.{bytes_in}
 use Rattle.tree_entries.specs.Masks.{has_slot, Marks}
 use Rattle.tree_entries.specs.Numbers.{byte_of}
 use Rattle.tree_entries.specs.Filters.{admits, meets, may_meet}

@@ -1,5 +1,5 @@
 use Rattle.std.proofs.Common.{◌∙◌, ap, sym, slice_index}
-use Rattle.node_inverted.specs.Rows.{Bytes, bytes_in}
+use Rattle.node_rows.specs.Rows.{Bytes, bytes_in}
 use Rattle.tree_entries.specs.Numbers.{byte_of, by_number}
 use Rattle.tree_entries.proofs.Admissions.{marks-row}
 use Rattle.tree_entries.proofs.admitting.holding.Goals as goal

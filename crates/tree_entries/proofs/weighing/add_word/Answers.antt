@@ -1,5 +1,5 @@
 use Rattle.std.proofs.Common.{ℕ, ◌∙◌, ◌||◌, Bool, ap, sym, nat_lt}
-use Rattle.node_inverted.specs.Rows.{Bytes, bytes_in}
+use Rattle.node_rows.specs.Rows.{Bytes, bytes_in}
 use Rattle.tree_entries.specs.Masks.{has_slot}
 use Rattle.tree_entries.specs.Numbers.{by_number}
 use Rattle.tree_entries.proofs.Marking.{slot-or}

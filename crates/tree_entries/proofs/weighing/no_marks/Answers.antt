@@ -1,5 +1,5 @@
 use Rattle.std.proofs.Common.{refl, [], ◌∷◌}
-use Rattle.node_inverted.proofs.Bytes.{zero-at}
+use Rattle.node_rows.proofs.Bytes.{zero-at}
 use Rattle.tree_entries.proofs.Marking.{slot-none}
 use Rattle.tree_entries.proofs.weighing.no_marks.Goals as goal
 

@@ -1,7 +1,7 @@
 use Rattle.std.proofs.Common.{◌≡◌, ℕ, ◌<◌, ◌≤◌, ◌*◌, slice_index, take, Ok}
 use Rattle.btree_nodes.specs.Tree.{IsMap}
 use Rattle.rtree_shape.specs.Stock.{rows_form}
-use Rattle.node_inverted.specs.Rows.{bytes_in}
+use Rattle.node_rows.specs.Rows.{bytes_in}
 use Rattle.tree_entries.specs.Masks.{has_slot}
 use Rattle.tree_entries.specs.Numbers.{byte_of}
 use Rattle.tree_entries.specs.Filters.{holds_by, relevance_by}

@@ -1,6 +1,6 @@
 use Rattle.std.proofs.Common.{ℕ, ◌∙◌, ◌==◌, ◌&&◌, List, ap, sym}
 use Rattle.std.proofs.lemmas.Nat.Bits.{bit_at_ones}
-use Rattle.node_inverted.specs.Rows.{bytes_in}
+use Rattle.node_rows.specs.Rows.{bytes_in}
 use Rattle.tree_entries.specs.Masks.{has_slot}
 use Rattle.tree_entries.specs.Numbers.{byte_of}
 use Rattle.tree_entries.specs.Filters.{admits_by, admits}

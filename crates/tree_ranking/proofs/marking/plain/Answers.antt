@@ -1,5 +1,5 @@
 use Rattle.std.proofs.Common.{refl, [], ◌∷◌}
-use Rattle.node_inverted.proofs.Bytes.{zero-at}
+use Rattle.node_rows.proofs.Bytes.{zero-at}
 use Rattle.tree_ranking.proofs.marking.plain.Goals as goal
 
 pub returns-clause-texts : goal.returns-clause-texts

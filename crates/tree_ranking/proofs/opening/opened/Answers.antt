@@ -9,7 +9,7 @@ use Rattle.btree_nodes.proofs.Walks.{same-fault}
 use Rattle.rtree_shape.specs.Stock.{rows_form}
 use Rattle.rtree_nodes.specs.Pages.{stored_in}
 use Rattle.rtree_find.specs.Harms.{BreaksPlace}
-use Rattle.node_inverted.specs.Rows.{bytes_in}
+use Rattle.node_rows.specs.Rows.{bytes_in}
 use Rattle.best_first.specs.declared.item.Item.{Item}
 use Rattle.best_first.proofs.Lists.{all_weaker}
 use Rattle.tree_entries.specs.Numbers.{byte_of}

@@ -7,7 +7,7 @@ use Rattle.btree_nodes.proofs.Harms.{asked-before}
 use Rattle.rtree_shape.specs.Stock.{rows_form}
 use Rattle.rtree_nodes.specs.Pages.{level_in}
 use Rattle.rtree_find.specs.Harms.{BreaksAlone}
-use Rattle.node_inverted.specs.Rows.{bytes_in}
+use Rattle.node_rows.specs.Rows.{bytes_in}
 use Rattle.best_first.specs.declared.item.Item.{Item}
 use Rattle.best_first.specs.declared.item.Item.TheVariants.{Node}
 use Rattle.best_first.specs.Items.{pages_of}

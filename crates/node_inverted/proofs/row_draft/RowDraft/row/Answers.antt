@@ -2,8 +2,8 @@ use Rattle.std.proofs.Common.{◌≡◌, ℕ, List, sym, ap, ◌∙◌, subst, O
 use Rattle.btree_nodes.specs.Rows.{lookup}
 use Rattle.btree_search.specs.Steps.{low_of, high_of}
 use Rattle.paged_map.specs.declared.draft.LeafDraft.{LeafDraft}
-use Rattle.node_inverted.specs.Rows.{Bytes, byte_in, key_of}
-use Rattle.node_inverted.proofs.Bytes.{bytes-small}
+use Rattle.node_rows.specs.Rows.{Bytes, byte_in, key_of}
+use Rattle.node_rows.proofs.Bytes.{bytes-small}
 use Rattle.node_inverted.proofs.row_draft.RowDraft.row.Goals as goal
 
 pub returns-then-get : goal.returns-then-get

@@ -4,8 +4,8 @@ use Rattle.btree_nodes.specs.Rows.{put, without}
 use Rattle.btree_search.specs.Steps.{low_of, high_of}
 use Rattle.paged_map.specs.Drafts.{Drafts}
 use Rattle.paged_map.specs.declared.draft.LeafDraft.{LeafDraft}
-use Rattle.node_inverted.specs.Rows.{key_of}
-use Rattle.node_inverted.proofs.Bytes.{filled-put, filled-without}
+use Rattle.node_rows.specs.Rows.{key_of}
+use Rattle.node_rows.proofs.Bytes.{filled-put, filled-without}
 use Rattle.node_inverted.proofs.Drafts.{drafted-within, put-bytes, without-bytes}
 use Rattle.node_inverted.proofs.row_draft.RowDraft.set.Goals as goal
 

@@ -1,7 +1,7 @@
 use Rattle.std.proofs.Common.{◌∙◌, ℕ}
 use Rattle.page_face.specs.FreeList.{PageMap}
-use Rattle.node_inverted.specs.declared.roots.Tree.{Tree}
-use Rattle.node_inverted.specs.Rows.{bytes_in}
+use Rattle.node_rows.specs.declared.roots.Tree.{Tree}
+use Rattle.node_rows.specs.Rows.{bytes_in}
 use Rattle.tree_ranking.specs.Leaves.{page-given}
 use Rattle.tree_ranking.specs.Laws.{fits-map, fits-counted, node-sound, node-told}
 use Rattle.tree_ranking.proofs.searching.RankingRanked.open.Goals as goal

@@ -1,7 +1,7 @@
 use Rattle.std.proofs.Common.{◌∙◌, ℕ}
 use Rattle.page_face.specs.FreeList.{PageMap}
-use Rattle.node_inverted.specs.declared.roots.Tree.{Tree}
-use Rattle.node_inverted.specs.Rows.{bytes_in}
+use Rattle.node_rows.specs.declared.roots.Tree.{Tree}
+use Rattle.node_rows.specs.Rows.{bytes_in}
 use Rattle.irtree_shape.specs.Whole.{level_at}
 use Rattle.tree_entries.specs.Numbers.{byte_of}
 use Rattle.tree_ranking.specs.Asks.{qualifies}

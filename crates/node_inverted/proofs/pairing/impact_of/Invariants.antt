@@ -1,6 +1,0 @@
-use Rattle.std.proofs.Common.{◌≡◌, take}
-use Rattle.node_inverted.specs.Impacts.{impact_in}
-use Rattle.node_inverted.proofs.pairing.impact_of.Given as goal
-
-abbrev pub invariant-loop-pair : goal.invariant-loop-pair
-invariant-loop-pair l = l.impact ≡ impact_in (take l.pair-index l.words) l.number

@@ -1,9 +1,0 @@
-use Rattle.std.proofs.Common.{◌≡◌, ◌+◌, ℕ, ◌<◌, ◌≤◌, min, slice_index}
-use Rattle.node_inverted.specs.Counts.{sign, most}
-use Rattle.node_inverted.proofs.sharing.add_signs.Given as goal
-
-abbrev pub invariant-loop-i : goal.invariant-loop-i
-invariant-loop-i l = record {
-  done : (j : ℕ) → j < l.i → slice_index l.counts j ≡ min (slice_index l.initial.counts j + sign (slice_index l.row j)) most;
-  rest : (j : ℕ) → l.i ≤ j → slice_index l.counts j ≡ slice_index l.initial.counts j;
-}

@@ -1,0 +1,67 @@
+-- What a look-up in the rows' map finds.
+use Rattle.std.proofs.Common.{◌≡◌, ℕ, ◌^◌, ◌<◌, Option, Some, None, List, sym, ap, ◌∙◌}
+use Rattle.page_face.specs.FreeList.{PageMap}
+use Rattle.page_face.specs.declared.fault.Damage.{Damage}
+use Rattle.page_face.specs.declared.fault.PageFault.{PageFault}
+use Rattle.page_face.specs.declared.fault.PageFault.TheVariants.{Damaged}
+use Rattle.page_face.specs.declared.fault.Rule.TheVariants.{Order}
+use Rattle.btree_nodes.specs.Rows.{Row, lookup, first_from}
+use Rattle.btree_nodes.specs.Tree.{IsMap, map_rows, map_uses}
+use Rattle.paged_map.specs.Answers.{HoldsRow, Locates}
+use Rattle.rtree_shape.specs.Stock.{rows_form}
+use Rattle.node_rows.specs.Rows.{HasBytes, byte_in, bytes_in, key_of}
+use Rattle.node_rows.specs.Turns.{IsNext, Next}
+use Rattle.node_rows.proofs.Bytes.{bytes-small, next-away, next-here, next-none}
+use Rattle.node_rows.proofs.Told.{map-within}
+
+located-none : {X : Type 0} (wanted : Option X) (found : X) (Holds : ℕ → Type 0) (at : Option ℕ) → at ≡ None → Locates wanted found Holds at → wanted ≡ None
+located-none wanted found Holds None e there = there
+located-none wanted found Holds (Some page) e there = absurd (cc)
+
+located-some : {X : Type 0} (wanted : Option X) (found : X) (Holds : ℕ → Type 0) (at : Option ℕ) (page : ℕ) → at ≡ Some page → Locates wanted found Holds at → wanted ≡ Some found
+located-some wanted found Holds None page e there = absurd (cc)
+located-some wanted found Holds (Some leaf) page e there = there.0
+
+module _ (pages : PageMap) (root node word key : ℕ) (small : word < 2 ^ 64) (key_is : key ≡ key_of node word) (value : List ℕ) (at : Option ℕ)
+    (there : Locates (lookup key (map_rows rows_form pages root)) value (HoldsRow rows_form pages (map_uses rows_form pages root) (key, value)) at) where
+  byte-is : (o : Option (List ℕ)) → lookup key (map_rows rows_form pages root) ≡ o → (i : ℕ) → bytes_in pages root node word i ≡ byte_in o i
+  byte-is o e i =
+      bytes-small (map_rows rows_form pages root) node word i small ∙ ap (λ (k : ℕ). byte_in (lookup k (map_rows rows_form pages root)) i) (sym key_is) ∙ ap (λ (r : Option (List ℕ)). byte_in r i) e
+
+  -- no leaf has the row of a node's word: its bytes are 0
+  pub row-none : at ≡ None → (i : ℕ) → bytes_in pages root node word i ≡ 0
+  row-none none i = byte-is None (located-none (lookup key (map_rows rows_form pages root)) value (HoldsRow rows_form pages (map_uses rows_form pages root) (key, value)) at none there) i
+
+  -- a leaf has the row
+  pub row-some : (leaf : ℕ) → at ≡ Some leaf → HasBytes value (bytes_in pages root node word)
+  row-some leaf some i = sym (byte-is (Some value) (located-some (lookup key (map_rows rows_form pages root)) value (HoldsRow rows_form pages (map_uses rows_form pages root) (key, value)) at leaf some there) i)
+
+module _ (pages : PageMap) (root node from key : ℕ) (small : from < 2 ^ 64) (key_is : key ≡ key_of node from) (row : Row) (at : Option ℕ) (map : IsMap rows_form pages root)
+    (there : Locates (first_from key (map_rows rows_form pages root)) row (HoldsRow rows_form pages (map_uses rows_form pages root) row) at) where
+  -- no row follows in the map
+  pub next-lost : at ≡ None → Next (bytes_in pages root) node from None
+  next-lost none =
+      next-none (map_rows rows_form pages root) 0 (256 ^ rows_form.key) node from small (map-within rows_form pages root map)
+      (ap (λ (k : ℕ). first_from k (map_rows rows_form pages root)) (sym key_is) ∙ located-none (first_from key (map_rows rows_form pages root)) row (HoldsRow rows_form pages (map_uses rows_form pages root) row) at none there)
+
+  module _ (leaf n w : ℕ) (some : at ≡ Some leaf) (fits : w < 2 ^ 64) (is : row.0 ≡ key_of n w) where
+    first-is : first_from (key_of node from) (map_rows rows_form pages root) ≡ Some (key_of n w, row.1)
+    first-is =
+        ap (λ (k : ℕ). first_from k (map_rows rows_form pages root)) (sym key_is)
+        ∙ located-some (first_from key (map_rows rows_form pages root)) row (HoldsRow rows_form pages (map_uses rows_form pages root) row) at leaf some there
+        ∙ ap (λ (k : ℕ). Some (k, row.1)) is
+
+    -- the row that follows is the node's
+    pub next-found : n ≡ node → IsNext (bytes_in pages root) node from w row.1
+    next-found same = next-here (map_rows rows_form pages root) 0 (256 ^ rows_form.key) node from small (map-within rows_form pages root map) n w row.1 fits first-is same
+
+    -- or another node's
+    pub next-passed : (n ≡ node → ⊥) → Next (bytes_in pages root) node from None
+    next-passed other = next-away (map_rows rows_form pages root) 0 (256 ^ rows_form.key) node from small (map-within rows_form pages root map) n w row.1 fits first-is other
+
+-- the damage that a fault of this rule names has this rule
+pub order-at : (leaf : ℕ) (fault : PageFault) (damage : Damage) → fault ≡ Damaged (record { page = leaf; rule = Order }) → fault ≡ Damaged damage → damage.rule ≡ Order
+order-at leaf fault damage is e =
+    let same : Damaged (record { page = leaf; rule = Order }) ≡ Damaged damage = sym is ∙ e in
+    let one : record { page = leaf; rule = Order } ≡ damage = cc same in
+    sym (ap (λ (d : Damage). d.rule) one)

@@ -1,0 +1,14 @@
+pub mod Keys
+pub mod Lookups
+pub mod Bytes
+pub mod Turned
+pub mod Told
+pub mod Found
+pub mod Faults
+pub mod Ascents
+pub mod Impacts
+pub mod Pairs
+pub mod Counts
+pub mod Copies
+pub mod Known
+pub mod Harms

@@ -1,0 +1,102 @@
+use Rattle.std.proofs.Common.{◌≡◌, ℕ, ◌∙◌, ◌^◌, ap, subst, sym, arith, rules, refl, List, [], Option, Err}
+use Rattle.std.proofs.lemmas.Result.{err_from_is_err_and}
+use Rattle.page_face.specs.FreeList.{PageMap}
+use Rattle.page_face.specs.declared.fault.PageFault.TheVariants.{Damaged}
+use Rattle.page_face.proofs.Frames.{reads_then}
+use Rattle.btree_nodes.specs.Damages.{AreTold, AsksOnly}
+use Rattle.btree_nodes.specs.Tree.{IsMap, map_rows, map_uses}
+use Rattle.btree_nodes.proofs.Harms.{asks-further, asks-nothing}
+use Rattle.paged_map.specs.Maps.{AreCounted}
+use Rattle.rtree_shape.specs.Stock.{rows_form}
+use Rattle.node_rows.specs.Rows.{Bytes, bytes_in}
+use Rattle.node_rows.specs.Copies.{IsCopy}
+use Rattle.node_rows.specs.Ascents.{until, reached}
+use Rattle.node_rows.specs.Damages.{IsNextDamage}
+use Rattle.node_rows.specs.Impacts.{impact_in}
+use Rattle.node_rows.specs.Words.{AreWords, slot_of, no_bytes}
+use Rattle.node_rows.proofs.Bytes.{bytes-large}
+use Rattle.node_rows.proofs.Ascents.{start, all}
+use Rattle.node_rows.proofs.Faults.{damage-later, reads-none}
+use Rattle.node_rows.proofs.columns.column.Goals as goal
+
+pub loop-from-init : goal.loop-from-init
+loop-from-init g c =
+    let empty : c.new-words.result.items ≡ [] = search rules in
+    record {
+      copy = λ map. c.none-copy.ensures (bytes_in (g.P.Pages.pages c.args.pages.now) c.args.tree.now.rows) c.args.node;
+      listed = λ map n w i. ap (λ (ps : List (ℕ × ℕ)). impact_in ps w) empty ∙ start (slot_of (bytes_in (g.P.Pages.pages c.args.pages.now) c.args.tree.now.rows) c.args.node c.args.slot) no_bytes n w i;
+      ordered = subst (AreWords 0 0) (sym empty) (omega arith);
+      own = λ told. asks-nothing (map_uses rows_form (g.P.Pages.pages c.args.pages.now) c.args.tree.now.rows) (g.P.Pages.asked c.args.pages.now) (g.P.Pages.asked c.args.pages.now) refl;
+      frame = reads-none g.P.Pages c.args.pages.now (g.met.P.Pages.reads_nothing c.args.pages.now) (g.met.P.Pages.stays c.args.pages.now);
+    }
+
+pub loop-from-preserved : goal.loop-from-preserved
+loop-from-preserved g c =
+    let h = c.loop-from.invariant in
+    let f = h.frame in
+    let old : PageMap = g.P.Pages.pages c.args.pages.now in
+    let root : ℕ = c.args.tree.now.rows in
+    let node : ℕ = c.args.node in
+    record {
+      copy = λ map. subst (λ (p : PageMap). IsMap rows_form p root → IsCopy (bytes_in p root) node c.loop-from.copy → IsCopy (bytes_in p root) node c.column_next.new.copy) f.pages c.in_ok-from.ensures.copy map (h.copy map);
+      listed = λ map.
+          let Claim : PageMap → Type 0 = λ p. IsMap rows_form p root → IsCopy (bytes_in p root) node c.loop-from.copy
+          → ((n w i : ℕ) → impact_in c.loop-from.words.items w ≡ until c.in-Some.at (slot_of (bytes_in p root) node c.args.slot) no_bytes n w i)
+          → (n w i : ℕ) → impact_in c.column_next.new.words.items w ≡ until (reached c.in_ok-from.from) (slot_of (bytes_in p root) node c.args.slot) no_bytes n w i in
+          subst Claim f.pages c.in_ok-from.ensures.words map (h.copy map)
+          (subst (λ (o : Option ℕ). (n w i : ℕ) → impact_in c.loop-from.words.items w ≡ until (reached o) (slot_of (bytes_in old root) node c.args.slot) no_bytes n w i) c.in-Some.is (h.listed map));
+      ordered = c.in_ok-from.ensures.ordered (subst (λ (o : Option ℕ). AreWords 0 (reached o) c.loop-from.words.items) c.in-Some.is h.ordered);
+      own = λ told.
+          let still : AreTold (g.P.Pages.pages c.loop-from.pages) (g.P.Pages.count c.loop-from.pages) = rw (f.pages, f.count) told in
+          asks-further (map_uses rows_form old root) (g.P.Pages.asked c.args.pages.now) (g.P.Pages.asked c.loop-from.pages) (g.P.Pages.asked c.column_next.new.pages) (h.own told)
+          (subst (λ (p : PageMap). AsksOnly (map_uses rows_form p root) (g.P.Pages.asked c.loop-from.pages) (g.P.Pages.asked c.column_next.new.pages)) f.pages (c.column_next.ensures.own still));
+      frame = reads_then g.P.Pages g.met.P.Pages.goes_further g.met.P.Pages.reads_further _ _ _ f c.column_next.ensures.frame;
+    }
+
+pub returns-clause-words : goal.returns-clause-words
+returns-clause-words g c = λ map w.
+    let old : PageMap = g.P.Pages.pages c.args.pages.now in
+    let root : ℕ = c.args.tree.now.rows in
+    let b : Bytes = bytes_in old root in
+    let e : reached c.loop-from.from ≡ 2 ^ 64 = ap reached c.in_default.is in
+    c.loop-from.invariant.listed map 0 w 0 ∙ ap (λ (k : ℕ). until k (slot_of b c.args.node c.args.slot) no_bytes 0 w 0) e
+    ∙ all (2 ^ 64) (slot_of b c.args.node c.args.slot) no_bytes (λ n' w' i' l. bytes-large (map_rows rows_form old root) c.args.node w' c.args.slot l) 0 w 0
+
+pub returns-clause-ordered : goal.returns-clause-ordered
+returns-clause-ordered g c = subst (λ (k : ℕ). AreWords 0 k c.loop-from.words.items) (ap reached c.in_default.is) c.loop-from.invariant.ordered
+
+pub returns-in_err-from-clause-honest : goal.returns-in_err-from-clause-honest
+returns-in_err-from-clause-honest g c = λ map counted told damage.
+    let f = c.loop-from.invariant.frame in
+    let root : ℕ = c.args.tree.now.rows in
+    let map' : IsMap rows_form (g.P.Pages.pages c.loop-from.pages) root = rw f.pages map in
+    let counted' : AreCounted (map_uses rows_form (g.P.Pages.pages c.loop-from.pages) root) (g.P.Pages.count c.loop-from.pages) = rw (f.pages, f.count) counted in
+    let still : AreTold (g.P.Pages.pages c.loop-from.pages) (g.P.Pages.count c.loop-from.pages) = rw (f.pages, f.count) told in
+    let p = err_from_is_err_and c.from_residual.result c.from_residual.ensures.1 in
+    λ e. (let same : c.in_err-from.field-0.0 ≡ Damaged damage = cc (p.1, p.2, e) in
+    c.in_err-from.ensures.honest map' counted' still damage (ap Err same))
+
+pub returns-in_err-from-clause-damaged : goal.returns-in_err-from-clause-damaged
+returns-in_err-from-clause-damaged g c = λ told damage.
+    let h = c.loop-from.invariant in
+    let f = h.frame in
+    let old : PageMap = g.P.Pages.pages c.args.pages.now in
+    let count : ℕ = g.P.Pages.count c.args.pages.now in
+    let root : ℕ = c.args.tree.now.rows in
+    let still : AreTold (g.P.Pages.pages c.loop-from.pages) (g.P.Pages.count c.loop-from.pages) = rw (f.pages, f.count) told in
+    let p = err_from_is_err_and c.from_residual.result c.from_residual.ensures.1 in
+    λ e. (let same : c.in_err-from.field-0.0 ≡ Damaged damage = cc (p.1, p.2, e) in
+    damage-later old count root (map_uses rows_form old root) (g.P.Pages.asked c.args.pages.now) (g.P.Pages.asked c.loop-from.pages) (g.P.Pages.asked c.column_next.new.pages) damage (h.own told)
+    (subst (λ (n : ℕ). IsNextDamage old n root (g.P.Pages.asked c.loop-from.pages) (g.P.Pages.asked c.column_next.new.pages) damage) f.count
+    (subst (λ (q : PageMap). IsNextDamage q (g.P.Pages.count c.loop-from.pages) root (g.P.Pages.asked c.loop-from.pages) (g.P.Pages.asked c.column_next.new.pages) damage) f.pages
+    (c.in_err-from.ensures.damaged still damage (ap Err same)))))
+
+pub returns-in_err-from-clause-own : goal.returns-in_err-from-clause-own
+returns-in_err-from-clause-own g c = λ told.
+    let h = c.loop-from.invariant in
+    let f = h.frame in
+    let old : PageMap = g.P.Pages.pages c.args.pages.now in
+    let root : ℕ = c.args.tree.now.rows in
+    let still : AreTold (g.P.Pages.pages c.loop-from.pages) (g.P.Pages.count c.loop-from.pages) = rw (f.pages, f.count) told in
+    asks-further (map_uses rows_form old root) (g.P.Pages.asked c.args.pages.now) (g.P.Pages.asked c.loop-from.pages) (g.P.Pages.asked c.column_next.new.pages) (h.own told)
+    (subst (λ (p : PageMap). AsksOnly (map_uses rows_form p root) (g.P.Pages.asked c.loop-from.pages) (g.P.Pages.asked c.column_next.new.pages)) f.pages (c.column_next.ensures.own still))

@@ -1,0 +1,45 @@
+use Rattle.std.proofs.Common.{◌≡◌, ℕ, ◌^◌, ◌+◌, ◌∙◌, max, sym, ap, refl, subst, arith, List, Some, None, Option, slice_index}
+use Rattle.node_rows.specs.Rows.{Bytes, bytes_in}
+use Rattle.node_rows.specs.Turns.{Next}
+use Rattle.node_rows.specs.Ascents.{until}
+use Rattle.node_rows.specs.Impacts.{impact_in, impact_at}
+use Rattle.node_rows.specs.Words.{slot_of, no_bytes}
+use Rattle.node_rows.proofs.Ascents.{ascend, rest, left}
+use Rattle.node_rows.proofs.Pairs.{impact-here, impact-other, max-none, max-zero, words-wider}
+use Rattle.node_rows.proofs.columns.column_next.Goals as goal
+
+pub returns-clause-words : goal.returns-clause-words
+returns-clause-words g c = λ map held is.
+    let at : ℕ = c.args.at in
+    let node : ℕ = c.args.node in
+    let slot : ℕ = c.args.slot in
+    let word : ℕ = c.in-Some.found.0 in
+    let byte : ℕ = slice_index c.in-Some.found.1 slot in
+    let b : Bytes = bytes_in (g.P.Pages.pages c.args.pages.now) c.args.tree.now.rows in
+    let next : Next b node at (Some c.in-Some.found) = subst (λ (o : Option (ℕ × List ℕ)). Next b node at o) c.in-Some.is (c.in_ok-found.ensures.next b map (λ w i l. refl) held) in
+    let list : List (ℕ × ℕ) = c.args.words.now.items in
+    let pair : ℕ × ℕ = (word, byte) in
+    let listed : (n w i : ℕ) → max (impact_in list w) (impact_at pair w) ≡ until (word + 1) (slot_of b node slot) no_bytes n w i =
+    ascend (slot_of b node slot) no_bytes (λ n' w' i'. impact_in list w') at is (λ n' w' i'. max (impact_in list w') (impact_at pair w')) word next.on
+    (λ n' w' i' k. max-zero (impact_in list w') (impact_at pair w') (impact-other word byte w' (λ e. k (sym e))))
+    (λ n' i'. max-none (impact_in list word) (impact_at pair word) (left (slot_of b node slot) no_bytes (λ n2 w2 i2. impact_in list w2) at is n' word i' next.on) ∙ impact-here word byte word (λ j. word) ∙ next.is slot)
+    (λ n' w' i' l m. next.none w' slot l m) in
+    λ n w i.
+    let one : impact_in c.push_word.new.words.items w ≡ max (impact_in list w) (impact_at pair w) = c.in_ok-push_word.ensures.impacts w in
+    one ∙ listed n w i ∙ ap (λ (k : ℕ). until k (slot_of b node slot) no_bytes n w i) (sym c.after.ensures.reached)
+
+pub returns-in_default-clause-words : goal.returns-in_default-clause-words
+returns-in_default-clause-words g c = λ map held is.
+    let b : Bytes = bytes_in (g.P.Pages.pages c.args.pages.now) c.args.tree.now.rows in
+    let next : Next b c.args.node c.args.at None = subst (λ (o : Option (ℕ × List ℕ)). Next b c.args.node c.args.at o) c.in_default.is (c.in_ok-found.ensures.next b map (λ w i l. refl) held) in
+    let small = c.ranges.at.fits in
+    λ n w i. rest (slot_of b c.args.node c.args.slot) no_bytes (λ n2 w2 i2. impact_in c.args.words.now.items w2) c.args.at is (2 ^ 64) (omega arith) (λ n' w' i' l. next w' c.args.slot l) n w i
+
+pub returns-in_default-clause-ordered : goal.returns-in_default-clause-ordered
+returns-in_default-clause-ordered g c = λ h. let small = c.ranges.at.fits in words-wider 0 c.args.at (2 ^ 64) c.args.words.now.items h (omega arith)
+
+pub returns-clause-copy : goal.returns-clause-copy
+returns-clause-copy g c = λ map held. c.in_ok-found.ensures.copy (bytes_in (g.P.Pages.pages c.args.pages.now) c.args.tree.now.rows) map (λ w i l. refl) held
+
+pub returns-in_default-clause-copy : goal.returns-in_default-clause-copy
+returns-in_default-clause-copy g c = λ map held. c.in_ok-found.ensures.copy (bytes_in (g.P.Pages.pages c.args.pages.now) c.args.tree.now.rows) map (λ w i l. refl) held

@@ -1,0 +1,34 @@
+use Rattle.std.proofs.Common.{◌≡◌, ℕ, ◌∙◌, sym, subst}
+use Rattle.page_face.specs.FreeList.{PageMap}
+use Rattle.page_face.specs.Number.{number}
+use Rattle.btree_nodes.specs.Damages.{AsksOnly}
+use Rattle.btree_nodes.specs.Tree.{IsMap, map_uses}
+use Rattle.rtree_shape.specs.Stock.{rows_form}
+use Rattle.node_rows.specs.Rows.{HasBytes, bytes_in}
+use Rattle.node_rows.proofs.Found.{row-none, row-some}
+use Rattle.node_rows.proofs.rows.row.Goals as goal
+
+pub returns-in-Some-clause-row : goal.returns-in-Some-clause-row
+returns-in-Some-clause-row g c = λ map.
+    let old : PageMap = g.P.Pages.pages c.args.pages.now in
+    let same = c.at.ensures in
+    let there = c.in_ok-get.ensures.found (subst (IsMap rows_form old) (sym same) map) in
+    subst (λ (r : ℕ). HasBytes c.get.new.value (bytes_in old r c.args.node c.args.number)) same
+    (row-some old c.at.result.root c.args.node c.args.number (number c.bytes-key.result) c.ranges.number.fits c.bytes-key.ensures c.get.new.value c.in_ok-get.field-0 there c.in-Some.field-0 c.in-Some.is)
+
+pub returns-in-None-clause-row : goal.returns-in-None-clause-row
+returns-in-None-clause-row g c = λ map slot.
+    let old : PageMap = g.P.Pages.pages c.args.pages.now in
+    let same = c.at.ensures in
+    let there = c.in_ok-get.ensures.found (subst (IsMap rows_form old) (sym same) map) in
+    c.clear_row.ensures.none slot
+    ∙ sym (subst (λ (r : ℕ). bytes_in old r c.args.node c.args.number slot ≡ 0) same
+    (row-none old c.at.result.root c.args.node c.args.number (number c.bytes-key.result) c.ranges.number.fits c.bytes-key.ensures c.get.new.value c.in_ok-get.field-0 there c.in-None.is slot))
+
+pub returns-in-Some-clause-own : goal.returns-in-Some-clause-own
+returns-in-Some-clause-own g c = λ told.
+    subst (λ (r : ℕ). AsksOnly (map_uses rows_form (g.P.Pages.pages c.args.pages.now) r) (g.P.Pages.asked c.args.pages.now) (g.P.Pages.asked c.get.new.pages)) c.at.ensures (c.get.ensures.own told)
+
+pub returns-in-None-clause-own : goal.returns-in-None-clause-own
+returns-in-None-clause-own g c = λ told.
+    subst (λ (r : ℕ). AsksOnly (map_uses rows_form (g.P.Pages.pages c.args.pages.now) r) (g.P.Pages.asked c.args.pages.now) (g.P.Pages.asked c.get.new.pages)) c.at.ensures (c.get.ensures.own told)

@@ -1,0 +1,9 @@
+pub mod Rows
+pub mod Turns
+pub mod Ascents
+pub mod Damages
+pub mod Impacts
+pub mod Words
+pub mod Counts
+pub mod Copies
+pub mod Known

@@ -1,0 +1,15 @@
+//! A node's rows gone through in the order of their words.
+ghost use Rattle.std.specs.Prelude.{◌≡◌, ◌<◌, ◌+◌, IfSome};
+ghost use Rattle.node_rows.specs.Ascents.{reached};
+
+/// Returns the number behind one, or `None` behind the last.
+pub fn after(number: u64) -> Option<u64>
+    ensures reached { reached result ≡ number + 1 }
+    ensures onto { IfSome result (λ next. number < next) }
+{
+    if number == u64::MAX {
+        None
+    } else {
+        Some(number + 1)
+    }
+}

@@ -1,0 +1,92 @@
+//! The words of one slot of a node.
+ghost use Rattle.std.specs.Prelude.{◌≡◌, ◌<◌, ◌^◌, ℕ, IfOk, IfSome, IsErrOf, OnOk};
+ghost use Rattle.page_face.specs.Calls.{Reads, FailsReading};
+ghost use Rattle.btree_nodes.specs.Damages.{AreTold, AsksOnly};
+ghost use Rattle.btree_nodes.specs.Tree.{IsMap, map_uses};
+ghost use Rattle.paged_map.specs.Maps.{AreCounted};
+ghost use Rattle.rtree_shape.specs.Stock.{rows_form};
+ghost use Rattle.node_rows.specs.Rows.{bytes_in};
+ghost use Rattle.node_rows.specs.Ascents.{reached, until};
+ghost use Rattle.node_rows.specs.Copies.{IsCopy};
+ghost use Rattle.node_rows.specs.Damages.{IsNextDamage};
+ghost use Rattle.node_rows.specs.Impacts.{impact_in};
+ghost use Rattle.node_rows.specs.Words.{AreWords, no_bytes, slot_of};
+
+use crate::Tree;
+use crate::ascent::after;
+use crate::leaf::{LeafCopy, next_in};
+use crate::words::push_word;
+use page_face::{Damage, PageFault, Pages};
+use std::alloc::Global;
+
+// Adds the word of a node's first row from a word on, with its byte at a slot. Returns the word behind it.
+fn column_next<P: Pages>(
+    pages: &mut P,
+    tree: &Tree,
+    node: u32,
+    slot: usize,
+    at: u64,
+    copy: &mut LeafCopy,
+    words: &mut Vec<(u64, u8)>,
+) -> Result<Option<u64>, PageFault>
+    requires { slot < 32 }
+    ensures words { IsMap rows_form (P.pages pages.old) tree.now.rows → IsCopy (bytes_in (P.pages pages.old) tree.now.rows) node copy.old
+        → ((n w i : ℕ) → impact_in words.old.items w ≡ until at (slot_of (bytes_in (P.pages pages.old) tree.now.rows) node slot) no_bytes n w i)
+        → IfOk result (λ next. (n w i : ℕ) → impact_in words.new.items w ≡ until (reached next) (slot_of (bytes_in (P.pages pages.old) tree.now.rows) node slot) no_bytes n w i) }
+    ensures ordered { AreWords 0 at words.old.items → IfOk result (λ next. AreWords 0 (reached next) words.new.items) }
+    ensures copy { IsMap rows_form (P.pages pages.old) tree.now.rows → IsCopy (bytes_in (P.pages pages.old) tree.now.rows) node copy.old
+        → OnOk result (IsCopy (bytes_in (P.pages pages.old) tree.now.rows) node copy.new) }
+    ensures onto { IfOk result (λ next. IfSome next (λ word. at < word)) }
+    ensures honest { IsMap rows_form (P.pages pages.old) tree.now.rows → AreCounted (map_uses rows_form (P.pages pages.old) tree.now.rows) (P.count pages.old)
+        → AreTold (P.pages pages.old) (P.count pages.old) → (damage : Damage) → ¬ IsErrOf result (PageFault.Damaged damage) }
+    ensures damaged { AreTold (P.pages pages.old) (P.count pages.old) → (damage : Damage) → IsErrOf result (PageFault.Damaged damage)
+        → IsNextDamage (P.pages pages.old) (P.count pages.old) tree.now.rows (P.asked pages.old) (P.asked pages.new) damage }
+    ensures own { AreTold (P.pages pages.old) (P.count pages.old)
+        → AsksOnly (map_uses rows_form (P.pages pages.old) tree.now.rows) (P.asked pages.old) (P.asked pages.new) }
+    ensures fails { FailsReading P.Pages pages.old pages.new result }
+    ensures frame { Reads P.Pages pages.old pages.new }
+{
+    let Some(found) = next_in(copy, pages, tree, node, at)? else {
+        return Ok(None);
+    };
+    let row = found.1;
+    push_word(words, found.0, row[slot])?;
+    Ok(after(found.0))
+}
+
+/// Returns the words that have a byte other than 0 at a slot of a node, in the order of their numbers, each with that byte.
+///
+/// Returns `Damaged` as [`next_row`](crate::next_row) does; `Disk`, `Stopped`, or `Memory` if it runs out of memory.
+///
+/// For a node of W words in L leaves of the rows' map, costs at most L + 4 ways down, each of which looks at one page a level, and
+/// copies a leaf for each but two of them. Writes no page.
+pub fn column<P: Pages>(
+    alloc: Global,
+    pages: &mut P,
+    tree: &Tree,
+    node: u32,
+    slot: usize,
+) -> Result<Vec<(u64, u8)>, PageFault>
+    requires { slot < 32 }
+    ensures words { IsMap rows_form (P.pages pages.old) tree.now.rows
+        → IfOk result (λ words. (w : ℕ) → impact_in words.items w ≡ bytes_in (P.pages pages.old) tree.now.rows node w slot) }
+    ensures ordered { IfOk result (λ words. AreWords 0 (2 ^ 64) words.items) }
+
+    // On a well-formed map whose pages are counted no page is damaged.
+    ensures honest { IsMap rows_form (P.pages pages.old) tree.now.rows → AreCounted (map_uses rows_form (P.pages pages.old) tree.now.rows) (P.count pages.old)
+        → AreTold (P.pages pages.old) (P.count pages.old) → (damage : Damage) → ¬ IsErrOf result (PageFault.Damaged damage) }
+    ensures damaged { AreTold (P.pages pages.old) (P.count pages.old) → (damage : Damage) → IsErrOf result (PageFault.Damaged damage)
+        → IsNextDamage (P.pages pages.old) (P.count pages.old) tree.now.rows (P.asked pages.old) (P.asked pages.new) damage }
+    ensures own { AreTold (P.pages pages.old) (P.count pages.old)
+        → AsksOnly (map_uses rows_form (P.pages pages.old) tree.now.rows) (P.asked pages.old) (P.asked pages.new) }
+    ensures fails { FailsReading P.Pages pages.old pages.new result }
+    ensures frame { Reads P.Pages pages.old pages.new }
+{
+    let mut words = Vec::new(alloc);
+    let mut copy = LeafCopy::none();
+    let mut from = Some(0);
+    while let Some(at) = from {
+        from = column_next(pages, tree, node, slot, at, &mut copy, &mut words)?;
+    }
+    Ok(words)
+}

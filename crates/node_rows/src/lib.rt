@@ -1,0 +1,39 @@
+//! The rows of words of an R-tree's nodes, which make it an IR-tree (Cong, Jensen and Wu, VLDB 2009): for each node and word
+//! one row of 32 bytes, the greatest impact of the word below each slot.
+//!
+//! The rows of a tree are one paged map. A row's key is its node's page and its word's number, so the rows of a node stand
+//! beside each other, in the order of their words. A row of zeros is never stored. Seen from above the rows are one function
+//! from a node, a word and a slot to a byte (`specs/Rows.antt`), and each call here says which bytes it returns, or which
+//! bytes [`set_row`] makes; every other byte is as it was.
+//!
+//! A call that goes through the rows of a node copies a leaf of the map at a time and reads its rows there, some 84 of them with one
+//! way down ([`LeafCopy`], [`next_in`]). The copy stays right for the words that are still ahead while a call changes the rows behind.
+//!
+//! What changes all rows of a node stands on this crate: `node_inverted`.
+#![tactic(auto)]
+
+mod ascent;
+mod columns;
+mod key;
+mod layout;
+mod leaf;
+mod next;
+mod pairing;
+mod roots;
+mod rows;
+mod sharing;
+mod slots;
+mod words;
+
+pub use ascent::after;
+pub use columns::column;
+pub use key::RowKey;
+pub use layout::WordRows;
+pub use leaf::{LeafCopy, next_in, row_form};
+pub use next::next_row;
+pub use pairing::like;
+pub use roots::Tree;
+pub use rows::{find_row, row, set_found, set_row};
+pub use sharing::{rising, rows_at, shared_by};
+pub use slots::{clear_row, greater, greatest, is_clear, moving, put_byte, staying};
+pub use words::words_of;
