@@ -1,11 +1,11 @@
 -- What literals say.
-use Rattle.std.proofs.Common.{zero, add-zero, add-one, add_comm, suc, ◌-◌, nat_eq, nat_lt, true, false, map, get_or, Result, IfOk, IfSome, ok_or, length-drop, length-append, ◌≡◌, ◌≢◌, ◌<◌, ◌≤◌, ℕ, ◌+◌, List, [], ◌∷◌, ◌++◌, length, take, drop, Option, Some, None, option_map, refl, ap, ◌∙◌, sym, subst, arith, inl, String, string_bytes}
+use Rattle.std.proofs.Common.{zero, add-zero, add-one, add_comm, suc, nat_eq, nat_le, true, false, map, get_or, Result, IfOk, IfSome, ok_or, length-drop, length-append, ◌≡◌, ◌<◌, ◌≤◌, ℕ, ◌+◌, List, [], ◌∷◌, ◌++◌, length, take, drop, Option, Some, None, option_map, refl, ap, ◌∙◌, sym, arith, inl, String, string_bytes}
 use Rattle.std.specs.List.{prefix_len}
 use Rattle.std.specs.Str.{IsUtf8}
 use Rattle.std.proofs.lemmas.Bool.Decides.{nat_tests}
 use Rattle.std.proofs.lemmas.List.{get_or-drop}
 use Rattle.std.proofs.lemmas.List.Sums.{prefix_len_passes}
-use Rattle.json_spelled.specs.Grammar.{Piece, Byte, Pieces, said_by, Quoted, IsText, of_string, none}
+use Rattle.json_spelled.specs.Grammar.{Piece, Byte, said_by, Quoted, IsText, of_string, none}
 use Rattle.std.specs.declared.alloc.Global.{Global}
 use Rattle.json_spelled.specs.Json.{Json, text}
 use Rattle.json_spelled.specs.View.{json_of, view_step}
@@ -13,31 +13,30 @@ use Rattle.json_spelled.specs.declared.tree.Tree.{Tree}
 use Rattle.json_spelled.specs.declared.tree.Tree.TheVariants as trees
 use Rattle.json_spelled.specs.declared.tree.Tree.TheOpen.{Tree-F}
 use Rattle.json_spelled.specs.declared.tree.Tree.TheFolds.{fold-roll-Tree}
-use Rattle.json_spelled.specs.Machine.{InBytes}
-use Rattle.line_tokens.specs.Literal.{before, pieces_from, behind, is_plain, literal_of}
+use Rattle.line_tokens.specs.Literal.{before, pieces_of, behind, is_plain, literal_of}
 use Rattle.line_tokens.proofs.Pieces.{found_same, sound, complete, cut}
 
 -- pieces that say this
-quoted_by : (bytes says rest : List ℕ) (found : Option (List Piece × List ℕ)) → found ≡ pieces_from InBytes bytes
+quoted_by : (bytes says rest : List ℕ) (found : Option (List Piece × List ℕ)) → found ≡ pieces_of bytes
     → option_map {U = List ℕ × List ℕ} (λ f. (said_by None f.0, f.1)) found ≡ Some (says, rest) → Quoted says bytes rest
 quoted_by bytes says rest None is e = absurd (cc)
 quoted_by bytes says rest (Some found) is e =
     let same : (said_by None found.0, found.1) ≡ (says, rest) = found_same (said_by None found.0, found.1) (says, rest) e in
     record {
       pieces = found.0;
-      spelled_so = sound InBytes bytes found.0 rest (sym is ∙ ap (λ (x : List ℕ). Some (found.0, x)) (ap (λ (f : List ℕ × List ℕ). f.1) same));
+      spelled_so = sound (length bytes) bytes found.0 rest (sym is ∙ ap (λ (x : List ℕ). Some (found.0, x)) (ap (λ (f : List ℕ × List ℕ). f.1) same));
       says_so = sym (ap (λ (f : List ℕ × List ℕ). f.0) same);
     }
 
 -- what a literal is read to say it says
 pub literal_quoted : (bytes says rest : List ℕ) → literal_of bytes ≡ Some (says, rest) → Quoted says bytes rest
 unfolding literal_of
-literal_quoted bytes says rest e = quoted_by bytes says rest (pieces_from InBytes bytes) refl e
+literal_quoted bytes says rest e = quoted_by bytes says rest (pieces_of bytes) refl e
 
 -- what a literal says it is read to say
 pub quoted_literal : (bytes says rest : List ℕ) → Quoted says bytes rest → literal_of bytes ≡ Some (says, rest)
 unfolding literal_of
-quoted_literal bytes says rest q = rw (complete q.spelled_so) (ap (λ (x : List ℕ). Some (x, rest)) (sym q.says_so))
+quoted_literal bytes says rest q = rw (complete q.spelled_so (length bytes) (omega arith)) (ap (λ (x : List ℕ). Some (x, rest)) (sym q.says_so))
 
 -- a literal is a JSON text
 pub literal_text : (bytes says : List ℕ) → IsUtf8 (34 ∷ bytes) → literal_of bytes ≡ Some (says, []) → IsText 64 (text says) (34 ∷ bytes)
@@ -71,7 +70,7 @@ text_only (Some s) fault result json says is seen same =
 
 -- bytes that say themselves, up to a quotation mark
 plain_pieces : (bytes : List ℕ) (n : ℕ) → n < length bytes → ((k : ℕ) → k < n → is_plain (get_or bytes k 0) ≡ true) → get_or bytes n 0 ≡ 34
-    → pieces_from InBytes bytes ≡ Some (map Byte (take n bytes), drop (suc n) bytes)
+    → pieces_of bytes ≡ Some (map Byte (take n bytes), drop (suc n) bytes)
 plain_pieces [] n less plain mark = absurd (omega arith)
 plain_pieces (byte ∷ bytes) zero less plain mark =
     let is : nat_eq byte 34 ≡ true = grind (arith, nat_tests) in
@@ -80,7 +79,7 @@ plain_pieces (byte ∷ bytes) (suc n) less plain mark =
     let here : is_plain byte ≡ true = plain 0 (omega arith) in
     let a : nat_eq byte 34 ≡ false = grind (arith, nat_tests) in
     let b : nat_eq byte 92 ≡ false = grind (arith, nat_tests) in
-    let c : nat_lt byte 32 ≡ false = grind (arith, nat_tests) in
+    let c : nat_le 32 byte ≡ true = grind (arith, nat_tests) in
     rw (a, b, c) (ap (before (Byte byte)) (plain_pieces bytes n (omega arith) (λ k l. plain (suc k) (omega arith)) mark))
 
 -- they say themselves
@@ -100,18 +99,18 @@ said_so : (found : Option (List Piece × List ℕ)) (rest : List ℕ) → option
 said_so None rest e = absurd (cc)
 said_so (Some found) rest e = (said_by None found.0, ap (λ (x : List ℕ). Some (said_by None found.0, x)) (found_same found.1 rest e))
 
-pub literal_said : (bytes rest : List ℕ) → behind InBytes bytes ≡ Some rest → (says : List ℕ) × (literal_of bytes ≡ Some (says, rest))
+pub literal_said : (bytes rest : List ℕ) → behind bytes ≡ Some rest → (says : List ℕ) × (literal_of bytes ≡ Some (says, rest))
 unfolding literal_of
-literal_said bytes rest e = said_so (pieces_from InBytes bytes) rest e
+literal_said bytes rest e = said_so (pieces_of bytes) rest e
 
 -- no literal stands where nothing is behind it
 none_said : (found : Option (List Piece × List ℕ)) → option_map {U = List ℕ} (λ f. f.1) found ≡ None → option_map {U = List ℕ × List ℕ} (λ f. (said_by None f.0, f.1)) found ≡ None
 none_said None e = refl
 none_said (Some found) e = absurd (cc)
 
-pub no_literal : (bytes : List ℕ) → behind InBytes bytes ≡ None → literal_of bytes ≡ None
+pub no_literal : (bytes : List ℕ) → behind bytes ≡ None → literal_of bytes ≡ None
 unfolding literal_of
-no_literal bytes e = none_said (pieces_from InBytes bytes) e
+no_literal bytes e = none_said (pieces_of bytes) e
 
 -- the front of so many bytes
 front_is : (bytes front rest : List ℕ) (n : ℕ) → bytes ≡ front ++ rest → rest ≡ drop n bytes → n ≤ length bytes → front ≡ take n bytes
@@ -147,7 +146,7 @@ plain_found bytes n says back rest len front after some mark is =
 
 -- the parts of a literal with escapes
 pub decoded_found : (text literal rest given : List ℕ) (len : ℕ) → 0 < length text → get_or text 0 0 ≡ 34 → len ≤ length (drop 1 text)
-    → behind InBytes (drop 1 text) ≡ Some (drop len (drop 1 text)) → literal ≡ take (1 + len) text → rest ≡ drop (1 + len) text
+    → behind (drop 1 text) ≡ Some (drop len (drop 1 text)) → literal ≡ take (1 + len) text → rest ≡ drop (1 + len) text
     → ((bytes says : List ℕ) → literal ≡ 34 ∷ bytes → literal_of bytes ≡ Some (says, []) → given ≡ says)
     → literal_of (drop 1 text) ≡ Some (given, rest)
 decoded_found [] literal rest given len some mark within ends front back gives = absurd (omega arith)

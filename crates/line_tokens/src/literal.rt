@@ -1,11 +1,10 @@
 //! JSON string literals.
-ghost use Rattle.std.specs.Prelude.{◌≡◌, ◌∷◌, ◌≤◌, ◌-◌, ℕ, List, [], None, Some, if◌then◌else◌, length, drop, slice_index, is_some, option_map, option_and_then, IfSome, IfOk, string_bytes};
+ghost use Rattle.std.specs.Prelude.{◌≡◌, ◌∷◌, ◌≤◌, ◌-◌, ℕ, List, [], None, Some, if◌then◌else◌, length, drop, slice_index, is_some, option_map, IfSome, IfOk, string_bytes};
 ghost use Rattle.std.specs.Bool.{OnTrue};
 ghost use Rattle.json_spelled.specs.Grammar.{Quoted, escaped, hex_digit};
 ghost use Rattle.json_spelled.specs.Json.{text};
 ghost use Rattle.json_spelled.specs.View.{json_of};
-ghost use Rattle.json_spelled.specs.Machine.{InBytes, InEscape, Hex1};
-ghost use Rattle.line_tokens.specs.Literal.{behind, literal_of};
+ghost use Rattle.line_tokens.specs.Literal.{behind, escape_at, literal_of, unit_at};
 
 use json_spelled::{Tree, read_tree};
 use spatial_base::Memory;
@@ -31,7 +30,7 @@ fn is_hex(byte: u8) -> bool
 // Whether the four digits of a code unit stand first.
 fn is_unit(bytes: &[u8]) -> bool
     ensures within { OnTrue result (4 ≤ length bytes.now) }
-    ensures rest { behind Hex1 bytes.now ≡ (if result then behind InBytes (drop 4 bytes.now) else None) }
+    ensures rest { option_map (λ unit. unit.1) (unit_at bytes.now) ≡ (if result then Some (drop 4 bytes.now) else None) }
 {
     match bytes {
         [a, b, c, d, ..] => is_hex(*a) & is_hex(*b) & is_hex(*c) & is_hex(*d),
@@ -42,8 +41,7 @@ fn is_unit(bytes: &[u8]) -> bool
 // How many bytes an escape has behind its backslash.
 fn escape_len(bytes: &[u8]) -> Option<usize>
     ensures within { IfSome result (λ len. len ≤ length bytes.now) }
-    ensures rest { behind InEscape bytes.now
-        ≡ option_and_then (λ len. behind InBytes (drop len bytes.now)) result }
+    ensures rest { option_map (λ piece. piece.1) (escape_at bytes.now) ≡ option_map (λ len. drop len bytes.now) result }
 {
     match bytes {
         [b'u', digits @ ..] if is_unit(digits) => Some(5),
@@ -56,7 +54,7 @@ fn escape_len(bytes: &[u8]) -> Option<usize>
 pub(crate) fn literal_len(bytes: &[u8]) -> Option<usize>
     ensures within { IfSome result (λ len. (1 ≤ len) × (len ≤ length bytes.now)) }
     ensures mark { IfSome result (λ len. slice_index bytes.now (len - 1) ≡ 34) }
-    ensures rest { behind InBytes bytes.now ≡ option_map (λ len. drop len bytes.now) result }
+    ensures rest { behind bytes.now ≡ option_map (λ len. drop len bytes.now) result }
 {
     let mut at = 0;
     while at < bytes.len() {

@@ -1,6 +1,4 @@
-use Rattle.std.proofs.Common.{◌≡◌, ◌+◌, ◌<◌, ◌≤◌, ◌∷◌, ℕ, List, Some, None, length, get_or, drop, ap, sym, ◌∙◌, arith, length-drop}
-use Rattle.json_spelled.specs.Machine.{InBytes}
-use Rattle.line_tokens.specs.Literal.{behind, literal_of}
+use Rattle.std.proofs.Common.{length, ap, sym, ◌∙◌, arith, length-drop}
 use Rattle.line_tokens.specs.Token.{quoted_at}
 use Rattle.line_tokens.proofs.Cuts.{mark_cut}
 use Rattle.line_tokens.proofs.Said.{decoded_found, no_literal}
