@@ -5,7 +5,7 @@ ghost use Rattle.btree_nodes.specs.Damages.{AreTold, AskedSince, AsksOnly};
 ghost use Rattle.btree_nodes.specs.Tree.{IsMap, map_uses};
 ghost use Rattle.paged_map.specs.Maps.{AreCounted, IsMapDamaged};
 ghost use Rattle.rtree_shape.specs.Stock.{rows_form};
-ghost use Rattle.node_rows.specs.Rows.{Bytes, HasBytes, bytes_in};
+ghost use Rattle.node_rows.specs.Rows.{Bytes, bytes_in};
 ghost use Rattle.node_rows.specs.Counts.{most, shared_in, sign};
 ghost use Rattle.node_rows.specs.Impacts.{impact_in, raised};
 ghost use Rattle.node_rows.specs.Known.{AreRowsAt, rises};
