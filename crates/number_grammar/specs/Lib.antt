@@ -1,3 +1,4 @@
 pub mod Cut
 pub mod Number
 pub mod Stages
+pub mod Tests
