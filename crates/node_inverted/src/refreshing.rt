@@ -1,11 +1,12 @@
 //! A slot whose child has changed.
 ghost use Rattle.std.specs.Prelude.{◌≡◌, ◌+◌, ◌<◌, ◌++◌, ◌∷◌, [], ℕ, List, Some, IfErr, OnOk, OnErr, IsErrOf};
 ghost use Rattle.page_face.specs.Calls.{Changes, FailsChanging, FailsReading, Reads};
-ghost use Rattle.btree_nodes.specs.Damages.{AreTold};
+ghost use Rattle.btree_nodes.specs.Damages.{AreTold, AsksOnly};
 ghost use Rattle.btree_nodes.specs.Supply.{View, view};
 ghost use Rattle.btree_nodes.specs.Tree.{IsMap, map_uses};
 ghost use Rattle.paged_map.specs.Maps.{AreCounted};
 ghost use Rattle.rtree_shape.specs.Stock.{rows_form};
+ghost use Rattle.node_rows.specs.Damages.{IsRowsHarm};
 ghost use Rattle.node_rows.specs.Rows.{Bytes, HasBytes, IsRows, bytes_in};
 ghost use Rattle.node_rows.specs.Turns.{Turns};
 ghost use Rattle.node_rows.specs.Copies.{IsCopy};
@@ -147,6 +148,10 @@ fn renew_next<P: Pages>(
         → OnOk result (IsRenewing before root (P.pages pages.new) (P.count pages.new) (P.first pages.new) tree.now.rows node slot child b (words ++ (number, impact) ∷ []) rows.new.items below.new above.new) }
     ensures honest { IsMap rows_form (P.pages pages.old) tree.now.rows → AreCounted (map_uses rows_form (P.pages pages.old) tree.now.rows) (P.count pages.old)
         → AreTold (P.pages pages.old) (P.count pages.old) → (damage : Damage) → ¬ IsErrOf result (PageFault.Damaged damage) }
+    ensures damaged { AreTold (P.pages pages.old) (P.count pages.old) → (damage : Damage) → IsErrOf result (PageFault.Damaged damage)
+        → IsRowsHarm (P.pages pages.new) (P.count pages.new) (P.first pages.new) (P.asked pages.old) (P.asked pages.new) damage }
+    ensures own { AreTold (P.pages pages.old) (P.count pages.old)
+        → AsksOnly (map_uses rows_form (P.pages pages.old) tree.now.rows) (P.asked pages.old) (P.asked pages.new) }
     ensures fails { FailsReading P.Pages pages.old pages.new result }
     ensures frame { Reads P.Pages pages.old pages.new }
 {
@@ -175,8 +180,12 @@ fn renew_one<P: Pages>(
         → IsRenewing before root (P.pages pages.old) (P.count pages.old) (P.first pages.old) tree.old.rows node slot child b words rows.old.items below.old above.old
         → OnOk result (IsRenewing before root (P.pages pages.new) (P.count pages.new) (P.first pages.new) tree.new.rows node slot child b (words ++ (number, impact) ∷ []) rows.new.items below.new above.new) }
     ensures root { tree.new.root ≡ tree.old.root }
+    ensures told { AreTold (P.pages pages.old) (P.count pages.old) → OnOk result (AreTold (P.pages pages.new) (P.count pages.new)) }
     ensures honest { (free : List ℕ) → IsRows (view (P.pages pages.old) (P.count pages.old) (P.first pages.old) free) tree.old.rows → AreTold (P.pages pages.old) (P.count pages.old)
         → (damage : Damage) → ¬ IsErrOf result (PageFault.Damaged damage) }
+    ensures damaged { AreTold (P.pages pages.old) (P.count pages.old) → (damage : Damage) → IsErrOf result (PageFault.Damaged damage)
+        → IsRowsHarm (P.pages pages.new) (P.count pages.new) (P.first pages.new) (P.asked pages.old) (P.asked pages.new) damage }
+    ensures more { AreTold (P.pages pages.old) (P.count pages.old) → AsksOnly (λ _. 1) (P.asked pages.old) (P.asked pages.new) }
     ensures fails { FailsChanging P.Pages pages.old pages.new result }
     ensures frame { Changes P.Pages pages.old pages.new }
 {
@@ -216,10 +225,14 @@ pub fn renew<P: Pages>(
         (on_words words.now (refreshed node slot child (bytes_in (P.pages pages.old) tree.old.rows)) (bytes_in (P.pages pages.old) tree.old.rows))) }
     ensures root { tree.new.root ≡ tree.old.root }
     ensures kept { OnErr result (tree.new ≡ tree.old) }
+    ensures told { AreTold (P.pages pages.old) (P.count pages.old) → OnOk result (AreTold (P.pages pages.new) (P.count pages.new)) }
 
     // On a well-formed map and a free list that ends at 0 no page is damaged.
     ensures honest { (free : List ℕ) → IsRows (view (P.pages pages.old) (P.count pages.old) (P.first pages.old) free) tree.old.rows → (node ≡ child → ⊥)
         → AreTold (P.pages pages.old) (P.count pages.old) → (damage : Damage) → ¬ IsErrOf result (PageFault.Damaged damage) }
+    ensures damaged { AreTold (P.pages pages.old) (P.count pages.old) → (damage : Damage) → IsErrOf result (PageFault.Damaged damage)
+        → IsRowsHarm (P.pages pages.new) (P.count pages.new) (P.first pages.new) (P.asked pages.old) (P.asked pages.new) damage }
+    ensures more { AreTold (P.pages pages.old) (P.count pages.old) → AsksOnly (λ _. 1) (P.asked pages.old) (P.asked pages.new) }
     ensures fails { FailsChanging P.Pages pages.old pages.new result }
     ensures frame { Changes P.Pages pages.old pages.new }
 {

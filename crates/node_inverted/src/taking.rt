@@ -1,11 +1,12 @@
 //! Rows that are taken from a node into memory.
 ghost use Rattle.std.specs.Prelude.{◌≡◌, ◌+◌, ◌<◌, ◌≤◌, ◌^◌, ◌++◌, ◌∷◌, [], ℕ, List, max, IfErr, IfOk, IfSome, IsErrOf, OnErr, OnOk};
 ghost use Rattle.page_face.specs.Calls.{Changes, FailsChanging, FailsReading, Reads};
-ghost use Rattle.btree_nodes.specs.Damages.{AreTold};
+ghost use Rattle.btree_nodes.specs.Damages.{AreTold, AsksOnly};
 ghost use Rattle.btree_nodes.specs.Supply.{view};
 ghost use Rattle.btree_nodes.specs.Tree.{IsMap, map_uses};
 ghost use Rattle.paged_map.specs.Maps.{AreCounted};
 ghost use Rattle.rtree_shape.specs.Stock.{rows_form};
+ghost use Rattle.node_rows.specs.Damages.{IsNextDamage, IsRowsHarm};
 ghost use Rattle.node_rows.specs.Rows.{IsRows, bytes_in};
 ghost use Rattle.node_rows.specs.Copies.{IsCopy};
 ghost use Rattle.node_rows.specs.Ascents.{reached, until};
@@ -65,6 +66,10 @@ fn list_next<P: Pages>(
     ensures onto { IfOk result (λ next. IfSome next (λ word. at < word)) }
     ensures honest { IsMap rows_form (P.pages pages.old) tree.now.rows → AreCounted (map_uses rows_form (P.pages pages.old) tree.now.rows) (P.count pages.old)
         → AreTold (P.pages pages.old) (P.count pages.old) → (damage : Damage) → ¬ IsErrOf result (PageFault.Damaged damage) }
+    ensures damaged { AreTold (P.pages pages.old) (P.count pages.old) → (damage : Damage) → IsErrOf result (PageFault.Damaged damage)
+        → IsNextDamage (P.pages pages.old) (P.count pages.old) tree.now.rows (P.asked pages.old) (P.asked pages.new) damage }
+    ensures own { AreTold (P.pages pages.old) (P.count pages.old)
+        → AsksOnly (map_uses rows_form (P.pages pages.old) tree.now.rows) (P.asked pages.old) (P.asked pages.new) }
     ensures fails { FailsReading P.Pages pages.old pages.new result }
     ensures frame { Reads P.Pages pages.old pages.new }
 {
@@ -88,6 +93,10 @@ fn list_rows<P: Pages>(
     ensures ordered { IfOk result (λ rows. AreOrdered 0 (2 ^ 64) rows.items) }
     ensures honest { IsMap rows_form (P.pages pages.old) tree.now.rows → AreCounted (map_uses rows_form (P.pages pages.old) tree.now.rows) (P.count pages.old)
         → AreTold (P.pages pages.old) (P.count pages.old) → (damage : Damage) → ¬ IsErrOf result (PageFault.Damaged damage) }
+    ensures damaged { AreTold (P.pages pages.old) (P.count pages.old) → (damage : Damage) → IsErrOf result (PageFault.Damaged damage)
+        → IsRowsHarm (P.pages pages.new) (P.count pages.new) (P.first pages.new) (P.asked pages.old) (P.asked pages.new) damage }
+    ensures own { AreTold (P.pages pages.old) (P.count pages.old)
+        → AsksOnly (map_uses rows_form (P.pages pages.old) tree.now.rows) (P.asked pages.old) (P.asked pages.new) }
     ensures fails { FailsReading P.Pages pages.old pages.new result }
     ensures frame { Reads P.Pages pages.old pages.new }
 {
@@ -120,10 +129,14 @@ pub fn take_rows<P: Pages>(
     ensures ordered { IfOk result (λ rows. AreOrdered 0 (2 ^ 64) rows.items) }
     ensures root { tree.new.root ≡ tree.old.root }
     ensures kept { OnErr result (tree.new ≡ tree.old) }
+    ensures told { AreTold (P.pages pages.old) (P.count pages.old) → OnOk result (AreTold (P.pages pages.new) (P.count pages.new)) }
 
     // On a well-formed map and a free list that ends at 0 no page is damaged.
     ensures honest { (free : List ℕ) → IsRows (view (P.pages pages.old) (P.count pages.old) (P.first pages.old) free) tree.old.rows → AreTold (P.pages pages.old) (P.count pages.old)
         → (damage : Damage) → ¬ IsErrOf result (PageFault.Damaged damage) }
+    ensures damaged { AreTold (P.pages pages.old) (P.count pages.old) → (damage : Damage) → IsErrOf result (PageFault.Damaged damage)
+        → IsRowsHarm (P.pages pages.new) (P.count pages.new) (P.first pages.new) (P.asked pages.old) (P.asked pages.new) damage }
+    ensures more { AreTold (P.pages pages.old) (P.count pages.old) → AsksOnly (λ _. 1) (P.asked pages.old) (P.asked pages.new) }
     ensures fails { FailsChanging P.Pages pages.old pages.new result }
     ensures frame { Changes P.Pages pages.old pages.new }
 {

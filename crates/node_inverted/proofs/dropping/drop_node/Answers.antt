@@ -4,6 +4,7 @@ use Rattle.page_face.specs.declared.fault.PageFault.TheVariants.{Damaged}
 use Rattle.page_face.proofs.Frames.{changes_then}
 use Rattle.btree_nodes.specs.Supply.{View, view}
 use Rattle.btree_nodes.specs.Tree.{map_rows}
+use Rattle.btree_nodes.proofs.Harms.{asks-further, asks-nothing}
 use Rattle.rtree_shape.specs.Stock.{rows_form}
 use Rattle.node_rows.specs.Rows.{Bytes, bytes_in}
 use Rattle.node_rows.specs.Turns.{Turns, dropped}
@@ -12,6 +13,7 @@ use Rattle.node_inverted.specs.Drafts.{with_rows}
 use Rattle.node_inverted.specs.Gathers.{IsDropping}
 use Rattle.node_inverted.specs.declared.taking.NodeRow.{NodeRow}
 use Rattle.node_rows.proofs.Bytes.{bytes-large}
+use Rattle.node_rows.proofs.Harms.{harm-later}
 use Rattle.node_rows.proofs.Turned.{turns-same, turns-as}
 use Rattle.node_rows.proofs.Told.{told-turned}
 use Rattle.node_rows.proofs.Faults.{changes-none}
@@ -33,6 +35,8 @@ loop-from-init g c =
           dropping-none before root (g.P.Pages.pages c.args.pages.now) (g.P.Pages.count c.args.pages.now) (g.P.Pages.first c.args.pages.now) root c.args.node b 0 c.new-rows.result.items none
           (turns-as before root (g.P.Pages.pages c.args.pages.now) (g.P.Pages.count c.args.pages.now) (g.P.Pages.first c.args.pages.now) root b (until 0 f b) (start f b) (turns-same before root rows));
       copy = λ free rows. c.none-copy.ensures (bytes_in (g.P.Pages.pages c.args.pages.now) c.args.tree.now.rows) c.args.node;
+      told = λ t. t;
+      more = λ t. asks-nothing (λ _. 1) (g.P.Pages.asked c.args.pages.now) (g.P.Pages.asked c.args.pages.now) refl;
       frame = changes-none g.P.Pages c.args.pages.now (g.met.P.Pages.stays c.args.pages.now);
     }
 
@@ -49,6 +53,8 @@ loop-from-preserved g c = record {
       let b : Bytes = bytes_in (g.P.Pages.pages c.args.pages.now) c.args.tree.now.rows in
       c.in_ok-from.ensures.copy before c.args.tree.now.rows b (c.loop-from.invariant.copy free rows) (subst (λ (o : Option ℕ). IsDropping before c.args.tree.now.rows (g.P.Pages.pages c.loop-from.pages) (g.P.Pages.count c.loop-from.pages) (g.P.Pages.first c.loop-from.pages) c.loop-from.changed.rows
       c.args.node b (reached o) c.loop-from.rows.items) c.in-Some.is (c.loop-from.invariant.dropping free rows));
+  told = λ t. c.in_ok-from.ensures.told (c.loop-from.invariant.told t);
+  more = λ t. asks-further (λ _. 1) _ _ _ (c.loop-from.invariant.more t) (c.drop_next.ensures.more (c.loop-from.invariant.told t));
   frame = changes_then g.P.Pages g.met.P.Pages.goes_further _ _ _ c.loop-from.invariant.frame c.drop_next.ensures.frame;
 }
 
@@ -87,3 +93,31 @@ returns-in_err-set_rows-clause-honest g c free rows told damage =
     λ e. (let same : c.in_err-set_rows.field-0.0 ≡ Damaged damage = cc (p.1, p.2, e) in
     c.in_err-set_rows.ensures.honest h.turn.free h.turn.rows (told-turned before c.args.tree.now.rows (g.P.Pages.pages c.loop-from.pages) (g.P.Pages.count c.loop-from.pages) (g.P.Pages.first c.loop-from.pages) c.loop-from.changed.rows
     h.bytes h.turn told) damage (ap Err same))
+
+pub returns-in_err-from-clause-damaged : goal.returns-in_err-from-clause-damaged
+returns-in_err-from-clause-damaged g c = λ told damage.
+    let p = g.P.Pages in
+    let r = err_from_is_err_and c.from_residual.result c.from_residual.ensures.1 in
+    λ e. (let same : c.in_err-from.field-0.0 ≡ Damaged damage = cc (r.1, r.2, e) in
+    harm-later (λ _. 1) (p.pages c.drop_next.new.pages) (p.count c.drop_next.new.pages) (p.first c.drop_next.new.pages) (p.asked c.args.pages.now) (p.asked c.loop-from.pages) (p.asked c.drop_next.new.pages) damage
+    (c.loop-from.invariant.more told) (c.in_err-from.ensures.damaged (c.loop-from.invariant.told told) damage (ap Err same)))
+
+pub returns-in_err-from-clause-more : goal.returns-in_err-from-clause-more
+returns-in_err-from-clause-more g c = λ told. asks-further (λ _. 1) _ _ _ (c.loop-from.invariant.more told) (c.drop_next.ensures.more (c.loop-from.invariant.told told))
+
+pub returns-in_err-set_rows-clause-damaged : goal.returns-in_err-set_rows-clause-damaged
+returns-in_err-set_rows-clause-damaged g c = λ told damage.
+    let p = g.P.Pages in
+    let r = err_from_is_err_and c.from_residual-in_err-set_rows.result c.from_residual-in_err-set_rows.ensures.1 in
+    λ e. (let same : c.in_err-set_rows.field-0.0 ≡ Damaged damage = cc (r.1, r.2, e) in
+    harm-later (λ _. 1) (p.pages c.set_rows.new.pages) (p.count c.set_rows.new.pages) (p.first c.set_rows.new.pages) (p.asked c.args.pages.now) (p.asked c.loop-from.pages) (p.asked c.set_rows.new.pages) damage
+    (c.loop-from.invariant.more told) (c.in_err-set_rows.ensures.damaged (c.loop-from.invariant.told told) damage (ap Err same)))
+
+pub returns-in_err-set_rows-clause-more : goal.returns-in_err-set_rows-clause-more
+returns-in_err-set_rows-clause-more g c = λ told. asks-further (λ _. 1) _ _ _ (c.loop-from.invariant.more told) (c.set_rows.ensures.more (c.loop-from.invariant.told told))
+
+pub returns-clause-more : goal.returns-clause-more
+returns-clause-more g c = λ told. asks-further (λ _. 1) _ _ _ (c.loop-from.invariant.more told) (c.set_rows.ensures.more (c.loop-from.invariant.told told))
+
+pub returns-clause-told : goal.returns-clause-told
+returns-clause-told g c = λ told. c.in_ok-set_rows.ensures.told (c.loop-from.invariant.told told)

@@ -4,12 +4,14 @@ use Rattle.page_face.specs.declared.fault.PageFault.TheVariants.{Damaged}
 use Rattle.page_face.proofs.Frames.{changes_then}
 use Rattle.btree_nodes.specs.Supply.{View, view}
 use Rattle.btree_nodes.specs.Tree.{map_rows}
+use Rattle.btree_nodes.proofs.Harms.{asks-further, asks-nothing}
 use Rattle.rtree_shape.specs.Stock.{rows_form}
 use Rattle.node_rows.specs.Rows.{Bytes, bytes_in}
 use Rattle.node_rows.specs.Turns.{moved}
 use Rattle.node_rows.specs.Ascents.{until, reached}
 use Rattle.node_inverted.specs.Gathers.{IsMoving}
 use Rattle.node_rows.proofs.Bytes.{bytes-large}
+use Rattle.node_rows.proofs.Harms.{harm-later}
 use Rattle.node_rows.proofs.Turned.{turns-same, turns-as}
 use Rattle.node_rows.proofs.Told.{told-turned}
 use Rattle.node_rows.proofs.Faults.{changes-none}
@@ -32,6 +34,8 @@ loop-from-init g c =
           moving-none before root (g.P.Pages.pages c.args.pages.now) (g.P.Pages.count c.args.pages.now) (g.P.Pages.first c.args.pages.now) root c.args.node c.args.slots c.args.to b 0 c.new-stays.result.items c.new-goes.result.items none_stays none_goes
           (turns-as before root (g.P.Pages.pages c.args.pages.now) (g.P.Pages.count c.args.pages.now) (g.P.Pages.first c.args.pages.now) root b (until 0 f b) (start f b) (turns-same before root rows));
       copy = λ free apart rows clear. c.none-copy.ensures (bytes_in (g.P.Pages.pages c.args.pages.now) c.args.tree.now.rows) c.args.node;
+      told = λ t. t;
+      more = λ t. asks-nothing (λ _. 1) (g.P.Pages.asked c.args.pages.now) (g.P.Pages.asked c.args.pages.now) refl;
       frame = changes-none g.P.Pages c.args.pages.now (g.met.P.Pages.stays c.args.pages.now);
     }
 
@@ -48,6 +52,8 @@ loop-from-preserved g c = record {
       let b : Bytes = bytes_in (g.P.Pages.pages c.args.pages.now) c.args.tree.now.rows in
       c.in_ok-from.ensures.copy before c.args.tree.now.rows b (c.loop-from.invariant.copy free apart rows clear) (subst (λ (o : Option ℕ). IsMoving before c.args.tree.now.rows (g.P.Pages.pages c.loop-from.pages) (g.P.Pages.count c.loop-from.pages) (g.P.Pages.first c.loop-from.pages) c.loop-from.changed.rows
       c.args.node c.args.slots c.args.to b (reached o) c.loop-from.stays.items c.loop-from.goes.items) c.in-Some.is (c.loop-from.invariant.moving free apart rows clear));
+  told = λ t. c.in_ok-from.ensures.told (c.loop-from.invariant.told t);
+  more = λ t. asks-further (λ _. 1) _ _ _ (c.loop-from.invariant.more t) (c.move_next.ensures.more (c.loop-from.invariant.told t));
   frame = changes_then g.P.Pages g.met.P.Pages.goes_further _ _ _ c.loop-from.invariant.frame c.move_next.ensures.frame;
 }
 
@@ -81,3 +87,31 @@ returns-in_err-set_parts-clause-honest g c free apart rows clear told damage =
     λ e. (let same : c.in_err-set_parts.field-0.0 ≡ Damaged damage = cc (p.1, p.2, e) in
     c.in_err-set_parts.ensures.honest h.turn.free h.turn.rows (told-turned before c.args.tree.now.rows (g.P.Pages.pages c.loop-from.pages) (g.P.Pages.count c.loop-from.pages) (g.P.Pages.first c.loop-from.pages) c.loop-from.changed.rows
     h.bytes h.turn told) damage (ap Err same))
+
+pub returns-in_err-from-clause-damaged : goal.returns-in_err-from-clause-damaged
+returns-in_err-from-clause-damaged g c = λ told damage.
+    let p = g.P.Pages in
+    let r = err_from_is_err_and c.from_residual.result c.from_residual.ensures.1 in
+    λ e. (let same : c.in_err-from.field-0.0 ≡ Damaged damage = cc (r.1, r.2, e) in
+    harm-later (λ _. 1) (p.pages c.move_next.new.pages) (p.count c.move_next.new.pages) (p.first c.move_next.new.pages) (p.asked c.args.pages.now) (p.asked c.loop-from.pages) (p.asked c.move_next.new.pages) damage
+    (c.loop-from.invariant.more told) (c.in_err-from.ensures.damaged (c.loop-from.invariant.told told) damage (ap Err same)))
+
+pub returns-in_err-from-clause-more : goal.returns-in_err-from-clause-more
+returns-in_err-from-clause-more g c = λ told. asks-further (λ _. 1) _ _ _ (c.loop-from.invariant.more told) (c.move_next.ensures.more (c.loop-from.invariant.told told))
+
+pub returns-in_err-set_parts-clause-damaged : goal.returns-in_err-set_parts-clause-damaged
+returns-in_err-set_parts-clause-damaged g c = λ told damage.
+    let p = g.P.Pages in
+    let r = err_from_is_err_and c.from_residual-in_err-set_parts.result c.from_residual-in_err-set_parts.ensures.1 in
+    λ e. (let same : c.in_err-set_parts.field-0.0 ≡ Damaged damage = cc (r.1, r.2, e) in
+    harm-later (λ _. 1) (p.pages c.set_parts.new.pages) (p.count c.set_parts.new.pages) (p.first c.set_parts.new.pages) (p.asked c.args.pages.now) (p.asked c.loop-from.pages) (p.asked c.set_parts.new.pages) damage
+    (c.loop-from.invariant.more told) (c.in_err-set_parts.ensures.damaged (c.loop-from.invariant.told told) damage (ap Err same)))
+
+pub returns-in_err-set_parts-clause-more : goal.returns-in_err-set_parts-clause-more
+returns-in_err-set_parts-clause-more g c = λ told. asks-further (λ _. 1) _ _ _ (c.loop-from.invariant.more told) (c.set_parts.ensures.more (c.loop-from.invariant.told told))
+
+pub returns-clause-more : goal.returns-clause-more
+returns-clause-more g c = λ told. asks-further (λ _. 1) _ _ _ (c.loop-from.invariant.more told) (c.set_parts.ensures.more (c.loop-from.invariant.told told))
+
+pub returns-clause-told : goal.returns-clause-told
+returns-clause-told g c = λ told. c.in_ok-set_parts.ensures.told (c.loop-from.invariant.told told)

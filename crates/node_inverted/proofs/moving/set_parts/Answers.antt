@@ -3,11 +3,13 @@ use Rattle.std.proofs.lemmas.Result.{err_from_is_err_and}
 use Rattle.page_face.specs.FreeList.{PageMap}
 use Rattle.page_face.specs.declared.fault.PageFault.TheVariants.{Damaged}
 use Rattle.btree_nodes.specs.Supply.{View, view}
+use Rattle.btree_nodes.proofs.Harms.{asks-further}
 use Rattle.node_rows.specs.Rows.{bytes_in}
 use Rattle.node_rows.specs.Turns.{Turns}
 use Rattle.node_inverted.specs.Drafts.{with_rows}
 use Rattle.node_inverted.specs.declared.taking.NodeRow.{NodeRow}
 use Rattle.node_inverted.proofs.Gathers.{moving-set}
+use Rattle.node_rows.proofs.Harms.{harm-later}
 use Rattle.node_rows.proofs.Told.{told-turned}
 use Rattle.node_inverted.proofs.moving.set_parts.Goals as goal
 
@@ -40,3 +42,20 @@ returns-in_err-set_rows-2-clause-honest g c free rows told damage =
     let p = err_from_is_err_and c.from_residual-in_err-set_rows-2.result c.from_residual-in_err-set_rows-2.ensures.1 in
     λ e. (let same : c.in_err-set_rows-2.field-0.0 ≡ Damaged damage = cc (p.1, p.2, e) in
     c.in_err-set_rows-2.ensures.honest one.free one.rows told' damage (ap Err same))
+
+pub returns-in_err-set_rows-2-clause-damaged : goal.returns-in_err-set_rows-2-clause-damaged
+returns-in_err-set_rows-2-clause-damaged g c = λ told damage.
+    let p = g.P.Pages in
+    let r = err_from_is_err_and c.from_residual-in_err-set_rows-2.result c.from_residual-in_err-set_rows-2.ensures.1 in
+    λ e. (let same : c.in_err-set_rows-2.field-0.0 ≡ Damaged damage = cc (r.1, r.2, e) in
+    harm-later (λ _. 1) (p.pages c.set_rows-2.new.pages) (p.count c.set_rows-2.new.pages) (p.first c.set_rows-2.new.pages) (p.asked c.args.pages.now) (p.asked c.set_rows.new.pages) (p.asked c.set_rows-2.new.pages) damage
+    (c.set_rows.ensures.more told) (c.in_err-set_rows-2.ensures.damaged (c.in_ok-set_rows.ensures.told told) damage (ap Err same)))
+
+pub returns-in_err-set_rows-2-clause-more : goal.returns-in_err-set_rows-2-clause-more
+returns-in_err-set_rows-2-clause-more g c = λ told. asks-further (λ _. 1) _ _ _ (c.set_rows.ensures.more told) (c.set_rows-2.ensures.more (c.in_ok-set_rows.ensures.told told))
+
+pub returns-clause-more : goal.returns-clause-more
+returns-clause-more g c = λ told. asks-further (λ _. 1) _ _ _ (c.set_rows.ensures.more told) (c.set_rows-2.ensures.more (c.in_ok-set_rows.ensures.told told))
+
+pub returns-clause-told : goal.returns-clause-told
+returns-clause-told g c = λ told. c.in_ok-set_rows-2.ensures.told (c.in_ok-set_rows.ensures.told told)

@@ -1,14 +1,17 @@
-use Rattle.std.proofs.Common.{◌≡◌, ℕ, ap, subst, Err}
+use Rattle.std.proofs.Common.{◌≡◌, ℕ, arith, ap, subst, Err}
 use Rattle.std.proofs.lemmas.Result.{err_from_is_err_and}
 use Rattle.std.specs.Result.{OnOk}
 use Rattle.page_face.specs.FreeList.{PageMap}
 use Rattle.page_face.specs.declared.fault.PageFault.TheVariants.{Damaged}
 use Rattle.btree_nodes.specs.Supply.{View, view}
+use Rattle.btree_nodes.specs.Tree.{map_uses}
+use Rattle.btree_nodes.proofs.Harms.{asks-further, asks-more}
 use Rattle.paged_map.proofs.Maps.{kept-counted}
 use Rattle.rtree_shape.specs.Stock.{rows_form}
 use Rattle.node_rows.specs.Rows.{HasBytes, IsRows, bytes_in}
 use Rattle.node_rows.specs.Turns.{Turns}
 use Rattle.node_rows.specs.Impacts.{with_byte}
+use Rattle.node_rows.proofs.Harms.{harm-later}
 use Rattle.node_rows.proofs.Turned.{view-same}
 use Rattle.node_inverted.proofs.raising.set_impact.Goals as goal
 
@@ -37,3 +40,18 @@ returns-clause-honest g c free rows told damage =
     let r = c.find_row.ensures.frame in
     let kept : IsRows (view (g.P.Pages.pages c.find_row.new.pages) (g.P.Pages.count c.find_row.new.pages) (g.P.Pages.first c.find_row.new.pages) free) c.args.tree.now.rows = rw (r.pages, r.count, r.first) rows in
     c.set_byte.ensures.honest free kept damage
+
+pub returns-clause-damaged : goal.returns-clause-damaged
+returns-clause-damaged g c = λ told damage e.
+    let p = g.P.Pages in
+    let f = c.find_row.ensures.frame in
+    harm-later (map_uses rows_form (p.pages c.args.pages.now) c.args.tree.now.rows) (p.pages c.set_byte.new.pages) (p.count c.set_byte.new.pages) (p.first c.set_byte.new.pages)
+    (p.asked c.args.pages.now) (p.asked c.find_row.new.pages) (p.asked c.set_byte.new.pages) damage (c.find_row.ensures.own told) (c.set_byte.ensures.damaged (rw (f.pages, f.count) told) damage e)
+
+pub returns-clause-more : goal.returns-clause-more
+returns-clause-more g c = λ told.
+    let p = g.P.Pages in
+    let f = c.find_row.ensures.frame in
+    asks-further (λ _. 1) (p.asked c.args.pages.now) (p.asked c.find_row.new.pages) (p.asked c.set_byte.new.pages)
+    (asks-more (map_uses rows_form (p.pages c.args.pages.now) c.args.tree.now.rows) (λ _. 1) (p.asked c.args.pages.now) (p.asked c.find_row.new.pages) (λ n h. omega arith) (c.find_row.ensures.own told))
+    (c.set_byte.ensures.more (rw (f.pages, f.count) told))

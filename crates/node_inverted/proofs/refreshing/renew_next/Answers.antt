@@ -1,12 +1,17 @@
-use Rattle.std.proofs.Common.{◌≡◌, ℕ, ◌∙◌, inl, inr, sym, ap, refl, arith}
-use Rattle.std.proofs.lemmas.Result.{on_ok_weaker}
-use Rattle.btree_nodes.specs.Tree.{IsMap}
+use Rattle.std.proofs.Common.{◌≡◌, ℕ, ◌∙◌, inl, inr, sym, ap, subst, refl, arith, Err}
+use Rattle.std.proofs.lemmas.Result.{err_from_is_err_and, on_ok_weaker}
+use Rattle.page_face.specs.FreeList.{PageMap}
+use Rattle.page_face.specs.declared.fault.PageFault.TheVariants.{Damaged}
+use Rattle.btree_nodes.specs.Damages.{AsksOnly}
+use Rattle.btree_nodes.specs.Tree.{IsMap, map_uses}
+use Rattle.btree_nodes.proofs.Harms.{asks-further}
 use Rattle.rtree_shape.proofs.Amounts.{same_or}
 use Rattle.rtree_shape.specs.Stock.{rows_form}
 use Rattle.node_rows.specs.Rows.{Bytes, bytes_in}
 use Rattle.node_rows.specs.Turns.{Next}
 use Rattle.node_rows.specs.Impacts.{refreshed, top_at}
 use Rattle.node_inverted.specs.Drafts.{with_rows}
+use Rattle.node_rows.proofs.Harms.{harm-later, harm-next}
 use Rattle.node_rows.proofs.Turned.{turned-rest}
 use Rattle.node_rows.proofs.Impacts.{byte-here, byte-another, top-row}
 use Rattle.node_inverted.proofs.Refreshes.{ahead-byte, away, next-from, refreshed-beside, renewed-next}
@@ -49,3 +54,34 @@ returns-clause-renewing g c = λ before root impact b words apart h.
     (λ i. c.row_ahead-high.ensures i ∙ ahead-byte h.bytes node word word c.in_ok-high_ahead.high_ahead high (omega arith) (next-from h.bytes node word c.in_ok-high_ahead.high_ahead high) i)
     (λ i k. away node slot child b v words apart h.is node word i (refreshed-beside node slot child b node word i k) ∙ sym (h.beside word i k))
     (λ e. h.right word (e ∙ byte_is) ∙ sym byte_is))
+
+pub returns-in_err-low_ahead-clause-damaged : goal.returns-in_err-low_ahead-clause-damaged
+returns-in_err-low_ahead-clause-damaged g c = λ told damage.
+    let p = g.P.Pages in
+    let f = c.next_in.ensures.frame in
+    let r = err_from_is_err_and c.from_residual.result c.from_residual.ensures.1 in
+    λ e. (let same : c.in_err-low_ahead.field-0.0 ≡ Damaged damage = cc (r.1, r.2, e) in
+    harm-next (p.pages c.args.pages.now) (p.pages c.next_in.new.pages) (p.count c.args.pages.now) (p.count c.next_in.new.pages) (p.first c.next_in.new.pages) c.args.tree.now.rows (p.asked c.args.pages.now) (p.asked c.next_in.new.pages) damage
+    f.pages f.count (c.in_err-low_ahead.ensures.damaged told damage (ap Err same)))
+
+pub returns-in_err-high_ahead-clause-damaged : goal.returns-in_err-high_ahead-clause-damaged
+returns-in_err-high_ahead-clause-damaged g c = λ told damage.
+    let p = g.P.Pages in
+    let f = c.next_in.ensures.frame in
+    let h = c.next_in-2.ensures.frame in
+    let r = err_from_is_err_and c.from_residual-in_err-high_ahead.result c.from_residual-in_err-high_ahead.ensures.1 in
+    λ e. (let same : c.in_err-high_ahead.field-0.0 ≡ Damaged damage = cc (r.1, r.2, e) in
+    harm-later (map_uses rows_form (p.pages c.args.pages.now) c.args.tree.now.rows) (p.pages c.next_in-2.new.pages) (p.count c.next_in-2.new.pages) (p.first c.next_in-2.new.pages)
+    (p.asked c.args.pages.now) (p.asked c.next_in.new.pages) (p.asked c.next_in-2.new.pages) damage (c.next_in.ensures.own told)
+    (harm-next (p.pages c.next_in.new.pages) (p.pages c.next_in-2.new.pages) (p.count c.next_in.new.pages) (p.count c.next_in-2.new.pages) (p.first c.next_in-2.new.pages) c.args.tree.now.rows
+    (p.asked c.next_in.new.pages) (p.asked c.next_in-2.new.pages) damage h.pages h.count (c.in_err-high_ahead.ensures.damaged (rw (f.pages, f.count) told) damage (ap Err same))))
+
+pub returns-in_err-high_ahead-clause-own : goal.returns-in_err-high_ahead-clause-own
+returns-in_err-high_ahead-clause-own g c = λ told. asks-further (map_uses rows_form (g.P.Pages.pages c.args.pages.now) c.args.tree.now.rows) (g.P.Pages.asked c.args.pages.now) (g.P.Pages.asked c.next_in.new.pages) (g.P.Pages.asked c.next_in-2.new.pages) (c.next_in.ensures.own told)
+    (subst (λ (x : PageMap). AsksOnly (map_uses rows_form x c.args.tree.now.rows) (g.P.Pages.asked c.next_in.new.pages) (g.P.Pages.asked c.next_in-2.new.pages)) c.next_in.ensures.frame.pages
+    (c.next_in-2.ensures.own (rw (c.next_in.ensures.frame.pages, c.next_in.ensures.frame.count) told)))
+
+pub returns-clause-own : goal.returns-clause-own
+returns-clause-own g c = λ told. asks-further (map_uses rows_form (g.P.Pages.pages c.args.pages.now) c.args.tree.now.rows) (g.P.Pages.asked c.args.pages.now) (g.P.Pages.asked c.next_in.new.pages) (g.P.Pages.asked c.next_in-2.new.pages) (c.next_in.ensures.own told)
+    (subst (λ (x : PageMap). AsksOnly (map_uses rows_form x c.args.tree.now.rows) (g.P.Pages.asked c.next_in.new.pages) (g.P.Pages.asked c.next_in-2.new.pages)) c.next_in.ensures.frame.pages
+    (c.next_in-2.ensures.own (rw (c.next_in.ensures.frame.pages, c.next_in.ensures.frame.count) told)))

@@ -1,12 +1,15 @@
-use Rattle.std.proofs.Common.{◌≡◌, ℕ, ap, subst, List, [], ◌∷◌, ◌++◌, Err}
+use Rattle.std.proofs.Common.{◌≡◌, ℕ, arith, ap, subst, List, [], ◌∷◌, ◌++◌, Err}
 use Rattle.std.proofs.lemmas.Result.{err_from_is_err_and}
 use Rattle.page_face.specs.declared.fault.PageFault.TheVariants.{Damaged}
 use Rattle.btree_nodes.specs.Supply.{View, view}
 use Rattle.btree_nodes.specs.Damages.{AreTold}
+use Rattle.btree_nodes.specs.Tree.{map_uses}
+use Rattle.btree_nodes.proofs.Harms.{asks-further, asks-more}
 use Rattle.paged_map.proofs.Maps.{kept-counted}
 use Rattle.rtree_shape.specs.Stock.{rows_form}
 use Rattle.node_rows.specs.Rows.{IsRows, bytes_in}
 use Rattle.node_rows.specs.Turns.{Turns}
+use Rattle.node_rows.proofs.Harms.{harm-later}
 use Rattle.node_inverted.specs.Drafts.{with_rows}
 use Rattle.node_inverted.specs.declared.taking.NodeRow.{NodeRow}
 use Rattle.node_inverted.proofs.Gathers.{renewing-none, renewing-set}
@@ -43,3 +46,44 @@ returns-in_err-set_rows-clause-honest g c free rows told damage =
     let p = err_from_is_err_and c.from_residual-in_err-set_rows.result c.from_residual-in_err-set_rows.ensures.1 in
     λ e. (let same : c.in_err-set_rows.field-0.0 ≡ Damaged damage = cc (p.1, p.2, e) in
     c.in_err-set_rows.ensures.honest free kept told' damage (ap Err same))
+
+pub returns-in_err-renew_next-clause-damaged : goal.returns-in_err-renew_next-clause-damaged
+returns-in_err-renew_next-clause-damaged g c = λ told damage.
+    let p = g.P.Pages in
+    let r = err_from_is_err_and c.from_residual.result c.from_residual.ensures.1 in
+    λ e. (let same : c.in_err-renew_next.field-0.0 ≡ Damaged damage = cc (r.1, r.2, e) in
+    c.in_err-renew_next.ensures.damaged told damage (ap Err same))
+
+pub returns-in_err-renew_next-clause-more : goal.returns-in_err-renew_next-clause-more
+returns-in_err-renew_next-clause-more g c = λ told.
+    let p = g.P.Pages in
+    (asks-more (map_uses rows_form (p.pages c.args.pages.now) c.args.tree.now.rows) (λ _. 1) (p.asked c.args.pages.now) (p.asked c.renew_next.new.pages) (λ n h. omega arith) (c.renew_next.ensures.own told))
+
+pub returns-then-len-lt-ROWS_AT_ONCE-clause-more : goal.returns-then-len-lt-ROWS_AT_ONCE-clause-more
+returns-then-len-lt-ROWS_AT_ONCE-clause-more g c = λ told.
+    let p = g.P.Pages in
+    (asks-more (map_uses rows_form (p.pages c.args.pages.now) c.args.tree.now.rows) (λ _. 1) (p.asked c.args.pages.now) (p.asked c.renew_next.new.pages) (λ n h. omega arith) (c.renew_next.ensures.own told))
+
+pub returns-in_err-set_rows-clause-damaged : goal.returns-in_err-set_rows-clause-damaged
+returns-in_err-set_rows-clause-damaged g c = λ told damage.
+    let p = g.P.Pages in
+    let f = c.renew_next.ensures.frame in
+    let r = err_from_is_err_and c.from_residual-in_err-set_rows.result c.from_residual-in_err-set_rows.ensures.1 in
+    λ e. (let same : c.in_err-set_rows.field-0.0 ≡ Damaged damage = cc (r.1, r.2, e) in
+    harm-later (map_uses rows_form (p.pages c.args.pages.now) c.args.tree.now.rows) (p.pages c.set_rows.new.pages) (p.count c.set_rows.new.pages) (p.first c.set_rows.new.pages)
+    (p.asked c.args.pages.now) (p.asked c.renew_next.new.pages) (p.asked c.set_rows.new.pages) damage (c.renew_next.ensures.own told) (c.in_err-set_rows.ensures.damaged (rw (f.pages, f.count) told) damage (ap Err same)))
+
+pub returns-in_err-set_rows-clause-more : goal.returns-in_err-set_rows-clause-more
+returns-in_err-set_rows-clause-more g c = λ told.
+    let p = g.P.Pages in
+    let f = c.renew_next.ensures.frame in
+    asks-further (λ _. 1) (p.asked c.args.pages.now) (p.asked c.renew_next.new.pages) (p.asked c.set_rows.new.pages) (asks-more (map_uses rows_form (p.pages c.args.pages.now) c.args.tree.now.rows) (λ _. 1) (p.asked c.args.pages.now) (p.asked c.renew_next.new.pages) (λ n h. omega arith) (c.renew_next.ensures.own told)) (c.set_rows.ensures.more (rw (f.pages, f.count) told))
+
+pub returns-clause-more : goal.returns-clause-more
+returns-clause-more g c = λ told.
+    let p = g.P.Pages in
+    let f = c.renew_next.ensures.frame in
+    asks-further (λ _. 1) (p.asked c.args.pages.now) (p.asked c.renew_next.new.pages) (p.asked c.set_rows.new.pages) (asks-more (map_uses rows_form (p.pages c.args.pages.now) c.args.tree.now.rows) (λ _. 1) (p.asked c.args.pages.now) (p.asked c.renew_next.new.pages) (λ n h. omega arith) (c.renew_next.ensures.own told)) (c.set_rows.ensures.more (rw (f.pages, f.count) told))
+
+pub returns-clause-told : goal.returns-clause-told
+returns-clause-told g c = λ told. let f = c.renew_next.ensures.frame in c.in_ok-set_rows.ensures.told (rw (f.pages, f.count) told)

@@ -1,9 +1,10 @@
-use Rattle.std.proofs.Common.{◌≡◌, ℕ, ◌∙◌, ◌^◌, ap, subst, sym, arith, rules, List, [], Option, Err}
+use Rattle.std.proofs.Common.{◌≡◌, ℕ, ◌∙◌, ◌^◌, ap, subst, sym, refl, arith, rules, List, [], Option, Err}
 use Rattle.std.proofs.lemmas.Result.{err_from_is_err_and}
 use Rattle.page_face.specs.FreeList.{PageMap}
 use Rattle.page_face.specs.declared.fault.PageFault.TheVariants.{Damaged}
 use Rattle.page_face.proofs.Frames.{reads_then}
-use Rattle.btree_nodes.specs.Damages.{AreTold}
+use Rattle.btree_nodes.specs.Damages.{AreTold, AsksOnly}
+use Rattle.btree_nodes.proofs.Harms.{asks-further, asks-nothing}
 use Rattle.btree_nodes.specs.Tree.{IsMap, map_rows, map_uses}
 use Rattle.paged_map.specs.Maps.{AreCounted}
 use Rattle.rtree_shape.specs.Stock.{rows_form}
@@ -14,6 +15,7 @@ use Rattle.node_rows.specs.Words.{no_bytes}
 use Rattle.node_inverted.specs.Lifts.{AreOrdered, bytes_at, lifted_at}
 use Rattle.node_inverted.specs.declared.taking.NodeRow.{NodeRow}
 use Rattle.node_rows.proofs.Bytes.{bytes-large}
+use Rattle.node_rows.proofs.Harms.{harm-later, harm-next}
 use Rattle.node_rows.proofs.Ascents.{start, all}
 use Rattle.node_rows.proofs.Faults.{reads-none}
 use Rattle.node_inverted.proofs.taking.list_rows.Goals as goal
@@ -25,6 +27,7 @@ loop-from-init g c =
       copy = λ map. c.none-copy.ensures (bytes_in (g.P.Pages.pages c.args.pages.now) c.args.tree.now.rows) c.args.node;
       listed = λ map n w i. ap (λ (rs : List NodeRow). lifted_at rs w i) empty ∙ start (bytes_at c.args.node (bytes_in (g.P.Pages.pages c.args.pages.now) c.args.tree.now.rows)) no_bytes n w i;
       ordered = subst (AreOrdered 0 0) (sym empty) (omega arith);
+      own = λ t. asks-nothing (map_uses rows_form (g.P.Pages.pages c.args.pages.now) c.args.tree.now.rows) (g.P.Pages.asked c.args.pages.now) (g.P.Pages.asked c.args.pages.now) refl;
       frame = reads-none g.P.Pages c.args.pages.now (g.met.P.Pages.reads_nothing c.args.pages.now) (g.met.P.Pages.stays c.args.pages.now);
     }
 
@@ -44,6 +47,9 @@ loop-from-preserved g c =
           subst Claim f.pages c.in_ok-from.ensures.listed map (h.copy map)
           (subst (λ (o : Option ℕ). (n w i : ℕ) → lifted_at c.loop-from.rows.items w i ≡ until (reached o) (bytes_at node (bytes_in old root)) no_bytes n w i) c.in-Some.is (h.listed map));
       ordered = c.in_ok-from.ensures.ordered (subst (λ (o : Option ℕ). AreOrdered 0 (reached o) c.loop-from.rows.items) c.in-Some.is h.ordered);
+      own = λ told. asks-further (map_uses rows_form (g.P.Pages.pages c.args.pages.now) c.args.tree.now.rows) (g.P.Pages.asked c.args.pages.now) (g.P.Pages.asked c.loop-from.pages) (g.P.Pages.asked c.list_next.new.pages) (c.loop-from.invariant.own told)
+          (subst (λ (x : PageMap). AsksOnly (map_uses rows_form x c.args.tree.now.rows) (g.P.Pages.asked c.loop-from.pages) (g.P.Pages.asked c.list_next.new.pages)) c.loop-from.invariant.frame.pages
+          (c.list_next.ensures.own (rw (c.loop-from.invariant.frame.pages, c.loop-from.invariant.frame.count) told)));
       frame = reads_then g.P.Pages g.met.P.Pages.goes_further g.met.P.Pages.reads_further _ _ _ f c.list_next.ensures.frame;
     }
 
@@ -69,3 +75,23 @@ returns-in_err-from-clause-honest g c = λ map counted told damage.
     let p = err_from_is_err_and c.from_residual.result c.from_residual.ensures.1 in
     λ e. (let same : c.in_err-from.field-0.0 ≡ Damaged damage = cc (p.1, p.2, e) in
     c.in_err-from.ensures.honest map' counted' still damage (ap Err same))
+
+pub returns-in_err-from-clause-own : goal.returns-in_err-from-clause-own
+returns-in_err-from-clause-own g c = λ told. asks-further (map_uses rows_form (g.P.Pages.pages c.args.pages.now) c.args.tree.now.rows) (g.P.Pages.asked c.args.pages.now) (g.P.Pages.asked c.loop-from.pages) (g.P.Pages.asked c.list_next.new.pages) (c.loop-from.invariant.own told)
+    (subst (λ (x : PageMap). AsksOnly (map_uses rows_form x c.args.tree.now.rows) (g.P.Pages.asked c.loop-from.pages) (g.P.Pages.asked c.list_next.new.pages)) c.loop-from.invariant.frame.pages
+    (c.list_next.ensures.own (rw (c.loop-from.invariant.frame.pages, c.loop-from.invariant.frame.count) told)))
+
+pub returns-clause-own : goal.returns-clause-own
+returns-clause-own g c = c.loop-from.invariant.own
+
+pub returns-in_err-from-clause-damaged : goal.returns-in_err-from-clause-damaged
+returns-in_err-from-clause-damaged g c = λ told damage.
+    let p = g.P.Pages in
+    let f = c.loop-from.invariant.frame in
+    let h = c.list_next.ensures.frame in
+    let r = err_from_is_err_and c.from_residual.result c.from_residual.ensures.1 in
+    λ e. (let same : c.in_err-from.field-0.0 ≡ Damaged damage = cc (r.1, r.2, e) in
+    harm-later (map_uses rows_form (p.pages c.args.pages.now) c.args.tree.now.rows) (p.pages c.list_next.new.pages) (p.count c.list_next.new.pages) (p.first c.list_next.new.pages)
+    (p.asked c.args.pages.now) (p.asked c.loop-from.pages) (p.asked c.list_next.new.pages) damage (c.loop-from.invariant.own told)
+    (harm-next (p.pages c.loop-from.pages) (p.pages c.list_next.new.pages) (p.count c.loop-from.pages) (p.count c.list_next.new.pages) (p.first c.list_next.new.pages) c.args.tree.now.rows
+    (p.asked c.loop-from.pages) (p.asked c.list_next.new.pages) damage h.pages h.count (c.in_err-from.ensures.damaged (rw (f.pages, f.count) told) damage (ap Err same))))

@@ -1,6 +1,7 @@
 use Rattle.std.proofs.Common.{◌≡◌, ℕ}
 use Rattle.page_face.specs.Calls.{Reads}
-use Rattle.btree_nodes.specs.Tree.{IsMap}
+use Rattle.btree_nodes.specs.Damages.{AreTold, AsksOnly}
+use Rattle.btree_nodes.specs.Tree.{IsMap, map_uses}
 use Rattle.rtree_shape.specs.Stock.{rows_form}
 use Rattle.node_rows.specs.Rows.{bytes_in}
 use Rattle.node_rows.specs.Copies.{IsCopy}
@@ -17,6 +18,7 @@ invariant-loop-from g l =
       copy : IsMap rows_form (p.pages l.fn.pages) l.tree.rows → IsCopy (bytes_in (p.pages l.fn.pages) l.tree.rows) l.node l.copy;
       listed : IsMap rows_form (p.pages l.fn.pages) l.tree.rows → (n w i : ℕ) → lifted_at l.rows.items w i ≡ until (reached l.from) (bytes_at l.node (bytes_in (p.pages l.fn.pages) l.tree.rows)) no_bytes n w i;
       ordered : AreOrdered 0 (reached l.from) l.rows.items;
+      own : AreTold (p.pages l.fn.pages) (p.count l.fn.pages) → AsksOnly (map_uses rows_form (p.pages l.fn.pages) l.tree.rows) (p.asked l.fn.pages) (p.asked l.pages);
       frame : Reads p l.fn.pages l.pages;
     }
 

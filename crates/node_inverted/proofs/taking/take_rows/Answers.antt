@@ -1,13 +1,16 @@
-use Rattle.std.proofs.Common.{◌≡◌, ℕ, ap, subst, Err}
+use Rattle.std.proofs.Common.{◌≡◌, ℕ, arith, ap, subst, Err}
 use Rattle.std.proofs.lemmas.Result.{err_from_is_err_and}
 use Rattle.page_face.specs.FreeList.{PageMap}
 use Rattle.page_face.specs.declared.fault.PageFault.TheVariants.{Damaged}
 use Rattle.btree_nodes.specs.Supply.{View, view}
 use Rattle.btree_nodes.specs.Damages.{AreTold}
+use Rattle.btree_nodes.specs.Tree.{map_uses}
+use Rattle.btree_nodes.proofs.Harms.{asks-further, asks-more}
 use Rattle.paged_map.proofs.Maps.{kept-counted}
 use Rattle.rtree_shape.specs.Stock.{rows_form}
 use Rattle.node_rows.specs.Rows.{IsRows, bytes_in}
 use Rattle.node_rows.specs.Turns.{Turns, dropped}
+use Rattle.node_rows.proofs.Harms.{harm-later}
 use Rattle.node_rows.proofs.Turned.{view-same}
 use Rattle.node_inverted.proofs.taking.take_rows.Goals as goal
 
@@ -40,3 +43,39 @@ returns-in_err-drop_node-clause-honest g c free rows told damage =
     let p = err_from_is_err_and c.from_residual-in_err-drop_node.result c.from_residual-in_err-drop_node.ensures.1 in
     λ e. (let same : c.in_err-drop_node.field-0.0 ≡ Damaged damage = cc (p.1, p.2, e) in
     c.in_err-drop_node.ensures.honest free there told' damage (ap Err same))
+
+pub returns-in_err-rows-clause-damaged : goal.returns-in_err-rows-clause-damaged
+returns-in_err-rows-clause-damaged g c = λ told damage.
+    let p = g.P.Pages in
+    let r = err_from_is_err_and c.from_residual.result c.from_residual.ensures.1 in
+    λ e. (let same : c.in_err-rows.field-0.0 ≡ Damaged damage = cc (r.1, r.2, e) in
+    c.in_err-rows.ensures.damaged told damage (ap Err same))
+
+pub returns-in_err-rows-clause-more : goal.returns-in_err-rows-clause-more
+returns-in_err-rows-clause-more g c = λ told.
+    let p = g.P.Pages in
+    (asks-more (map_uses rows_form (p.pages c.args.pages.now) c.args.tree.now.rows) (λ _. 1) (p.asked c.args.pages.now) (p.asked c.list_rows.new.pages) (λ n h. omega arith) (c.list_rows.ensures.own told))
+
+pub returns-in_err-drop_node-clause-damaged : goal.returns-in_err-drop_node-clause-damaged
+returns-in_err-drop_node-clause-damaged g c = λ told damage.
+    let p = g.P.Pages in
+    let f = c.list_rows.ensures.frame in
+    let r = err_from_is_err_and c.from_residual-in_err-drop_node.result c.from_residual-in_err-drop_node.ensures.1 in
+    λ e. (let same : c.in_err-drop_node.field-0.0 ≡ Damaged damage = cc (r.1, r.2, e) in
+    harm-later (map_uses rows_form (p.pages c.args.pages.now) c.args.tree.now.rows) (p.pages c.drop_node.new.pages) (p.count c.drop_node.new.pages) (p.first c.drop_node.new.pages)
+    (p.asked c.args.pages.now) (p.asked c.list_rows.new.pages) (p.asked c.drop_node.new.pages) damage (c.list_rows.ensures.own told) (c.in_err-drop_node.ensures.damaged (rw (f.pages, f.count) told) damage (ap Err same)))
+
+pub returns-in_err-drop_node-clause-more : goal.returns-in_err-drop_node-clause-more
+returns-in_err-drop_node-clause-more g c = λ told.
+    let p = g.P.Pages in
+    let f = c.list_rows.ensures.frame in
+    asks-further (λ _. 1) (p.asked c.args.pages.now) (p.asked c.list_rows.new.pages) (p.asked c.drop_node.new.pages) (asks-more (map_uses rows_form (p.pages c.args.pages.now) c.args.tree.now.rows) (λ _. 1) (p.asked c.args.pages.now) (p.asked c.list_rows.new.pages) (λ n h. omega arith) (c.list_rows.ensures.own told)) (c.drop_node.ensures.more (rw (f.pages, f.count) told))
+
+pub returns-clause-more : goal.returns-clause-more
+returns-clause-more g c = λ told.
+    let p = g.P.Pages in
+    let f = c.list_rows.ensures.frame in
+    asks-further (λ _. 1) (p.asked c.args.pages.now) (p.asked c.list_rows.new.pages) (p.asked c.drop_node.new.pages) (asks-more (map_uses rows_form (p.pages c.args.pages.now) c.args.tree.now.rows) (λ _. 1) (p.asked c.args.pages.now) (p.asked c.list_rows.new.pages) (λ n h. omega arith) (c.list_rows.ensures.own told)) (c.drop_node.ensures.more (rw (f.pages, f.count) told))
+
+pub returns-clause-told : goal.returns-clause-told
+returns-clause-told g c = λ told. let f = c.list_rows.ensures.frame in c.in_ok-drop_node.ensures.told (rw (f.pages, f.count) told)
