@@ -43,7 +43,7 @@ can_hold-one claims entries next_word word agree room = holdable (number_of_word
     none_at None e = refl
     none_at (Some c) e = let lt = agree.below next_word (subst IsSome (sym e) refl) in absurd (omega arith)
 
-    holdable : (found : Option ℕ) → number_of_word word entries.texts ≡ found → claims (unwrap_or found next_word) + 1 < 2 ^ 32 → IsHoldable word next_word entries.numbers found
+    holdable : (found : Option ℕ) → number_of_word word entries.texts ≡ found → claims (unwrap_or found next_word) + 1 < 2 ^ 32 → IsHoldable 1 word next_word entries.numbers found
     holdable None e few = none_at (word_of_number next_word entries.numbers) refl
     holdable (Some number) e few = ((agree.inverse word number).0 e, (let count = agree.counts number in omega arith))
 
