@@ -1,5 +1,5 @@
 -- Updates that are made one after another.
-use Rattle.std.proofs.Common.{◌≡◌, ⊎_elim, inl, inr, ℕ, ◌+◌, ◌==◌, ◌≤◌, ◌^◌, ◌&&◌, Bool, true, false, cond, is_some, is_none, nat_le, List, [], ◌∷◌, length, Result, Ok, Err, refl, sym, ap, subst, ◌∙◌, arith}
+use Rattle.std.proofs.Common.{◌≡◌, ⊎_elim, inl, inr, ℕ, ◌+◌, ◌==◌, ◌≤◌, ◌^◌, ◌&&◌, Bool, true, false, cond, is_some, is_none, nat_le, List, [], ◌∷◌, length, Option, Result, Ok, Err, refl, sym, ap, subst, ◌∙◌, arith}
 use Rattle.disk_model.specs.World.{World, Image, LeavesOnly}
 use Rattle.disk_model.proofs.Moments.{within}
 use Rattle.page_face.specs.FreeList.{PageMap}
@@ -14,20 +14,22 @@ use Rattle.place_map.specs.declared.update.UpdateFault.{UpdateFault}
 use Rattle.place_map.specs.declared.update.UpdateFault.TheVariants as faults
 use Rattle.place_map.specs.State.{Contents, place_at, with_place, without_place}
 use Rattle.place_map.specs.Update.{Effect, effect_of, key_for, put_at, refuses, removed_at, serial_after}
+use Rattle.store_meaning.specs.Ahead.{StandAhead}
 use Rattle.store_meaning.specs.Stands.{PagesStand, Stands}
+use Rattle.store_meaning.proofs.Batches.{stand-ended}
 use Rattle.irtree_engine.specs.declared.fault.EngineFault.{EngineFault}
 use Rattle.irtree_engine.specs.declared.fault.EngineFault.TheVariants.{Disk, NotAStore, BadJournal, Damaged, Full, Worn, NoRoom, Stopped, Memory}
 use Rattle.irtree_engine.specs.Updates.{IsDueTo, IsLater, LeavesAllOrNone, LeavesOneOf, StandForOutcome, StandsForOutcome, accepted, state_after_all}
 
 -- Page 0's fields and the pages stand for the state after the first of some updates, from which those that are left go on.
-pub record AreUpdated (state : Contents) (updates left : List Update) (block : Superblock) (pages : PageMap) : Type 0 where
+pub record AreUpdated (held : Option (List (List ℕ × ℕ))) (state : Contents) (updates left : List Update) (block : Superblock) (pages : PageMap) : Type 0 where
   pub now : Contents
-  pub stand : PagesStand block pages now
+  pub stand : StandAhead held left block pages now
   pub goes_on : state_after_all state updates ≡ state_after_all now left
 
 -- at first all are left
-pub updated-none : (state : Contents) (updates : List Update) (block : Superblock) (pages : PageMap) → PagesStand block pages state → AreUpdated state updates updates block pages
-updated-none state updates block pages stand = record { now = state; stand = stand; goes_on = refl }
+pub updated-none : (held : Option (List (List ℕ × ℕ))) (state : Contents) (updates : List Update) (block : Superblock) (pages : PageMap) → StandAhead held updates block pages state → AreUpdated held state updates updates block pages
+updated-none held state updates block pages stand = record { now = state; stand = stand; goes_on = refl }
 
 -- an update that is accepted leaves those behind it
 accepted-rest : (state : Contents) (update : Update) (rest : List Update) (applied : Applied) → (effect_of state update).answer ≡ Ok applied → state_after_all state (update ∷ rest) ≡ state_after_all (effect_of state update).state rest
@@ -37,9 +39,13 @@ accepted-rest state update rest applied is = ap (λ (r : Result Applied UpdateFa
 refused-rest : (state : Contents) (update : Update) (rest : List Update) (fault : UpdateFault) → (effect_of state update).answer ≡ Err fault → state_after_all state (update ∷ rest) ≡ Err fault
 refused-rest state update rest fault is = ap (λ (r : Result Applied UpdateFault). accepted r (state_after_all (effect_of state update).state rest)) is
 
-module _ {state : Contents} {updates left : List Update} {block : Superblock} {pages : PageMap} (are : AreUpdated state updates left block pages) (update : Update) (rest : List Update) (is : left ≡ update ∷ rest) where
+module _ {held : Option (List (List ℕ × ℕ))} {state : Contents} {updates left : List Update} {block : Superblock} {pages : PageMap} (are : AreUpdated held state updates left block pages) (update : Update) (rest : List Update) (is : left ≡ update ∷ rest) where
+  -- the pages stand with the next update in front of those behind it
+  pub updated-next : StandAhead held (update ∷ rest) block pages are.now
+  updated-next = subst (λ (ls : List Update). StandAhead held ls block pages are.now) is are.stand
+
   -- after one more the pages stand for the state after it
-  pub updated-more : (after : Superblock) (pages_after : PageMap) (applied : Applied) → (effect_of are.now update).answer ≡ Ok applied → PagesStand after pages_after (effect_of are.now update).state → AreUpdated state updates rest after pages_after
+  pub updated-more : (after : Superblock) (pages_after : PageMap) (applied : Applied) → (effect_of are.now update).answer ≡ Ok applied → StandAhead held rest after pages_after (effect_of are.now update).state → AreUpdated held state updates rest after pages_after
   updated-more after pages_after applied answer stand = record {
     now = (effect_of are.now update).state;
     stand = stand;
@@ -59,8 +65,8 @@ module _ {state : Contents} {updates left : List Update} {block : Superblock} {p
   updated-due Memory due = tt
 
 -- where none is left the pages stand for the outcome
-pub updated-all : {state : Contents} {updates : List Update} {block : Superblock} {pages : PageMap} (left : List Update) → AreUpdated state updates left block pages → length left ≡ 0 → StandForOutcome (state_after_all state updates) block pages
-updated-all {state} {updates} {block} {pages} [] are none = subst (λ (r : Result Contents UpdateFault). StandForOutcome r block pages) (sym are.goes_on) are.stand
+pub updated-all : {held : Option (List (List ℕ × ℕ))} {state : Contents} {updates : List Update} {block : Superblock} {pages : PageMap} (left : List Update) → AreUpdated held state updates left block pages → length left ≡ 0 → StandForOutcome (state_after_all state updates) block pages
+updated-all {held} {state} {updates} {block} {pages} [] are none = subst (λ (r : Result Contents UpdateFault). StandForOutcome r block pages) (sym are.goes_on) (stand-ended held block pages are.now are.stand)
 updated-all (update ∷ rest) are none = absurd (omega (arith, none))
 
 -- pages that stand for an outcome stand for a state that came out

@@ -1,5 +1,5 @@
 -- What an update's tables and page 0's fields stand for, and what it answers.
-use Rattle.std.proofs.Common.{◌≡◌, ◌≢◌, ⊎_elim, inr, ℕ, zero, suc, ◌+◌, ◌*◌, ◌==◌, ◌&&◌, ◌<◌, ◌≤◌, ◌^◌, Bool, true, false, cond, not, is_some, is_none, nat_le, List, length, Option, Some, None, option_map, Ok, Err, refl, sym, ap, subst, ◌∙◌, eq-eqb, arith}
+use Rattle.std.proofs.Common.{◌≡◌, ◌≢◌, ⊎_elim, inr, ℕ, zero, suc, ◌+◌, ◌*◌, ◌==◌, ◌&&◌, ◌<◌, ◌≤◌, ◌^◌, Bool, true, false, cond, not, is_some, is_none, nat_le, List, ◌∷◌, length, Option, Some, None, option_map, Ok, Err, refl, sym, ap, subst, ◌∙◌, eq-eqb, arith}
 use Rattle.std.proofs.lemmas.Bool.{cases_lt, ne_eqb, le-leb, lt-leb}
 use Rattle.term_impacts.specs.Pairs.{IsWordMap}
 use Rattle.spatial_base.specs.Key.{Name}
@@ -11,6 +11,8 @@ use Rattle.page_store.specs.declared.superblock.Superblock.{Superblock}
 use Rattle.btree_nodes.specs.Supply.{view}
 use Rattle.place_map.specs.declared.place.Place.{Place}
 use Rattle.place_map.specs.declared.update.Applied.TheVariants.{New, Replaced, Gone, Absent}
+use Rattle.place_map.specs.declared.update.Update.{Update}
+use Rattle.place_map.specs.declared.update.Update.TheVariants.{Put, Remove}
 use Rattle.place_map.specs.declared.update.UpdateFault.TheVariants.{Full, Worn}
 use Rattle.place_map.specs.State.{IsSerialAbove}
 use Rattle.place_map.specs.State as states
@@ -25,9 +27,11 @@ use Rattle.store_tables.specs.declared.tables.Tables.{Tables}
 use Rattle.store_tables.specs.Entries.{place_of_key, without_place}
 use Rattle.store_tables.specs.Holding.{IsApart, IsChanged, numbers_form, places_form, table_uses, texts_form}
 use Rattle.store_tables.proofs.ToldLemmas.{apart-counted}
-use Rattle.store_meaning.specs.Stands.{PagesStand, tables_in}
-use Rattle.store_meaning.specs.Updates.{after_put, after_remove, by_number, numbered_for, stored_with}
-use Rattle.store_meaning.proofs.Changes.{lives-before, live-before, next-then, stand-put, stand-remove}
+use Rattle.store_meaning.specs.Ahead.{StandAhead, after_put_by, last_number, next_by, pairs_by}
+use Rattle.store_meaning.specs.Stands.{PagesStandFor, at_number, tables_in}
+use Rattle.store_meaning.specs.Updates.{after_remove, by_number, stored_with}
+use Rattle.store_meaning.proofs.Batches.{last-put, last-remove, next-by, stand-put-by, stand-remove-by}
+use Rattle.store_meaning.proofs.Changes.{lives-before, live-before}
 use Rattle.store_meaning.proofs.Places.{length-without_place}
 use Rattle.irtree_engine.specs.Changes.{block_with, head_with, tree_in}
 use Rattle.store_meaning.proofs.Trees.{root-used}
@@ -36,16 +40,16 @@ use Rattle.irtree_engine.proofs.Trees.{regrown-range}
 -- ---- the same pages
 
 -- pages that are the same stand for the same state
-pub stand-same : (head : Head) (p q : PageMap) (m n i j : ℕ) (state : states.Contents) → q ≡ p → n ≡ m → j ≡ i → PagesStand (block_with m i head) p state → PagesStand (block_with n j head) q state
-stand-same head p q m n i j state pages count first stand =
-    subst (λ (k : ℕ). PagesStand (block_with n k head) q state) (sym first)
-    (subst (λ (k : ℕ). PagesStand (block_with k i head) q state) (sym count)
-    (subst (λ (r : PageMap). PagesStand (block_with m i head) r state) (sym pages) stand))
+pub stand-same : (held : Option (List (List ℕ × ℕ))) (left : List Update) (head : Head) (p q : PageMap) (m n i j : ℕ) (state : states.Contents) → q ≡ p → n ≡ m → j ≡ i → StandAhead held left (block_with m i head) p state → StandAhead held left (block_with n j head) q state
+stand-same held left head p q m n i j state pages count first stand =
+    subst (λ (k : ℕ). StandAhead held left (block_with n k head) q state) (sym first)
+    (subst (λ (k : ℕ). StandAhead held left (block_with k i head) q state) (sym count)
+    (subst (λ (r : PageMap). StandAhead held left (block_with m i head) r state) (sym pages) stand))
 
 -- ---- roots
 
 -- a page that is used is counted, and so is page 0
-used-counted : (pages : PageMap) (count first : ℕ) (free : List ℕ) (tables : Tables) → IsApart (view pages count first free) tables → (n : ℕ) → (0 < n → 0 < table_uses pages tables n) → n < count
+pub used-counted : (pages : PageMap) (count first : ℕ) (free : List ℕ) (tables : Tables) → IsApart (view pages count first free) tables → (n : ℕ) → (0 < n → 0 < table_uses pages tables n) → n < count
 used-counted pages count first free tables apart zero used = apart.some
 used-counted pages count first free tables apart (suc m) used = ⊎_elim
     (λ (counted : suc m < count). counted)
@@ -54,12 +58,12 @@ used-counted pages count first free tables apart (suc m) used = ⊎_elim
 
 -- ---- page 0's fields
 
-module _ (old : Superblock) (range : IsInRange old) (pages : PageMap) (count first : ℕ) (tables : Tables) (live serial : ℕ) where
+module _ (old : Superblock) (last_before : ℕ) (range : IsInRange (at_number last_before old)) (pages : PageMap) (count first : ℕ) (tables : Tables) (live serial : ℕ) where
   -- after a change of the tables page 0's fields are in their ranges
-  after-range : (free : List ℕ) → IsApart (view pages count first free) tables → first < count → old.counted ≤ count → old.head.number < 2 ^ 40
-      → old.head.serial ≤ serial → serial ≤ old.head.number + 2 → old.head.next_word ≤ tables.next_word → tables.next_word ≤ 64 * (old.head.number + 1 + 1)
-      → IsInRange (block_with count first (head_with old.head tables (tree_in old.head) live serial))
-  after-range free apart counted more number later serials words next =
+  after-range : (free : List ℕ) → IsApart (view pages count first free) tables → first < count → old.counted ≤ count → (last : ℕ) → old.head.number + 1 ≤ last → last ≤ 2 ^ 40
+      → old.head.serial ≤ serial → serial ≤ old.head.number + 2 → old.head.next_word ≤ tables.next_word → tables.next_word ≤ 64 * (last + 1)
+      → IsInRange (at_number last (block_with count first (head_with old.head tables (tree_in old.head) live serial)))
+  after-range free apart counted more last above number later serials words next =
       let some = apart.some in
       let was = range.serial in
       let first_word = range.next_word in
@@ -74,7 +78,7 @@ module _ (old : Superblock) (range : IsInRange old) (pages : PageMap) (count fir
         rows = omega (arith, rows, more);
         tree = omega (arith, tree, more);
         serial = omega (arith, was, later);
-        serials = omega (arith, serials);
+        serials = omega (arith, serials, above);
         number = omega (arith, number);
         next_word = omega (arith, first_word, words);
         words = next;
@@ -101,7 +105,7 @@ remove-is state key lived worn l w =
     λ i. cond (not (l i)) (record { state = state; answer = Ok Absent }) (cond (w i) (refuses state Worn)
     (record { state = record { places = states.without_place key state.places; serial = state.serial; number = state.number + 1 }; answer = Ok Gone }))
 
-module _ (head : Head) (count first : ℕ) (pages : PageMap) (state : states.Contents) (stand : PagesStand (block_with count first head) pages state) (key : Name) (found : Option Stored) (is_found : found ≡ place_of_key key stand.entries.places) where
+module _ {claims : ℕ → ℕ → ℕ} {last : ℕ} (head : Head) (count first : ℕ) (pages : PageMap) (state : states.Contents) (stand : PagesStandFor claims last (block_with count first head) pages state) (key : Name) (found : Option Stored) (is_found : found ≡ place_of_key key stand.entries.places) where
   -- the key lives where it was found
   lives : is_some (states.place_at key state.places) ≡ is_some found
   lives = lives-before (block_with count first head) pages state stand key ∙ ap is_some (sym is_found)
@@ -208,45 +212,53 @@ module _ (head : Head) (count first : ℕ) (pages : PageMap) (state : states.Con
       at true lived = let one = counted-as true lived in let same : live ≡ head.live = is ∙ ap (λ b. cond (not b) (head.live + 1) head.live) lived in omega (arith, one, same)
       at false new = let none = counted-as false new in let more : live ≡ head.live + 1 = is ∙ ap (λ b. cond (not b) (head.live + 1) head.live) new in omega (arith, none, more)
 
-  -- below the last update number
-  below-last : head.number ≢ 2 ^ 40 → head.number < 2 ^ 40
-  below-last less = ⊎_elim (λ (below : head.number < 2 ^ 40). below) (λ (above : 2 ^ 40 ≤ head.number). absurd (less (let most = stand.tables.range.number in omega (arith, most, above)))) (cases_lt head.number (2 ^ 40))
+-- below the last update number
+below-last : (number : ℕ) → number ≤ 2 ^ 40 → number ≢ 2 ^ 40 → number < 2 ^ 40
+below-last number most less = ⊎_elim (λ (below : number < 2 ^ 40). below) (λ (above : 2 ^ 40 ≤ number). absurd (less (omega (arith, most, above)))) (cases_lt number (2 ^ 40))
 
-  module _ (between : PageMap) (count_between first_between : ℕ) (counted : first_between < count_between) (more : count ≤ count_between) (tables : Tables)
-      (after : PageMap) (count_after first_after : ℕ) (counted_after : first_after < count_after) (more_after : count_between ≤ count_after) (tree : Tree) where
-    -- after a put of the tables and then of the tree, page 0's fields and the pages stand for the state with the place
-    pub put-stands : (point : Position) (words : List (List ℕ × ℕ)) (serial live : ℕ) → IsWordMap words → (is_none found ≡ true → head.live < 200000) → head.live < 2 ^ 32 → head.number ≢ 2 ^ 40
-        → head.serial ≤ serial → serial ≤ head.number + 2 → IsSerialAbove serial key → live ≡ cond (is_none found) (head.live + 1) head.live
-        → tables.next_word ≡ (numbered_for key words head.next_word stand.entries).next_word
-        → (changed : IsChanged (view pages count first stand.tables.free) (tables_in head) between count_between first_between tables (after_put key point words head.next_word stand.entries))
-        → IsRegrown node_of (stock.view between head.rows count_between first_between changed.free) after tree.rows count_after first_after head.tree tree.root (option_map (entry_at key) found) (Some (entry_at key (stored_with point (by_number (numbered_for key words head.next_word stand.entries).pairs))))
-        → PagesStand (block_with count_after first_after (head_with head tables tree live serial)) after (put_at state key serial (record { point = point; words = words })).state
-    put-stands point words serial live map_of_words room small less later serials above lives_then next_is changed regrown =
-        let left = room-left room small in
-        let next = next-then (block_with count first head) pages state stand key point words map_of_words left in
-        let words_then : head.next_word ≤ tables.next_word = omega (arith, next.0, next_is) in
-        let words_most : tables.next_word ≤ 64 * (head.number + 1 + 1) = omega (arith, next.1, next_is) in
-        let range = after-range (block_with count first head) stand.tables.range between count_between first_between tables live serial changed.free changed.apart counted more (below-last less) later serials words_then words_most in
-        let within = regrown-range head tables live serial count_between first_between range (stock.view between head.rows count_between first_between changed.free) after count_after first_after tree (option_map (entry_at key) found) (Some (entry_at key (stored_with point (by_number (numbered_for key words head.next_word stand.entries).pairs)))) regrown more_after counted_after in
-        let gone : option_map (entry_at key) found ≡ option_map (entry_at key) (place_of_key key stand.entries.places) = ap (option_map (entry_at key)) is_found in
-        subst (λ (e : Effect). PagesStand (block_with count_after first_after (head_with head tables tree live serial)) after e.state) (sym (put-done serial (record { point = point; words = words }) room less))
-        (stand-put (block_with count first head) pages state stand key point words map_of_words left (block_with count_between first_between (head_with head tables (tree_in head) live serial)) between changed range refl refl next_is later above (counts-more live lives_then)
-        (block_with count_after first_after (head_with head tables tree live serial)) after
-        (subst (λ (item : Option Item). IsRegrown node_of (stock.view between head.rows count_between first_between changed.free) after tree.rows count_after first_after head.tree tree.root item (Some (entry_at key (stored_with point (by_number (numbered_for key words head.next_word stand.entries).pairs))))) gone regrown)
-        within (record { tables = refl; serial = refl; live = refl }))
+module _ (held : Option (List (List ℕ × ℕ))) (left : List Update) (head : Head) (count first : ℕ) (pages : PageMap) (state : states.Contents) (key : Name) (found : Option Stored) (most : head.number ≤ 2 ^ 40)
+    (between : PageMap) (count_between first_between : ℕ) (counted : first_between < count_between) (more : count ≤ count_between) (tables : Tables)
+    (after : PageMap) (count_after first_after : ℕ) (counted_after : first_after < count_after) (more_after : count_between ≤ count_after) (tree : Tree) where
+  -- after a put of the tables and then of the tree, page 0's fields and the pages stand for the state with the place
+  pub put-stands : (name : Option Name) (point : Position) (words : List (List ℕ × ℕ)) (serial live : ℕ) → (is : StandAhead held (Put name point words ∷ left) (block_with count first head) pages state) → (is_found : found ≡ place_of_key key is.stand.entries.places)
+      → IsWordMap words → (is_none found ≡ true → head.live < 200000) → head.live < 2 ^ 32 → head.number ≢ 2 ^ 40
+      → head.serial ≤ serial → serial ≤ head.number + 2 → IsSerialAbove serial key → live ≡ cond (is_none found) (head.live + 1) head.live
+      → tables.next_word ≡ next_by held key words head.next_word is.stand.entries
+      → (changed : IsChanged (view pages count first is.stand.tables.free) (tables_in head) between count_between first_between tables (after_put_by held key point words head.next_word is.stand.entries))
+      → IsRegrown node_of (stock.view between head.rows count_between first_between changed.free) after tree.rows count_after first_after head.tree tree.root (option_map (entry_at key) found) (Some (entry_at key (stored_with point (by_number (pairs_by held key words head.next_word is.stand.entries)))))
+      → StandAhead held left (block_with count_after first_after (head_with head tables tree live serial)) after (put_at state key serial (record { point = point; words = words })).state
+  put-stands name point words serial live is is_found map_of_words room small less later serials above lives_then next_is changed regrown =
+      let old = block_with count first head in
+      let spare = room-left head count first pages state is.stand key found is_found room small in
+      let next = next-by held left name key point words map_of_words old pages state is spare in
+      let words_then : head.next_word ≤ tables.next_word = omega (arith, next.0, next_is) in
+      let words_most : tables.next_word ≤ 64 * (last_number held left (head.number + 1) + 1) = omega (arith, next.1, next_is) in
+      let last = last-put held left name point words old pages state is (below-last head.number most less) in
+      let range = after-range old (last_number held (Put name point words ∷ left) head.number) is.stand.tables.range between count_between first_between tables live serial changed.free changed.apart counted more (last_number held left (head.number + 1)) last.0 last.1 later serials words_then words_most in
+      let within = regrown-range head (last_number held left (head.number + 1)) tables live serial count_between first_between range (stock.view between head.rows count_between first_between changed.free) after count_after first_after tree (option_map (entry_at key) found) (Some (entry_at key (stored_with point (by_number (pairs_by held key words head.next_word is.stand.entries))))) regrown more_after counted_after in
+      let gone : option_map (entry_at key) found ≡ option_map (entry_at key) (place_of_key key is.stand.entries.places) = ap (option_map (entry_at key)) is_found in
+      subst (λ (e : Effect). StandAhead held left (block_with count_after first_after (head_with head tables tree live serial)) after e.state) (sym (put-done head count first pages state is.stand key found is_found serial (record { point = point; words = words }) room less))
+      (stand-put-by held left name key point words map_of_words old pages state is spare (block_with count_between first_between (head_with head tables (tree_in head) live serial)) between changed range (omega (arith, serials)) refl refl next_is later above
+      (counts-more head count first pages state is.stand key found is_found live lives_then)
+      (block_with count_after first_after (head_with head tables tree live serial)) after
+      (subst (λ (item : Option Item). IsRegrown node_of (stock.view between head.rows count_between first_between changed.free) after tree.rows count_after first_after head.tree tree.root item (Some (entry_at key (stored_with point (by_number (pairs_by held key words head.next_word is.stand.entries)))))) gone regrown)
+      within (omega (arith, serials)) refl (record { tables = refl; serial = refl; live = refl }))
 
-    -- after a removal from the tables and then from the tree, they stand for the state without the place
-    pub remove-stands : (stored : Stored) (live : ℕ) → found ≡ Some stored → head.number ≢ 2 ^ 40 → live + 1 ≡ head.live → tables.next_word ≡ head.next_word
-        → (changed : IsChanged (view pages count first stand.tables.free) (tables_in head) between count_between first_between tables (after_remove key stand.entries))
-        → IsRegrown node_of (stock.view between head.rows count_between first_between changed.free) after tree.rows count_after first_after head.tree tree.root (Some (entry_at key stored)) None
-        → PagesStand (block_with count_after first_after (head_with head tables tree live head.serial)) after (removed_at state key).state
-    remove-stands stored live there less lives_then next_is changed regrown =
-        let some : is_some found ≡ true = ap is_some there in
-        let one = counted-as true some in
-        let most = stand.tables.range.words in
-        let serials = stand.tables.range.serials in
-        let range = after-range (block_with count first head) stand.tables.range between count_between first_between tables live head.serial changed.free changed.apart counted more (below-last less) (omega arith) (omega (arith, serials)) (omega (arith, next_is)) (omega (arith, next_is, most)) in
-        let within = regrown-range head tables live head.serial count_between first_between range (stock.view between head.rows count_between first_between changed.free) after count_after first_after tree (Some (entry_at key stored)) None regrown more_after counted_after in
-        subst (λ (e : Effect). PagesStand (block_with count_after first_after (head_with head tables tree live head.serial)) after e.state) (sym (remove-done some less))
-        (stand-remove (block_with count first head) pages state stand key (block_with count_between first_between (head_with head tables (tree_in head) live head.serial)) between changed range refl refl next_is refl (omega (arith, one, lives_then))
-        stored (sym is_found ∙ there) (block_with count_after first_after (head_with head tables tree live head.serial)) after regrown within (record { tables = refl; serial = refl; live = refl }))
+  -- after a removal from the tables and then from the tree, they stand for the state without the place
+  pub remove-stands : (stored : Stored) (live : ℕ) → (is : StandAhead held (Remove key ∷ left) (block_with count first head) pages state) → (is_found : found ≡ place_of_key key is.stand.entries.places)
+      → found ≡ Some stored → head.number ≢ 2 ^ 40 → live + 1 ≡ head.live → tables.next_word ≡ head.next_word
+      → (changed : IsChanged (view pages count first is.stand.tables.free) (tables_in head) between count_between first_between tables (after_remove key is.stand.entries))
+      → IsRegrown node_of (stock.view between head.rows count_between first_between changed.free) after tree.rows count_after first_after head.tree tree.root (Some (entry_at key stored)) None
+      → StandAhead held left (block_with count_after first_after (head_with head tables tree live head.serial)) after (removed_at state key).state
+  remove-stands stored live is is_found there less lives_then next_is changed regrown =
+      let old = block_with count first head in
+      let some : is_some found ≡ true = ap is_some there in
+      let one = counted-as head count first pages state is.stand key found is_found true some in
+      let serials = is.stand.tables.serials in
+      let last = last-remove held left key old pages state is (below-last head.number most less) in
+      let range = after-range old (last_number held (Remove key ∷ left) head.number) is.stand.tables.range between count_between first_between tables live head.serial changed.free changed.apart counted more (last_number held left (head.number + 1)) last.0 last.1
+      (omega arith) (omega (arith, serials)) (omega (arith, next_is)) (let words = last.2 in omega (arith, next_is, words)) in
+      let within = regrown-range head (last_number held left (head.number + 1)) tables live head.serial count_between first_between range (stock.view between head.rows count_between first_between changed.free) after count_after first_after tree (Some (entry_at key stored)) None regrown more_after counted_after in
+      subst (λ (e : Effect). StandAhead held left (block_with count_after first_after (head_with head tables tree live head.serial)) after e.state) (sym (remove-done head count first pages state is.stand key found is_found some less))
+      (stand-remove-by held left key old pages state is (block_with count_between first_between (head_with head tables (tree_in head) live head.serial)) between changed range refl refl next_is refl (omega (arith, one, lives_then)) (omega arith)
+      stored (sym is_found ∙ there) (block_with count_after first_after (head_with head tables tree live head.serial)) after regrown within (omega (arith, serials)) refl (record { tables = refl; serial = refl; live = refl }))

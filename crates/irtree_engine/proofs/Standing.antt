@@ -30,7 +30,7 @@ use Rattle.irtree_engine.specs.declared.fault.EngineFault.TheVariants.{Damaged}
 use Rattle.irtree_engine.specs.Faults.{fault_of_pages}
 use Rattle.irtree_engine.specs.Queries.{contents_held}
 use Rattle.place_map.specs.State as states
-use Rattle.store_meaning.specs.Stands.{PagesStand, Stands, tables_in}
+use Rattle.store_meaning.specs.Stands.{PagesStand, PagesStandFor, Stands, tables_in}
 use Rattle.store_meaning.proofs.Images.{area-one}
 
 -- where nothing waits to be committed, the pages stand for what the image stands for
@@ -65,8 +65,8 @@ store-told tells area overlay count told sized n some lt =
     long (Some page) is = ap (λ (o : Option (List ℕ)). length (first_of o (page_bytes area n))) is ∙ sized n page is
 
 -- each page that the tables use is counted
-pub stand-counted : {block : Superblock} {pages : PageMap} {state : states.Contents} → (stand : PagesStand block pages state) → AreCounted (table_uses pages (tables_in block.head)) block.counted
-stand-counted {block} {pages} stand = apart-counted (view pages block.counted block.first_free stand.tables.free) (tables_in block.head) stand.tables.apart
+pub stand-counted : {claims : ℕ → ℕ → ℕ} {last : ℕ} {block : Superblock} {pages : PageMap} {state : states.Contents} → (stand : PagesStandFor claims last block pages state) → AreCounted (table_uses pages (tables_in block.head)) block.counted
+stand-counted {claims} {last} {block} {pages} stand = apart-counted (view pages block.counted block.first_free stand.tables.free) (tables_in block.head) stand.tables.apart
 
 -- each number of each place has a word
 pub stand-known : {block : Superblock} {pages : PageMap} {state : states.Contents} → (stand : PagesStand block pages state) → AreAllKnown stand.entries.numbers stand.entries.places

@@ -18,14 +18,14 @@ use Rattle.node_rows.specs.declared.roots.Tree.{Tree}
 use Rattle.store_tables.specs.declared.tables.Tables.{Tables}
 use Rattle.store_tables.specs.Entries.{Entries, place_of_key}
 use Rattle.store_tables.specs.Holding.{IsChanged}
-use Rattle.store_meaning.specs.Stands.{PagesStand, TreeStands, tables_in}
+use Rattle.store_meaning.specs.Stands.{PagesStandFor, TreeStands, at_number, tables_in}
 use Rattle.store_meaning.proofs.Maps.{ascending-holds}
 use Rattle.store_meaning.proofs.Sums.{place-has}
 use Rattle.store_meaning.proofs.Tables.{others-apart}
 use Rattle.store_meaning.proofs.Trees.{stands-whole, tree-kept, whole-root, whole-rows}
 use Rattle.irtree_engine.specs.Changes.{block_with, head_with, tree_in}
 
-module _ (old : Superblock) (pages : PageMap) (state : states.Contents) (stand : PagesStand old pages state) (between : PageMap) (count first : ℕ) (tables : Tables) (entries : Entries)
+module _ {claims : ℕ → ℕ → ℕ} {last : ℕ} (old : Superblock) (pages : PageMap) (state : states.Contents) (stand : PagesStandFor claims last old pages state) (between : PageMap) (count first : ℕ) (tables : Tables) (entries : Entries)
     (changed : IsChanged (view pages old.counted old.first_free stand.tables.free) (tables_in old.head) between count first tables entries) where
   -- a change of the tables leaves the tree's pages
   pub tree-stays : TreeStands old.head between stand.entries stand.others
@@ -51,10 +51,10 @@ module _ (old : Superblock) (pages : PageMap) (state : states.Contents) (stand :
       place-has old.head between stand.entries stand.others key stored tree-stays stand.tables.holds.places.each (ascending-holds pages (tables_in old.head) stand.entries stand.tables.holds).places (sym is)
 
 -- page 0's fields with the roots of a tree that grew out of the one before are in their ranges
-pub regrown-range : (old : Head) (tables : Tables) (live serial count first : ℕ) → IsInRange (block_with count first (head_with old tables (tree_in old) live serial)) → (before : stock.View) (after : PageMap) (count_after first_after : ℕ) (tree : Tree) (taken put : Option Item)
+pub regrown-range : (old : Head) (last : ℕ) (tables : Tables) (live serial count first : ℕ) → IsInRange (at_number last (block_with count first (head_with old tables (tree_in old) live serial))) → (before : stock.View) (after : PageMap) (count_after first_after : ℕ) (tree : Tree) (taken put : Option Item)
     → IsRegrown node_of before after tree.rows count_after first_after old.tree tree.root taken put → count ≤ count_after → first_after < count_after
-    → IsInRange (block_with count_after first_after (head_with old tables tree live serial))
-regrown-range old tables live serial count first range before after count_after first_after tree taken put regrown more counted =
+    → IsInRange (at_number last (block_with count_after first_after (head_with old tables tree live serial)))
+regrown-range old last tables live serial count first range before after count_after first_after tree taken put regrown more counted =
     let counted_before = range.counted in
     let places = range.places in
     let texts = range.texts in

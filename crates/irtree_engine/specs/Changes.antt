@@ -13,6 +13,10 @@ block_with count first head = record { counted = count; first_free = first; head
 abbrev pub tree_in : Head → Tree
 tree_in head = record { root = head.tree; rows = head.rows }
 
+-- the head after a change of the tables that is no update's: their roots, and the next word number
+abbrev pub head_at : Head → Tables → Head
+head_at head tables = record head { places = tables.places; texts = tables.texts; numbers = tables.numbers; next_word = tables.next_word }
+
 -- the head after a change: the roots of the tables and of the tree, the live places, the next serial, and the update number raised by one
 abbrev pub head_with : Head → Tables → Tree → ℕ → ℕ → Head
 head_with head tables tree live serial =
@@ -28,8 +32,9 @@ head_with head tables tree live serial =
       next_word = tables.next_word;
     }
 
--- the numbers of page 0 that an update raises are at most what so many updates have made of them
+-- The numbers of page 0 that an update raises are at most what updates make of them; a batch that holds its words ahead raises the next
+-- word number first.
 pub record AreHeadNumbers (head : Head) : Type 0 where
   pub number : head.number ≤ 2 ^ 40
   pub serial : head.serial ≤ head.number + 1
-  pub words : head.next_word ≤ 64 * (head.number + 1)
+  pub words : head.next_word ≤ 64 * (2 ^ 40 + 1)

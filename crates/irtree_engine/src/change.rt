@@ -1,26 +1,31 @@
-//! One update of the tables, the tree and page 0's fields, over any pages.
-ghost use Rattle.std.specs.Prelude.{◌≡◌, ℕ, ◌≤◌, ◌<◌, ◌+◌, ◌^◌, ◌↔◌, Ok, IsTrue, IfOk, IfErr, OnOk, IsErrOf, length};
+//! One update, or a batch of them, of the tables, the tree and page 0's fields, over any pages.
+ghost use Rattle.std.specs.Prelude.{◌≡◌, ℕ, ◌≤◌, ◌<◌, ◌+◌, ◌^◌, ◌↔◌, List, ◌∷◌, Option, Ok, IsTrue, IfOk, IfErr, OnOk, IsErrOf, length, option_map};
 ghost use Rattle.std.specs.List.{AllByRecursion};
 ghost use Rattle.page_face.specs.Causes.{Rose};
 ghost use Rattle.btree_nodes.specs.Damages.{AreTold};
 ghost use Rattle.place_map.specs.State.{Contents, IsSerialAbove};
-ghost use Rattle.place_map.specs.Update.{NamesText, effect_of, key_for, put_at, removed_at, serial_after};
+ghost use Rattle.spatial_base.specs.Key.{Name};
+ghost use Rattle.place_map.specs.declared.update.Update.{Update};
+ghost use Rattle.place_map.specs.declared.update.Update.TheVariants.{Put, Remove};
+ghost use Rattle.place_map.specs.Update.{effect_of, key_for, put_at, removed_at, serial_after, NamesText};
+ghost use Rattle.store_meaning.specs.Ahead.{StandAhead};
 ghost use Rattle.store_meaning.specs.Stands.{PagesStand, tables_in};
 ghost use Rattle.irtree_engine.specs.Updates.{IsUpdateFault, IsDueTo, IsAtLimit, StandForOutcome, state_after_all};
-ghost use Rattle.irtree_engine.specs.Changes.{block_with, head_with, tree_in, AreHeadNumbers};
+ghost use Rattle.irtree_engine.specs.Changes.{block_with, head_at, head_with, tree_in, AreHeadNumbers};
 
 use crate::EngineFault;
 use crate::fault::broken_by_head;
 use node_inverted::Tree;
 use page_face::{Head, Pages, Rule};
 use place_map::{Applied, NUMBER_MAX, PLACES_MAX, Update};
-use place_updates::{put_place, remove_place};
+use place_updates::{gather_words, hold_words, put_in_batch, remove_place};
 use row_codec::PAIRS_MAX;
 use spatial_base::{Key, Point};
 use split_policy::SplitPolicy;
 use std::alloc::Global;
+use std::collections::BTreeMap;
 use store_tables::Tables;
-use term_impacts::Words;
+use term_impacts::{Word, Words};
 use tree_updates::{put_entry, take_entry};
 
 /// Changes the tables, the tree and page 0's fields by one update. A key that a Put names is a text key.
@@ -53,21 +58,15 @@ pub(crate) fn update<P: Pages>(
     ensures goes_on { P.is_stopped pages.new ≡ P.is_stopped pages.old }
     ensures follows { P.follows_from pages.old pages.new }
 {
-    if !are_in_range(head) {
-        return Err(EngineFault::Damaged(broken_by_head(Rule::Head)));
-    }
-    match update {
-        Update::Put { key, point, words } => {
-            let (key, serial) = named(head, key);
-            put(alloc, pages, head, policy, &key, serial, *point, words)
-        }
-        Update::Remove { key } => remove(alloc, pages, head, policy, key),
-    }
+    update_in_batch(alloc, pages, head, policy, update, &None)
 }
 
 /// Changes the tables, the tree and page 0's fields by all updates, one after another. A key that a Put names is a text key.
 ///
 /// Refuses as [`update`], for the first one that is refused.
+///
+/// Holds the words of all Puts first, each once by as many places as are to hold it, unless a place or an update number may be wanting.
+/// So a word of a batch costs a look-up by text, a look-up by number and one or two puts, however many places hold it.
 pub(crate) fn update_all<P: Pages>(
     alloc: Global,
     pages: &mut P,
@@ -93,12 +92,56 @@ pub(crate) fn update_all<P: Pages>(
     ensures goes_on { P.is_stopped pages.new ≡ P.is_stopped pages.old }
     ensures follows { P.follows_from pages.old pages.new }
 {
+    let held = hold_ahead(alloc, pages, head, updates)?;
     let mut left = updates;
     while let Some((next, rest)) = left.split_first() {
-        update(alloc, pages, head, policy, next)?;
+        update_in_batch(alloc, pages, head, policy, next, &held)?;
         left = rest;
     }
     Ok(())
+}
+
+// As `update`, for one update of a batch: `held` has the numbers of the words of this update and of those behind it, where they were
+// held ahead.
+fn update_in_batch<P: Pages>(
+    alloc: Global,
+    pages: &mut P,
+    head: &mut Head,
+    policy: &mut dyn SplitPolicy,
+    update: &Update,
+    held: &Option<BTreeMap<Word, u64>>,
+) -> Result<Applied, EngineFault>
+    requires { NamesText update.now }
+    ensures updated { (state : Contents) (left : List Update) → StandAhead (option_map (λ numbers. numbers.entries) held.now) (update.now ∷ left) (block_with (P.count pages.old) (P.first pages.old) head.old) (P.pages pages.old) state
+        → IfOk result (λ applied. ((effect_of state update.now).answer ≡ Ok applied)
+        × StandAhead (option_map (λ numbers. numbers.entries) held.now) left (block_with (P.count pages.new) (P.first pages.new) head.new) (P.pages pages.new) (effect_of state update.now).state) }
+    ensures due { (state : Contents) (left : List Update) → StandAhead (option_map (λ numbers. numbers.entries) held.now) (update.now ∷ left) (block_with (P.count pages.old) (P.first pages.old) head.old) (P.pages pages.old) state
+        → AreTold (P.pages pages.old) (P.count pages.old) → IfErr result (IsDueTo (effect_of state update.now).answer) }
+    ensures limits { IfErr result (IsAtLimit head.old.live head.old.number) }
+    ensures causes { IfErr result IsUpdateFault }
+    ensures one_more { (head.new.live ≤ head.old.live + 1) × (head.new.number ≤ head.old.number + 1) }
+    ensures disk { IsErrOf result EngineFault.Disk → Rose (P.faults pages.old) (P.faults pages.new) }
+    ensures no_room { IsErrOf result EngineFault.NoRoom → Rose (P.refused pages.old) (P.refused pages.new) }
+    ensures stopped { IsErrOf result EngineFault.Stopped → IsTrue (P.is_stopped pages.old) }
+
+    ensures room { P.room pages.new ≡ P.room pages.old }
+    ensures faults { P.faults pages.old ≤ P.faults pages.new }
+    ensures refused { P.refused pages.old ≤ P.refused pages.new }
+    ensures goes_on { P.is_stopped pages.new ≡ P.is_stopped pages.old }
+    ensures follows { P.follows_from pages.old pages.new }
+{
+    if !are_in_range(head) {
+        return Err(EngineFault::Damaged(broken_by_head(Rule::Head)));
+    }
+    match update {
+        Update::Put { key, point, words } => {
+            let (key, serial) = named(head, key);
+            put(
+                alloc, pages, head, policy, &key, serial, *point, words, held,
+            )
+        }
+        Update::Remove { key } => remove(alloc, pages, head, policy, key, held),
+    }
 }
 
 // Whether the serial, the update number and the next word number are in their ranges. A store refuses others as it opens.
@@ -107,7 +150,66 @@ fn are_in_range(head: &Head) -> bool
 {
     head.number <= NUMBER_MAX
         && head.serial <= head.number + 1
-        && head.next_word <= 64 * (head.number + 1)
+        && head.next_word <= 64 * (NUMBER_MAX + 1)
+}
+
+// Whether there are a place and an update number for each of so many updates, so that none is refused for want of them.
+fn has_room_for(head: &Head, updates: usize) -> bool
+    ensures { IsTrue result ↔ ((head.now.live + updates ≤ 200000) × (head.now.number + updates ≤ 2 ^ 40)) }
+{
+    updates <= PLACES_MAX
+        && head.live as usize <= PLACES_MAX - updates
+        && head.number <= NUMBER_MAX - updates as u64
+}
+
+// Holds the words of the Puts ahead, where there is room for all updates, and answers the words' numbers then.
+fn hold_ahead<P: Pages>(
+    alloc: Global,
+    pages: &mut P,
+    head: &mut Head,
+    updates: &[Update],
+) -> Result<Option<BTreeMap<Word, u64>>, EngineFault>
+    ensures begun { (state : Contents) → PagesStand (block_with (P.count pages.old) (P.first pages.old) head.old) (P.pages pages.old) state
+        → IfOk result (λ held. StandAhead (option_map (λ numbers. numbers.entries) held) updates.now (block_with (P.count pages.new) (P.first pages.new) head.new) (P.pages pages.new) state) }
+    ensures due { (state : Contents) → PagesStand (block_with (P.count pages.old) (P.first pages.old) head.old) (P.pages pages.old) state
+        → AreTold (P.pages pages.old) (P.count pages.old) → IfErr result (IsDueTo (state_after_all state updates.now)) }
+    ensures limits { IfErr result (IsAtLimit (head.old.live + length updates.now) (head.old.number + length updates.now)) }
+    ensures causes { IfErr result IsUpdateFault }
+    ensures same { (head.new.live ≡ head.old.live) × (head.new.number ≡ head.old.number) }
+    ensures disk { IsErrOf result EngineFault.Disk → Rose (P.faults pages.old) (P.faults pages.new) }
+    ensures no_room { IsErrOf result EngineFault.NoRoom → Rose (P.refused pages.old) (P.refused pages.new) }
+    ensures stopped { IsErrOf result EngineFault.Stopped → IsTrue (P.is_stopped pages.old) }
+
+    ensures room { P.room pages.new ≡ P.room pages.old }
+    ensures faults { P.faults pages.old ≤ P.faults pages.new }
+    ensures refused { P.refused pages.old ≤ P.refused pages.new }
+    ensures goes_on { P.is_stopped pages.new ≡ P.is_stopped pages.old }
+    ensures follows { P.follows_from pages.old pages.new }
+{
+    if !are_in_range(head) {
+        return Err(EngineFault::Damaged(broken_by_head(Rule::Head)));
+    }
+    if !has_room_for(head, updates.len()) {
+        return Ok(None);
+    }
+    let counts = gather_words(alloc, updates)?;
+    let mut tables = tables_of(head);
+    let numbers = hold_words(alloc, pages, &mut tables, &counts)?;
+    *head = head_between(head, &tables);
+    Ok(Some(numbers))
+}
+
+// Page 0's fields after a change of the tables before an update.
+fn head_between(head: &Head, tables: &Tables) -> Head
+    ensures { result ≡ head_at head.now tables.now }
+{
+    Head {
+        places: tables.places,
+        texts: tables.texts,
+        numbers: tables.numbers,
+        next_word: tables.next_word,
+        ..*head
+    }
 }
 
 // The key under which a place is put, and the next serial then.
@@ -172,13 +274,14 @@ fn put<P: Pages>(
     serial: u64,
     point: Point,
     words: &Words,
+    held: &Option<BTreeMap<Word, u64>>,
 ) -> Result<Applied, EngineFault>
     requires range { AreHeadNumbers head.old }
-    ensures updated { (state : Contents) → PagesStand (block_with (P.count pages.old) (P.first pages.old) head.old) (P.pages pages.old) state
+    ensures updated { (state : Contents) (name : Option Name) (left : List Update) → StandAhead (option_map (λ numbers. numbers.entries) held.now) (Put name point words.now ∷ left) (block_with (P.count pages.old) (P.first pages.old) head.old) (P.pages pages.old) state
         → head.old.serial ≤ serial → serial ≤ head.old.number + 2 → IsSerialAbove serial key.now
         → IfOk result (λ applied. ((put_at state key.now serial (record { point = point; words = words.now })).answer ≡ Ok applied)
-        × PagesStand (block_with (P.count pages.new) (P.first pages.new) head.new) (P.pages pages.new) (put_at state key.now serial (record { point = point; words = words.now })).state) }
-    ensures due { (state : Contents) → PagesStand (block_with (P.count pages.old) (P.first pages.old) head.old) (P.pages pages.old) state
+        × StandAhead (option_map (λ numbers. numbers.entries) held.now) left (block_with (P.count pages.new) (P.first pages.new) head.new) (P.pages pages.new) (put_at state key.now serial (record { point = point; words = words.now })).state) }
+    ensures due { (state : Contents) (name : Option Name) (left : List Update) → StandAhead (option_map (λ numbers. numbers.entries) held.now) (Put name point words.now ∷ left) (block_with (P.count pages.old) (P.first pages.old) head.old) (P.pages pages.old) state
         → AreTold (P.pages pages.old) (P.count pages.old) → IfErr result (IsDueTo (put_at state key.now serial (record { point = point; words = words.now })).answer) }
     ensures limits { IfErr result (IsAtLimit head.old.live head.old.number) }
     ensures causes { IfErr result IsUpdateFault }
@@ -204,7 +307,16 @@ fn put<P: Pages>(
     }
     // So the next word number keeps its range.
     prove!(words.pairs().len() <= PAIRS_MAX);
-    let new = put_place(alloc, pages, &mut tables, key, old.as_ref(), point, words)?;
+    let new = put_in_batch(
+        alloc,
+        pages,
+        &mut tables,
+        key,
+        old.as_ref(),
+        point,
+        words,
+        held,
+    )?;
     let mut tree = tree_of(head);
     put_entry(alloc, pages, &mut tree, policy, key, old.as_ref(), &new)?;
     let live = if is_new { head.live + 1 } else { head.live };
@@ -223,12 +335,13 @@ fn remove<P: Pages>(
     head: &mut Head,
     policy: &mut dyn SplitPolicy,
     key: &Key,
+    held: &Option<BTreeMap<Word, u64>>,
 ) -> Result<Applied, EngineFault>
     requires range { AreHeadNumbers head.old }
-    ensures updated { (state : Contents) → PagesStand (block_with (P.count pages.old) (P.first pages.old) head.old) (P.pages pages.old) state
+    ensures updated { (state : Contents) (left : List Update) → StandAhead (option_map (λ numbers. numbers.entries) held.now) (Remove key.now ∷ left) (block_with (P.count pages.old) (P.first pages.old) head.old) (P.pages pages.old) state
         → IfOk result (λ applied. ((removed_at state key.now).answer ≡ Ok applied)
-        × PagesStand (block_with (P.count pages.new) (P.first pages.new) head.new) (P.pages pages.new) (removed_at state key.now).state) }
-    ensures due { (state : Contents) → PagesStand (block_with (P.count pages.old) (P.first pages.old) head.old) (P.pages pages.old) state
+        × StandAhead (option_map (λ numbers. numbers.entries) held.now) left (block_with (P.count pages.new) (P.first pages.new) head.new) (P.pages pages.new) (removed_at state key.now).state) }
+    ensures due { (state : Contents) (left : List Update) → StandAhead (option_map (λ numbers. numbers.entries) held.now) (Remove key.now ∷ left) (block_with (P.count pages.old) (P.first pages.old) head.old) (P.pages pages.old) state
         → AreTold (P.pages pages.old) (P.count pages.old) → IfErr result (IsDueTo (removed_at state key.now).answer) }
     ensures limits { IfErr result (IsAtLimit head.old.live head.old.number) }
     ensures causes { IfErr result IsUpdateFault }

@@ -90,8 +90,10 @@ impl<'d, D: Station> Engine<'d, D> {
 
     /// Stores all updates in one commit, or none. There are at most 10,000, and a key that a Put names is a text key; of none nothing is stored.
     ///
-    /// Refuses as [`Engine::apply`], for the first update that meets a cause; then none is stored. Costs as much as each update by
-    /// itself, in the tables and in the tree, with one commit of the pages that changed.
+    /// Refuses as [`Engine::apply`], for the first update that meets a cause; then none is stored. Costs in the place table and in the
+    /// tree as much as each update by itself, with one commit of the pages that changed. A word of the batch costs a look-up and one or
+    /// two puts in the tables of words, however many of its places hold it, and each word of a place that is replaced or removed a
+    /// look-up and a put.
     pub fn apply_batch(&mut self, updates: &[Update]) -> Result<(), EngineFault>
         requires few { length updates.now ≤ 10000 }
         requires keys { AllByRecursion NamesText updates.now }

@@ -193,7 +193,7 @@ fn hold_all(pages: &mut MemoryPages, tables: &mut Tables) -> Result<bool, PageFa
         if tables.next_word >= 100 {
             return Ok(false);
         }
-        are_so &= tables.hold(pages, &word)? == number;
+        are_so &= tables.hold(pages, &word, 1)? == number;
     }
     Ok(are_so)
 }
@@ -240,8 +240,8 @@ fn tables_of_words_that_disagree_are_damaged(rt: HostRuntime) -> Result<(), Fail
         next_word: 7,
         ..both
     };
-    assert!(rt; no_number.hold(&mut pages, &cafe) == Err(DISAGREEMENT));
-    assert!(rt; next_is_known.hold(&mut pages, &cafe) == Err(DISAGREEMENT));
-    assert_eq!(rt; both.hold(&mut pages, &cafe)?, 7);
+    assert!(rt; no_number.hold(&mut pages, &cafe, 1) == Err(DISAGREEMENT));
+    assert!(rt; next_is_known.hold(&mut pages, &cafe, 1) == Err(DISAGREEMENT));
+    assert_eq!(rt; both.hold(&mut pages, &cafe, 1)?, 7);
     Ok(())
 }

@@ -1,3 +1,5 @@
+pub mod Counting
+pub mod Heldputs
 pub mod Known
 pub mod Numbers
 pub mod Turns

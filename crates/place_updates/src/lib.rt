@@ -4,8 +4,14 @@
 //! words. A place row names its words by number, and each number is read through the words by number. A place that is put
 //! holds each of its words, and a new word is given the next number; a word that no place holds any more goes. What an update
 //! does to the tables is defined in `store_meaning/specs/Updates.antt`. On any other pages a call is safe and ends.
+//!
+//! The words of a batch are gathered ([`gather_words`]) and held ahead, each once by as many places as put it ([`hold_words`]); then
+//! [`put_in_batch`] puts each place by the numbers in memory (`store_meaning/specs/Ahead.antt`).
 #![tactic(auto)]
 
+mod ahead;
+mod gathering;
+mod held;
 mod numbering;
 mod pairs;
 mod place;
@@ -14,6 +20,9 @@ mod releasing;
 mod removing;
 mod words;
 
+pub use ahead::hold_words;
+pub use gathering::gather_words;
+pub use held::{put_held, put_in_batch};
 pub use place::place_at;
 pub use putting::put_place;
 pub use removing::remove_place;

@@ -42,7 +42,7 @@ fn take_hold<P: Pages>(
     if has_pair(number, old) {
         return Ok(number);
     }
-    tables.hold_numbered(pages, word, found)
+    tables.hold_numbered(pages, word, found, 1)
 }
 
 /// Numbers the words in their order, and maps each number to the word's impact. One place more holds each word whose number

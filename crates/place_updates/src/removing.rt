@@ -6,7 +6,8 @@ ghost use Rattle.btree_nodes.specs.Damages.{AreTold};
 ghost use Rattle.row_codec.specs.Stored.{IsStored};
 ghost use Rattle.store_tables.specs.Entries.{Entries, place_of_key};
 ghost use Rattle.store_tables.specs.Holding.{Holds, IsApart, IsChanged};
-ghost use Rattle.store_tables.specs.Words.{WordsAgree};
+ghost use Rattle.store_tables.specs.Words.{WordTablesAgree, holders};
+ghost use Rattle.store_meaning.specs.Stands.{IsCounting};
 ghost use Rattle.store_meaning.specs.Updates.{after_remove};
 
 use crate::pairs::held_pairs;
@@ -32,9 +33,10 @@ pub fn remove_place<P: Pages>(
         → OnOk result (IsChanged (view (P.pages pages.old) (P.count pages.old) (P.first pages.old) free) tables.old
         (P.pages pages.new) (P.count pages.new) (P.first pages.new) tables.new (after_remove key.now entries)) }
 
-    // On tables that agree no damage is found.
+    // On tables that agree with the places, and with what is held ahead beside them, no damage is found.
     ensures honest { (entries : Entries) (free : List ℕ) → Holds (P.pages pages.old) tables.old entries → IsApart (view (P.pages pages.old) (P.count pages.old) (P.first pages.old) free) tables.old
-        → place_of_key key.now entries.places ≡ Some old.now → WordsAgree entries tables.old.next_word
+        → place_of_key key.now entries.places ≡ Some old.now
+        → (claims : ℕ → ℕ → ℕ) → IsCounting claims → WordTablesAgree (λ n. claims n (holders n entries.places)) entries.texts entries.numbers tables.old.next_word
         → AreTold (P.pages pages.old) (P.count pages.old) → (damage : Damage) → ¬ IsErrOf result (PageFault.Damaged damage) }
     ensures next { tables.new.next_word ≡ tables.old.next_word }
     ensures kept { OnErr result (tables.new ≡ tables.old) }

@@ -20,7 +20,7 @@ use store_tables::{Stored, Tables};
 use term_impacts::{Word, Words};
 
 /// The fault of words whose tables disagree.
-fn disagree() -> PageFault
+pub(crate) fn disagree() -> PageFault
     ensures { result ≡ PageFault.Damaged words_disagree }
 {
     PageFault::Damaged(Damage {

@@ -43,7 +43,7 @@ fn store_one(alloc: Global, station: &mut MemoryStation) -> Result<(), Fail> {
         next_word: 1,
     };
     let word = one_word(alloc, "café")?.ok_or("no word")?;
-    let number = tables.hold(&mut store, &word)?;
+    let number = tables.hold(&mut store, &word, 1)?;
     let mut stored = Stored {
         point: Point::new(-1, 2).ok_or("off the map")?,
         count: 1,

@@ -8,9 +8,10 @@ use Rattle.spatial_base.specs.Point.{Position}
 use Rattle.row_codec.specs.Pairs.{Pair}
 use Rattle.store_tables.specs.Coded.{IsPlaceEntry}
 use Rattle.store_tables.specs.Entries.{Entries, number_of_word, place_of_key, with_place, without_place, word_cmp}
-use Rattle.store_tables.specs.Words.{WordsAgree, holders, next_after, number_for, with_hold, without_hold}
+use Rattle.store_tables.specs.Words.{WordTablesAgree, WordsAgree, holders, next_after, number_for, with_hold, without_hold}
 use Rattle.store_tables.proofs.WordLemmas.{can_release-agree}
 use Rattle.store_meaning.proofs.Steps.{claimed_beside, AreApart, AreAscending, IsNumbering, IsReleasing}
+use Rattle.store_meaning.specs.Stands.{IsCounting}
 use Rattle.store_meaning.specs.Updates.{Numbered, CanNumber, CanReleaseAll, by_number, has_pair, numbered_for, pairs_of, stored_with}
 use Rattle.store_meaning.proofs.Numbers.{numbering-held, numbering-hold, numbering-room, numbering-start}
 use Rattle.store_meaning.proofs.Pairs.{has_pair-by_number}
@@ -73,7 +74,8 @@ module _ (key : Name) (entries : Entries) (next_word : ℕ) (agree : WordsAgree 
       can_release-same now.pairs (by_number now.pairs) old then (λ n. sym (has_pair-by_number n now.pairs))
       (can-release _ now.pairs then now.next_word old then (apart-old key entries.places each) (put-releasing key point words entries next_word agree ascend each map_of_words room numbers_left))
 
-  -- the words of a place that was taken out can be released
-  pub can-release-without : CanReleaseAll [] (pairs_of (place_of_key key entries.places)) (record entries { places = without_place key entries.places })
-  can-release-without =
-      can-release (λ n. holders n (without_place key entries.places)) [] _ next_word (pairs_of (place_of_key key entries.places)) _ (apart-old key entries.places each) (releasing-without key entries next_word agree ascend)
+-- the words of a place that was taken out can be released
+pub can-release-without : (claims : ℕ → ℕ → ℕ) → IsCounting claims → (key : Name) (entries : Entries) (next_word : ℕ) → WordTablesAgree (λ n. claims n (holders n entries.places)) entries.texts entries.numbers next_word → AreAscending entries → All IsPlaceEntry entries.places
+    → CanReleaseAll [] (pairs_of (place_of_key key entries.places)) (record entries { places = without_place key entries.places })
+can-release-without claims counting key entries next_word agree ascend each =
+    can-release (λ n. claims n (holders n (without_place key entries.places))) [] _ next_word (pairs_of (place_of_key key entries.places)) _ (apart-old key entries.places each) (releasing-without claims counting key entries next_word agree ascend)

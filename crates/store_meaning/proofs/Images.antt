@@ -101,6 +101,7 @@ uncounted-one count n behind = ap (λ b. cond b 0 1) (le-ltb n count behind)
 empty-tables : (pages : PageMap) → TablesStand empty_store pages (λ n. 0) no_entries
 empty-tables pages = record {
   range = empty-range;
+  serials = omega arith;
   free = [];
   holds = empty-holds pages;
   apart = record { supplied = refl; once = λ n. few_uncounted n; away = refl; some = omega arith };

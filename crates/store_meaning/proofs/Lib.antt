@@ -1,4 +1,7 @@
+pub mod Batches
 pub mod Changes
+pub mod Gathered
+pub mod Held
 pub mod Images
 pub mod Maps
 pub mod Numbers

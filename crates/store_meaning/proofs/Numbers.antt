@@ -12,7 +12,7 @@ use Rattle.std.specs.declared.cmp.Ordering.TheVariants.{Less, Equal}
 use Rattle.row_codec.specs.declared.counted.Counted.{Counted}
 use Rattle.row_codec.specs.Pairs.{Pair}
 use Rattle.store_tables.specs.Entries.{Entries, word_cmp, number_of_word, word_of_number}
-use Rattle.store_tables.specs.Words.{WordTablesAgree, CanHold, IsHoldable, claimed_more, next_after, number_for, places_of_number, texts_after, with_hold}
+use Rattle.store_tables.specs.Words.{WordTablesAgree, CanHold, CanHoldBy, IsHoldable, claimed_more, next_after, number_for, places_of_number, texts_after, with_hold, with_holds}
 use Rattle.store_tables.proofs.MapLemmas.{lookup-insert, numbers_are_ordered, same_from_test, test_of_same, words_are_ordered}
 use Rattle.store_tables.proofs.WordLemmas.{agree-with_hold}
 use Rattle.store_meaning.specs.Updates.{Numbered, has_pair, numbered}
@@ -34,59 +34,75 @@ some_with_word (Some c) w e = refl
 pub below_next : (claims : ℕ → ℕ) (texts : List (List ℕ × ℕ)) (numbers : List (ℕ × Counted)) (next_word number : ℕ) (word : List ℕ) → WordTablesAgree claims texts numbers next_word → word_at number numbers ≡ Some word → number < next_word
 below_next claims texts numbers next_word number word agree is = agree.below number (some_with_word (word_of_number number numbers) word is)
 
--- where the tables agree, a word can be held whose number isn't at its end
-pub can_hold-one : (claims : ℕ → ℕ) (entries : Entries) (next_word : ℕ) (word : List ℕ) → WordTablesAgree claims entries.texts entries.numbers next_word
-    → claims (number_for word next_word entries.texts) + 1 < 2 ^ 32 → CanHold word next_word entries
-can_hold-one claims entries next_word word agree room = holdable (number_of_word word entries.texts) refl room
+-- where the tables agree, so many places more can hold a word whose count doesn't pass its end
+pub can_hold-by : (places : ℕ) (claims : ℕ → ℕ) (entries : Entries) (next_word : ℕ) (word : List ℕ) → WordTablesAgree claims entries.texts entries.numbers next_word
+    → claims (number_for word next_word entries.texts) + places < 2 ^ 32 → CanHoldBy places word next_word entries
+can_hold-by places claims entries next_word word agree room = holdable (number_of_word word entries.texts) refl room
   where
     none_at : (found : Option Counted) → word_of_number next_word entries.numbers ≡ found → found ≡ None
     none_at None e = refl
     none_at (Some c) e = let lt = agree.below next_word (subst IsSome (sym e) refl) in absurd (omega arith)
 
-    holdable : (found : Option ℕ) → number_of_word word entries.texts ≡ found → claims (unwrap_or found next_word) + 1 < 2 ^ 32 → IsHoldable word next_word entries.numbers found
+    holdable : (found : Option ℕ) → number_of_word word entries.texts ≡ found → claims (unwrap_or found next_word) + places < 2 ^ 32 → IsHoldable places word next_word entries.numbers found
     holdable None e few = none_at (word_of_number next_word entries.numbers) refl
     holdable (Some number) e few = ((agree.inverse word number).0 e, (let count = agree.counts number in omega arith))
 
--- after a hold the word has its number
-pub named-hold : (entries : Entries) (next_word : ℕ) (word : List ℕ) → word_at (number_for word next_word entries.texts) (with_hold word next_word entries).numbers ≡ Some word
-named-hold entries next_word word =
-    let number = number_for word next_word entries.texts in
-    let counted : Counted = record { word = word; places = places_of_number number entries.numbers + 1 } in
-    ap (option_map (λ (c : Counted). c.word)) (lookup-insert numbers_are_ordered number number counted entries.numbers
-    ∙ ap (λ b. cond b (Some counted) (word_of_number number entries.numbers)) (test_of_same numbers_are_ordered number number refl))
+-- one place more can
+pub can_hold-one : (claims : ℕ → ℕ) (entries : Entries) (next_word : ℕ) (word : List ℕ) → WordTablesAgree claims entries.texts entries.numbers next_word
+    → claims (number_for word next_word entries.texts) + 1 < 2 ^ 32 → CanHold word next_word entries
+can_hold-one = can_hold-by 1
 
--- and each number that had a word has it still
-pub keeps-hold : (claims : ℕ → ℕ) (entries : Entries) (next_word : ℕ) (word : List ℕ) → WordTablesAgree claims entries.texts entries.numbers next_word → KeepsWords entries.numbers (with_hold word next_word entries).numbers
-keeps-hold claims entries next_word word agree n w is =
-    ap (option_map (λ (c : Counted). c.word)) (lookup-insert numbers_are_ordered n number counted entries.numbers) ∙ kept (is_at (nat_cmp n) number) refl
-  where
-    number : ℕ
-    number = number_for word next_word entries.texts
+module _ (places : ℕ) (entries : Entries) (next_word : ℕ) (word : List ℕ) where
+  -- the number that the word has then
+  abbrev held_number : ℕ
+  held_number = number_for word next_word entries.texts
 
-    counted : Counted
-    counted = record { word = word; places = places_of_number number entries.numbers + 1 }
+  -- its row
+  abbrev held_row : Counted
+  held_row = record { word = word; places = places_of_number held_number entries.numbers + places }
 
-    same : (found : Option ℕ) → number_of_word word entries.texts ≡ found → n ≡ unwrap_or found next_word → w ≡ word
-    same None e at = let lt = below_next claims entries.texts entries.numbers next_word n w agree is in absurd (omega arith)
-    same (Some m) e at =
-        let here : Some w ≡ Some word = sym is ∙ ap (λ (k : ℕ). word_at k entries.numbers) at ∙ (agree.inverse word m).0 e in
-        cc here
+  -- after a hold the word has its number
+  pub named-holds : word_at held_number (with_holds places word next_word entries).numbers ≡ Some word
+  named-holds =
+      ap (option_map (λ (c : Counted). c.word)) (lookup-insert numbers_are_ordered held_number held_number held_row entries.numbers
+      ∙ ap (λ b. cond b (Some held_row) (word_of_number held_number entries.numbers)) (test_of_same numbers_are_ordered held_number held_number refl))
 
-    kept : (b : Bool) → is_at (nat_cmp n) number ≡ b → option_map (λ (c : Counted). c.word) (cond b (Some counted) (word_of_number n entries.numbers)) ≡ Some w
-    kept true at = ap Some (sym (same (number_of_word word entries.texts) refl (same_from_test numbers_are_ordered n number at)))
-    kept false at = is
+  -- and each number that had a word has it still
+  pub keeps-holds : (claims : ℕ → ℕ) → WordTablesAgree claims entries.texts entries.numbers next_word → KeepsWords entries.numbers (with_holds places word next_word entries).numbers
+  keeps-holds claims agree n w is =
+      ap (option_map (λ (c : Counted). c.word)) (lookup-insert numbers_are_ordered n held_number held_row entries.numbers) ∙ kept (is_at (nat_cmp n) held_number) refl
+    where
+      same : (found : Option ℕ) → number_of_word word entries.texts ≡ found → n ≡ unwrap_or found next_word → w ≡ word
+      same None e at = let lt = below_next claims entries.texts entries.numbers next_word n w agree is in absurd (omega arith)
+      same (Some m) e at =
+          let here : Some w ≡ Some word = sym is ∙ ap (λ (k : ℕ). word_at k entries.numbers) at ∙ (agree.inverse word m).0 e in
+          cc here
 
--- the tables stay in order
-pub ascend-hold : (entries : Entries) (next_word : ℕ) (word : List ℕ) → AreAscending entries → AreAscending (with_hold word next_word entries)
-ascend-hold entries next_word word ascend = record {
-  places = ascend.places;
-  texts = texts (number_of_word word entries.texts);
-  numbers = sorted-insert numbers_are_ordered.total _ _ entries.numbers ascend.numbers;
-}
-  where
-    texts : (found : Option ℕ) → IsStrictlySortedBy word_cmp (keys_of (texts_after found word next_word entries.texts))
-    texts None = sorted-insert words_are_ordered.total word next_word entries.texts ascend.texts
-    texts (Some number) = ascend.texts
+      kept : (b : Bool) → is_at (nat_cmp n) held_number ≡ b → option_map (λ (c : Counted). c.word) (cond b (Some held_row) (word_of_number n entries.numbers)) ≡ Some w
+      kept true at = ap Some (sym (same (number_of_word word entries.texts) refl (same_from_test numbers_are_ordered n held_number at)))
+      kept false at = is
+
+  -- the tables stay in order
+  pub ascend-holds : AreAscending entries → AreAscending (with_holds places word next_word entries)
+  ascend-holds ascend = record {
+    places = ascend.places;
+    texts = texts (number_of_word word entries.texts);
+    numbers = sorted-insert numbers_are_ordered.total _ _ entries.numbers ascend.numbers;
+  }
+    where
+      texts : (found : Option ℕ) → IsStrictlySortedBy word_cmp (keys_of (texts_after found word next_word entries.texts))
+      texts None = sorted-insert words_are_ordered.total word next_word entries.texts ascend.texts
+      texts (Some number) = ascend.texts
+
+-- a hold lets the next number not fall
+pub next_rises : (next_word : ℕ) (found : Option ℕ) → next_word ≤ next_after found next_word
+next_rises next_word None = omega arith
+next_rises next_word (Some number) = omega arith
+
+-- and raises it by one at most
+pub next_few : (next_word : ℕ) (found : Option ℕ) → next_after found next_word ≤ next_word + 1
+next_few next_word None = omega arith
+next_few next_word (Some number) = omega arith
 
 -- ---- words and their pairs
 
@@ -198,7 +214,7 @@ key_inside P [] term rest all = all.0
 key_inside P (t ∷ front) term rest all = key_inside P front term rest all.1
 
 -- a word is none of those before it
-apart_before : (done : List (List ℕ × ℕ)) (term : List ℕ × ℕ) (rest : List (List ℕ × ℕ)) → IsStrictlySortedBy word_cmp (keys_of (done ++ term ∷ rest)) → AllByRecursion (λ d. d ≡ term.0 → ⊥) (keys_of done)
+pub apart_before : (done : List (List ℕ × ℕ)) (term : List ℕ × ℕ) (rest : List (List ℕ × ℕ)) → IsStrictlySortedBy word_cmp (keys_of (done ++ term ∷ rest)) → AllByRecursion (λ d. d ≡ term.0 → ⊥) (keys_of done)
 apart_before [] term rest sorted = tt
 apart_before (t ∷ done) term rest sorted =
     let less : word_cmp t.0 term.0 ≡ Less = key_inside (λ y. word_cmp t.0 y ≡ Less) done term rest (sorted_head word_cmp t.0 (keys_of (done ++ term ∷ rest)) sorted) in
@@ -248,16 +264,6 @@ module _ (claims : ℕ → ℕ) (old : List Pair) (before : Entries) (next_word 
     few = let few = is.few in omega (arith, length-append done (term ∷ []));
   }
 
-  -- a hold lets the next number not fall
-  next_rises : (f : Option ℕ) → state.next_word ≤ next_after f state.next_word
-  next_rises None = omega arith
-  next_rises (Some m) = omega arith
-
-  -- and raises it by one at most
-  next_few : (f : Option ℕ) → next_after f state.next_word ≤ state.next_word + 1
-  next_few None = omega arith
-  next_few (Some m) = omega arith
-
   -- and another has it after it was held
   pub numbering-hold : (rest : List (List ℕ × ℕ)) → IsStrictlySortedBy word_cmp (keys_of (done ++ term ∷ rest)) → has_pair number_of old ≡ false → claims number_of + 1 < 2 ^ 32
       → IsNumbering claims old before next_word (done ++ term ∷ [])
@@ -266,15 +272,15 @@ module _ (claims : ℕ → ℕ) (old : List Pair) (before : Entries) (next_word 
       let now = claimed_beside state.pairs old claims in
       let then = with_hold term.0 state.next_word state.entries in
       let next = next_after (number_of_word term.0 state.entries.texts) state.next_word in
-      let keeps = keeps-hold now state.entries state.next_word term.0 is.agree in
-      let up = next_rises (number_of_word term.0 state.entries.texts) in
-      let one = next_few (number_of_word term.0 state.entries.texts) in
+      let keeps = keeps-holds 1 state.entries state.next_word term.0 now is.agree in
+      let up = next_rises state.next_word (number_of_word term.0 state.entries.texts) in
+      let one = next_few state.next_word (number_of_word term.0 state.entries.texts) in
       record {
         agree = agree-claims (claimed_more number_of now) (claimed_beside (state.pairs ++ (number_of, term.1) ∷ []) old claims) then.texts then.numbers next
             (claimed-new claims state.pairs old (number_of, term.1) (numbering-fresh rest sorted) fresh)
             (agree-with_hold now state.entries state.next_word term.0 is.agree (numbering-room rest sorted fresh room));
-        ascend = ascend-hold state.entries state.next_word term.0 is.ascend;
-        named = numbered-push then.numbers term number_of (named-hold state.entries state.next_word term.0) done state.pairs (numbered-kept state.entries.numbers then.numbers keeps done state.pairs is.named);
+        ascend = ascend-holds 1 state.entries state.next_word term.0 is.ascend;
+        named = numbered-push then.numbers term number_of (named-holds 1 state.entries state.next_word term.0) done state.pairs (numbered-kept state.entries.numbers then.numbers keeps done state.pairs is.named);
         keeps = λ n w at. keeps n w (is.keeps n w at);
         places = is.places;
         held = λ n in_old. (let lt = is.held n in_old in omega arith);

@@ -113,7 +113,7 @@ known-each entries next_word agree = known entries.places (λ n claimed. known-c
 -- ---- words
 
 -- each row has a word
-word_of_row : (found : Option Counted) → IsSome found → (w : List ℕ) × (option_map (λ (c : Counted). c.word) found ≡ Some w)
+pub word_of_row : (found : Option Counted) → IsSome found → (w : List ℕ) × (option_map (λ (c : Counted). c.word) found ≡ Some w)
 word_of_row None e = absurd (true≢false (sym e))
 word_of_row (Some c) e = (c.word, refl)
 

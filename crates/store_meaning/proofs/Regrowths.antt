@@ -6,6 +6,7 @@ use Rattle.page_store.specs.Superblock.{IsInRange}
 use Rattle.page_store.specs.declared.superblock.Superblock.{Superblock}
 use Rattle.btree_nodes.specs.Supply.{spare, view}
 use Rattle.btree_nodes.specs.Tree.{map_uses}
+use Rattle.place_map.specs.State.{Contents}
 use Rattle.rtree_shape.specs.Slots.{Item, got}
 use Rattle.rtree_shape.specs.Stock as stock
 use Rattle.rtree_shape.specs.Stock.{rows_form}
@@ -17,7 +18,7 @@ use Rattle.store_tables.specs.declared.tables.Tables.{Tables}
 use Rattle.store_tables.specs.Entries.{Entries}
 use Rattle.store_tables.specs.Holding.{Holds, IsApart, IsSameMap, numbers_form, places_form, table_uses, texts_form}
 use Rattle.store_tables.proofs.FrameLemmas.{map-frame}
-use Rattle.store_meaning.specs.Stands.{AreSound, PagesStand, TablesStand, TreeStands, entry_sum, state_in, tables_in}
+use Rattle.store_meaning.specs.Stands.{AreSoundFor, PagesStandFor, TablesStandFor, TreeStands, at_number, entry_sum, state_in, tables_in}
 use Rattle.store_meaning.proofs.Trees.{spare-away}
 
 -- page 0's fields are the same but for the tree's roots and the update number
@@ -27,14 +28,18 @@ pub record IsRerooted (old new : Head) : Type 0 where
   pub live : new.live ≡ old.live
 
 -- the tables stand for new entries over this free list, and the tree still for those before
-pub record StandsBetween (block : Superblock) (pages : PageMap) (others : ℕ → ℕ) (mine entries : Entries) (free : List ℕ) : Type 0 where
-  pub tables : TablesStand block pages others entries
+pub record StandsBetween (claims : ℕ → ℕ → ℕ) (last : ℕ) (block : Superblock) (pages : PageMap) (others : ℕ → ℕ) (mine entries : Entries) (free : List ℕ) : Type 0 where
+  pub tables : TablesStandFor claims last block pages others entries
   pub free_is : tables.free ≡ free
   pub tree : TreeStands block.head pages mine others
 
-module _ (block : Superblock) (pages : PageMap) (others : ℕ → ℕ) (entries mine : Entries) (tables : TablesStand block pages others entries) (stands : TreeStands block.head pages mine others) (after : Superblock) (later : PageMap)
+-- page 0's fields and the pages stand for a state by these entries
+abbrev pub PagesOver : (ℕ → ℕ → ℕ) → ℕ → Superblock → PageMap → Contents → Entries → Type 0
+PagesOver claims last block pages state entries = (stand : PagesStandFor claims last block pages state) × (stand.entries ≡ entries)
+
+module _ {claims : ℕ → ℕ → ℕ} {last : ℕ} (block : Superblock) (pages : PageMap) (others : ℕ → ℕ) (entries mine : Entries) (tables : TablesStandFor claims last block pages others entries) (stands : TreeStands block.head pages mine others) (after : Superblock) (later : PageMap)
     (gone come : Option Item) (regrown : IsRegrown node_of (stock.view pages block.head.rows block.counted block.first_free tables.free) later after.head.rows after.counted after.first_free block.head.tree after.head.tree gone come)
-    (range : IsInRange after) (rerooted : IsRerooted block.head after.head) where
+    (last_after : ℕ) (range : IsInRange (at_number last_after after)) (serials : after.head.serial ≤ after.head.number + 1) (rerooted : IsRerooted block.head after.head) where
   -- a page of a table is neither the tree's nor spare: it stays
   table-stays : (n : ℕ) → 0 < table_uses pages (tables_in block.head) n → later n ≡ pages n
   table-stays zero used = let away = tables.apart.away in absurd (omega (arith, used, away))
@@ -96,9 +101,10 @@ module _ (block : Superblock) (pages : PageMap) (others : ℕ → ℕ) (entries 
   }
 
   -- the tables stand for the entries beside the pages of the new tree and its rows
-  tables-later : TablesStand after later others_later entries
+  tables-later : TablesStandFor claims last_after after later others_later entries
   tables-later = record {
     range = range;
+    serials = serials;
     free = regrown.free;
     holds = subst (λ (ts : Tables). Holds later ts entries) (sym rerooted.tables) holds-later;
     apart = subst (IsApart (view later after.counted after.first_free regrown.free)) (sym rerooted.tables) apart-later;
@@ -106,34 +112,37 @@ module _ (block : Superblock) (pages : PageMap) (others : ℕ → ℕ) (entries 
         let uses : table_uses later (tables_in after.head) n ≡ table_uses later (tables_in block.head) n = ap (λ (ts : Tables). table_uses later ts n) rerooted.tables in
         omega (arith, one, uses, uses-later n, kept-later n));
     away = (let tree = regrown.whole.away in let rows = regrown.whole.supplied.rows.kept.away in omega (arith, tree, rows));
-    sound = subst₂ (λ n m. AreSound entries n m) (ap (λ (ts : Tables). ts.next_word) (sym rerooted.tables)) (sym rerooted.serial) tables.sound;
+    sound = subst₂ (λ n m. AreSoundFor claims entries n m) (ap (λ (ts : Tables). ts.next_word) (sym rerooted.tables)) (sym rerooted.serial) tables.sound;
     live = rerooted.live ∙ tables.live;
   }
 
   -- Where the tables stand for new entries and the tree for those before, and an update of the tree makes up for the difference, the pages stand for the state of the new entries.
-  pub stand-regrown : ((f : Item → ℕ) → entry_sum f entries.places + got f gone ≡ entry_sum f mine.places + got f come) → PagesStand after later (state_in entries after.head.serial after.head.number)
-  stand-regrown sums = record {
-    entries = entries;
-    others = others_later;
-    tables = tables-later;
-    tree = record {
-      tree = regrown.whole.tree;
-      entries_are = λ f. (let sum = regrown.sum_is f in let before = stands.entries_are f in omega (arith, sum, before, sums f));
-      map = regrown.whole.supplied.rows.kept.map;
-      filled = regrown.whole.supplied.rows.filled;
-      blank = regrown.whole.blank;
-      named = regrown.whole.named;
-      uses_are = λ n. refl;
-    };
-    is = refl;
-  }
+  pub stand-regrown : ((f : Item → ℕ) → entry_sum f entries.places + got f gone ≡ entry_sum f mine.places + got f come) → PagesOver claims last_after after later (state_in entries after.head.serial after.head.number) entries
+  stand-regrown sums = (
+    record {
+      entries = entries;
+      others = others_later;
+      tables = tables-later;
+      tree = record {
+        tree = regrown.whole.tree;
+        entries_are = λ f. (let sum = regrown.sum_is f in let before = stands.entries_are f in omega (arith, sum, before, sums f));
+        map = regrown.whole.supplied.rows.kept.map;
+        filled = regrown.whole.supplied.rows.filled;
+        blank = regrown.whole.blank;
+        named = regrown.whole.named;
+        uses_are = λ n. refl;
+      };
+      is = refl;
+    },
+    refl,
+  )
 
-module _ (block : Superblock) (pages : PageMap) (others : ℕ → ℕ) (mine entries : Entries) (free : List ℕ) (between : StandsBetween block pages others mine entries free) where
+module _ {claims : ℕ → ℕ → ℕ} {last : ℕ} (block : Superblock) (pages : PageMap) (others : ℕ → ℕ) (mine entries : Entries) (free : List ℕ) (between : StandsBetween claims last block pages others mine entries free) where
   -- once the tree follows, the pages stand for the state of the new entries
   pub between-regrown : (after : Superblock) (later : PageMap) (gone come : Option Item)
-      → IsRegrown node_of (stock.view pages block.head.rows block.counted block.first_free free) later after.head.rows after.counted after.first_free block.head.tree after.head.tree gone come → IsInRange after → IsRerooted block.head after.head
-      → ((f : Item → ℕ) → entry_sum f entries.places + got f gone ≡ entry_sum f mine.places + got f come) → PagesStand after later (state_in entries after.head.serial after.head.number)
-  between-regrown after later gone come regrown range rerooted sums =
+      → IsRegrown node_of (stock.view pages block.head.rows block.counted block.first_free free) later after.head.rows after.counted after.first_free block.head.tree after.head.tree gone come → (last_after : ℕ) → IsInRange (at_number last_after after) → after.head.serial ≤ after.head.number + 1 → IsRerooted block.head after.head
+      → ((f : Item → ℕ) → entry_sum f entries.places + got f gone ≡ entry_sum f mine.places + got f come) → PagesOver claims last_after after later (state_in entries after.head.serial after.head.number) entries
+  between-regrown after later gone come regrown last_after range serials rerooted sums =
       stand-regrown block pages others entries mine between.tables between.tree after later gone come
       (subst (λ (fs : List ℕ). IsRegrown node_of (stock.view pages block.head.rows block.counted block.first_free fs) later after.head.rows after.counted after.first_free block.head.tree after.head.tree gone come) (sym between.free_is) regrown)
-      range rerooted sums
+      last_after range serials rerooted sums

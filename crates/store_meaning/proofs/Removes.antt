@@ -1,5 +1,5 @@
 -- What taking a place out does to the state that the entries stand for.
-use Rattle.std.proofs.Common.{◌≡◌, ℕ, Bool, true, false, cond, List, [], All, Option, Some, None, option_map, refl, sym, ap, subst, ◌∙◌}
+use Rattle.std.proofs.Common.{◌≡◌, ℕ, ◌+◌, arith, Bool, true, false, cond, List, [], All, Option, Some, None, option_map, refl, sym, ap, subst, ◌∙◌}
 use Rattle.std.proofs.lemmas.Map.Made.{keys_of-map_values}
 use Rattle.std.specs.BTreeMap.{is_at}
 use Rattle.std.specs.List.Sorted.{IsStrictlySortedBy}
@@ -10,42 +10,48 @@ use Rattle.place_map.specs.State as states
 use Rattle.row_codec.specs.declared.stored.Stored.{Stored}
 use Rattle.store_tables.specs.Coded.{IsPlaceEntry}
 use Rattle.store_tables.specs.Entries.{Entries, place_of_key, without_place}
-use Rattle.store_tables.specs.Words.{WordTablesAgree, WordsAgree, holders}
+use Rattle.store_tables.specs.Words.{WordTablesAgree, holders}
 use Rattle.store_tables.proofs.EntryLemmas.{remove-each}
 use Rattle.store_tables.proofs.MapLemmas.{keys_are_ordered, lookup-remove}
-use Rattle.store_meaning.specs.Stands.{AreSound, place_in, places_in}
+use Rattle.store_meaning.specs.Stands.{AreSoundFor, IsCounting, place_in, places_in}
 use Rattle.store_meaning.proofs.Steps.{AreAscending, IsReleasing}
-use Rattle.store_meaning.specs.Updates.{after_remove, pairs_of}
+use Rattle.store_meaning.specs.Updates.{after_remove, has_pair, pairs_of}
 use Rattle.store_meaning.proofs.Numbers.{agree-claims}
 use Rattle.store_meaning.proofs.Ordered.{same_from_lookups, sorted-remove}
 use Rattle.store_meaning.proofs.Places.{apart-old, held-claimed, holders-but, agree-released, place-at, place-same, same-released}
 use Rattle.store_meaning.proofs.Releases.{releasing-all}
 
+-- one place less, or as many as before
+fewer : (claims : ℕ → ℕ → ℕ) → IsCounting claims → (n k all : ℕ) (b : Bool) → k + cond b 1 0 ≡ all → claims n all ≡ claims n k + cond b 1 0
+fewer claims counting n k all true e = ap (claims n) (sym e) ∙ counting.more n k
+fewer claims counting n k all false e = (let same : k ≡ all = omega (arith, e) in let is : claims n k ≡ claims n all = ap (claims n) same in omega (arith, is))
+
 -- the place at a key still holds its words, where it was taken out
-pub releasing-without : (key : Name) (entries : Entries) (next_word : ℕ) → WordsAgree entries next_word → AreAscending entries
-    → IsReleasing (λ n. holders n (without_place key entries.places)) [] (record entries { places = without_place key entries.places }) next_word (pairs_of (place_of_key key entries.places)) (record entries { places = without_place key entries.places })
-releasing-without key entries next_word agree ascend = record {
-  agree = agree-claims (λ n. holders n entries.places) _ entries.texts entries.numbers next_word (λ n. sym (holders-but n key entries.places)) agree;
+pub releasing-without : (claims : ℕ → ℕ → ℕ) → IsCounting claims → (key : Name) (entries : Entries) (next_word : ℕ) → WordTablesAgree (λ n. claims n (holders n entries.places)) entries.texts entries.numbers next_word → AreAscending entries
+    → IsReleasing (λ n. claims n (holders n (without_place key entries.places))) [] (record entries { places = without_place key entries.places }) next_word (pairs_of (place_of_key key entries.places)) (record entries { places = without_place key entries.places })
+releasing-without claims counting key entries next_word agree ascend = record {
+  agree = agree-claims (λ n. claims n (holders n entries.places)) _ entries.texts entries.numbers next_word
+      (λ n. fewer claims counting n (holders n (without_place key entries.places)) (holders n entries.places) (has_pair n (pairs_of (place_of_key key entries.places))) (holders-but n key entries.places)) agree;
   ascend = record { places = sorted-remove key_cmp (is_at (key_cmp key)) entries.places ascend.places; texts = ascend.texts; numbers = ascend.numbers };
   keeps = λ n w is. is;
   places = refl;
 }
 
-module _ (key : Name) (entries : Entries) (next_word serial : ℕ) (sound : AreSound entries next_word serial) (ascend : AreAscending entries) (each : All IsPlaceEntry entries.places) where
+module _ (claims : ℕ → ℕ → ℕ) (counting : IsCounting claims) (key : Name) (entries : Entries) (next_word serial : ℕ) (sound : AreSoundFor claims entries next_word serial) (ascend : AreAscending entries) (each : All IsPlaceEntry entries.places) where
   -- all its words are released
-  pub remove-released : IsReleasing (λ n. holders n (without_place key entries.places)) [] (record entries { places = without_place key entries.places }) next_word [] (after_remove key entries)
+  pub remove-released : IsReleasing (λ n. claims n (holders n (without_place key entries.places))) [] (record entries { places = without_place key entries.places }) next_word [] (after_remove key entries)
   remove-released =
-      releasing-all (λ n. holders n (without_place key entries.places)) [] _ next_word (pairs_of (place_of_key key entries.places)) _ (apart-old key entries.places each) (releasing-without key entries next_word sound.words ascend)
+      releasing-all (λ n. claims n (holders n (without_place key entries.places))) [] _ next_word (pairs_of (place_of_key key entries.places)) _ (apart-old key entries.places each) (releasing-without claims counting key entries next_word sound.words ascend)
 
   -- the other places stay
   pub remove-entries : (after_remove key entries).places ≡ without_place key entries.places
   remove-entries = remove-released.places
 
   -- the tables are sound
-  pub remove-sound : AreSound (after_remove key entries) next_word serial
+  pub remove-sound : AreSoundFor claims (after_remove key entries) next_word serial
   remove-sound = record {
-    words = subst (λ (ps : List (Name × Stored)). WordTablesAgree (λ n. holders n ps) (after_remove key entries).texts (after_remove key entries).numbers next_word) (sym remove-entries)
-        (agree-released (λ n. holders n (without_place key entries.places)) [] _ next_word (after_remove key entries) remove-released);
+    words = subst (λ (ps : List (Name × Stored)). WordTablesAgree (λ n. claims n (holders n ps)) (after_remove key entries).texts (after_remove key entries).numbers next_word) (sym remove-entries)
+        (agree-released (λ n. claims n (holders n (without_place key entries.places))) [] _ next_word (after_remove key entries) remove-released);
     serials = subst (All (λ e. IsSerialAbove serial e.0)) (sym remove-entries) (remove-each (λ (e : Name × Stored). IsSerialAbove serial e.0) (is_at (key_cmp key)) entries.places sound.serials);
   }
 
@@ -53,7 +59,7 @@ module _ (key : Name) (entries : Entries) (next_word serial : ℕ) (sound : AreS
   remove-kept : (q : Name) (stored : Stored) → place_of_key q (without_place key entries.places) ≡ Some stored → place_of_key q entries.places ≡ Some stored → place_in (after_remove key entries).numbers stored ≡ place_in entries.numbers stored
   remove-kept q stored after before =
       place-same entries.numbers (after_remove key entries).numbers stored (λ n held.
-      same-released (λ n. holders n (without_place key entries.places)) [] _ next_word (after_remove key entries) remove-released n (held-claimed n q stored (without_place key entries.places) after held))
+      same-released (λ n. claims n (holders n (without_place key entries.places))) [] _ next_word (after_remove key entries) remove-released n (let some = held-claimed n q stored (without_place key entries.places) after held in omega (arith, some, counting.covers n (holders n (without_place key entries.places)))))
 
   -- the entries stand for the places without the key's
   pub remove-places : places_in (after_remove key entries) ≡ states.without_place key (places_in entries)

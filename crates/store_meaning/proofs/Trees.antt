@@ -23,7 +23,7 @@ use Rattle.irtree_shape.specs.Whole.{IsWell, IsWhole, level_at, tree_sum, tree_u
 use Rattle.store_tables.specs.Entries.{Entries}
 use Rattle.store_tables.specs.Holding.{IsSameMap}
 use Rattle.store_tables.proofs.FrameLemmas.{map-frame}
-use Rattle.store_meaning.specs.Stands.{TablesStand, TreeStands}
+use Rattle.store_meaning.specs.Stands.{TablesStandFor, TreeStands}
 use Rattle.store_meaning.proofs.Tables.{ArePagesKept}
 
 none_or : (n : ℕ) → (n ≡ 0) ⊎ (0 < n)
@@ -117,7 +117,7 @@ tree-kept old new before after entries uses stands rows tree kept = roots-same o
 -- ---- whole
 
 -- page 0 can't be taken
-pub spare-away : (block : Superblock) (pages : PageMap) (others : ℕ → ℕ) (entries : Entries) (tables : TablesStand block pages others entries) → spare tables.free block.counted 0 ≡ 0
+pub spare-away : {claims : ℕ → ℕ → ℕ} {last : ℕ} (block : Superblock) (pages : PageMap) (others : ℕ → ℕ) (entries : Entries) (tables : TablesStandFor claims last block pages others entries) → spare tables.free block.counted 0 ≡ 0
 spare-away block pages others entries tables = maps.spare-away (supply.view pages block.counted block.first_free tables.free) tables.apart.some tables.apart.supplied
 
 -- a tree whose pages are apart from those that are spare is whole over them
@@ -147,7 +147,7 @@ stands-whole head pages count first free entries uses stands supplied some apart
       named = stands.named;
     }
 
-module _ (block : Superblock) (pages : PageMap) (others : ℕ → ℕ) (entries mine : Entries) (tables : TablesStand block pages others entries) (stands : TreeStands block.head pages mine others) where
+module _ {claims : ℕ → ℕ → ℕ} {last : ℕ} (block : Superblock) (pages : PageMap) (others : ℕ → ℕ) (entries mine : Entries) (tables : TablesStandFor claims last block pages others entries) (stands : TreeStands block.head pages mine others) where
   -- no page is of others and spare
   others_once : (n : ℕ) → others n + spare tables.free block.counted n ≤ 1
   others_once zero = let away = tables.away in let once = tables.apart.once 0 in omega (arith, away, once)

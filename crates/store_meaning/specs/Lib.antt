@@ -1,2 +1,3 @@
+pub mod Ahead
 pub mod Stands
 pub mod Updates

@@ -1,5 +1,5 @@
 -- The state that an image of a store stands for.
-use Rattle.std.specs.Prelude.{◌≡◌, ℕ, ◌+◌, ◌<◌, List, length, map, sum_by, All}
+use Rattle.std.specs.Prelude.{◌≡◌, ℕ, ◌+◌, ◌<◌, ◌≤◌, List, length, map, sum_by, All}
 use Rattle.disk_model.specs.World.{Image}
 use Rattle.page_face.specs.FreeList.{PageMap}
 use Rattle.page_face.specs.declared.head.Head.{Head}
@@ -23,7 +23,7 @@ use Rattle.tree_updates.specs.Regrown.{entry_at}
 use Rattle.store_tables.specs.declared.tables.Tables.{Tables}
 use Rattle.store_tables.specs.Entries.{Entries}
 use Rattle.store_tables.specs.Holding.{Holds, IsApart, table_uses}
-use Rattle.store_tables.specs.Words.{WordsAgree, words_of_place}
+use Rattle.store_tables.specs.Words.{WordTablesAgree, holders, words_of_place}
 
 -- a place: its point, and its words, each read through the words by number
 abbrev pub place_in : List (ℕ × Counted) → Stored → Place
@@ -37,28 +37,47 @@ places_in entries = map (λ (e : Name × Stored). (e.0, place_in entries.numbers
 abbrev pub state_in : Entries → ℕ → ℕ → Contents
 state_in entries serial number = record { places = places_in entries; serial = serial; number = number }
 
--- The word tables agree with the places, and each live automatic key is below the next serial.
-pub record AreSound (entries : Entries) (next_word serial : ℕ) : Type 0 where
-  pub words : WordsAgree entries next_word
+-- One place more claims one more, and no fewer are claimed than there are places.
+pub record IsCounting (claims : ℕ → ℕ → ℕ) : Type 0 where
+  pub more : (n k : ℕ) → claims n (k + 1) ≡ claims n k + 1
+  pub covers : (n k : ℕ) → k ≤ claims n k
+
+-- The word tables agree with what is claimed of each number, by how many places hold it, and each live automatic key is below the
+-- next serial.
+pub record AreSoundFor (claims : ℕ → ℕ → ℕ) (entries : Entries) (next_word serial : ℕ) : Type 0 where
+  pub words : WordTablesAgree (λ number. claims number (holders number entries.places)) entries.texts entries.numbers next_word
   pub serials : All (λ (e : Name × Stored). IsSerialAbove serial e.0) entries.places
+
+-- each number is claimed by the places that hold it, and by nothing else
+abbrev pub AreSound : Entries → ℕ → ℕ → Type 0
+AreSound = AreSoundFor (λ number places. places)
 
 -- the tables' roots and the next word number, which page 0 has
 abbrev pub tables_in : Head → Tables
 tables_in head = record { places = head.places; texts = head.texts; numbers = head.numbers; next_word = head.next_word }
 
+-- page 0's fields at another update number
+abbrev pub at_number : ℕ → Superblock → Superblock
+at_number number block = record block { head = record block.head { number = number } }
+
 -- The tables stand for the entries beside pages that belong to others: `others n` is 1 where page n does, and else 0. Page 0's
--- fields are in their ranges; the maps are well formed and hold the entries, which are sound; each page but page 0 is in exactly
--- one of the maps, the pages of others, the free list and the pages not counted yet; page 0 is none of the others; and the number
--- of live places is that of the entries.
-pub record TablesStand (block : Superblock) (pages : PageMap) (others : ℕ → ℕ) (entries : Entries) : Type 0 where
-  pub range : IsInRange block
+-- fields are in their ranges, where the next word number may be what it is by update number `last`; the maps are well formed and
+-- hold the entries, which are sound for the claims; each page but page 0 is in exactly one of the maps, the pages of others, the
+-- free list and the pages not counted yet; page 0 is none of the others; and the number of live places is that of the entries.
+pub record TablesStandFor (claims : ℕ → ℕ → ℕ) (last : ℕ) (block : Superblock) (pages : PageMap) (others : ℕ → ℕ) (entries : Entries) : Type 0 where
+  pub range : IsInRange (at_number last block)
+  pub serials : block.head.serial ≤ block.head.number + 1
   pub free : List ℕ
   pub holds : Holds pages (tables_in block.head) entries
   pub apart : IsApart (view pages block.counted block.first_free free) (tables_in block.head)
   pub every : (n : ℕ) → 0 < n → table_uses pages (tables_in block.head) n + others n + spare free block.counted n ≡ 1
   pub away : others 0 ≡ 0
-  pub sound : AreSound entries block.head.next_word block.head.serial
+  pub sound : AreSoundFor claims entries block.head.next_word block.head.serial
   pub live : block.head.live ≡ length entries.places
+
+-- where nothing is held ahead
+abbrev pub TablesStand : Superblock → PageMap → (ℕ → ℕ) → Entries → Type 0
+TablesStand block = TablesStandFor (λ number places. places) block.head.number block
 
 -- the sum of f over the entries that places have in a tree: of each place its key, its point and its words
 abbrev pub entry_sum : (Item → ℕ) → List (Name × Stored) → ℕ
@@ -78,12 +97,16 @@ pub record TreeStands (head : Head) (pages : PageMap) (entries : Entries) (uses 
 
 -- Page 0's fields and the pages counted stand for a state: the tables stand for entries beside the pages of the tree and its rows,
 -- these stand for the same entries, and the state is that of the entries.
-pub record PagesStand (block : Superblock) (pages : PageMap) (state : Contents) : Type 0 where
+pub record PagesStandFor (claims : ℕ → ℕ → ℕ) (last : ℕ) (block : Superblock) (pages : PageMap) (state : Contents) : Type 0 where
   pub entries : Entries
   pub others : ℕ → ℕ
-  pub tables : TablesStand block pages others entries
+  pub tables : TablesStandFor claims last block pages others entries
   pub tree : TreeStands block.head pages entries others
   pub is : state ≡ state_in entries block.head.serial block.head.number
+
+-- where nothing is held ahead
+abbrev pub PagesStand : Superblock → PageMap → Contents → Type 0
+PagesStand block = PagesStandFor (λ number places. places) block.head.number block
 
 -- The image stands for a state: with its journal applied, its pages do.
 pub record Stands (image : Image) (state : Contents) : Type 0 where

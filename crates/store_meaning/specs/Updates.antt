@@ -88,6 +88,12 @@ abbrev pub after_put : Name → Position → List (List ℕ × ℕ) → ℕ → 
 after_put key point words next_word entries =
     entries_with key point (pairs_of (place_of_key key entries.places)) (numbered_for key words next_word entries)
 
+-- The entries after a place with these pairs was put at a key, whose words were held ahead: each word of the old place is
+-- released, also those that the new place has, since that hold was counted ahead.
+abbrev pub after_held : Name → Position → List Pair → Entries → Entries
+after_held key point pairs entries =
+    released_all [] (pairs_of (place_of_key key entries.places)) (record entries { places = with_place key (stored_with point (by_number pairs)) entries.places })
+
 -- the entries after a key was taken out
 abbrev pub after_remove : Name → Entries → Entries
 after_remove key entries =

@@ -7,4 +7,5 @@
 //! `specs/Updates.antt` says what an update does to the entries of the tables; the laws say that what they stand for
 //! changes as the map of live places does, and that the pages of others stay. The tree follows in a second step: between
 //! the two the tables stand for the new places and the tree for those before, and then both stand for the new ones.
+//! `specs/Ahead.antt` says what the pages stand for in the midst of a batch whose words are held ahead.
 #![tactic(auto)]

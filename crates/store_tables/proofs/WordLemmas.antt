@@ -12,7 +12,7 @@ use Rattle.row_codec.specs.declared.counted.Counted.{Counted}
 use Rattle.row_codec.specs.declared.stored.Stored.{Stored}
 use Rattle.row_codec.specs.Pairs.{Pair}
 use Rattle.store_tables.specs.Entries.{Entries, word_cmp, number_of_word, word_of_number, place_of_key, with_place, without_place}
-use Rattle.store_tables.specs.Words.{WordTablesAgree, CanHold, CanRelease, IsHoldable, claimed_less, claimed_more, has_number, holders, next_after, number_for, places_in, places_of_number, released, texts_after, with_hold, with_word, without_hold, word_in, words_of_pairs}
+use Rattle.store_tables.specs.Words.{WordTablesAgree, CanHold, CanHoldBy, CanRelease, IsHoldable, claimed_by, claimed_less, claimed_more, has_number, holders, next_after, number_for, places_in, places_of_number, released, texts_after, with_hold, with_holds, with_word, without_hold, word_in, words_of_pairs}
 use Rattle.store_tables.proofs.EntryLemmas.{equal_test}
 use Rattle.store_tables.proofs.MapLemmas.{lookup-insert, lookup-remove, numbers_are_ordered, same_from_test, test_of_same, words_are_ordered}
 
@@ -29,7 +29,7 @@ some_from_word : (found : Option Counted) (w : List ℕ) → word_in found ≡ S
 some_from_word None w e = absurd (cc)
 some_from_word (Some c) w e = refl
 
--- ---- one place more
+-- ---- more places
 
 -- What a hold needs to know of the number that it puts at a word: only that word may have it, and no other may the word have.
 pub record IsFor (word : List ℕ) (number : ℕ) (texts : List (List ℕ × ℕ)) (next_word next : ℕ) : Type 0 where
@@ -38,22 +38,22 @@ pub record IsFor (word : List ℕ) (number : ℕ) (texts : List (List ℕ × ℕ
   pub below : number < next
   pub rises : next_word ≤ next
 
-held_number : (claims : ℕ → ℕ) (texts : List (List ℕ × ℕ)) (numbers : List (ℕ × Counted)) (next_word next : ℕ) (word : List ℕ) (number : ℕ) → WordTablesAgree claims texts numbers next_word → IsFor word number texts next_word next
-    → WordTablesAgree (claimed_more number claims) (insert_entry word_cmp texts word number) (insert_entry nat_cmp numbers number (record { word = word; places = places_of_number number numbers + 1 })) next
-held_number claims texts numbers next_word next word number agree is = record {
+held_number : (places : ℕ) → 1 ≤ places → (claims : ℕ → ℕ) (texts : List (List ℕ × ℕ)) (numbers : List (ℕ × Counted)) (next_word next : ℕ) (word : List ℕ) (number : ℕ) → WordTablesAgree claims texts numbers next_word → IsFor word number texts next_word next
+    → WordTablesAgree (claimed_by places number claims) (insert_entry word_cmp texts word number) (insert_entry nat_cmp numbers number (record { word = word; places = places_of_number number numbers + places })) next
+held_number places one claims texts numbers next_word next word number agree is = record {
   inverse = λ w m.
       let l = lookup-insert words_are_ordered w word number texts in
       let r = lookup-insert numbers_are_ordered m number counted numbers in
       let both = inverse w m (is_at (word_cmp w) word) (is_at (nat_cmp m) number) refl refl in
       (λ h. ap word_in r ∙ both.0 (sym l ∙ h), λ h. l ∙ both.1 (ap word_in (sym r) ∙ h));
   counts = λ m. ap places_in (lookup-insert numbers_are_ordered m number counted numbers) ∙ counts m (is_at (nat_cmp m) number) refl
-      ∙ ap (λ b. cond b (claims m + 1) (claims m)) (sym (equal_test m number));
+      ∙ ap (λ b. cond b (claims m + places) (claims m)) (sym (equal_test m number));
   some = λ m. subst (λ f. IfSome f (λ c. 1 ≤ c.places)) (sym (lookup-insert numbers_are_ordered m number counted numbers)) (some m (is_at (nat_cmp m) number));
   below = λ m there. below m (is_at (nat_cmp m) number) refl (subst IsSome (lookup-insert numbers_are_ordered m number counted numbers) there);
 }
   where
     counted : Counted
-    counted = record { word = word; places = places_of_number number numbers + 1 }
+    counted = record { word = word; places = places_of_number number numbers + places }
 
     inverse : (w : List ℕ) (m : ℕ) (b c : Bool) → is_at (word_cmp w) word ≡ b → is_at (nat_cmp m) number ≡ c
         → (cond b (Some number) (number_of_word w texts) ≡ Some m) ↔ (word_in (cond c (Some counted) (word_of_number m numbers)) ≡ Some w)
@@ -71,10 +71,10 @@ held_number claims texts numbers next_word next word number agree is = record {
         (λ h. absurd (other (is.alone w (h ∙ ap Some there))), λ h. absurd (other (sym (cc h))))
     inverse w m false false at_word at_number = agree.inverse w m
 
-    counts : (m : ℕ) (c : Bool) → is_at (nat_cmp m) number ≡ c → places_in (cond c (Some counted) (word_of_number m numbers)) ≡ cond c (claims m + 1) (claims m)
+    counts : (m : ℕ) (c : Bool) → is_at (nat_cmp m) number ≡ c → places_in (cond c (Some counted) (word_of_number m numbers)) ≡ cond c (claims m + places) (claims m)
     counts m true at_number =
         let there : m ≡ number = same_from_test numbers_are_ordered m number at_number in
-        ap (λ n. n + 1) (agree.counts number ∙ ap claims (sym there))
+        ap (λ n. n + places) (agree.counts number ∙ ap claims (sym there))
     counts m false at_number = agree.counts m
 
     some : (m : ℕ) (c : Bool) → IfSome (cond c (Some counted) (word_of_number m numbers)) (λ k. 1 ≤ k.places)
@@ -85,15 +85,15 @@ held_number claims texts numbers next_word next word number agree is = record {
     below m true at_number there = let same : m ≡ number = same_from_test numbers_are_ordered m number at_number in let lt = is.below in omega arith
     below m false at_number there = let lt = agree.below m there in let le = is.rises in omega arith
 
-is_for : (claims : ℕ → ℕ) (texts : List (List ℕ × ℕ)) (numbers : List (ℕ × Counted)) (next_word : ℕ) (word : List ℕ) (found : Option ℕ) → WordTablesAgree claims texts numbers next_word → number_of_word word texts ≡ found
-    → IsHoldable word next_word numbers found → IsFor word (unwrap_or found next_word) texts next_word (next_after found next_word)
-is_for claims texts numbers next_word word None agree was can = record {
+is_for : (places : ℕ) (claims : ℕ → ℕ) (texts : List (List ℕ × ℕ)) (numbers : List (ℕ × Counted)) (next_word : ℕ) (word : List ℕ) (found : Option ℕ) → WordTablesAgree claims texts numbers next_word → number_of_word word texts ≡ found
+    → IsHoldable places word next_word numbers found → IsFor word (unwrap_or found next_word) texts next_word (next_after found next_word)
+is_for places claims texts numbers next_word word None agree was can = record {
   alone = λ w there. absurd (no_word w (ap word_in (sym can) ∙ (agree.inverse w next_word).0 there));
   has = λ m there. absurd (no_number m (sym was ∙ there));
   below = omega arith;
   rises = omega arith;
 }
-is_for claims texts numbers next_word word (Some number) agree was can = record {
+is_for places claims texts numbers next_word word (Some number) agree was can = record {
   alone = λ w there. (let same : Some w ≡ Some word = sym ((agree.inverse w number).0 there) ∙ can.0 in cc same);
   has = λ m there. (let same : Some m ≡ Some number = sym there ∙ was in cc same);
   below = agree.below number (some_from_word (word_of_number number numbers) word can.0);
@@ -117,18 +117,23 @@ put_again texts word number was w = same (is_at (word_cmp w) word) refl ∙ sym 
     same true e = ap (λ (k : List ℕ). number_of_word k texts) (same_from_test words_are_ordered w word e) ∙ was
     same false e = refl
 
--- after a hold the tables agree, and one place more is claimed for the word
+-- after a hold by some places the tables agree, and so many places more are claimed for the word
+pub agree-with_holds : (places : ℕ) → 1 ≤ places → (claims : ℕ → ℕ) (entries : Entries) (next_word : ℕ) (word : List ℕ) → WordTablesAgree claims entries.texts entries.numbers next_word → CanHoldBy places word next_word entries
+    → WordTablesAgree (claimed_by places (number_for word next_word entries.texts) claims) (with_holds places word next_word entries).texts (with_holds places word next_word entries).numbers (next_after (number_of_word word entries.texts) next_word)
+agree-with_holds places one claims entries next_word word agree can = split (number_of_word word entries.texts) refl can
+  where
+    split : (found : Option ℕ) → number_of_word word entries.texts ≡ found → IsHoldable places word next_word entries.numbers found
+        → WordTablesAgree (claimed_by places (unwrap_or found next_word) claims) (texts_after found word next_word entries.texts)
+        (insert_entry nat_cmp entries.numbers (unwrap_or found next_word) (record { word = word; places = places_of_number (unwrap_or found next_word) entries.numbers + places })) (next_after found next_word)
+    split None was holdable = held_number places one claims entries.texts entries.numbers next_word (next_word + 1) word next_word agree (is_for places claims entries.texts entries.numbers next_word word None agree was holdable)
+    split (Some number) was holdable =
+        agree-texts (claimed_by places number claims) (insert_entry word_cmp entries.texts word number) entries.texts _ next_word (put_again entries.texts word number was)
+        (held_number places one claims entries.texts entries.numbers next_word next_word word number agree (is_for places claims entries.texts entries.numbers next_word word (Some number) agree was holdable))
+
+-- after a hold by one place
 pub agree-with_hold : (claims : ℕ → ℕ) (entries : Entries) (next_word : ℕ) (word : List ℕ) → WordTablesAgree claims entries.texts entries.numbers next_word → CanHold word next_word entries
     → WordTablesAgree (claimed_more (number_for word next_word entries.texts) claims) (with_hold word next_word entries).texts (with_hold word next_word entries).numbers (next_after (number_of_word word entries.texts) next_word)
-agree-with_hold claims entries next_word word agree can = split (number_of_word word entries.texts) refl can
-  where
-    split : (found : Option ℕ) → number_of_word word entries.texts ≡ found → IsHoldable word next_word entries.numbers found
-        → WordTablesAgree (claimed_more (unwrap_or found next_word) claims) (texts_after found word next_word entries.texts)
-        (insert_entry nat_cmp entries.numbers (unwrap_or found next_word) (record { word = word; places = places_of_number (unwrap_or found next_word) entries.numbers + 1 })) (next_after found next_word)
-    split None was holdable = held_number claims entries.texts entries.numbers next_word (next_word + 1) word next_word agree (is_for claims entries.texts entries.numbers next_word word None agree was holdable)
-    split (Some number) was holdable =
-        agree-texts (claimed_more number claims) (insert_entry word_cmp entries.texts word number) entries.texts _ next_word (put_again entries.texts word number was)
-        (held_number claims entries.texts entries.numbers next_word next_word word number agree (is_for claims entries.texts entries.numbers next_word word (Some number) agree was holdable))
+agree-with_hold = agree-with_holds 1 (omega arith)
 
 -- where the tables agree and no count is at its end, each word can be held
 pub can_hold-agree : (claims : ℕ → ℕ) (entries : Entries) (next_word : ℕ) (word : List ℕ) → WordTablesAgree claims entries.texts entries.numbers next_word → ((n : ℕ) → claims n + 1 < 2 ^ 32) → CanHold word next_word entries
@@ -138,7 +143,7 @@ can_hold-agree claims entries next_word word agree room = holdable (number_of_wo
     none_at None e = refl
     none_at (Some c) e = let lt = agree.below next_word (subst IsSome (sym e) refl) in absurd (omega arith)
 
-    holdable : (found : Option ℕ) → number_of_word word entries.texts ≡ found → IsHoldable word next_word entries.numbers found
+    holdable : (found : Option ℕ) → number_of_word word entries.texts ≡ found → IsHoldable 1 word next_word entries.numbers found
     holdable None e = none_at (word_of_number next_word entries.numbers) refl
     holdable (Some number) e = ((agree.inverse word number).0 e, (let few = room number in let count = agree.counts number in omega arith))
 

@@ -63,22 +63,22 @@ abbrev pub IsRowSought : PageMap → Tables → ℕ → Option Counted → Type 
 IsRowSought pages tables number row =
     IsMap numbers_form pages tables.numbers → lookup number (map_rows numbers_form pages tables.numbers) ≡ option_map counted_value row
 
--- What the word tables say of a word, its number and that number's row, or that of the next number, is no word's that can be held once more.
-pub record IsUnholdable (pages : PageMap) (tables : Tables) (word : List ℕ) : Type 0 where
+-- What the word tables say of a word, its number and that number's row, or that of the next number, is no word's that so many places more can hold.
+pub record IsUnholdable (places : ℕ) (pages : PageMap) (tables : Tables) (word : List ℕ) : Type 0 where
   pub found : Option ℕ
   pub row : Option Counted
   pub text : IsTextSought pages tables word found
   pub number : IsRowSought pages tables (unwrap_or found tables.next_word) row
-  pub unheld : IsHoldableRow word found row → ⊥
+  pub unheld : IsHoldableRow places word found row → ⊥
 
 -- Why a word's count is damaged: a page of the words by text is, or one of those by number, or there the row of the word's number or of the next one is no word's, or the two disagree.
-abbrev pub IsCountDamage : PageMap → ℕ → Tables → List ℕ → List ℕ → List ℕ → Damage → Type 0
-IsCountDamage pages count tables word before asked damage =
+abbrev pub IsCountDamage : ℕ → PageMap → ℕ → Tables → List ℕ → List ℕ → List ℕ → Damage → Type 0
+IsCountDamage places pages count tables word before asked damage =
     (IsMapDamaged texts_form pages count tables.texts damage × AskedSince before asked damage.page)
     ⊎ (IsMapDamaged numbers_form pages count tables.numbers damage × AskedSince before asked damage.page)
     ⊎ ((damage.rule ≡ Value) × (found : Option ℕ) × IsTextSought pages tables word found
     × (IsMap numbers_form pages tables.numbers → (bytes : List ℕ) × IsBrokenNumber pages tables.numbers (unwrap_or found tables.next_word, bytes) damage.page))
-    ⊎ ((damage ≡ words_disagree) × IsUnholdable pages tables word)
+    ⊎ ((damage ≡ words_disagree) × IsUnholdable places pages tables word)
 
 -- What the word tables say of a number is no word that can be released: there is no row, or the word of the row has its last place, and the words by text have another number of it, or none.
 abbrev pub IsUnreleasable : PageMap → Tables → ℕ → Type 0

@@ -56,27 +56,35 @@ abbrev pub texts_after : Option ℕ → List ℕ → ℕ → List (List ℕ × �
 texts_after None word next_word texts = insert_entry word_cmp texts word next_word
 texts_after (Some number) word next_word texts = texts
 
--- one place more holds the word, which has its number or the next one
-abbrev pub with_hold : List ℕ → ℕ → Entries → Entries
-with_hold word next_word entries =
+-- so many places more hold the word, which has its number or the next one
+abbrev pub with_holds : ℕ → List ℕ → ℕ → Entries → Entries
+with_holds places word next_word entries =
     let number = number_for word next_word entries.texts in
     record entries {
       texts = texts_after (number_of_word word entries.texts) word next_word entries.texts;
-      numbers = insert_entry nat_cmp entries.numbers number (record { word = word; places = places_of_number number entries.numbers + 1 });
+      numbers = insert_entry nat_cmp entries.numbers number (record { word = word; places = places_of_number number entries.numbers + places });
     }
 
--- The two tables agree on a word that has this number, or none, and its count can rise, by the row of that number, or of the next one: the row is the word's, and fewer than 2^32 - 1 places hold it; and where the word has no number, there is no row.
-abbrev pub IsHoldableRow : List ℕ → Option ℕ → Option Counted → Type 0
-IsHoldableRow word None row = row ≡ None
-IsHoldableRow word (Some number) row = (word_in row ≡ Some word) × (places_in row + 1 < 2 ^ 32)
+-- one place more holds the word
+abbrev pub with_hold : List ℕ → ℕ → Entries → Entries
+with_hold = with_holds 1
+
+-- The two tables agree on a word that has this number, or none, and so many places more can be counted, by the row of that number, or of the next one: the row is the word's, and its count stays below 2^32; and where the word has no number, there is no row.
+abbrev pub IsHoldableRow : ℕ → List ℕ → Option ℕ → Option Counted → Type 0
+IsHoldableRow places word None row = row ≡ None
+IsHoldableRow places word (Some number) row = (word_in row ≡ Some word) × (places_in row + places < 2 ^ 32)
 
 -- and by the rows of all numbers
-abbrev pub IsHoldable : List ℕ → ℕ → List (ℕ × Counted) → Option ℕ → Type 0
-IsHoldable word next_word numbers found = IsHoldableRow word found (word_of_number (unwrap_or found next_word) numbers)
+abbrev pub IsHoldable : ℕ → List ℕ → ℕ → List (ℕ × Counted) → Option ℕ → Type 0
+IsHoldable places word next_word numbers found = IsHoldableRow places word found (word_of_number (unwrap_or found next_word) numbers)
 
--- the two tables agree on a word, and its count can rise
+-- the two tables agree on a word, and so many places more can hold it
+abbrev pub CanHoldBy : ℕ → List ℕ → ℕ → Entries → Type 0
+CanHoldBy places word next_word entries = IsHoldable places word next_word entries.numbers (number_of_word word entries.texts)
+
+-- one place more can hold it
 abbrev pub CanHold : List ℕ → ℕ → Entries → Type 0
-CanHold word next_word entries = IsHoldable word next_word entries.numbers (number_of_word word entries.texts)
+CanHold = CanHoldBy 1
 
 -- the entries where one place less holds the word of a number: it goes with its last place
 abbrev pub released : ℕ → Option Counted → Entries → Entries
@@ -112,9 +120,13 @@ words_of_pairs numbers (pair ∷ pairs) = with_word (word_of_number pair.0 numbe
 abbrev pub words_of_place : List (ℕ × Counted) → Stored → List (List ℕ × ℕ)
 words_of_place numbers stored = words_of_pairs numbers (held_pairs stored)
 
--- the claims with one more on a number
+-- the claims with so many more on a number
+abbrev pub claimed_by : ℕ → ℕ → (ℕ → ℕ) → ℕ → ℕ
+claimed_by places number claims n = if number == n then claims n + places else claims n
+
+-- the claims with one more on it
 abbrev pub claimed_more : ℕ → (ℕ → ℕ) → ℕ → ℕ
-claimed_more number claims n = if number == n then claims n + 1 else claims n
+claimed_more = claimed_by 1
 
 -- the claims with one less on a number
 abbrev pub claimed_less : ℕ → (ℕ → ℕ) → ℕ → ℕ

@@ -1,4 +1,4 @@
-//! Words that one place more holds.
+//! Words that more places hold.
 ghost use Rattle.std.specs.Prelude.{◌≡◌, ◌⊎◌, ℕ, ◌≤◌, ◌<◌, ◌+◌, ◌^◌, List, None, IfOk, IfSome, IfNone, OnOk, OnErr, IsErrOf, is_some, unwrap_or};
 ghost use Rattle.std.specs.BTreeMap.{insert_entry};
 ghost use Rattle.std.specs.Ordering.{nat_cmp};
@@ -28,29 +28,26 @@ pub(crate) fn disagreement() -> PageFault
     })
 }
 
-/// A word that can be held once more.
+/// A word that more places can hold.
 #[derive(Clone, Copy)]
 struct Hold {
-    // How many places hold it with this one.
+    // How many places hold it with those.
     places: u32,
     // Where the row of its number stands, if it has one.
     spot: Option<RowSpot>,
 }
 
-// A word with one place more, by its number, if it has one, and the row of that number or of the next one.
-// None exactly where the two disagree or the count is at its end.
-fn hold_of(word: &Word, found: Option<u64>, row: Option<CountedRow>) -> Option<Hold>
-    ensures some { IfSome result (λ hold. IsHoldableRow word.now found (counted_in row) × (hold.places ≡ places_in (counted_in row) + 1)) }
+// A word with so many places more, by its number, if it has one, and the row of that number or of the next one.
+// None exactly where the two disagree or the count would pass its end.
+fn hold_of(word: &Word, found: Option<u64>, row: Option<CountedRow>, places: u32) -> Option<Hold>
+    ensures some { IfSome result (λ hold. IsHoldableRow places word.now found (counted_in row) × (hold.places ≡ places_in (counted_in row) + places)) }
     ensures spot { IfSome result (λ hold. hold.spot ≡ spot_in row) }
-    ensures none { IfNone result (¬ IsHoldableRow word.now found (counted_in row)) }
+    ensures none { IfNone result (¬ IsHoldableRow places word.now found (counted_in row)) }
 {
     match (found, row) {
-        (None, None) => Some(Hold {
-            places: 1,
-            spot: None,
-        }),
+        (None, None) => Some(Hold { places, spot: None }),
         (Some(_), Some(row)) if row.counted.word == *word => {
-            let places = row.counted.places.checked_add(1)?;
+            let places = row.counted.places.checked_add(places)?;
             Some(Hold {
                 places,
                 spot: Some(row.spot),
@@ -64,34 +61,35 @@ impl Tables {
     ghost use Rattle.store_tables.specs.Holding.{Holds, IsApart, IsChanged, numbers_form, table_uses, texts_form, word_uses};
     ghost use Rattle.store_tables.specs.Broken.{IsCountDamage, IsTextSought};
     ghost use Rattle.store_tables.specs.Rows.{IsNumberSpot};
-    ghost use Rattle.store_tables.specs.Words.{CanHold, next_after, number_for, places_of_number, with_hold};
+    ghost use Rattle.store_tables.specs.Words.{CanHoldBy, next_after, number_for, places_of_number, with_holds};
 
-    // The word's count with one place more, by the number that the words by text have of it, if any. If it has one, the leaf of
+    // The word's count with so many places more, by the number that the words by text have of it, if any. If it has one, the leaf of
     // that number's row is then the page looked at.
     fn count_with<P: Pages>(
         &self,
         pages: &mut P,
         word: &Word,
         found: Option<u64>,
+        places: u32,
     ) -> Result<Hold, PageFault>
         ensures held { (entries : Entries) → Holds (P.pages pages.old) self.now entries → found ≡ number_of_word word.now entries.texts
-            → IfOk result (λ hold. CanHold word.now self.now.next_word entries
-            × (hold.places ≡ places_of_number (number_for word.now self.now.next_word entries.texts) entries.numbers + 1)) }
+            → IfOk result (λ hold. CanHoldBy places word.now self.now.next_word entries
+            × (hold.places ≡ places_of_number (number_for word.now self.now.next_word entries.texts) entries.numbers + places)) }
         ensures known { IfOk result (λ hold. is_some hold.spot ≡ is_some found) }
         ensures spot { IfOk result (λ hold. IfSome hold.spot (IsNumberSpot (P.pages pages.new) (P.count pages.new) self.now.numbers (P.looked pages.new) (unwrap_or found self.now.next_word))) }
         ensures honest { (entries : Entries) → Holds (P.pages pages.old) self.now entries → found ≡ number_of_word word.now entries.texts
             → AreTold (P.pages pages.old) (P.count pages.old) → AreCounted (table_uses (P.pages pages.old) self.now) (P.count pages.old)
-            → (damage : Damage) → IsErrOf result (PageFault.Damaged damage) → (damage ≡ words_disagree) × (¬ CanHold word.now self.now.next_word entries) }
+            → (damage : Damage) → IsErrOf result (PageFault.Damaged damage) → (damage ≡ words_disagree) × (¬ CanHoldBy places word.now self.now.next_word entries) }
         ensures damaged { AreTold (P.pages pages.old) (P.count pages.old) → IsTextSought (P.pages pages.old) self.now word.now found
             → (damage : Damage) → IsErrOf result (PageFault.Damaged damage)
-            → IsCountDamage (P.pages pages.old) (P.count pages.old) self.now word.now (P.asked pages.old) (P.asked pages.new) damage }
+            → IsCountDamage places (P.pages pages.old) (P.count pages.old) self.now word.now (P.asked pages.old) (P.asked pages.new) damage }
         ensures own { AreTold (P.pages pages.old) (P.count pages.old)
             → AsksOnly (word_uses (P.pages pages.old) self.now) (P.asked pages.old) (P.asked pages.new) }
         ensures fails { FailsReading P.Pages pages.old pages.new result }
         ensures frame { Reads P.Pages pages.old pages.new }
     {
         let row = self.counted_row(pages, found.unwrap_or(self.next_word))?;
-        match hold_of(word, found, row) {
+        match hold_of(word, found, row, places) {
             Some(hold) => Ok(hold),
             None => Err(disagreement()),
         }
@@ -130,35 +128,36 @@ impl Tables {
         Ok(number)
     }
 
-    /// Counts one place more that holds the word whose number the words by text have, if any, as [`Tables::number_of`] found it.
+    /// Counts so many places more that hold the word whose number the words by text have, if any, as [`Tables::number_of`] found it.
     /// Answers its number: the next one where it had none.
     ///
     /// Refuses as [`Tables::hold`]. After a refusal the tables are as before, and pages may have changed.
     ///
-    /// Looks at one page a level of the words by number. If the word has a number, writes the leaf of its row alone. Else puts a
-    /// row into each of the two tables, with one more way down in each.
+    /// However many places there are, looks at one page a level of the words by number. If the word has a number, writes the leaf of
+    /// its row alone. Else puts a row into each of the two tables, with one more way down in each.
     pub fn hold_numbered<P: Pages>(
         &mut self,
         pages: &mut P,
         word: &Word,
         found: Option<u64>,
+        places: u32,
     ) -> Result<u64, PageFault>
         requires next { self.old.next_word < 2 ^ 63 }
         ensures held { (entries : Entries) (free : List ℕ) → Holds (P.pages pages.old) self.old entries → IsApart (view (P.pages pages.old) (P.count pages.old) (P.first pages.old) free) self.old
             → found ≡ number_of_word word.now entries.texts
-            → IfOk result (λ number. CanHold word.now self.old.next_word entries
+            → IfOk result (λ number. CanHoldBy places word.now self.old.next_word entries
             × (number ≡ number_for word.now self.old.next_word entries.texts)
             × (self.new.next_word ≡ next_after (number_of_word word.now entries.texts) self.old.next_word)
             × IsChanged (view (P.pages pages.old) (P.count pages.old) (P.first pages.old) free) self.old
-            (P.pages pages.new) (P.count pages.new) (P.first pages.new) self.new (with_hold word.now self.old.next_word entries)) }
+            (P.pages pages.new) (P.count pages.new) (P.first pages.new) self.new (with_holds places word.now self.old.next_word entries)) }
         ensures honest { (entries : Entries) (free : List ℕ) → Holds (P.pages pages.old) self.old entries → IsApart (view (P.pages pages.old) (P.count pages.old) (P.first pages.old) free) self.old
             → found ≡ number_of_word word.now entries.texts → AreTold (P.pages pages.old) (P.count pages.old)
-            → (damage : Damage) → IsErrOf result (PageFault.Damaged damage) → (damage ≡ words_disagree) × (¬ CanHold word.now self.old.next_word entries) }
+            → (damage : Damage) → IsErrOf result (PageFault.Damaged damage) → (damage ≡ words_disagree) × (¬ CanHoldBy places word.now self.old.next_word entries) }
 
         // Damage of a new word's second row comes only of pages that held no entries, or were not apart.
         ensures damaged { AreTold (P.pages pages.old) (P.count pages.old) → IsTextSought (P.pages pages.old) self.old word.now found
             → (damage : Damage) → IsErrOf result (PageFault.Damaged damage)
-            → IsCountDamage (P.pages pages.old) (P.count pages.old) self.old word.now (P.asked pages.old) (P.asked pages.new) damage
+            → IsCountDamage places (P.pages pages.old) (P.count pages.old) self.old word.now (P.asked pages.old) (P.asked pages.new) damage
             ⊎ IsRefusedTake (P.pages pages.new) (P.count pages.new) (P.first pages.new) damage
             ⊎ (IsTextSought (P.pages pages.old) self.old word.now None
             × ((entries : Entries) (free : List ℕ) → Holds (P.pages pages.old) self.old entries → ¬ IsApart (view (P.pages pages.old) (P.count pages.old) (P.first pages.old) free) self.old)) }
@@ -171,7 +170,7 @@ impl Tables {
         ensures fails { FailsChanging P.Pages pages.old pages.new result }
         ensures frame { Changes P.Pages pages.old pages.new }
     {
-        let hold = self.count_with(pages, word, found)?;
+        let hold = self.count_with(pages, word, found, places)?;
         let counted = Counted {
             word: *word,
             places: hold.places,
@@ -186,30 +185,35 @@ impl Tables {
         }
     }
 
-    /// Counts one place more that holds the word, and answers the word's number: the next one where it had none.
+    /// Counts so many places more that hold the word, and answers the word's number: the next one where it had none.
     ///
     /// Refuses as the pages do, and `Damaged` by a rule that a page of the tables of words breaks, or with `Value` at the leaf
     /// whose row is no word's, or as a take of a page refuses, or with `Words` at page 0 where the two tables disagree on the
-    /// word, or on the next number, or as many places hold it as can be counted, which is found before anything is written.
+    /// word, or on the next number, or more places would hold it than can be counted, which is found before anything is written.
     /// After a refusal the tables are as before, and pages may have changed.
     ///
     /// Looks at one page a level of the words by text, and then goes on as [`Tables::hold_numbered`].
-    pub fn hold<P: Pages>(&mut self, pages: &mut P, word: &Word) -> Result<u64, PageFault>
+    pub fn hold<P: Pages>(
+        &mut self,
+        pages: &mut P,
+        word: &Word,
+        places: u32,
+    ) -> Result<u64, PageFault>
         requires next { self.old.next_word < 2 ^ 63 }
         ensures held { (entries : Entries) (free : List ℕ) → Holds (P.pages pages.old) self.old entries → IsApart (view (P.pages pages.old) (P.count pages.old) (P.first pages.old) free) self.old
-            → IfOk result (λ number. CanHold word.now self.old.next_word entries
+            → IfOk result (λ number. CanHoldBy places word.now self.old.next_word entries
             × (number ≡ number_for word.now self.old.next_word entries.texts)
             × (self.new.next_word ≡ next_after (number_of_word word.now entries.texts) self.old.next_word)
             × IsChanged (view (P.pages pages.old) (P.count pages.old) (P.first pages.old) free) self.old
-            (P.pages pages.new) (P.count pages.new) (P.first pages.new) self.new (with_hold word.now self.old.next_word entries)) }
+            (P.pages pages.new) (P.count pages.new) (P.first pages.new) self.new (with_holds places word.now self.old.next_word entries)) }
         ensures honest { (entries : Entries) (free : List ℕ) → Holds (P.pages pages.old) self.old entries → IsApart (view (P.pages pages.old) (P.count pages.old) (P.first pages.old) free) self.old
             → AreTold (P.pages pages.old) (P.count pages.old)
-            → (damage : Damage) → IsErrOf result (PageFault.Damaged damage) → (damage ≡ words_disagree) × (¬ CanHold word.now self.old.next_word entries) }
+            → (damage : Damage) → IsErrOf result (PageFault.Damaged damage) → (damage ≡ words_disagree) × (¬ CanHoldBy places word.now self.old.next_word entries) }
 
         // Damage of a new word's second row comes only of pages that held no entries, or were not apart.
         ensures damaged { AreTold (P.pages pages.old) (P.count pages.old)
             → (damage : Damage) → IsErrOf result (PageFault.Damaged damage)
-            → IsCountDamage (P.pages pages.old) (P.count pages.old) self.old word.now (P.asked pages.old) (P.asked pages.new) damage
+            → IsCountDamage places (P.pages pages.old) (P.count pages.old) self.old word.now (P.asked pages.old) (P.asked pages.new) damage
             ⊎ IsRefusedTake (P.pages pages.new) (P.count pages.new) (P.first pages.new) damage
             ⊎ (IsTextSought (P.pages pages.old) self.old word.now None
             × ((entries : Entries) (free : List ℕ) → Holds (P.pages pages.old) self.old entries → ¬ IsApart (view (P.pages pages.old) (P.count pages.old) (P.first pages.old) free) self.old)) }
@@ -223,6 +227,6 @@ impl Tables {
         ensures frame { Changes P.Pages pages.old pages.new }
     {
         let found = self.number_of(pages, word)?;
-        self.hold_numbered(pages, word, found)
+        self.hold_numbered(pages, word, found, places)
     }
 }

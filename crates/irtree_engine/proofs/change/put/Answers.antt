@@ -1,4 +1,4 @@
-use Rattle.std.proofs.Common.{◌≡◌, ◌+◌, ◌<◌, ◌≤◌, ◌^◌, Bool, true, false, not, cond, Option, Some, IfSome, option_map, Ok, Err, Result, IfErr, is_none, is_some, sym, ap, subst, subst₂, ◌∙◌, true≢false, arith}
+use Rattle.std.proofs.Common.{◌≡◌, ℕ, ◌+◌, ◌<◌, ◌≤◌, ◌^◌, Bool, true, false, not, cond, List, ◌∷◌, Option, Some, IfSome, option_map, Ok, Err, Result, IfErr, is_none, is_some, sym, ap, subst, subst₂, ◌∙◌, true≢false, arith}
 use Rattle.std.specs.Option.{option_copied}
 use Rattle.std.proofs.lemmas.Result.{err_from_is_err_and}
 use Rattle.page_face.specs.FreeList.{PageMap}
@@ -17,12 +17,14 @@ use Rattle.place_map.specs.declared.place.Place.{Place}
 use Rattle.place_map.specs.declared.update.Applied.{Applied}
 use Rattle.place_map.specs.declared.update.Applied.TheVariants.{New, Replaced}
 use Rattle.place_map.specs.Update.{Effect, put_at}
-use Rattle.store_meaning.specs.Stands.{PagesStand, tables_in}
-use Rattle.store_meaning.specs.Updates.{after_put, by_number, numbered_for, stored_with}
+use Rattle.place_map.specs.declared.update.Update.TheVariants.{Put}
+use Rattle.store_meaning.specs.Ahead.{StandAhead, after_put_by, claimed, next_by, pairs_by}
+use Rattle.store_meaning.specs.Stands.{tables_in}
+use Rattle.store_meaning.specs.Updates.{by_number, stored_with}
 use Rattle.store_tables.specs.declared.tables.Tables.{Tables}
 use Rattle.store_tables.specs.Entries.{place_of_key}
 use Rattle.store_tables.specs.Holding.{Holds, IsApart, IsChanged, table_uses}
-use Rattle.store_tables.specs.Words.{WordsAgree}
+use Rattle.store_tables.specs.Words.{WordTablesAgree, holders}
 use Rattle.store_tables.proofs.ToldLemmas.{told-changed}
 use Rattle.irtree_engine.specs.declared.fault.EngineFault.{EngineFault}
 use Rattle.irtree_engine.specs.Changes.{block_with, tree_in}
@@ -41,25 +43,27 @@ flipped false there e = sym (ap not e)
 
 -- src/change.rt:206:15
 pub returns-in_err-old-clause-due : goal.returns-in_err-old-clause-due
-returns-in_err-old-clause-due g c = λ state stand told.
+returns-in_err-old-clause-due g c = λ state name left stand told.
     let outcome = (put_at state c.args.key.now c.args.serial (record { point = c.args.point; words = c.args.words.now })).answer in
     let tables = c.tables_of-tables.result in
     let pages : PageMap = g.P.Pages.pages c.args.pages.now in
     let passed = err_from_is_err_and c.from_residual.result c.from_residual.ensures.1 in
-    let holds : Holds pages tables stand.entries = subst (λ (t : Tables). Holds pages t stand.entries) (sym c.tables_of-tables.ensures) stand.tables.holds in
-    let counted : AreCounted (table_uses pages tables) (g.P.Pages.count c.args.pages.now) = subst (λ (t : Tables). AreCounted (table_uses pages t) (g.P.Pages.count c.args.pages.now)) (sym c.tables_of-tables.ensures) (stand-counted stand) in
+    let holds : Holds pages tables stand.stand.entries = subst (λ (t : Tables). Holds pages t stand.stand.entries) (sym c.tables_of-tables.ensures) stand.stand.tables.holds in
+    let counted : AreCounted (table_uses pages tables) (g.P.Pages.count c.args.pages.now) = subst (λ (t : Tables). AreCounted (table_uses pages t) (g.P.Pages.count c.args.pages.now)) (sym c.tables_of-tables.ensures) (stand-counted stand.stand) in
     subst (λ (r : Result Applied EngineFault). IfErr r (IsDueTo outcome)) (sym passed.1)
-    (passed-due outcome c.in_err-old.field-0.0 passed.0 passed.2 (λ damage is. c.place.ensures.honest stand.entries holds told counted damage (c.in_err-old.was ∙ ap Err is)))
+    (passed-due outcome c.in_err-old.field-0.0 passed.0 passed.2 (λ damage is. c.place.ensures.honest stand.stand.entries holds told counted damage (c.in_err-old.was ∙ ap Err is)))
 
 -- src/change.rt:209:9
 pub returns-then-head-ge-PLACES_MAX-clause-due : goal.returns-then-head-ge-PLACES_MAX-clause-due
-returns-then-head-ge-PLACES_MAX-clause-due g c = λ state stand told.
+returns-then-head-ge-PLACES_MAX-clause-due g c = λ state name left stand told.
     let head = c.args.head.now in
+    let numbers : Option (List (List ℕ × ℕ)) = option_map (λ numbers. numbers.entries) c.args.held.now in
     let tables = c.tables_of-tables.result in
     let tables_are : tables ≡ tables_in head = c.tables_of-tables.ensures in
     let old = c.args.pages.now in
     let mid = c.place.new.pages in
-    let there = stand-same head (g.P.Pages.pages old) (g.P.Pages.pages mid) (g.P.Pages.count old) (g.P.Pages.count mid) (g.P.Pages.first old) (g.P.Pages.first mid) state c.place.ensures.frame.pages c.place.ensures.frame.count c.place.ensures.frame.first stand in
+    let ahead = stand-same numbers (Put name c.args.point c.args.words.now ∷ left) head (g.P.Pages.pages old) (g.P.Pages.pages mid) (g.P.Pages.count old) (g.P.Pages.count mid) (g.P.Pages.first old) (g.P.Pages.first mid) state c.place.ensures.frame.pages c.place.ensures.frame.count c.place.ensures.frame.first stand in
+    let there = ahead.stand in
     let holds : Holds (g.P.Pages.pages mid) tables there.entries = subst (λ (t : Tables). Holds (g.P.Pages.pages mid) t there.entries) (sym tables_are) there.tables.holds in
     let new_is : c.is_none-is_new.result ≡ is_none c.in_ok-old.old = flipped c.is_none-is_new.result (is_some c.in_ok-old.old) c.is_none-is_new.ensures in
     let is_found : c.in_ok-old.old ≡ place_of_key c.args.key.now there.entries.places = c.in_ok-old.ensures.found there.entries (subst (λ (p : PageMap). Holds p tables there.entries) c.place.ensures.frame.pages holds) in
@@ -68,13 +72,15 @@ returns-then-head-ge-PLACES_MAX-clause-due g c = λ state stand told.
 
 -- src/change.rt:212:9
 pub returns-then-head-eq-NUMBER_MAX-clause-due : goal.returns-then-head-eq-NUMBER_MAX-clause-due
-returns-then-head-eq-NUMBER_MAX-clause-due g c = λ state stand told.
+returns-then-head-eq-NUMBER_MAX-clause-due g c = λ state name left stand told.
     let head = c.args.head.now in
+    let numbers : Option (List (List ℕ × ℕ)) = option_map (λ numbers. numbers.entries) c.args.held.now in
     let tables = c.tables_of-tables.result in
     let tables_are : tables ≡ tables_in head = c.tables_of-tables.ensures in
     let old = c.args.pages.now in
     let mid = c.place.new.pages in
-    let there = stand-same head (g.P.Pages.pages old) (g.P.Pages.pages mid) (g.P.Pages.count old) (g.P.Pages.count mid) (g.P.Pages.first old) (g.P.Pages.first mid) state c.place.ensures.frame.pages c.place.ensures.frame.count c.place.ensures.frame.first stand in
+    let ahead = stand-same numbers (Put name c.args.point c.args.words.now ∷ left) head (g.P.Pages.pages old) (g.P.Pages.pages mid) (g.P.Pages.count old) (g.P.Pages.count mid) (g.P.Pages.first old) (g.P.Pages.first mid) state c.place.ensures.frame.pages c.place.ensures.frame.count c.place.ensures.frame.first stand in
+    let there = ahead.stand in
     let holds : Holds (g.P.Pages.pages mid) tables there.entries = subst (λ (t : Tables). Holds (g.P.Pages.pages mid) t there.entries) (sym tables_are) there.tables.holds in
     let new_is : c.is_none-is_new.result ≡ is_none c.in_ok-old.old = flipped c.is_none-is_new.result (is_some c.in_ok-old.old) c.is_none-is_new.ensures in
     let is_found : c.in_ok-old.old ≡ place_of_key c.args.key.now there.entries.places = c.in_ok-old.ensures.found there.entries (subst (λ (p : PageMap). Holds p tables there.entries) c.place.ensures.frame.pages holds) in
@@ -86,13 +92,15 @@ returns-then-head-eq-NUMBER_MAX-clause-due g c = λ state stand told.
 
 -- src/change.rt:216:5
 pub returns-in_err-new-clause-due : goal.returns-in_err-new-clause-due
-returns-in_err-new-clause-due g c = λ state stand told.
+returns-in_err-new-clause-due g c = λ state name left stand told.
     let head = c.args.head.now in
+    let numbers : Option (List (List ℕ × ℕ)) = option_map (λ numbers. numbers.entries) c.args.held.now in
     let tables = c.tables_of-tables.result in
     let tables_are : tables ≡ tables_in head = c.tables_of-tables.ensures in
     let old = c.args.pages.now in
     let mid = c.place.new.pages in
-    let there = stand-same head (g.P.Pages.pages old) (g.P.Pages.pages mid) (g.P.Pages.count old) (g.P.Pages.count mid) (g.P.Pages.first old) (g.P.Pages.first mid) state c.place.ensures.frame.pages c.place.ensures.frame.count c.place.ensures.frame.first stand in
+    let ahead = stand-same numbers (Put name c.args.point c.args.words.now ∷ left) head (g.P.Pages.pages old) (g.P.Pages.pages mid) (g.P.Pages.count old) (g.P.Pages.count mid) (g.P.Pages.first old) (g.P.Pages.first mid) state c.place.ensures.frame.pages c.place.ensures.frame.count c.place.ensures.frame.first stand in
+    let there = ahead.stand in
     let holds : Holds (g.P.Pages.pages mid) tables there.entries = subst (λ (t : Tables). Holds (g.P.Pages.pages mid) t there.entries) (sym tables_are) there.tables.holds in
     let new_is : c.is_none-is_new.result ≡ is_none c.in_ok-old.old = flipped c.is_none-is_new.result (is_some c.in_ok-old.old) c.is_none-is_new.ensures in
     let is_found : c.in_ok-old.old ≡ place_of_key c.args.key.now there.entries.places = c.in_ok-old.ensures.found there.entries (subst (λ (p : PageMap). Holds p tables there.entries) c.place.ensures.frame.pages holds) in
@@ -105,43 +113,46 @@ returns-in_err-new-clause-due g c = λ state stand told.
     let passed = err_from_is_err_and c.from_residual-in_err-new.result c.from_residual-in_err-new.ensures.1 in
     let apart : IsApart (view (g.P.Pages.pages mid) (g.P.Pages.count mid) (g.P.Pages.first mid) there.tables.free) tables =
     subst (λ (t : Tables). IsApart (view (g.P.Pages.pages mid) (g.P.Pages.count mid) (g.P.Pages.first mid) there.tables.free) t) (sym tables_are) there.tables.apart in
-    let agree : WordsAgree there.entries tables.next_word = subst (λ (t : Tables). WordsAgree there.entries t.next_word) (sym tables_are) there.tables.sound.words in
+    let agree : WordTablesAgree (λ n. claimed numbers (Put name c.args.point c.args.words.now ∷ left) n (holders n there.entries.places)) there.entries.texts there.entries.numbers tables.next_word =
+    subst (λ (t : Tables). WordTablesAgree (λ n. claimed numbers (Put name c.args.point c.args.words.now ∷ left) n (holders n there.entries.places)) there.entries.texts there.entries.numbers t.next_word) (sym tables_are) there.tables.sound.words in
     let told_there : AreTold (g.P.Pages.pages mid) (g.P.Pages.count mid) =
     subst (λ (p : PageMap). AreTold p (g.P.Pages.count mid)) (sym c.place.ensures.frame.pages) (subst (λ n. AreTold (g.P.Pages.pages old) n) (sym c.place.ensures.frame.count) told) in
     subst (λ (r : Result Applied EngineFault). IfErr r (IsDueTo outcome)) (sym passed.1)
     (passed-due outcome c.in_err-new.field-0.0 passed.0 passed.2
-    (λ damage is. c.put_place.ensures.honest there.entries there.tables.free holds apart (c.as_ref.ensures.value ∙ is_found) agree few told_there damage (c.in_err-new.was ∙ ap Err is)))
+    (λ damage is. c.put_in_batch.ensures.honest there.entries there.tables.free holds apart (c.as_ref.ensures.value ∙ is_found) few name left agree ahead.named told_there damage (c.in_err-new.was ∙ ap Err is)))
 
 -- src/change.rt:219:5
 pub returns-in_err-put_entry-clause-due : goal.returns-in_err-put_entry-clause-due
-returns-in_err-put_entry-clause-due g c = λ state stand told.
+returns-in_err-put_entry-clause-due g c = λ state name left stand told.
     let head = c.args.head.now in
+    let numbers : Option (List (List ℕ × ℕ)) = option_map (λ numbers. numbers.entries) c.args.held.now in
     let tables = c.tables_of-tables.result in
     let tables_are : tables ≡ tables_in head = c.tables_of-tables.ensures in
     let old = c.args.pages.now in
     let mid = c.place.new.pages in
-    let there = stand-same head (g.P.Pages.pages old) (g.P.Pages.pages mid) (g.P.Pages.count old) (g.P.Pages.count mid) (g.P.Pages.first old) (g.P.Pages.first mid) state c.place.ensures.frame.pages c.place.ensures.frame.count c.place.ensures.frame.first stand in
+    let ahead = stand-same numbers (Put name c.args.point c.args.words.now ∷ left) head (g.P.Pages.pages old) (g.P.Pages.pages mid) (g.P.Pages.count old) (g.P.Pages.count mid) (g.P.Pages.first old) (g.P.Pages.first mid) state c.place.ensures.frame.pages c.place.ensures.frame.count c.place.ensures.frame.first stand in
+    let there = ahead.stand in
     let holds : Holds (g.P.Pages.pages mid) tables there.entries = subst (λ (t : Tables). Holds (g.P.Pages.pages mid) t there.entries) (sym tables_are) there.tables.holds in
     let is_found : c.in_ok-old.old ≡ place_of_key c.args.key.now there.entries.places = c.in_ok-old.ensures.found there.entries (subst (λ (p : PageMap). Holds p tables there.entries) c.place.ensures.frame.pages holds) in
     let outcome = (put_at state c.args.key.now c.args.serial (record { point = c.args.point; words = c.args.words.now })).answer in
     let apart : IsApart (view (g.P.Pages.pages mid) (g.P.Pages.count mid) (g.P.Pages.first mid) there.tables.free) tables =
     subst (λ (t : Tables). IsApart (view (g.P.Pages.pages mid) (g.P.Pages.count mid) (g.P.Pages.first mid) there.tables.free) t) (sym tables_are) there.tables.apart in
-    let after = c.put_place.new.pages in
-    let now = c.put_place.new.tables in
+    let after = c.put_in_batch.new.pages in
+    let now = c.put_in_batch.new.tables in
     let changed = c.in_ok-new.ensures.put there.entries there.tables.free holds apart (c.as_ref.ensures.value ∙ is_found) in
-    let moves : IsChanged (view (g.P.Pages.pages mid) (g.P.Pages.count mid) (g.P.Pages.first mid) there.tables.free) (tables_in head) (g.P.Pages.pages after) (g.P.Pages.count after) (g.P.Pages.first after) now (after_put c.args.key.now c.args.point c.args.words.now head.next_word there.entries) =
-    subst (λ (t : Tables). IsChanged (view (g.P.Pages.pages mid) (g.P.Pages.count mid) (g.P.Pages.first mid) there.tables.free) t (g.P.Pages.pages after) (g.P.Pages.count after) (g.P.Pages.first after) now (after_put c.args.key.now c.args.point c.args.words.now t.next_word there.entries)) tables_are changed.2 in
+    let moves : IsChanged (view (g.P.Pages.pages mid) (g.P.Pages.count mid) (g.P.Pages.first mid) there.tables.free) (tables_in head) (g.P.Pages.pages after) (g.P.Pages.count after) (g.P.Pages.first after) now (after_put_by numbers c.args.key.now c.args.point c.args.words.now head.next_word there.entries) =
+    subst (λ (t : Tables). IsChanged (view (g.P.Pages.pages mid) (g.P.Pages.count mid) (g.P.Pages.first mid) there.tables.free) t (g.P.Pages.pages after) (g.P.Pages.count after) (g.P.Pages.first after) now (after_put_by numbers c.args.key.now c.args.point c.args.words.now t.next_word there.entries)) tables_are changed.2 in
     let tree_is : c.tree_of-tree.result ≡ tree_in head = c.tree_of-tree.ensures in
     let block = block_with (g.P.Pages.count mid) (g.P.Pages.first mid) head in
     let whole : IsWhole node_of (stock.view (g.P.Pages.pages after) c.tree_of-tree.result.rows (g.P.Pages.count after) (g.P.Pages.first after) moves.free) c.tree_of-tree.result.root =
     subst (λ (t : Tree). IsWhole node_of (stock.view (g.P.Pages.pages after) t.rows (g.P.Pages.count after) (g.P.Pages.first after) moves.free) t.root) (sym tree_is)
-    (tree-whole block (g.P.Pages.pages mid) state there (g.P.Pages.pages after) (g.P.Pages.count after) (g.P.Pages.first after) now (after_put c.args.key.now c.args.point c.args.words.now head.next_word there.entries) moves) in
+    (tree-whole block (g.P.Pages.pages mid) state there (g.P.Pages.pages after) (g.P.Pages.count after) (g.P.Pages.first after) now (after_put_by numbers c.args.key.now c.args.point c.args.words.now head.next_word there.entries) moves) in
     let has : IfSome (option_copied c.as_ref-2.result) (HasEntry (nodes_in node_of (g.P.Pages.pages after) c.tree_of-tree.result.rows) c.tree_of-tree.result.root c.args.key.now) =
     subst₂ (λ (found : Option Stored) (t : Tree). IfSome found (HasEntry (nodes_in node_of (g.P.Pages.pages after) t.rows) t.root c.args.key.now)) (sym c.as_ref-2.ensures.value) (sym tree_is)
-    (tree-has block (g.P.Pages.pages mid) state there (g.P.Pages.pages after) (g.P.Pages.count after) (g.P.Pages.first after) now (after_put c.args.key.now c.args.point c.args.words.now head.next_word there.entries) moves c.args.key.now c.in_ok-old.old is_found) in
+    (tree-has block (g.P.Pages.pages mid) state there (g.P.Pages.pages after) (g.P.Pages.count after) (g.P.Pages.first after) now (after_put_by numbers c.args.key.now c.args.point c.args.words.now head.next_word there.entries) moves c.args.key.now c.in_ok-old.old is_found) in
     let told_there : AreTold (g.P.Pages.pages mid) (g.P.Pages.count mid) =
     subst (λ (p : PageMap). AreTold p (g.P.Pages.count mid)) (sym c.place.ensures.frame.pages) (subst (λ n. AreTold (g.P.Pages.pages old) n) (sym c.place.ensures.frame.count) told) in
-    let told_after = told-changed (view (g.P.Pages.pages mid) (g.P.Pages.count mid) (g.P.Pages.first mid) there.tables.free) (tables_in head) (g.P.Pages.pages after) (g.P.Pages.count after) (g.P.Pages.first after) now (after_put c.args.key.now c.args.point c.args.words.now head.next_word there.entries) moves told_there in
+    let told_after = told-changed (view (g.P.Pages.pages mid) (g.P.Pages.count mid) (g.P.Pages.first mid) there.tables.free) (tables_in head) (g.P.Pages.pages after) (g.P.Pages.count after) (g.P.Pages.first after) now (after_put_by numbers c.args.key.now c.args.point c.args.words.now head.next_word there.entries) moves told_there in
     let passed = err_from_is_err_and c.from_residual-in_err-put_entry.result c.from_residual-in_err-put_entry.ensures.1 in
     subst (λ (r : Result Applied EngineFault). IfErr r (IsDueTo outcome)) (sym passed.1)
     (passed-due outcome c.in_err-put_entry.field-0.0 passed.0 passed.2
@@ -149,13 +160,15 @@ returns-in_err-put_entry-clause-due g c = λ state stand told.
 
 -- src/change.rt:175:1
 pub returns-then-is_new-3-clause-updated : goal.returns-then-is_new-3-clause-updated
-returns-then-is_new-3-clause-updated g c = λ state stand later serials above.
+returns-then-is_new-3-clause-updated g c = λ state name left stand later serials above.
     let head = c.args.head.now in
+    let numbers : Option (List (List ℕ × ℕ)) = option_map (λ numbers. numbers.entries) c.args.held.now in
     let tables = c.tables_of-tables.result in
     let tables_are : tables ≡ tables_in head = c.tables_of-tables.ensures in
     let old = c.args.pages.now in
     let mid = c.place.new.pages in
-    let there = stand-same head (g.P.Pages.pages old) (g.P.Pages.pages mid) (g.P.Pages.count old) (g.P.Pages.count mid) (g.P.Pages.first old) (g.P.Pages.first mid) state c.place.ensures.frame.pages c.place.ensures.frame.count c.place.ensures.frame.first stand in
+    let ahead = stand-same numbers (Put name c.args.point c.args.words.now ∷ left) head (g.P.Pages.pages old) (g.P.Pages.pages mid) (g.P.Pages.count old) (g.P.Pages.count mid) (g.P.Pages.first old) (g.P.Pages.first mid) state c.place.ensures.frame.pages c.place.ensures.frame.count c.place.ensures.frame.first stand in
+    let there = ahead.stand in
     let holds : Holds (g.P.Pages.pages mid) tables there.entries = subst (λ (t : Tables). Holds (g.P.Pages.pages mid) t there.entries) (sym tables_are) there.tables.holds in
     let new_is : c.is_none-is_new.result ≡ is_none c.in_ok-old.old = flipped c.is_none-is_new.result (is_some c.in_ok-old.old) c.is_none-is_new.ensures in
     let is_found : c.in_ok-old.old ≡ place_of_key c.args.key.now there.entries.places = c.in_ok-old.ensures.found there.entries (subst (λ (p : PageMap). Holds p tables there.entries) c.place.ensures.frame.pages holds) in
@@ -167,54 +180,56 @@ returns-then-is_new-3-clause-updated g c = λ state stand later serials above.
     let less : head.number ≡ 2 ^ 40 → ⊥ = λ e. omega arith in
     let apart : IsApart (view (g.P.Pages.pages mid) (g.P.Pages.count mid) (g.P.Pages.first mid) there.tables.free) tables =
     subst (λ (t : Tables). IsApart (view (g.P.Pages.pages mid) (g.P.Pages.count mid) (g.P.Pages.first mid) there.tables.free) t) (sym tables_are) there.tables.apart in
-    let after = c.put_place.new.pages in
-    let now = c.put_place.new.tables in
+    let after = c.put_in_batch.new.pages in
+    let now = c.put_in_batch.new.tables in
     let changed = c.in_ok-new.ensures.put there.entries there.tables.free holds apart (c.as_ref.ensures.value ∙ is_found) in
-    let next : now.next_word ≡ (numbered_for c.args.key.now c.args.words.now head.next_word there.entries).next_word =
-    subst (λ (t : Tables). now.next_word ≡ (numbered_for c.args.key.now c.args.words.now t.next_word there.entries).next_word) tables_are changed.1 in
-    let moves : IsChanged (view (g.P.Pages.pages mid) (g.P.Pages.count mid) (g.P.Pages.first mid) there.tables.free) (tables_in head) (g.P.Pages.pages after) (g.P.Pages.count after) (g.P.Pages.first after) now (after_put c.args.key.now c.args.point c.args.words.now head.next_word there.entries) =
-    subst (λ (t : Tables). IsChanged (view (g.P.Pages.pages mid) (g.P.Pages.count mid) (g.P.Pages.first mid) there.tables.free) t (g.P.Pages.pages after) (g.P.Pages.count after) (g.P.Pages.first after) now (after_put c.args.key.now c.args.point c.args.words.now t.next_word there.entries)) tables_are changed.2 in
+    let next : now.next_word ≡ next_by numbers c.args.key.now c.args.words.now head.next_word there.entries =
+    subst (λ (t : Tables). now.next_word ≡ next_by numbers c.args.key.now c.args.words.now t.next_word there.entries) tables_are changed.1 in
+    let moves : IsChanged (view (g.P.Pages.pages mid) (g.P.Pages.count mid) (g.P.Pages.first mid) there.tables.free) (tables_in head) (g.P.Pages.pages after) (g.P.Pages.count after) (g.P.Pages.first after) now (after_put_by numbers c.args.key.now c.args.point c.args.words.now head.next_word there.entries) =
+    subst (λ (t : Tables). IsChanged (view (g.P.Pages.pages mid) (g.P.Pages.count mid) (g.P.Pages.first mid) there.tables.free) t (g.P.Pages.pages after) (g.P.Pages.count after) (g.P.Pages.first after) now (after_put_by numbers c.args.key.now c.args.point c.args.words.now t.next_word there.entries)) tables_are changed.2 in
     let last = c.put_entry.new.pages in
     let tree = c.put_entry.new.tree in
     let tree_is : c.tree_of-tree.result ≡ tree_in head = c.tree_of-tree.ensures in
     let block = block_with (g.P.Pages.count mid) (g.P.Pages.first mid) head in
     let whole : IsWhole node_of (stock.view (g.P.Pages.pages after) c.tree_of-tree.result.rows (g.P.Pages.count after) (g.P.Pages.first after) moves.free) c.tree_of-tree.result.root =
     subst (λ (t : Tree). IsWhole node_of (stock.view (g.P.Pages.pages after) t.rows (g.P.Pages.count after) (g.P.Pages.first after) moves.free) t.root) (sym tree_is)
-    (tree-whole block (g.P.Pages.pages mid) state there (g.P.Pages.pages after) (g.P.Pages.count after) (g.P.Pages.first after) now (after_put c.args.key.now c.args.point c.args.words.now head.next_word there.entries) moves) in
+    (tree-whole block (g.P.Pages.pages mid) state there (g.P.Pages.pages after) (g.P.Pages.count after) (g.P.Pages.first after) now (after_put_by numbers c.args.key.now c.args.point c.args.words.now head.next_word there.entries) moves) in
     let has : IfSome (option_copied c.as_ref-2.result) (HasEntry (nodes_in node_of (g.P.Pages.pages after) c.tree_of-tree.result.rows) c.tree_of-tree.result.root c.args.key.now) =
     subst₂ (λ (found : Option Stored) (t : Tree). IfSome found (HasEntry (nodes_in node_of (g.P.Pages.pages after) t.rows) t.root c.args.key.now)) (sym c.as_ref-2.ensures.value) (sym tree_is)
-    (tree-has block (g.P.Pages.pages mid) state there (g.P.Pages.pages after) (g.P.Pages.count after) (g.P.Pages.first after) now (after_put c.args.key.now c.args.point c.args.words.now head.next_word there.entries) moves c.args.key.now c.in_ok-old.old is_found) in
-    let made : c.in_ok-new.new ≡ stored_with c.args.point (by_number (numbered_for c.args.key.now c.args.words.now head.next_word there.entries).pairs) =
-    subst (λ (t : Tables). c.in_ok-new.new ≡ stored_with c.args.point (by_number (numbered_for c.args.key.now c.args.words.now t.next_word there.entries).pairs)) tables_are changed.0 in
+    (tree-has block (g.P.Pages.pages mid) state there (g.P.Pages.pages after) (g.P.Pages.count after) (g.P.Pages.first after) now (after_put_by numbers c.args.key.now c.args.point c.args.words.now head.next_word there.entries) moves c.args.key.now c.in_ok-old.old is_found) in
+    let made : c.in_ok-new.new ≡ stored_with c.args.point (by_number (pairs_by numbers c.args.key.now c.args.words.now head.next_word there.entries)) =
+    subst (λ (t : Tables). c.in_ok-new.new ≡ stored_with c.args.point (by_number (pairs_by numbers c.args.key.now c.args.words.now t.next_word there.entries))) tables_are changed.0 in
     let grown : IsRegrown node_of (stock.view (g.P.Pages.pages after) head.rows (g.P.Pages.count after) (g.P.Pages.first after) moves.free) (g.P.Pages.pages last) tree.rows (g.P.Pages.count last) (g.P.Pages.first last) head.tree tree.root (option_map (entry_at c.args.key.now) c.in_ok-old.old) (Some (entry_at c.args.key.now c.in_ok-new.new)) =
     subst₂ (λ (found : Option Stored) (t : Tree). IsRegrown node_of (stock.view (g.P.Pages.pages after) t.rows (g.P.Pages.count after) (g.P.Pages.first after) moves.free) (g.P.Pages.pages last) tree.rows (g.P.Pages.count last) (g.P.Pages.first last) t.root tree.root (option_map (entry_at c.args.key.now) found) (Some (entry_at c.args.key.now c.in_ok-new.new))) c.as_ref-2.ensures.value tree_is
     (c.in_ok-put_entry.ensures.put moves.free whole has) in
     let regrown : IsRegrown node_of (stock.view (g.P.Pages.pages after) head.rows (g.P.Pages.count after) (g.P.Pages.first after) moves.free) (g.P.Pages.pages last) tree.rows (g.P.Pages.count last) (g.P.Pages.first last) head.tree tree.root (option_map (entry_at c.args.key.now) c.in_ok-old.old)
-    (Some (entry_at c.args.key.now (stored_with c.args.point (by_number (numbered_for c.args.key.now c.args.words.now head.next_word there.entries).pairs)))) =
+    (Some (entry_at c.args.key.now (stored_with c.args.point (by_number (pairs_by numbers c.args.key.now c.args.words.now head.next_word there.entries))))) =
     subst (λ (s : Stored). IsRegrown node_of (stock.view (g.P.Pages.pages after) head.rows (g.P.Pages.count after) (g.P.Pages.first after) moves.free) (g.P.Pages.pages last) tree.rows (g.P.Pages.count last) (g.P.Pages.first last) head.tree tree.root (option_map (entry_at c.args.key.now) c.in_ok-old.old) (Some (entry_at c.args.key.now s))) made
     grown in
-    let grows : g.P.Pages.count mid ≤ g.P.Pages.count after = c.put_place.ensures.frame.count in
+    let grows : g.P.Pages.count mid ≤ g.P.Pages.count after = c.put_in_batch.ensures.frame.count in
     let live : c.if-is_new-2.live ≡ cond (is_none c.in_ok-old.old) (head.live + 1) head.live = elim c.if-is_new-2.branch [
       | then-is_new-2 w ↦ w.live-is ∙ ap (λ b. cond b (head.live + 1) head.live) (sym (sym new_is ∙ w.if-is_new-2.true))
       | else-is_new-2 w ↦ w.live-is ∙ ap (λ b. cond b (head.live + 1) head.live) (sym (sym new_is ∙ w.if-is_new-2.false))
     ] in
     let done = put-done head (g.P.Pages.count mid) (g.P.Pages.first mid) (g.P.Pages.pages mid) state there c.args.key.now c.in_ok-old.old is_found c.args.serial place room less in (
       ap (λ (e : Effect). e.answer) done ∙ ap (λ b. Ok (cond b New Replaced)) (sym new_is ∙ c.if-is_new-3.true),
-      subst (λ (h : Head). PagesStand (block_with (g.P.Pages.count last) (g.P.Pages.first last) h) (g.P.Pages.pages last) (put_at state c.args.key.now c.args.serial place).state) (sym c.head_after.ensures)
-          (put-stands head (g.P.Pages.count mid) (g.P.Pages.first mid) (g.P.Pages.pages mid) state there c.args.key.now c.in_ok-old.old is_found (g.P.Pages.pages after) (g.P.Pages.count after) (g.P.Pages.first after) (g.met.P.Pages.first_is_counted after) grows now
+      subst (λ (h : Head). StandAhead numbers left (block_with (g.P.Pages.count last) (g.P.Pages.first last) h) (g.P.Pages.pages last) (put_at state c.args.key.now c.args.serial place).state) (sym c.head_after.ensures)
+          (put-stands numbers left head (g.P.Pages.count mid) (g.P.Pages.first mid) (g.P.Pages.pages mid) state c.args.key.now c.in_ok-old.old c.requires.range.number (g.P.Pages.pages after) (g.P.Pages.count after) (g.P.Pages.first after) (g.met.P.Pages.first_is_counted after) grows now
           (g.P.Pages.pages last) (g.P.Pages.count last) (g.P.Pages.first last) (g.met.P.Pages.first_is_counted last) c.put_entry.ensures.frame.count tree
-          c.args.point c.args.words.now c.args.serial c.if-is_new-2.live c.pairs.ensures.valid room (omega arith) less later serials above live next moves regrown),
+          name c.args.point c.args.words.now c.args.serial c.if-is_new-2.live ahead is_found c.pairs.ensures.valid room (omega arith) less later serials above live next moves regrown),
     )
 
 -- src/change.rt:175:1
 pub returns-else-is_new-3-clause-updated : goal.returns-else-is_new-3-clause-updated
-returns-else-is_new-3-clause-updated g c = λ state stand later serials above.
+returns-else-is_new-3-clause-updated g c = λ state name left stand later serials above.
     let head = c.args.head.now in
+    let numbers : Option (List (List ℕ × ℕ)) = option_map (λ numbers. numbers.entries) c.args.held.now in
     let tables = c.tables_of-tables.result in
     let tables_are : tables ≡ tables_in head = c.tables_of-tables.ensures in
     let old = c.args.pages.now in
     let mid = c.place.new.pages in
-    let there = stand-same head (g.P.Pages.pages old) (g.P.Pages.pages mid) (g.P.Pages.count old) (g.P.Pages.count mid) (g.P.Pages.first old) (g.P.Pages.first mid) state c.place.ensures.frame.pages c.place.ensures.frame.count c.place.ensures.frame.first stand in
+    let ahead = stand-same numbers (Put name c.args.point c.args.words.now ∷ left) head (g.P.Pages.pages old) (g.P.Pages.pages mid) (g.P.Pages.count old) (g.P.Pages.count mid) (g.P.Pages.first old) (g.P.Pages.first mid) state c.place.ensures.frame.pages c.place.ensures.frame.count c.place.ensures.frame.first stand in
+    let there = ahead.stand in
     let holds : Holds (g.P.Pages.pages mid) tables there.entries = subst (λ (t : Tables). Holds (g.P.Pages.pages mid) t there.entries) (sym tables_are) there.tables.holds in
     let new_is : c.is_none-is_new.result ≡ is_none c.in_ok-old.old = flipped c.is_none-is_new.result (is_some c.in_ok-old.old) c.is_none-is_new.ensures in
     let is_found : c.in_ok-old.old ≡ place_of_key c.args.key.now there.entries.places = c.in_ok-old.ensures.found there.entries (subst (λ (p : PageMap). Holds p tables there.entries) c.place.ensures.frame.pages holds) in
@@ -226,41 +241,41 @@ returns-else-is_new-3-clause-updated g c = λ state stand later serials above.
     let less : head.number ≡ 2 ^ 40 → ⊥ = λ e. omega arith in
     let apart : IsApart (view (g.P.Pages.pages mid) (g.P.Pages.count mid) (g.P.Pages.first mid) there.tables.free) tables =
     subst (λ (t : Tables). IsApart (view (g.P.Pages.pages mid) (g.P.Pages.count mid) (g.P.Pages.first mid) there.tables.free) t) (sym tables_are) there.tables.apart in
-    let after = c.put_place.new.pages in
-    let now = c.put_place.new.tables in
+    let after = c.put_in_batch.new.pages in
+    let now = c.put_in_batch.new.tables in
     let changed = c.in_ok-new.ensures.put there.entries there.tables.free holds apart (c.as_ref.ensures.value ∙ is_found) in
-    let next : now.next_word ≡ (numbered_for c.args.key.now c.args.words.now head.next_word there.entries).next_word =
-    subst (λ (t : Tables). now.next_word ≡ (numbered_for c.args.key.now c.args.words.now t.next_word there.entries).next_word) tables_are changed.1 in
-    let moves : IsChanged (view (g.P.Pages.pages mid) (g.P.Pages.count mid) (g.P.Pages.first mid) there.tables.free) (tables_in head) (g.P.Pages.pages after) (g.P.Pages.count after) (g.P.Pages.first after) now (after_put c.args.key.now c.args.point c.args.words.now head.next_word there.entries) =
-    subst (λ (t : Tables). IsChanged (view (g.P.Pages.pages mid) (g.P.Pages.count mid) (g.P.Pages.first mid) there.tables.free) t (g.P.Pages.pages after) (g.P.Pages.count after) (g.P.Pages.first after) now (after_put c.args.key.now c.args.point c.args.words.now t.next_word there.entries)) tables_are changed.2 in
+    let next : now.next_word ≡ next_by numbers c.args.key.now c.args.words.now head.next_word there.entries =
+    subst (λ (t : Tables). now.next_word ≡ next_by numbers c.args.key.now c.args.words.now t.next_word there.entries) tables_are changed.1 in
+    let moves : IsChanged (view (g.P.Pages.pages mid) (g.P.Pages.count mid) (g.P.Pages.first mid) there.tables.free) (tables_in head) (g.P.Pages.pages after) (g.P.Pages.count after) (g.P.Pages.first after) now (after_put_by numbers c.args.key.now c.args.point c.args.words.now head.next_word there.entries) =
+    subst (λ (t : Tables). IsChanged (view (g.P.Pages.pages mid) (g.P.Pages.count mid) (g.P.Pages.first mid) there.tables.free) t (g.P.Pages.pages after) (g.P.Pages.count after) (g.P.Pages.first after) now (after_put_by numbers c.args.key.now c.args.point c.args.words.now t.next_word there.entries)) tables_are changed.2 in
     let last = c.put_entry.new.pages in
     let tree = c.put_entry.new.tree in
     let tree_is : c.tree_of-tree.result ≡ tree_in head = c.tree_of-tree.ensures in
     let block = block_with (g.P.Pages.count mid) (g.P.Pages.first mid) head in
     let whole : IsWhole node_of (stock.view (g.P.Pages.pages after) c.tree_of-tree.result.rows (g.P.Pages.count after) (g.P.Pages.first after) moves.free) c.tree_of-tree.result.root =
     subst (λ (t : Tree). IsWhole node_of (stock.view (g.P.Pages.pages after) t.rows (g.P.Pages.count after) (g.P.Pages.first after) moves.free) t.root) (sym tree_is)
-    (tree-whole block (g.P.Pages.pages mid) state there (g.P.Pages.pages after) (g.P.Pages.count after) (g.P.Pages.first after) now (after_put c.args.key.now c.args.point c.args.words.now head.next_word there.entries) moves) in
+    (tree-whole block (g.P.Pages.pages mid) state there (g.P.Pages.pages after) (g.P.Pages.count after) (g.P.Pages.first after) now (after_put_by numbers c.args.key.now c.args.point c.args.words.now head.next_word there.entries) moves) in
     let has : IfSome (option_copied c.as_ref-2.result) (HasEntry (nodes_in node_of (g.P.Pages.pages after) c.tree_of-tree.result.rows) c.tree_of-tree.result.root c.args.key.now) =
     subst₂ (λ (found : Option Stored) (t : Tree). IfSome found (HasEntry (nodes_in node_of (g.P.Pages.pages after) t.rows) t.root c.args.key.now)) (sym c.as_ref-2.ensures.value) (sym tree_is)
-    (tree-has block (g.P.Pages.pages mid) state there (g.P.Pages.pages after) (g.P.Pages.count after) (g.P.Pages.first after) now (after_put c.args.key.now c.args.point c.args.words.now head.next_word there.entries) moves c.args.key.now c.in_ok-old.old is_found) in
-    let made : c.in_ok-new.new ≡ stored_with c.args.point (by_number (numbered_for c.args.key.now c.args.words.now head.next_word there.entries).pairs) =
-    subst (λ (t : Tables). c.in_ok-new.new ≡ stored_with c.args.point (by_number (numbered_for c.args.key.now c.args.words.now t.next_word there.entries).pairs)) tables_are changed.0 in
+    (tree-has block (g.P.Pages.pages mid) state there (g.P.Pages.pages after) (g.P.Pages.count after) (g.P.Pages.first after) now (after_put_by numbers c.args.key.now c.args.point c.args.words.now head.next_word there.entries) moves c.args.key.now c.in_ok-old.old is_found) in
+    let made : c.in_ok-new.new ≡ stored_with c.args.point (by_number (pairs_by numbers c.args.key.now c.args.words.now head.next_word there.entries)) =
+    subst (λ (t : Tables). c.in_ok-new.new ≡ stored_with c.args.point (by_number (pairs_by numbers c.args.key.now c.args.words.now t.next_word there.entries))) tables_are changed.0 in
     let grown : IsRegrown node_of (stock.view (g.P.Pages.pages after) head.rows (g.P.Pages.count after) (g.P.Pages.first after) moves.free) (g.P.Pages.pages last) tree.rows (g.P.Pages.count last) (g.P.Pages.first last) head.tree tree.root (option_map (entry_at c.args.key.now) c.in_ok-old.old) (Some (entry_at c.args.key.now c.in_ok-new.new)) =
     subst₂ (λ (found : Option Stored) (t : Tree). IsRegrown node_of (stock.view (g.P.Pages.pages after) t.rows (g.P.Pages.count after) (g.P.Pages.first after) moves.free) (g.P.Pages.pages last) tree.rows (g.P.Pages.count last) (g.P.Pages.first last) t.root tree.root (option_map (entry_at c.args.key.now) found) (Some (entry_at c.args.key.now c.in_ok-new.new))) c.as_ref-2.ensures.value tree_is
     (c.in_ok-put_entry.ensures.put moves.free whole has) in
     let regrown : IsRegrown node_of (stock.view (g.P.Pages.pages after) head.rows (g.P.Pages.count after) (g.P.Pages.first after) moves.free) (g.P.Pages.pages last) tree.rows (g.P.Pages.count last) (g.P.Pages.first last) head.tree tree.root (option_map (entry_at c.args.key.now) c.in_ok-old.old)
-    (Some (entry_at c.args.key.now (stored_with c.args.point (by_number (numbered_for c.args.key.now c.args.words.now head.next_word there.entries).pairs)))) =
+    (Some (entry_at c.args.key.now (stored_with c.args.point (by_number (pairs_by numbers c.args.key.now c.args.words.now head.next_word there.entries))))) =
     subst (λ (s : Stored). IsRegrown node_of (stock.view (g.P.Pages.pages after) head.rows (g.P.Pages.count after) (g.P.Pages.first after) moves.free) (g.P.Pages.pages last) tree.rows (g.P.Pages.count last) (g.P.Pages.first last) head.tree tree.root (option_map (entry_at c.args.key.now) c.in_ok-old.old) (Some (entry_at c.args.key.now s))) made
     grown in
-    let grows : g.P.Pages.count mid ≤ g.P.Pages.count after = c.put_place.ensures.frame.count in
+    let grows : g.P.Pages.count mid ≤ g.P.Pages.count after = c.put_in_batch.ensures.frame.count in
     let live : c.if-is_new-2.live ≡ cond (is_none c.in_ok-old.old) (head.live + 1) head.live = elim c.if-is_new-2.branch [
       | then-is_new-2 w ↦ w.live-is ∙ ap (λ b. cond b (head.live + 1) head.live) (sym (sym new_is ∙ w.if-is_new-2.true))
       | else-is_new-2 w ↦ w.live-is ∙ ap (λ b. cond b (head.live + 1) head.live) (sym (sym new_is ∙ w.if-is_new-2.false))
     ] in
     let done = put-done head (g.P.Pages.count mid) (g.P.Pages.first mid) (g.P.Pages.pages mid) state there c.args.key.now c.in_ok-old.old is_found c.args.serial place room less in (
       ap (λ (e : Effect). e.answer) done ∙ ap (λ b. Ok (cond b New Replaced)) (sym new_is ∙ c.if-is_new-3.false),
-      subst (λ (h : Head). PagesStand (block_with (g.P.Pages.count last) (g.P.Pages.first last) h) (g.P.Pages.pages last) (put_at state c.args.key.now c.args.serial place).state) (sym c.head_after.ensures)
-          (put-stands head (g.P.Pages.count mid) (g.P.Pages.first mid) (g.P.Pages.pages mid) state there c.args.key.now c.in_ok-old.old is_found (g.P.Pages.pages after) (g.P.Pages.count after) (g.P.Pages.first after) (g.met.P.Pages.first_is_counted after) grows now
+      subst (λ (h : Head). StandAhead numbers left (block_with (g.P.Pages.count last) (g.P.Pages.first last) h) (g.P.Pages.pages last) (put_at state c.args.key.now c.args.serial place).state) (sym c.head_after.ensures)
+          (put-stands numbers left head (g.P.Pages.count mid) (g.P.Pages.first mid) (g.P.Pages.pages mid) state c.args.key.now c.in_ok-old.old c.requires.range.number (g.P.Pages.pages after) (g.P.Pages.count after) (g.P.Pages.first after) (g.met.P.Pages.first_is_counted after) grows now
           (g.P.Pages.pages last) (g.P.Pages.count last) (g.P.Pages.first last) (g.met.P.Pages.first_is_counted last) c.put_entry.ensures.frame.count tree
-          c.args.point c.args.words.now c.args.serial c.if-is_new-2.live c.pairs.ensures.valid room (omega arith) less later serials above live next moves regrown),
+          name c.args.point c.args.words.now c.args.serial c.if-is_new-2.live ahead is_found c.pairs.ensures.valid room (omega arith) less later serials above live next moves regrown),
     )

@@ -1,4 +1,4 @@
-use Rattle.std.proofs.Common.{◌≡◌, ◌-◌, ◌^◌, true, false, Option, Some, None, IfSome, Err, Result, IfErr, is_some, refl, sym, ap, subst, ◌∙◌, arith}
+use Rattle.std.proofs.Common.{◌≡◌, ℕ, ◌-◌, ◌^◌, true, false, List, ◌∷◌, option_map, Option, Some, None, IfSome, Err, Result, IfErr, is_some, refl, sym, ap, subst, ◌∙◌, arith}
 use Rattle.std.proofs.lemmas.Result.{err_from_is_err_and}
 use Rattle.page_face.specs.FreeList.{PageMap}
 use Rattle.page_face.specs.declared.head.Head.{Head}
@@ -13,12 +13,16 @@ use Rattle.irtree_shape.specs.Whole.{IsWhole}
 use Rattle.tree_updates.specs.Regrown.{HasEntry, IsRegrown, entry_at}
 use Rattle.place_map.specs.declared.update.Applied.{Applied}
 use Rattle.place_map.specs.Update.{Effect, removed_at}
-use Rattle.store_meaning.specs.Stands.{PagesStand, tables_in}
+use Rattle.place_map.specs.declared.update.Update.TheVariants.{Remove}
+use Rattle.store_meaning.specs.Ahead.{StandAhead, claimed}
+use Rattle.store_meaning.specs.Stands.{tables_in}
+use Rattle.store_meaning.proofs.Batches.{counting-claimed, stand-absent}
 use Rattle.store_meaning.specs.Updates.{after_remove}
 use Rattle.row_codec.specs.declared.stored.Stored.{Stored}
 use Rattle.store_tables.specs.declared.tables.Tables.{Tables}
 use Rattle.store_tables.specs.Entries.{place_of_key}
 use Rattle.store_tables.specs.Holding.{Holds, IsApart, IsChanged, table_uses}
+use Rattle.store_tables.specs.Words.{WordTablesAgree, holders}
 use Rattle.store_tables.proofs.ToldLemmas.{told-changed}
 use Rattle.irtree_engine.specs.declared.fault.EngineFault.{EngineFault}
 use Rattle.irtree_engine.specs.Changes.{block_with, tree_in}
@@ -36,55 +40,88 @@ none_there (Some stored) none = absurd (none stored refl)
 
 -- src/change.rt:257:21
 pub returns-in_err-old-clause-due : goal.returns-in_err-old-clause-due
-returns-in_err-old-clause-due g c = λ state stand told.
+returns-in_err-old-clause-due g c = λ state left stand told.
     let outcome = (removed_at state c.args.key.now).answer in
     let tables = c.tables_of-tables.result in
     let pages : PageMap = g.P.Pages.pages c.args.pages.now in
     let passed = err_from_is_err_and c.from_residual.result c.from_residual.ensures.1 in
-    let holds : Holds pages tables stand.entries = subst (λ (t : Tables). Holds pages t stand.entries) (sym c.tables_of-tables.ensures) stand.tables.holds in
-    let counted : AreCounted (table_uses pages tables) (g.P.Pages.count c.args.pages.now) = subst (λ (t : Tables). AreCounted (table_uses pages t) (g.P.Pages.count c.args.pages.now)) (sym c.tables_of-tables.ensures) (stand-counted stand) in
+    let holds : Holds pages tables stand.stand.entries = subst (λ (t : Tables). Holds pages t stand.stand.entries) (sym c.tables_of-tables.ensures) stand.stand.tables.holds in
+    let counted : AreCounted (table_uses pages tables) (g.P.Pages.count c.args.pages.now) = subst (λ (t : Tables). AreCounted (table_uses pages t) (g.P.Pages.count c.args.pages.now)) (sym c.tables_of-tables.ensures) (stand-counted stand.stand) in
     subst (λ (r : Result Applied EngineFault). IfErr r (IsDueTo outcome)) (sym passed.1)
-    (passed-due outcome c.in_err-old.field-0.0 passed.0 passed.2 (λ damage is. c.place.ensures.honest stand.entries holds told counted damage (c.in_err-old.was ∙ ap Err is)))
+    (passed-due outcome c.in_err-old.field-0.0 passed.0 passed.2 (λ damage is. c.place.ensures.honest stand.stand.entries holds told counted damage (c.in_err-old.was ∙ ap Err is)))
 
 -- src/change.rt:258:9
 pub returns-in_default-clause-updated : goal.returns-in_default-clause-updated
-returns-in_default-clause-updated g c = λ state stand.
+returns-in_default-clause-updated g c = λ state left stand.
     let head = c.args.head.now in
+    let numbers : Option (List (List ℕ × ℕ)) = option_map (λ numbers. numbers.entries) c.args.held.now in
     let tables = c.tables_of-tables.result in
     let tables_are : tables ≡ tables_in head = c.tables_of-tables.ensures in
     let old = c.args.pages.now in
     let mid = c.place.new.pages in
-    let there = stand-same head (g.P.Pages.pages old) (g.P.Pages.pages mid) (g.P.Pages.count old) (g.P.Pages.count mid) (g.P.Pages.first old) (g.P.Pages.first mid) state c.place.ensures.frame.pages c.place.ensures.frame.count c.place.ensures.frame.first stand in
+    let ahead = stand-same numbers (Remove c.args.key.now ∷ left) head (g.P.Pages.pages old) (g.P.Pages.pages mid) (g.P.Pages.count old) (g.P.Pages.count mid) (g.P.Pages.first old) (g.P.Pages.first mid) state c.place.ensures.frame.pages c.place.ensures.frame.count c.place.ensures.frame.first stand in
+    let there = ahead.stand in
     let holds : Holds (g.P.Pages.pages mid) tables there.entries = subst (λ (t : Tables). Holds (g.P.Pages.pages mid) t there.entries) (sym tables_are) there.tables.holds in
     let is_found : c.in_ok-old.field-0 ≡ place_of_key c.args.key.now there.entries.places = c.in_ok-old.ensures.found there.entries (subst (λ (p : PageMap). Holds p tables there.entries) c.place.ensures.frame.pages holds) in
     let none : is_some c.in_ok-old.field-0 ≡ false = none_there c.in_ok-old.field-0 c.in_default.not-Some in
     let absent = remove-absent head (g.P.Pages.count mid) (g.P.Pages.first mid) (g.P.Pages.pages mid) state there c.args.key.now c.in_ok-old.field-0 is_found none in (
       ap (λ (e : Effect). e.answer) absent,
-      subst (λ (e : Effect). PagesStand (block_with (g.P.Pages.count mid) (g.P.Pages.first mid) head) (g.P.Pages.pages mid) e.state) (sym absent) there,
+      subst (λ (e : Effect). StandAhead numbers left (block_with (g.P.Pages.count mid) (g.P.Pages.first mid) head) (g.P.Pages.pages mid) e.state) (sym absent)
+          (stand-absent numbers left c.args.key.now (block_with (g.P.Pages.count mid) (g.P.Pages.first mid) head) (g.P.Pages.pages mid) state ahead),
     )
 
 -- src/change.rt:261:9
 pub returns-then-head-eq-NUMBER_MAX-clause-due : goal.returns-then-head-eq-NUMBER_MAX-clause-due
-returns-then-head-eq-NUMBER_MAX-clause-due g c = λ state stand told.
+returns-then-head-eq-NUMBER_MAX-clause-due g c = λ state left stand told.
     let head = c.args.head.now in
+    let numbers : Option (List (List ℕ × ℕ)) = option_map (λ numbers. numbers.entries) c.args.held.now in
     let tables = c.tables_of-tables.result in
     let tables_are : tables ≡ tables_in head = c.tables_of-tables.ensures in
     let old = c.args.pages.now in
     let mid = c.place.new.pages in
-    let there = stand-same head (g.P.Pages.pages old) (g.P.Pages.pages mid) (g.P.Pages.count old) (g.P.Pages.count mid) (g.P.Pages.first old) (g.P.Pages.first mid) state c.place.ensures.frame.pages c.place.ensures.frame.count c.place.ensures.frame.first stand in
+    let ahead = stand-same numbers (Remove c.args.key.now ∷ left) head (g.P.Pages.pages old) (g.P.Pages.pages mid) (g.P.Pages.count old) (g.P.Pages.count mid) (g.P.Pages.first old) (g.P.Pages.first mid) state c.place.ensures.frame.pages c.place.ensures.frame.count c.place.ensures.frame.first stand in
+    let there = ahead.stand in
     let holds : Holds (g.P.Pages.pages mid) tables there.entries = subst (λ (t : Tables). Holds (g.P.Pages.pages mid) t there.entries) (sym tables_are) there.tables.holds in
     let is_found : c.in_ok-old.field-0 ≡ place_of_key c.args.key.now there.entries.places = c.in_ok-old.ensures.found there.entries (subst (λ (p : PageMap). Holds p tables there.entries) c.place.ensures.frame.pages holds) in
     remove-worn head (g.P.Pages.count mid) (g.P.Pages.first mid) (g.P.Pages.pages mid) state there c.args.key.now c.in_ok-old.field-0 is_found (ap is_some c.in-Some.is) (omega arith)
 
--- src/change.rt:268:5
-pub returns-in_err-take_entry-clause-due : goal.returns-in_err-take_entry-clause-due
-returns-in_err-take_entry-clause-due g c = λ state stand told.
+-- src/change.rt:266:5
+pub returns-in_err-remove_place-clause-due : goal.returns-in_err-remove_place-clause-due
+returns-in_err-remove_place-clause-due g c = λ state left stand told.
     let head = c.args.head.now in
+    let numbers : Option (List (List ℕ × ℕ)) = option_map (λ numbers. numbers.entries) c.args.held.now in
     let tables = c.tables_of-tables.result in
     let tables_are : tables ≡ tables_in head = c.tables_of-tables.ensures in
     let old = c.args.pages.now in
     let mid = c.place.new.pages in
-    let there = stand-same head (g.P.Pages.pages old) (g.P.Pages.pages mid) (g.P.Pages.count old) (g.P.Pages.count mid) (g.P.Pages.first old) (g.P.Pages.first mid) state c.place.ensures.frame.pages c.place.ensures.frame.count c.place.ensures.frame.first stand in
+    let ahead = stand-same numbers (Remove c.args.key.now ∷ left) head (g.P.Pages.pages old) (g.P.Pages.pages mid) (g.P.Pages.count old) (g.P.Pages.count mid) (g.P.Pages.first old) (g.P.Pages.first mid) state c.place.ensures.frame.pages c.place.ensures.frame.count c.place.ensures.frame.first stand in
+    let there = ahead.stand in
+    let holds : Holds (g.P.Pages.pages mid) tables there.entries = subst (λ (t : Tables). Holds (g.P.Pages.pages mid) t there.entries) (sym tables_are) there.tables.holds in
+    let is_found : c.in_ok-old.field-0 ≡ place_of_key c.args.key.now there.entries.places = c.in_ok-old.ensures.found there.entries (subst (λ (p : PageMap). Holds p tables there.entries) c.place.ensures.frame.pages holds) in
+    let apart : IsApart (view (g.P.Pages.pages mid) (g.P.Pages.count mid) (g.P.Pages.first mid) there.tables.free) tables =
+    subst (λ (t : Tables). IsApart (view (g.P.Pages.pages mid) (g.P.Pages.count mid) (g.P.Pages.first mid) there.tables.free) t) (sym tables_are) there.tables.apart in
+    let outcome = (removed_at state c.args.key.now).answer in
+    let claims : ℕ → ℕ → ℕ = claimed numbers (Remove c.args.key.now ∷ left) in
+    let agree : WordTablesAgree (λ n. claims n (holders n there.entries.places)) there.entries.texts there.entries.numbers tables.next_word =
+    subst (λ (t : Tables). WordTablesAgree (λ n. claims n (holders n there.entries.places)) there.entries.texts there.entries.numbers t.next_word) (sym tables_are) there.tables.sound.words in
+    let told_there : AreTold (g.P.Pages.pages mid) (g.P.Pages.count mid) =
+    subst (λ (p : PageMap). AreTold p (g.P.Pages.count mid)) (sym c.place.ensures.frame.pages) (subst (λ n. AreTold (g.P.Pages.pages old) n) (sym c.place.ensures.frame.count) told) in
+    let passed = err_from_is_err_and c.from_residual-in_err-remove_place.result c.from_residual-in_err-remove_place.ensures.1 in
+    subst (λ (r : Result Applied EngineFault). IfErr r (IsDueTo outcome)) (sym passed.1)
+    (passed-due outcome c.in_err-remove_place.field-0.0 passed.0 passed.2
+    (λ damage is. c.remove_place.ensures.honest there.entries there.tables.free holds apart (sym is_found ∙ c.in-Some.is) claims (counting-claimed numbers (Remove c.args.key.now ∷ left)) agree told_there damage (c.in_err-remove_place.was ∙ ap Err is)))
+
+-- src/change.rt:268:5
+pub returns-in_err-take_entry-clause-due : goal.returns-in_err-take_entry-clause-due
+returns-in_err-take_entry-clause-due g c = λ state left stand told.
+    let head = c.args.head.now in
+    let numbers : Option (List (List ℕ × ℕ)) = option_map (λ numbers. numbers.entries) c.args.held.now in
+    let tables = c.tables_of-tables.result in
+    let tables_are : tables ≡ tables_in head = c.tables_of-tables.ensures in
+    let old = c.args.pages.now in
+    let mid = c.place.new.pages in
+    let ahead = stand-same numbers (Remove c.args.key.now ∷ left) head (g.P.Pages.pages old) (g.P.Pages.pages mid) (g.P.Pages.count old) (g.P.Pages.count mid) (g.P.Pages.first old) (g.P.Pages.first mid) state c.place.ensures.frame.pages c.place.ensures.frame.count c.place.ensures.frame.first stand in
+    let there = ahead.stand in
     let holds : Holds (g.P.Pages.pages mid) tables there.entries = subst (λ (t : Tables). Holds (g.P.Pages.pages mid) t there.entries) (sym tables_are) there.tables.holds in
     let is_found : c.in_ok-old.field-0 ≡ place_of_key c.args.key.now there.entries.places = c.in_ok-old.ensures.found there.entries (subst (λ (p : PageMap). Holds p tables there.entries) c.place.ensures.frame.pages holds) in
     let apart : IsApart (view (g.P.Pages.pages mid) (g.P.Pages.count mid) (g.P.Pages.first mid) there.tables.free) tables =
@@ -114,13 +151,15 @@ returns-in_err-take_entry-clause-due g c = λ state stand told.
 
 -- src/change.rt:230:1
 pub returns-clause-updated : goal.returns-clause-updated
-returns-clause-updated g c = λ state stand.
+returns-clause-updated g c = λ state left stand.
     let head = c.args.head.now in
+    let numbers : Option (List (List ℕ × ℕ)) = option_map (λ numbers. numbers.entries) c.args.held.now in
     let tables = c.tables_of-tables.result in
     let tables_are : tables ≡ tables_in head = c.tables_of-tables.ensures in
     let old = c.args.pages.now in
     let mid = c.place.new.pages in
-    let there = stand-same head (g.P.Pages.pages old) (g.P.Pages.pages mid) (g.P.Pages.count old) (g.P.Pages.count mid) (g.P.Pages.first old) (g.P.Pages.first mid) state c.place.ensures.frame.pages c.place.ensures.frame.count c.place.ensures.frame.first stand in
+    let ahead = stand-same numbers (Remove c.args.key.now ∷ left) head (g.P.Pages.pages old) (g.P.Pages.pages mid) (g.P.Pages.count old) (g.P.Pages.count mid) (g.P.Pages.first old) (g.P.Pages.first mid) state c.place.ensures.frame.pages c.place.ensures.frame.count c.place.ensures.frame.first stand in
+    let there = ahead.stand in
     let holds : Holds (g.P.Pages.pages mid) tables there.entries = subst (λ (t : Tables). Holds (g.P.Pages.pages mid) t there.entries) (sym tables_are) there.tables.holds in
     let is_found : c.in_ok-old.field-0 ≡ place_of_key c.args.key.now there.entries.places = c.in_ok-old.ensures.found there.entries (subst (λ (p : PageMap). Holds p tables there.entries) c.place.ensures.frame.pages holds) in
     let apart : IsApart (view (g.P.Pages.pages mid) (g.P.Pages.count mid) (g.P.Pages.first mid) there.tables.free) tables =
@@ -149,8 +188,8 @@ returns-clause-updated g c = λ state stand.
     (c.in_ok-take_entry.ensures.taken moves.free whole has) in
     let done = remove-done head (g.P.Pages.count mid) (g.P.Pages.first mid) (g.P.Pages.pages mid) state there c.args.key.now c.in_ok-old.field-0 is_found some less in (
       ap (λ (e : Effect). e.answer) done,
-      subst (λ (h : Head). PagesStand (block_with (g.P.Pages.count last) (g.P.Pages.first last) h) (g.P.Pages.pages last) (removed_at state c.args.key.now).state) (sym c.head_after.ensures)
-          (remove-stands head (g.P.Pages.count mid) (g.P.Pages.first mid) (g.P.Pages.pages mid) state there c.args.key.now c.in_ok-old.field-0 is_found (g.P.Pages.pages after) (g.P.Pages.count after) (g.P.Pages.first after) (g.met.P.Pages.first_is_counted after) c.remove_place.ensures.frame.count now
+      subst (λ (h : Head). StandAhead numbers left (block_with (g.P.Pages.count last) (g.P.Pages.first last) h) (g.P.Pages.pages last) (removed_at state c.args.key.now).state) (sym c.head_after.ensures)
+          (remove-stands numbers left head (g.P.Pages.count mid) (g.P.Pages.first mid) (g.P.Pages.pages mid) state c.args.key.now c.in_ok-old.field-0 c.requires.range.number (g.P.Pages.pages after) (g.P.Pages.count after) (g.P.Pages.first after) (g.met.P.Pages.first_is_counted after) c.remove_place.ensures.frame.count now
           (g.P.Pages.pages last) (g.P.Pages.count last) (g.P.Pages.first last) (g.met.P.Pages.first_is_counted last) c.take_entry.ensures.frame.count tree
-          c.in-Some.old (head.live - 1) c.in-Some.is less (omega arith) next moves regrown),
+          c.in-Some.old (head.live - 1) ahead is_found c.in-Some.is less (omega arith) next moves regrown),
     )

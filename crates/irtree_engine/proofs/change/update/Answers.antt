@@ -1,44 +1,15 @@
-use Rattle.std.proofs.Common.{◌≡◌, ◌+◌, ◌≤◌, Ok, IfErr, IfOk, sym, ap, subst, arith}
-use Rattle.spatial_base.specs.Key.{Name}
-use Rattle.place_map.specs.declared.update.Update.{Update}
-use Rattle.place_map.specs.declared.update.Update.TheVariants.{Put}
-use Rattle.place_map.specs.State.{Contents, IsSerialAbove}
-use Rattle.place_map.specs.Update.{Effect, NamesText, effect_of, key_for, serial_after}
-use Rattle.store_meaning.specs.Stands.{PagesStand}
-use Rattle.irtree_engine.specs.Changes.{block_with}
-use Rattle.irtree_engine.specs.Updates.{IsDueTo}
-use Rattle.irtree_engine.proofs.Named.{named-above, put-effect, serial-rises}
+use Rattle.std.proofs.Common.{◌∷◌, [], Result, Ok, Err, IfOk}
+use Rattle.store_meaning.proofs.Batches.{stand-plain}
 use Rattle.irtree_engine.proofs.change.update.Goals as goal
 
--- src/change.rt:32:1
-pub returns-in-Put-clause-updated : goal.returns-in-Put-clause-updated
-returns-in-Put-clause-updated g c = λ state stand.
-    let head = c.args.head.now in
-    let name = c.named-key.result.0 in
-    let serial = c.named-key.result.1 in
-    let serial_is : state.serial ≡ head.serial = ap (λ (s : Contents). s.serial) stand.is in
-    let key_is : name ≡ key_for state c.in-Put.key = c.named-key.ensures.key state serial_is in
-    let next_is : serial ≡ serial_after state c.in-Put.key = c.named-key.ensures.serial state serial_is in
-    let rises = serial-rises state c.in-Put.key in
-    let serials = stand.tables.range.serials in
-    let later : head.serial ≤ serial = omega (arith, serial_is, next_is, rises.0) in
-    let most : serial ≤ head.number + 2 = omega (arith, serial_is, next_is, rises.1, serials) in
-    let text : NamesText (Put c.in-Put.key c.in-Put.point c.in-Put.words) = subst NamesText c.in-Put.is c.requires in
-    let above : IsSerialAbove serial name =
-    subst (λ (n : Name). IsSerialAbove serial n) (sym key_is) (subst (λ m. IsSerialAbove m (key_for state c.in-Put.key)) (sym next_is) (named-above state c.in-Put.key c.in-Put.point c.in-Put.words text)) in
-    subst (λ (e : Effect). IfOk c.put.result (λ applied. (e.answer ≡ Ok applied) × PagesStand (block_with (g.P.Pages.count c.put.new.pages) (g.P.Pages.first c.put.new.pages) c.put.new.head) (g.P.Pages.pages c.put.new.pages) e.state))
-    (put-effect state c.args.update.now c.in-Put.key c.in-Put.point c.in-Put.words name serial c.in-Put.is key_is next_is)
-    (c.put.ensures.updated state stand later most above)
+-- what holds of an answer holds of it in other words
+ok_as : {T E : Type 0} (P Q : T → Type 0) (result : Result T E) → ((x : T) → P x → Q x) → IfOk result P → IfOk result Q
+ok_as P Q (Ok x) weaker is = weaker x is
+ok_as P Q (Err e) weaker is = tt
 
--- src/change.rt:32:1
-pub returns-in-Put-clause-due : goal.returns-in-Put-clause-due
-returns-in-Put-clause-due g c = λ state stand told.
-    let serial_is : state.serial ≡ c.args.head.now.serial = ap (λ (s : Contents). s.serial) stand.is in
-    subst (λ (e : Effect). IfErr c.put.result (IsDueTo e.answer))
-    (put-effect state c.args.update.now c.in-Put.key c.in-Put.point c.in-Put.words c.named-key.result.0 c.named-key.result.1 c.in-Put.is (c.named-key.ensures.key state serial_is) (c.named-key.ensures.serial state serial_is))
-    (c.put.ensures.due state stand told)
+pub returns-clause-updated : goal.returns-clause-updated
+returns-clause-updated g c = λ state stand.
+    ok_as _ _ c.update_in_batch.result (λ applied h. (h.0, h.1.stand)) (c.update_in_batch.ensures.updated state [] (stand-plain (c.args.update.now ∷ []) _ _ state stand))
 
--- src/change.rt:32:1
-pub returns-in-Remove-clause-due : goal.returns-in-Remove-clause-due
-returns-in-Remove-clause-due g c = λ state stand told.
-    subst (λ (u : Update). IfErr c.remove.result (IsDueTo (effect_of state u).answer)) (sym c.in-Remove.is) (c.remove.ensures.due state stand told)
+pub returns-clause-due : goal.returns-clause-due
+returns-clause-due g c = λ state stand told. c.update_in_batch.ensures.due state [] (stand-plain (c.args.update.now ∷ []) _ _ state stand) told

@@ -5,25 +5,50 @@ use Rattle.irtree_engine.specs.declared.fault.EngineFault.{EngineFault}
 use Rattle.irtree_engine.specs.Changes.{block_with}
 use Rattle.place_map.specs.Update.{NamesText}
 use Rattle.irtree_engine.specs.Updates.{IsDueTo, state_after_all}
-use Rattle.irtree_engine.proofs.Batches.{updated-all, updated-due, updated-more}
+use Rattle.irtree_engine.proofs.Batches.{updated-all, updated-due, updated-more, updated-next, updated-none}
 use Rattle.irtree_engine.proofs.change.update_all.Goals as goal
 
+-- src/change.rt:113:16
+pub returns-in_err-held-clause-due : goal.returns-in_err-held-clause-due
+returns-in_err-held-clause-due g c = λ state stand told.
+    let passed = err_from_is_err_and c.from_residual.result c.from_residual.ensures.1 in
+    subst (λ (r : Result (Unit {0}) EngineFault). IfErr r (IsDueTo (state_after_all state c.args.updates.now))) (sym passed.1)
+    (subst (IsDueTo (state_after_all state c.args.updates.now)) (sym passed.2) (c.in_err-held.ensures.due state stand (told c.args.pages.now)))
+
+-- src/change.rt:115:5
+pub loop-next-init : goal.loop-next-init
+loop-next-init g c =
+    let held = c.hold_ahead.ensures in
+    let live = held.same.0 in
+    let number = held.same.1 in record {
+      keys = c.requires;
+      stand = λ state stand. updated-none _ state c.args.updates.now _ _ (c.in_ok-held.ensures.begun state stand);
+      lives = omega (arith, live);
+      numbers = omega (arith, number);
+      room = held.room;
+      faults = held.faults;
+      refused = held.refused;
+      goes_on = held.goes_on;
+      follows = held.follows;
+    }
+
 -- src/change.rt:100:9
-pub returns-in_err-update-clause-due : goal.returns-in_err-update-clause-due
-returns-in_err-update-clause-due g c = λ state stand told.
+pub returns-in_err-update_in_batch-clause-due : goal.returns-in_err-update_in_batch-clause-due
+returns-in_err-update_in_batch-clause-due g c = λ state stand told.
     let are = c.loop-next.invariant.stand state stand in
     let is : c.loop-next.left.now ≡ c.in-Some.next.now ∷ c.in-Some.rest.now = search rules in
-    let passed = err_from_is_err_and c.from_residual.result c.from_residual.ensures.1 in
-    let due : IsDueTo (state_after_all state c.args.updates.now) c.in_err-update.field-0.0 =
-    updated-due are c.in-Some.next.now c.in-Some.rest.now is c.in_err-update.field-0.0 (c.in_err-update.ensures.due are.now are.stand (told c.loop-next.pages)) in
+    let ahead = updated-next are c.in-Some.next.now c.in-Some.rest.now is in
+    let passed = err_from_is_err_and c.from_residual-in_err-update_in_batch.result c.from_residual-in_err-update_in_batch.ensures.1 in
+    let due : IsDueTo (state_after_all state c.args.updates.now) c.in_err-update_in_batch.field-0.0 =
+    updated-due are c.in-Some.next.now c.in-Some.rest.now is c.in_err-update_in_batch.field-0.0 (c.in_err-update_in_batch.ensures.due are.now c.in-Some.rest.now ahead (told c.loop-next.pages)) in
     subst (λ (r : Result (Unit {0}) EngineFault). IfErr r (IsDueTo (state_after_all state c.args.updates.now))) (sym passed.1)
     (subst (IsDueTo (state_after_all state c.args.updates.now)) (sym passed.2) due)
 
-pub returns-in_err-update-clause-one_more_each : goal.returns-in_err-update-clause-one_more_each
-returns-in_err-update-clause-one_more_each g c =
+pub returns-in_err-update_in_batch-clause-one_more_each : goal.returns-in_err-update_in_batch-clause-one_more_each
+returns-in_err-update_in_batch-clause-one_more_each g c =
     let is : c.loop-next.left.now ≡ c.in-Some.next.now ∷ c.in-Some.rest.now = search rules in
     let long : length c.loop-next.left.now ≡ length c.in-Some.rest.now + 1 = ap length is ∙ omega arith in
-    let one_more = c.update.ensures.one_more in
+    let one_more = c.update_in_batch.ensures.one_more in
     let more_live = one_more.0 in
     let more_number = one_more.1 in
     let lives = c.loop-next.invariant.lives in
@@ -35,7 +60,7 @@ loop-next-preserved g c =
     let is : c.loop-next.left.now ≡ c.in-Some.next.now ∷ c.in-Some.rest.now = search rules in
     let long : length c.loop-next.left.now ≡ length c.in-Some.rest.now + 1 = ap length is ∙ omega arith in
     let invariant = c.loop-next.invariant in
-    let one_more = c.update.ensures.one_more in
+    let one_more = c.update_in_batch.ensures.one_more in
     let more_live = one_more.0 in
     let more_number = one_more.1 in
     let lives = invariant.lives in
@@ -43,15 +68,16 @@ loop-next-preserved g c =
       keys = (subst (AllByRecursion NamesText) is invariant.keys).1;
       stand = λ state stand.
           let are = invariant.stand state stand in
-          let updated = c.in_ok-update.ensures.updated are.now are.stand in
-          updated-more are c.in-Some.next.now c.in-Some.rest.now is (block_with (g.P.Pages.count c.update.new.pages) (g.P.Pages.first c.update.new.pages) c.update.new.head) (g.P.Pages.pages c.update.new.pages) c.in_ok-update.field-0 updated.0 updated.1;
+          let ahead = updated-next are c.in-Some.next.now c.in-Some.rest.now is in
+          let updated = c.in_ok-update_in_batch.ensures.updated are.now c.in-Some.rest.now ahead in
+          updated-more are c.in-Some.next.now c.in-Some.rest.now is (block_with (g.P.Pages.count c.update_in_batch.new.pages) (g.P.Pages.first c.update_in_batch.new.pages) c.update_in_batch.new.head) (g.P.Pages.pages c.update_in_batch.new.pages) c.in_ok-update_in_batch.field-0 updated.0 updated.1;
       lives = omega (arith, long, more_live, lives);
       numbers = omega (arith, long, more_number, numbers);
-      room = c.update.ensures.room ∙ invariant.room;
-      faults = omega (arith, c.update.ensures.faults, invariant.faults);
-      refused = omega (arith, c.update.ensures.refused, invariant.refused);
-      goes_on = c.update.ensures.goes_on ∙ invariant.goes_on;
-      follows = g.met.P.Pages.goes_further _ _ _ invariant.follows c.update.ensures.follows;
+      room = c.update_in_batch.ensures.room ∙ invariant.room;
+      faults = omega (arith, c.update_in_batch.ensures.faults, invariant.faults);
+      refused = omega (arith, c.update_in_batch.ensures.refused, invariant.refused);
+      goes_on = c.update_in_batch.ensures.goes_on ∙ invariant.goes_on;
+      follows = g.met.P.Pages.goes_further _ _ _ invariant.follows c.update_in_batch.ensures.follows;
     }
 
 -- src/change.rt:73:1

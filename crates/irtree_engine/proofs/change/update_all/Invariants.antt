@@ -1,4 +1,4 @@
-use Rattle.std.proofs.Common.{◌≡◌, ◌+◌, ◌≤◌, length}
+use Rattle.std.proofs.Common.{◌≡◌, ◌+◌, ◌≤◌, length, option_map}
 use Rattle.std.specs.List.{AllByRecursion}
 use Rattle.place_map.specs.State.{Contents}
 use Rattle.store_meaning.specs.Stands.{PagesStand}
@@ -11,7 +11,7 @@ abbrev pub invariant-loop-next : goal.invariant-loop-next
 invariant-loop-next g l = record {
   keys : AllByRecursion NamesText l.left;
   stand : (state : Contents) → PagesStand (block_with (g.P.Pages.count l.fn.pages) (g.P.Pages.first l.fn.pages) l.fn.head) (g.P.Pages.pages l.fn.pages) state
-      → AreUpdated state l.fn.updates l.left (block_with (g.P.Pages.count l.pages) (g.P.Pages.first l.pages) l.head) (g.P.Pages.pages l.pages);
+      → AreUpdated (option_map (λ numbers. numbers.entries) l.held) state l.fn.updates l.left (block_with (g.P.Pages.count l.pages) (g.P.Pages.first l.pages) l.head) (g.P.Pages.pages l.pages);
   lives : l.head.live + length l.left ≤ l.fn.head.live + length l.fn.updates;
   numbers : l.head.number + length l.left ≤ l.fn.head.number + length l.fn.updates;
   room : g.P.Pages.room l.pages ≡ g.P.Pages.room l.fn.pages;

@@ -13,14 +13,14 @@ use Rattle.store_meaning.proofs.Maps.{ascending-holds}
 use Rattle.place_updates.proofs.removing.remove_place.Goals as goal
 
 pub returns-in_err-release_words-clause-honest : goal.returns-in_err-release_words-clause-honest
-returns-in_err-release_words-clause-honest g c entries free holds apart was agree told damage =
+returns-in_err-release_words-clause-honest g c entries free holds apart was claims counting agree told damage =
     let before : View = view (g.P.Pages.pages c.args.pages.now) (g.P.Pages.count c.args.pages.now) (g.P.Pages.first c.args.pages.now) free in
     let key = c.args.key.now in
     let left : Entries = record entries { places = without_place key entries.places } in
     let pairs : c.held_pairs.result.now ≡ pairs_of (place_of_key key entries.places) = c.held_pairs.ensures.pairs ∙ ap pairs_of (sym was) in
     let first = c.in_ok-remove_place.ensures.removed entries free holds apart in
     let ascend = ascending-holds (g.P.Pages.pages c.args.pages.now) c.args.tables.now entries holds in
-    let can : CanReleaseAll [] c.held_pairs.result.now left = subst (λ (ps : List Pair). CanReleaseAll [] ps left) (sym pairs) (can-release-without key entries c.args.tables.now.next_word agree ascend holds.places.each) in
+    let can : CanReleaseAll [] c.held_pairs.result.now left = subst (λ (ps : List Pair). CanReleaseAll [] ps left) (sym pairs) (can-release-without claims counting key entries c.args.tables.now.next_word agree ascend holds.places.each) in
     let p = err_from_is_err_and c.from_residual-in_err-release_words.result c.from_residual-in_err-release_words.ensures.1 in
     λ e. (let same : c.in_err-release_words.field-0.0 ≡ Damaged damage = cc (p.1, p.2, e) in
     c.in_err-release_words.ensures.honest left first.1.free first.1.holds first.1.apart can (told-changed before c.args.tables.now _ _ _ _ _ first.1 told) damage (ap Err same))

@@ -14,10 +14,10 @@ pub returns-in-Some-clause-held : goal.returns-in-Some-clause-held
 returns-in-Some-clause-held g c entries holds was =
     let is = c.in_ok-row.ensures.found entries holds ∙ ap (λ (n : ℕ). word_of_number n entries.numbers) c.unwrap_or.ensures in
     let some = c.in-Some.ensures.some in
-    (can_hold-read c.args.word.now c.args.self.now.next_word entries _ _ was is some.0, places-read c.args.word.now c.args.self.now.next_word _ entries _ _ was is some.1)
+    (can_hold-read c.args.places c.args.word.now c.args.self.now.next_word entries _ _ was is some.0, places-read c.args.places c.args.word.now c.args.self.now.next_word _ entries _ _ was is some.1)
 
 pub returns-in-Some-clause-known : goal.returns-in-Some-clause-known
-returns-in-Some-clause-known g c = known-read c.args.word.now c.args.found c.in_ok-row.row c.in-Some.hold.spot c.in-Some.ensures.spot c.in-Some.ensures.some.0
+returns-in-Some-clause-known g c = known-read c.args.places c.args.word.now c.args.found c.in_ok-row.row c.in-Some.hold.spot c.in-Some.ensures.spot c.in-Some.ensures.some.0
 
 pub returns-in-Some-clause-spot : goal.returns-in-Some-clause-spot
 returns-in-Some-clause-spot g c =
@@ -28,7 +28,7 @@ returns-in-Some-clause-spot g c =
 pub returns-in-None-clause-honest : goal.returns-in-None-clause-honest
 returns-in-None-clause-honest g c entries holds was told counted damage =
     let is = c.in_ok-row.ensures.found entries holds ∙ ap (λ (n : ℕ). word_of_number n entries.numbers) c.unwrap_or.ensures in
-    λ e. (cc, cannot_hold-read c.args.word.now c.args.self.now.next_word entries _ _ was is c.in-None.ensures.none)
+    λ e. (cc, cannot_hold-read c.args.places c.args.word.now c.args.self.now.next_word entries _ _ was is c.in-None.ensures.none)
 
 pub returns-in_err-row-clause-honest : goal.returns-in_err-row-clause-honest
 returns-in_err-row-clause-honest g c entries holds was told counted damage =

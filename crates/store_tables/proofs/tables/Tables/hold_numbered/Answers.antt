@@ -10,7 +10,7 @@ use Rattle.row_codec.specs.Counted.{number_bytes}
 use Rattle.store_tables.specs.Entries.{Entries}
 use Rattle.store_tables.specs.Holding.{Holds, IsApart, IsChanged, word_uses}
 use Rattle.store_tables.specs.Words.{next_after}
-use Rattle.store_tables.proofs.HoldLemmas.{if_ok, none-found, with_hold-found, with_hold-new}
+use Rattle.store_tables.proofs.HoldLemmas.{if_ok, none-found, with_holds-found, with_holds-new}
 use Rattle.store_tables.proofs.ToldLemmas.{apart-counted}
 use Rattle.store_tables.proofs.tables.Tables.hold_numbered.Goals as goal
 
@@ -54,7 +54,7 @@ returns-in_ok-replace_number-in-Some-clause-held g c entries free holds apart wa
     let next : ℕ = c.args.self.now.next_word in
     let number : ℕ = c.unwrap_or-number.result in
     let number_is : number ≡ unwrap_or c.args.found next = c.unwrap_or-number.ensures in
-    let is = with_hold-found c.args.word.now next c.in_ok-hold.hold.places c.args.found c.in_ok-hold.hold.spot c.in-Some.spot entries was c.in_ok-hold.ensures.known c.in-Some.is h.1 in
+    let is = with_holds-found c.args.places c.args.word.now next c.in_ok-hold.hold.places c.args.found c.in_ok-hold.hold.spot c.in-Some.spot entries was c.in_ok-hold.ensures.known c.in-Some.is h.1 in
     let changed = c.in_ok-replace_number-in-Some.ensures.put entries free held kept in (
       h.0,
       number_is ∙ ap (λ (f : Option ℕ). unwrap_or f next) was,
@@ -73,7 +73,7 @@ returns-in-None-clause-held g c entries free holds apart found_was =
     let h = c.in_ok-hold.ensures.held entries holds found_was in
     let next : ℕ = c.args.self.now.next_word in
     let was = sym found_was ∙ none-found c.args.found c.in_ok-hold.hold.spot c.in_ok-hold.ensures.known c.in-None.is in
-    let is = with_hold-new c.args.word.now next c.in_ok-hold.hold.places entries was h.1 in
+    let is = with_holds-new c.args.places c.args.word.now next c.in_ok-hold.hold.places entries was h.1 in
     if_ok c.put_new.result (c.put_new.ensures.put entries free held kept) c.put_new.ensures.number c.put_new.ensures.next
     (λ number changed same after. (
       h.0,

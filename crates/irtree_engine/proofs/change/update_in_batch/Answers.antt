@@ -1,0 +1,50 @@
+use Rattle.std.proofs.Common.{◌≡◌, ℕ, ◌+◌, ◌≤◌, List, ◌∷◌, Option, option_map, Ok, IfErr, IfOk, sym, ap, subst, arith}
+use Rattle.spatial_base.specs.Key.{Name}
+use Rattle.place_map.specs.declared.update.Update.{Update}
+use Rattle.place_map.specs.declared.update.Update.TheVariants.{Put}
+use Rattle.place_map.specs.State.{Contents, IsSerialAbove}
+use Rattle.place_map.specs.Update.{Effect, effect_of, key_for, serial_after, NamesText}
+use Rattle.store_meaning.specs.Ahead.{StandAhead}
+use Rattle.irtree_engine.specs.Changes.{block_with}
+use Rattle.irtree_engine.specs.Updates.{IsDueTo}
+use Rattle.irtree_engine.proofs.Named.{named-above, put-effect, serial-rises}
+use Rattle.irtree_engine.proofs.change.update_in_batch.Goals as goal
+
+-- src/change.rt:32:1
+pub returns-in-Put-clause-updated : goal.returns-in-Put-clause-updated
+returns-in-Put-clause-updated g c = λ state left stand.
+    let numbers : Option (List (List ℕ × ℕ)) = option_map (λ numbers. numbers.entries) c.args.held.now in
+    let ahead = subst (λ (u : Update). StandAhead numbers (u ∷ left) (block_with (g.P.Pages.count c.args.pages.now) (g.P.Pages.first c.args.pages.now) c.args.head.now) (g.P.Pages.pages c.args.pages.now) state) c.in-Put.is stand in
+    let head = c.args.head.now in
+    let name = c.named-key.result.0 in
+    let serial = c.named-key.result.1 in
+    let serial_is : state.serial ≡ head.serial = ap (λ (s : Contents). s.serial) stand.stand.is in
+    let key_is : name ≡ key_for state c.in-Put.key = c.named-key.ensures.key state serial_is in
+    let next_is : serial ≡ serial_after state c.in-Put.key = c.named-key.ensures.serial state serial_is in
+    let rises = serial-rises state c.in-Put.key in
+    let serials = stand.stand.tables.serials in
+    let later : head.serial ≤ serial = omega (arith, serial_is, next_is, rises.0) in
+    let most : serial ≤ head.number + 2 = omega (arith, serial_is, next_is, rises.1, serials) in
+    let text : NamesText (Put c.in-Put.key c.in-Put.point c.in-Put.words) = subst NamesText c.in-Put.is c.requires in
+    let above : IsSerialAbove serial name =
+    subst (λ (n : Name). IsSerialAbove serial n) (sym key_is) (subst (λ m. IsSerialAbove m (key_for state c.in-Put.key)) (sym next_is) (named-above state c.in-Put.key c.in-Put.point c.in-Put.words text)) in
+    subst (λ (e : Effect). IfOk c.put.result (λ applied. (e.answer ≡ Ok applied) × StandAhead numbers left (block_with (g.P.Pages.count c.put.new.pages) (g.P.Pages.first c.put.new.pages) c.put.new.head) (g.P.Pages.pages c.put.new.pages) e.state))
+    (put-effect state c.args.update.now c.in-Put.key c.in-Put.point c.in-Put.words name serial c.in-Put.is key_is next_is)
+    (c.put.ensures.updated state c.in-Put.key left ahead later most above)
+
+-- src/change.rt:32:1
+pub returns-in-Put-clause-due : goal.returns-in-Put-clause-due
+returns-in-Put-clause-due g c = λ state left stand told.
+    let numbers : Option (List (List ℕ × ℕ)) = option_map (λ numbers. numbers.entries) c.args.held.now in
+    let ahead = subst (λ (u : Update). StandAhead numbers (u ∷ left) (block_with (g.P.Pages.count c.args.pages.now) (g.P.Pages.first c.args.pages.now) c.args.head.now) (g.P.Pages.pages c.args.pages.now) state) c.in-Put.is stand in
+    let serial_is : state.serial ≡ c.args.head.now.serial = ap (λ (s : Contents). s.serial) stand.stand.is in
+    subst (λ (e : Effect). IfErr c.put.result (IsDueTo e.answer))
+    (put-effect state c.args.update.now c.in-Put.key c.in-Put.point c.in-Put.words c.named-key.result.0 c.named-key.result.1 c.in-Put.is (c.named-key.ensures.key state serial_is) (c.named-key.ensures.serial state serial_is))
+    (c.put.ensures.due state c.in-Put.key left ahead told)
+
+-- src/change.rt:32:1
+pub returns-in-Remove-clause-due : goal.returns-in-Remove-clause-due
+returns-in-Remove-clause-due g c = λ state left stand told.
+    let numbers : Option (List (List ℕ × ℕ)) = option_map (λ numbers. numbers.entries) c.args.held.now in
+    let ahead = subst (λ (u : Update). StandAhead numbers (u ∷ left) (block_with (g.P.Pages.count c.args.pages.now) (g.P.Pages.first c.args.pages.now) c.args.head.now) (g.P.Pages.pages c.args.pages.now) state) c.in-Remove.is stand in
+    subst (λ (u : Update). IfErr c.remove.result (IsDueTo (effect_of state u).answer)) (sym c.in-Remove.is) (c.remove.ensures.due state left ahead told)
