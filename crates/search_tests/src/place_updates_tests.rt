@@ -1,12 +1,14 @@
 //! A place that is put, put again and taken out, over tables that begin empty.
 use page_face::MemoryPages;
-use place_updates::{place_at, put_place, remove_place};
+use place_map::Update;
+use place_updates::{gather_words, hold_words, place_at, put_held, put_place, remove_place};
 use spatial_base::{Key, Point};
 use std::alloc::Global;
+use std::collections::BTreeMap;
 use std::fmt::Write;
 use std::test::Fail;
 use store_tables::Tables;
-use term_impacts::impacts;
+use term_impacts::{Word, impacts};
 
 static NO_TABLES: Tables = Tables {
     places: 0,
@@ -70,6 +72,92 @@ fn a_word_goes_with_the_last_place_that_holds_it(rt: HostRuntime) -> Result<(), 
     let none = told(rt.alloc(), &mut pages, &tables, &key)?;
     assert_eq!(rt; none.as_str(), "");
     assert!(rt; tables.word_of(&mut pages, 2)?.is_none());
+    assert!(rt; tables.word_of(&mut pages, 3)?.is_none());
+    Ok(())
+}
+
+fn key_of(name: &str) -> Result<Key, Fail> {
+    Ok(Key::of_text(name).map_err(|_| "no key")?)
+}
+
+// Puts a place with the words of a text.
+fn update(alloc: Global, name: &str, text: &str) -> Result<Update, Fail> {
+    Ok(Update::Put {
+        key: Some(key_of(name)?),
+        point: Point::new(5, 6).ok_or("off the map")?,
+        words: impacts(alloc, text)?,
+    })
+}
+
+// Holds the words of a batch, and returns their numbers.
+fn held(
+    alloc: Global,
+    pages: &mut MemoryPages,
+    tables: &mut Tables,
+    updates: &[Update; 3],
+) -> Result<BTreeMap<Word, u64>, Fail> {
+    let counts = gather_words(alloc, updates)?;
+    if counts.len() != 3 || tables.next_word >= 100 {
+        return Err(Fail::from("not three words"));
+    }
+    Ok(hold_words(alloc, pages, tables, &counts)?)
+}
+
+// Puts the place of an update whose words were held.
+fn put_next(
+    alloc: Global,
+    pages: &mut MemoryPages,
+    tables: &mut Tables,
+    next: &Update,
+    numbers: &BTreeMap<Word, u64>,
+) -> Result<(), Fail> {
+    let Update::Put {
+        key: Some(key),
+        point,
+        words,
+    } = next
+    else {
+        return Err(Fail::from("no place is put"));
+    };
+    let old = tables.place(pages, key)?;
+    put_held(
+        alloc,
+        pages,
+        tables,
+        key,
+        old.as_ref(),
+        *point,
+        words,
+        numbers,
+    )?;
+    Ok(())
+}
+
+#[test]
+fn a_word_of_a_batch_is_held_by_as_many_places_as_keep_it(rt: HostRuntime) -> Result<(), Fail> {
+    let mut pages = MemoryPages::new(rt.alloc(), 100);
+    let mut tables = NO_TABLES;
+    let batch = [
+        update(rt.alloc(), "a", "tea cake")?,
+        update(rt.alloc(), "b", "tea")?,
+        update(rt.alloc(), "a", "art tea")?,
+    ];
+    let numbers = held(rt.alloc(), &mut pages, &mut tables, &batch)?;
+    for next in &batch {
+        put_next(rt.alloc(), &mut pages, &mut tables, next, &numbers)?;
+    }
+    let (a, b) = (key_of("a")?, key_of("b")?);
+    let words = told(rt.alloc(), &mut pages, &tables, &a)?;
+    assert_eq!(rt; words.as_str(), "art 128 tea 128 ");
+
+    // Art has number 1, cake 2 and tea 3: cake went with the first place, and tea goes with the last one.
+    assert!(rt; tables.word_of(&mut pages, 2)?.is_none());
+    for key in [a, b] {
+        assert!(rt; tables.word_of(&mut pages, 3)?.is_some());
+        let stored = tables.place(&mut pages, &key)?.ok_or("no place")?;
+        remove_place(&mut pages, &mut tables, &key, &stored)?;
+    }
+    assert!(rt; tables.word_of(&mut pages, 1)?.is_none());
     assert!(rt; tables.word_of(&mut pages, 3)?.is_none());
     Ok(())
 }
