@@ -26,7 +26,7 @@ pub fn tests_are_the_grammar()
 {}
 
 #[cfg(test)]
-mod tests {
+mod stage_tests {
     use super::Stage;
 
     static TEXTS: [(&str, bool); 18] = [
