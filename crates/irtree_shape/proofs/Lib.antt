@@ -16,3 +16,4 @@ pub mod Renewals
 pub mod Outs
 pub mod Replants
 pub mod Fells
+pub mod Harms

@@ -4,3 +4,4 @@ pub mod Steps
 pub mod Made
 pub mod Whole
 pub mod Loose
+pub mod Damages

@@ -1,3 +1,4 @@
 pub mod Entries
 pub mod Subtrees
 pub mod Harms
+pub mod Ways
