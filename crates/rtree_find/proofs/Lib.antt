@@ -3,3 +3,4 @@ pub mod Rounds
 pub mod Subtrees
 pub mod Roots
 pub mod Harms
+pub mod Ways

@@ -2,7 +2,7 @@
 ghost use Rattle.std.specs.Prelude.{◌≡◌, ◌≢◌, ℕ, ◌<◌, ◌≤◌, ◌^◌, List, length, IfOk, OnOk, IsErrOf};
 ghost use Rattle.page_face.specs.Calls.{Reads, FailsReading};
 ghost use Rattle.page_face.specs.declared.fault.Rule.TheVariants.{Level as WrongLevel};
-ghost use Rattle.btree_nodes.specs.Damages.{AskedSince, KeepsAsked};
+ghost use Rattle.btree_nodes.specs.Damages.{AreTold, AskedSince, AsksOnly, KeepsAsked};
 ghost use Rattle.rtree_nodes.specs.Pages.{level_in};
 ghost use Rattle.rtree_find.specs.Harms.{BreaksAlone, BreaksPlace};
 
@@ -17,8 +17,10 @@ use rtree_shape::LEVEL_MAX;
 pub fn enter<P: Pages>(pages: &mut P, page: u32) -> Result<u8, PageFault>
     ensures level { IfOk result (λ level. level ≡ level_in (P.looked pages.new)) }
     ensures gives { OnOk result (0 < length (P.pages pages.old page) → P.looked pages.new ≡ P.pages pages.old page) }
+    ensures bytes { AreTold (P.pages pages.old) (P.count pages.old) → OnOk result (P.looked pages.new ≡ P.pages pages.old page) }
     ensures here { OnOk result (AskedSince (P.asked pages.old) (P.asked pages.new) page) }
     ensures keeps { KeepsAsked (P.asked pages.old) (P.asked pages.new) }
+    ensures more { AsksOnly (λ _. 1) (P.asked pages.old) (P.asked pages.new) }
     ensures damaged { (damage : Damage) → IsErrOf result (PageFault.Damaged damage)
         → (damage.page ≡ page) × AskedSince (P.asked pages.old) (P.asked pages.new) page × BreaksAlone damage.rule (P.pages pages.old) (P.count pages.old) page }
     ensures fails { FailsReading P.Pages pages.old pages.new result }
@@ -39,8 +41,10 @@ pub fn enter<P: Pages>(pages: &mut P, page: u32) -> Result<u8, PageFault>
 pub fn enter_child<P: Pages>(pages: &mut P, page: u32, level: u8) -> Result<(), PageFault>
     ensures level { OnOk result (level ≡ level_in (P.looked pages.new)) }
     ensures gives { OnOk result (0 < length (P.pages pages.old page) → P.looked pages.new ≡ P.pages pages.old page) }
+    ensures bytes { AreTold (P.pages pages.old) (P.count pages.old) → OnOk result (P.looked pages.new ≡ P.pages pages.old page) }
     ensures here { OnOk result (AskedSince (P.asked pages.old) (P.asked pages.new) page) }
     ensures keeps { KeepsAsked (P.asked pages.old) (P.asked pages.new) }
+    ensures more { AsksOnly (λ _. 1) (P.asked pages.old) (P.asked pages.new) }
     ensures damaged { (damage : Damage) → IsErrOf result (PageFault.Damaged damage)
         → (damage.page ≡ page) × AskedSince (P.asked pages.old) (P.asked pages.new) page
         × BreaksPlace damage.rule (P.pages pages.old) (P.count pages.old) page (λ found. found ≢ level) }
@@ -66,8 +70,10 @@ pub fn enter_root<P: Pages>(pages: &mut P, root: u32) -> Result<u8, PageFault>
     ensures low { IfOk result (λ level. level ≤ 9) }
     ensures level { IfOk result (λ level. level ≡ level_in (P.looked pages.new)) }
     ensures gives { OnOk result (0 < length (P.pages pages.old root) → P.looked pages.new ≡ P.pages pages.old root) }
+    ensures bytes { AreTold (P.pages pages.old) (P.count pages.old) → OnOk result (P.looked pages.new ≡ P.pages pages.old root) }
     ensures here { OnOk result (AskedSince (P.asked pages.old) (P.asked pages.new) root) }
     ensures keeps { KeepsAsked (P.asked pages.old) (P.asked pages.new) }
+    ensures more { AsksOnly (λ _. 1) (P.asked pages.old) (P.asked pages.new) }
     ensures damaged { (damage : Damage) → IsErrOf result (PageFault.Damaged damage)
         → (damage.page ≡ root) × AskedSince (P.asked pages.old) (P.asked pages.new) root
         × BreaksPlace damage.rule (P.pages pages.old) (P.count pages.old) root (λ found. 9 < found) }

@@ -1,7 +1,7 @@
 //! The entry of a point and a key, by a search down from the root.
 ghost use Rattle.std.specs.Prelude.{◌≡◌, ◌≢◌, ℕ, ◌<◌, ◌≤◌, List, length, IfOk, IfSome, IsErrOf, Ok, Err, None, true, false, slice_index};
 ghost use Rattle.page_face.specs.Calls.{Reads, FailsReading};
-ghost use Rattle.btree_nodes.specs.Damages.{AskedSince, KeepsAsked};
+ghost use Rattle.btree_nodes.specs.Damages.{AreTold, AskedSince, AsksOnly, KeepsAsked};
 ghost use Rattle.rtree_shape.specs.Slots.{got};
 ghost use Rattle.spatial_base.specs.Key.{form_of};
 ghost use Rattle.rtree_shape.specs.Stock.{view};
@@ -13,6 +13,7 @@ ghost use Rattle.rtree_nodes.specs.Pages.{level_in, stored_in, node_of};
 ghost use Rattle.rtree_find.specs.Entries.{is_entry};
 ghost use Rattle.rtree_find.specs.Subtrees.{IsNodeAt, AreCounted, Finds};
 ghost use Rattle.rtree_find.specs.Harms.{IsHarm};
+ghost use Rattle.rtree_find.specs.Ways.{IsWay};
 
 use crate::entering::{enter_child, enter_root};
 use crate::leaf::place_slot;
@@ -52,7 +53,10 @@ fn seek<P: Pages>(
     ensures honest { P.looked pages.old ≡ P.pages pages.old page → IsNodeAt (nodes_in node_of (P.pages pages.old)) level page
         → AreCounted (nodes_in node_of (P.pages pages.old)) (P.count pages.old) level page
         → (damage : Damage) → result ≢ Err (PageFault.Damaged damage) }
+    ensures way { P.looked pages.old ≡ P.pages pages.old page → AreTold (P.pages pages.old) (P.count pages.old)
+        → IfOk result (λ found. found ≡ true → IsWay (P.pages pages.old) path.new level page) }
     ensures keeps { KeepsAsked (P.asked pages.old) (P.asked pages.new) }
+    ensures more { AsksOnly (λ _. 1) (P.asked pages.old) (P.asked pages.new) }
     ensures damaged { (before : List ℕ) (root : ℕ) → (0 < length (P.pages pages.old page) → P.looked pages.old ≡ P.pages pages.old page)
         → AskedSince before (P.asked pages.old) page → (damage : Damage) → IsErrOf result (PageFault.Damaged damage)
         → IsHarm (P.pages pages.old) (P.count pages.old) root before (P.asked pages.new) damage }
@@ -87,7 +91,8 @@ fn seek<P: Pages>(
 
 /// Returns the root's level if the tree has the entry of this point and key, or `None` if it doesn't. `path[l]` is then the slot at
 /// level `l`, for each `l` from 0 up to the root's level, so that the slots lead from the root down to the entry. All other places
-/// of `path`, and every one if the entry isn't there, are left with any slots.
+/// of `path`, and every one if the entry isn't there, are left with any slots. Over any other pages whose bytes are told, too, these
+/// slots lead down from the root: each above level 0 names a page one level below its own, and the last one is used.
 ///
 /// A root of 0 is the empty tree, for which no page is read.
 ///
@@ -109,12 +114,15 @@ pub fn find<P: Pages>(
         Leads (nodes_in node_of (P.pages pages.old)) path.new level root (place_item point.now (form_of key.now))
         × (level ≡ level_at node_of (P.pages pages.old) root))) }
     ensures low { IfOk result (λ found. IfSome found (λ level. level ≤ 9)) }
+    // Over told pages the slots lead down from the root by the pages' bytes.
+    ensures way { AreTold (P.pages pages.old) (P.count pages.old) → IfOk result (λ found. IfSome found (λ level. IsWay (P.pages pages.old) path.new level root)) }
     ensures absent { IsWell node_of (P.pages pages.old) root → result ≡ Ok None
         → tree_sum node_of (P.pages pages.old) root (is_entry point.now (form_of key.now)) ≡ 0 }
     ensures honest { (rows : ℕ) (free : List ℕ) → IsWhole node_of (view (P.pages pages.old) rows (P.count pages.old) (P.first pages.old) free) root
         → (damage : Damage) → result ≢ Err (PageFault.Damaged damage) }
     ensures damaged { (damage : Damage) → IsErrOf result (PageFault.Damaged damage)
         → IsHarm (P.pages pages.old) (P.count pages.old) root (P.asked pages.old) (P.asked pages.new) damage }
+    ensures more { AsksOnly (λ _. 1) (P.asked pages.old) (P.asked pages.new) }
     ensures empty { root ≡ 0 → P.asked pages.new ≡ P.asked pages.old }
     ensures fails { FailsReading P.Pages pages.old pages.new result }
     ensures frame { Reads P.Pages pages.old pages.new }

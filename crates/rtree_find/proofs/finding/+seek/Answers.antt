@@ -5,10 +5,11 @@ use Rattle.page_face.specs.Calls.{Reads}
 use Rattle.page_face.specs.declared.fault.Damage.{Damage}
 use Rattle.page_face.specs.declared.fault.PageFault.TheVariants.{Damaged}
 use Rattle.page_face.proofs.Frames.{reads_then}
-use Rattle.btree_nodes.specs.Damages.{AskedSince}
+use Rattle.btree_nodes.specs.Damages.{AreTold, AskedSince, AsksOnly}
+use Rattle.btree_nodes.proofs.Harms.{asks-further}
 use Rattle.btree_nodes.proofs.Walks.{same-fault}
 use Rattle.btree_delete.proofs.Walks.{asked-from}
-use Rattle.rtree_shape.specs.Slots.{NodeMap, got}
+use Rattle.rtree_shape.specs.Slots.{NodeMap, IsChildAt, got}
 use Rattle.rtree_shape.specs.Trees.{below, node_below}
 use Rattle.rtree_shape.specs.Made.{nodes_in}
 use Rattle.rtree_shape.specs.Loose.{Leads}
@@ -17,9 +18,11 @@ use Rattle.rtree_nodes.specs.Reach.{place_item}
 use Rattle.rtree_find.specs.Entries.{is_entry, IsRound}
 use Rattle.rtree_find.specs.Subtrees.{IsNodeAt, AreCounted, Finds}
 use Rattle.rtree_find.specs.Harms.{BreaksPlace, IsHarm}
+use Rattle.rtree_find.specs.Ways.{IsWay}
 use Rattle.rtree_find.proofs.Subtrees.{node-read, place-fine, page-counted, leaf-finds, node-absent, passed-short, child-here, child-node, child-counted, child-leads, passed-child}
 use Rattle.rtree_find.proofs.Rounds.{no-child}
 use Rattle.rtree_find.proofs.Harms.{harm-child}
+use Rattle.rtree_find.proofs.Ways.{way-leaf, way-child}
 use Rattle.rtree_find.proofs.finding.+seek.Goals as goal
 use Rattle.rtree_find.proofs.finding.+seek.Goals.{in-Some+in-Ok-enter_child+in-Ok-false, in_default}
 
@@ -191,6 +194,8 @@ loop-at-preserved g t c =
                 (reads_then g.P.Pages further more _ _ _ (reads_then g.P.Pages further more _ _ _ m f) w.seek.ensures.frame);
             keeps = λ before n a. subst (λ (x : g.row.P.Denot). AskedSince before (g.P.Pages.asked x) n) (sym w.pages-is)
                 (w.seek.ensures.keeps before n (w.enter_child.ensures.keeps before n (c.loop-at.invariant.keeps before n a)));
+            more = subst (λ (x : g.row.P.Denot). AsksOnly (λ _. 1) (g.P.Pages.asked c.args.pages.now) (g.P.Pages.asked x)) (sym w.pages-is)
+                (asks-further (λ _. 1) _ _ _ (asks-further (λ _. 1) _ _ _ c.loop-at.invariant.more w.enter_child.ensures.more) w.seek.ensures.more);
             passed = λ is node. below_more (λ i. got (λ y. below nodes (is_entry point key) level y) ((nodes page).slots i) ≡ 0) at (c.loop-at.invariant.passed is node)
                 (let there = child-here old level page at child point bytes (slice_index_or c.in-Ok.children at None) (c.looked-2.ensures ∙ is) node kept w.in-Some.is in
                 let at_child = child-node nodes level l page at child up within node there in
@@ -204,8 +209,47 @@ loop-at-preserved g t c =
           record {
             frame = subst (λ (x : g.row.P.Denot). Reads g.P.Pages c.args.pages.now x) (sym w.pages-is) m;
             keeps = λ before n a. subst (λ (x : g.row.P.Denot). AskedSince before (g.P.Pages.asked x) n) (sym w.pages-is) (c.loop-at.invariant.keeps before n a);
+            more = subst (λ (x : g.row.P.Denot). AsksOnly (λ _. 1) (g.P.Pages.asked c.args.pages.now) (g.P.Pages.asked x)) (sym w.pages-is) c.loop-at.invariant.more;
             passed = λ is node. below_more (λ i. got (λ y. below nodes (is_entry point key) level y) ((nodes page).slots i) ≡ 0) at (c.loop-at.invariant.passed is node)
                 (passed-short nodes level page at (stored_in bytes) point key (slots is node) node within
                 (subst (IsRound (stored_in bytes) point at) (no-child (slice_index_or c.in-Ok.children at None) w.in_default.not-Some) kept));
           }
     ]
+
+pub returns-then-level-eq0-clause-way : goal.returns-then-level-eq0-clause-way
+returns-then-level-eq0-clause-way g t c = λ is told found.
+    let bytes : List ℕ = c.looked.result.now in
+    let level_is : c.args.level ≡ level_in bytes = c.requires.level ∙ ap level_in (sym c.looked.ensures) in
+    way-leaf (g.P.Pages.pages c.args.pages.now) c.seek_in_leaf.new.path bytes c.args.level c.args.page (place_item c.args.point.now c.args.key.now) c.if-level-eq0.true level_is (c.looked.ensures ∙ is)
+    (c.seek_in_leaf.ensures.found (sym level_is ∙ c.if-level-eq0.true) found)
+
+pub returns-in-Ok-true-clause-way : goal.returns-in-Ok-true-clause-way
+returns-in-Ok-true-clause-way g t c = λ is told found.
+    let old : PageMap = g.P.Pages.pages c.args.pages.now in
+    let count : ℕ = g.P.Pages.count c.args.pages.now in
+    let level : ℕ = c.args.level in
+    let l : ℕ = level - 1 in
+    let up : level ≡ suc l = omega arith in
+    let at : ℕ = c.loop-at.at in
+    let child : ℕ = c.in-Some.child in
+    let within : at < 32 = omega arith in
+    let bytes : List ℕ = c.looked-2.result.now in
+    let level_is : level ≡ level_in bytes = c.requires.level ∙ ap level_in (sym c.looked-2.ensures) in
+    let inner : 0 < level_in bytes = omega arith in
+    let there : IsChildAt (stored_in bytes) at child = subst (IsRound (stored_in bytes) c.args.point.now at) c.in-Some.is (c.in-Ok.ensures.round inner at within) in
+    let m = c.loop-at.invariant.frame in
+    let f = c.enter_child.ensures.frame in
+    let path : List ℕ = c.seek.new.path in
+    let told_there : AreTold (g.P.Pages.pages c.loop-at.pages) (g.P.Pages.count c.loop-at.pages) =
+    subst (λ (x : PageMap). AreTold x (g.P.Pages.count c.loop-at.pages)) (sym m.pages) (subst (λ (k : ℕ). AreTold old k) (sym m.count) told) in
+    let told_child : AreTold (g.P.Pages.pages c.enter_child.new.pages) (g.P.Pages.count c.enter_child.new.pages) =
+    subst (λ (x : PageMap). AreTold x (g.P.Pages.count c.enter_child.new.pages)) (sym f.pages) (subst (λ (k : ℕ). AreTold (g.P.Pages.pages c.loop-at.pages) k) (sym f.count) told_there) in
+    let looked : g.P.Pages.looked c.enter_child.new.pages ≡ g.P.Pages.pages c.enter_child.new.pages child =
+    c.in-Ok-enter_child.ensures.bytes told_there ∙ ap (λ (x : PageMap). x child) (sym f.pages) in
+    let way : IsWay old path l child = subst (λ (x : PageMap). IsWay x path l child) (f.pages ∙ m.pages) (c.in-Ok-true.ensures.way looked told_child c.in-Ok-true.field-0-test) in
+    let long : level < length path = let n = c.seek.array_long in let b = c.requires.low in omega arith in
+    way-child old path (slice_set path level at) bytes level l c.args.page at child up level_is (c.looked-2.ensures ∙ is) there
+    (get_or-set_same path level at 0 long) (λ i less. get_or-set_other path level i at 0 (λ same. absurd (omega arith))) way
+
+pub returns-clause-way : goal.returns-clause-way
+returns-clause-way g t c = λ is told found. absurd (cc)

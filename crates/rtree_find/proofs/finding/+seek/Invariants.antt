@@ -1,6 +1,6 @@
 use Rattle.std.proofs.Common.{◌≡◌, ◌<◌, ℕ}
 use Rattle.page_face.specs.Calls.{Reads}
-use Rattle.btree_nodes.specs.Damages.{KeepsAsked}
+use Rattle.btree_nodes.specs.Damages.{AsksOnly, KeepsAsked}
 use Rattle.rtree_shape.specs.Slots.{got}
 use Rattle.rtree_shape.specs.Trees.{below}
 use Rattle.rtree_shape.specs.Made.{nodes_in}
@@ -20,6 +20,7 @@ invariant-loop-at g l =
     record {
       frame : Reads p l.fn.pages l.pages;
       keeps : KeepsAsked (p.asked l.fn.pages) (p.asked l.pages);
+      more : AsksOnly (λ _. 1) (p.asked l.fn.pages) (p.asked l.pages);
       passed : p.looked l.fn.pages ≡ p.pages l.fn.pages l.page → IsNodeAt (nodes_in node_of (p.pages l.fn.pages)) l.level l.page → (i : ℕ) → i < l.at
           → got (λ y. below (nodes_in node_of (p.pages l.fn.pages)) (is_entry l.point l.key) l.level y) ((nodes_in node_of (p.pages l.fn.pages) l.page).slots i) ≡ 0;
     }

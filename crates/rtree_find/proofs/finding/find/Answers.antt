@@ -2,6 +2,7 @@ use Rattle.std.proofs.Common.{◌≡◌, ℕ, ◌<◌, List, length, Option, Err
 use Rattle.page_face.specs.FreeList.{PageMap}
 use Rattle.page_face.specs.declared.fault.Damage.{Damage}
 use Rattle.page_face.specs.declared.fault.PageFault.TheVariants.{Damaged}
+use Rattle.btree_nodes.specs.Damages.{AreTold}
 use Rattle.btree_nodes.proofs.Walks.{same-fault}
 use Rattle.spatial_base.specs.Key.{form_of}
 use Rattle.rtree_shape.specs.Slots.{NodeMap}
@@ -11,6 +12,7 @@ use Rattle.rtree_nodes.specs.Pages.{level_in, node_of}
 use Rattle.rtree_find.specs.Entries.{is_entry}
 use Rattle.rtree_find.specs.Subtrees.{IsNodeAt, AreCounted, Finds}
 use Rattle.rtree_find.specs.Harms.{IsHarm}
+use Rattle.rtree_find.specs.Ways.{IsWay}
 use Rattle.rtree_find.proofs.Subtrees.{node-read}
 use Rattle.rtree_find.proofs.Roots.{well-node, well-level, well-sum, whole-counted, root-fine}
 use Rattle.rtree_find.proofs.Harms.{harm-root}
@@ -93,3 +95,14 @@ returns-in-Err-seek-clause-damaged g c = λ damage e.
     let harm = c.seek.ensures.damaged asked root gives c.in-Ok.ensures.here damage (c.in-Err-seek.is ∙ ap Err (same-fault {T = Option ℕ} _ _ e)) in
     subst (λ (k : ℕ). IsHarm (g.P.Pages.pages c.args.pages.now) k root asked last damage) f.count
     (subst (λ (x : PageMap). IsHarm x (g.P.Pages.count c.enter_root.new.pages) root asked last damage) f.pages harm)
+
+pub returns-in-Ok-true-clause-way : goal.returns-in-Ok-true-clause-way
+returns-in-Ok-true-clause-way g c = λ told.
+    let old : PageMap = g.P.Pages.pages c.args.pages.now in
+    let root : ℕ = c.args.root in
+    let f = c.enter_root.ensures.frame in
+    let path : List ℕ = c.seek.new.path in
+    let told_there : AreTold (g.P.Pages.pages c.enter_root.new.pages) (g.P.Pages.count c.enter_root.new.pages) =
+    subst (λ (x : PageMap). AreTold x (g.P.Pages.count c.enter_root.new.pages)) (sym f.pages) (subst (λ (k : ℕ). AreTold old k) (sym f.count) told) in
+    let looked : g.P.Pages.looked c.enter_root.new.pages ≡ g.P.Pages.pages c.enter_root.new.pages root = c.in-Ok.ensures.bytes told ∙ ap (λ (x : PageMap). x root) (sym f.pages) in
+    subst (λ (x : PageMap). IsWay x path c.in-Ok.level root) f.pages (c.in-Ok-true.ensures.way looked told_there c.in-Ok-true.field-0-test)
