@@ -1,4 +1,4 @@
-use Rattle.std.proofs.Common.{◌≡◌, ◌<◌, ◌∙◌, ℕ, List, arith, sym, ap, subst, refl, Err, inr, ◌-◌}
+use Rattle.std.proofs.Common.{◌≡◌, ◌<◌, ◌∙◌, ℕ, List, arith, sym, ap, subst, refl, Err, inr}
 use Rattle.std.proofs.lemmas.Result.{err_from_is_err_and}
 use Rattle.btree_nodes.specs.Damages.{AreTold, AsksOnly}
 use Rattle.btree_nodes.proofs.Walks.{same-fault}

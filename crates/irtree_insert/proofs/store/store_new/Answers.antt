@@ -1,5 +1,5 @@
 use Rattle.std.proofs.lemmas.Result.{err_from_is_err_and}
-use Rattle.std.proofs.Common.{◌∙◌, ◌≡◌, ap, Err, ◌-◌}
+use Rattle.std.proofs.Common.{◌∙◌, ◌≡◌, ap, Err}
 use Rattle.rtree_shape.specs.Stock.{view}
 use Rattle.irtree_shape.proofs.Stocks.{take-honest}
 use Rattle.irtree_shape.proofs.Stepping.{steps-take}
