@@ -15,6 +15,7 @@ use Rattle.irtree_insert.proofs.Descents.{open-counted, open-some, open-level, p
 use Rattle.irtree_insert.proofs.Tops.{puts-level, open-of-level, open-low}
 use Rattle.btree_nodes.proofs.Harms.{asks-further}
 use Rattle.irtree_insert.proofs.Harms.{page-harm, high-harm, told-counted}
+use Rattle.page_face.specs.declared.fault.PageFault.TheVariants.{Damaged}
 use Rattle.page_face.specs.declared.fault.Rule.TheVariants.{Level}
 use Rattle.irtree_insert.proofs.insert.climb.Goals as goal
 
@@ -86,8 +87,8 @@ returns-then-level-gt-LEVEL_MAX-clause-damaged g c = λ told damage e.
     let p = g.P.Pages in
     let f = c.fetch.ensures.looks.frame in
     let high = c.if-level-gt-LEVEL_MAX.true in
-    let same = same-fault {T = Climbed} _ _ e in
-    let is : damage ≡ record { page = c.args.root; rule = Level } = cc (same, c.damaged.ensures) in
+    let same : Damaged damage ≡ Damaged (record { page = c.args.root; rule = Level }) = sym (same-fault {T = Climbed} _ _ e) ∙ c.damaged.ensures in
+    let is : damage ≡ record { page = c.args.root; rule = Level } = cc same in
     high-harm (p.pages c.args.pages.now) (p.pages c.fetch.new.pages) (p.count c.fetch.new.pages) (p.first c.fetch.new.pages) (p.asked c.args.pages.now) (p.asked c.fetch.new.pages) c.args.root c.in-Ok.level c.fetch.new.draft.bytes damage
     f.pages is c.in-Ok.ensures.here c.in-Ok.ensures.bytes c.in-Ok.ensures.level (omega arith)
 
