@@ -15,6 +15,7 @@ ghost use Rattle.irtree_engine.specs.Changes.{block_with, head_at, head_with, tr
 
 use crate::EngineFault;
 use crate::fault::broken_by_head;
+use indexmap::IndexMap;
 use node_inverted::Tree;
 use page_face::{Head, Pages, Rule};
 use place_map::{Applied, NUMBER_MAX, PLACES_MAX, Update};
@@ -23,7 +24,6 @@ use row_codec::PAIRS_MAX;
 use spatial_base::{Key, Point};
 use split_policy::SplitPolicy;
 use std::alloc::Global;
-use std::collections::BTreeMap;
 use store_tables::Tables;
 use term_impacts::{Word, Words};
 use tree_updates::{put_entry, take_entry};
@@ -109,7 +109,7 @@ fn update_in_batch<P: Pages>(
     head: &mut Head,
     policy: &mut dyn SplitPolicy,
     update: &Update,
-    held: &Option<BTreeMap<Word, u64>>,
+    held: &Option<IndexMap<Word, u64>>,
 ) -> Result<Applied, EngineFault>
     requires { NamesText update.now }
     ensures updated { (state : Contents) (left : List Update) → StandAhead (option_map (λ numbers. numbers.entries) held.now) (update.now ∷ left) (block_with (P.count pages.old) (P.first pages.old) head.old) (P.pages pages.old) state
@@ -168,7 +168,7 @@ fn hold_ahead<P: Pages>(
     pages: &mut P,
     head: &mut Head,
     updates: &[Update],
-) -> Result<Option<BTreeMap<Word, u64>>, EngineFault>
+) -> Result<Option<IndexMap<Word, u64>>, EngineFault>
     ensures begun { (state : Contents) → PagesStand (block_with (P.count pages.old) (P.first pages.old) head.old) (P.pages pages.old) state
         → IfOk result (λ held. StandAhead (option_map (λ numbers. numbers.entries) held) updates.now (block_with (P.count pages.new) (P.first pages.new) head.new) (P.pages pages.new) state) }
     ensures due { (state : Contents) → PagesStand (block_with (P.count pages.old) (P.first pages.old) head.old) (P.pages pages.old) state
@@ -274,7 +274,7 @@ fn put<P: Pages>(
     serial: u64,
     point: Point,
     words: &Words,
-    held: &Option<BTreeMap<Word, u64>>,
+    held: &Option<IndexMap<Word, u64>>,
 ) -> Result<Applied, EngineFault>
     requires range { AreHeadNumbers head.old }
     ensures updated { (state : Contents) (name : Option Name) (left : List Update) → StandAhead (option_map (λ numbers. numbers.entries) held.now) (Put name point words.now ∷ left) (block_with (P.count pages.old) (P.first pages.old) head.old) (P.pages pages.old) state
@@ -335,7 +335,7 @@ fn remove<P: Pages>(
     head: &mut Head,
     policy: &mut dyn SplitPolicy,
     key: &Key,
-    held: &Option<BTreeMap<Word, u64>>,
+    held: &Option<IndexMap<Word, u64>>,
 ) -> Result<Applied, EngineFault>
     requires range { AreHeadNumbers head.old }
     ensures updated { (state : Contents) (left : List Update) → StandAhead (option_map (λ numbers. numbers.entries) held.now) (Remove key.now ∷ left) (block_with (P.count pages.old) (P.first pages.old) head.old) (P.pages pages.old) state

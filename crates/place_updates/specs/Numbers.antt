@@ -7,7 +7,7 @@ use Rattle.page_face.specs.declared.fault.PageFault.{PageFault}
 use Rattle.page_face.specs.declared.fault.PageFault.TheVariants.{Memory, Damaged}
 use Rattle.row_codec.specs.Pairs.{Pair, HasImpact}
 use Rattle.store_tables.specs.Broken.{words_disagree}
-use Rattle.store_tables.specs.Entries.{number_of_word}
+use Rattle.store_meaning.specs.Ahead.{number_among}
 
 -- a word with an impact from 1 to 255
 abbrev pub HasTermImpact : List ℕ × ℕ → Type 0
@@ -21,7 +21,7 @@ pub record IsNumberMap (pairs : List Pair) : Type 0 where
 
 -- a map has a number of the word
 abbrev pub IsKnownIn : List (List ℕ × ℕ) → List ℕ → Type 0
-IsKnownIn numbers word = IsSome (number_of_word word numbers)
+IsKnownIn numbers word = IsSome (number_among word numbers)
 
 -- what looking words up in memory may be refused for
 abbrev pub IsPairFault : PageFault → Type 0

@@ -1,20 +1,22 @@
 //! Words that are held before the places that hold them are put.
 ghost use Rattle.std.specs.Prelude.{◌≡◌, ℕ, ◌≤◌, ◌+◌, ◌^◌, List, [], length, OnOk, OnErr, IfOk, IsErrOf};
-ghost use Rattle.std.specs.BTreeMap.{insert_entry};
+ghost use Rattle.std.specs.Str.{bytes_eq};
+ghost use Rattle.indexmap.specs.IndexMap.{insert_entry};
 ghost use Rattle.page_face.specs.Calls.{FailsChanging, Changes};
 ghost use Rattle.btree_nodes.specs.Supply.{view};
 ghost use Rattle.btree_nodes.specs.Damages.{AreTold};
-ghost use Rattle.store_tables.specs.Entries.{Entries, word_cmp};
+ghost use Rattle.store_tables.specs.Entries.{Entries};
 ghost use Rattle.store_tables.specs.Holding.{Holds, IsApart, IsChanged};
 ghost use Rattle.store_meaning.specs.Ahead.{CanHoldAhead, HeldAhead, held_ahead};
 
+use indexmap::IndexMap;
 use page_face::{Damage, PageFault, Pages};
 use std::alloc::Global;
-use std::collections::BTreeMap;
 use store_tables::Tables;
 use term_impacts::Word;
 
-/// Counts for each word as many places more that hold it as it was counted, and answers the number of each word.
+/// Counts for each word as many places more that hold it as it was counted, one word after another in the order of the counts, so
+/// that new words take their numbers in that order. Answers the number of each word.
 ///
 /// Refuses as [`Tables::hold`] does, and `Memory`. After a refusal pages and the tables may have changed. Costs for each word, however
 /// many places are to hold it, a look-up by text, a look-up by number, and one or two puts.
@@ -22,8 +24,8 @@ pub fn hold_words<P: Pages>(
     alloc: Global,
     pages: &mut P,
     tables: &mut Tables,
-    counts: &BTreeMap<Word, u32>,
-) -> Result<BTreeMap<Word, u64>, PageFault>
+    counts: &IndexMap<Word, u32>,
+) -> Result<IndexMap<Word, u64>, PageFault>
     requires next { tables.old.next_word + length counts.now.entries ≤ 2 ^ 63 }
     ensures held { (entries : Entries) (free : List ℕ) → Holds (P.pages pages.old) tables.old entries → IsApart (view (P.pages pages.old) (P.count pages.old) (P.first pages.old) free) tables.old
         → IfOk result (λ numbers. (numbers.entries ≡ (held_ahead counts.now.entries tables.old.next_word entries).numbers)
@@ -36,7 +38,7 @@ pub fn hold_words<P: Pages>(
     ensures fails { FailsChanging P.Pages pages.old pages.new result }
     ensures frame { Changes P.Pages pages.old pages.new }
 {
-    let mut numbers = BTreeMap::new(alloc);
+    let mut numbers = IndexMap::new(alloc);
     for (word, places) in counts {
         let number = tables.hold(pages, word, *places)?;
         put_number(&mut numbers, word, number)?;
@@ -45,8 +47,8 @@ pub fn hold_words<P: Pages>(
 }
 
 // Maps a word to its number.
-fn put_number(numbers: &mut BTreeMap<Word, u64>, word: &Word, number: u64) -> Result<(), PageFault>
-    ensures put { OnOk result (numbers.new.entries ≡ insert_entry word_cmp numbers.old.entries word.now number) }
+fn put_number(numbers: &mut IndexMap<Word, u64>, word: &Word, number: u64) -> Result<(), PageFault>
+    ensures put { OnOk result (numbers.new.entries ≡ insert_entry bytes_eq numbers.old.entries word.now number) }
     ensures memory { OnErr result (result ≡ Err PageFault.Memory) }
 {
     match numbers.insert(*word, number) {

@@ -2,23 +2,23 @@
 ghost use Rattle.std.specs.Prelude.{◌≡◌, ℕ, ◌+◌, ◌*◌, ◌≤◌, ◌<◌, ◌^◌, List, Bool, true, if◌then◌else◌, [], ◌∷◌, length, IfOk, OnOk, OnErr};
 ghost use Rattle.store_meaning.specs.Ahead.{AreCountedWords, place_count, puts_in, times_counted, word_count, words_put};
 
+use indexmap::IndexMap;
 use page_face::PageFault;
 use place_map::Update;
 use std::alloc::Global;
-use std::collections::BTreeMap;
 use term_impacts::Word;
 
-/// The words that updates put, each with how many of them put it.
+/// The words that updates put, each with how many of them put it, in the order in which they first come.
 ///
-/// Refuses `Memory`. Costs two look-ups in memory for each word of each place.
-pub fn gather_words(alloc: Global, updates: &[Update]) -> Result<BTreeMap<Word, u32>, PageFault>
+/// Refuses `Memory`. Costs a look-up by hash for each word of each place, and a second one where a word first comes.
+pub fn gather_words(alloc: Global, updates: &[Update]) -> Result<IndexMap<Word, u32>, PageFault>
     requires few { length updates.now ≤ 2 ^ 24 }
     ensures gathered { IfOk result (λ counts. (has : List ℕ → Bool) → times_counted has counts.entries ≡ word_count has updates.now) }
     ensures counted { IfOk result (λ counts. AreCountedWords counts.entries) }
     ensures few { IfOk result (λ counts. times_counted (λ word. true) counts.entries ≤ 64 * puts_in updates.now) }
     ensures memory { OnErr result (result ≡ Err PageFault.Memory) }
 {
-    let mut counts = BTreeMap::new(alloc);
+    let mut counts = IndexMap::new(alloc);
     let mut left = updates;
     while let Some((update, rest)) = left.split_first() {
         count_update(update, &mut counts)?;
@@ -28,7 +28,7 @@ pub fn gather_words(alloc: Global, updates: &[Update]) -> Result<BTreeMap<Word, 
 }
 
 // Counts the words that an update puts once more each.
-fn count_update(update: &Update, counts: &mut BTreeMap<Word, u32>) -> Result<(), PageFault>
+fn count_update(update: &Update, counts: &mut IndexMap<Word, u32>) -> Result<(), PageFault>
     requires counted { AreCountedWords counts.old.entries }
     requires room { times_counted (λ word. true) counts.old.entries + 64 < 2 ^ 32 }
     ensures counted { OnOk result (AreCountedWords counts.new.entries) }
@@ -43,7 +43,7 @@ fn count_update(update: &Update, counts: &mut BTreeMap<Word, u32>) -> Result<(),
 }
 
 // Counts words once more each.
-fn count_words(words: &[(Word, u8)], counts: &mut BTreeMap<Word, u32>) -> Result<(), PageFault>
+fn count_words(words: &[(Word, u8)], counts: &mut IndexMap<Word, u32>) -> Result<(), PageFault>
     requires counted { AreCountedWords counts.old.entries }
     requires room { times_counted (λ word. true) counts.old.entries + length words.now < 2 ^ 32 }
     ensures counted { OnOk result (AreCountedWords counts.new.entries) }
@@ -58,15 +58,18 @@ fn count_words(words: &[(Word, u8)], counts: &mut BTreeMap<Word, u32>) -> Result
 }
 
 // Counts a word once more.
-fn count_word(word: &Word, counts: &mut BTreeMap<Word, u32>) -> Result<(), PageFault>
+fn count_word(word: &Word, counts: &mut IndexMap<Word, u32>) -> Result<(), PageFault>
     requires counted { AreCountedWords counts.old.entries }
     requires room { times_counted (λ word. true) counts.old.entries + 1 < 2 ^ 32 }
     ensures counted { OnOk result (AreCountedWords counts.new.entries) }
     ensures more { OnOk result ((has : List ℕ → Bool) → times_counted has counts.new.entries ≡ times_counted has counts.old.entries + (if has word.now then 1 else 0)) }
     ensures memory { OnErr result (result ≡ Err PageFault.Memory) }
 {
-    let places = counts.get(word).copied().unwrap_or(0);
-    match counts.insert(*word, places + 1) {
+    if let Some(at) = counts.get_index_of(word) {
+        counts[at] += 1;
+        return Ok(());
+    }
+    match counts.insert(*word, 1) {
         Ok(_) => Ok(()),
         Err(_) => Err(PageFault::Memory),
     }

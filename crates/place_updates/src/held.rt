@@ -21,6 +21,7 @@ use crate::pairs::{held_pairs, place_with, put_pair};
 use crate::putting::put_place;
 use crate::releasing::release_words;
 use crate::words::disagree;
+use indexmap::IndexMap;
 use page_face::{Damage, PageFault, Pages};
 use spatial_base::{Key, Point};
 use std::alloc::Global;
@@ -31,7 +32,7 @@ use term_impacts::{Word, Words};
 // Maps the number that each word has in the map to the word's impact.
 fn pair_words(
     words: &[(Word, u8)],
-    numbers: &BTreeMap<Word, u64>,
+    numbers: &IndexMap<Word, u64>,
     pairs: &mut BTreeMap<u64, u8>,
 ) -> Result<(), PageFault>
     requires room { length pairs.old.entries + length words.now ≤ 64 }
@@ -57,7 +58,7 @@ fn pair_words(
 ///
 /// Refuses as [`Tables::put_place`] and [`Tables::release`] do, `Memory`, and `Damaged` with `Words` at page 0 where a word has no
 /// number. After a refusal the tables are as before, and pages may have changed. Costs a put into the place table, a release for
-/// each word of the old place, and for each word of the new one a look-up in memory alone.
+/// each word of the old place, and for each word of the new one a look-up by hash in memory alone.
 pub fn put_held<P: Pages>(
     alloc: Global,
     pages: &mut P,
@@ -66,7 +67,7 @@ pub fn put_held<P: Pages>(
     old: Option<&Stored>,
     point: Point,
     words: &Words,
-    numbers: &BTreeMap<Word, u64>,
+    numbers: &IndexMap<Word, u64>,
 ) -> Result<Stored, PageFault>
     requires form { IfSome (option_copied old) IsStored }
     ensures put { (entries : Entries) (free : List ℕ) → Holds (P.pages pages.old) tables.old entries → IsApart (view (P.pages pages.old) (P.count pages.old) (P.first pages.old) free) tables.old
@@ -106,7 +107,7 @@ pub fn put_in_batch<P: Pages>(
     old: Option<&Stored>,
     point: Point,
     words: &Words,
-    held: &Option<BTreeMap<Word, u64>>,
+    held: &Option<IndexMap<Word, u64>>,
 ) -> Result<Stored, PageFault>
     requires next { tables.old.next_word ≤ 2 ^ 62 }
     requires form { IfSome (option_copied old) IsStored }

@@ -1,10 +1,10 @@
 //! A place that is put, put again and taken out, over tables that begin empty.
+use indexmap::IndexMap;
 use page_face::MemoryPages;
 use place_map::Update;
 use place_updates::{gather_words, hold_words, place_at, put_held, put_place, remove_place};
 use spatial_base::{Key, Point};
 use std::alloc::Global;
-use std::collections::BTreeMap;
 use std::fmt::Write;
 use std::test::Fail;
 use store_tables::Tables;
@@ -95,7 +95,7 @@ fn held(
     pages: &mut MemoryPages,
     tables: &mut Tables,
     updates: &[Update; 3],
-) -> Result<BTreeMap<Word, u64>, Fail> {
+) -> Result<IndexMap<Word, u64>, Fail> {
     let counts = gather_words(alloc, updates)?;
     if counts.len() != 3 || tables.next_word >= 100 {
         return Err(Fail::from("not three words"));
@@ -109,7 +109,7 @@ fn put_next(
     pages: &mut MemoryPages,
     tables: &mut Tables,
     next: &Update,
-    numbers: &BTreeMap<Word, u64>,
+    numbers: &IndexMap<Word, u64>,
 ) -> Result<(), Fail> {
     let Update::Put {
         key: Some(key),

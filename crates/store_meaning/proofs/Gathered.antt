@@ -1,21 +1,25 @@
 -- Counted words are held one after another.
-use Rattle.std.proofs.Common.{◌≡◌, ℕ, ◌+◌, ◌<◌, ◌≤◌, ◌^◌, ◌==◌, Bool, true, false, cond, List, [], ◌∷◌, ◌++◌, append-nil, append_assoc, length-append, length, fold, Option, Some, IsSome, unwrap_or, refl, sym, ap, subst, ◌∙◌, arith, sum_by}
+use Rattle.std.proofs.Common.{◌≡◌, ℕ, ◌+◌, ◌<◌, ◌≤◌, ◌^◌, ◌==◌, Bool, true, false, cond, List, [], ◌∷◌, ◌++◌, append-nil, append_assoc, length-append, length, fold, Option, Some, IsSome, unwrap_or, refl, sym, ap, subst, ◌∙◌, true≢false, arith, sum_by}
 use Rattle.std.proofs.lemmas.List.Sums.{sum_by-append, sum_by-cons}
-use Rattle.std.specs.BTreeMap.{insert_entry, is_at}
-use Rattle.std.specs.List.{AllByRecursion}
-use Rattle.std.specs.List.Sorted.{IsStrictlySortedBy}
+use Rattle.std.proofs.lemmas.Cmp.{nat_list_eq_equiv}
+use Rattle.std.proofs.lemmas.Map.Keys.{IsDistinct-head, IsDistinct-tail}
+use Rattle.std.specs.BTreeMap.{is_at}
+use Rattle.std.specs.Cmp.Lexicographic.{same_text}
+use Rattle.std.specs.List.{AllByRecursion, IsDistinct}
 use Rattle.std.specs.Map.{keys_of}
+use Rattle.std.specs.Str.{bytes_eq}
+use Rattle.indexmap.specs.IndexMap.{insert_entry}
 use Rattle.place_map.specs.declared.update.Update.{Update}
 use Rattle.place_map.specs.declared.update.Update.TheVariants.{Put, Remove}
 use Rattle.row_codec.specs.declared.counted.Counted.{Counted}
 use Rattle.store_tables.specs.Entries.{Entries, number_of_word, word_cmp}
 use Rattle.store_tables.specs.Words.{WordTablesAgree, CanHoldBy, claimed_by, number_for}
-use Rattle.store_tables.proofs.MapLemmas.{lookup-insert, same_from_test, test_of_same, words_are_ordered}
+use Rattle.store_tables.proofs.MapLemmas.{same_from_test, test_of_same, words_are_ordered}
 use Rattle.store_tables.proofs.WordLemmas.{agree-with_holds}
-use Rattle.store_meaning.specs.Ahead.{AreCountedWords, AreNamed, CanHoldAhead, HeldAhead, IsNamed, held_ahead, number_in, place_count, times_counted, with_counted, word_count, words_put}
+use Rattle.store_meaning.specs.Ahead.{AreCountedWords, AreNamed, CanHoldAhead, HeldAhead, IsNamed, held_ahead, number_among, number_in, place_count, times_counted, with_counted, word_count, words_put}
 use Rattle.store_meaning.proofs.Steps.{word_at, AreAscending, KeepsWords}
 use Rattle.store_meaning.proofs.Held.{has_it}
-use Rattle.store_meaning.proofs.Numbers.{agree-claims, apart_before, ascend-holds, can_hold-by, keeps-holds, named-holds, next_few, next_rises}
+use Rattle.store_meaning.proofs.Numbers.{agree-claims, ascend-holds, can_hold-by, keeps-holds, named-holds, next_few, next_rises}
 
 -- ---- sums
 
@@ -45,31 +49,54 @@ sum-most has (c ∷ counts) =
 
 -- ---- numbers
 
--- another word keeps its number, where one is put
-other-kept : (numbers : List (List ℕ × ℕ)) (word : List ℕ) (number : ℕ) (w : List ℕ) → (w ≡ word → ⊥) → number_of_word w (insert_entry word_cmp numbers word number) ≡ number_of_word w numbers
-other-kept numbers word number w other = lookup-insert words_are_ordered w word number numbers ∙ by (is_at (word_cmp w) word) refl
+-- what is found of a word after one was put
+found-put : (numbers : List (List ℕ × ℕ)) (word : List ℕ) (number : ℕ) (w : List ℕ) → number_among w (insert_entry bytes_eq numbers word number) ≡ cond (bytes_eq w word) (Some number) (number_among w numbers)
+found-put [] word number w = refl
+found-put (n ∷ numbers) word number w = by (found-put numbers word number w) (bytes_eq word n.0) refl
   where
-    by : (b : Bool) → is_at (word_cmp w) word ≡ b → cond b (Some number) (number_of_word w numbers) ≡ number_of_word w numbers
-    by true at = absurd (other (same_from_test words_are_ordered w word at))
+    both : (b : Bool) → cond b (Some number) (number_among w numbers) ≡ cond b (Some number) (cond b (Some n.1) (number_among w numbers))
+    both true = refl
+    both false = refl
+
+    either : (b c : Bool) → (b ≡ true → c ≡ true → ⊥) → cond c (Some n.1) (cond b (Some number) (number_among w numbers)) ≡ cond b (Some number) (cond c (Some n.1) (number_among w numbers))
+    either true true apart = absurd (apart refl refl)
+    either true false apart = refl
+    either false c apart = refl
+
+    by : number_among w (insert_entry bytes_eq numbers word number) ≡ cond (bytes_eq w word) (Some number) (number_among w numbers)
+        → (b : Bool) → bytes_eq word n.0 ≡ b
+        → number_among w (cond b ((n.0, number) ∷ numbers) (n ∷ insert_entry bytes_eq numbers word number)) ≡ cond (bytes_eq w word) (Some number) (cond (bytes_eq w n.0) (Some n.1) (number_among w numbers))
+    by rest true at =
+        both (bytes_eq w n.0) ∙ ap (λ (v : List ℕ). cond (bytes_eq w v) (Some number) (cond (bytes_eq w n.0) (Some n.1) (number_among w numbers))) (sym (same_text word n.0 (sym at)))
+    by rest false at =
+        ap (λ (f : Option ℕ). cond (bytes_eq w n.0) (Some n.1) f) rest
+        ∙ either (bytes_eq w word) (bytes_eq w n.0) (λ own its. true≢false (sym (ap (λ (v : List ℕ). bytes_eq v n.0) (sym (same_text w word (sym own))) ∙ its) ∙ at))
+
+-- another word keeps its number
+other-kept : (numbers : List (List ℕ × ℕ)) (word : List ℕ) (number : ℕ) (w : List ℕ) → (w ≡ word → ⊥) → number_among w (insert_entry bytes_eq numbers word number) ≡ number_among w numbers
+other-kept numbers word number w other = found-put numbers word number w ∙ by (bytes_eq w word) refl
+  where
+    by : (b : Bool) → bytes_eq w word ≡ b → cond b (Some number) (number_among w numbers) ≡ number_among w numbers
+    by true at = absurd (other (same_text w word (sym at)))
     by false at = refl
 
 -- the word that is put has it
-own-put : (numbers : List (List ℕ × ℕ)) (word : List ℕ) (number : ℕ) → number_of_word word (insert_entry word_cmp numbers word number) ≡ Some number
-own-put numbers word number = lookup-insert words_are_ordered word word number numbers ∙ ap (λ b. cond b (Some number) (number_of_word word numbers)) (test_of_same words_are_ordered word word refl)
+own-put : (numbers : List (List ℕ × ℕ)) (word : List ℕ) (number : ℕ) → number_among word (insert_entry bytes_eq numbers word number) ≡ Some number
+own-put numbers word number = found-put numbers word number word ∙ ap (λ b. cond b (Some number) (number_among word numbers)) (nat_list_eq_equiv.refl word)
 
 -- so the words before it count as they did
 sum-kept : (numbers : List (List ℕ × ℕ)) (word : List ℕ) (number n : ℕ) (done : List (List ℕ × ℕ)) → AllByRecursion (λ d. d ≡ word → ⊥) (keys_of done)
-    → times_counted (has_it (insert_entry word_cmp numbers word number) n) done ≡ times_counted (has_it numbers n) done
+    → times_counted (has_it (insert_entry bytes_eq numbers word number) n) done ≡ times_counted (has_it numbers n) done
 sum-kept numbers word number n [] apart = refl
 sum-kept numbers word number n (c ∷ done) apart =
-    let new = insert_entry word_cmp numbers word number in
+    let new = insert_entry bytes_eq numbers word number in
     let here : added (has_it new n) c ≡ added (has_it numbers n) c = ap (λ (f : Option ℕ). cond (unwrap_or f 0 == n) c.1 0) (other-kept numbers word number c.0 apart.0) in
     let rest = sum-kept numbers word number n done apart.1 in
     omega (arith, here, rest, sum_by-cons (added (has_it new n)) c done, sum_by-cons (added (has_it numbers n)) c done)
 
 -- and have their numbers as they did
 names-kept : (numbers : List (List ℕ × ℕ)) (table next : List (ℕ × Counted)) (word : List ℕ) (number : ℕ) → KeepsWords table next → (done : List (List ℕ × ℕ)) → AllByRecursion (λ d. d ≡ word → ⊥) (keys_of done)
-    → AllByRecursion (IsNamed numbers table) (keys_of done) → AllByRecursion (IsNamed (insert_entry word_cmp numbers word number) next) (keys_of done)
+    → AllByRecursion (IsNamed numbers table) (keys_of done) → AllByRecursion (IsNamed (insert_entry bytes_eq numbers word number) next) (keys_of done)
 names-kept numbers table next word number keeps [] apart named = tt
 names-kept numbers table next word number keeps (c ∷ done) apart named =
     let same = other-kept numbers word number c.0 apart.0 in (
@@ -120,16 +147,16 @@ module _ (claims : ℕ → ℕ) (before : Entries) (next_word : ℕ) (done : Lis
 
   -- so many more are claimed for its number
   more-claimed : AllByRecursion (λ d. d ≡ count.0 → ⊥) (keys_of done)
-      → (n : ℕ) → claimed_by count.1 number (λ m. claims m + times_counted (has_it held.numbers m) done) n ≡ claims n + times_counted (has_it (insert_entry word_cmp held.numbers count.0 number) n) (done ++ count ∷ [])
+      → (n : ℕ) → claimed_by count.1 number (λ m. claims m + times_counted (has_it held.numbers m) done) n ≡ claims n + times_counted (has_it (insert_entry bytes_eq held.numbers count.0 number) n) (done ++ count ∷ [])
   more-claimed apart n =
-      let new = insert_entry word_cmp held.numbers count.0 number in
+      let new = insert_entry bytes_eq held.numbers count.0 number in
       let mine : added (has_it new n) count ≡ cond (number == n) count.1 0 = ap (λ (f : Option ℕ). cond (unwrap_or f 0 == n) count.1 0) (own-put held.numbers count.0 number) in
       let pushed = sum-push (has_it new n) done count in
       let kept = sum-kept held.numbers count.0 number n done apart in
       by (number == n) (omega (arith, mine, pushed, kept))
     where
-      by : (b : Bool) → times_counted (has_it (insert_entry word_cmp held.numbers count.0 number) n) (done ++ count ∷ []) ≡ times_counted (has_it held.numbers n) done + cond b count.1 0
-          → cond b (claims n + times_counted (has_it held.numbers n) done + count.1) (claims n + times_counted (has_it held.numbers n) done) ≡ claims n + times_counted (has_it (insert_entry word_cmp held.numbers count.0 number) n) (done ++ count ∷ [])
+      by : (b : Bool) → times_counted (has_it (insert_entry bytes_eq held.numbers count.0 number) n) (done ++ count ∷ []) ≡ times_counted (has_it held.numbers n) done + cond b count.1 0
+          → cond b (claims n + times_counted (has_it held.numbers n) done + count.1) (claims n + times_counted (has_it held.numbers n) done) ≡ claims n + times_counted (has_it (insert_entry bytes_eq held.numbers count.0 number) n) (done ++ count ∷ [])
       by true e = omega (arith, e)
       by false e = omega (arith, e)
 
@@ -156,6 +183,20 @@ module _ (claims : ℕ → ℕ) (before : Entries) (next_word : ℕ) (done : Lis
 
 -- ---- all of them
 
+-- what holds of each word holds of one among them
+each-inside : (P : List ℕ → Type 0) (done : List (List ℕ × ℕ)) (count : List ℕ × ℕ) (rest : List (List ℕ × ℕ)) → AllByRecursion P (keys_of (done ++ count ∷ rest)) → P count.0
+each-inside P [] count rest all = all.0
+each-inside P (c ∷ done) count rest all = each-inside P done count rest all.1
+
+-- where no word stands twice, one is none of those before it
+distinct-before : (done : List (List ℕ × ℕ)) (count : List ℕ × ℕ) (rest : List (List ℕ × ℕ)) → IsDistinct bytes_eq (keys_of (done ++ count ∷ rest)) → AllByRecursion (λ d. d ≡ count.0 → ⊥) (keys_of done)
+distinct-before [] count rest distinct = tt
+distinct-before (c ∷ done) count rest distinct =
+    let other : bytes_eq c.0 count.0 ≡ false = each-inside (λ w. bytes_eq c.0 w ≡ false) done count rest (IsDistinct-head bytes_eq c.0 (keys_of (done ++ count ∷ rest)) distinct) in (
+      λ same. true≢false (sym (nat_list_eq_equiv.refl c.0) ∙ ap (bytes_eq c.0) same ∙ other),
+      distinct-before done count rest (IsDistinct-tail bytes_eq c.0 (keys_of (done ++ count ∷ rest)) distinct),
+    )
+
 module _ (claims : ℕ → ℕ) (before : Entries) (next_word : ℕ) (counts : List (List ℕ × ℕ)) (room : (n : ℕ) → claims n + times_counted (λ w. true) counts < 2 ^ 32) where
   -- there is room for one among them
   room-inside : (done : List (List ℕ × ℕ)) (count : List ℕ × ℕ) (rest : List (List ℕ × ℕ)) → done ++ count ∷ rest ≡ counts → (n : ℕ) → claims n + (times_counted (λ w. true) done + count.1) < 2 ^ 32
@@ -165,10 +206,10 @@ module _ (claims : ℕ → ℕ) (before : Entries) (next_word : ℕ) (counts : L
       let few = room n in
       omega (arith, sums, whole, few)
 
-  module _ (sorted : IsStrictlySortedBy word_cmp (keys_of counts)) where
+  module _ (distinct : IsDistinct bytes_eq (keys_of counts)) where
     -- a word is none of those before it
     apart-inside : (done : List (List ℕ × ℕ)) (count : List ℕ × ℕ) (rest : List (List ℕ × ℕ)) → done ++ count ∷ rest ≡ counts → AllByRecursion (λ d. d ≡ count.0 → ⊥) (keys_of done)
-    apart-inside done count rest all = apart_before done count rest (subst (λ (cs : List (List ℕ × ℕ)). IsStrictlySortedBy word_cmp (keys_of cs)) (sym all) sorted)
+    apart-inside done count rest all = distinct-before done count rest (subst (λ (cs : List (List ℕ × ℕ)). IsDistinct bytes_eq (keys_of cs)) (sym all) distinct)
 
     -- the words that are left are held behind those that are
     holding-rest : (rest done : List (List ℕ × ℕ)) (held : HeldAhead) → done ++ rest ≡ counts → AllByRecursion (λ (c : List ℕ × ℕ). 1 ≤ c.1) rest → IsHolding claims before next_word done held
@@ -191,11 +232,11 @@ module _ (claims : ℕ → ℕ) (before : Entries) (next_word : ℕ) (counts : L
   module _ (are : AreCountedWords counts) (agree : WordTablesAgree claims before.texts before.numbers next_word) (ascend : AreAscending before) where
     -- all counted words are held
     pub holding-all : IsHolding claims before next_word counts (held_ahead counts next_word before)
-    holding-all = holding-rest are.ascending counts [] (record { entries = before; next_word = next_word; numbers = [] }) refl are.some (holding-start claims before next_word agree ascend)
+    holding-all = holding-rest are.distinct counts [] (record { entries = before; next_word = next_word; numbers = [] }) refl are.some (holding-start claims before next_word agree ascend)
 
     -- and can be
     pub can-hold-all : CanHoldAhead counts (record { entries = before; next_word = next_word; numbers = [] })
-    can-hold-all = can-hold-rest are.ascending counts [] (record { entries = before; next_word = next_word; numbers = [] }) refl are.some (holding-start claims before next_word agree ascend)
+    can-hold-all = can-hold-rest are.distinct counts [] (record { entries = before; next_word = next_word; numbers = [] }) refl are.some (holding-start claims before next_word agree ascend)
 
 -- ---- the words of updates
 

@@ -1,9 +1,9 @@
 -- A batch holds its words ahead: each word of its Puts once, by as many places as are still to hold it.
-use Rattle.std.specs.Prelude.{◌≡◌, ℕ, ◌+◌, ◌≤◌, ◌^◌, ◌==◌, if◌then◌else◌, Bool, List, [], ◌∷◌, length, map, fold, sum_by, Option, Some, None, IsSome}
-use Rattle.std.specs.BTreeMap.{insert_entry}
-use Rattle.std.specs.List.{AllByRecursion, count_by}
-use Rattle.std.specs.List.Sorted.{IsStrictlySortedBy}
-use Rattle.std.specs.Map.{keys_of}
+use Rattle.std.specs.Prelude.{◌≡◌, ℕ, ◌+◌, ◌≤◌, ◌^◌, ◌==◌, if◌then◌else◌, Bool, List, [], ◌∷◌, length, map, fold, sum_by, Option, Some, None, IsSome, unwrap_or}
+use Rattle.std.specs.List.{AllByRecursion, IsDistinct, count_by}
+use Rattle.std.specs.Map.{keys_of, lookup}
+use Rattle.std.specs.Str.{bytes_eq}
+use Rattle.indexmap.specs.IndexMap.{insert_entry}
 use Rattle.spatial_base.specs.Key.{Name}
 use Rattle.spatial_base.specs.Point.{Position}
 use Rattle.page_face.specs.FreeList.{PageMap}
@@ -13,7 +13,7 @@ use Rattle.place_map.specs.declared.update.Update.{Update}
 use Rattle.place_map.specs.declared.update.Update.TheVariants.{Put, Remove}
 use Rattle.row_codec.specs.declared.counted.Counted.{Counted}
 use Rattle.row_codec.specs.Pairs.{Pair}
-use Rattle.store_tables.specs.Entries.{Entries, number_of_word, word_cmp, word_of_number}
+use Rattle.store_tables.specs.Entries.{Entries, number_of_word, word_of_number}
 use Rattle.store_tables.specs.Words.{CanHoldBy, next_after, number_for, with_holds, word_in}
 use Rattle.store_meaning.specs.Stands.{PagesStandFor}
 use Rattle.store_meaning.specs.Updates.{after_held, after_put, numbered_for}
@@ -43,9 +43,13 @@ word_count has (Remove key ∷ updates) = word_count has updates
 abbrev pub times_counted : (List ℕ → Bool) → List (List ℕ × ℕ) → ℕ
 times_counted has counts = sum_by (λ (count : List ℕ × ℕ). if has count.0 then count.1 else 0) counts
 
--- the number that a map has of a word; 0 for none
+-- the number that a map has of a word, which is looked up by its bytes
+abbrev pub number_among : List ℕ → List (List ℕ × ℕ) → Option ℕ
+number_among word numbers = lookup (bytes_eq word) numbers
+
+-- that number; 0 for none
 abbrev pub number_in : List (List ℕ × ℕ) → List ℕ → ℕ
-number_in numbers word = number_for word 0 numbers
+number_in numbers word = unwrap_or (number_among word numbers) 0
 
 -- words by their numbers, with their impacts
 abbrev pub pairs_for : List (List ℕ × ℕ) → List (List ℕ × ℕ) → List Pair
@@ -53,7 +57,7 @@ pairs_for numbers words = map (λ (term : List ℕ × ℕ). (number_in numbers t
 
 -- a word has its number in the map, which is the word's in the tables
 abbrev pub IsNamed : List (List ℕ × ℕ) → List (ℕ × Counted) → List ℕ → Type 0
-IsNamed numbers table word = IsSome (number_of_word word numbers) × (word_in (word_of_number (number_in numbers word) table) ≡ Some word)
+IsNamed numbers table word = IsSome (number_among word numbers) × (word_in (word_of_number (number_in numbers word) table) ≡ Some word)
 
 -- each word that the updates put has
 abbrev pub AreNamed : List (List ℕ × ℕ) → List (ℕ × Counted) → List Update → Type 0
@@ -88,7 +92,7 @@ with_counted held count =
     record {
       entries = with_holds count.1 count.0 held.next_word held.entries;
       next_word = next_after (number_of_word count.0 held.entries.texts) held.next_word;
-      numbers = insert_entry word_cmp held.numbers count.0 number;
+      numbers = insert_entry bytes_eq held.numbers count.0 number;
     }
 
 -- counted words were held one after another
@@ -100,9 +104,9 @@ abbrev pub CanHoldAhead : List (List ℕ × ℕ) → HeldAhead → Type 0
 CanHoldAhead [] held = Unit {0}
 CanHoldAhead (count ∷ counts) held = CanHoldBy count.1 count.0 held.next_word held.entries × CanHoldAhead counts (with_counted held count)
 
--- counted words: in their order, each counted at least once
+-- counted words: no word twice, each counted at least once
 pub record AreCountedWords (counts : List (List ℕ × ℕ)) : Type 0 where
-  pub ascending : IsStrictlySortedBy word_cmp (keys_of counts)
+  pub distinct : IsDistinct bytes_eq (keys_of counts)
   pub some : AllByRecursion (λ (count : List ℕ × ℕ). 1 ≤ count.1) counts
 
 -- ---- an update in a batch, whose words were held ahead by these numbers, or whose words are numbered as they come

@@ -1,11 +1,10 @@
 use Rattle.std.proofs.Common.{◌≡◌, ℕ, ◌+◌, ◌∷◌, List, length, fold, Err, sym, ap, subst, ◌∙◌, arith, rules}
-use Rattle.std.proofs.lemmas.Map.Iter.{rest_more}
 use Rattle.std.proofs.lemmas.Result.{err_from_is_err_and}
-use Rattle.std.specs.BTreeMap.{insert_entry}
-use Rattle.std.specs.Map.Iter.{deref_pair}
+use Rattle.std.specs.Str.{bytes_eq}
+use Rattle.indexmap.specs.IndexMap.{insert_entry}
 use Rattle.page_face.specs.declared.fault.PageFault.TheVariants.{Damaged}
 use Rattle.btree_nodes.specs.Supply.{View, view}
-use Rattle.store_tables.specs.Entries.{Entries, word_cmp}
+use Rattle.store_tables.specs.Entries.{Entries}
 use Rattle.store_tables.specs.Words.{with_holds}
 use Rattle.store_tables.proofs.FrameLemmas.{changed-further}
 use Rattle.store_tables.proofs.ToldLemmas.{told-changed}
@@ -17,7 +16,7 @@ returns-in_err-number-clause-honest g c entries free holds apart can told damage
     let before : View = view (g.P.Pages.pages c.args.pages.now) (g.P.Pages.count c.args.pages.now) (g.P.Pages.first c.args.pages.now) free in
     let held = c.loop-word.invariant.held entries free holds apart in
     let now : HeldAhead = record { entries = held.0; next_word = c.loop-word.tables.next_word; numbers = c.loop-word.numbers.entries } in
-    let step : c.loop-word.word-iterator ≡ (c.in-Some.word.now, c.in-Some.places.now) ∷ c.next.new.self = rest_more deref_pair _ _ _ _ c.in-Some.is c.next.ensures.steps in
+    let step : c.loop-word.word-iterator ≡ (c.in-Some.word.now, c.in-Some.places.now) ∷ c.next.new.self = c.in-Some.ensures.steps in
     let can_left = subst (λ (left : List (List ℕ × ℕ)). CanHoldAhead left now) step (held.3 can) in
     let p = err_from_is_err_and c.from_residual.result c.from_residual.ensures.1 in
     λ e. (let same : c.in_err-number.field-0.0 ≡ Damaged damage = cc (p.1, p.2, e) in
@@ -26,7 +25,7 @@ returns-in_err-number-clause-honest g c entries free holds apart can told damage
 pub loop-word-preserved : goal.loop-word-preserved
 loop-word-preserved g c =
     let invariant = c.loop-word.invariant in
-    let step : c.loop-word.word-iterator ≡ (c.in-Some.word.now, c.in-Some.places.now) ∷ c.next.new.self = rest_more deref_pair _ _ _ _ c.in-Some.is c.next.ensures.steps in
+    let step : c.loop-word.word-iterator ≡ (c.in-Some.word.now, c.in-Some.places.now) ∷ c.next.new.self = c.in-Some.ensures.steps in
     let long : length c.loop-word.word-iterator ≡ length c.next.new.self + 1 = search rules in
     let next = invariant.next in
     let rises = c.in_ok-number.ensures.rises in
@@ -40,7 +39,7 @@ loop-word-preserved g c =
           let then : Entries = with_holds c.in-Some.places.now c.in-Some.word.now c.loop-word.tables.next_word held.0 in
           let now : HeldAhead = record { entries = held.0; next_word = c.loop-word.tables.next_word; numbers = c.loop-word.numbers.entries } in
           let after : HeldAhead = record { entries = then; next_word = c.hold.new.self.next_word; numbers = c.put_number.new.numbers.entries } in
-          let put = c.in_ok-put_number.ensures.put ∙ ap (insert_entry word_cmp c.loop-word.numbers.entries c.in-Some.word.now) h.1 in
+          let put = c.in_ok-put_number.ensures.put ∙ ap (insert_entry bytes_eq c.loop-word.numbers.entries c.in-Some.word.now) h.1 in
           let same : after ≡ with_counted now (c.in-Some.word.now, c.in-Some.places.now) = λ i. record { entries = then; next_word = h.2 i; numbers = put i } in (
             then,
             changed-further held.1 h.3,
