@@ -3,3 +3,4 @@ pub mod Held
 pub mod Opening
 pub mod Store
 pub mod Superblock
+pub mod Takes

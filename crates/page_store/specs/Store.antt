@@ -1,6 +1,6 @@
 -- How the calls of a store leave its disk.
 use Rattle.std.specs.Prelude.{◌≡◌, ◌⊎◌, ℕ, ◌*◌, ◌≤◌, Bool, IsTrue, List, [], ◌∷◌, ◌++◌, Contains}
-use Rattle.std.proofs.Common.{refl, sym, ap, ◌∙◌, arith, append_assoc}
+use Rattle.std.proofs.Common.{refl, sym, subst, ap, ◌∙◌, arith, append_assoc}
 use Rattle.std.proofs.lemmas.List.{append-nil}
 use Rattle.std.proofs.lemmas.List.Elements.{Contains-append_left, Contains-append_right}
 use Rattle.std.specs.List.{AllByRecursion}
@@ -11,6 +11,7 @@ use Rattle.disk_model.specs.declared.disk.Area.TheVariants.{Pages}
 use Rattle.page_face.specs.declared.head.Head.{Head}
 use Rattle.page_store.specs.Contents.{Overlay}
 use Rattle.page_store.specs.declared.superblock.Superblock.{Superblock}
+use Rattle.page_store.specs.Takes.{Counts, Takes, takes_further, takes_nothing}
 
 -- From old to new no area changed and nothing was said.
 pub record Rests (old new : World) : Type 0 where
@@ -33,14 +34,15 @@ pub record Kept : Type 0 where
 abbrev pub kept_of : Superblock → Superblock → Kept
 kept_of current last = record { head = current.head; last = last }
 
--- The head stands as it did; the same loan, whose disk changed no area and said nothing; no count fell.
-pub record GoesOn {D : Type 0} (tells : Bool) (world : D → World) (room_of : D → ℕ) (kept_old kept_new : Kept) (old new : MutBor D) : Type 0 where
+-- The head stands as it did; the same loan, whose disk changed no area and said nothing; no count fell, and none outran the takes left.
+pub record GoesOn {D : Type 0} (tells : Bool) (world : D → World) (room_of : D → ℕ) (kept_old kept_new : Kept) (counts_old counts_new : Counts) (old new : MutBor D) : Type 0 where
   pub kept : kept_new ≡ kept_old
   pub loan : new.ghost_name ≡ old.ghost_name
   pub room : room_of new.now ≡ room_of old.now
   pub faults : (world old.now).faults ≤ (world new.now).faults
   pub sink : (world new.now).sink_faults ≡ (world old.now).sink_faults
   pub rests : IsTrue tells → Rests (world old.now) (world new.now)
+  pub takes : Takes (room_of old.now) counts_old counts_new
 
 -- one run of calls after another
 pub rests_then : {a b c : World} → Rests a b → Rests b c → Rests a c
@@ -53,26 +55,29 @@ rests_then ab bc = record {
 
 module _ {D : Type 0} (tells : Bool) (world : D → World) (room_of : D → ℕ) where
   -- nothing has gone on
-  pub goes_nowhere : (kept : Kept) (a : MutBor D) → GoesOn tells world room_of kept kept a a
-  goes_nowhere kept a = record {
+  pub goes_nowhere : (kept : Kept) (counts : Counts) (a : MutBor D) → GoesOn tells world room_of kept kept counts counts a a
+  goes_nowhere kept counts a = record {
     kept = refl;
     loan = refl;
     room = refl;
     faults = omega arith;
     sink = refl;
     rests = λ t. record { seen = refl; crash = λ image may. may; adds = started (world a.now); said = refl };
+    takes = takes_nothing (room_of a.now) counts;
   }
 
   -- one thing after another
-  pub goes_further : (kept_a kept_b kept_c : Kept) (a b c : MutBor D)
-      → GoesOn tells world room_of kept_a kept_b a b → GoesOn tells world room_of kept_b kept_c b c → GoesOn tells world room_of kept_a kept_c a c
-  goes_further kept_a kept_b kept_c a b c f g = record {
+  pub goes_further : (kept_a kept_b kept_c : Kept) (counts_a counts_b counts_c : Counts) (a b c : MutBor D)
+      → GoesOn tells world room_of kept_a kept_b counts_a counts_b a b → GoesOn tells world room_of kept_b kept_c counts_b counts_c b c
+      → GoesOn tells world room_of kept_a kept_c counts_a counts_c a c
+  goes_further kept_a kept_b kept_c counts_a counts_b counts_c a b c f g = record {
     kept = g.kept ∙ f.kept;
     loan = g.loan ∙ f.loan;
     room = g.room ∙ f.room;
     faults = omega (arith, f.faults, g.faults);
     sink = g.sink ∙ f.sink;
     rests = λ t. rests_then (f.rests t) (g.rests t);
+    takes = takes_further (room_of a.now) counts_a counts_b counts_c f.takes (subst (λ (room : ℕ). Takes room counts_b counts_c) f.room g.takes);
   }
 
 -- the read is of one of these pages, whole

@@ -28,6 +28,7 @@ impl<'d, D: Disk> Store<'d, D> {
         ensures last { self.new.last ≡ self.old.last }
         ensures asked { self.new.asked ≡ self.old.asked }
         ensures refused { self.new.refused ≡ self.old.refused }
+        ensures takes { self.new.takes_left ≡ self.old.takes_left }
         ensures stopped { self.new.stopped ≡ self.old.stopped }
     {
         if self.find(page) {
@@ -48,6 +49,7 @@ impl<'d, D: Disk> Store<'d, D> {
         ensures last { self.new.last ≡ self.old.last }
         ensures asked { self.new.asked ≡ self.old.asked }
         ensures refused { self.new.refused ≡ self.old.refused }
+        ensures takes { self.new.takes_left ≡ self.old.takes_left }
         ensures stopped { self.new.stopped ≡ self.old.stopped }
     {
         self.at = page;
@@ -75,6 +77,7 @@ impl<'d, D: Disk> Store<'d, D> {
         ensures last { self.new.last ≡ self.old.last }
         ensures asked { self.new.asked ≡ self.old.asked }
         ensures refused { self.new.refused ≡ self.old.refused }
+        ensures takes { self.new.takes_left ≡ self.old.takes_left }
         ensures stopped { self.new.stopped ≡ self.old.stopped }
     {
         self.place = Place::Spare;

@@ -1,5 +1,5 @@
 //! The pages of a store.
-ghost use Rattle.std.specs.Prelude.{◌≡◌, ◌≢◌, ◌↔◌, ◌≤◌, ◌+◌, ℕ, IsTrue, IfOk, IfErr, OnErr, IsErrOf};
+ghost use Rattle.std.specs.Prelude.{◌≡◌, ◌≢◌, ◌↔◌, ◌≤◌, ◌+◌, ◌⊎◌, ℕ, IsTrue, IfOk, IfErr, OnOk, OnErr, IsErrOf};
 ghost use Rattle.page_face.specs.Causes.{IsUncounted, Rose, unlinked as link};
 ghost use Rattle.page_store.specs.Store.{kept_of};
 
@@ -28,6 +28,7 @@ impl<'d, D: Disk> Pages for Store<'d, D> {
     ghost use Rattle.page_journal.specs.Record.{applied};
     ghost use Rattle.page_store.specs.Contents.{shown, counted_pages};
     ghost use Rattle.held_pages.specs.Places.{looked_page};
+    ghost use Rattle.page_store.specs.Takes.{counts_of};
     ghost use Rattle.page_store.specs.Store.{GoesOn, OnlyReads, goes_nowhere, goes_further, reads_nothing, reads_further};
 
     ghost pages = { λ s. counted_pages s.current.counted (shown D.tells (applied (D.world s.disk.now).seen) s.overlay) };
@@ -48,15 +49,18 @@ impl<'d, D: Disk> Pages for Store<'d, D> {
 
     ghost is_stopped = { λ s. s.stopped };
 
-    ghost follows_from = { λ a b. GoesOn D.tells D.world D.room_of (kept_of a.current a.last) (kept_of b.current b.last) a.disk b.disk };
+    ghost follows_from = { λ a b. GoesOn D.tells D.world D.room_of (kept_of a.current a.last) (kept_of b.current b.last)
+        (counts_of a.current.counted a.takes_left a.refused) (counts_of b.current.counted b.takes_left b.refused) a.disk b.disk };
 
     ghost only_reads = { λ a b. OnlyReads D.tells D.world a.overlay b.overlay a.asked.items b.asked.items a.disk.now b.disk.now };
 
     ghost first_is_counted = { λ s. s.current_first };
 
-    ghost stays = { λ s. goes_nowhere D.tells D.world D.room_of (kept_of s.current s.last) s.disk };
+    ghost stays = { λ s. goes_nowhere D.tells D.world D.room_of (kept_of s.current s.last) (counts_of s.current.counted s.takes_left s.refused) s.disk };
 
-    ghost goes_further = { λ a b c f g. goes_further D.tells D.world D.room_of (kept_of a.current a.last) (kept_of b.current b.last) (kept_of c.current c.last) a.disk b.disk c.disk f g };
+    ghost goes_further = { λ a b c f g. goes_further D.tells D.world D.room_of (kept_of a.current a.last) (kept_of b.current b.last) (kept_of c.current c.last)
+        (counts_of a.current.counted a.takes_left a.refused) (counts_of b.current.counted b.takes_left b.refused) (counts_of c.current.counted c.takes_left c.refused)
+        a.disk b.disk c.disk f g };
 
     ghost reads_nothing = { λ s. reads_nothing D.tells D.world s.overlay s.asked.items s.disk.now };
 
@@ -151,6 +155,9 @@ impl<'d, D: Disk> Pages for Store<'d, D> {
         if self.current.first_free == 0 {
             return self.count_one();
         }
+        if self.takes_left == 0 {
+            return Err(PageFault::Memory);
+        }
         let page = self.current.first_free;
         let Ok(()) = self.fetch(page) else {
             return Err(PageFault::Disk);
@@ -161,6 +168,7 @@ impl<'d, D: Disk> Pages for Store<'d, D> {
                     return Err(unlinked(next));
                 }
                 self.current.first_free = next;
+                self.takes_left -= 1;
                 Ok(page)
             }
             Err(rule) => Err(PageFault::Damaged(Damage { page, rule })),
@@ -188,12 +196,15 @@ impl<'d, D: Disk> Pages for Store<'d, D> {
 }
 
 impl<'d, D: Disk> Store<'d, D> {
-    // Counts one page more.
+    // Counts one page more, where room and a take are left.
     fn count_one(&mut self) -> Result<u32, PageFault>
         requires { self.old.current.first_free ≡ 0 }
         ensures counts { IfOk result (λ page. (page ≡ self.old.current.counted) × (self.new.current.counted ≡ self.old.current.counted + 1)) }
         ensures full { IsErrOf result PageFault.NoRoom ↔ (D.room_of self.old.disk.now ≤ self.old.current.counted) }
-        ensures other { IfErr result (λ fault. fault ≡ PageFault.NoRoom) }
+        ensures other { IfErr result (λ fault. (fault ≡ PageFault.NoRoom) ⊎ (fault ≡ PageFault.Memory)) }
+        ensures spent { IsErrOf result PageFault.Memory → self.old.takes_left ≡ 0 }
+        ensures used { OnOk result (self.new.takes_left + 1 ≡ self.old.takes_left) }
+        ensures unused { OnErr result (self.new.takes_left ≡ self.old.takes_left) }
         ensures kept { OnErr result (self.new.current ≡ self.old.current) }
         ensures refused_more { IsErrOf result PageFault.NoRoom → Rose self.old.refused self.new.refused }
         ensures refused { result ≢ Err PageFault.NoRoom → self.new.refused ≡ self.old.refused }
@@ -211,6 +222,10 @@ impl<'d, D: Disk> Store<'d, D> {
             self.refused = self.refused.saturating_add(1);
             return Err(PageFault::NoRoom);
         }
+        if self.takes_left == 0 {
+            return Err(PageFault::Memory);
+        }
+        self.takes_left -= 1;
         self.current.counted = page + 1;
         Ok(page)
     }

@@ -1,5 +1,5 @@
 //! The store as one object.
-ghost use Rattle.std.specs.Prelude.{◌≡◌, ◌≢◌, ℕ, Some, IsErrOf, ◌<◌, ◌≤◌, ◌-◌, ◌^◌, ◌⊎◌, IsTrue, None, false, [], IfOk, length};
+ghost use Rattle.std.specs.Prelude.{◌≡◌, ◌≢◌, ℕ, Some, IsErrOf, ◌<◌, ◌≤◌, ◌-◌, ◌^◌, ◌⊎◌, IsTrue, None, false, [], IfOk, IfErr, OnOk, length};
 ghost use Rattle.std.proofs.Props.{props};
 ghost use Rattle.disk_model.specs.World.{LeavesOnly, HasSaid, HasSinkCause};
 ghost use Rattle.page_journal.specs.Record.{IsBad, StandsAlike};
@@ -18,7 +18,7 @@ use crate::superblock::Superblock;
 use disk_model::{Disk, Failed, Station};
 use held_pages::{Hints, PageTable, Place, Seals};
 use page_cache::Cache;
-use page_face::{Damage, Head, Page};
+use page_face::{Damage, Head, Page, PageFault};
 use std::alloc::Global;
 use std::collections::BTreeMap;
 
@@ -56,6 +56,8 @@ pub struct Store<'d, D: Disk> {
     pub(crate) last: Superblock,
     pub(crate) asked: Vec<u32>,
     pub(crate) refused: u64,
+    // how many pages may still be taken
+    pub(crate) takes_left: u64,
     pub(crate) stopped: bool,
     // committed pages, the one used last first
     pub(crate) cache: Cache,
@@ -107,6 +109,7 @@ impl<'d, D: Disk> Store<'d, D> {
         ensures opened { IsTrue D.tells → IfOk result (λ store. IsOpened store.last (D.world disk.old) (D.world store.disk.now)) }
         ensures clean { IfOk result (λ store. (store.overlay.entries ≡ []) × (store.current ≡ store.last)) }
         ensures fresh { IfOk result (λ store. (store.asked.items ≡ []) × (store.refused ≡ 0) × (store.stopped ≡ false)) }
+        ensures allowed { IfOk result (λ store. store.takes_left ≡ 2 ^ 64 - 1) }
 
         // The cache may hold so many pages as were asked for, or none if memory ran out for it.
         ensures cache_room { IfOk result (λ store. (room_of store.cache ≡ cache) ⊎ (room_of store.cache ≡ 0)) }
@@ -130,6 +133,7 @@ impl<'d, D: Disk> Store<'d, D> {
         ensures block { result.last ≡ block }
         ensures clean { (result.overlay.entries ≡ []) × (result.current ≡ result.last) }
         ensures fresh { (result.asked.items ≡ []) × (result.refused ≡ 0) × (result.stopped ≡ false) }
+        ensures allowed { result.takes_left ≡ 2 ^ 64 - 1 }
         ensures cache_room { (room_of result.cache ≡ cache) ⊎ (room_of result.cache ≡ 0) }
     {
         Store {
@@ -143,6 +147,7 @@ impl<'d, D: Disk> Store<'d, D> {
             last: block,
             asked: Vec::new(alloc),
             refused: 0,
+            takes_left: u64::MAX,
             stopped: false,
             cache: cache_of(alloc, cache),
             seals: Seals::new(alloc),
@@ -169,6 +174,7 @@ impl<'d, D: Disk> Store<'d, D> {
             last: _,
             asked: _,
             refused: _,
+            takes_left: _,
             stopped: _,
             cache: _,
             seals: _,
@@ -217,9 +223,37 @@ impl<'d, D: Disk> Store<'d, D> {
         ensures journal { self.new.journal ≡ self.old.journal }
         ensures disk { self.new.disk ≡ self.old.disk }
         ensures refused { self.new.refused ≡ self.old.refused }
+        ensures takes { self.new.takes_left ≡ self.old.takes_left }
         ensures stopped { self.new.stopped ≡ self.old.stopped }
     {
         self.asked.clear();
+    }
+
+    /// Allows so many takes from now on, in place of what was left of the takes allowed before. A new store allows 2^64 - 1.
+    ///
+    /// It is a fuse for a change that would take page after page without end: behind so many takes the next one is refused as `Memory`,
+    /// where it isn't refused for another cause, until takes are allowed again. So a change that was allowed `takes` counts at most so many
+    /// pages more, and meets `NoRoom` only where no more than these were left. A change that is in order takes far fewer.
+    ///
+    /// Refuses `Memory` exactly where 2^64 - 1 takes were refused, so that a further one wouldn't be counted; then nothing changes.
+    pub fn allow(&mut self, takes: u64) -> Result<(), PageFault>
+        ensures takes { OnOk result (self.new.takes_left ≡ takes) }
+        ensures counts { OnOk result (self.old.refused < 2 ^ 64 - 1) }
+        ensures worn { IfErr result (λ fault. (fault ≡ PageFault.Memory) × (self.old.refused ≡ 2 ^ 64 - 1) × (self.new.takes_left ≡ self.old.takes_left)) }
+        ensures log { self.new.asked.items ≡ self.old.asked.items }
+        ensures current { self.new.current ≡ self.old.current }
+        ensures last { self.new.last ≡ self.old.last }
+        ensures overlay { self.new.overlay ≡ self.old.overlay }
+        ensures journal { self.new.journal ≡ self.old.journal }
+        ensures disk { self.new.disk ≡ self.old.disk }
+        ensures refused { self.new.refused ≡ self.old.refused }
+        ensures stopped { self.new.stopped ≡ self.old.stopped }
+    {
+        if self.refused == u64::MAX {
+            return Err(PageFault::Memory);
+        }
+        self.takes_left = takes;
+        Ok(())
     }
 }
 

@@ -121,6 +121,8 @@ enum Call {
     Commit,
     Settle,
     Abandon,
+    // from now on so many takes
+    Allow(u64),
     Counted,
     Say,
 }
@@ -173,6 +175,7 @@ fn answer_of(store: &mut Store<'_, MemoryStation>, call: Call) -> Answer {
             Answer::Done
         }
         Call::Counted => Answer::Number(store.counted()),
+        Call::Allow(takes) => done(store.allow(takes)),
         Call::Say => match store.say(b"ok") {
             Ok(count) => Answer::Number(count as u32),
             Err(_) => Answer::NotSaid,
@@ -205,7 +208,7 @@ struct Run {
 }
 
 // Opening makes two syncs, a commit two and a checkpoint two.
-static RUNS: [Run; 9] = [
+static RUNS: [Run; 11] = [
     Run {
         image: Image::Circle,
         cache: 0,
@@ -219,6 +222,39 @@ static RUNS: [Run; 9] = [
         log: &[],
         reads: 3,
         holds: (3, 0, 4),
+    },
+    // so many takes as are allowed
+    Run {
+        image: Image::Circle,
+        cache: 0,
+        fail: 0,
+        calls: &[
+            (Call::Allow(1), Answer::Done),
+            (Call::Take, Answer::Number(1)),
+            (Call::Take, Answer::Refused(PageFault::Memory)),
+            (Call::Allow(2), Answer::Done),
+            (Call::Take, Answer::Number(2)),
+        ],
+        log: &[],
+        reads: 2,
+        holds: (3, 0, 4),
+    },
+    // where no page is left it is said so, whatever is allowed
+    Run {
+        image: Image::Committed,
+        cache: 0,
+        fail: 0,
+        calls: &[
+            (Call::Allow(0), Answer::Done),
+            (Call::Take, Answer::Refused(PageFault::Memory)),
+            (Call::Counted, Answer::Number(2)),
+            (Call::Allow(1), Answer::Done),
+            (Call::Take, Answer::Number(2)),
+            (Call::Take, Answer::Refused(PageFault::NoRoom)),
+        ],
+        log: &[],
+        reads: 0,
+        holds: (2, 7, 7),
     },
     // a commit that fails
     Run {
