@@ -5,6 +5,7 @@ use Rattle.rtree_shape.specs.Slots.{filled, one}
 use Rattle.rtree_shape.specs.Stock.{View, view}
 use Rattle.rtree_shape.specs.Loose.{total_loose}
 use Rattle.rtree_nodes.specs.Pages.{stored_in}
+use Rattle.node_rows.specs.Damages.{IsRowsHarm}
 use Rattle.node_rows.specs.Rows.{bytes_in}
 use Rattle.node_inverted.specs.Lifts.{lifted_at}
 use Rattle.node_inverted.specs.declared.taking.NodeRow.{NodeRow}
@@ -60,7 +61,8 @@ returns-in_err-rows-clause-damaged g c = λ form told damage e.
 
 pub returns-in_err-let_all_go-clause-damaged : goal.returns-in_err-let_all_go-clause-damaged
 returns-in_err-let_all_go-clause-damaged g c = λ form told damage e.
-    let p = err_from_is_err_and c.from_residual-in_err-let_all_go.result c.from_residual-in_err-let_all_go.ensures.1 in
-    let same : c.in_err-let_all_go.field-0.0 ≡ Damaged damage = cc (p.1, p.2, e) in
+    let p = g.P.Pages in
+    let r = err_from_is_err_and c.from_residual-in_err-let_all_go.result c.from_residual-in_err-let_all_go.ensures.1 in
+    let same : c.in_err-let_all_go.field-0.0 ≡ Damaged damage = cc (r.1, r.2, e) in
     let unread = subst (IsUnread c.args.page c.args.bytes.now) same c.in_err-let_all_go.ensures.refuses in
-    absurd (true≢false (sym form ∙ unread.1))
+    absurd {A = IsRowsHarm (p.pages c.take_rows.new.pages) (p.count c.take_rows.new.pages) (p.first c.take_rows.new.pages) (p.asked c.args.pages.now) (p.asked c.take_rows.new.pages) damage} (true≢false (sym form ∙ unread.1))

@@ -14,6 +14,7 @@ use Rattle.rtree_nodes.specs.Pages.{node_of, slots_in, stored_in}
 use Rattle.rtree_nodes.specs.Reach.{child_item}
 use Rattle.rtree_nodes.specs.declared.content.Slot.{Slot}
 use Rattle.rtree_nodes.proofs.Formed.{form-slots}
+use Rattle.node_rows.specs.Damages.{IsRowsHarm}
 use Rattle.node_rows.specs.Rows.{bytes_in}
 use Rattle.irtree_shape.specs.Words.{joined, words_on}
 use Rattle.irtree_shape.specs.Stock.{Moves}
@@ -130,13 +131,18 @@ returns-in-Ok-give_back-clause-gone g c = λ form none. (
 
 -- a node's slots have a rectangle
 pub returns-in-Err-clause-damaged : goal.returns-in-Err-clause-damaged
-returns-in-Err-clause-damaged g c = λ form told damage e. absurd (true≢false (sym (c.in-Err.ensures.ok form)))
+returns-in-Err-clause-damaged g c = λ form told damage e.
+    let p = g.P.Pages in
+    absurd {A = IsRowsHarm (p.pages c.args.pages.now) (p.count c.args.pages.now) (p.first c.args.pages.now) (p.asked c.args.pages.now) (p.asked c.args.pages.now) damage} (true≢false (sym (c.in-Err.ensures.ok form)))
 
 pub returns-in-Err-clause-more : goal.returns-in-Err-clause-more
 returns-in-Err-clause-more g c = λ told. asks-nothing (λ _. 1) _ _ refl
 
 pub returns-in-Err-write_changed-clause-damaged : goal.returns-in-Err-write_changed-clause-damaged
-returns-in-Err-write_changed-clause-damaged g c = λ form told damage e. absurd (c.in-Err-write_changed.ensures.sound damage (ap Err (same-fault {T = Option Slot} _ _ e)))
+returns-in-Err-write_changed-clause-damaged g c = λ form told damage e.
+    let p = g.P.Pages in
+    absurd {A = IsRowsHarm (p.pages c.write_changed.new.pages) (p.count c.write_changed.new.pages) (p.first c.write_changed.new.pages) (p.asked c.args.pages.now) (p.asked c.write_changed.new.pages) damage}
+    (c.in-Err-write_changed.ensures.sound damage (ap Err (same-fault {T = Option Slot} _ _ e)))
 
 pub returns-in-Err-write_changed-clause-more : goal.returns-in-Err-write_changed-clause-more
 returns-in-Err-write_changed-clause-more g c = λ told. asks-nothing (λ _. 1) _ _ c.write_changed.ensures.frame.asked
@@ -153,7 +159,9 @@ returns-in-Err-give_back-clause-damaged g c = λ form told damage e.
     let d = c.in-Err-give_back.ensures.damaged damage (ap Err (same-fault {T = Option Slot} _ _ e)) in
     let counted = page-some (g.P.Pages.count c.args.pages.now) c.args.page c.requires.page in
     let more = c.in-Ok-dissolve.ensures.frame.count in
-    elim d.1 [ inl z ↦ absurd (omega arith) | inr l ↦ absurd (omega arith) ]
+    let p = g.P.Pages in
+    let none : ⊥ = elim d.1 [ inl z ↦ omega arith | inr l ↦ omega arith ] in
+    absurd {A = IsRowsHarm (p.pages c.give_back.new.self) (p.count c.give_back.new.self) (p.first c.give_back.new.self) (p.asked c.args.pages.now) (p.asked c.give_back.new.self) damage} none
 
 pub returns-in-Err-give_back-clause-more : goal.returns-in-Err-give_back-clause-more
 returns-in-Err-give_back-clause-more g c = λ told. asks-further (λ _. 1) _ _ _ (c.dissolve.ensures.more told) (asks-nothing (λ _. 1) _ _ c.give_back.ensures.asked)

@@ -23,6 +23,7 @@ use Rattle.irtree_shape.specs.Stock.{Moves}
 use Rattle.irtree_shape.specs.Made.{nodes_in}
 use Rattle.irtree_shape.specs.Loose.{IsStanding}
 use Rattle.irtree_shape.specs.Whole.{tree_uses, IsFelled}
+use Rattle.irtree_shape.specs.Damages.{IsTreeHarm}
 use Rattle.irtree_shape.proofs.Stocks.{moves-give, moves-further}
 use Rattle.irtree_shape.proofs.Words.{words-filled}
 use Rattle.irtree_shape.proofs.Fells.{felled_same, felled_child}
@@ -190,7 +191,9 @@ returns-in-Err-give_back-clause-damaged g c = λ told damage e.
     let counted = page-some count root (looked-counted count root read.uncounted) in
     let same = read.count in
     let more = c.in-Ok-drop_node.ensures.frame.count in
-    elim d.1 [ inl z ↦ absurd (omega arith) | inr l ↦ absurd (omega arith) ]
+    let p = g.P.Pages in
+    let none : ⊥ = elim d.1 [ inl z ↦ omega arith | inr l ↦ omega arith ] in
+    absurd {A = IsTreeHarm (p.pages c.give_back.new.self) (p.count c.give_back.new.self) (p.first c.give_back.new.self) (p.asked c.args.pages.now) (p.asked c.give_back.new.self) damage} none
 
 pub returns-in-Err-give_back-clause-more : goal.returns-in-Err-give_back-clause-more
 returns-in-Err-give_back-clause-more g c = λ told.

@@ -3,6 +3,7 @@ use Rattle.btree_nodes.proofs.Harms.{asks-nothing}
 use Rattle.btree_nodes.proofs.Walks.{same-fault}
 use Rattle.rtree_shape.specs.Stock.{view}
 use Rattle.rtree_find.specs.Ways.{IsWay}
+use Rattle.irtree_shape.specs.Damages.{IsTreeHarm}
 use Rattle.irtree_delete.proofs.Standings.{whole-low}
 use Rattle.irtree_delete.proofs.removing.remove_at.Goals as goal
 
@@ -19,7 +20,10 @@ returns-in-Err-clause-honest g c = λ free x whole some leads long told damage e
 
 -- a path of these many slots has a level
 pub returns-in-None-clause-damaged : goal.returns-in-None-clause-damaged
-returns-in-None-clause-damaged g c = λ level told long low way damage e. elim c.in-None.ensures [ inl none ↦ absurd (omega arith) | inr many ↦ absurd (omega arith) ]
+returns-in-None-clause-damaged g c = λ level told long low way damage e.
+    let p = g.P.Pages in
+    let none : ⊥ = elim c.in-None.ensures [ inl none ↦ omega arith | inr many ↦ omega arith ] in
+    absurd {A = IsTreeHarm (p.pages c.args.pages.now) (p.count c.args.pages.now) (p.first c.args.pages.now) (p.asked c.args.pages.now) (p.asked c.args.pages.now) damage} none
 
 pub returns-in-None-clause-more : goal.returns-in-None-clause-more
 returns-in-None-clause-more g c = λ told. asks-nothing (λ _. 1) _ _ refl

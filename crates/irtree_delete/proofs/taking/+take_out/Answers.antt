@@ -28,6 +28,7 @@ use Rattle.irtree_shape.specs.Words.{worded, words_on, joined}
 use Rattle.irtree_shape.specs.Made.{nodes_in}
 use Rattle.irtree_shape.specs.Loose.{IsTaking, TakesOut, Settles, IsLoosening}
 use Rattle.irtree_shape.specs.Steps.{crowned_in}
+use Rattle.irtree_shape.specs.Damages.{IsTreeHarm}
 use Rattle.irtree_shape.proofs.Harms.{tree-later}
 use Rattle.irtree_shape.proofs.Outs.{take_child, child_apart, own-page, own-unspared}
 use Rattle.irtree_delete.specs.Clears.{KeepsWords, cleared}
@@ -657,7 +658,8 @@ returns-in-Err-slot_on_path-clause-damaged g t c = λ told way damage e.
     let read = c.in-Ok.ensures in
     let seen : c.looked.result.now ≡ old c.args.page = c.looked.ensures ∙ read.gives (told-read old (p.count c.args.pages.now) c.args.page told (looked-counted (p.count c.args.pages.now) c.args.page read.uncounted)) in
     let is : c.in-Err-slot_on_path.fault ≡ Damaged damage = same-fault {T = Option Slot} _ _ e in
-    absurd (way-on old c.args.path.now c.args.level c.args.page c.from-at.result c.looked.result.now damage way seen c.in-Ok-check_node.ensures.form (c.from-at.ensures ∙ ap (slice_index c.args.path.now) c.from.ensures)
+    absurd {A = IsTreeHarm (p.pages c.look.new.self) (p.count c.look.new.self) (p.first c.look.new.self) (p.asked c.args.pages.now) (p.asked c.look.new.self) damage}
+    (way-on old c.args.path.now c.args.level c.args.page c.from-at.result c.looked.result.now damage way seen c.in-Ok-check_node.ensures.form (c.from-at.ensures ∙ ap (slice_index c.args.path.now) c.from.ensures)
     (subst (IsOffPath c.args.page c.from-at.result c.looked.result.now) is c.in-Err-slot_on_path.ensures.refuses))
 
 pub returns-in-Err-slot_on_path-clause-more : goal.returns-in-Err-slot_on_path-clause-more
