@@ -159,9 +159,10 @@ fn relink<P: Pages>(
 /// Refuses `Damaged`: on the way down, before anything is written, with `Link` at a page that isn't counted, with the first rule that a page breaks as
 /// `Node::decode` has it, with `Level` at a node that isn't of its level, with `Fill` at an inner node of one child, and with `Value` at a node whose slot on the
 /// path isn't used; then as the rows' calls do. Refuses `Disk`; `NoRoom`; `Stopped`; `Memory`, too. After a refusal some pages may be written, and `tree` says
-/// nothing. Reads one page a level and decodes it once, and writes
-/// one a level at most: a node of which neither the slots nor the rectangle changed isn't written. Costs a call of
-/// `set_impact` for each of the words at the leaf; a call of `renew` a level above, or of `refresh` where nodes were dissolved below; and a call of
+/// nothing.
+///
+/// Reads one page a level and decodes it once, and writes one a level at most: a node of which neither the slots nor the rectangle changed isn't written. Costs
+/// a call of `set_impact` for each of the words at the leaf; a call of `renew` a level above, or of `refresh` where nodes were dissolved below; and a call of
 /// `take_rows` for each node that is dissolved.
 pub fn take_out<P: Pages>(
     alloc: Global,
@@ -194,9 +195,9 @@ pub fn take_out<P: Pages>(
     ensures gone { least ≡ 1 → IfOk result (λ left. left ≡ None → length orphans.new.items ≡ length orphans.old.items) }
     ensures told { AreTold (P.pages pages.old) (P.count pages.old) → OnOk result (AreTold (P.pages pages.new) (P.count pages.new)) }
 
-    // On a well-formed tree whose pages are told no page is damaged, unless the node itself is an inner one of one child.
+    // On a well-formed tree whose pages are told no page is damaged. A root that is an inner node has more than one child there.
     ensures honest { (free : List ℕ) (x : Item) → IsTaking node_of (view (P.pages pages.old) tree.old.rows (P.count pages.old) (P.first pages.old) free) least level page path.now (worded (impact_in words.now) x) (loose_in orphans.old.items)
-        → (0 < level → filled (slots_in (P.pages pages.old page)) ≢ 1) → AreTold (P.pages pages.old) (P.count pages.old) → (damage : Damage) → result ≢ Err (PageFault.Damaged damage) }
+        → (least ≡ 1 → 0 < level → filled (slots_in (P.pages pages.old page)) ≢ 1) → AreTold (P.pages pages.old) (P.count pages.old) → (damage : Damage) → result ≢ Err (PageFault.Damaged damage) }
 
     // Over told pages, where the path leads down by their bytes, a damage is of a page that was asked for, as the call leaves it, or of the take that was refused.
     ensures damaged { AreTold (P.pages pages.old) (P.count pages.old) → IsWay (P.pages pages.old) path.now level page → (damage : Damage) → IsErrOf result (PageFault.Damaged damage)

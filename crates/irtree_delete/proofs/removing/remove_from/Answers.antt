@@ -63,7 +63,7 @@ returns-in-Err-clause-honest g c = λ free x whole some leads is told damage e.
     let y : Item = worded (impact_in c.args.words.now) x in
     let top : ℕ = level_at (nodes_in node_of old rows) root in
     let taking = root-taking old rows count first root free some whole c.args.level path y c.new-orphans.result.items is c.new-orphans.ensures.items leads in
-    c.in-Err.ensures.honest free x taking (λ up alone. let z = whole-leaf old rows count first root free some whole (omega arith) in omega arith) told damage (ap Err (same-fault {T = Unit {0}} _ _ e))
+    c.in-Err.ensures.honest free x taking (λ one up alone. let z = whole-leaf old rows count first root free some whole (omega arith) in omega arith) told damage (ap Err (same-fault {T = Unit {0}} _ _ e))
 
 -- the root stands, and the orphans were put back
 pub returns-in-Ok-clause-felled : goal.returns-in-Ok-clause-felled

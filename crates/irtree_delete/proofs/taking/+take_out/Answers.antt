@@ -75,7 +75,8 @@ returns-in-Err-check_node-clause-honest g t c = λ free x taking several told da
     let is : c.in-Err-check_node.fault ≡ Damaged damage = same-fault {T = Option Slot} _ _ e in
     in-place page level (old page) damage
     (taking-some old rows count first least level page free path (worded (impact_in c.args.words.now) x) loose taking)
-    (taking-level old rows count first least level page free path (worded (impact_in c.args.words.now) x) loose taking) several
+    (taking-level old rows count first least level page free path (worded (impact_in c.args.words.now) x) loose taking)
+    (λ up alone. several (let a = taking-least old rows count first least level page free path (worded (impact_in c.args.words.now) x) loose taking in let b = c.requires.some in omega arith) up alone)
     (subst (λ (b : List ℕ). IsMisplaced page level b (Damaged damage)) seen (subst (IsMisplaced page level c.looked.result.now) is c.in-Err-check_node.ensures.refuses))
 
 -- the path's slot isn't used
@@ -315,7 +316,7 @@ returns-in-Err-take_out-clause-honest g t c = λ free x taking several told dama
     subst (λ (w : View). IsTaking node_of w 12 l c.in-Child.child path y loose) (sym v) taking-c in
     let is : c.in-Err-take_out.fault ≡ Damaged damage = same-fault {T = Option Slot} _ _ e' in
     c.in-Err-take_out.ensures.honest free x taking-look
-    (λ up one. let a = taking-least look rows (g.P.Pages.count c.look.new.self) (g.P.Pages.first c.look.new.self) 12 l c.in-Child.child free path y loose taking-look in omega arith) told-look damage (ap Err is)
+    (λ one up alone. omega arith) told-look damage (ap Err is)
 
 -- the child's slot isn't linked anew
 pub returns-in-Err-relink-clause-honest : goal.returns-in-Err-relink-clause-honest
