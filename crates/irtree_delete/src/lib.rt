@@ -15,6 +15,5 @@ mod putting;
 mod removing;
 mod taking;
 
-pub use orphan::Orphan;
+use orphan::Orphan;
 pub use removing::remove_at;
-pub use taking::take_out;

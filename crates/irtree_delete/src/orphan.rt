@@ -5,12 +5,12 @@ use rtree_nodes::Slot;
 
 /// An item whose node was dissolved, until it is put back.
 #[derive(Drop)]
-pub struct Orphan {
+pub(crate) struct Orphan {
     /// The level of the nodes that it belongs to: 0 for a place.
-    pub level: u8,
+    pub(crate) level: u8,
     /// What stood in the slot: a place at level 0, else a child.
-    pub slot: Slot,
+    pub(crate) slot: Slot,
     /// The words below the slot by number, each with its greatest impact.
-    pub words: Vec<(u64, u8)>,
+    pub(crate) words: Vec<(u64, u8)>,
     ghost fits: { Fits level slot },
 }

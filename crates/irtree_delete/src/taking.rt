@@ -164,7 +164,7 @@ fn relink<P: Pages>(
 /// Reads one page a level and decodes it once, and writes one a level at most: a node of which neither the slots nor the rectangle changed isn't written. Costs
 /// a call of `set_impact` for each of the words at the leaf; a call of `renew` a level above, or of `refresh` where nodes were dissolved below; and a call of
 /// `take_rows` for each node that is dissolved.
-pub fn take_out<P: Pages>(
+pub(crate) fn take_out<P: Pages>(
     alloc: Global,
     pages: &mut P,
     tree: &mut Tree,
