@@ -8,3 +8,4 @@ pub mod Splits
 pub mod Descents
 pub mod Tops
 pub mod Lands
+pub mod Harms

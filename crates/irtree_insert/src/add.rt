@@ -1,14 +1,15 @@
 //! An item that is added to a node, with its words.
-ghost use Rattle.std.specs.Prelude.{◌≡◌, ◌≢◌, ◌+◌, ◌<◌, ◌≤◌, ℕ, Bool, List, Option, Some, option_map, if◌then◌else◌, IfOk, OnOk};
+ghost use Rattle.std.specs.Prelude.{◌≡◌, ◌≢◌, ◌+◌, ◌<◌, ◌≤◌, ℕ, Bool, List, Option, Some, option_map, if◌then◌else◌, IfOk, OnOk, IsErrOf};
 ghost use Rattle.page_face.specs.Calls.{FailsChanging, Changes};
 ghost use Rattle.page_face.specs.Causes.{IsUncounted};
-ghost use Rattle.btree_nodes.specs.Damages.{AreTold};
+ghost use Rattle.btree_nodes.specs.Damages.{AreTold, AsksOnly};
 ghost use Rattle.btree_nodes.specs.Supply.{one_at};
 ghost use Rattle.rtree_shape.specs.Slots.{IsFull};
 ghost use Rattle.rtree_shape.specs.Stock.{view, spare_in};
 ghost use Rattle.rtree_shape.specs.Made.{Rises};
 ghost use Rattle.rtree_nodes.specs.Reach.{reach_of, item_of};
 ghost use Rattle.rtree_nodes.specs.Pages.{node_of, slots_in};
+ghost use Rattle.node_rows.specs.Damages.{IsRowsHarm};
 ghost use Rattle.node_rows.specs.Rows.{bytes_in};
 ghost use Rattle.node_rows.specs.Turns.{HasNone, moved};
 ghost use Rattle.node_rows.specs.Impacts.{impact_in, raised};
@@ -54,6 +55,10 @@ fn part_words<P: Pages>(
         → spare_in (view (P.pages pages.old) tree.old.rows (P.count pages.old) (P.first pages.old) free) page ≡ 0 → spare_in (view (P.pages pages.old) tree.old.rows (P.count pages.old) (P.first pages.old) free) right ≡ 0
         → (page ≡ right → ⊥) → HasNone (bytes_in (P.pages pages.old) tree.old.rows) right → AreTold (P.pages pages.old) (P.count pages.old)
         → (damage : Damage) → result ≢ Err (PageFault.Damaged damage) }
+    ensures damaged { AreTold (P.pages pages.old) (P.count pages.old) → (damage : Damage) → IsErrOf result (PageFault.Damaged damage)
+        → IsRowsHarm (P.pages pages.new) (P.count pages.new) (P.first pages.new) (P.asked pages.old) (P.asked pages.new) damage }
+    ensures told { AreTold (P.pages pages.old) (P.count pages.old) → OnOk result (AreTold (P.pages pages.new) (P.count pages.new)) }
+    ensures more { AreTold (P.pages pages.old) (P.count pages.old) → AsksOnly (λ _. 1) (P.asked pages.old) (P.asked pages.new) }
     ensures fails { FailsChanging P.Pages pages.old pages.new result }
     ensures frame { Changes P.Pages pages.old pages.new }
 {
@@ -83,6 +88,10 @@ fn split<P: Pages>(
     ensures honest { (least level : ℕ) (free : List ℕ) → IsReady node_of (view (P.pages pages.old) tree.old.rows (P.count pages.old) (P.first pages.old) free) least level page (joined (node_of draft.old.bytes) (bytes_in (P.pages pages.old) tree.old.rows page)) (Some (worded (impact_in words.now) (item_of slot.now)))
         → IsDraft draft.old → Fits level slot.now → IsFull (slots_in draft.old.bytes) → AreTold (P.pages pages.old) (P.count pages.old)
         → (damage : Damage) → result ≢ Err (PageFault.Damaged damage) }
+    ensures damaged { AreTold (P.pages pages.old) (P.count pages.old) → (damage : Damage) → IsErrOf result (PageFault.Damaged damage)
+        → IsRowsHarm (P.pages pages.new) (P.count pages.new) (P.first pages.new) (P.asked pages.old) (P.asked pages.new) damage }
+    ensures told { AreTold (P.pages pages.old) (P.count pages.old) → OnOk result (AreTold (P.pages pages.new) (P.count pages.new)) }
+    ensures more { AreTold (P.pages pages.old) (P.count pages.old) → AsksOnly (λ _. 1) (P.asked pages.old) (P.asked pages.new) }
     ensures fails { FailsChanging P.Pages pages.old pages.new result }
     ensures frame { Changes P.Pages pages.old pages.new }
 {
@@ -137,6 +146,10 @@ pub(crate) fn add<P: Pages>(
     ensures honest { (least level : ℕ) (free : List ℕ) → IsReady node_of (view (P.pages pages.old) tree.old.rows (P.count pages.old) (P.first pages.old) free) least level page (joined (node_of draft.old.bytes) (bytes_in (P.pages pages.old) tree.old.rows page)) (Some (worded (impact_in words.now) (item_of slot.now)))
         → IsDraft draft.old → Fits level slot.now → AreTold (P.pages pages.old) (P.count pages.old)
         → (damage : Damage) → result ≢ Err (PageFault.Damaged damage) }
+    ensures damaged { AreTold (P.pages pages.old) (P.count pages.old) → (damage : Damage) → IsErrOf result (PageFault.Damaged damage)
+        → IsRowsHarm (P.pages pages.new) (P.count pages.new) (P.first pages.new) (P.asked pages.old) (P.asked pages.new) damage }
+    ensures told { AreTold (P.pages pages.old) (P.count pages.old) → OnOk result (AreTold (P.pages pages.new) (P.count pages.new)) }
+    ensures more { AreTold (P.pages pages.old) (P.count pages.old) → AsksOnly (λ _. 1) (P.asked pages.old) (P.asked pages.new) }
     ensures fails { FailsChanging P.Pages pages.old pages.new result }
     ensures frame { Changes P.Pages pages.old pages.new }
 {

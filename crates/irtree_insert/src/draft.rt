@@ -1,10 +1,11 @@
 //! A node that is being changed.
-ghost use Rattle.std.specs.Prelude.{◌≡◌, ◌==◌, ◌<◌, ℕ, true, OnOk, IfOk, IsOk};
+ghost use Rattle.std.specs.Prelude.{◌≡◌, ◌⊎◌, ◌==◌, ◌<◌, ℕ, true, OnOk, IfOk, IfErr, IsOk};
 ghost use Rattle.rtree_shape.specs.Slots.{filled, tops, IsFull, IsFree};
 ghost use Rattle.rtree_shape.specs.Trees.{with_slot};
 ghost use Rattle.rtree_shape.specs.Masks.{kept_of, moved_of};
 ghost use Rattle.rtree_nodes.specs.Reach.{item_of, reach_of};
 ghost use Rattle.rtree_nodes.specs.Pages.{level_in, mask_of, is_form, slots_in};
+ghost use Rattle.rtree_nodes.specs.Breaks.{BreaksHeader, BreaksNode};
 ghost use Rattle.irtree_insert.specs.Fits.{Fits};
 ghost use Rattle.irtree_insert.specs.Drafts.{IsDraft};
 ghost use Rattle.irtree_insert.specs.Parts.{IsPutAt};
@@ -44,6 +45,7 @@ impl Draft {
         ensures some { OnOk result (0 < self.new.used) }
         ensures level { IfOk result (λ level. level ≡ level_in page.now) }
         ensures ok { 0 < filled (slots_in page.now) → IsOk result }
+        ensures refuses { IfErr result (λ rule. BreaksHeader rule page.now ⊎ ((rule ≡ Rule.Value) × BreaksNode Rule.Value page.now)) }
     {
         self.bytes = *page;
         let head = header(page)?;

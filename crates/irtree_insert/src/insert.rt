@@ -1,7 +1,7 @@
 //! An item that is put into a tree, with its words.
-ghost use Rattle.std.specs.Prelude.{◌≡◌, ◌≢◌, ◌<◌, ◌≤◌, ◌∷◌, ℕ, List, Some, None, Option, option_map, IfOk, OnOk, OnErr};
+ghost use Rattle.std.specs.Prelude.{◌≡◌, ◌≢◌, ◌<◌, ◌≤◌, ◌∷◌, ℕ, List, Some, None, Option, option_map, IfOk, OnOk, OnErr, IsErrOf};
 ghost use Rattle.page_face.specs.Calls.{FailsChanging, Changes};
-ghost use Rattle.btree_nodes.specs.Damages.{AreTold};
+ghost use Rattle.btree_nodes.specs.Damages.{AreTold, AsksOnly};
 ghost use Rattle.rtree_shape.specs.Slots.{Item};
 ghost use Rattle.rtree_shape.specs.Stock.{View, view};
 ghost use Rattle.rtree_shape.specs.Made.{Rises};
@@ -14,6 +14,7 @@ ghost use Rattle.irtree_shape.specs.Stock.{IsSupplied};
 ghost use Rattle.irtree_shape.specs.Made.{nodes_in, IsOpen, Puts};
 ghost use Rattle.irtree_shape.specs.Whole.{IsWhole, IsPlanted};
 ghost use Rattle.irtree_shape.specs.Loose.{IsStanding};
+ghost use Rattle.irtree_shape.specs.Damages.{IsTreeHarm};
 ghost use Rattle.irtree_shape.specs.Steps.{crowned_in};
 ghost use Rattle.irtree_insert.specs.Fits.{Fits};
 ghost use Rattle.irtree_insert.specs.Grown.{beside_item};
@@ -56,6 +57,10 @@ fn climb<P: Pages>(
     ensures root { tree.new.root ≡ tree.old.root }
 
     ensures honest { (least level : ℕ) (free : List ℕ) → IsOpen node_of (view (P.pages pages.old) tree.old.rows (P.count pages.old) (P.first pages.old) free) least level root goal (worded (impact_in words.now) (item_of slot.now)) → Fits goal slot.now → AreTold (P.pages pages.old) (P.count pages.old) → (damage : Damage) → result ≢ Err (PageFault.Damaged damage) }
+    ensures damaged { AreTold (P.pages pages.old) (P.count pages.old) → (damage : Damage) → IsErrOf result (PageFault.Damaged damage)
+        → IsTreeHarm (P.pages pages.new) (P.count pages.new) (P.first pages.new) (P.asked pages.old) (P.asked pages.new) damage }
+    ensures told { AreTold (P.pages pages.old) (P.count pages.old) → OnOk result (AreTold (P.pages pages.new) (P.count pages.new)) }
+    ensures more { AreTold (P.pages pages.old) (P.count pages.old) → AsksOnly (λ _. 1) (P.asked pages.old) (P.asked pages.new) }
     ensures fails { FailsChanging P.Pages pages.old pages.new result }
     ensures frame { Changes P.Pages pages.old pages.new }
 {
@@ -97,6 +102,10 @@ fn insert_below<P: Pages>(
     ensures honest { (free : List ℕ) → goal ≡ 0 → 0 < tree.old.root → Fits goal slot.now → IsWhole node_of (view (P.pages pages.old) tree.old.rows (P.count pages.old) (P.first pages.old) free) tree.old.root → AreTold (P.pages pages.old) (P.count pages.old) → (damage : Damage) → result ≢ Err (PageFault.Damaged damage) }
     ensures honest_standing { (before : View) (free : List ℕ) (level : ℕ) (rest : Loose) (mine : ℕ → ℕ) (sums : (Item → ℕ) → ℕ) → IsSupplied before
         → IsStanding node_of before (view (P.pages pages.old) tree.old.rows (P.count pages.old) (P.first pages.old) free) level tree.old.root ((goal, (worded (impact_in words.now) (item_of slot.now))) ∷ rest) mine sums → Fits goal slot.now → AreTold (P.pages pages.old) (P.count pages.old) → (damage : Damage) → result ≢ Err (PageFault.Damaged damage) }
+    ensures damaged { AreTold (P.pages pages.old) (P.count pages.old) → (damage : Damage) → IsErrOf result (PageFault.Damaged damage)
+        → IsTreeHarm (P.pages pages.new) (P.count pages.new) (P.first pages.new) (P.asked pages.old) (P.asked pages.new) damage }
+    ensures told { AreTold (P.pages pages.old) (P.count pages.old) → OnOk result (AreTold (P.pages pages.new) (P.count pages.new)) }
+    ensures more { AreTold (P.pages pages.old) (P.count pages.old) → AsksOnly (λ _. 1) (P.asked pages.old) (P.asked pages.new) }
     ensures fails { FailsChanging P.Pages pages.old pages.new result }
     ensures frame { Changes P.Pages pages.old pages.new }
 {
@@ -119,7 +128,8 @@ fn insert_below<P: Pages>(
 ///
 /// Refuses `Damaged` if a page on the way is 0 or isn't counted (`Link`), isn't a node's (`Kind`), has no slot (`Fill`) or a point or
 /// rectangle that is none (`Value`), isn't of the level that its place asks, or is a root above level 9 (`Level`), or as the rows'
-/// calls do; on a well-formed tree whose pages are told no page is damaged. Refuses as `take` does, `NoRoom` among it, `Disk`,
+/// calls do; over told pages it names a page that was asked for and breaks the rule so, but for a refused take and for rows out of
+/// their order. On a well-formed tree whose pages are told no page is damaged. Refuses as `take` does, `NoRoom` among it, `Disk`,
 /// `Stopped` and `Memory`. After a failure `tree` is as before, and pages may have changed: they are to be abandoned.
 pub fn insert_at<P: Pages>(
     alloc: Global,
@@ -143,6 +153,12 @@ pub fn insert_at<P: Pages>(
     ensures honest { (free : List ℕ) → goal ≡ 0 → Fits goal slot.now → IsWhole node_of (view (P.pages pages.old) tree.old.rows (P.count pages.old) (P.first pages.old) free) tree.old.root → AreTold (P.pages pages.old) (P.count pages.old) → (damage : Damage) → result ≢ Err (PageFault.Damaged damage) }
     ensures honest_standing { (before : View) (free : List ℕ) (level : ℕ) (rest : Loose) (mine : ℕ → ℕ) (sums : (Item → ℕ) → ℕ) → IsSupplied before
         → IsStanding node_of before (view (P.pages pages.old) tree.old.rows (P.count pages.old) (P.first pages.old) free) level tree.old.root ((goal, (worded (impact_in words.now) (item_of slot.now))) ∷ rest) mine sums → Fits goal slot.now → AreTold (P.pages pages.old) (P.count pages.old) → (damage : Damage) → result ≢ Err (PageFault.Damaged damage) }
+
+    // Over told pages a damage is of a page that was asked for, as the call leaves it, or of the take that was refused.
+    ensures damaged { AreTold (P.pages pages.old) (P.count pages.old) → (damage : Damage) → IsErrOf result (PageFault.Damaged damage)
+        → IsTreeHarm (P.pages pages.new) (P.count pages.new) (P.first pages.new) (P.asked pages.old) (P.asked pages.new) damage }
+    ensures told { AreTold (P.pages pages.old) (P.count pages.old) → OnOk result (AreTold (P.pages pages.new) (P.count pages.new)) }
+    ensures more { AreTold (P.pages pages.old) (P.count pages.old) → AsksOnly (λ _. 1) (P.asked pages.old) (P.asked pages.new) }
     ensures fails { FailsChanging P.Pages pages.old pages.new result }
     ensures frame { Changes P.Pages pages.old pages.new }
 {

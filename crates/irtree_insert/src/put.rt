@@ -1,8 +1,8 @@
 //! An item that is put in below a page, with its words.
-ghost use Rattle.std.specs.Prelude.{◌≡◌, ◌≢◌, ◌<◌, ◌≤◌, ℕ, suc, max, List, Option, Some, None, option_map, IfOk, OnOk};
+ghost use Rattle.std.specs.Prelude.{◌≡◌, ◌≢◌, ◌<◌, ◌≤◌, ℕ, suc, max, List, Option, Some, None, option_map, IfOk, OnOk, IsErrOf};
 ghost use Rattle.page_face.specs.Calls.{FailsReading, FailsWriting, FailsChanging, Reads, Writes, Changes};
 ghost use Rattle.page_face.specs.Causes.{IsUncounted};
-ghost use Rattle.btree_nodes.specs.Damages.{AreTold};
+ghost use Rattle.btree_nodes.specs.Damages.{AreTold, AskedSince, AsksOnly};
 ghost use Rattle.btree_nodes.specs.Supply.{one_at};
 ghost use Rattle.btree_nodes.specs.Tree.{IsMap, map_uses};
 ghost use Rattle.paged_map.specs.Maps.{AreCounted};
@@ -13,6 +13,7 @@ ghost use Rattle.rtree_shape.specs.Made.{Rises};
 ghost use Rattle.rtree_nodes.specs.Reach.{reach_of, item_of, child_item};
 ghost use Rattle.rtree_nodes.specs.Pages.{node_of, slots_in, level_in, mask_of};
 ghost use Rattle.split_policy.specs.Masks.{IsUsed};
+ghost use Rattle.node_rows.specs.Damages.{IsRowsHarm};
 ghost use Rattle.node_rows.specs.Rows.{Bytes, bytes_in};
 ghost use Rattle.node_rows.specs.Impacts.{impact_in, top_at};
 ghost use Rattle.node_rows.specs.Known.{AreRowsAt};
@@ -20,6 +21,7 @@ ghost use Rattle.irtree_shape.specs.Words.{joined, worded, words_on};
 ghost use Rattle.irtree_shape.specs.Stock.{IsSupplied};
 ghost use Rattle.irtree_shape.specs.Made.{nodes_in, IsReady, IsOpen, Makes, Puts};
 ghost use Rattle.irtree_shape.specs.Steps.{Steps, crowned, crowned_in, relinked};
+ghost use Rattle.irtree_shape.specs.Damages.{IsTreeHarm};
 ghost use Rattle.irtree_insert.specs.Fits.{Fits};
 ghost use Rattle.irtree_insert.specs.Drafts.{IsDraft};
 ghost use Rattle.irtree_insert.specs.Grown.{beside_item, beside_top};
@@ -62,6 +64,9 @@ fn words_beside<P: Pages>(
 
     ensures honest { IsMap rows_form (P.pages pages.old) tree.now.rows → AreCounted (map_uses rows_form (P.pages pages.old) tree.now.rows) (P.count pages.old)
         → AreTold (P.pages pages.old) (P.count pages.old) → (damage : Damage) → result ≢ Err (PageFault.Damaged damage) }
+    ensures damaged { AreTold (P.pages pages.old) (P.count pages.old) → (damage : Damage) → IsErrOf result (PageFault.Damaged damage)
+        → IsRowsHarm (P.pages pages.new) (P.count pages.new) (P.first pages.new) (P.asked pages.old) (P.asked pages.new) damage }
+    ensures more { AreTold (P.pages pages.old) (P.count pages.old) → AsksOnly (λ _. 1) (P.asked pages.old) (P.asked pages.new) }
     ensures fails { FailsReading P.Pages pages.old pages.new result }
     ensures frame { Reads P.Pages pages.old pages.new }
 {
@@ -95,6 +100,10 @@ fn relink<P: Pages>(
     ensures root { tree.new.root ≡ tree.old.root }
 
     ensures honest { (free : List ℕ) → IsSupplied (view (P.pages pages.old) tree.old.rows (P.count pages.old) (P.first pages.old) free) → (page ≡ child → ⊥) → AreTold (P.pages pages.old) (P.count pages.old) → (damage : Damage) → result ≢ Err (PageFault.Damaged damage) }
+    ensures damaged { AreTold (P.pages pages.old) (P.count pages.old) → (damage : Damage) → IsErrOf result (PageFault.Damaged damage)
+        → IsRowsHarm (P.pages pages.new) (P.count pages.new) (P.first pages.new) (P.asked pages.old) (P.asked pages.new) damage }
+    ensures told { AreTold (P.pages pages.old) (P.count pages.old) → OnOk result (AreTold (P.pages pages.new) (P.count pages.new)) }
+    ensures more { AreTold (P.pages pages.old) (P.count pages.old) → AsksOnly (λ _. 1) (P.asked pages.old) (P.asked pages.new) }
     ensures fails { FailsChanging P.Pages pages.old pages.new result }
     ensures frame { Changes P.Pages pages.old pages.new }
 {
@@ -124,6 +133,7 @@ fn widen<P: Pages>(
         (words_on (bytes_in (P.pages pages.old) rows page) (with_slot at (child_item rect.now child) (slots_in draft.old.bytes))) None None (reach_of bounds) (λ n. n ≡ 0)) }
 
     ensures damaged { (damage : Damage) → result ≢ Err (PageFault.Damaged damage) }
+    ensures told { AreTold (P.pages pages.old) (P.count pages.old) → OnOk result (AreTold (P.pages pages.new) (P.count pages.new)) }
     ensures fails { FailsWriting P.Pages pages.old result }
     ensures frame { Writes P.Pages pages.old pages.new }
 {
@@ -159,6 +169,10 @@ fn add_child<P: Pages>(
 
     ensures honest { (least below : ℕ) (free : List ℕ) → IsReady node_of (view (P.pages pages.old) tree.old.rows (P.count pages.old) (P.first pages.old) free) least (suc below) page (joined (node_of draft.old.bytes) (bytes_in (P.pages pages.old) tree.old.rows page)) (Some (crowned (nodes_in node_of (P.pages pages.old) tree.old.rows) (beside_item more.now)))
         → IsDraft draft.old → ((w : ℕ) → impact_in words.now w ≡ top_at (bytes_in (P.pages pages.old) tree.old.rows) more.now.page w) → AreTold (P.pages pages.old) (P.count pages.old) → (damage : Damage) → result ≢ Err (PageFault.Damaged damage) }
+    ensures damaged { AreTold (P.pages pages.old) (P.count pages.old) → (damage : Damage) → IsErrOf result (PageFault.Damaged damage)
+        → IsRowsHarm (P.pages pages.new) (P.count pages.new) (P.first pages.new) (P.asked pages.old) (P.asked pages.new) damage }
+    ensures told { AreTold (P.pages pages.old) (P.count pages.old) → OnOk result (AreTold (P.pages pages.new) (P.count pages.new)) }
+    ensures more { AreTold (P.pages pages.old) (P.count pages.old) → AsksOnly (λ _. 1) (P.asked pages.old) (P.asked pages.new) }
     ensures fails { FailsChanging P.Pages pages.old pages.new result }
     ensures frame { Changes P.Pages pages.old pages.new }
 {
@@ -195,6 +209,10 @@ fn finish<P: Pages>(
         (joined (record { level = suc below; slots = with_slot at (child_item grown.now.rect child) (slots_in draft.old.bytes) }) (bytes_in (P.pages pages.old) tree.old.rows page)) (crowned_in (nodes_in node_of (P.pages pages.old) tree.old.rows) (option_map beside_item grown.now.more))
         → ((w : ℕ) → impact_in theirs.now w ≡ beside_top (bytes_in (P.pages pages.old) tree.old.rows) grown.now.more w)
         → AreTold (P.pages pages.old) (P.count pages.old) → (damage : Damage) → result ≢ Err (PageFault.Damaged damage) }
+    ensures damaged { AreTold (P.pages pages.old) (P.count pages.old) → (damage : Damage) → IsErrOf result (PageFault.Damaged damage)
+        → IsRowsHarm (P.pages pages.new) (P.count pages.new) (P.first pages.new) (P.asked pages.old) (P.asked pages.new) damage }
+    ensures told { AreTold (P.pages pages.old) (P.count pages.old) → OnOk result (AreTold (P.pages pages.new) (P.count pages.new)) }
+    ensures more { AreTold (P.pages pages.old) (P.count pages.old) → AsksOnly (λ _. 1) (P.asked pages.old) (P.asked pages.new) }
     ensures fails { FailsChanging P.Pages pages.old pages.new result }
     ensures frame { Changes P.Pages pages.old pages.new }
 {
@@ -247,6 +265,11 @@ pub(crate) fn put_below<P: Pages>(
 
     ensures honest { (least : ℕ) (free : List ℕ) → IsDraft draft.old → draft.old.used ≡ mask_of draft.old.bytes → draft.old.bytes ≡ P.pages pages.old page
         → IsOpen node_of (view (P.pages pages.old) tree.old.rows (P.count pages.old) (P.first pages.old) free) least level page goal (worded (impact_in words.now) (item_of slot.now)) → Fits goal slot.now → AreTold (P.pages pages.old) (P.count pages.old) → (damage : Damage) → result ≢ Err (PageFault.Damaged damage) }
+    ensures damaged { (before : List ℕ) → AreTold (P.pages pages.old) (P.count pages.old) → draft.old.bytes ≡ P.pages pages.old page → draft.old.used ≡ mask_of draft.old.bytes → level_in draft.old.bytes ≡ level
+        → AskedSince before (P.asked pages.old) page → (damage : Damage) → IsErrOf result (PageFault.Damaged damage)
+        → IsTreeHarm (P.pages pages.new) (P.count pages.new) (P.first pages.new) before (P.asked pages.new) damage }
+    ensures told { AreTold (P.pages pages.old) (P.count pages.old) → OnOk result (AreTold (P.pages pages.new) (P.count pages.new)) }
+    ensures more { AreTold (P.pages pages.old) (P.count pages.old) → AsksOnly (λ _. 1) (P.asked pages.old) (P.asked pages.new) }
     ensures fails { FailsChanging P.Pages pages.old pages.new result }
     ensures frame { Changes P.Pages pages.old pages.new }
 {

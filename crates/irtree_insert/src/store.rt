@@ -1,9 +1,9 @@
 //! Nodes that are written, one or two of them.
-ghost use Rattle.std.specs.Prelude.{◌≡◌, ◌≢◌, ◌+◌, ◌<◌, ◌≤◌, ℕ, List, IfOk, OnOk};
+ghost use Rattle.std.specs.Prelude.{◌≡◌, ◌≢◌, ◌+◌, ◌<◌, ◌≤◌, ℕ, List, IfOk, OnOk, IsErrOf};
 ghost use Rattle.page_face.specs.Calls.{FailsWriting, FailsChanging, Writes, Changes};
 ghost use Rattle.page_face.specs.FreeList.{with_page};
 ghost use Rattle.page_face.specs.Causes.{IsUncounted};
-ghost use Rattle.btree_nodes.specs.Damages.{AreTold};
+ghost use Rattle.btree_nodes.specs.Damages.{AreTold, IsRefusedTake};
 ghost use Rattle.btree_nodes.specs.Supply.{one_at};
 ghost use Rattle.rtree_shape.specs.Stock.{view, spare_in};
 ghost use Rattle.node_rows.specs.Rows.{bytes_in};
@@ -39,6 +39,8 @@ pub(crate) fn store_new<P: Pages>(pages: &mut P, bytes: &Page) -> Result<u32, Pa
 
     ensures honest { (rows : ℕ) (free : List ℕ) → IsSupplied (view (P.pages pages.old) rows (P.count pages.old) (P.first pages.old) free)
         → (damage : Damage) → result ≢ Err (PageFault.Damaged damage) }
+    ensures damaged { (damage : Damage) → IsErrOf result (PageFault.Damaged damage) → IsRefusedTake (P.pages pages.new) (P.count pages.new) (P.first pages.new) damage }
+    ensures asked { P.asked pages.new ≡ P.asked pages.old }
     ensures fails { FailsChanging P.Pages pages.old pages.new result }
     ensures frame { Changes P.Pages pages.old pages.new }
 {
@@ -65,6 +67,8 @@ pub(crate) fn store_two<P: Pages>(
 
     ensures honest { (rows : ℕ) (free : List ℕ) → IsSupplied (view (P.pages pages.old) rows (P.count pages.old) (P.first pages.old) free)
         → (damage : Damage) → result ≢ Err (PageFault.Damaged damage) }
+    ensures damaged { (damage : Damage) → IsErrOf result (PageFault.Damaged damage) → IsRefusedTake (P.pages pages.new) (P.count pages.new) (P.first pages.new) damage }
+    ensures asked { P.asked pages.new ≡ P.asked pages.old }
     ensures fails { FailsChanging P.Pages pages.old pages.new result }
     ensures frame { Changes P.Pages pages.old pages.new }
 {

@@ -1,10 +1,11 @@
 //! The next row of a node, read ahead.
 ghost use Rattle.std.specs.Prelude.{◌≡◌, ◌+◌, ◌<◌, ◌≤◌, ℕ, OnOk, IsErrOf, slice_index};
 ghost use Rattle.page_face.specs.Calls.{Reads, FailsReading};
-ghost use Rattle.btree_nodes.specs.Damages.{AreTold};
+ghost use Rattle.btree_nodes.specs.Damages.{AreTold, AsksOnly};
 ghost use Rattle.btree_nodes.specs.Tree.{IsMap, map_uses};
 ghost use Rattle.paged_map.specs.Maps.{AreCounted};
 ghost use Rattle.rtree_shape.specs.Stock.{rows_form};
+ghost use Rattle.node_rows.specs.Damages.{IsRowsHarm};
 ghost use Rattle.node_rows.specs.Rows.{Bytes, bytes_in};
 ghost use Rattle.node_rows.specs.Turns.{Next};
 ghost use Rattle.node_rows.specs.Copies.{IsCopy};
@@ -78,6 +79,10 @@ pub(crate) fn pass<P: Pages>(
     ensures past { OnOk result (IsFrom (number + 1) ahead.new) }
     ensures honest { IsMap rows_form (P.pages pages.old) tree.now.rows → AreCounted (map_uses rows_form (P.pages pages.old) tree.now.rows) (P.count pages.old)
         → AreTold (P.pages pages.old) (P.count pages.old) → (damage : Damage) → ¬ IsErrOf result (PageFault.Damaged damage) }
+    ensures damaged { AreTold (P.pages pages.old) (P.count pages.old) → (damage : Damage) → IsErrOf result (PageFault.Damaged damage)
+        → IsRowsHarm (P.pages pages.new) (P.count pages.new) (P.first pages.new) (P.asked pages.old) (P.asked pages.new) damage }
+    ensures own { AreTold (P.pages pages.old) (P.count pages.old)
+        → AsksOnly (map_uses rows_form (P.pages pages.old) tree.now.rows) (P.asked pages.old) (P.asked pages.new) }
     ensures fails { FailsReading P.Pages pages.old pages.new result }
     ensures frame { Reads P.Pages pages.old pages.new }
 {

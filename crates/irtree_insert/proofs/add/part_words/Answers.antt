@@ -1,5 +1,5 @@
-use Rattle.std.proofs.Common.{◌≡◌, ℕ, Bool, if◌then◌else◌, ap, sym, ◌∙◌, subst}
-use Rattle.std.proofs.lemmas.Result.{IfOk-weaker}
+use Rattle.std.proofs.Common.{◌≡◌, ℕ, Bool, if◌then◌else◌, ap, sym, ◌∙◌, subst, Err}
+use Rattle.std.proofs.lemmas.Result.{IfOk-weaker, err_from_is_err_and}
 use Rattle.page_face.specs.FreeList.{PageMap}
 use Rattle.btree_nodes.specs.Supply as supply
 use Rattle.rtree_shape.specs.Stock.{View, view, plain}
@@ -8,6 +8,9 @@ use Rattle.node_rows.specs.Turns.{Turns, moved}
 use Rattle.node_rows.specs.Impacts.{impact_in, raised}
 use Rattle.node_rows.proofs.Told.{told-turned}
 use Rattle.irtree_shape.proofs.Stepping.{steps-parted}
+use Rattle.page_face.specs.declared.fault.PageFault.TheVariants.{Damaged}
+use Rattle.btree_nodes.proofs.Harms.{asks-further}
+use Rattle.node_rows.proofs.Harms.{harm-later}
 use Rattle.irtree_insert.proofs.add.part_words.Goals as goal
 use Rattle.irtree_insert.proofs.add.part_words.Goals.{then-is_moved, else-is_moved}
 
@@ -36,3 +39,21 @@ returns-clause-honest g c = λ free supplied y z apart none told damage.
     let told' = told-turned (plain v) c.args.tree.now.rows (g.P.Pages.pages c.move_slots.new.pages) (g.P.Pages.count c.move_slots.new.pages) (g.P.Pages.first c.move_slots.new.pages) c.move_slots.new.tree.rows
     (moved c.args.page c.args.moves c.args.right (bytes_in (g.P.Pages.pages c.args.pages.now) c.args.tree.now.rows)) turn told in
     c.raise.ensures.honest turn.free turn.rows told' damage
+
+pub returns-in_err-move_slots-clause-damaged : goal.returns-in_err-move_slots-clause-damaged
+returns-in_err-move_slots-clause-damaged g c = λ told damage.
+    let r = err_from_is_err_and c.from_residual.result c.from_residual.ensures.1 in
+    λ e. (let same : c.in_err-move_slots.field-0.0 ≡ Damaged damage = cc (r.1, r.2, e) in
+    c.in_err-move_slots.ensures.damaged told damage (ap Err same))
+
+pub returns-clause-damaged : goal.returns-clause-damaged
+returns-clause-damaged g c = λ told damage e.
+    let p = g.P.Pages in
+    harm-later (λ _. 1) (p.pages c.raise.new.pages) (p.count c.raise.new.pages) (p.first c.raise.new.pages) (p.asked c.args.pages.now) (p.asked c.move_slots.new.pages) (p.asked c.raise.new.pages) damage
+    (c.move_slots.ensures.more told) (c.raise.ensures.damaged (c.in_ok-move_slots.ensures.told told) damage e)
+
+pub returns-clause-told : goal.returns-clause-told
+returns-clause-told g c = λ told. c.raise.ensures.told (c.in_ok-move_slots.ensures.told told)
+
+pub returns-clause-more : goal.returns-clause-more
+returns-clause-more g c = λ told. asks-further (λ _. 1) _ _ _ (c.move_slots.ensures.more told) (c.raise.ensures.more (c.in_ok-move_slots.ensures.told told))

@@ -1,6 +1,6 @@
-use Rattle.std.proofs.Common.{◌≡◌, ◌<◌, ◌∙◌, ℕ, List, arith, sym, ap, subst, refl, Err}
+use Rattle.std.proofs.Common.{◌≡◌, ◌<◌, ◌∙◌, ℕ, List, arith, sym, ap, subst, refl, Err, inr}
 use Rattle.std.proofs.lemmas.Result.{err_from_is_err_and}
-use Rattle.btree_nodes.specs.Damages.{AreTold}
+use Rattle.btree_nodes.specs.Damages.{AreTold, AsksOnly}
 use Rattle.btree_nodes.proofs.Walks.{same-fault}
 use Rattle.paged_map.proofs.Maps.{kept-counted}
 use Rattle.rtree_shape.specs.Slots.{Item, Slots, filled}
@@ -15,6 +15,9 @@ use Rattle.irtree_insert.specs.declared.grown.Grown.{Grown}
 use Rattle.irtree_insert.specs.Fits.{Fits}
 use Rattle.irtree_insert.proofs.Loads.{form-level}
 use Rattle.irtree_insert.proofs.Splits.{read-same, pair-unspared, parted-part, split-made}
+use Rattle.page_face.specs.declared.fault.PageFault.TheVariants.{Damaged}
+use Rattle.btree_nodes.proofs.Harms.{asks-further, asks-nothing}
+use Rattle.node_rows.proofs.Harms.{harm-later}
 use Rattle.irtree_insert.proofs.add.split.Goals as goal
 
 pub returns-in_err-mask-clause-honest : goal.returns-in_err-mask-clause-honest
@@ -84,3 +87,80 @@ returns-clause-made g c = λ least level free ready draft fits full.
     (g.P.Pages.count c.part_words.new.pages) (g.P.Pages.first c.part_words.new.pages) right mask c.part-parted.result.moves c.part-parted.result.at front back c.part-parted.result.is_moved pair steps
     (form-level front stay.form ∙ p.level ∙ sym known) (form-level back move.form ∙ p.its_level ∙ sym known) full is parted
     (child_item c.bounds-2.result right) refl (λ d. c.bounds-2.ensures move some_b d) (reach_of c.bounds.result) (λ d. c.bounds.ensures stay some_a d) _ c.in_ok-mask.ensures.rise
+
+pub returns-in_err-mask-clause-damaged : goal.returns-in_err-mask-clause-damaged
+returns-in_err-mask-clause-damaged g c = λ told damage.
+    let r = err_from_is_err_and c.from_residual.result c.from_residual.ensures.1 in
+    λ e. (let same : c.in_err-mask.field-0.0 ≡ Damaged damage = cc (r.1, r.2, e) in
+    c.in_err-mask.ensures.damaged told damage (ap Err same))
+
+pub returns-in_err-right-clause-damaged : goal.returns-in_err-right-clause-damaged
+returns-in_err-right-clause-damaged g c = λ told damage.
+    let r = err_from_is_err_and c.from_residual-in_err-right.result c.from_residual-in_err-right.ensures.1 in
+    λ e. (let same : c.in_err-right.field-0.0 ≡ Damaged damage = cc (r.1, r.2, e) in
+    inr (c.in_err-right.ensures.damaged damage (ap Err same)))
+
+pub returns-in_err-right-clause-more : goal.returns-in_err-right-clause-more
+returns-in_err-right-clause-more g c = λ told.
+    let p = g.P.Pages in
+    let a0 : List ℕ = p.asked c.args.pages.now in
+    let a1 : List ℕ = p.asked c.ask.new.pages in
+    let a2 : List ℕ = p.asked c.store_two.new.pages in
+    let f = c.ask.ensures.looks.frame in
+    let told1 : AreTold (p.pages c.ask.new.pages) (p.count c.ask.new.pages) = rw (f.pages, f.count) told in
+    let more2 : AsksOnly (λ _. 1) a0 a2 = asks-further (λ _. 1) a0 a1 a2 (c.ask.ensures.more told) (asks-nothing (λ _. 1) a1 a2 c.store_two.ensures.asked) in
+    more2
+
+pub returns-in_err-part_words-clause-damaged : goal.returns-in_err-part_words-clause-damaged
+returns-in_err-part_words-clause-damaged g c = λ told damage.
+    let p = g.P.Pages in
+    let a0 : List ℕ = p.asked c.args.pages.now in
+    let a1 : List ℕ = p.asked c.ask.new.pages in
+    let a2 : List ℕ = p.asked c.store_two.new.pages in
+    let f = c.ask.ensures.looks.frame in
+    let told1 : AreTold (p.pages c.ask.new.pages) (p.count c.ask.new.pages) = rw (f.pages, f.count) told in
+    let more2 : AsksOnly (λ _. 1) a0 a2 = asks-further (λ _. 1) a0 a1 a2 (c.ask.ensures.more told) (asks-nothing (λ _. 1) a1 a2 c.store_two.ensures.asked) in
+    let told2 : AreTold (p.pages c.store_two.new.pages) (p.count c.store_two.new.pages) = c.in_ok-right.ensures.told told1 in
+    let a3 : List ℕ = p.asked c.part_words.new.pages in
+    let r = err_from_is_err_and c.from_residual-in_err-part_words.result c.from_residual-in_err-part_words.ensures.1 in
+    λ e. (let same : c.in_err-part_words.field-0.0 ≡ Damaged damage = cc (r.1, r.2, e) in
+    harm-later (λ _. 1) (p.pages c.part_words.new.pages) (p.count c.part_words.new.pages) (p.first c.part_words.new.pages) a0 a2 a3 damage more2 (c.in_err-part_words.ensures.damaged told2 damage (ap Err same)))
+
+pub returns-in_err-part_words-clause-more : goal.returns-in_err-part_words-clause-more
+returns-in_err-part_words-clause-more g c = λ told.
+    let p = g.P.Pages in
+    let a0 : List ℕ = p.asked c.args.pages.now in
+    let a1 : List ℕ = p.asked c.ask.new.pages in
+    let a2 : List ℕ = p.asked c.store_two.new.pages in
+    let f = c.ask.ensures.looks.frame in
+    let told1 : AreTold (p.pages c.ask.new.pages) (p.count c.ask.new.pages) = rw (f.pages, f.count) told in
+    let more2 : AsksOnly (λ _. 1) a0 a2 = asks-further (λ _. 1) a0 a1 a2 (c.ask.ensures.more told) (asks-nothing (λ _. 1) a1 a2 c.store_two.ensures.asked) in
+    let told2 : AreTold (p.pages c.store_two.new.pages) (p.count c.store_two.new.pages) = c.in_ok-right.ensures.told told1 in
+    let a3 : List ℕ = p.asked c.part_words.new.pages in
+    asks-further (λ _. 1) a0 a2 a3 more2 (c.part_words.ensures.more told2)
+
+pub returns-clause-told : goal.returns-clause-told
+returns-clause-told g c = λ told.
+    let p = g.P.Pages in
+    let a0 : List ℕ = p.asked c.args.pages.now in
+    let a1 : List ℕ = p.asked c.ask.new.pages in
+    let a2 : List ℕ = p.asked c.store_two.new.pages in
+    let f = c.ask.ensures.looks.frame in
+    let told1 : AreTold (p.pages c.ask.new.pages) (p.count c.ask.new.pages) = rw (f.pages, f.count) told in
+    let more2 : AsksOnly (λ _. 1) a0 a2 = asks-further (λ _. 1) a0 a1 a2 (c.ask.ensures.more told) (asks-nothing (λ _. 1) a1 a2 c.store_two.ensures.asked) in
+    let told2 : AreTold (p.pages c.store_two.new.pages) (p.count c.store_two.new.pages) = c.in_ok-right.ensures.told told1 in
+    let a3 : List ℕ = p.asked c.part_words.new.pages in
+    c.in_ok-part_words.ensures.told told2
+
+pub returns-clause-more : goal.returns-clause-more
+returns-clause-more g c = λ told.
+    let p = g.P.Pages in
+    let a0 : List ℕ = p.asked c.args.pages.now in
+    let a1 : List ℕ = p.asked c.ask.new.pages in
+    let a2 : List ℕ = p.asked c.store_two.new.pages in
+    let f = c.ask.ensures.looks.frame in
+    let told1 : AreTold (p.pages c.ask.new.pages) (p.count c.ask.new.pages) = rw (f.pages, f.count) told in
+    let more2 : AsksOnly (λ _. 1) a0 a2 = asks-further (λ _. 1) a0 a1 a2 (c.ask.ensures.more told) (asks-nothing (λ _. 1) a1 a2 c.store_two.ensures.asked) in
+    let told2 : AreTold (p.pages c.store_two.new.pages) (p.count c.store_two.new.pages) = c.in_ok-right.ensures.told told1 in
+    let a3 : List ℕ = p.asked c.part_words.new.pages in
+    asks-further (λ _. 1) a0 a2 a3 more2 (c.part_words.ensures.more told2)

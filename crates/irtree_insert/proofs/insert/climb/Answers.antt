@@ -1,4 +1,4 @@
-use Rattle.std.proofs.Common.{◌≡◌, ℕ, ◌∙◌, sym, ap, subst, Err, arith}
+use Rattle.std.proofs.Common.{◌≡◌, ℕ, ◌∙◌, sym, ap, subst, Err, arith, List}
 use Rattle.page_face.specs.FreeList.{PageMap}
 use Rattle.btree_nodes.specs.Damages.{AreTold}
 use Rattle.btree_nodes.proofs.Walks.{same-fault}
@@ -13,6 +13,9 @@ use Rattle.irtree_insert.specs.declared.insert.Climbed.{Climbed}
 use Rattle.irtree_insert.proofs.Loads.{some-told}
 use Rattle.irtree_insert.proofs.Descents.{open-counted, open-some, open-level, puts-view, loaded}
 use Rattle.irtree_insert.proofs.Tops.{puts-level, open-of-level, open-low}
+use Rattle.btree_nodes.proofs.Harms.{asks-further}
+use Rattle.irtree_insert.proofs.Harms.{page-harm, high-harm, told-counted}
+use Rattle.page_face.specs.declared.fault.Rule.TheVariants.{Level}
 use Rattle.irtree_insert.proofs.insert.climb.Goals as goal
 
 pub returns-in-Err-clause-honest : goal.returns-in-Err-clause-honest
@@ -69,3 +72,61 @@ returns-in-Err-put_below-clause-honest g c = λ least level free opened fits all
     let v = view-same (g.P.Pages.pages c.fetch.new.pages) old rows (g.P.Pages.count c.fetch.new.pages) (g.P.Pages.count c.args.pages.now) (g.P.Pages.first c.fetch.new.pages) (g.P.Pages.first c.args.pages.now) free looks.pages looks.count looks.first in
     let h = loaded before now c.fetch.new.draft least c.in-Ok.level root target x v fetched.bytes fetched.draft (open-of-level (sym found) opened) in
     c.put_below.ensures.honest least free h.draft_is fetched.used h.bytes_are h.opened fits (subst (λ (w : View). AreTold w.pages w.count) (sym v) all_told) damage (c.in-Err-put_below.is ∙ ap Err (same-fault {T = Climbed} _ _ e))
+
+pub returns-in-Err-clause-damaged : goal.returns-in-Err-clause-damaged
+returns-in-Err-clause-damaged g c = λ told damage e.
+    let p = g.P.Pages in
+    let f = c.fetch.ensures.looks.frame in
+    let d = c.fetch.ensures.damaged damage (c.in-Err.is ∙ ap Err (same-fault {T = Climbed} _ _ e)) in
+    page-harm (p.pages c.args.pages.now) (p.pages c.fetch.new.pages) (p.count c.args.pages.now) (p.count c.fetch.new.pages) (p.first c.fetch.new.pages) (p.asked c.args.pages.now) (p.asked c.fetch.new.pages) c.args.root damage
+    f.pages f.count d.0 d.1 d.2
+
+pub returns-then-level-gt-LEVEL_MAX-clause-damaged : goal.returns-then-level-gt-LEVEL_MAX-clause-damaged
+returns-then-level-gt-LEVEL_MAX-clause-damaged g c = λ told damage e.
+    let p = g.P.Pages in
+    let f = c.fetch.ensures.looks.frame in
+    let high = c.if-level-gt-LEVEL_MAX.true in
+    let same = same-fault {T = Climbed} _ _ e in
+    let is : damage ≡ record { page = c.args.root; rule = Level } = cc (same, c.damaged.ensures) in
+    high-harm (p.pages c.args.pages.now) (p.pages c.fetch.new.pages) (p.count c.fetch.new.pages) (p.first c.fetch.new.pages) (p.asked c.args.pages.now) (p.asked c.fetch.new.pages) c.args.root c.in-Ok.level c.fetch.new.draft.bytes damage
+    f.pages is c.in-Ok.ensures.here c.in-Ok.ensures.bytes c.in-Ok.ensures.level (omega arith)
+
+pub returns-in-Err-put_below-clause-damaged : goal.returns-in-Err-put_below-clause-damaged
+returns-in-Err-put_below-clause-damaged g c = λ told damage e.
+    let p = g.P.Pages in
+    let a0 : List ℕ = p.asked c.args.pages.now in
+    let a1 : List ℕ = p.asked c.fetch.new.pages in
+    let f = c.fetch.ensures.looks.frame in
+    let told1 : AreTold (p.pages c.fetch.new.pages) (p.count c.fetch.new.pages) = rw (f.pages, f.count) told in
+    let a2 : List ℕ = p.asked c.put_below.new.pages in
+    let fetched = c.in-Ok.ensures in
+    let root : ℕ = c.args.root in
+    let bytes1 = fetched.bytes (told-counted (p.pages c.args.pages.now) (p.count c.args.pages.now) root told fetched.counted) ∙ sym (ap (λ (q : PageMap). q root) f.pages) in
+    c.put_below.ensures.damaged a0 told1 bytes1 fetched.used (sym fetched.level) fetched.here damage (c.in-Err-put_below.is ∙ ap Err (same-fault {T = Climbed} _ _ e))
+
+pub returns-in-Err-put_below-clause-more : goal.returns-in-Err-put_below-clause-more
+returns-in-Err-put_below-clause-more g c = λ told.
+    let p = g.P.Pages in
+    let a0 : List ℕ = p.asked c.args.pages.now in
+    let a1 : List ℕ = p.asked c.fetch.new.pages in
+    let f = c.fetch.ensures.looks.frame in
+    let told1 : AreTold (p.pages c.fetch.new.pages) (p.count c.fetch.new.pages) = rw (f.pages, f.count) told in
+    let a2 : List ℕ = p.asked c.put_below.new.pages in
+    asks-further (λ _. 1) a0 a1 a2 c.fetch.ensures.more (c.put_below.ensures.more told1)
+
+pub returns-in-Ok-put_below-clause-told : goal.returns-in-Ok-put_below-clause-told
+returns-in-Ok-put_below-clause-told g c = λ told.
+    let p = g.P.Pages in
+    let f = c.fetch.ensures.looks.frame in
+    let told1 : AreTold (p.pages c.fetch.new.pages) (p.count c.fetch.new.pages) = rw (f.pages, f.count) told in
+    c.in-Ok-put_below.ensures.told told1
+
+pub returns-in-Ok-put_below-clause-more : goal.returns-in-Ok-put_below-clause-more
+returns-in-Ok-put_below-clause-more g c = λ told.
+    let p = g.P.Pages in
+    let a0 : List ℕ = p.asked c.args.pages.now in
+    let a1 : List ℕ = p.asked c.fetch.new.pages in
+    let f = c.fetch.ensures.looks.frame in
+    let told1 : AreTold (p.pages c.fetch.new.pages) (p.count c.fetch.new.pages) = rw (f.pages, f.count) told in
+    let a2 : List ℕ = p.asked c.put_below.new.pages in
+    asks-further (λ _. 1) a0 a1 a2 c.fetch.ensures.more (c.put_below.ensures.more told1)

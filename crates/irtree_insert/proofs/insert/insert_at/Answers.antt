@@ -1,4 +1,4 @@
-use Rattle.std.proofs.Common.{◌≡◌, ◌∙◌, Err, ap, arith}
+use Rattle.std.proofs.Common.{◌≡◌, ◌∙◌, Err, ap, arith, inr}
 use Rattle.std.proofs.lemmas.Result.{err_from_is_err_and}
 use Rattle.btree_nodes.proofs.Walks.{same-fault}
 use Rattle.rtree_shape.specs.Slots.{Item}
@@ -7,6 +7,7 @@ use Rattle.rtree_nodes.specs.Reach.{item_of}
 use Rattle.node_rows.specs.Impacts.{impact_in}
 use Rattle.irtree_shape.specs.Words.{worded}
 use Rattle.irtree_insert.proofs.Lands.{place-fits, first-planted, empty-whole, standing-some}
+use Rattle.page_face.specs.declared.fault.PageFault.TheVariants.{Damaged}
 use Rattle.irtree_insert.proofs.insert.insert_at.Goals as goal
 
 pub returns-in_err-root-clause-honest_standing : goal.returns-in_err-root-clause-honest_standing
@@ -36,3 +37,15 @@ returns-in_ok-root-clause-standing g c = λ before free level rest mine sums sta
     let some = standing-some before now level c.args.tree.now.root (c.args.goal, x) rest mine sums start standing in
     let zero_is : c.args.tree.now.root ≡ 0 = c.if-tree-eq0.true in
     absurd (omega arith)
+
+pub returns-in_err-root-clause-damaged : goal.returns-in_err-root-clause-damaged
+returns-in_err-root-clause-damaged g c = λ told damage.
+    let r = err_from_is_err_and c.from_residual.result c.from_residual.ensures.1 in
+    λ e. (let same : c.in_err-root.field-0.0 ≡ Damaged damage = cc (r.1, r.2, e) in
+    inr (c.in_err-root.ensures.damaged told damage (ap Err same)))
+
+pub returns-in_err-root-2-clause-damaged : goal.returns-in_err-root-2-clause-damaged
+returns-in_err-root-2-clause-damaged g c = λ told damage.
+    let r = err_from_is_err_and c.from_residual-in_err-root-2.result c.from_residual-in_err-root-2.ensures.1 in
+    λ e. (let same : c.in_err-root-2.field-0.0 ≡ Damaged damage = cc (r.1, r.2, e) in
+    c.in_err-root-2.ensures.damaged told damage (ap Err same))

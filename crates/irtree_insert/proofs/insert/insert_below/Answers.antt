@@ -1,4 +1,4 @@
-use Rattle.std.proofs.Common.{◌∙◌, ℕ, suc, Err, Some, ap, arith, refl, sym}
+use Rattle.std.proofs.Common.{◌∙◌, ℕ, suc, Err, Some, ap, arith, refl, sym, ◌≡◌, inr}
 use Rattle.std.proofs.lemmas.Result.{IfOk-weaker, err_from_is_err_and}
 use Rattle.page_face.specs.FreeList.{PageMap}
 use Rattle.btree_nodes.proofs.Walks.{same-fault}
@@ -19,6 +19,9 @@ use Rattle.irtree_shape.proofs.Tolds.{told-made}
 use Rattle.irtree_insert.specs.Grown.{beside_item}
 use Rattle.irtree_insert.proofs.Loads.{some-told}
 use Rattle.irtree_insert.proofs.Lands.{both-ok, root-open, puts-as, beside-is, beside-none, raised-of-level, made-of-level}
+use Rattle.page_face.specs.declared.fault.PageFault.TheVariants.{Damaged}
+use Rattle.btree_nodes.proofs.Harms.{asks-further}
+use Rattle.node_rows.proofs.Harms.{harm-later}
 use Rattle.irtree_insert.proofs.insert.insert_below.Goals as goal
 
 pub returns-in_err-climbed-clause-honest : goal.returns-in_err-climbed-clause-honest
@@ -170,3 +173,21 @@ returns-in-Some-clause-honest_standing g c = λ before free level rest mine sums
     let raised = standing_raise node_of before now level root (c.args.goal, x) rest mine sums standing mid mr mc mf y _ _ put in
     let is = m.0 in
     c.raise_root.ensures.honest put.free _ _ 1 (raised-of-level (sym is) raised) (told-made node_of some-told (omega arith) put told)
+
+pub returns-in_err-climbed-clause-damaged : goal.returns-in_err-climbed-clause-damaged
+returns-in_err-climbed-clause-damaged g c = λ told damage.
+    let r = err_from_is_err_and c.from_residual.result c.from_residual.ensures.1 in
+    λ e. (let same : c.in_err-climbed.field-0.0 ≡ Damaged damage = cc (r.1, r.2, e) in
+    c.in_err-climbed.ensures.damaged told damage (ap Err same))
+
+pub returns-in-Some-clause-damaged : goal.returns-in-Some-clause-damaged
+returns-in-Some-clause-damaged g c = λ told damage e.
+    let p = g.P.Pages in
+    inr (harm-later (λ _. 1) (p.pages c.raise_root.new.pages) (p.count c.raise_root.new.pages) (p.first c.raise_root.new.pages) (p.asked c.args.pages.now) (p.asked c.climb.new.pages) (p.asked c.raise_root.new.pages) damage
+    (c.climb.ensures.more told) (c.raise_root.ensures.damaged (c.in_ok-climbed.ensures.told told) damage e))
+
+pub returns-in-Some-clause-told : goal.returns-in-Some-clause-told
+returns-in-Some-clause-told g c = λ told. c.raise_root.ensures.told (c.in_ok-climbed.ensures.told told)
+
+pub returns-in-Some-clause-more : goal.returns-in-Some-clause-more
+returns-in-Some-clause-more g c = λ told. asks-further (λ _. 1) _ _ _ (c.climb.ensures.more told) (c.raise_root.ensures.more (c.in_ok-climbed.ensures.told told))

@@ -2,7 +2,7 @@ use Rattle.std.proofs.Common.{arith, ◌≡◌, ◌+◌, ◌-◌, ◌<◌, ◌�
 use Rattle.std.proofs.lemmas.Result.{IfOk-weaker, err_from_is_err_and}
 use Rattle.page_face.specs.FreeList.{PageMap}
 use Rattle.page_face.proofs.Frames.{changes_then, reads_change}
-use Rattle.btree_nodes.specs.Damages.{AreTold}
+use Rattle.btree_nodes.specs.Damages.{AreTold, AskedSince, AsksOnly}
 use Rattle.btree_nodes.specs.Supply.{one_at}
 use Rattle.btree_nodes.proofs.Walks.{same-fault}
 use Rattle.paged_map.proofs.Maps.{kept-counted}
@@ -26,6 +26,11 @@ use Rattle.irtree_insert.proofs.Loads.{some-told}
 use Rattle.irtree_insert.proofs.Rises.{rises-then}
 use Rattle.irtree_insert.proofs.Descents.{open-counted, open-some, open-level, ready-here, puts-here, found-child, child-open, child-apart, parent-known, parent-spare, parent-still, parent-rest, parent-theirs, parent-ready, parent-put, loaded, puts-view}
 use Rattle.irtree_insert.specs.contracts.put.put_below.dyn-1 as contract
+use Rattle.page_face.specs.declared.fault.PageFault.TheVariants.{Damaged}
+use Rattle.btree_nodes.specs.Tree.{map_uses}
+use Rattle.btree_nodes.proofs.Harms.{asks-further, asks-more, asked-before}
+use Rattle.node_rows.proofs.Harms.{harm-later, harm-looked}
+use Rattle.irtree_insert.proofs.Harms.{asks-since, child-harm, rows-harm, told-counted, stored-child}
 use Rattle.irtree_insert.proofs.put.+put_below.Goals as goal
 
 pub returns-then-level-goal-clause-made : goal.returns-then-level-goal-clause-made
@@ -284,3 +289,193 @@ returns-clause-frame g t c =
     (changes_then g.P.Pages g.met.P.Pages.goes_further _ _ _ (reads_change g.P.Pages _ _ c.in_ok-fetch_at.ensures.looks.frame)
     (changes_then g.P.Pages g.met.P.Pages.goes_further _ _ _ c.in_ok-grown.ensures.frame
     (changes_then g.P.Pages g.met.P.Pages.goes_further _ _ _ c.in_ok-theirs.ensures.frame c.finish.ensures.frame)))
+
+pub returns-then-level-goal-clause-damaged : goal.returns-then-level-goal-clause-damaged
+returns-then-level-goal-clause-damaged g t c = λ before told is used level asked damage e.
+    let p = g.P.Pages in
+    rows-harm (p.pages c.add.new.pages) (p.count c.add.new.pages) (p.first c.add.new.pages) before (p.asked c.args.pages.now) (p.asked c.add.new.pages) c.args.page damage asked (c.add.ensures.damaged told damage e)
+
+pub returns-in_err-known-clause-damaged : goal.returns-in_err-known-clause-damaged
+returns-in_err-known-clause-damaged g t c = λ before told is used level asked damage.
+    let p = g.P.Pages in
+    let f = c.rows_at.ensures.frame in
+    let r = err_from_is_err_and c.from_residual.result c.from_residual.ensures.1 in
+    λ e. (let same : c.in_err-known.field-0.0 ≡ Damaged damage = cc (r.1, r.2, e) in
+    rows-harm (p.pages c.rows_at.new.pages) (p.count c.rows_at.new.pages) (p.first c.rows_at.new.pages) before (p.asked c.args.pages.now) (p.asked c.rows_at.new.pages) c.args.page damage asked
+    (harm-looked (p.pages c.args.pages.now) (p.pages c.rows_at.new.pages) (p.count c.args.pages.now) (p.count c.rows_at.new.pages) (p.first c.rows_at.new.pages) c.args.tree.now.rows (p.asked c.args.pages.now) (p.asked c.rows_at.new.pages) damage
+    f.pages f.count (c.in_err-known.ensures.damaged told damage (ap Err same))))
+
+pub returns-in_err-known-clause-more : goal.returns-in_err-known-clause-more
+returns-in_err-known-clause-more g t c = λ told.
+    let p = g.P.Pages in
+    asks-more (map_uses rows_form (p.pages c.args.pages.now) c.args.tree.now.rows) (λ _. 1) (p.asked c.args.pages.now) (p.asked c.rows_at.new.pages) (λ n h. omega arith) (c.rows_at.ensures.own told)
+
+pub returns-in_err-fetch_at-clause-damaged : goal.returns-in_err-fetch_at-clause-damaged
+returns-in_err-fetch_at-clause-damaged g t c = λ before told is used level asked damage.
+    let p = g.P.Pages in
+    let a0 : List ℕ = p.asked c.args.pages.now in
+    let a1 : List ℕ = p.asked c.rows_at.new.pages in
+    let f1 = c.in_ok-known.ensures.frame in
+    let told1 : AreTold (p.pages c.rows_at.new.pages) (p.count c.rows_at.new.pages) = rw (f1.pages, f1.count) told in
+    let more1 : AsksOnly (λ _. 1) a0 a1 = asks-more (map_uses rows_form (p.pages c.args.pages.now) c.args.tree.now.rows) (λ _. 1) a0 a1 (λ n h. omega arith) (c.rows_at.ensures.own told) in
+    let a2 : List ℕ = p.asked c.fetch_at.new.pages in
+    let f2 = c.fetch_at.ensures.looks.frame in
+    let l : ℕ = c.args.level - 1 in
+    let up : level_in c.args.draft.now.bytes ≡ suc l = let high = c.if-level-goal.false in omega arith in
+    let at : ℕ = c.choose-at.result in
+    let child : ℕ = c.child_at-child.result in
+    let kept = stored-child c.args.draft.now at child used (omega arith) c.choose-at.ensures.used.0 c.choose-at.ensures.used.1 c.child_at-child.ensures.number in
+    let r = err_from_is_err_and c.from_residual-in_err-fetch_at.result c.from_residual-in_err-fetch_at.ensures.1 in
+    λ e. (let same : c.in_err-fetch_at.field-0.0 ≡ Damaged damage = cc (r.1, r.2, e) in
+    child-harm (p.pages c.args.pages.now) (p.pages c.rows_at.new.pages) (p.pages c.fetch_at.new.pages) (p.count c.rows_at.new.pages) (p.count c.fetch_at.new.pages) (p.first c.fetch_at.new.pages) before a0 a1 a2
+    c.args.draft.now.bytes l c.args.page at child damage f1.pages f2.pages f2.count is up kept asked more1 c.fetch_at.ensures.more (c.in_err-fetch_at.ensures.damaged damage (ap Err same)))
+
+pub returns-in_err-fetch_at-clause-more : goal.returns-in_err-fetch_at-clause-more
+returns-in_err-fetch_at-clause-more g t c = λ told.
+    let p = g.P.Pages in
+    let a0 : List ℕ = p.asked c.args.pages.now in
+    let a1 : List ℕ = p.asked c.rows_at.new.pages in
+    let f1 = c.in_ok-known.ensures.frame in
+    let told1 : AreTold (p.pages c.rows_at.new.pages) (p.count c.rows_at.new.pages) = rw (f1.pages, f1.count) told in
+    let more1 : AsksOnly (λ _. 1) a0 a1 = asks-more (map_uses rows_form (p.pages c.args.pages.now) c.args.tree.now.rows) (λ _. 1) a0 a1 (λ n h. omega arith) (c.rows_at.ensures.own told) in
+    let a2 : List ℕ = p.asked c.fetch_at.new.pages in
+    let more2 : AsksOnly (λ _. 1) a0 a2 = asks-further (λ _. 1) a0 a1 a2 more1 c.fetch_at.ensures.more in
+    more2
+
+pub returns-in_err-grown-clause-damaged : goal.returns-in_err-grown-clause-damaged
+returns-in_err-grown-clause-damaged g t c = λ before told is used level asked damage.
+    let p = g.P.Pages in
+    let a0 : List ℕ = p.asked c.args.pages.now in
+    let a1 : List ℕ = p.asked c.rows_at.new.pages in
+    let f1 = c.in_ok-known.ensures.frame in
+    let told1 : AreTold (p.pages c.rows_at.new.pages) (p.count c.rows_at.new.pages) = rw (f1.pages, f1.count) told in
+    let more1 : AsksOnly (λ _. 1) a0 a1 = asks-more (map_uses rows_form (p.pages c.args.pages.now) c.args.tree.now.rows) (λ _. 1) a0 a1 (λ n h. omega arith) (c.rows_at.ensures.own told) in
+    let a2 : List ℕ = p.asked c.fetch_at.new.pages in
+    let f2 = c.in_ok-fetch_at.ensures.looks.frame in
+    let told2 : AreTold (p.pages c.fetch_at.new.pages) (p.count c.fetch_at.new.pages) = rw (f2.pages, f2.count) told1 in
+    let child : ℕ = c.child_at-child.result in
+    let asked2 : AskedSince before a2 child = asked-before (λ _. 1) before a0 a2 child (asks-since before a0 c.args.page asked) (asked-before (λ _. 1) a0 a1 a2 child more1 c.in_ok-fetch_at.ensures.here) in
+    let bytes2 = c.in_ok-fetch_at.ensures.bytes (told-counted (p.pages c.rows_at.new.pages) (p.count c.rows_at.new.pages) child told1 c.in_ok-fetch_at.ensures.counted) ∙ sym (ap (λ (q : PageMap). q child) f2.pages) in
+    let r = err_from_is_err_and c.from_residual-in_err-grown.result c.from_residual-in_err-grown.ensures.1 in
+    λ e. (let same : c.in_err-grown.field-0.0 ≡ Damaged damage = cc (r.1, r.2, e) in
+    c.in_err-grown.ensures.damaged before told2 bytes2 c.in_ok-fetch_at.ensures.used c.in_ok-fetch_at.ensures.level asked2 damage (ap Err same))
+
+pub returns-in_err-grown-clause-more : goal.returns-in_err-grown-clause-more
+returns-in_err-grown-clause-more g t c = λ told.
+    let p = g.P.Pages in
+    let a0 : List ℕ = p.asked c.args.pages.now in
+    let a1 : List ℕ = p.asked c.rows_at.new.pages in
+    let f1 = c.in_ok-known.ensures.frame in
+    let told1 : AreTold (p.pages c.rows_at.new.pages) (p.count c.rows_at.new.pages) = rw (f1.pages, f1.count) told in
+    let more1 : AsksOnly (λ _. 1) a0 a1 = asks-more (map_uses rows_form (p.pages c.args.pages.now) c.args.tree.now.rows) (λ _. 1) a0 a1 (λ n h. omega arith) (c.rows_at.ensures.own told) in
+    let a2 : List ℕ = p.asked c.fetch_at.new.pages in
+    let more2 : AsksOnly (λ _. 1) a0 a2 = asks-further (λ _. 1) a0 a1 a2 more1 c.fetch_at.ensures.more in
+    let f2 = c.in_ok-fetch_at.ensures.looks.frame in
+    let told2 : AreTold (p.pages c.fetch_at.new.pages) (p.count c.fetch_at.new.pages) = rw (f2.pages, f2.count) told1 in
+    let a3 : List ℕ = p.asked c.put_below.new.pages in
+    let more3 : AsksOnly (λ _. 1) a0 a3 = asks-further (λ _. 1) a0 a2 a3 more2 (c.put_below.ensures.more told2) in
+    more3
+
+pub returns-in_err-theirs-clause-damaged : goal.returns-in_err-theirs-clause-damaged
+returns-in_err-theirs-clause-damaged g t c = λ before told is used level asked damage.
+    let p = g.P.Pages in
+    let a0 : List ℕ = p.asked c.args.pages.now in
+    let a1 : List ℕ = p.asked c.rows_at.new.pages in
+    let f1 = c.in_ok-known.ensures.frame in
+    let told1 : AreTold (p.pages c.rows_at.new.pages) (p.count c.rows_at.new.pages) = rw (f1.pages, f1.count) told in
+    let more1 : AsksOnly (λ _. 1) a0 a1 = asks-more (map_uses rows_form (p.pages c.args.pages.now) c.args.tree.now.rows) (λ _. 1) a0 a1 (λ n h. omega arith) (c.rows_at.ensures.own told) in
+    let a2 : List ℕ = p.asked c.fetch_at.new.pages in
+    let more2 : AsksOnly (λ _. 1) a0 a2 = asks-further (λ _. 1) a0 a1 a2 more1 c.fetch_at.ensures.more in
+    let f2 = c.in_ok-fetch_at.ensures.looks.frame in
+    let told2 : AreTold (p.pages c.fetch_at.new.pages) (p.count c.fetch_at.new.pages) = rw (f2.pages, f2.count) told1 in
+    let a3 : List ℕ = p.asked c.put_below.new.pages in
+    let more3 : AsksOnly (λ _. 1) a0 a3 = asks-further (λ _. 1) a0 a2 a3 more2 (c.put_below.ensures.more told2) in
+    let told3 : AreTold (p.pages c.put_below.new.pages) (p.count c.put_below.new.pages) = c.in_ok-grown.ensures.told told2 in
+    let a4 : List ℕ = p.asked c.relink.new.pages in
+    let r = err_from_is_err_and c.from_residual-in_err-theirs.result c.from_residual-in_err-theirs.ensures.1 in
+    λ e. (let same : c.in_err-theirs.field-0.0 ≡ Damaged damage = cc (r.1, r.2, e) in
+    rows-harm (p.pages c.relink.new.pages) (p.count c.relink.new.pages) (p.first c.relink.new.pages) before a0 a4 c.args.page damage asked
+    (harm-later (λ _. 1) (p.pages c.relink.new.pages) (p.count c.relink.new.pages) (p.first c.relink.new.pages) a0 a3 a4 damage more3 (c.in_err-theirs.ensures.damaged told3 damage (ap Err same))))
+
+pub returns-in_err-theirs-clause-more : goal.returns-in_err-theirs-clause-more
+returns-in_err-theirs-clause-more g t c = λ told.
+    let p = g.P.Pages in
+    let a0 : List ℕ = p.asked c.args.pages.now in
+    let a1 : List ℕ = p.asked c.rows_at.new.pages in
+    let f1 = c.in_ok-known.ensures.frame in
+    let told1 : AreTold (p.pages c.rows_at.new.pages) (p.count c.rows_at.new.pages) = rw (f1.pages, f1.count) told in
+    let more1 : AsksOnly (λ _. 1) a0 a1 = asks-more (map_uses rows_form (p.pages c.args.pages.now) c.args.tree.now.rows) (λ _. 1) a0 a1 (λ n h. omega arith) (c.rows_at.ensures.own told) in
+    let a2 : List ℕ = p.asked c.fetch_at.new.pages in
+    let more2 : AsksOnly (λ _. 1) a0 a2 = asks-further (λ _. 1) a0 a1 a2 more1 c.fetch_at.ensures.more in
+    let f2 = c.in_ok-fetch_at.ensures.looks.frame in
+    let told2 : AreTold (p.pages c.fetch_at.new.pages) (p.count c.fetch_at.new.pages) = rw (f2.pages, f2.count) told1 in
+    let a3 : List ℕ = p.asked c.put_below.new.pages in
+    let more3 : AsksOnly (λ _. 1) a0 a3 = asks-further (λ _. 1) a0 a2 a3 more2 (c.put_below.ensures.more told2) in
+    let told3 : AreTold (p.pages c.put_below.new.pages) (p.count c.put_below.new.pages) = c.in_ok-grown.ensures.told told2 in
+    let a4 : List ℕ = p.asked c.relink.new.pages in
+    let more4 : AsksOnly (λ _. 1) a0 a4 = asks-further (λ _. 1) a0 a3 a4 more3 (c.relink.ensures.more told3) in
+    more4
+
+pub returns-clause-damaged : goal.returns-clause-damaged
+returns-clause-damaged g t c = λ before told is used level asked damage e.
+    let p = g.P.Pages in
+    let a0 : List ℕ = p.asked c.args.pages.now in
+    let a1 : List ℕ = p.asked c.rows_at.new.pages in
+    let f1 = c.in_ok-known.ensures.frame in
+    let told1 : AreTold (p.pages c.rows_at.new.pages) (p.count c.rows_at.new.pages) = rw (f1.pages, f1.count) told in
+    let more1 : AsksOnly (λ _. 1) a0 a1 = asks-more (map_uses rows_form (p.pages c.args.pages.now) c.args.tree.now.rows) (λ _. 1) a0 a1 (λ n h. omega arith) (c.rows_at.ensures.own told) in
+    let a2 : List ℕ = p.asked c.fetch_at.new.pages in
+    let more2 : AsksOnly (λ _. 1) a0 a2 = asks-further (λ _. 1) a0 a1 a2 more1 c.fetch_at.ensures.more in
+    let f2 = c.in_ok-fetch_at.ensures.looks.frame in
+    let told2 : AreTold (p.pages c.fetch_at.new.pages) (p.count c.fetch_at.new.pages) = rw (f2.pages, f2.count) told1 in
+    let a3 : List ℕ = p.asked c.put_below.new.pages in
+    let more3 : AsksOnly (λ _. 1) a0 a3 = asks-further (λ _. 1) a0 a2 a3 more2 (c.put_below.ensures.more told2) in
+    let told3 : AreTold (p.pages c.put_below.new.pages) (p.count c.put_below.new.pages) = c.in_ok-grown.ensures.told told2 in
+    let a4 : List ℕ = p.asked c.relink.new.pages in
+    let more4 : AsksOnly (λ _. 1) a0 a4 = asks-further (λ _. 1) a0 a3 a4 more3 (c.relink.ensures.more told3) in
+    let told4 : AreTold (p.pages c.relink.new.pages) (p.count c.relink.new.pages) = c.in_ok-theirs.ensures.told told3 in
+    let a5 : List ℕ = p.asked c.finish.new.pages in
+    rows-harm (p.pages c.finish.new.pages) (p.count c.finish.new.pages) (p.first c.finish.new.pages) before a0 a5 c.args.page damage asked
+    (harm-later (λ _. 1) (p.pages c.finish.new.pages) (p.count c.finish.new.pages) (p.first c.finish.new.pages) a0 a4 a5 damage more4 (c.finish.ensures.damaged told4 damage e))
+
+pub returns-clause-told : goal.returns-clause-told
+returns-clause-told g t c = λ told.
+    let p = g.P.Pages in
+    let a0 : List ℕ = p.asked c.args.pages.now in
+    let a1 : List ℕ = p.asked c.rows_at.new.pages in
+    let f1 = c.in_ok-known.ensures.frame in
+    let told1 : AreTold (p.pages c.rows_at.new.pages) (p.count c.rows_at.new.pages) = rw (f1.pages, f1.count) told in
+    let more1 : AsksOnly (λ _. 1) a0 a1 = asks-more (map_uses rows_form (p.pages c.args.pages.now) c.args.tree.now.rows) (λ _. 1) a0 a1 (λ n h. omega arith) (c.rows_at.ensures.own told) in
+    let a2 : List ℕ = p.asked c.fetch_at.new.pages in
+    let more2 : AsksOnly (λ _. 1) a0 a2 = asks-further (λ _. 1) a0 a1 a2 more1 c.fetch_at.ensures.more in
+    let f2 = c.in_ok-fetch_at.ensures.looks.frame in
+    let told2 : AreTold (p.pages c.fetch_at.new.pages) (p.count c.fetch_at.new.pages) = rw (f2.pages, f2.count) told1 in
+    let a3 : List ℕ = p.asked c.put_below.new.pages in
+    let more3 : AsksOnly (λ _. 1) a0 a3 = asks-further (λ _. 1) a0 a2 a3 more2 (c.put_below.ensures.more told2) in
+    let told3 : AreTold (p.pages c.put_below.new.pages) (p.count c.put_below.new.pages) = c.in_ok-grown.ensures.told told2 in
+    let a4 : List ℕ = p.asked c.relink.new.pages in
+    let more4 : AsksOnly (λ _. 1) a0 a4 = asks-further (λ _. 1) a0 a3 a4 more3 (c.relink.ensures.more told3) in
+    let told4 : AreTold (p.pages c.relink.new.pages) (p.count c.relink.new.pages) = c.in_ok-theirs.ensures.told told3 in
+    c.finish.ensures.told told4
+
+pub returns-clause-more : goal.returns-clause-more
+returns-clause-more g t c = λ told.
+    let p = g.P.Pages in
+    let a0 : List ℕ = p.asked c.args.pages.now in
+    let a1 : List ℕ = p.asked c.rows_at.new.pages in
+    let f1 = c.in_ok-known.ensures.frame in
+    let told1 : AreTold (p.pages c.rows_at.new.pages) (p.count c.rows_at.new.pages) = rw (f1.pages, f1.count) told in
+    let more1 : AsksOnly (λ _. 1) a0 a1 = asks-more (map_uses rows_form (p.pages c.args.pages.now) c.args.tree.now.rows) (λ _. 1) a0 a1 (λ n h. omega arith) (c.rows_at.ensures.own told) in
+    let a2 : List ℕ = p.asked c.fetch_at.new.pages in
+    let more2 : AsksOnly (λ _. 1) a0 a2 = asks-further (λ _. 1) a0 a1 a2 more1 c.fetch_at.ensures.more in
+    let f2 = c.in_ok-fetch_at.ensures.looks.frame in
+    let told2 : AreTold (p.pages c.fetch_at.new.pages) (p.count c.fetch_at.new.pages) = rw (f2.pages, f2.count) told1 in
+    let a3 : List ℕ = p.asked c.put_below.new.pages in
+    let more3 : AsksOnly (λ _. 1) a0 a3 = asks-further (λ _. 1) a0 a2 a3 more2 (c.put_below.ensures.more told2) in
+    let told3 : AreTold (p.pages c.put_below.new.pages) (p.count c.put_below.new.pages) = c.in_ok-grown.ensures.told told2 in
+    let a4 : List ℕ = p.asked c.relink.new.pages in
+    let more4 : AsksOnly (λ _. 1) a0 a4 = asks-further (λ _. 1) a0 a3 a4 more3 (c.relink.ensures.more told3) in
+    let told4 : AreTold (p.pages c.relink.new.pages) (p.count c.relink.new.pages) = c.in_ok-theirs.ensures.told told3 in
+    let a5 : List ℕ = p.asked c.finish.new.pages in
+    let more5 : AsksOnly (λ _. 1) a0 a5 = asks-further (λ _. 1) a0 a4 a5 more4 (c.finish.ensures.more told4) in
+    more5

@@ -14,6 +14,10 @@ use Rattle.node_rows.proofs.Turned.{turns-as, view-same}
 use Rattle.irtree_shape.proofs.Renewals.{steps-relinked}
 use Rattle.irtree_insert.specs.declared.grown.Beside.{Beside}
 use Rattle.irtree_insert.specs.Grown.{beside_top}
+use Rattle.page_face.specs.declared.fault.PageFault.TheVariants.{Damaged}
+use Rattle.btree_nodes.specs.Damages.{AreTold, AsksOnly}
+use Rattle.btree_nodes.proofs.Harms.{asks-further}
+use Rattle.node_rows.proofs.Harms.{harm-later}
 use Rattle.irtree_insert.proofs.put.relink.Goals as goal
 
 pub returns-in_err-theirs-clause-honest : goal.returns-in_err-theirs-clause-honest
@@ -65,3 +69,84 @@ returns-clause-steps g c = λ free supplied unused apart known right.
     steps-relinked before mid (g.P.Pages.pages c.renew.new.pages) r1 c1 f1 c.renew.new.tree.rows (g.P.Pages.count c.renew.new.pages) (g.P.Pages.first c.renew.new.pages) c.args.page c.args.at c.args.child
     c.args.words.now theirs c.args.more.now supplied unused apart (λ e w. is w ∙ ap (λ (o : Option Beside). beside_top (bytes_in old rows) o w) e) (λ w z. right w (sym (is w) ∙ z))
     turn (c.in_ok-renew.ensures.turns turn.free turn.rows apart)
+
+pub returns-in_err-theirs-clause-damaged : goal.returns-in_err-theirs-clause-damaged
+returns-in_err-theirs-clause-damaged g c = λ told damage.
+    let r = err_from_is_err_and c.from_residual.result c.from_residual.ensures.1 in
+    λ e. (let same : c.in_err-theirs.field-0.0 ≡ Damaged damage = cc (r.1, r.2, e) in
+    c.in_err-theirs.ensures.damaged told damage (ap Err same))
+
+pub returns-in_err-raise-clause-damaged : goal.returns-in_err-raise-clause-damaged
+returns-in_err-raise-clause-damaged g c = λ told damage.
+    let p = g.P.Pages in
+    let f = c.words_beside.ensures.frame in
+    let told1 : AreTold (p.pages c.words_beside.new.pages) (p.count c.words_beside.new.pages) = rw (f.pages, f.count) told in
+    let r = err_from_is_err_and c.from_residual-in_err-raise.result c.from_residual-in_err-raise.ensures.1 in
+    λ e. (let same : c.in_err-raise.field-0.0 ≡ Damaged damage = cc (r.1, r.2, e) in
+    harm-later (λ _. 1) (p.pages c.raise.new.pages) (p.count c.raise.new.pages) (p.first c.raise.new.pages) (p.asked c.args.pages.now) (p.asked c.words_beside.new.pages) (p.asked c.raise.new.pages) damage
+    (c.words_beside.ensures.more told) (c.in_err-raise.ensures.damaged told1 damage (ap Err same)))
+
+pub returns-in_err-raise-clause-more : goal.returns-in_err-raise-clause-more
+returns-in_err-raise-clause-more g c = λ told.
+    let p = g.P.Pages in
+    let a0 : List ℕ = p.asked c.args.pages.now in
+    let a1 : List ℕ = p.asked c.words_beside.new.pages in
+    let a2 : List ℕ = p.asked c.raise.new.pages in
+    let f = c.words_beside.ensures.frame in
+    let told1 : AreTold (p.pages c.words_beside.new.pages) (p.count c.words_beside.new.pages) = rw (f.pages, f.count) told in
+    let more2 : AsksOnly (λ _. 1) a0 a2 = asks-further (λ _. 1) a0 a1 a2 (c.words_beside.ensures.more told) (c.raise.ensures.more told1) in
+    more2
+
+pub returns-in_err-renew-clause-damaged : goal.returns-in_err-renew-clause-damaged
+returns-in_err-renew-clause-damaged g c = λ told damage.
+    let p = g.P.Pages in
+    let a0 : List ℕ = p.asked c.args.pages.now in
+    let a1 : List ℕ = p.asked c.words_beside.new.pages in
+    let a2 : List ℕ = p.asked c.raise.new.pages in
+    let f = c.words_beside.ensures.frame in
+    let told1 : AreTold (p.pages c.words_beside.new.pages) (p.count c.words_beside.new.pages) = rw (f.pages, f.count) told in
+    let more2 : AsksOnly (λ _. 1) a0 a2 = asks-further (λ _. 1) a0 a1 a2 (c.words_beside.ensures.more told) (c.raise.ensures.more told1) in
+    let a3 : List ℕ = p.asked c.renew.new.pages in
+    let told2 : AreTold (p.pages c.raise.new.pages) (p.count c.raise.new.pages) = c.in_ok-raise.ensures.told told1 in
+    let r = err_from_is_err_and c.from_residual-in_err-renew.result c.from_residual-in_err-renew.ensures.1 in
+    λ e. (let same : c.in_err-renew.field-0.0 ≡ Damaged damage = cc (r.1, r.2, e) in
+    harm-later (λ _. 1) (p.pages c.renew.new.pages) (p.count c.renew.new.pages) (p.first c.renew.new.pages) a0 a2 a3 damage more2 (c.in_err-renew.ensures.damaged told2 damage (ap Err same)))
+
+pub returns-in_err-renew-clause-more : goal.returns-in_err-renew-clause-more
+returns-in_err-renew-clause-more g c = λ told.
+    let p = g.P.Pages in
+    let a0 : List ℕ = p.asked c.args.pages.now in
+    let a1 : List ℕ = p.asked c.words_beside.new.pages in
+    let a2 : List ℕ = p.asked c.raise.new.pages in
+    let f = c.words_beside.ensures.frame in
+    let told1 : AreTold (p.pages c.words_beside.new.pages) (p.count c.words_beside.new.pages) = rw (f.pages, f.count) told in
+    let more2 : AsksOnly (λ _. 1) a0 a2 = asks-further (λ _. 1) a0 a1 a2 (c.words_beside.ensures.more told) (c.raise.ensures.more told1) in
+    let a3 : List ℕ = p.asked c.renew.new.pages in
+    let told2 : AreTold (p.pages c.raise.new.pages) (p.count c.raise.new.pages) = c.in_ok-raise.ensures.told told1 in
+    asks-further (λ _. 1) a0 a2 a3 more2 (c.renew.ensures.more told2)
+
+pub returns-clause-told : goal.returns-clause-told
+returns-clause-told g c = λ told.
+    let p = g.P.Pages in
+    let a0 : List ℕ = p.asked c.args.pages.now in
+    let a1 : List ℕ = p.asked c.words_beside.new.pages in
+    let a2 : List ℕ = p.asked c.raise.new.pages in
+    let f = c.words_beside.ensures.frame in
+    let told1 : AreTold (p.pages c.words_beside.new.pages) (p.count c.words_beside.new.pages) = rw (f.pages, f.count) told in
+    let more2 : AsksOnly (λ _. 1) a0 a2 = asks-further (λ _. 1) a0 a1 a2 (c.words_beside.ensures.more told) (c.raise.ensures.more told1) in
+    let a3 : List ℕ = p.asked c.renew.new.pages in
+    let told2 : AreTold (p.pages c.raise.new.pages) (p.count c.raise.new.pages) = c.in_ok-raise.ensures.told told1 in
+    c.in_ok-renew.ensures.told told2
+
+pub returns-clause-more : goal.returns-clause-more
+returns-clause-more g c = λ told.
+    let p = g.P.Pages in
+    let a0 : List ℕ = p.asked c.args.pages.now in
+    let a1 : List ℕ = p.asked c.words_beside.new.pages in
+    let a2 : List ℕ = p.asked c.raise.new.pages in
+    let f = c.words_beside.ensures.frame in
+    let told1 : AreTold (p.pages c.words_beside.new.pages) (p.count c.words_beside.new.pages) = rw (f.pages, f.count) told in
+    let more2 : AsksOnly (λ _. 1) a0 a2 = asks-further (λ _. 1) a0 a1 a2 (c.words_beside.ensures.more told) (c.raise.ensures.more told1) in
+    let a3 : List ℕ = p.asked c.renew.new.pages in
+    let told2 : AreTold (p.pages c.raise.new.pages) (p.count c.raise.new.pages) = c.in_ok-raise.ensures.told told1 in
+    asks-further (λ _. 1) a0 a2 a3 more2 (c.renew.ensures.more told2)

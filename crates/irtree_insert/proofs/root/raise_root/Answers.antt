@@ -1,4 +1,4 @@
-use Rattle.std.proofs.Common.{◌≡◌, ◌∙◌, ℕ, List, suc, ap, Err, refl, add-one}
+use Rattle.std.proofs.Common.{◌≡◌, ◌∙◌, ℕ, List, suc, ap, Err, refl, add-one, inr}
 use Rattle.std.proofs.lemmas.Result.{err_from_is_err_and}
 use Rattle.page_face.specs.FreeList.{PageMap}
 use Rattle.btree_nodes.proofs.Walks.{same-fault}
@@ -12,6 +12,10 @@ use Rattle.irtree_shape.proofs.Raises.{top_spare, root_apart, more_apart, top_sp
 use Rattle.irtree_shape.proofs.Stepping.{steps-refreshed}
 use Rattle.irtree_insert.specs.Grown.{beside_item}
 use Rattle.irtree_insert.proofs.Loads.{form-level, inner-fits}
+use Rattle.page_face.specs.declared.fault.PageFault.TheVariants.{Damaged}
+use Rattle.btree_nodes.specs.Damages.{AreTold, AsksOnly}
+use Rattle.btree_nodes.proofs.Harms.{asks-further, asks-nothing}
+use Rattle.node_rows.proofs.Harms.{harm-later}
 use Rattle.irtree_insert.proofs.root.raise_root.Goals as goal
 
 pub returns-in_err-refresh-clause-honest : goal.returns-in_err-refresh-clause-honest
@@ -93,3 +97,91 @@ returns-clause-made g c = λ free sums wide least raised.
     (c.in_ok-refresh-2.ensures.turns s1.free s1.moves.supplied.rows (more_apart node_of before least level root top left more sums wide told raised refl (λ d. refl) taken rows c0 f0 bytes take)) in
     root_stands node_of before least level root top left more sums wide told raised refl (λ d. refl) taken rows c0 f0 bytes take m1 c.refresh.new.tree.rows c1 f1 s1 m2 c.refresh-2.new.tree.rows c2 f2 s2
     (node_of bytes).level s t u none t_is u_is level_is refl (λ n. n ≡ 1) refl
+
+pub returns-in_err-top-clause-damaged : goal.returns-in_err-top-clause-damaged
+returns-in_err-top-clause-damaged g c = λ told damage.
+    let r = err_from_is_err_and c.from_residual.result c.from_residual.ensures.1 in
+    λ e. (let same : c.in_err-top.field-0.0 ≡ Damaged damage = cc (r.1, r.2, e) in
+    inr (c.in_err-top.ensures.damaged damage (ap Err same)))
+
+pub returns-in_err-top-clause-more : goal.returns-in_err-top-clause-more
+returns-in_err-top-clause-more g c = λ told.
+    let p = g.P.Pages in
+    asks-nothing (λ _. 1) (p.asked c.args.pages.now) (p.asked c.store_new.new.pages) c.store_new.ensures.asked
+
+pub returns-in_err-refresh-clause-damaged : goal.returns-in_err-refresh-clause-damaged
+returns-in_err-refresh-clause-damaged g c = λ told damage.
+    let p = g.P.Pages in
+    let a0 : List ℕ = p.asked c.args.pages.now in
+    let a1 : List ℕ = p.asked c.store_new.new.pages in
+    let more1 : AsksOnly (λ _. 1) a0 a1 = asks-nothing (λ _. 1) a0 a1 c.store_new.ensures.asked in
+    let told1 : AreTold (p.pages c.store_new.new.pages) (p.count c.store_new.new.pages) = c.in_ok-top.ensures.told told in
+    let a2 : List ℕ = p.asked c.refresh.new.pages in
+    let r = err_from_is_err_and c.from_residual-in_err-refresh.result c.from_residual-in_err-refresh.ensures.1 in
+    λ e. (let same : c.in_err-refresh.field-0.0 ≡ Damaged damage = cc (r.1, r.2, e) in
+    harm-later (λ _. 1) (p.pages c.refresh.new.pages) (p.count c.refresh.new.pages) (p.first c.refresh.new.pages) a0 a1 a2 damage more1 (c.in_err-refresh.ensures.damaged told1 damage (ap Err same)))
+
+pub returns-in_err-refresh-clause-more : goal.returns-in_err-refresh-clause-more
+returns-in_err-refresh-clause-more g c = λ told.
+    let p = g.P.Pages in
+    let a0 : List ℕ = p.asked c.args.pages.now in
+    let a1 : List ℕ = p.asked c.store_new.new.pages in
+    let more1 : AsksOnly (λ _. 1) a0 a1 = asks-nothing (λ _. 1) a0 a1 c.store_new.ensures.asked in
+    let told1 : AreTold (p.pages c.store_new.new.pages) (p.count c.store_new.new.pages) = c.in_ok-top.ensures.told told in
+    let a2 : List ℕ = p.asked c.refresh.new.pages in
+    let more2 : AsksOnly (λ _. 1) a0 a2 = asks-further (λ _. 1) a0 a1 a2 more1 (c.refresh.ensures.more told1) in
+    more2
+
+pub returns-in_err-refresh-2-clause-damaged : goal.returns-in_err-refresh-2-clause-damaged
+returns-in_err-refresh-2-clause-damaged g c = λ told damage.
+    let p = g.P.Pages in
+    let a0 : List ℕ = p.asked c.args.pages.now in
+    let a1 : List ℕ = p.asked c.store_new.new.pages in
+    let more1 : AsksOnly (λ _. 1) a0 a1 = asks-nothing (λ _. 1) a0 a1 c.store_new.ensures.asked in
+    let told1 : AreTold (p.pages c.store_new.new.pages) (p.count c.store_new.new.pages) = c.in_ok-top.ensures.told told in
+    let a2 : List ℕ = p.asked c.refresh.new.pages in
+    let more2 : AsksOnly (λ _. 1) a0 a2 = asks-further (λ _. 1) a0 a1 a2 more1 (c.refresh.ensures.more told1) in
+    let told2 : AreTold (p.pages c.refresh.new.pages) (p.count c.refresh.new.pages) = c.in_ok-refresh.ensures.told told1 in
+    let a3 : List ℕ = p.asked c.refresh-2.new.pages in
+    let r = err_from_is_err_and c.from_residual-in_err-refresh-2.result c.from_residual-in_err-refresh-2.ensures.1 in
+    λ e. (let same : c.in_err-refresh-2.field-0.0 ≡ Damaged damage = cc (r.1, r.2, e) in
+    harm-later (λ _. 1) (p.pages c.refresh-2.new.pages) (p.count c.refresh-2.new.pages) (p.first c.refresh-2.new.pages) a0 a2 a3 damage more2 (c.in_err-refresh-2.ensures.damaged told2 damage (ap Err same)))
+
+pub returns-in_err-refresh-2-clause-more : goal.returns-in_err-refresh-2-clause-more
+returns-in_err-refresh-2-clause-more g c = λ told.
+    let p = g.P.Pages in
+    let a0 : List ℕ = p.asked c.args.pages.now in
+    let a1 : List ℕ = p.asked c.store_new.new.pages in
+    let more1 : AsksOnly (λ _. 1) a0 a1 = asks-nothing (λ _. 1) a0 a1 c.store_new.ensures.asked in
+    let told1 : AreTold (p.pages c.store_new.new.pages) (p.count c.store_new.new.pages) = c.in_ok-top.ensures.told told in
+    let a2 : List ℕ = p.asked c.refresh.new.pages in
+    let more2 : AsksOnly (λ _. 1) a0 a2 = asks-further (λ _. 1) a0 a1 a2 more1 (c.refresh.ensures.more told1) in
+    let told2 : AreTold (p.pages c.refresh.new.pages) (p.count c.refresh.new.pages) = c.in_ok-refresh.ensures.told told1 in
+    let a3 : List ℕ = p.asked c.refresh-2.new.pages in
+    asks-further (λ _. 1) a0 a2 a3 more2 (c.refresh-2.ensures.more told2)
+
+pub returns-clause-told : goal.returns-clause-told
+returns-clause-told g c = λ told.
+    let p = g.P.Pages in
+    let a0 : List ℕ = p.asked c.args.pages.now in
+    let a1 : List ℕ = p.asked c.store_new.new.pages in
+    let more1 : AsksOnly (λ _. 1) a0 a1 = asks-nothing (λ _. 1) a0 a1 c.store_new.ensures.asked in
+    let told1 : AreTold (p.pages c.store_new.new.pages) (p.count c.store_new.new.pages) = c.in_ok-top.ensures.told told in
+    let a2 : List ℕ = p.asked c.refresh.new.pages in
+    let more2 : AsksOnly (λ _. 1) a0 a2 = asks-further (λ _. 1) a0 a1 a2 more1 (c.refresh.ensures.more told1) in
+    let told2 : AreTold (p.pages c.refresh.new.pages) (p.count c.refresh.new.pages) = c.in_ok-refresh.ensures.told told1 in
+    let a3 : List ℕ = p.asked c.refresh-2.new.pages in
+    c.in_ok-refresh-2.ensures.told told2
+
+pub returns-clause-more : goal.returns-clause-more
+returns-clause-more g c = λ told.
+    let p = g.P.Pages in
+    let a0 : List ℕ = p.asked c.args.pages.now in
+    let a1 : List ℕ = p.asked c.store_new.new.pages in
+    let more1 : AsksOnly (λ _. 1) a0 a1 = asks-nothing (λ _. 1) a0 a1 c.store_new.ensures.asked in
+    let told1 : AreTold (p.pages c.store_new.new.pages) (p.count c.store_new.new.pages) = c.in_ok-top.ensures.told told in
+    let a2 : List ℕ = p.asked c.refresh.new.pages in
+    let more2 : AsksOnly (λ _. 1) a0 a2 = asks-further (λ _. 1) a0 a1 a2 more1 (c.refresh.ensures.more told1) in
+    let told2 : AreTold (p.pages c.refresh.new.pages) (p.count c.refresh.new.pages) = c.in_ok-refresh.ensures.told told1 in
+    let a3 : List ℕ = p.asked c.refresh-2.new.pages in
+    asks-further (λ _. 1) a0 a2 a3 more2 (c.refresh-2.ensures.more told2)

@@ -1,10 +1,11 @@
-use Rattle.std.proofs.Common.{◌≡◌, ◌≤◌, ℕ, ◌∙◌, refl, sym, ap, subst, None, Some, Err}
+use Rattle.std.proofs.Common.{◌≡◌, ◌≤◌, ℕ, ◌∙◌, refl, sym, ap, subst, arith, None, Some, Err}
 use Rattle.std.proofs.lemmas.Result.{err_from_is_err_and}
 use Rattle.page_face.specs.FreeList.{PageMap}
 use Rattle.page_face.specs.declared.fault.PageFault.TheVariants.{Damaged}
 use Rattle.page_face.proofs.Frames.{changes_then}
 use Rattle.btree_nodes.specs.Supply.{View, view}
 use Rattle.btree_nodes.specs.Damages.{AreTold}
+use Rattle.btree_nodes.proofs.Harms.{asks-further, asks-more}
 use Rattle.btree_nodes.specs.Tree.{IsMap, map_rows, map_uses}
 use Rattle.paged_map.specs.Maps.{AreCounted}
 use Rattle.paged_map.proofs.Maps.{kept-counted}
@@ -14,9 +15,26 @@ use Rattle.node_rows.specs.Ascents.{until}
 use Rattle.node_rows.specs.Impacts.{refreshed}
 use Rattle.node_inverted.specs.Refreshing.{IsBounded, lesser_of, word_of}
 use Rattle.node_rows.proofs.Bytes.{bytes-large}
+use Rattle.node_rows.proofs.Faults.{changes-none}
+use Rattle.node_rows.proofs.Harms.{harm-later, harm-next}
 use Rattle.node_rows.proofs.Told.{told-turned}
 use Rattle.node_inverted.proofs.Refreshes.{refresh-begins, refreshed-all}
 use Rattle.node_inverted.proofs.refreshing.refresh.Goals as goal
+
+pub loop-number-init : goal.loop-number-init
+loop-number-init g c =
+    let p = g.P.Pages in
+    let one = c.next_in.ensures.frame in
+    let two = c.next_in-2.ensures.frame in
+    record {
+      root = refl;
+      turns = λ before root b bounded apart begun begun_low begun_high. (begun, begun_low, begun_high);
+      told = λ told. rw (two.pages ∙ one.pages, two.count ∙ one.count) told;
+      more = λ told. asks-further (λ _. 1) (p.asked c.args.pages.now) (p.asked c.next_in.new.pages) (p.asked c.next_in-2.new.pages)
+          (asks-more (map_uses rows_form (p.pages c.args.pages.now) c.args.tree.now.rows) (λ _. 1) (p.asked c.args.pages.now) (p.asked c.next_in.new.pages) (λ n h. omega arith) (c.next_in.ensures.own told))
+          (asks-more (map_uses rows_form (p.pages c.next_in.new.pages) c.args.tree.now.rows) (λ _. 1) (p.asked c.next_in.new.pages) (p.asked c.next_in-2.new.pages) (λ n h. omega arith) (c.next_in-2.ensures.own (rw (one.pages, one.count) told)));
+      frame = changes-none p c.next_in-2.new.pages (g.met.P.Pages.stays c.next_in-2.new.pages);
+    }
 
 pub loop-number-preserved : goal.loop-number-preserved
 loop-number-preserved g c = record {
@@ -25,6 +43,8 @@ loop-number-preserved g c = record {
       let h = c.loop-number.invariant.turns before root b bounded apart begun begun_low begun_high in
       let first : lesser_of (word_of c.loop-number.below) (word_of c.loop-number.above) ≡ Some c.in-Some.number = sym c.next_word.ensures ∙ c.in-Some.is in
       c.in_ok-refresh_word.ensures.turns before root b bounded apart first h.0 h.1 h.2;
+  told = λ t. c.in_ok-refresh_word.ensures.told (c.loop-number.invariant.told t);
+  more = λ t. asks-further (λ _. 1) _ _ _ (c.loop-number.invariant.more t) (c.refresh_word.ensures.more (c.loop-number.invariant.told t));
   frame = changes_then g.P.Pages g.met.P.Pages.goes_further _ _ _ c.loop-number.invariant.frame c.refresh_word.ensures.frame;
 }
 
@@ -93,3 +113,54 @@ returns-in_err-above-clause-honest g c = λ free rows apart told damage.
     let p = err_from_is_err_and c.from_residual-in_err-above.result c.from_residual-in_err-above.ensures.1 in
     λ e. (let same : c.in_err-above.field-0.0 ≡ Damaged damage = cc (p.1, p.2, e) in
     c.in_err-above.ensures.honest map counted told' damage (ap Err same))
+
+pub returns-in_err-below-clause-damaged : goal.returns-in_err-below-clause-damaged
+returns-in_err-below-clause-damaged g c = λ told damage.
+    let p = g.P.Pages in
+    let f = c.next_in.ensures.frame in
+    let r = err_from_is_err_and c.from_residual.result c.from_residual.ensures.1 in
+    λ e. (let same : c.in_err-below.field-0.0 ≡ Damaged damage = cc (r.1, r.2, e) in
+    harm-next (p.pages c.args.pages.now) (p.pages c.next_in.new.pages) (p.count c.args.pages.now) (p.count c.next_in.new.pages) (p.first c.next_in.new.pages) c.args.tree.now.rows (p.asked c.args.pages.now) (p.asked c.next_in.new.pages) damage
+    f.pages f.count (c.in_err-below.ensures.damaged told damage (ap Err same)))
+
+pub returns-in_err-below-clause-more : goal.returns-in_err-below-clause-more
+returns-in_err-below-clause-more g c = λ told.
+    let p = g.P.Pages in
+    (asks-more (map_uses rows_form (p.pages c.args.pages.now) c.args.tree.now.rows) (λ _. 1) (p.asked c.args.pages.now) (p.asked c.next_in.new.pages) (λ n h. omega arith) (c.next_in.ensures.own told))
+
+pub returns-in_err-above-clause-damaged : goal.returns-in_err-above-clause-damaged
+returns-in_err-above-clause-damaged g c = λ told damage.
+    let p = g.P.Pages in
+    let one = c.next_in.ensures.frame in
+    let two = c.next_in-2.ensures.frame in
+    let r = err_from_is_err_and c.from_residual-in_err-above.result c.from_residual-in_err-above.ensures.1 in
+    λ e. (let same : c.in_err-above.field-0.0 ≡ Damaged damage = cc (r.1, r.2, e) in
+    harm-later (map_uses rows_form (p.pages c.args.pages.now) c.args.tree.now.rows) (p.pages c.next_in-2.new.pages) (p.count c.next_in-2.new.pages) (p.first c.next_in-2.new.pages)
+    (p.asked c.args.pages.now) (p.asked c.next_in.new.pages) (p.asked c.next_in-2.new.pages) damage (c.next_in.ensures.own told)
+    (harm-next (p.pages c.next_in.new.pages) (p.pages c.next_in-2.new.pages) (p.count c.next_in.new.pages) (p.count c.next_in-2.new.pages) (p.first c.next_in-2.new.pages) c.args.tree.now.rows
+    (p.asked c.next_in.new.pages) (p.asked c.next_in-2.new.pages) damage two.pages two.count (c.in_err-above.ensures.damaged (rw (one.pages, one.count) told) damage (ap Err same))))
+
+pub returns-in_err-above-clause-more : goal.returns-in_err-above-clause-more
+returns-in_err-above-clause-more g c = λ told.
+    let p = g.P.Pages in
+    let one = c.next_in.ensures.frame in
+    asks-further (λ _. 1) (p.asked c.args.pages.now) (p.asked c.next_in.new.pages) (p.asked c.next_in-2.new.pages)
+    (asks-more (map_uses rows_form (p.pages c.args.pages.now) c.args.tree.now.rows) (λ _. 1) (p.asked c.args.pages.now) (p.asked c.next_in.new.pages) (λ n h. omega arith) (c.next_in.ensures.own told))
+    (asks-more (map_uses rows_form (p.pages c.next_in.new.pages) c.args.tree.now.rows) (λ _. 1) (p.asked c.next_in.new.pages) (p.asked c.next_in-2.new.pages) (λ n h. omega arith) (c.next_in-2.ensures.own (rw (one.pages, one.count) told)))
+
+pub returns-in_err-refresh_word-clause-damaged : goal.returns-in_err-refresh_word-clause-damaged
+returns-in_err-refresh_word-clause-damaged g c = λ told damage.
+    let p = g.P.Pages in
+    let r = err_from_is_err_and c.from_residual-in_err-refresh_word.result c.from_residual-in_err-refresh_word.ensures.1 in
+    λ e. (let same : c.in_err-refresh_word.field-0.0 ≡ Damaged damage = cc (r.1, r.2, e) in
+    harm-later (λ _. 1) (p.pages c.refresh_word.new.pages) (p.count c.refresh_word.new.pages) (p.first c.refresh_word.new.pages) (p.asked c.args.pages.now) (p.asked c.loop-number.pages) (p.asked c.refresh_word.new.pages) damage
+    (c.loop-number.invariant.more told) (c.in_err-refresh_word.ensures.damaged (c.loop-number.invariant.told told) damage (ap Err same)))
+
+pub returns-in_err-refresh_word-clause-more : goal.returns-in_err-refresh_word-clause-more
+returns-in_err-refresh_word-clause-more g c = λ told. asks-further (λ _. 1) _ _ _ (c.loop-number.invariant.more told) (c.refresh_word.ensures.more (c.loop-number.invariant.told told))
+
+pub returns-clause-more : goal.returns-clause-more
+returns-clause-more g c = λ told. c.loop-number.invariant.more told
+
+pub returns-clause-told : goal.returns-clause-told
+returns-clause-told g c = λ told. c.loop-number.invariant.told told

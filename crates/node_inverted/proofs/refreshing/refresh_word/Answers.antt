@@ -4,7 +4,8 @@ use Rattle.page_face.specs.FreeList.{PageMap}
 use Rattle.page_face.specs.declared.fault.PageFault.TheVariants.{Damaged}
 use Rattle.btree_nodes.specs.Supply.{View, view}
 use Rattle.btree_nodes.specs.Tree.{IsMap, map_uses}
-use Rattle.btree_nodes.specs.Damages.{AreTold}
+use Rattle.btree_nodes.specs.Damages.{AreTold, AsksOnly}
+use Rattle.btree_nodes.proofs.Harms.{asks-further, asks-more}
 use Rattle.paged_map.specs.Maps.{AreCounted}
 use Rattle.paged_map.proofs.Maps.{kept-counted}
 use Rattle.rtree_shape.specs.Stock.{rows_form}
@@ -12,6 +13,7 @@ use Rattle.node_rows.specs.Rows.{Bytes, bytes_in}
 use Rattle.node_rows.specs.Ascents.{until}
 use Rattle.node_rows.specs.Impacts.{refreshed, with_byte, top_at}
 use Rattle.node_rows.proofs.Ascents.{left}
+use Rattle.node_rows.proofs.Harms.{harm-later}
 use Rattle.node_rows.proofs.Turned.{turns-as, turns-further, turned-rest}
 use Rattle.node_rows.proofs.Told.{told-turned}
 use Rattle.node_rows.proofs.Impacts.{top-row}
@@ -104,3 +106,50 @@ returns-clause-honest g c = λ before root b apart first h told damage.
     let counted : AreCounted (map_uses rows_form (g.P.Pages.pages c.pass.new.pages) rows) (g.P.Pages.count c.pass.new.pages) = rw (one.pages, one.count) (kept-counted rows_form mid rows set.rows.kept) in
     let told' : AreTold (g.P.Pages.pages c.pass.new.pages) (g.P.Pages.count c.pass.new.pages) = rw (one.pages, one.count) still in
     c.pass-2.ensures.honest map counted told' damage
+
+pub returns-in_err-set_byte-clause-damaged : goal.returns-in_err-set_byte-clause-damaged
+returns-in_err-set_byte-clause-damaged g c = λ told damage.
+    let r = err_from_is_err_and c.from_residual.result c.from_residual.ensures.1 in
+    λ e. (let same : c.in_err-set_byte.field-0.0 ≡ Damaged damage = cc (r.1, r.2, e) in
+    c.in_err-set_byte.ensures.damaged told damage (ap Err same))
+
+pub returns-in_err-pass-clause-damaged : goal.returns-in_err-pass-clause-damaged
+returns-in_err-pass-clause-damaged g c = λ told damage.
+    let p = g.P.Pages in
+    let r = err_from_is_err_and c.from_residual-in_err-pass.result c.from_residual-in_err-pass.ensures.1 in
+    λ e. (let same : c.in_err-pass.field-0.0 ≡ Damaged damage = cc (r.1, r.2, e) in
+    harm-later (λ _. 1) (p.pages c.pass.new.pages) (p.count c.pass.new.pages) (p.first c.pass.new.pages) (p.asked c.args.pages.now) (p.asked c.set_byte.new.pages) (p.asked c.pass.new.pages) damage
+    (c.set_byte.ensures.more told) (c.in_err-pass.ensures.damaged (c.in_ok-set_byte.ensures.told told) damage (ap Err same)))
+
+pub returns-in_err-pass-clause-more : goal.returns-in_err-pass-clause-more
+returns-in_err-pass-clause-more g c = λ told.
+    let p = g.P.Pages in
+    asks-further (λ _. 1) (p.asked c.args.pages.now) (p.asked c.set_byte.new.pages) (p.asked c.pass.new.pages) (c.set_byte.ensures.more told)
+    (asks-more (map_uses rows_form (p.pages c.set_byte.new.pages) c.set_byte.new.tree.rows) (λ _. 1) (p.asked c.set_byte.new.pages) (p.asked c.pass.new.pages) (λ n h. omega arith) (c.pass.ensures.own (c.in_ok-set_byte.ensures.told told)))
+
+pub returns-clause-damaged : goal.returns-clause-damaged
+returns-clause-damaged g c = λ told damage e.
+    let p = g.P.Pages in
+    let told' : AreTold (p.pages c.pass.new.pages) (p.count c.pass.new.pages) = rw (c.pass.ensures.frame.pages, c.pass.ensures.frame.count) (c.in_ok-set_byte.ensures.told told) in
+    let more : AsksOnly (λ _. 1) (p.asked c.args.pages.now) (p.asked c.pass.new.pages) = asks-further (λ _. 1) (p.asked c.args.pages.now) (p.asked c.set_byte.new.pages) (p.asked c.pass.new.pages) (c.set_byte.ensures.more told)
+    (asks-more (map_uses rows_form (p.pages c.set_byte.new.pages) c.set_byte.new.tree.rows) (λ _. 1) (p.asked c.set_byte.new.pages) (p.asked c.pass.new.pages) (λ n h. omega arith) (c.pass.ensures.own (c.in_ok-set_byte.ensures.told told))) in
+    harm-later (λ _. 1) (p.pages c.pass-2.new.pages) (p.count c.pass-2.new.pages) (p.first c.pass-2.new.pages) (p.asked c.args.pages.now) (p.asked c.pass.new.pages) (p.asked c.pass-2.new.pages) damage
+    more (c.pass-2.ensures.damaged told' damage e)
+
+pub returns-clause-more : goal.returns-clause-more
+returns-clause-more g c = λ told.
+    let p = g.P.Pages in
+    let told' : AreTold (p.pages c.pass.new.pages) (p.count c.pass.new.pages) = rw (c.pass.ensures.frame.pages, c.pass.ensures.frame.count) (c.in_ok-set_byte.ensures.told told) in
+    let more : AsksOnly (λ _. 1) (p.asked c.args.pages.now) (p.asked c.pass.new.pages) = asks-further (λ _. 1) (p.asked c.args.pages.now) (p.asked c.set_byte.new.pages) (p.asked c.pass.new.pages) (c.set_byte.ensures.more told)
+    (asks-more (map_uses rows_form (p.pages c.set_byte.new.pages) c.set_byte.new.tree.rows) (λ _. 1) (p.asked c.set_byte.new.pages) (p.asked c.pass.new.pages) (λ n h. omega arith) (c.pass.ensures.own (c.in_ok-set_byte.ensures.told told))) in
+    asks-further (λ _. 1) (p.asked c.args.pages.now) (p.asked c.pass.new.pages) (p.asked c.pass-2.new.pages) more
+    (asks-more (map_uses rows_form (p.pages c.pass.new.pages) c.set_byte.new.tree.rows) (λ _. 1) (p.asked c.pass.new.pages) (p.asked c.pass-2.new.pages) (λ n h. omega arith) (c.pass-2.ensures.own told'))
+
+pub returns-clause-told : goal.returns-clause-told
+returns-clause-told g c = λ told.
+    let p = g.P.Pages in
+    let one = c.pass.ensures.frame in
+    let two = c.pass-2.ensures.frame in
+    let told' : AreTold (p.pages c.pass.new.pages) (p.count c.pass.new.pages) = rw (one.pages, one.count) (c.in_ok-set_byte.ensures.told told) in
+    let still : AreTold (p.pages c.pass-2.new.pages) (p.count c.pass-2.new.pages) = rw (two.pages, two.count) told' in
+    on_ok_weaker c.pass-2.result (λ past. still) c.pass-2.ensures.past
