@@ -16,13 +16,13 @@ use Rattle.rtree_shape.proofs.Amounts.{same_or}
 use Rattle.rtree_shape.proofs.Outs.{opt-same, opt-other, opt-sum}
 use Rattle.rtree_nodes.specs.declared.content.Slot.{Slot}
 use Rattle.rtree_nodes.specs.declared.content.Slot.TheVariants.{Place, Child}
-use Rattle.rtree_nodes.specs.Breaks.{BreaksHeader}
+use Rattle.rtree_nodes.specs.Breaks.{BreaksFirst, BreaksHeader}
 use Rattle.rtree_nodes.specs.Pages.{is_form, node_of, slots_in, level_in}
 use Rattle.rtree_nodes.specs.Reach.{item_of, is_place, rect_in}
 use Rattle.rtree_nodes.proofs.Bounding.{some-form, some-mask}
-use Rattle.rtree_nodes.proofs.Formed.{form-node, form-parts}
+use Rattle.rtree_nodes.proofs.Formed.{form-node, form-parts, form-slots, parts-clear, values-from}
 use Rattle.irtree_insert.specs.Fits.{Fits}
-use Rattle.irtree_delete.specs.Orphans.{IsMisplaced, IsOffPath}
+use Rattle.irtree_delete.specs.Orphans.{IsHeadless, IsMisplaced, IsOffPath}
 
 -- a node's level is that of its page
 pub form-level : (page : List ℕ) → is_form page ≡ true → (node_of page).level ≡ level_in page
@@ -49,20 +49,48 @@ keeps-header Entry page some h = h
 keeps-header Words page some h = h
 keeps-header Counts page some h = h
 
--- a node with a used slot, and of the level that is asked, isn't refused
-pub in-place : (page level : ℕ) (bytes : List ℕ) (damage : Damage) → 0 < filled (slots_in bytes) → level_in bytes ≡ level → IsMisplaced page level bytes (Damaged damage) → ⊥
-in-place page level bytes damage some is h = elim h.1 [
-  | inl breaks ↦ keeps-header damage.rule bytes some breaks
-  | inr other ↦ other.1 is
+-- its page isn't refused for its first bytes
+pub has-head : (page : ℕ) (bytes : List ℕ) (damage : Damage) → 0 < filled (slots_in bytes) → IsHeadless page bytes (Damaged damage) → ⊥
+has-head page bytes damage some h = keeps-header damage.rule bytes some h.1
+
+-- nor does it break another rule of a node's page
+keeps-first : (rule : Rule) (page : List ℕ) → 0 < filled (slots_in page) → BreaksFirst rule page → ⊥
+keeps-first Kind page some h = keeps-header Kind page some h
+keeps-first Fill page some h = keeps-header Fill page some h
+keeps-first Spare page some h = true≢false (sym (parts-clear page (form-parts page (some-form page some)).clear) ∙ h.2)
+keeps-first Value page some h = true≢false (sym (values-from page (form-parts page (some-form page some)).values) ∙ h.3)
+keeps-first Head page some h = h
+keeps-first Link page some h = h
+keeps-first Order page some h = h
+keeps-first Level page some h = h
+keeps-first Shared page some h = h
+keeps-first RectRule page some h = h
+keeps-first Row page some h = h
+keeps-first Entry page some h = h
+keeps-first Words page some h = h
+keeps-first Counts page some h = h
+
+-- a node with a used slot, of the level that is asked, and with more than one child if it is an inner one, isn't refused
+pub in-place : (page level : ℕ) (bytes : List ℕ) (damage : Damage) → 0 < filled (slots_in bytes) → level_in bytes ≡ level → (0 < level → filled (slots_in bytes) ≡ 1 → ⊥) → IsMisplaced page level bytes (Damaged damage) → ⊥
+in-place page level bytes damage some is several h = elim h.1 [
+  | inl breaks ↦ keeps-first damage.rule bytes some breaks
+  | inr other ↦ elim other [
+    | inl wrong ↦ wrong.1 is
+    | inr lone ↦ let a = lone.1.0 in several (omega arith) (ap filled (form-slots bytes (some-form bytes some)) ∙ lone.1.1)
+  ]
 ]
 
-some-none : (o : Option Item) (z : Item) → o ≡ Some z → o ≡ None → ⊥
+pub some-none : (o : Option Item) (z : Item) → o ≡ Some z → o ≡ None → ⊥
 some-none None z e f = let k : Option Item → ℕ = λ o. elim o [ None ↦ 0 | Some y ↦ 1 ] in let a = ap k e in omega arith
 some-none (Some y) z e f = let k : Option Item → ℕ = λ o. elim o [ None ↦ 0 | Some y ↦ 1 ] in let a = ap k f in omega arith
 
 -- nor is one with an item in the slot of the path
 pub on-path : (page at : ℕ) (bytes : List ℕ) (damage : Damage) (z : Item) → is_form bytes ≡ true → IsAt (slots_in bytes) at z → IsOffPath page at bytes (Damaged damage) → ⊥
 on-path page at bytes damage z form there h = some-none (slots_in bytes at) z there.1 (h.1 there.0 form)
+
+-- a slot that holds an item is one of those that are used
+pub at-some : (s : Slots) (at : ℕ) (z : Item) → IsAt s at z → 0 < filled s
+at-some s at z there = let a = opt-sum one s at z None there in omega arith
 
 -- an item that is put again where it stands changes nothing
 pub put-same : (at : ℕ) (y : Item) (s : Slots) → s at ≡ Some y → s ≡ with_opt at (Some y) s

@@ -9,3 +9,4 @@ pub mod Inners
 pub mod Standings
 pub mod Lowers
 pub mod Removes
+pub mod Harms

@@ -1,5 +1,5 @@
 -- The root of a whole tree from which an item is to be taken out.
-use Rattle.std.proofs.Common.{◌≡◌, ℕ, zero, suc, ◌<◌, ◌≤◌, List, [], ◌∷◌, Ok, IsErr, refl, arith, ap, sym, ◌∙◌, subst, inl, ◌⊎◌, true≢false, length}
+use Rattle.std.proofs.Common.{◌≡◌, ℕ, zero, suc, ◌<◌, ◌≤◌, List, [], ◌∷◌, Ok, IsErr, refl, arith, ap, sym, ◌∙◌, subst, inl, true≢false, length}
 use Rattle.page_face.specs.FreeList.{PageMap}
 use Rattle.page_face.specs.Causes.{IsUncounted}
 use Rattle.rtree_shape.specs.Slots.{Item, filled}
@@ -24,14 +24,13 @@ pub root-some : (X Y : Type 0) (count root : ℕ) (value : X) → (IsUncounted c
 root-some X Y count zero value h = absurd (true≢false (sym (h (inl refl))))
 root-some X Y count (suc n) value h = omega arith
 
--- no orphan is as good as no loose item
-pub loose-empty : (os : List Orphan) → loose_in os ≡ [] → os ≡ []
-loose-empty [] e = refl
-loose-empty (o ∷ os) e = let a = ap length e in absurd (omega arith)
+no-more : (os : List Orphan) → length os ≡ 0 → os ≡ []
+no-more [] e = refl
+no-more (o ∷ os) e = absurd (omega arith)
 
--- a number is at most 1 or more
-pub one-or : (m : ℕ) → (m ≤ 1) ⊎ (1 < m)
-one-or m = grind arith
+-- as many orphans as none are none
+pub none-left : (olds news : List Orphan) → olds ≡ [] → length news ≡ length olds → news ≡ []
+none-left olds news none same = no-more news (same ∙ ap length none)
 
 two-slots : (level : ℕ) → root_least level ≤ 1 → level ≡ 0
 two-slots zero h = refl

@@ -55,6 +55,10 @@ module _ (old : PageMap) (rows count first least level page : ℕ) (free : List 
   pub taking-level : level_in (old page) ≡ level
   taking-level = sym (form-level (old page) taking-form) ∙ taking.node.level_is
 
+  -- with as many slots as it has to have
+  pub taking-least : least ≤ filled (slots_in (old page))
+  taking-least = let a = taking.node.some in let b = words-filled (bytes_in old rows page) (slots_in (old page)) in omega arith
+
   -- and it is counted
   pub taking-counted : IsUncounted count page → ⊥
   taking-counted h = elim h [

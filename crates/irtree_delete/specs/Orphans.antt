@@ -2,15 +2,16 @@
 use Rattle.std.specs.Prelude.{◌≡◌, ◌≢◌, ◌≤◌, ◌<◌, ◌⊎◌, ℕ, List, None, map, true, false}
 use Rattle.page_face.specs.declared.fault.PageFault.{PageFault}
 use Rattle.page_face.specs.declared.fault.PageFault.TheVariants.{Damaged, Memory}
-use Rattle.page_face.specs.declared.fault.Rule.TheVariants.{Value, Level}
+use Rattle.page_face.specs.declared.fault.Rule.TheVariants.{Fill, Value, Level}
 use Rattle.rtree_shape.specs.Slots.{Item, filled}
 use Rattle.rtree_shape.specs.Loose.{Loose, AllLoose, IsAt}
 use Rattle.rtree_nodes.specs.declared.content.Slot.{Slot}
-use Rattle.rtree_nodes.specs.Breaks.{BreaksHeader}
+use Rattle.rtree_nodes.specs.Breaks.{BreaksFirst, BreaksHeader}
 use Rattle.rtree_nodes.specs.Pages.{is_form, level_in, slots_in}
 use Rattle.rtree_nodes.specs.Reach.{item_of, is_place}
 use Rattle.node_rows.specs.Impacts.{impact_in}
 use Rattle.irtree_shape.specs.Words.{worded}
+use Rattle.irtree_shape.specs.Damages.{IsLone}
 use Rattle.irtree_delete.specs.declared.orphan.Orphan.{Orphan}
 
 -- an orphan as a loose item
@@ -35,10 +36,15 @@ IsUnread page bytes Memory = Unit {0}
 IsUnread page bytes (Damaged damage) = (damage ≡ record { page = page; rule = Value }) × (is_form bytes ≡ false)
 IsUnread page bytes _ = ⊥
 
--- why a page isn't that of a node of this level: its kind, a mask of no slot, or its level byte
+-- why a page doesn't say that it is a node's: its kind, or a mask of no slot
+abbrev pub IsHeadless : ℕ → List ℕ → PageFault → Type 0
+IsHeadless page bytes (Damaged damage) = (damage.page ≡ page) × BreaksHeader damage.rule bytes
+IsHeadless page bytes _ = ⊥
+
+-- why a page isn't that of a node of this level: the first rule of a node's page that it breaks, its level byte, or that its node is an inner one of one child
 abbrev pub IsMisplaced : ℕ → ℕ → List ℕ → PageFault → Type 0
 IsMisplaced page level bytes (Damaged damage) =
-    (damage.page ≡ page) × (BreaksHeader damage.rule bytes ⊎ ((damage.rule ≡ Level) × (level_in bytes ≢ level)))
+    (damage.page ≡ page) × (BreaksFirst damage.rule bytes ⊎ ((damage.rule ≡ Level) × (level_in bytes ≢ level)) ⊎ ((damage.rule ≡ Fill) × IsLone bytes))
 IsMisplaced page level bytes _ = ⊥
 
 -- why a path doesn't lead through a page: the page isn't a node's, or nothing is in the slot

@@ -1,16 +1,17 @@
 //! What is left of a node from which something was taken out.
-ghost use Rattle.std.specs.Prelude.{◌≡◌, ◌≢◌, ◌<◌, ◌≤◌, ◌+◌, ℕ, List, ◌∷◌, ◌++◌, [], max, Option, true, false, option_map, length, IfOk, OnOk, OnErr, IfErr, IfSome, IsSome, IsErrOf};
+ghost use Rattle.std.specs.Prelude.{◌≡◌, ◌≢◌, ◌<◌, ◌≤◌, ◌+◌, ℕ, List, ◌∷◌, ◌++◌, [], max, Option, None, true, false, option_map, length, IfOk, OnOk, OnErr, IfErr, IfSome, IsSome, IsErrOf};
 ghost use Rattle.page_face.specs.Calls.{FailsWriting, FailsChanging, Writes, Changes};
 ghost use Rattle.page_face.specs.Causes.{IsUncounted};
 ghost use Rattle.page_face.specs.FreeList.{with_page};
 ghost use Rattle.page_face.specs.declared.fault.Damage.{Damage};
-ghost use Rattle.btree_nodes.specs.Damages.{AreTold};
+ghost use Rattle.btree_nodes.specs.Damages.{AreTold, AsksOnly};
 ghost use Rattle.rtree_shape.specs.Slots.{Item, NodeMap, Held, Each, got, amount, filled};
 ghost use Rattle.rtree_shape.specs.Trees.{IsItem};
 ghost use Rattle.rtree_shape.specs.Stock.{view, plain, spare_in};
 ghost use Rattle.rtree_shape.specs.Loose.{total_loose, AllLoose};
 ghost use Rattle.rtree_nodes.specs.Reach.{item_of};
 ghost use Rattle.rtree_nodes.specs.Pages.{level_in, stored_in, is_form, slots_in, node_of};
+ghost use Rattle.node_rows.specs.Damages.{IsRowsHarm};
 ghost use Rattle.node_rows.specs.Rows.{IsRows, bytes_in};
 ghost use Rattle.node_rows.specs.Impacts.{impact_in, impact_at};
 ghost use Rattle.node_inverted.specs.Lifts.{lifted_at};
@@ -146,10 +147,13 @@ fn dissolve<P: Pages>(
         → OnOk result (IsDissolved (view (P.pages pages.old) tree.old.rows (P.count pages.old) (P.first pages.old) free) (P.pages pages.new) tree.new.rows (P.count pages.new) (P.first pages.new)
         page level (stored_in bytes.now) (loose_in orphans.old.items) (loose_in orphans.new.items)) }
     ensures low { (top : ℕ) → level ≤ top → AreLow top (loose_in orphans.old.items) → OnOk result (AreLow top (loose_in orphans.new.items)) }
-    ensures told { (free : List ℕ) → IsRows (plain (view (P.pages pages.old) tree.old.rows (P.count pages.old) (P.first pages.old) free)) tree.old.rows
-        → AreTold (P.pages pages.old) (P.count pages.old) → OnOk result (AreTold (P.pages pages.new) (P.count pages.new)) }
+    ensures many { OnOk result (length orphans.new.items ≡ length orphans.old.items + filled (stored_in bytes.now)) }
+    ensures told { AreTold (P.pages pages.old) (P.count pages.old) → OnOk result (AreTold (P.pages pages.new) (P.count pages.new)) }
     ensures honest { (free : List ℕ) → IsRows (plain (view (P.pages pages.old) tree.old.rows (P.count pages.old) (P.first pages.old) free)) tree.old.rows
         → AreTold (P.pages pages.old) (P.count pages.old) → is_form bytes.now ≡ true → (damage : Damage) → result ≢ Err (PageFault.Damaged damage) }
+    ensures damaged { is_form bytes.now ≡ true → AreTold (P.pages pages.old) (P.count pages.old) → (damage : Damage) → IsErrOf result (PageFault.Damaged damage)
+        → IsRowsHarm (P.pages pages.new) (P.count pages.new) (P.first pages.new) (P.asked pages.old) (P.asked pages.new) damage }
+    ensures more { AreTold (P.pages pages.old) (P.count pages.old) → AsksOnly (λ _. 1) (P.asked pages.old) (P.asked pages.new) }
     ensures root { tree.new.root ≡ tree.old.root }
     ensures fails { FailsChanging P.Pages pages.old pages.new result }
     ensures frame { Changes P.Pages pages.old pages.new }
@@ -185,7 +189,7 @@ fn write_changed<P: Pages>(
 ///
 /// `bytes` are the node's, and `is_changed` says whether they differ from those in its page. If at least `least` slots are used, the
 /// node is written where it changed, and its slot for the node above is returned. Else each of its items becomes an orphan with its words, its rows are
-/// dropped, its page is given back, and `None` is returned. Refuses `Damaged` with `Value` at a page that isn't a node's, and as `take_rows` does; `Disk`,
+/// dropped, its page is given back, and `None` is returned. Refuses `Damaged` as `take_rows` does, and with `Value` where the bytes aren't a node's; `Disk`,
 /// `NoRoom`, `Stopped` and `Memory`. A node that stays costs one write or none; one that is dissolved a call of `take_rows` and one write.
 pub(crate) fn settle<P: Pages>(
     alloc: Global,
@@ -217,10 +221,13 @@ pub(crate) fn settle<P: Pages>(
     ensures here { IfOk result (λ left. IfSome left (IsChildOf page)) }
     ensures stays { is_form bytes.now ≡ true → least ≤ filled (slots_in bytes.now) → IfOk result IsSome }
     ensures low { (top : ℕ) → level ≤ top → AreLow top (loose_in orphans.old.items) → OnOk result (AreLow top (loose_in orphans.new.items)) }
-    ensures told { (free : List ℕ) → IsRows (plain (view (P.pages pages.old) tree.old.rows (P.count pages.old) (P.first pages.old) free)) tree.old.rows
-        → AreTold (P.pages pages.old) (P.count pages.old) → OnOk result (AreTold (P.pages pages.new) (P.count pages.new)) }
+    ensures gone { is_form bytes.now ≡ true → IfOk result (λ left. left ≡ None → (filled (slots_in bytes.now) < least) × (length orphans.new.items ≡ length orphans.old.items + filled (slots_in bytes.now))) }
+    ensures told { AreTold (P.pages pages.old) (P.count pages.old) → OnOk result (AreTold (P.pages pages.new) (P.count pages.new)) }
     ensures honest { (free : List ℕ) → IsRows (plain (view (P.pages pages.old) tree.old.rows (P.count pages.old) (P.first pages.old) free)) tree.old.rows
         → AreTold (P.pages pages.old) (P.count pages.old) → is_form bytes.now ≡ true → (damage : Damage) → result ≢ Err (PageFault.Damaged damage) }
+    ensures damaged { is_form bytes.now ≡ true → AreTold (P.pages pages.old) (P.count pages.old) → (damage : Damage) → IsErrOf result (PageFault.Damaged damage)
+        → IsRowsHarm (P.pages pages.new) (P.count pages.new) (P.first pages.new) (P.asked pages.old) (P.asked pages.new) damage }
+    ensures more { AreTold (P.pages pages.old) (P.count pages.old) → AsksOnly (λ _. 1) (P.asked pages.old) (P.asked pages.new) }
     ensures root { tree.new.root ≡ tree.old.root }
     ensures fails { FailsChanging P.Pages pages.old pages.new result }
     ensures frame { Changes P.Pages pages.old pages.new }

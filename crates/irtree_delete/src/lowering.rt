@@ -3,7 +3,7 @@ ghost use Rattle.std.specs.Prelude.{◌≡◌, ◌≢◌, ◌<◌, ◌≤◌, �
 ghost use Rattle.std.specs.Int.{bit_at};
 ghost use Rattle.page_face.specs.Calls.{FailsChanging, Changes};
 ghost use Rattle.page_face.specs.declared.fault.Damage.{Damage};
-ghost use Rattle.btree_nodes.specs.Damages.{AreTold};
+ghost use Rattle.btree_nodes.specs.Damages.{AreTold, AsksOnly};
 ghost use Rattle.rtree_shape.specs.Slots.{Item, filled};
 ghost use Rattle.rtree_shape.specs.Trees.{root_least};
 ghost use Rattle.rtree_shape.specs.Stock.{View, view};
@@ -12,7 +12,8 @@ ghost use Rattle.irtree_shape.specs.Stock.{IsSupplied};
 ghost use Rattle.irtree_shape.specs.Made.{nodes_in};
 ghost use Rattle.irtree_shape.specs.Loose.{IsStanding};
 ghost use Rattle.irtree_shape.specs.Whole.{tree_uses, tree_sum, IsWhole, IsFelled};
-ghost use Rattle.irtree_delete.specs.Orphans.{IsMisplaced, IsOnlyChild};
+ghost use Rattle.irtree_shape.specs.Damages.{IsTreeHarm};
+ghost use Rattle.irtree_delete.specs.Orphans.{IsHeadless, IsOnlyChild};
 
 use btree_nodes::damaged;
 use node_inverted::{Tree, drop_node};
@@ -35,7 +36,7 @@ fn lowest_used(used: u32) -> usize
 // The page of the child of an inner node that has one, or None for a leaf and for a node of more children.
 fn only_child(page: u32, bytes: &Page) -> Result<Option<u32>, PageFault>
     ensures child { 0 < filled (slots_in bytes.now) → IfOk result (λ child. MatchOption child (root_least (level_in bytes.now) ≤ filled (slots_in bytes.now)) (IsOnlyChild bytes.now)) }
-    ensures refuses { IfErr result (IsMisplaced page (level_in bytes.now) bytes.now) }
+    ensures refuses { IfErr result (IsHeadless page bytes.now) }
 {
     let head = match header(bytes) {
         Ok(head) => head,
@@ -63,6 +64,10 @@ pub(crate) fn lower_root<P: Pages>(
     ensures honest { (before : View) (free : List ℕ) (level : ℕ) (mine : ℕ → ℕ) (sums : (Item → ℕ) → ℕ) → IsSupplied before
         → IsStanding node_of before (view (P.pages pages.old) tree.old.rows (P.count pages.old) (P.first pages.old) free) level tree.old.root [] mine sums
         → AreTold (P.pages pages.old) (P.count pages.old) → (damage : Damage) → result ≢ Err (PageFault.Damaged damage) }
+    ensures damaged { AreTold (P.pages pages.old) (P.count pages.old) → (damage : Damage) → IsErrOf result (PageFault.Damaged damage)
+        → IsTreeHarm (P.pages pages.new) (P.count pages.new) (P.first pages.new) (P.asked pages.old) (P.asked pages.new) damage }
+    ensures told { AreTold (P.pages pages.old) (P.count pages.old) → OnOk result (AreTold (P.pages pages.new) (P.count pages.new)) }
+    ensures more { AreTold (P.pages pages.old) (P.count pages.old) → AsksOnly (λ _. 1) (P.asked pages.old) (P.asked pages.new) }
     ensures fails { FailsChanging P.Pages pages.old pages.new result }
     ensures frame { Changes P.Pages pages.old pages.new }
 {

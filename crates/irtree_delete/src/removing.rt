@@ -1,16 +1,18 @@
 //! An entry that is taken out of a tree.
-ghost use Rattle.std.specs.Prelude.{◌≡◌, ◌≢◌, ◌<◌, ◌≤◌, ◌+◌, ◌⊎◌, ℕ, suc, List, [], length, OnOk, OnErr, IfErr, MatchOption};
+ghost use Rattle.std.specs.Prelude.{◌≡◌, ◌≢◌, ◌<◌, ◌≤◌, ◌+◌, ◌⊎◌, ℕ, suc, List, [], length, OnOk, OnErr, IsErrOf, MatchOption};
 ghost use Rattle.page_face.specs.Calls.{FailsChanging, Changes};
 ghost use Rattle.page_face.specs.declared.fault.Damage.{Damage};
-ghost use Rattle.btree_nodes.specs.Damages.{AreTold};
+ghost use Rattle.btree_nodes.specs.Damages.{AreTold, AsksOnly};
 ghost use Rattle.rtree_shape.specs.Slots.{Item};
 ghost use Rattle.rtree_shape.specs.Stock.{view};
 ghost use Rattle.rtree_shape.specs.Loose.{Leads};
 ghost use Rattle.rtree_nodes.specs.Pages.{node_of};
+ghost use Rattle.rtree_find.specs.Ways.{IsWay};
 ghost use Rattle.node_rows.specs.Impacts.{impact_in};
 ghost use Rattle.irtree_shape.specs.Words.{worded};
 ghost use Rattle.irtree_shape.specs.Made.{nodes_in};
 ghost use Rattle.irtree_shape.specs.Whole.{level_at, IsWhole, IsFelled};
+ghost use Rattle.irtree_shape.specs.Damages.{IsTreeHarm};
 
 use crate::Orphan;
 use crate::lowering::lower_root;
@@ -33,19 +35,6 @@ fn level_of(path: &[u8]) -> Option<u8>
     Some((path.len() - 1) as u8)
 }
 
-// Whether nothing is left of a tree of which no node is. Items that were let go could stand below no root: a tree of which the root
-// has one child only isn't well formed.
-fn check_empty(root: u32, orphans: &[Orphan]) -> Result<(), PageFault>
-    ensures none { OnOk result (orphans.now ≡ []) }
-    ensures refuses { IfErr result (λ fault. (orphans.now ≢ []) × (fault ≡ PageFault.Damaged (record { page = root; rule = Rule.Fill }))) }
-{
-    if orphans.is_empty() {
-        Ok(())
-    } else {
-        Err(damaged(root, Rule::Fill))
-    }
-}
-
 // Takes the entry out, puts the items of dissolved nodes back, and lowers the root. After a refusal `tree` says nothing.
 fn remove_from<P: Pages>(
     alloc: Global,
@@ -64,6 +53,10 @@ fn remove_from<P: Pages>(
         → Leads (nodes_in node_of (P.pages pages.old) tree.old.rows) path.now (level_at (nodes_in node_of (P.pages pages.old) tree.old.rows) tree.old.root) tree.old.root (worded (impact_in words.now) x)
         → level ≡ level_at (nodes_in node_of (P.pages pages.old) tree.old.rows) tree.old.root → AreTold (P.pages pages.old) (P.count pages.old)
         → (damage : Damage) → result ≢ Err (PageFault.Damaged damage) }
+    ensures damaged { AreTold (P.pages pages.old) (P.count pages.old) → IsWay (P.pages pages.old) path.now level tree.old.root → (damage : Damage) → IsErrOf result (PageFault.Damaged damage)
+        → IsTreeHarm (P.pages pages.new) (P.count pages.new) (P.first pages.new) (P.asked pages.old) (P.asked pages.new) damage }
+    ensures told { AreTold (P.pages pages.old) (P.count pages.old) → OnOk result (AreTold (P.pages pages.new) (P.count pages.new)) }
+    ensures more { AreTold (P.pages pages.old) (P.count pages.old) → AsksOnly (λ _. 1) (P.asked pages.old) (P.asked pages.new) }
     ensures fails { FailsChanging P.Pages pages.old pages.new result }
     ensures frame { Changes P.Pages pages.old pages.new }
 {
@@ -82,8 +75,11 @@ fn remove_from<P: Pages>(
     ) {
         Ok(Some(_)) => {}
         Ok(None) => {
+            // No item was let go: they would stand below no root.
+            let is_none_left = orphans.is_empty();
+            prove!(is_none_left);
             tree.root = 0;
-            return check_empty(root, &orphans);
+            return Ok(());
         }
         Err(fault) => return Err(fault),
     }
@@ -100,9 +96,12 @@ fn remove_from<P: Pages>(
 /// words into nodes of their own level (Guttman 1984, `CondenseTree`), for
 /// which `policy` is asked where a node is split. An inner root of which one child is left gives way to it.
 ///
-/// Refuses `Damaged` with the rule that a page breaks, with `Value` at a page whose slot on the path isn't used, or with `Level` at the root if the path isn't
-/// as long as the tree has levels; `Disk`; `NoRoom`; `Stopped`; `Memory`. After a refusal `tree` is as before, and pages may have changed: they are to be
-/// abandoned. Reads one page a level and writes one at most. Costs two rows for each of the words a level, or a call of `refresh` above nodes that are
+/// Refuses `Damaged`: with `Level` at the root if the path has no slot or more than ten; at a page on the path, before anything is written, with `Link` if it
+/// isn't counted, with the first rule of a node's page that it breaks, with `Level` if it isn't of its level, so at the root if the path isn't as long as the tree
+/// has levels, with `Fill` if it is an inner node of one child, and with `Value` if its slot on the path isn't used; then as the rows' calls and `insert_at` do.
+/// Where the path leads down by the pages' bytes, the page that a damage names was asked for and breaks the rule as the call leaves it, or it is the first free
+/// page, which can't be taken. Refuses `Disk`; `NoRoom`; `Stopped`; `Memory`, too. After a refusal `tree` is as before, and pages may have changed: they are to be
+/// abandoned. Reads one page a level, decodes it once, and writes one at most. Costs two rows for each of the words a level, or a call of `refresh` above nodes that are
 /// dissolved, and an insertion for each item of a dissolved node.
 pub fn remove_at<P: Pages>(
     alloc: Global,
@@ -122,6 +121,11 @@ pub fn remove_at<P: Pages>(
         → Leads (nodes_in node_of (P.pages pages.old) tree.old.rows) path.now (level_at (nodes_in node_of (P.pages pages.old) tree.old.rows) tree.old.root) tree.old.root (worded (impact_in words.now) x)
         → length path.now ≡ suc (level_at (nodes_in node_of (P.pages pages.old) tree.old.rows) tree.old.root) → AreTold (P.pages pages.old) (P.count pages.old)
         → (damage : Damage) → result ≢ Err (PageFault.Damaged damage) }
+
+    // Over told pages, where the path leads down from the root by their bytes, a damage is of a page that was asked for, as the call leaves it, or of the take that was refused.
+    ensures damaged { (level : ℕ) → AreTold (P.pages pages.old) (P.count pages.old) → length path.now ≡ suc level → level ≤ 9 → IsWay (P.pages pages.old) path.now level tree.old.root → (damage : Damage) → IsErrOf result (PageFault.Damaged damage) → IsTreeHarm (P.pages pages.new) (P.count pages.new) (P.first pages.new) (P.asked pages.old) (P.asked pages.new) damage }
+    ensures told { AreTold (P.pages pages.old) (P.count pages.old) → OnOk result (AreTold (P.pages pages.new) (P.count pages.new)) }
+    ensures more { AreTold (P.pages pages.old) (P.count pages.old) → AsksOnly (λ _. 1) (P.asked pages.old) (P.asked pages.new) }
     ensures fails { FailsChanging P.Pages pages.old pages.new result }
     ensures frame { Changes P.Pages pages.old pages.new }
 {

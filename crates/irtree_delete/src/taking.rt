@@ -3,12 +3,14 @@ ghost use Rattle.std.specs.Prelude.{◌≡◌, ◌≢◌, ◌<◌, ◌≤◌, �
 ghost use Rattle.page_face.specs.Calls.{FailsChanging, Changes};
 ghost use Rattle.page_face.specs.Causes.{IsUncounted};
 ghost use Rattle.page_face.specs.declared.fault.Damage.{Damage};
-ghost use Rattle.btree_nodes.specs.Damages.{AreTold};
+ghost use Rattle.btree_nodes.specs.Damages.{AreTold, AsksOnly};
 ghost use Rattle.rtree_shape.specs.Slots.{Item, filled};
 ghost use Rattle.rtree_shape.specs.Stock.{view, plain};
 ghost use Rattle.rtree_shape.specs.Loose.{with_opt};
 ghost use Rattle.rtree_nodes.specs.Reach.{item_of, is_place};
 ghost use Rattle.rtree_nodes.specs.Pages.{level_in, is_form, slots_in, node_of};
+ghost use Rattle.rtree_find.specs.Ways.{IsWay};
+ghost use Rattle.node_rows.specs.Damages.{IsRowsHarm};
 ghost use Rattle.node_rows.specs.Rows.{IsRows, bytes_in};
 ghost use Rattle.node_rows.specs.Turns.{Turns};
 ghost use Rattle.node_rows.specs.Impacts.{impact_in, refreshed, top_at};
@@ -17,6 +19,7 @@ ghost use Rattle.irtree_shape.specs.Words.{worded};
 ghost use Rattle.irtree_shape.specs.Made.{nodes_in};
 ghost use Rattle.irtree_shape.specs.Loose.{IsTaking, TakesOut};
 ghost use Rattle.irtree_shape.specs.Steps.{crowned_in};
+ghost use Rattle.irtree_shape.specs.Damages.{IsLone, IsTreeHarm};
 ghost use Rattle.irtree_insert.specs.Fits.{Fits};
 ghost use Rattle.irtree_delete.specs.Clears.{KeepsWords};
 ghost use Rattle.irtree_delete.specs.Orphans.{loose_in, AreLow, IsChildOf, IsMisplaced, IsOffPath};
@@ -27,26 +30,41 @@ use crate::condensing::settle;
 use btree_nodes::damaged;
 use node_inverted::{Tree, refresh, renew};
 use page_face::{Page, PageFault, Pages, Rule};
-use rtree_nodes::{Slot, clear_slot, header, put_slot, slot_at};
+use rtree_nodes::{Node, Slot, clear_slot, count, put_slot, slot_at};
 use rtree_shape::{SLOTS, SLOTS_MIN};
 use spatial_base::Rect;
 use std::alloc::Global;
 
-/// Checks that a page is that of a node of this level: its kind, its mask and its level.
-pub(crate) fn check_level(page: u32, bytes: &Page, level: u8) -> Result<(), PageFault>
+// Whether a node of this level is an inner one of one child, which would choose nothing.
+fn is_lone(bytes: &Page, level: u8) -> bool
+    ensures lone { is_form bytes.now ≡ true → level ≡ level_in bytes.now → result ≡ true → IsLone bytes.now }
+    ensures several { is_form bytes.now ≡ true → result ≡ false → 0 < level → filled (slots_in bytes.now) ≢ 1 }
+{
+    level > 0 && count(bytes) == 1
+}
+
+// Checks a node whole, as it was read, so that nothing of it is refused once pages below it are written.
+//
+// Refuses the first rule of a node's page that the bytes break, as `Node::decode` does; `Level` if the node isn't of this level; `Fill` at an inner
+// node of one child. The node in memory stands in this call's frame alone.
+#[inline(never)]
+fn check_node(page: u32, bytes: &Page, level: u8) -> Result<(), PageFault>
+    ensures form { OnOk result (is_form bytes.now ≡ true) }
     ensures level { OnOk result (level ≡ level_in bytes.now) }
+    ensures several { OnOk result (0 < level → filled (slots_in bytes.now) ≢ 1) }
     ensures refuses { IfErr result (IsMisplaced page level bytes.now) }
 {
-    match header(bytes) {
-        Ok(head) => {
-            if head.level == level {
-                Ok(())
-            } else {
-                Err(damaged(page, Rule::Level))
-            }
-        }
-        Err(rule) => Err(damaged(page, rule)),
+    let node = match Node::decode(bytes) {
+        Ok(node) => node,
+        Err(rule) => return Err(damaged(page, rule)),
+    };
+    if node.level != level {
+        return Err(damaged(page, Rule::Level));
     }
+    if is_lone(bytes, level) {
+        return Err(damaged(page, Rule::Fill));
+    }
+    Ok(())
 }
 
 // What stands in a slot that a path names.
@@ -117,6 +135,10 @@ fn relink<P: Pages>(
         → OnOk result (Turns (plain (view (P.pages pages.old) tree.old.rows (P.count pages.old) (P.first pages.old) free)) tree.old.rows (P.pages pages.new) (P.count pages.new) (P.first pages.new) tree.new.rows (refreshed page at child (bytes_in (P.pages pages.old) tree.old.rows))) }
     ensures honest { (free : List ℕ) → IsRows (plain (view (P.pages pages.old) tree.old.rows (P.count pages.old) (P.first pages.old) free)) tree.old.rows → (page ≡ child → ⊥)
         → AreTold (P.pages pages.old) (P.count pages.old) → (damage : Damage) → result ≢ Err (PageFault.Damaged damage) }
+    ensures damaged { AreTold (P.pages pages.old) (P.count pages.old) → (damage : Damage) → IsErrOf result (PageFault.Damaged damage)
+        → IsRowsHarm (P.pages pages.new) (P.count pages.new) (P.first pages.new) (P.asked pages.old) (P.asked pages.new) damage }
+    ensures told { AreTold (P.pages pages.old) (P.count pages.old) → OnOk result (AreTold (P.pages pages.new) (P.count pages.new)) }
+    ensures more { AreTold (P.pages pages.old) (P.count pages.old) → AsksOnly (λ _. 1) (P.asked pages.old) (P.asked pages.new) }
     ensures root { tree.new.root ≡ tree.old.root }
     ensures fails { FailsChanging P.Pages pages.old pages.new result }
     ensures frame { Changes P.Pages pages.old pages.new }
@@ -134,8 +156,10 @@ fn relink<P: Pages>(
 /// above, or `None` if it had fewer than `least` slots left: then each of its items became an orphan with its words, its rows were dropped, and its page was given
 /// back. So it goes with each node below, of which 12 slots have to be left. The bytes of the child's slot are made those below the child again.
 ///
-/// Refuses `Damaged` with the rule that a page on the path breaks, with `Value` at a page whose slot on the path isn't used, or as the rows' calls do;
-/// `Disk`; `NoRoom`; `Stopped`; `Memory`. After a refusal some pages may be written, and `tree` says nothing. Reads one page a level, and writes
+/// Refuses `Damaged`: on the way down, before anything is written, with `Link` at a page that isn't counted, with the first rule that a page breaks as
+/// `Node::decode` has it, with `Level` at a node that isn't of its level, with `Fill` at an inner node of one child, and with `Value` at a node whose slot on the
+/// path isn't used; then as the rows' calls do. Refuses `Disk`; `NoRoom`; `Stopped`; `Memory`, too. After a refusal some pages may be written, and `tree` says
+/// nothing. Reads one page a level and decodes it once, and writes
 /// one a level at most: a node of which neither the slots nor the rectangle changed isn't written. Costs a call of
 /// `set_impact` for each of the words at the leaf; a call of `renew` a level above, or of `refresh` where nodes were dissolved below; and a call of
 /// `take_rows` for each node that is dissolved.
@@ -165,12 +189,19 @@ pub fn take_out<P: Pages>(
     ensures stays { least < filled (slots_in (P.pages pages.old page)) → IfOk result IsSome }
     ensures level_is { 0 < filled (slots_in (P.pages pages.old page)) → OnOk result (level ≡ level_in (P.pages pages.old page)) }
     ensures low { (top : ℕ) → level ≤ top → AreLow top (loose_in orphans.old.items) → OnOk result (AreLow top (loose_in orphans.new.items)) }
-    ensures told { (free : List ℕ) (x : Item) → IsTaking node_of (view (P.pages pages.old) tree.old.rows (P.count pages.old) (P.first pages.old) free) least level page path.now (worded (impact_in words.now) x) (loose_in orphans.old.items)
-        → AreTold (P.pages pages.old) (P.count pages.old) → OnOk result (AreTold (P.pages pages.new) (P.count pages.new)) }
 
-    // On a well-formed tree whose pages are told no page is damaged.
+    // Where one slot has to be left and none was, nothing was let go.
+    ensures gone { least ≡ 1 → IfOk result (λ left. left ≡ None → length orphans.new.items ≡ length orphans.old.items) }
+    ensures told { AreTold (P.pages pages.old) (P.count pages.old) → OnOk result (AreTold (P.pages pages.new) (P.count pages.new)) }
+
+    // On a well-formed tree whose pages are told no page is damaged, unless the node itself is an inner one of one child.
     ensures honest { (free : List ℕ) (x : Item) → IsTaking node_of (view (P.pages pages.old) tree.old.rows (P.count pages.old) (P.first pages.old) free) least level page path.now (worded (impact_in words.now) x) (loose_in orphans.old.items)
-        → AreTold (P.pages pages.old) (P.count pages.old) → (damage : Damage) → result ≢ Err (PageFault.Damaged damage) }
+        → (0 < level → filled (slots_in (P.pages pages.old page)) ≢ 1) → AreTold (P.pages pages.old) (P.count pages.old) → (damage : Damage) → result ≢ Err (PageFault.Damaged damage) }
+
+    // Over told pages, where the path leads down by their bytes, a damage is of a page that was asked for, as the call leaves it, or of the take that was refused.
+    ensures damaged { AreTold (P.pages pages.old) (P.count pages.old) → IsWay (P.pages pages.old) path.now level page → (damage : Damage) → IsErrOf result (PageFault.Damaged damage)
+        → IsTreeHarm (P.pages pages.new) (P.count pages.new) (P.first pages.new) (P.asked pages.old) (P.asked pages.new) damage }
+    ensures more { AreTold (P.pages pages.old) (P.count pages.old) → AsksOnly (λ _. 1) (P.asked pages.old) (P.asked pages.new) }
     ensures root { tree.new.root ≡ tree.old.root }
     ensures fails { FailsChanging P.Pages pages.old pages.new result }
     ensures frame { Changes P.Pages pages.old pages.new }
@@ -180,7 +211,7 @@ pub fn take_out<P: Pages>(
         Err(fault) => return Err(fault),
     }
     let mut bytes = *pages.looked();
-    match check_level(page, &bytes, level) {
+    match check_node(page, &bytes, level) {
         Ok(()) => {}
         Err(fault) => return Err(fault),
     }

@@ -4,9 +4,11 @@ use Rattle.std.proofs.lemmas.Result.{err_from_is_err_and}
 use Rattle.page_face.specs.declared.fault.PageFault.TheVariants.{Damaged}
 use Rattle.page_face.proofs.Frames.{changes_then}
 use Rattle.btree_nodes.specs.Supply.{View, view}
+use Rattle.btree_nodes.proofs.Harms.{asks-further, asks-nothing}
 use Rattle.node_rows.specs.Rows.{Bytes, bytes_in}
 use Rattle.node_rows.specs.Impacts.{with_byte}
 use Rattle.node_inverted.specs.Refreshing.{on_words}
+use Rattle.node_rows.proofs.Harms.{harm-later}
 use Rattle.node_rows.proofs.Turned.{turns-same, turns-as, turns-further}
 use Rattle.node_rows.proofs.Told.{told-turned}
 use Rattle.node_rows.proofs.Faults.{changes-none}
@@ -18,6 +20,8 @@ pub loop-pair-init : goal.loop-pair-init
 loop-pair-init g c = record {
   root = refl;
   turns = λ free rows. turns-same (view (g.P.Pages.pages c.args.pages.now) (g.P.Pages.count c.args.pages.now) (g.P.Pages.first c.args.pages.now) free) c.args.tree.now.rows rows;
+  told = λ t. t;
+  more = λ t. asks-nothing (λ _. 1) (g.P.Pages.asked c.args.pages.now) (g.P.Pages.asked c.args.pages.now) refl;
   frame = changes-none g.P.Pages c.args.pages.now (g.met.P.Pages.stays c.args.pages.now);
 }
 
@@ -41,6 +45,8 @@ loop-pair-preserved g c = record {
       (λ n w i. cleared-next c.args.node c.args.slot b now front turn.is p n w i
       ∙ ap (λ (ps : List (ℕ × ℕ)). on_words ps f b n w i) (sym (take_more c.args.words.now c.loop-pair.pair-index (0, 0) l)))
       (c.in_ok-set_impact.ensures.turns turn.free turn.rows));
+  told = λ t. c.in_ok-set_impact.ensures.told (c.loop-pair.invariant.told t);
+  more = λ t. asks-further (λ _. 1) _ _ _ (c.loop-pair.invariant.more t) (c.set_impact.ensures.more (c.loop-pair.invariant.told t));
   frame = changes_then g.P.Pages g.met.P.Pages.goes_further _ _ _ c.loop-pair.invariant.frame c.set_impact.ensures.frame;
 }
 
@@ -53,3 +59,14 @@ returns-in_err-set_impact-clause-honest g c free rows told damage =
     λ e. (let same : c.in_err-set_impact.field-0.0 ≡ Damaged damage = cc (p.1, p.2, e) in
     c.in_err-set_impact.ensures.honest turn.free turn.rows (told-turned before c.args.tree.now.rows (g.P.Pages.pages c.loop-pair.pages) (g.P.Pages.count c.loop-pair.pages) (g.P.Pages.first c.loop-pair.pages) c.loop-pair.changed.rows
     (on_words (take c.loop-pair.pair-index c.args.words.now) (cleared c.args.node c.args.slot b) b) turn told) damage (ap Err same))
+
+pub returns-in_err-set_impact-clause-damaged : goal.returns-in_err-set_impact-clause-damaged
+returns-in_err-set_impact-clause-damaged g c = λ told damage.
+    let p = g.P.Pages in
+    let r = err_from_is_err_and c.from_residual.result c.from_residual.ensures.1 in
+    λ e. (let same : c.in_err-set_impact.field-0.0 ≡ Damaged damage = cc (r.1, r.2, e) in
+    harm-later (λ _. 1) (p.pages c.set_impact.new.pages) (p.count c.set_impact.new.pages) (p.first c.set_impact.new.pages) (p.asked c.args.pages.now) (p.asked c.loop-pair.pages) (p.asked c.set_impact.new.pages) damage
+    (c.loop-pair.invariant.more told) (c.in_err-set_impact.ensures.damaged (c.loop-pair.invariant.told told) damage (ap Err same)))
+
+pub returns-in_err-set_impact-clause-more : goal.returns-in_err-set_impact-clause-more
+returns-in_err-set_impact-clause-more g c = λ told. asks-further (λ _. 1) _ _ _ (c.loop-pair.invariant.more told) (c.set_impact.ensures.more (c.loop-pair.invariant.told told))

@@ -1,14 +1,18 @@
-use Rattle.std.proofs.Common.{◌≡◌, ℕ, List, ap, ◌∙◌, subst, sym, Err, true≢false}
+use Rattle.std.proofs.Common.{◌≡◌, ◌+◌, ℕ, List, ap, ◌∙◌, subst, refl, sym, Err, true≢false, arith}
 use Rattle.std.proofs.lemmas.Result.{err_from_is_err_and}
 use Rattle.page_face.specs.declared.fault.PageFault.TheVariants.{Damaged}
-use Rattle.rtree_shape.specs.Stock.{View, view, plain}
+use Rattle.rtree_shape.specs.Slots.{filled, one}
+use Rattle.rtree_shape.specs.Stock.{View, view}
+use Rattle.rtree_shape.specs.Loose.{total_loose}
+use Rattle.rtree_nodes.specs.Pages.{stored_in}
 use Rattle.node_rows.specs.Rows.{bytes_in}
-use Rattle.node_rows.specs.Turns.{dropped}
 use Rattle.node_inverted.specs.Lifts.{lifted_at}
 use Rattle.node_inverted.specs.declared.taking.NodeRow.{NodeRow}
-use Rattle.node_rows.proofs.Told.{told-turned}
-use Rattle.irtree_delete.specs.Orphans.{IsUnread}
+use Rattle.irtree_shape.specs.Words.{words_on}
+use Rattle.irtree_shape.proofs.Words.{words-filled}
+use Rattle.irtree_delete.specs.Orphans.{IsUnread, loose_in}
 use Rattle.irtree_delete.proofs.Dissolves.{moves-dropped, dropped-none}
+use Rattle.irtree_delete.proofs.Keeps.{loose-many}
 use Rattle.irtree_delete.proofs.condensing.dissolve.Goals as goal
 
 pub returns-clause-dissolved : goal.returns-clause-dissolved
@@ -25,12 +29,6 @@ returns-clause-dissolved g c = λ free supplied unused.
       items = λ nodes e all. c.in_ok-let_all_go.ensures.items nodes b lifted e all;
     }
 
-pub returns-clause-told : goal.returns-clause-told
-returns-clause-told g c = λ free rows told.
-    let v : View = view (g.P.Pages.pages c.args.pages.now) c.args.tree.now.rows (g.P.Pages.count c.args.pages.now) (g.P.Pages.first c.args.pages.now) free in
-    let taken = c.in_ok-rows.ensures.taken free rows in
-    told-turned (plain v) v.rows (g.P.Pages.pages c.take_rows.new.pages) (g.P.Pages.count c.take_rows.new.pages) (g.P.Pages.first c.take_rows.new.pages) c.take_rows.new.tree.rows (dropped c.args.page (bytes_in v.pages v.rows)) taken.turn told
-
 pub returns-in_err-rows-clause-honest : goal.returns-in_err-rows-clause-honest
 returns-in_err-rows-clause-honest g c = λ free rows told form damage e.
     let p = err_from_is_err_and c.from_residual.result c.from_residual.ensures.1 in
@@ -43,3 +41,26 @@ returns-in_err-let_all_go-clause-honest g c = λ free rows told form damage e.
     let same : c.in_err-let_all_go.field-0.0 ≡ Damaged damage = cc (p.1, p.2, e) in
     let unread = subst (IsUnread c.args.page c.args.bytes.now) same c.in_err-let_all_go.ensures.refuses in
     true≢false (sym form ∙ unread.1)
+
+pub returns-clause-many : goal.returns-clause-many
+returns-clause-many g c =
+    let b : ℕ → ℕ → ℕ = λ w i. lifted_at c.deref.result.now w i in
+    let grew : total_loose (λ l y. one y) (loose_in c.let_all_go.new.orphans.items) ≡ total_loose (λ l y. one y) (loose_in c.args.orphans.now.items) + filled (words_on b (stored_in c.args.bytes.now))
+    = c.in_ok-let_all_go.ensures.sums (λ l y. one y) b (λ w i. refl) in
+    let n = loose-many c.let_all_go.new.orphans.items in
+    let o = loose-many c.args.orphans.now.items in
+    let w = words-filled b (stored_in c.args.bytes.now) in
+    omega arith
+
+pub returns-in_err-rows-clause-damaged : goal.returns-in_err-rows-clause-damaged
+returns-in_err-rows-clause-damaged g c = λ form told damage e.
+    let p = err_from_is_err_and c.from_residual.result c.from_residual.ensures.1 in
+    let same : c.in_err-rows.field-0.0 ≡ Damaged damage = cc (p.1, p.2, e) in
+    c.in_err-rows.ensures.damaged told damage (ap Err same)
+
+pub returns-in_err-let_all_go-clause-damaged : goal.returns-in_err-let_all_go-clause-damaged
+returns-in_err-let_all_go-clause-damaged g c = λ form told damage e.
+    let p = err_from_is_err_and c.from_residual-in_err-let_all_go.result c.from_residual-in_err-let_all_go.ensures.1 in
+    let same : c.in_err-let_all_go.field-0.0 ≡ Damaged damage = cc (p.1, p.2, e) in
+    let unread = subst (IsUnread c.args.page c.args.bytes.now) same c.in_err-let_all_go.ensures.refuses in
+    absurd (true≢false (sym form ∙ unread.1))

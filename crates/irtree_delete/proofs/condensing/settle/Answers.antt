@@ -1,8 +1,10 @@
-use Rattle.std.proofs.Common.{◌≡◌, ◌≤◌, ◌<◌, ◌+◌, ◌∙◌, ℕ, List, ◌∷◌, length, arith, ap, refl, subst, sym}
+use Rattle.std.proofs.Common.{◌≡◌, ◌≤◌, ◌<◌, ◌+◌, ◌∙◌, ℕ, List, ◌∷◌, length, Option, Err, arith, ap, refl, subst, sym, true≢false, inl, inr}
 use Rattle.page_face.specs.FreeList.{PageMap}
 use Rattle.btree_nodes.specs.Damages.{AreTold}
 use Rattle.btree_nodes.specs.Supply.{one_at}
+use Rattle.btree_nodes.proofs.Harms.{asks-further, asks-nothing}
 use Rattle.btree_nodes.proofs.Supplies.{none}
+use Rattle.btree_nodes.proofs.Walks.{same-fault}
 use Rattle.btree_delete.proofs.Gives.{page-some}
 use Rattle.rtree_shape.specs.Slots.{Item, Slots, NodeView, one, filled, amount, Each}
 use Rattle.rtree_shape.specs.Trees.{IsItem}
@@ -10,6 +12,7 @@ use Rattle.rtree_shape.specs.Stock.{View, view}
 use Rattle.rtree_shape.specs.Loose.{Loose, total_loose}
 use Rattle.rtree_nodes.specs.Pages.{node_of, slots_in, stored_in}
 use Rattle.rtree_nodes.specs.Reach.{child_item}
+use Rattle.rtree_nodes.specs.declared.content.Slot.{Slot}
 use Rattle.rtree_nodes.proofs.Formed.{form-slots}
 use Rattle.node_rows.specs.Rows.{bytes_in}
 use Rattle.irtree_shape.specs.Words.{joined, words_on}
@@ -113,8 +116,47 @@ returns-in-Ok-give_back-clause-others g c = λ free form ready unchanged.
     (gone.sums (λ l y. one y) ∙ ap (λ (s : Slots). total_loose (λ l y. one y) loose + amount one (words_on (bytes_in old rows page) s)) (sym slots_are))
 
 pub returns-in-Ok-give_back-clause-told : goal.returns-in-Ok-give_back-clause-told
-returns-in-Ok-give_back-clause-told g c = λ free rows told.
+returns-in-Ok-give_back-clause-told g c = λ told.
     let new : PageMap = g.P.Pages.pages c.give_back.new.self in
     let gave = c.in-Ok-give_back.ensures in
     subst (AreTold new) (sym gave.count)
-    (told-given (g.P.Pages.pages c.dissolve.new.pages) new c.args.page (g.P.Pages.count c.dissolve.new.pages) gave.freed.0 gave.others (c.in-Ok-dissolve.ensures.told free rows told))
+    (told-given (g.P.Pages.pages c.dissolve.new.pages) new c.args.page (g.P.Pages.count c.dissolve.new.pages) gave.freed.0 gave.others (c.in-Ok-dissolve.ensures.told told))
+
+pub returns-in-Ok-give_back-clause-gone : goal.returns-in-Ok-give_back-clause-gone
+returns-in-Ok-give_back-clause-gone g c = λ form none. (
+  let a = c.count.ensures.filled form in let b = c.if-count-least.false in omega arith,
+  c.in-Ok-dissolve.ensures.many ∙ ap (λ (s : Slots). length c.args.orphans.now.items + filled s) (sym (form-slots c.args.bytes.now form)),
+)
+
+-- a node's slots have a rectangle
+pub returns-in-Err-clause-damaged : goal.returns-in-Err-clause-damaged
+returns-in-Err-clause-damaged g c = λ form told damage e. absurd (true≢false (sym (c.in-Err.ensures.ok form)))
+
+pub returns-in-Err-clause-more : goal.returns-in-Err-clause-more
+returns-in-Err-clause-more g c = λ told. asks-nothing (λ _. 1) _ _ refl
+
+pub returns-in-Err-write_changed-clause-damaged : goal.returns-in-Err-write_changed-clause-damaged
+returns-in-Err-write_changed-clause-damaged g c = λ form told damage e. absurd (c.in-Err-write_changed.ensures.sound damage (ap Err (same-fault {T = Option Slot} _ _ e)))
+
+pub returns-in-Err-write_changed-clause-more : goal.returns-in-Err-write_changed-clause-more
+returns-in-Err-write_changed-clause-more g c = λ told. asks-nothing (λ _. 1) _ _ c.write_changed.ensures.frame.asked
+
+pub returns-in-Ok-write_changed-clause-more : goal.returns-in-Ok-write_changed-clause-more
+returns-in-Ok-write_changed-clause-more g c = λ told. asks-nothing (λ _. 1) _ _ c.write_changed.ensures.frame.asked
+
+pub returns-in-Err-dissolve-clause-damaged : goal.returns-in-Err-dissolve-clause-damaged
+returns-in-Err-dissolve-clause-damaged g c = λ form told damage e. c.in-Err-dissolve.ensures.damaged form told damage (ap Err (same-fault {T = Option Slot} _ _ e))
+
+-- the page is counted still
+pub returns-in-Err-give_back-clause-damaged : goal.returns-in-Err-give_back-clause-damaged
+returns-in-Err-give_back-clause-damaged g c = λ form told damage e.
+    let d = c.in-Err-give_back.ensures.damaged damage (ap Err (same-fault {T = Option Slot} _ _ e)) in
+    let counted = page-some (g.P.Pages.count c.args.pages.now) c.args.page c.requires.page in
+    let more = c.in-Ok-dissolve.ensures.frame.count in
+    elim d.1 [ inl z ↦ absurd (omega arith) | inr l ↦ absurd (omega arith) ]
+
+pub returns-in-Err-give_back-clause-more : goal.returns-in-Err-give_back-clause-more
+returns-in-Err-give_back-clause-more g c = λ told. asks-further (λ _. 1) _ _ _ (c.dissolve.ensures.more told) (asks-nothing (λ _. 1) _ _ c.give_back.ensures.asked)
+
+pub returns-in-Ok-give_back-clause-more : goal.returns-in-Ok-give_back-clause-more
+returns-in-Ok-give_back-clause-more g c = λ told. asks-further (λ _. 1) _ _ _ (c.dissolve.ensures.more told) (asks-nothing (λ _. 1) _ _ c.give_back.ensures.asked)

@@ -1,10 +1,13 @@
-use Rattle.std.proofs.Common.{arith, ◌≡◌, ◌<◌, ◌≤◌, ◌-◌, ◌∙◌, ℕ, suc, List, [], ◌∷◌, Option, Err, MatchOption, refl, ap, sym, subst}
+use Rattle.std.proofs.Common.{arith, ◌≡◌, ◌<◌, ◌≤◌, ◌-◌, ◌∙◌, ℕ, suc, List, [], ◌∷◌, Option, Result, Err, MatchOption, refl, ap, sym, subst, inl, inr}
 use Rattle.page_face.specs.FreeList.{PageMap}
-use Rattle.btree_nodes.specs.Damages.{AreTold}
+use Rattle.page_face.specs.Causes.{asked_after}
+use Rattle.page_face.specs.declared.fault.PageFault.{PageFault}
+use Rattle.btree_nodes.specs.Damages.{AreTold, AsksOnly}
 use Rattle.btree_nodes.specs.Supply as supply
 use Rattle.btree_nodes.specs.Supply.{one_at}
 use Rattle.btree_nodes.proofs.Supplies.{none}
-use Rattle.btree_nodes.proofs.Walks.{same-fault}
+use Rattle.btree_nodes.proofs.Harms.{asks-here, asks-further, asks-nothing}
+use Rattle.btree_nodes.proofs.Walks.{same-fault, asks-read}
 use Rattle.btree_delete.proofs.Gives.{page-some}
 use Rattle.rtree_shape.specs.Slots.{filled}
 use Rattle.rtree_shape.specs.Trees.{root_least}
@@ -13,6 +16,7 @@ use Rattle.rtree_nodes.specs.Pages.{node_of, slots_in, level_in}
 use Rattle.rtree_nodes.proofs.Bounding.{some-form}
 use Rattle.node_rows.specs.Rows.{IsRows, bytes_in}
 use Rattle.node_rows.specs.Turns.{Turns, dropped}
+use Rattle.node_rows.proofs.Harms.{harm-later}
 use Rattle.node_rows.proofs.Turned.{view-same as supply-same}
 use Rattle.irtree_shape.specs.Words.{joined_item}
 use Rattle.irtree_shape.specs.Stock.{Moves}
@@ -22,9 +26,10 @@ use Rattle.irtree_shape.specs.Whole.{tree_uses, IsFelled}
 use Rattle.irtree_shape.proofs.Stocks.{moves-give, moves-further}
 use Rattle.irtree_shape.proofs.Words.{words-filled}
 use Rattle.irtree_shape.proofs.Fells.{felled_same, felled_child}
-use Rattle.irtree_delete.specs.Orphans.{IsMisplaced, IsOnlyChild}
+use Rattle.irtree_delete.specs.Orphans.{IsHeadless, IsOnlyChild}
 use Rattle.irtree_delete.proofs.Dissolves.{moves-dropped, dropped-none}
-use Rattle.irtree_delete.proofs.Forms.{form-told, in-place}
+use Rattle.irtree_delete.proofs.Forms.{form-told, has-head, told-given}
+use Rattle.irtree_delete.proofs.Harms.{looked-counted, link-harm, head-harm}
 use Rattle.irtree_delete.proofs.Lowers.{joined-alone, joined-there}
 use Rattle.irtree_delete.proofs.Takes.{standing-some, standing-level, standing-counted, standing-unused}
 use Rattle.irtree_delete.proofs.lowering.lower_root.Goals as goal
@@ -43,8 +48,8 @@ returns-in-Err-only_child-clause-honest g c = λ before free level mine sums sta
     let root : ℕ = c.args.tree.now.root in
     let some = standing-some before old c.args.tree.now.rows (g.P.Pages.count c.args.pages.now) (g.P.Pages.first c.args.pages.now) level root free [] mine sums start standing in
     let seen : c.looked.result.now ≡ old root = c.looked.ensures ∙ c.in-Ok.ensures.gives (form-told (old root) (some-form (old root) some)) in
-    in-place root (level_in c.looked.result.now) c.looked.result.now damage (subst (λ (b : List ℕ). 0 < filled (slots_in b)) (sym seen) some) refl
-    (subst (IsMisplaced root (level_in c.looked.result.now) c.looked.result.now) (same-fault {T = Unit {0}} _ _ e) c.in-Err-only_child.ensures.refuses)
+    has-head root c.looked.result.now damage (subst (λ (b : List ℕ). 0 < filled (slots_in b)) (sym seen) some)
+    (subst (IsHeadless root c.looked.result.now) (same-fault {T = Unit {0}} _ _ e) c.in-Err-only_child.ensures.refuses)
 
 -- its rows aren't dropped
 pub returns-in-Err-drop_node-clause-honest : goal.returns-in-Err-drop_node-clause-honest
@@ -121,3 +126,91 @@ returns-in-Ok-give_back-clause-lowered g c = λ before free level old_root x sum
     (felled_child node_of before now l root old_root x sums start standing' less only.at (joined_item (bytes_in old rows root) only.at only.item)
     (joined-alone (bytes_in old rows root) (slots_in (old root)) only.alone) (joined-there (bytes_in old rows root) (slots_in (old root)) only.at only.item only.there)
     new mid_rows (g.P.Pages.count c.give_back.new.self) (g.P.Pages.first c.give_back.new.self) (root ∷ turn.free) (moves-further dropped-moves given'))
+
+-- the root isn't lent
+pub returns-in-Err-clause-damaged : goal.returns-in-Err-clause-damaged
+returns-in-Err-clause-damaged g c = λ told damage e.
+    let p = g.P.Pages in
+    let root : ℕ = c.args.tree.now.root in
+    let r = c.in-Err.is ∙ ap Err (same-fault {T = Unit {0}} _ _ e) in
+    let d = c.look.ensures.damaged damage r in
+    link-harm (p.pages c.args.pages.now) (p.pages c.look.new.self) (p.count c.args.pages.now) (p.count c.look.new.self) (p.first c.look.new.self) (p.asked c.args.pages.now) (p.asked c.look.new.self) root damage
+    c.look.ensures.pages c.look.ensures.count (c.look.ensures.asked ∙ ap (λ (x : Result (Unit {0}) PageFault). asked_after x root (p.asked c.args.pages.now)) r) d.0 d.1
+
+pub returns-in-Err-clause-more : goal.returns-in-Err-clause-more
+returns-in-Err-clause-more g c = λ told.
+    let p = g.P.Pages in
+    subst (λ (xs : List ℕ). AsksOnly (λ _. 1) (p.asked c.args.pages.now) xs) (sym c.look.ensures.asked)
+    (asks-read (λ _. 1) (p.asked c.args.pages.now) (p.asked c.args.pages.now) c.args.tree.now.root c.look.result (asks-nothing (λ _. 1) (p.asked c.args.pages.now) (p.asked c.args.pages.now) refl) (omega arith))
+
+-- it isn't a node's page
+pub returns-in-Err-only_child-clause-damaged : goal.returns-in-Err-only_child-clause-damaged
+returns-in-Err-only_child-clause-damaged g c = λ told damage e.
+    let p = g.P.Pages in
+    let root : ℕ = c.args.tree.now.root in
+    let read = c.in-Ok.ensures in
+    head-harm (p.pages c.args.pages.now) (p.pages c.look.new.self) (p.count c.args.pages.now) (p.count c.look.new.self) (p.first c.look.new.self) (p.asked c.args.pages.now) (p.asked c.look.new.self) root damage
+    read.pages read.count read.asked c.looked.result.now (λ some. c.looked.ensures ∙ read.gives some)
+    (subst (IsHeadless root c.looked.result.now) (same-fault {T = Unit {0}} _ _ e) c.in-Err-only_child.ensures.refuses)
+
+pub returns-in-Err-only_child-clause-more : goal.returns-in-Err-only_child-clause-more
+returns-in-Err-only_child-clause-more g c = λ told. asks-here (λ _. 1) _ _ c.args.tree.now.root (omega arith) c.in-Ok.ensures.asked
+
+-- its rows aren't dropped
+pub returns-in-Err-drop_node-clause-damaged : goal.returns-in-Err-drop_node-clause-damaged
+returns-in-Err-drop_node-clause-damaged g c = λ told damage e.
+    let p = g.P.Pages in
+    let read = c.in-Ok.ensures in
+    let told-look : AreTold (p.pages c.look.new.self) (p.count c.look.new.self) = rw (read.pages, read.count) told in
+    inr (harm-later (λ _. 1) (p.pages c.drop_node.new.pages) (p.count c.drop_node.new.pages) (p.first c.drop_node.new.pages) (p.asked c.args.pages.now) (p.asked c.look.new.self) (p.asked c.drop_node.new.pages) damage
+    (asks-here (λ _. 1) _ _ c.args.tree.now.root (omega arith) read.asked)
+    (c.in-Err-drop_node.ensures.damaged told-look damage (ap Err (same-fault {T = Unit {0}} _ _ e))))
+
+pub returns-in-Err-drop_node-clause-more : goal.returns-in-Err-drop_node-clause-more
+returns-in-Err-drop_node-clause-more g c = λ told.
+    let p = g.P.Pages in
+    let read = c.in-Ok.ensures in
+    let told-look : AreTold (p.pages c.look.new.self) (p.count c.look.new.self) = rw (read.pages, read.count) told in
+    asks-further (λ _. 1) _ _ _ (asks-here (λ _. 1) _ _ c.args.tree.now.root (omega arith) read.asked) (c.drop_node.ensures.more told-look)
+
+-- the root stays
+pub returns-in-Ok-None-clause-told : goal.returns-in-Ok-None-clause-told
+returns-in-Ok-None-clause-told g c = λ told. let read = c.in-Ok.ensures in rw (read.pages, read.count) told
+
+pub returns-in-Ok-None-clause-more : goal.returns-in-Ok-None-clause-more
+returns-in-Ok-None-clause-more g c = λ told. asks-here (λ _. 1) _ _ c.args.tree.now.root (omega arith) c.in-Ok.ensures.asked
+
+-- it is given back
+pub returns-in-Err-give_back-clause-damaged : goal.returns-in-Err-give_back-clause-damaged
+returns-in-Err-give_back-clause-damaged g c = λ told damage e.
+    let count : ℕ = g.P.Pages.count c.args.pages.now in
+    let root : ℕ = c.args.tree.now.root in
+    let read = c.in-Ok.ensures in
+    let d = c.in-Err-give_back.ensures.damaged damage (ap Err (same-fault {T = Unit {0}} _ _ e)) in
+    let counted = page-some count root (looked-counted count root read.uncounted) in
+    let same = read.count in
+    let more = c.in-Ok-drop_node.ensures.frame.count in
+    elim d.1 [ inl z ↦ absurd (omega arith) | inr l ↦ absurd (omega arith) ]
+
+pub returns-in-Err-give_back-clause-more : goal.returns-in-Err-give_back-clause-more
+returns-in-Err-give_back-clause-more g c = λ told.
+    let p = g.P.Pages in
+    let read = c.in-Ok.ensures in
+    let told-look : AreTold (p.pages c.look.new.self) (p.count c.look.new.self) = rw (read.pages, read.count) told in
+    asks-further (λ _. 1) _ _ _ (asks-further (λ _. 1) _ _ _ (asks-here (λ _. 1) _ _ c.args.tree.now.root (omega arith) read.asked) (c.drop_node.ensures.more told-look)) (asks-nothing (λ _. 1) _ _ c.give_back.ensures.asked)
+
+pub returns-in-Ok-give_back-clause-told : goal.returns-in-Ok-give_back-clause-told
+returns-in-Ok-give_back-clause-told g c = λ told.
+    let p = g.P.Pages in
+    let read = c.in-Ok.ensures in
+    let gave = c.in-Ok-give_back.ensures in
+    let told-look : AreTold (p.pages c.look.new.self) (p.count c.look.new.self) = rw (read.pages, read.count) told in
+    subst (AreTold (p.pages c.give_back.new.self)) (sym gave.count)
+    (told-given (p.pages c.drop_node.new.pages) (p.pages c.give_back.new.self) c.args.tree.now.root (p.count c.drop_node.new.pages) gave.freed.0 gave.others (c.in-Ok-drop_node.ensures.told told-look))
+
+pub returns-in-Ok-give_back-clause-more : goal.returns-in-Ok-give_back-clause-more
+returns-in-Ok-give_back-clause-more g c = λ told.
+    let p = g.P.Pages in
+    let read = c.in-Ok.ensures in
+    let told-look : AreTold (p.pages c.look.new.self) (p.count c.look.new.self) = rw (read.pages, read.count) told in
+    asks-further (λ _. 1) _ _ _ (asks-further (λ _. 1) _ _ _ (asks-here (λ _. 1) _ _ c.args.tree.now.root (omega arith) read.asked) (c.drop_node.ensures.more told-look)) (asks-nothing (λ _. 1) _ _ c.give_back.ensures.asked)

@@ -1,5 +1,6 @@
-use Rattle.std.proofs.Common.{◌≡◌, ℕ, List, [], ◌∷◌, ◌++◌, Err, ap, sym, subst, rules}
+use Rattle.std.proofs.Common.{◌≡◌, ℕ, List, [], ◌∷◌, ◌++◌, Err, ap, refl, sym, subst, rules}
 use Rattle.page_face.proofs.Frames.{changes_then}
+use Rattle.btree_nodes.proofs.Harms.{asks-further, asks-nothing}
 use Rattle.btree_nodes.proofs.Walks.{same-fault}
 use Rattle.rtree_shape.specs.Slots.{Item}
 use Rattle.rtree_shape.specs.Stock.{view, View}
@@ -7,8 +8,10 @@ use Rattle.rtree_shape.specs.Loose.{Loose}
 use Rattle.rtree_nodes.specs.Pages.{node_of}
 use Rattle.rtree_nodes.specs.Reach.{item_of}
 use Rattle.node_rows.specs.Impacts.{impact_in}
+use Rattle.node_rows.proofs.Faults.{changes-none}
 use Rattle.irtree_shape.specs.Words.{worded}
 use Rattle.irtree_shape.specs.Loose.{IsStanding}
+use Rattle.irtree_shape.proofs.Harms.{tree-later}
 use Rattle.irtree_shape.proofs.Replants.{standing_popped}
 use Rattle.irtree_delete.specs.declared.orphan.Orphan.{Orphan}
 use Rattle.irtree_delete.specs.Orphans.{loose_of, loose_in}
@@ -24,9 +27,19 @@ popped before now level root xs rest o words mine sums is same h =
     let p = subst (λ (os : List Orphan). IsStanding node_of before now level root (loose_in os) mine sums) is h in
     standing_popped node_of before now level root (loose_in rest) (loose_of o) mine sums (subst (λ (os : Loose). IsStanding node_of before now level root os mine sums) (push-loose rest o) p))
 
+pub loop-orphan-init : goal.loop-orphan-init
+loop-orphan-init g c = record {
+  frame = changes-none g.P.Pages c.args.pages.now (g.met.P.Pages.stays c.args.pages.now);
+  told = λ t. t;
+  more = λ t. asks-nothing (λ _. 1) (g.P.Pages.asked c.args.pages.now) (g.P.Pages.asked c.args.pages.now) refl;
+  standing = λ before free level mine sums start st. record { free = free; level = level; standing = st };
+}
+
 pub loop-orphan-preserved : goal.loop-orphan-preserved
 loop-orphan-preserved g c = record {
   frame = changes_then g.P.Pages g.met.P.Pages.goes_further _ _ _ c.loop-orphan.invariant.frame c.in-Ok.ensures.frame;
+  told = λ t. c.in-Ok.ensures.told (c.loop-orphan.invariant.told t);
+  more = λ t. asks-further (λ _. 1) _ _ _ (c.loop-orphan.invariant.more t) (c.in-Ok.ensures.more (c.loop-orphan.invariant.told t));
   standing = λ before free level mine sums start st.
       let h = c.loop-orphan.invariant.standing before free level mine sums start st in
       let now : View = view (g.P.Pages.pages c.loop-orphan.pages) c.loop-orphan.tree.rows (g.P.Pages.count c.loop-orphan.pages) (g.P.Pages.first c.loop-orphan.pages) h.free in
@@ -49,3 +62,12 @@ returns-clause-standing g c = λ before free level mine sums start st.
     let now : View = view (g.P.Pages.pages c.loop-orphan.pages) c.loop-orphan.tree.rows (g.P.Pages.count c.loop-orphan.pages) (g.P.Pages.first c.loop-orphan.pages) h.free in
     let none : c.loop-orphan.orphans.items ≡ [] = search rules in
     record { free = h.free; level = h.level; standing = subst (λ (xs : List Orphan). IsStanding node_of before now h.level c.loop-orphan.tree.root (loose_in xs) mine sums) none h.standing }
+
+pub returns-in-Err-clause-damaged : goal.returns-in-Err-clause-damaged
+returns-in-Err-clause-damaged g c = λ told damage e.
+    let p = g.P.Pages in
+    tree-later (λ _. 1) (p.pages c.insert_at.new.pages) (p.count c.insert_at.new.pages) (p.first c.insert_at.new.pages) (p.asked c.args.pages.now) (p.asked c.loop-orphan.pages) (p.asked c.insert_at.new.pages) damage
+    (c.loop-orphan.invariant.more told) (c.in-Err.ensures.damaged (c.loop-orphan.invariant.told told) damage (ap Err (same-fault {T = Unit {0}} _ _ e)))
+
+pub returns-in-Err-clause-more : goal.returns-in-Err-clause-more
+returns-in-Err-clause-more g c = λ told. asks-further (λ _. 1) _ _ _ (c.loop-orphan.invariant.more told) (c.insert_at.ensures.more (c.loop-orphan.invariant.told told))

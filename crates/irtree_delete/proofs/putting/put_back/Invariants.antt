@@ -1,5 +1,6 @@
 use Rattle.std.proofs.Common.{ℕ, List, vec_len}
 use Rattle.page_face.specs.Calls.{Changes}
+use Rattle.btree_nodes.specs.Damages.{AreTold, AsksOnly}
 use Rattle.rtree_shape.specs.Slots.{Item}
 use Rattle.rtree_shape.specs.Stock.{View, view}
 use Rattle.rtree_nodes.specs.Pages.{node_of}
@@ -12,6 +13,8 @@ use Rattle.irtree_delete.proofs.putting.put_back.Given as goal
 abbrev pub invariant-loop-orphan : goal.invariant-loop-orphan
 invariant-loop-orphan g l = record {
   frame : Changes g.P.Pages l.initial.pages l.pages;
+  told : AreTold (g.P.Pages.pages l.initial.pages) (g.P.Pages.count l.initial.pages) → AreTold (g.P.Pages.pages l.pages) (g.P.Pages.count l.pages);
+  more : AreTold (g.P.Pages.pages l.initial.pages) (g.P.Pages.count l.initial.pages) → AsksOnly (λ _. 1) (g.P.Pages.asked l.initial.pages) (g.P.Pages.asked l.pages);
   standing : (before : View) (free : List ℕ) (level : ℕ) (mine : ℕ → ℕ) (sums : (Item → ℕ) → ℕ) → IsSupplied before
       → IsStanding node_of before (view (g.P.Pages.pages l.initial.pages) l.initial.tree.rows (g.P.Pages.count l.initial.pages) (g.P.Pages.first l.initial.pages) free) level l.initial.tree.root (loose_in l.initial.orphans.items) mine sums
       → Stands before (g.P.Pages.pages l.pages) l.tree.rows (g.P.Pages.count l.pages) (g.P.Pages.first l.pages) l.tree.root (loose_in l.orphans.items) mine sums;

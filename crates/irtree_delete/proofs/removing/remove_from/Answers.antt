@@ -1,28 +1,25 @@
-use Rattle.std.proofs.Common.{arith, ◌≡◌, ◌<◌, ◌≤◌, ◌∙◌, ℕ, List, [], Option, None, Some, Err, Result, IfErr, IfSome, IsSome, option_map, ap, sym, subst, inl, inr, true≢false}
-use Rattle.std.proofs.lemmas.Result.{on_ok_weaker}
+use Rattle.std.proofs.Common.{arith, ◌≡◌, ◌<◌, ◌∙◌, ℕ, List, [], Option, None, Some, Err, IfSome, option_map, ap, refl, sym, subst}
 use Rattle.page_face.specs.FreeList.{PageMap}
 use Rattle.page_face.specs.declared.fault.PageFault.{PageFault}
-use Rattle.page_face.specs.declared.fault.PageFault.TheVariants.{Damaged}
-use Rattle.page_face.specs.declared.fault.Rule.TheVariants.{Fill}
+use Rattle.btree_nodes.proofs.Harms.{asks-further}
 use Rattle.btree_nodes.proofs.Walks.{same-fault}
-use Rattle.rtree_shape.specs.Slots.{Item, filled}
+use Rattle.rtree_shape.specs.Slots.{Item}
 use Rattle.rtree_shape.specs.Stock.{View, view}
 use Rattle.rtree_shape.specs.Loose.{Loose}
-use Rattle.rtree_nodes.specs.Pages.{node_of, slots_in}
+use Rattle.rtree_nodes.specs.Pages.{node_of}
 use Rattle.rtree_nodes.specs.Reach.{item_of}
 use Rattle.rtree_nodes.specs.declared.content.Slot.{Slot}
-use Rattle.node_rows.specs.Rows.{bytes_in}
 use Rattle.node_rows.specs.Impacts.{impact_in}
 use Rattle.irtree_shape.specs.Words.{worded}
 use Rattle.irtree_shape.specs.Made.{nodes_in}
 use Rattle.irtree_shape.specs.Steps.{crowned_in, crowned}
 use Rattle.irtree_shape.specs.Loose.{TakesOut, IsStanding}
 use Rattle.irtree_shape.specs.Whole.{level_at, tree_uses}
-use Rattle.irtree_shape.proofs.Words.{words-filled}
-use Rattle.irtree_shape.proofs.Fells.{left_sums, felled_empty, out_standing, out_sums, leaf-nothing}
+use Rattle.irtree_shape.proofs.Harms.{tree-later}
+use Rattle.irtree_shape.proofs.Fells.{left_sums, felled_empty, out_standing, out_sums}
 use Rattle.irtree_delete.specs.declared.orphan.Orphan.{Orphan}
 use Rattle.irtree_delete.specs.Orphans.{loose_in, AreLow, IsChildOf}
-use Rattle.irtree_delete.proofs.Removes.{root-some, loose-empty, one-or, whole-some, whole-level-in, whole-leaf, root-taking}
+use Rattle.irtree_delete.proofs.Removes.{root-some, none-left, whole-some, whole-level-in, whole-leaf, root-taking}
 use Rattle.irtree_delete.proofs.Standings.{standing-told}
 use Rattle.irtree_delete.proofs.removing.remove_from.Goals as goal
 
@@ -49,40 +46,9 @@ returns-in-Ok-None-clause-felled g c = λ free x whole leads.
     let out-n = subst (λ (o : Option Slot). TakesOut node_of before mid mid_rows mid_count mid_first 1 c.args.level root y (crowned_in (nodes_in node_of mid mid_rows) (option_map item_of o)) (loose_in c.new-orphans.result.items) (loose_in c.take_out.new.orphans.items)) c.in-Ok-None.field-0-is out-o in
     let out-e = subst (λ (os : List Orphan). TakesOut node_of before mid mid_rows mid_count mid_first 1 c.args.level root y None (loose_in os) (loose_in c.take_out.new.orphans.items)) c.new-orphans.ensures.items out-n in
     let out = subst (λ (l : ℕ). TakesOut node_of before mid mid_rows mid_count mid_first 1 l root y None [] (loose_in c.take_out.new.orphans.items)) is out-e in
-    on_ok_weaker c.check_empty.result
-    (λ n. felled_empty node_of before root path y some whole mid mid_rows mid_count mid_first
-    (subst (λ (os : List Orphan). TakesOut node_of before mid mid_rows mid_count mid_first 1 (level_at (nodes_in node_of old rows) root) root y None [] (loose_in os)) (sym c.deref.ensures.value ∙ n) out))
-    c.check_empty.ensures.none
-
-pub returns-in-Ok-None-clause-honest : goal.returns-in-Ok-None-clause-honest
-returns-in-Ok-None-clause-honest g c = λ free x whole some leads is told damage e.
-    let old : PageMap = g.P.Pages.pages c.args.pages.now in
-    let rows : ℕ = c.args.tree.now.rows in
-    let count : ℕ = g.P.Pages.count c.args.pages.now in
-    let first : ℕ = g.P.Pages.first c.args.pages.now in
-    let mid : PageMap = g.P.Pages.pages c.take_out.new.pages in
-    let mid_rows : ℕ = c.take_out.new.tree.rows in
-    let mid_count : ℕ = g.P.Pages.count c.take_out.new.pages in
-    let mid_first : ℕ = g.P.Pages.first c.take_out.new.pages in
-    let root : ℕ = c.args.tree.now.root in
-    let path : List ℕ = c.args.path.now in
-    let before : View = view old rows count first free in
-    let y : Item = worded (impact_in c.args.words.now) x in
-    let top : ℕ = level_at (nodes_in node_of old rows) root in
-    let few : filled (slots_in (old root)) ≤ 1 = elim (one-or (filled (slots_in (old root)))) [
-      | inl k ↦ k
-      | inr more ↦ absurd (true≢false (sym (subst (IsSome {T = Slot}) c.in-Ok-None.field-0-is (c.in-Ok-None.ensures.stays more))))
-    ] in
-    let leaf : level_at (nodes_in node_of old rows) root ≡ 0 = whole-leaf old rows count first root free some whole few in
-    let taking = root-taking old rows count first root free some whole c.args.level path y c.new-orphans.result.items is c.new-orphans.ensures.items leads in
-    let out-o = c.in-Ok-None.ensures.taken free x taking in
-    let out-n = subst (λ (o : Option Slot). TakesOut node_of before mid mid_rows mid_count mid_first 1 c.args.level root y (crowned_in (nodes_in node_of mid mid_rows) (option_map item_of o)) (loose_in c.new-orphans.result.items) (loose_in c.take_out.new.orphans.items)) c.in-Ok-None.field-0-is out-o in
-    let out-e = subst (λ (os : List Orphan). TakesOut node_of before mid mid_rows mid_count mid_first 1 c.args.level root y None (loose_in os) (loose_in c.take_out.new.orphans.items)) c.new-orphans.ensures.items out-n in
-    let out = subst (λ (l : ℕ). TakesOut node_of before mid mid_rows mid_count mid_first 1 l root y None [] (loose_in c.take_out.new.orphans.items)) (is ∙ leaf) out-e in
-    let w = words-filled (bytes_in old rows root) (slots_in (old root)) in
-    let nothing = leaf-nothing node_of before mid mid_rows mid_count mid_first root y (loose_in c.take_out.new.orphans.items) out (omega arith) in
-    let refused = subst (λ (r : Result (Unit {0}) PageFault). IfErr r (λ fault. ((c.deref.result.now ≡ []) → ⊥) × (fault ≡ Damaged (record { page = root; rule = Fill })))) e c.check_empty.ensures.refuses in
-    refused.0 (c.deref.ensures.value ∙ loose-empty c.take_out.new.orphans.items nothing)
+    felled_empty node_of before root path y some whole mid mid_rows mid_count mid_first
+    (subst (λ (os : List Orphan). TakesOut node_of before mid mid_rows mid_count mid_first 1 (level_at (nodes_in node_of old rows) root) root y None [] (loose_in os))
+    (none-left c.new-orphans.result.items c.take_out.new.orphans.items c.new-orphans.ensures.items (c.in-Ok-None.ensures.gone refl c.in-Ok-None.field-0-is)) out)
 
 -- the path isn't that of an entry
 pub returns-in-Err-clause-honest : goal.returns-in-Err-clause-honest
@@ -97,7 +63,7 @@ returns-in-Err-clause-honest g c = λ free x whole some leads is told damage e.
     let y : Item = worded (impact_in c.args.words.now) x in
     let top : ℕ = level_at (nodes_in node_of old rows) root in
     let taking = root-taking old rows count first root free some whole c.args.level path y c.new-orphans.result.items is c.new-orphans.ensures.items leads in
-    c.in-Err.ensures.honest free x taking told damage (ap Err (same-fault {T = Unit {0}} _ _ e))
+    c.in-Err.ensures.honest free x taking (λ up alone. let z = whole-leaf old rows count first root free some whole (omega arith) in omega arith) told damage (ap Err (same-fault {T = Unit {0}} _ _ e))
 
 -- the root stands, and the orphans were put back
 pub returns-in-Ok-clause-felled : goal.returns-in-Ok-clause-felled
@@ -200,3 +166,30 @@ returns-clause-honest g c = λ free x whole some leads is told damage e.
     let standing' : IsStanding node_of before (view mid mid_rows mid_count mid_first out.free) top c.take_out.new.tree.root loose mine sums =
     subst (λ (k : ℕ). IsStanding node_of before (view mid mid_rows mid_count mid_first out.free) top k loose mine sums) (sym c.in-Ok-Some.ensures.root) standing in
     c.in-Err-put_back.ensures.honest before out.free top mine sums whole.supplied standing' told damage (ap Err (same-fault {T = Unit {0}} _ _ e))
+
+pub returns-in-Err-clause-damaged : goal.returns-in-Err-clause-damaged
+returns-in-Err-clause-damaged g c = λ told way damage e. c.in-Err.ensures.damaged told way damage (ap Err (same-fault {T = Unit {0}} _ _ e))
+
+pub returns-in-Ok-clause-damaged : goal.returns-in-Ok-clause-damaged
+returns-in-Ok-clause-damaged g c = λ told way damage e.
+    let p = g.P.Pages in
+    let told-mid = c.in-Ok-Some.ensures.told told in
+    tree-later (λ _. 1) (p.pages c.lower_root.new.pages) (p.count c.lower_root.new.pages) (p.first c.lower_root.new.pages) (p.asked c.args.pages.now) (p.asked c.put_back.new.pages) (p.asked c.lower_root.new.pages) damage
+    (asks-further (λ _. 1) _ _ _ (c.take_out.ensures.more told) (c.put_back.ensures.more told-mid)) (c.lower_root.ensures.damaged (c.in-Ok.ensures.told told-mid) damage e)
+
+pub returns-in-Ok-clause-told : goal.returns-in-Ok-clause-told
+returns-in-Ok-clause-told g c = λ told. c.lower_root.ensures.told (c.in-Ok.ensures.told (c.in-Ok-Some.ensures.told told))
+
+pub returns-in-Ok-clause-more : goal.returns-in-Ok-clause-more
+returns-in-Ok-clause-more g c = λ told.
+    let told-mid = c.in-Ok-Some.ensures.told told in
+    asks-further (λ _. 1) _ _ _ (asks-further (λ _. 1) _ _ _ (c.take_out.ensures.more told) (c.put_back.ensures.more told-mid)) (c.lower_root.ensures.more (c.in-Ok.ensures.told told-mid))
+
+pub returns-clause-damaged : goal.returns-clause-damaged
+returns-clause-damaged g c = λ told way damage e.
+    let p = g.P.Pages in
+    tree-later (λ _. 1) (p.pages c.put_back.new.pages) (p.count c.put_back.new.pages) (p.first c.put_back.new.pages) (p.asked c.args.pages.now) (p.asked c.take_out.new.pages) (p.asked c.put_back.new.pages) damage
+    (c.take_out.ensures.more told) (c.in-Err-put_back.ensures.damaged (c.in-Ok-Some.ensures.told told) damage (ap Err (same-fault {T = Unit {0}} _ _ e)))
+
+pub returns-clause-more : goal.returns-clause-more
+returns-clause-more g c = λ told. asks-further (λ _. 1) _ _ _ (c.take_out.ensures.more told) (c.put_back.ensures.more (c.in-Ok-Some.ensures.told told))
