@@ -3,11 +3,12 @@ use Rattle.std.proofs.Common.{◌≡◌, ℕ, zero, suc, ◌<◌, List, take, ar
 use Rattle.std.specs.Prelude.{IfSome}
 use Rattle.page_face.specs.FreeList.{PageMap}
 use Rattle.std.proofs.lemmas.List.{get_or-take}
-use Rattle.rtree_shape.specs.Slots.{Item, NodeMap}
+use Rattle.rtree_shape.specs.Slots.{Item, NodeMap, IsUsed, IsChildAt}
 use Rattle.rtree_shape.specs.Loose.{IsAt, Leads}
 use Rattle.rtree_shape.specs.Made.{nodes_in}
 use Rattle.rtree_shape.specs.Whole.{level_at}
-use Rattle.rtree_nodes.specs.Pages.{node_of}
+use Rattle.rtree_nodes.specs.Pages.{node_of, stored_in}
+use Rattle.rtree_find.specs.Ways.{IsWay}
 
 pub leads-take : (nodes : NodeMap) (path : List ℕ) (n level page : ℕ) (x : Item) → level < n → Leads nodes path level page x → Leads nodes (take n path) level page x
 leads-take nodes path n zero page x l h = subst (λ (at : ℕ). IsAt (nodes page).slots at x) (sym (get_or-take n path 0 0 l)) h
@@ -27,3 +28,13 @@ found-way pages path root x o level is found =
     let both : Leads nodes path level root x × (level ≡ at) = subst (λ (p : Option ℕ). IfSome p (λ l. Leads nodes path l root x × (l ≡ at))) is found in
     let leads : Leads nodes path at root x = subst (λ (l : ℕ). Leads nodes path l root x) both.1 both.0 in
     (leads-take nodes path (suc at) at root x (omega arith) leads, both.1)
+
+-- the same of a way by the pages' bytes
+pub way-take : (pages : PageMap) (path : List ℕ) (n level page : ℕ) → level < n → IsWay pages path level page → IsWay pages (take n path) level page
+way-take pages path n zero page l h = (h.0, subst (λ (at : ℕ). IsUsed (stored_in (pages page)) at) (sym (get_or-take n path 0 0 l)) h.1)
+way-take pages path n (suc level) page l h = (
+  h.0,
+  h.1,
+  subst (λ (at : ℕ). IsChildAt (stored_in (pages page)) at h.1) (sym (get_or-take n path (suc level) 0 l)) h.2,
+  way-take pages path n level h.1 (omega arith) h.3,
+)

@@ -1,13 +1,14 @@
 //! An entry that is taken out of a tree.
-ghost use Rattle.std.specs.Prelude.{◌≡◌, ◌≢◌, ◌≤◌, ℕ, List, Ok, true, false, OnErr};
+ghost use Rattle.std.specs.Prelude.{◌≡◌, ◌≢◌, ◌≤◌, ℕ, List, Ok, true, false, OnOk, OnErr, IsErrOf};
 ghost use Rattle.page_face.specs.Calls.{Changes, FailsChanging};
-ghost use Rattle.btree_nodes.specs.Damages.{AreTold};
+ghost use Rattle.btree_nodes.specs.Damages.{AreTold, AsksOnly};
 ghost use Rattle.rtree_shape.specs.Stock.{view};
 ghost use Rattle.spatial_base.specs.Key.{form_of};
 ghost use Rattle.rtree_nodes.specs.Pages.{node_of};
 ghost use Rattle.rtree_find.specs.Entries.{is_entry};
 ghost use Rattle.irtree_shape.specs.Made.{nodes_in};
 ghost use Rattle.irtree_shape.specs.Whole.{IsWhole, IsFelled, tree_sum};
+ghost use Rattle.irtree_shape.specs.Damages.{IsTreeHarm};
 ghost use Rattle.split_condense.specs.Entries.{AreWorded, entry_item, impact_of};
 
 use crate::Entry;
@@ -22,9 +23,9 @@ use std::alloc::Global;
 /// has of it.
 ///
 /// Nodes left with fewer than 12 slots are dissolved and their items put back at their level; rectangles and impacts become the least ones again; a
-/// root of one child gives way to it, and the last entry gives the last page back. Fails with `Damaged` and a rule that a page asked for
-/// breaks, or as a `take` is refused; with `Disk`, `NoRoom` or `Stopped`; or with `Memory`. The tree's roots are
-/// then as before; pages may have changed, and are to be abandoned.
+/// root of one child gives way to it, and the last entry gives the last page back. Fails with `Damaged`, which names a page and a rule as that of
+/// [`insert`](crate::insert) does; with `Disk`, `NoRoom` or `Stopped`; or with `Memory`. The tree's roots are then as before; pages may have changed,
+/// and are to be abandoned.
 ///
 /// Looks at each node whose rectangle holds the point until it has found the entry, then once more at those of its path and at their rows, and writes each
 /// of these that changes. Each node that is dissolved costs a way down for each of its items.
@@ -49,6 +50,12 @@ pub fn delete<P: Pages>(
         → AreWorded (nodes_in node_of (P.pages pages.old) tree.old.rows) tree.old.root entry.now.point (form_of entry.now.key) (impact_of entry.now)
         → AreTold (P.pages pages.old) (P.count pages.old)
         → (damage : Damage) → result ≢ Err (PageFault.Damaged damage) }
+
+    // Over told pages, which stay told: why it is damaged, over the pages as the call leaves them.
+    ensures damaged { AreTold (P.pages pages.old) (P.count pages.old) → (damage : Damage) → IsErrOf result (PageFault.Damaged damage)
+        → IsTreeHarm (P.pages pages.new) (P.count pages.new) (P.first pages.new) (P.asked pages.old) (P.asked pages.new) damage }
+    ensures told { AreTold (P.pages pages.old) (P.count pages.old) → OnOk result (AreTold (P.pages pages.new) (P.count pages.new)) }
+    ensures more { AreTold (P.pages pages.old) (P.count pages.old) → AsksOnly (λ _. 1) (P.asked pages.old) (P.asked pages.new) }
     ensures fails { FailsChanging P.Pages pages.old pages.new result }
     ensures frame { Changes P.Pages pages.old pages.new }
 {

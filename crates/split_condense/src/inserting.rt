@@ -1,11 +1,12 @@
 //! An entry that is put into a tree.
-ghost use Rattle.std.specs.Prelude.{◌≡◌, ◌≢◌, ℕ, List, OnOk, OnErr};
+ghost use Rattle.std.specs.Prelude.{◌≡◌, ◌≢◌, ℕ, List, OnOk, OnErr, IsErrOf};
 ghost use Rattle.page_face.specs.Calls.{Changes, FailsChanging};
-ghost use Rattle.btree_nodes.specs.Damages.{AreTold};
+ghost use Rattle.btree_nodes.specs.Damages.{AreTold, AsksOnly};
 ghost use Rattle.rtree_shape.specs.Stock.{view};
 ghost use Rattle.rtree_shape.specs.Made.{Rises};
 ghost use Rattle.rtree_nodes.specs.Pages.{node_of};
 ghost use Rattle.irtree_shape.specs.Whole.{IsWhole, IsPlanted};
+ghost use Rattle.irtree_shape.specs.Damages.{IsTreeHarm};
 ghost use Rattle.split_condense.specs.Entries.{entry_item};
 
 use crate::Entry;
@@ -19,9 +20,12 @@ use std::alloc::Global;
 /// Puts an entry into a tree that has no entry of its key.
 ///
 /// Over a well-formed tree each node stays at its page and level, and as many new nodes are made as the policy was asked for splits, and
-/// one more if the tree was empty or its root was split. Fails with `Damaged` and a rule that a page asked for breaks, or as a `take` is refused; with
-/// `Disk`, `NoRoom` or `Stopped`; or with `Memory`. The tree's roots are then as before; pages may have changed,
-/// and are to be abandoned.
+/// one more if the tree was empty or its root was split. Fails with `Damaged`, as below; with `Disk`, `NoRoom` or `Stopped`; or with `Memory`. The
+/// tree's roots are then as before; pages may have changed, and are to be abandoned.
+///
+/// Over told pages `Damaged` names a page that was asked for and a rule that it breaks as the call leaves it: a node's page by itself, or by not being
+/// one level below a node's that names it, or a page of the map of rows in its place there. Else it is `Order` of a map of rows that gave a row before
+/// the one that was looked for, or what a `take` was refused for.
 ///
 /// For each level looks at one page and at a row for each of the entry's words, and writes those that change: the leaf, each node above it whose
 /// slot's rectangle grew or whose child was split, and each row in which a word's impact rose. A split takes a page, and moves or makes a row for
@@ -40,6 +44,12 @@ pub fn insert<P: Pages>(
     ensures honest { (free : List ℕ) → IsWhole node_of (view (P.pages pages.old) tree.old.rows (P.count pages.old) (P.first pages.old) free) tree.old.root
         → AreTold (P.pages pages.old) (P.count pages.old)
         → (damage : Damage) → result ≢ Err (PageFault.Damaged damage) }
+
+    // Over told pages, which stay told: why it is damaged, over the pages as the call leaves them.
+    ensures damaged { AreTold (P.pages pages.old) (P.count pages.old) → (damage : Damage) → IsErrOf result (PageFault.Damaged damage)
+        → IsTreeHarm (P.pages pages.new) (P.count pages.new) (P.first pages.new) (P.asked pages.old) (P.asked pages.new) damage }
+    ensures told { AreTold (P.pages pages.old) (P.count pages.old) → OnOk result (AreTold (P.pages pages.new) (P.count pages.new)) }
+    ensures more { AreTold (P.pages pages.old) (P.count pages.old) → AsksOnly (λ _. 1) (P.asked pages.old) (P.asked pages.new) }
     ensures fails { FailsChanging P.Pages pages.old pages.new result }
     ensures frame { Changes P.Pages pages.old pages.new }
 {

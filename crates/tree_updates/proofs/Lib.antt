@@ -1,3 +1,4 @@
 pub mod Regrowths
 pub mod Told
 pub mod Same
+pub mod Missing

@@ -1,6 +1,8 @@
 -- What an update of a place makes of a tree.
 use Rattle.std.specs.Prelude.{◌≡◌, ℕ, ◌+◌, ◌≤◌, List, Option}
 use Rattle.page_face.specs.FreeList.{PageMap}
+use Rattle.page_face.specs.declared.fault.Rule.TheVariants.{Entry as NoEntry}
+use Rattle.page_face.specs.declared.fault.Damage.{Damage}
 use Rattle.spatial_base.specs.Key.{Name, form_of}
 use Rattle.spatial_base.specs.Point.{Position}
 use Rattle.row_codec.specs.declared.stored.Stored.{Stored}
@@ -10,6 +12,7 @@ use Rattle.rtree_shape.specs.Slots.{Item, NodeMap, got}
 use Rattle.rtree_shape.specs.Stock.{View, view}
 use Rattle.rtree_shape.specs.Made.{Reads}
 use Rattle.rtree_nodes.specs.Reach.{place_item}
+use Rattle.rtree_nodes.specs.Pages.{node_of}
 use Rattle.rtree_find.specs.Entries.{is_entry}
 use Rattle.irtree_shape.specs.Words.{worded}
 use Rattle.irtree_shape.specs.Stock.{Moves}
@@ -34,6 +37,11 @@ HasPlace nodes root key point = 1 ≤ tree_sum nodes root (is_entry point (form_
 pub record HasEntry (nodes : NodeMap) (root : ℕ) (key : Name) (stored : Stored) : Type 0 where
   pub there : HasPlace nodes root key stored.point
   pub words : AreWorded nodes root stored.point (form_of key) (impact_in (held_pairs stored))
+
+-- the damage that a place's entry is missing: page 0 is named, and over every free list for which the tree is whole it has no entry of the key at the point
+pub record IsMissing (pages : PageMap) (rows count first root : ℕ) (key : Name) (point : Position) (damage : Damage) : Type 0 where
+  pub named : damage ≡ record { page = 0; rule = NoEntry }
+  pub absent : (free : List ℕ) → IsWhole node_of (view pages rows count first free) root → tree_sum (nodes_in node_of pages rows) root (is_entry point (form_of key)) ≡ 0
 
 -- The tree has one entry less and one entry more, where there are such: it is well formed, no page is lost, and every page that was neither its own nor free is as it was.
 pub record IsRegrown (reads : Reads) (before : View) (pages : PageMap) (rows count first old_root root : ℕ) (gone come : Option Item) : Type 0 where

@@ -1,13 +1,14 @@
 //! The entry of a place that is put.
-ghost use Rattle.std.specs.Prelude.{◌≡◌, ◌≢◌, ℕ, List, Some, IfSome, OnOk, OnErr, option_map};
+ghost use Rattle.std.specs.Prelude.{◌≡◌, ◌≢◌, ◌⊎◌, ℕ, List, Some, IfSome, OnOk, OnErr, IsErrOf, MatchOption, option_map};
 ghost use Rattle.std.specs.Option.{option_copied};
 ghost use Rattle.page_face.specs.Calls.{Changes, FailsChanging};
-ghost use Rattle.btree_nodes.specs.Damages.{AreTold};
+ghost use Rattle.btree_nodes.specs.Damages.{AreTold, AsksOnly};
 ghost use Rattle.rtree_shape.specs.Stock.{view};
 ghost use Rattle.rtree_nodes.specs.Pages.{node_of};
 ghost use Rattle.irtree_shape.specs.Made.{nodes_in};
 ghost use Rattle.irtree_shape.specs.Whole.{IsWhole};
-ghost use Rattle.tree_updates.specs.Regrown.{HasEntry, IsRegrown, entry_at};
+ghost use Rattle.irtree_shape.specs.Damages.{IsTreeHarm};
+ghost use Rattle.tree_updates.specs.Regrown.{HasEntry, IsMissing, IsRegrown, entry_at};
 
 use crate::taking::{entry_of, take_entry};
 use node_inverted::Tree;
@@ -20,7 +21,8 @@ use std::alloc::Global;
 
 /// Puts the entry of a key's place `new` into a tree, and takes that of the place `old` out that the key had before, if there was one.
 ///
-/// Does nothing if both are the same, with the same words. Fails as [`take_entry`] and [`insert`] do. The tree's roots are then as before;
+/// Does nothing if both are the same, with the same words. Fails as [`take_entry`] of `old` and [`insert`] do: with `Damaged`, the rule `Entry` and page 0
+/// only if there was a place, and the tree has no entry of it; else `Damaged` says which page breaks which rule. The tree's roots are then as before;
 /// pages may have changed, and are to be abandoned. Costs an [`insert`], and a [`take_entry`] if there was a place.
 pub fn put_entry<P: Pages>(
     alloc: Global,
@@ -40,6 +42,13 @@ pub fn put_entry<P: Pages>(
         → AreTold (P.pages pages.old) (P.count pages.old)
         → (damage : Damage) → result ≢ Err (PageFault.Damaged damage) }
     ensures kept { OnErr result (tree.new ≡ tree.old) }
+
+    // Over told pages, which stay told: why it is damaged, over the pages as the call leaves them, or the old tree has no entry of the old place.
+    ensures damaged { AreTold (P.pages pages.old) (P.count pages.old) → (damage : Damage) → IsErrOf result (PageFault.Damaged damage)
+        → IsTreeHarm (P.pages pages.new) (P.count pages.new) (P.first pages.new) (P.asked pages.old) (P.asked pages.new) damage
+        ⊎ MatchOption (option_copied old.entry) ⊥ (λ stored. IsMissing (P.pages pages.old) tree.old.rows (P.count pages.old) (P.first pages.old) tree.old.root key.now stored.point damage) }
+    ensures told { AreTold (P.pages pages.old) (P.count pages.old) → OnOk result (AreTold (P.pages pages.new) (P.count pages.new)) }
+    ensures more { AreTold (P.pages pages.old) (P.count pages.old) → AsksOnly (λ _. 1) (P.asked pages.old) (P.asked pages.new) }
     ensures fails { FailsChanging P.Pages pages.old pages.new result }
     ensures frame { Changes P.Pages pages.old pages.new }
 {

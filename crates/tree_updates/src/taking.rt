@@ -1,12 +1,13 @@
 //! The entry of a place that is taken out.
-ghost use Rattle.std.specs.Prelude.{◌≡◌, ◌≢◌, ℕ, List, None, Some, OnOk, OnErr};
+ghost use Rattle.std.specs.Prelude.{◌≡◌, ◌≢◌, ◌⊎◌, ℕ, List, None, Some, OnOk, OnErr, IsErrOf};
 ghost use Rattle.page_face.specs.Calls.{Changes, FailsChanging};
-ghost use Rattle.btree_nodes.specs.Damages.{AreTold};
+ghost use Rattle.btree_nodes.specs.Damages.{AreTold, AsksOnly};
 ghost use Rattle.rtree_shape.specs.Stock.{view};
 ghost use Rattle.rtree_nodes.specs.Pages.{node_of};
 ghost use Rattle.irtree_shape.specs.Made.{nodes_in};
 ghost use Rattle.irtree_shape.specs.Whole.{IsWhole};
-ghost use Rattle.tree_updates.specs.Regrown.{HasEntry, HasPlace, IsRegrown, entry_at, entry_for};
+ghost use Rattle.irtree_shape.specs.Damages.{IsTreeHarm};
+ghost use Rattle.tree_updates.specs.Regrown.{HasEntry, HasPlace, IsMissing, IsRegrown, entry_at, entry_for};
 
 use node_inverted::Tree;
 use page_face::{Damage, PageFault, Pages, Rule};
@@ -18,8 +19,8 @@ use std::alloc::Global;
 
 /// Takes the entry of a key's place out of a tree that has it: the place's point, and its words.
 ///
-/// Fails with `Damaged`, the rule `Entry` and page 0 if the tree has no entry of that key at that point, and as [`delete`] does. The tree's
-/// roots are then as before; pages may have changed, and are to be abandoned. Costs a [`delete`].
+/// Fails with `Damaged`, the rule `Entry` and page 0 if the tree has no entry of that key at that point, and else as [`delete`] does, whose `Damaged`
+/// says which page breaks which rule. The tree's roots are then as before; pages may have changed, and are to be abandoned. Costs a [`delete`].
 pub fn take_entry<P: Pages>(
     alloc: Global,
     pages: &mut P,
@@ -39,6 +40,13 @@ pub fn take_entry<P: Pages>(
         → AreTold (P.pages pages.old) (P.count pages.old)
         → (damage : Damage) → result ≢ Err (PageFault.Damaged damage) }
     ensures kept { OnErr result (tree.new ≡ tree.old) }
+
+    // Over told pages, which stay told: why it is damaged, over the pages as the call leaves them, or the old tree has no such entry.
+    ensures damaged { AreTold (P.pages pages.old) (P.count pages.old) → (damage : Damage) → IsErrOf result (PageFault.Damaged damage)
+        → IsTreeHarm (P.pages pages.new) (P.count pages.new) (P.first pages.new) (P.asked pages.old) (P.asked pages.new) damage
+        ⊎ IsMissing (P.pages pages.old) tree.old.rows (P.count pages.old) (P.first pages.old) tree.old.root key.now old.now.point damage }
+    ensures told { AreTold (P.pages pages.old) (P.count pages.old) → OnOk result (AreTold (P.pages pages.new) (P.count pages.new)) }
+    ensures more { AreTold (P.pages pages.old) (P.count pages.old) → AsksOnly (λ _. 1) (P.asked pages.old) (P.asked pages.new) }
     ensures fails { FailsChanging P.Pages pages.old pages.new result }
     ensures frame { Changes P.Pages pages.old pages.new }
 {

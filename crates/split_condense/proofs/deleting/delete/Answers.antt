@@ -1,9 +1,10 @@
-use Rattle.std.proofs.Common.{◌≡◌, ℕ, suc, ◌+◌, ◌<◌, ◌≤◌, List, take, length, arith, Option, sym, ap, subst, ◌∙◌, Ok, Err}
+use Rattle.std.proofs.Common.{◌≡◌, ℕ, suc, ◌+◌, ◌<◌, ◌≤◌, List, take, length, arith, Option, refl, sym, ap, subst, ◌∙◌, Ok, Err, inl}
 use Rattle.std.proofs.lemmas.List.{length-take-le}
 use Rattle.std.specs.Prelude.{IfSome}
 use Rattle.page_face.specs.FreeList.{PageMap}
 use Rattle.page_face.specs.declared.fault.PageFault.TheVariants.{Damaged}
 use Rattle.btree_nodes.specs.Damages.{AreTold}
+use Rattle.btree_nodes.proofs.Harms.{asks-further, asks-nothing}
 use Rattle.spatial_base.specs.Key.{form_of}
 use Rattle.rtree_shape.specs.Slots.{Item}
 use Rattle.rtree_shape.specs.Stock.{View, view}
@@ -14,12 +15,15 @@ use Rattle.rtree_shape.proofs.Climbs.{view-same}
 use Rattle.rtree_nodes.specs.Reach.{place_item}
 use Rattle.rtree_nodes.specs.Pages.{node_of}
 use Rattle.rtree_find.specs.Entries.{is_entry}
+use Rattle.rtree_find.specs.Ways.{IsWay}
 use Rattle.node_rows.specs.Impacts.{impact_in}
 use Rattle.irtree_shape.specs.Words.{worded}
 use Rattle.irtree_shape.specs.Made.{nodes_in}
 use Rattle.irtree_shape.specs.Whole.{IsWhole, IsFelled, level_at}
 use Rattle.split_condense.specs.Entries.{impact_of}
-use Rattle.split_condense.proofs.Ways.{found-way}
+use Rattle.irtree_shape.specs.Damages.{IsTreeHarm}
+use Rattle.irtree_shape.proofs.Harms.{tree-later, find-harm}
+use Rattle.split_condense.proofs.Ways.{found-way, way-take}
 use Rattle.split_condense.proofs.Plain.{level-plain, sum-plain, well-plain, whole-plain}
 use Rattle.split_condense.proofs.Worded.{entry-blind, leads-entry, leads-has}
 use Rattle.split_condense.proofs.deleting.delete.Goals as goal
@@ -111,3 +115,59 @@ returns-in-Err-clause-honest g c = λ free whole worded_all told damage e.
     let root : ℕ = c.args.tree.now.root in
     let fault_is : c.in-Err.fault ≡ Damaged damage = cc in
     c.in-Err.ensures.honest rows free (whole-plain _ root whole) damage (ap Err fault_is)
+
+pub returns-in-Err-remove_at-clause-damaged : goal.returns-in-Err-remove_at-clause-damaged
+returns-in-Err-remove_at-clause-damaged g c = λ told damage e.
+    let P = g.P.Pages in
+    let old : PageMap = P.pages c.args.pages.now in
+    let mid : PageMap = P.pages c.find.new.pages in
+    let root : ℕ = c.args.tree.now.root in
+    let frame = c.find.ensures.frame in
+    let level : ℕ = c.in-Ok-Some.level in
+    let path : List ℕ = take (c.from.result + 1) c.find.new.path in
+    let found : IsWay old c.find.new.path level root = subst (λ (o : Option ℕ). IfSome o (λ l. IsWay old c.find.new.path l root)) c.in-Ok-Some.field-0-is (c.in-Ok-Some.ensures.way told) in
+    let low : level ≤ 9 = subst (λ (o : Option ℕ). IfSome o (λ l. l ≤ 9)) c.in-Ok-Some.field-0-is c.in-Ok-Some.ensures.low in
+    let way : IsWay mid path level root = subst (λ (p : PageMap). IsWay p path level root) (sym frame.pages)
+    (way-take old c.find.new.path (c.from.result + 1) level root (let f = c.from.ensures in omega arith) found) in
+    let ten : length c.find.new.path ≡ 10 = c.find.array_long in
+    let short : length path ≡ c.from.result + 1 = length-take-le (c.from.result + 1) c.find.new.path (let f = c.from.ensures in omega arith) in
+    let length_is : length path ≡ suc level = let f = c.from.ensures in omega arith in
+    let told_there : AreTold mid (P.count c.find.new.pages) = subst (λ (p : PageMap). AreTold p (P.count c.find.new.pages)) (sym frame.pages) (subst (λ (n : ℕ). AreTold old n) (sym frame.count) told) in
+    let fault_is : c.in-Err-remove_at.fault ≡ Damaged damage = cc in
+    tree-later (λ _. 1) (P.pages c.remove_at.new.pages) (P.count c.remove_at.new.pages) (P.first c.remove_at.new.pages) (P.asked c.args.pages.now) (P.asked c.find.new.pages) (P.asked c.remove_at.new.pages) damage
+    c.find.ensures.more (c.remove_at.ensures.damaged level told_there length_is low way damage (c.in-Err-remove_at.is ∙ ap Err fault_is))
+
+pub returns-in-Err-clause-damaged : goal.returns-in-Err-clause-damaged
+returns-in-Err-clause-damaged g c = λ told damage e.
+    let P = g.P.Pages in
+    let old : PageMap = P.pages c.args.pages.now in
+    let before : List ℕ = P.asked c.args.pages.now in
+    let after : List ℕ = P.asked c.find.new.pages in
+    let first : ℕ = P.first c.find.new.pages in
+    let frame = c.find.ensures.frame in
+    let fault_is : c.in-Err.fault ≡ Damaged damage = cc in
+    let harm = find-harm old (P.count c.args.pages.now) c.args.tree.now.root before after damage (c.find.ensures.damaged damage (c.in-Err.is ∙ ap Err fault_is)) in
+    subst (λ (p : PageMap). IsTreeHarm p (P.count c.find.new.pages) first before after damage) (sym frame.pages)
+    (subst (λ (n : ℕ). IsTreeHarm old n first before after damage) (sym frame.count) (inl harm))
+
+pub returns-in-Ok-clause-told : goal.returns-in-Ok-clause-told
+returns-in-Ok-clause-told g c = λ told.
+    let P = g.P.Pages in
+    let frame = c.find.ensures.frame in
+    c.in-Ok.ensures.told (subst (λ (p : PageMap). AreTold p (P.count c.find.new.pages)) (sym frame.pages) (subst (λ (n : ℕ). AreTold (P.pages c.args.pages.now) n) (sym frame.count) told))
+
+pub returns-in-Ok-clause-more : goal.returns-in-Ok-clause-more
+returns-in-Ok-clause-more g c = λ told.
+    let P = g.P.Pages in
+    let frame = c.find.ensures.frame in
+    let told_there : AreTold (P.pages c.find.new.pages) (P.count c.find.new.pages) =
+    subst (λ (p : PageMap). AreTold p (P.count c.find.new.pages)) (sym frame.pages) (subst (λ (n : ℕ). AreTold (P.pages c.args.pages.now) n) (sym frame.count) told) in
+    asks-further (λ _. 1) _ _ _ c.find.ensures.more (c.remove_at.ensures.more told_there)
+
+pub returns-in-Err-remove_at-clause-more : goal.returns-in-Err-remove_at-clause-more
+returns-in-Err-remove_at-clause-more g c = λ told.
+    let P = g.P.Pages in
+    let frame = c.find.ensures.frame in
+    let told_there : AreTold (P.pages c.find.new.pages) (P.count c.find.new.pages) =
+    subst (λ (p : PageMap). AreTold p (P.count c.find.new.pages)) (sym frame.pages) (subst (λ (n : ℕ). AreTold (P.pages c.args.pages.now) n) (sym frame.count) told) in
+    asks-further (λ _. 1) _ _ _ c.find.ensures.more (c.remove_at.ensures.more told_there)

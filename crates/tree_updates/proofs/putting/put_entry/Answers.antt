@@ -1,6 +1,6 @@
-use Rattle.std.proofs.Common.{◌≡◌, subst, sym, Some, Option, Ok, Err, Result, ap, ◌∙◌, option_map}
+use Rattle.std.proofs.Common.{◌≡◌, inl, inr, ⊎_elim, subst, sym, Some, Option, Ok, Err, Result, ap, ◌∙◌, option_map}
 use Rattle.std.specs.Borrow.{Bor}
-use Rattle.std.specs.Prelude.{IfSome, OnOk}
+use Rattle.std.specs.Prelude.{IfSome, OnOk, MatchOption}
 use Rattle.std.specs.Option.{option_copied}
 use Rattle.std.proofs.lemmas.Result.{err_from_is_err_and}
 use Rattle.page_face.specs.declared.fault.PageFault.TheVariants.{Damaged}
@@ -9,7 +9,8 @@ use Rattle.rtree_shape.specs.Slots.{Item}
 use Rattle.rtree_shape.specs.Stock.{View, view}
 use Rattle.rtree_nodes.specs.Pages.{node_of}
 use Rattle.irtree_shape.specs.Made.{nodes_in}
-use Rattle.tree_updates.specs.Regrown.{HasEntry, IsRegrown, entry_at}
+use Rattle.irtree_shape.proofs.Harms.{tree-later}
+use Rattle.tree_updates.specs.Regrown.{HasEntry, IsMissing, IsRegrown, entry_at}
 use Rattle.tree_updates.proofs.Regrowths.{nothing-regrown, planted-regrown, regrown-further}
 use Rattle.tree_updates.proofs.Same.{stored-same}
 use Rattle.tree_updates.proofs.Told.{told-regrown}
@@ -74,3 +75,25 @@ returns-clause-put g c = λ free whole has.
     subst (λ (o : Option (Bor Stored)). IsRegrown node_of before (P.pages c.insert-2.new.pages) c.insert-2.new.tree.rows (P.count c.insert-2.new.pages) (P.first c.insert-2.new.pages) tree.root c.insert-2.new.tree.root (option_map (entry_at c.args.key.now) (option_copied o)) (Some y)) (sym c.in-Some.is)
     (regrown-further before (P.pages c.take_entry.new.pages) c.take_entry.new.tree.rows (P.count c.take_entry.new.pages) (P.first c.take_entry.new.pages) c.take_entry.new.tree.root
     (P.pages c.insert-2.new.pages) c.insert-2.new.tree.rows (P.count c.insert-2.new.pages) (P.first c.insert-2.new.pages) tree.root c.insert-2.new.tree.root x y gone come)
+
+pub returns-in_default-clause-damaged : goal.returns-in_default-clause-damaged
+returns-in_default-clause-damaged g c = λ told damage e. inl (c.insert.ensures.damaged told damage e)
+
+pub returns-in_err-take_entry-clause-damaged : goal.returns-in_err-take_entry-clause-damaged
+returns-in_err-take_entry-clause-damaged g c = λ told damage e.
+    let P = g.P.Pages in
+    let tree = c.args.tree.now in
+    let passed = err_from_is_err_and c.from_residual.result c.from_residual.ensures.1 in
+    let fault_is : c.in_err-take_entry.field-0.0 ≡ Damaged damage = cc (passed.1, passed.2, e) in
+    ⊎_elim (λ harm. inl harm)
+    (λ missing. inr (subst (λ (o : Option (Bor Stored)). MatchOption (option_copied o) ⊥ (λ stored. IsMissing (P.pages c.args.pages.now) tree.rows (P.count c.args.pages.now) (P.first c.args.pages.now) tree.root c.args.key.now stored.point damage))
+    (sym c.in-Some.is) missing))
+    (c.take_entry.ensures.damaged told damage (c.in_err-take_entry.was ∙ ap Err fault_is))
+
+pub returns-in_err-insert-clause-damaged : goal.returns-in_err-insert-clause-damaged
+returns-in_err-insert-clause-damaged g c = λ told damage e.
+    let P = g.P.Pages in
+    let passed = err_from_is_err_and c.from_residual-in_err-insert.result c.from_residual-in_err-insert.ensures.1 in
+    let fault_is : c.in_err-insert.field-0.0 ≡ Damaged damage = cc (passed.1, passed.2, e) in
+    inl (tree-later (λ _. 1) (P.pages c.insert-2.new.pages) (P.count c.insert-2.new.pages) (P.first c.insert-2.new.pages) (P.asked c.args.pages.now) (P.asked c.take_entry.new.pages) (P.asked c.insert-2.new.pages) damage
+    (c.take_entry.ensures.more told) (c.insert-2.ensures.damaged (c.in_ok-take_entry.ensures.told told) damage (c.in_err-insert.was ∙ ap Err fault_is)))

@@ -1,13 +1,18 @@
-use Rattle.std.proofs.Common.{◌≡◌, ap, sym, subst, Ok, Err}
+use Rattle.std.proofs.Common.{◌≡◌, ap, sym, subst, Ok, Err, ◌∙◌, inl, inr}
+use Rattle.page_face.specs.FreeList.{PageMap}
+use Rattle.page_face.specs.declared.fault.Rule.TheVariants.{Entry as NoEntry}
 use Rattle.page_face.specs.declared.fault.PageFault.TheVariants.{Damaged}
 use Rattle.rtree_shape.specs.Stock.{View, view}
 use Rattle.rtree_nodes.specs.Pages.{node_of}
 use Rattle.spatial_base.specs.Key.{form_of}
 use Rattle.rtree_shape.specs.Slots.{NodeMap}
+use Rattle.rtree_find.specs.Entries.{is_entry}
 use Rattle.irtree_shape.specs.Made.{nodes_in}
+use Rattle.irtree_shape.specs.Whole.{tree_sum}
 use Rattle.split_condense.specs.declared.entry.Entry.{Entry}
 use Rattle.split_condense.specs.Entries.{AreWorded, impact_of}
 use Rattle.tree_updates.proofs.Regrowths.{entry-regrown}
+use Rattle.tree_updates.proofs.Missing.{named-same}
 use Rattle.tree_updates.proofs.taking.take_entry.Goals as goal
 
 pub returns-in-Ok-true-clause-taken : goal.returns-in-Ok-true-clause-taken
@@ -30,3 +35,19 @@ returns-in-Err-clause-honest g c = λ free whole has told damage e.
     subst (λ (e : Entry). AreWorded nodes tree.root e.point (form_of e.key) (impact_of e)) (sym c.entry_of.ensures) has.words in
     let fault_is : c.in-Err.fault ≡ Damaged damage = cc in
     c.in-Err.ensures.honest free whole worded told damage (ap Err fault_is)
+
+pub returns-in-Err-clause-damaged : goal.returns-in-Err-clause-damaged
+returns-in-Err-clause-damaged g c = λ told damage e.
+    let fault_is : c.in-Err.fault ≡ Damaged damage = cc in
+    inl (c.delete.ensures.damaged told damage (c.in-Err.is ∙ ap Err fault_is))
+
+pub returns-in-Ok-false-clause-damaged : goal.returns-in-Ok-false-clause-damaged
+returns-in-Ok-false-clause-damaged g c = λ told damage e.
+    let P = g.P.Pages in
+    let pages : PageMap = P.pages c.args.pages.now in
+    let tree = c.args.tree.now in
+    inr (record {
+      named = named-same {T = Unit {0}} (record { page = 0; rule = NoEntry }) damage e;
+      absent = λ free whole. subst (λ (x : Entry). tree_sum (nodes_in node_of pages tree.rows) tree.root (is_entry x.point (form_of x.key)) ≡ 0) c.entry_of.ensures
+          (c.in-Ok-false.ensures.absent free whole (ap Ok c.in-Ok-false.field-0-test));
+    })
