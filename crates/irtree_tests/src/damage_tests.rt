@@ -46,7 +46,7 @@ static ACTIONS: [(&[&str; 2], &[u8]); 5] = [
     (&["-", "run"], b"group 0 0 words x y\n"),
 ];
 
-static BROKEN: [Broken; 13] = [
+static BROKEN: [Broken; 14] = [
     // The root names a page that isn't counted.
     Broken {
         page: Spot::Root,
@@ -145,6 +145,15 @@ static BROKEN: [Broken; 13] = [
         named: Spot::Tree,
         rule: Rule::Kind,
         met: [false, true, true, true, true],
+    },
+    // A spare byte of the root of the tree isn't zero: a node is checked whole before an entry is taken out of it.
+    Broken {
+        page: Spot::Tree,
+        at: 8,
+        byte: 1,
+        named: Spot::Tree,
+        rule: Rule::Spare,
+        met: [false, true, true, false, false],
     },
     // A spare byte of the rows of words isn't zero.
     Broken {

@@ -4,8 +4,8 @@ ghost use Rattle.std.specs.Prelude.{◌<◌};
 use irtree_delete::remove_at;
 use irtree_insert::insert_at;
 use node_inverted::{Tree, row};
-use page_face::{Damage, MemoryPages, PageFault, Pages};
-use rtree_nodes::{Slot, slot_at};
+use page_face::{Damage, MemoryPages, PageFault, Pages, Rule};
+use rtree_nodes::{Slot, clear_slot, slot_at};
 use spatial_base::{Key, Point};
 use split_policy::Quadratic;
 use std::alloc::Global;
@@ -219,5 +219,27 @@ fn a_dissolved_leaf_leaves_its_places_with_their_words(rt: HostRuntime) -> Resul
         assert_eq!(rt; row(&mut pages, &tree, 1, own_word(number)), Ok([0; 32]));
         assert_eq!(rt; row(&mut pages, &tree, 4, own_word(number)), Ok([0; 32]));
     }
+    Ok(())
+}
+
+#[test]
+fn a_root_of_one_child_is_damaged_and_nothing_is_written(rt: HostRuntime) -> Result<(), Fail> {
+    let mut pages = MemoryPages::new(rt.alloc(), 64);
+    let mut policy = Quadratic::new();
+    let mut tree = Tree { root: 0, rows: 0 };
+    put_places(rt.alloc(), &mut pages, &mut tree, &mut policy, 40)?;
+    let mut root = pages.read(4)?;
+    clear_slot(&mut root, 1);
+    if pages.counted() > 4 {
+        pages.write(4, &root)?;
+    }
+    let before = numbers_in(&mut pages, 1)?;
+    let removed = remove_places(rt.alloc(), &mut pages, &mut tree, &mut policy, 1, 0, 1);
+    let lone = Damage {
+        page: 4,
+        rule: Rule::Fill,
+    };
+    assert_eq!(rt; removed, Err(PageFault::Damaged(lone)));
+    assert!(rt; numbers_in(&mut pages, 1)? == before && tree.root == 4);
     Ok(())
 }
