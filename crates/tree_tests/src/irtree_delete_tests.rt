@@ -230,9 +230,7 @@ fn a_root_of_one_child_is_damaged_and_nothing_is_written(rt: HostRuntime) -> Res
     put_places(rt.alloc(), &mut pages, &mut tree, &mut policy, 40)?;
     let mut root = pages.read(4)?;
     clear_slot(&mut root, 1);
-    if pages.counted() > 4 {
-        pages.write(4, &root)?;
-    }
+    pages.write(4, &root)?;
     let before = numbers_in(&mut pages, 1)?;
     let removed = remove_places(rt.alloc(), &mut pages, &mut tree, &mut policy, 1, 0, 1);
     let lone = Damage {
