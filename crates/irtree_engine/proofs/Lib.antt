@@ -10,4 +10,5 @@ pub mod Named
 pub mod Openings
 pub mod Roots
 pub mod Standing
+pub mod Takes
 pub mod Trees

@@ -1,5 +1,5 @@
 -- What updates do to the state that an image stands for, and why they are refused.
-use Rattle.std.specs.Prelude.{◌≡◌, ◌⊎◌, ℕ, ◌≤◌, ◌^◌, List, [], ◌∷◌, Result, Ok, Err}
+use Rattle.std.specs.Prelude.{◌≡◌, ◌⊎◌, ℕ, ◌+◌, ◌*◌, ◌≤◌, ◌^◌, List, [], ◌∷◌, Result, Ok, Err}
 use Rattle.disk_model.specs.World.{World, Image}
 use Rattle.page_face.specs.FreeList.{PageMap}
 use Rattle.page_store.specs.declared.superblock.Superblock.{Superblock}
@@ -76,3 +76,10 @@ abbrev pub IsAtLimit : ℕ → ℕ → EngineFault → Type 0
 IsAtLimit live number Full = 200000 ≤ live
 IsAtLimit live number Worn = 2 ^ 40 ≤ number
 IsAtLimit live number _ = Unit {0}
+
+-- How many takes so many updates in one commit are allowed, over so many pages counted: a fuse that no change in order comes near. An
+-- update that splits or dissolves a node sets rows for each word of its entries, at most 2,048 of 32 with 64 words each, and in a few
+-- nodes; a row takes a page or two where leaves split. The work for one more update is left for the words that a batch holds ahead. Much of
+-- what a change takes it gave back before, and the larger the store, the more there is to give back: hence the pages counted.
+abbrev pub most_takes : ℕ → ℕ → ℕ
+most_takes updates counted = 65536 * (updates + 1) + 256 * counted

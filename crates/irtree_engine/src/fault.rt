@@ -22,7 +22,7 @@ pub enum EngineFault {
     NoRoom,
     /// An earlier commit of this engine failed: the store is to be opened again.
     Stopped,
-    /// Want of memory.
+    /// Want of memory, or a change that would take more pages than it is allowed.
     Memory,
 }
 

@@ -1,5 +1,5 @@
 //! Updates, each in one commit.
-ghost use Rattle.std.specs.Prelude.{◌≡◌, ◌≢◌, ◌⊎◌, ◌↔◌, ◌≤◌, ◌+◌, Ok, IsTrue, true, false, [], IfOk, IfErr, OnOk, OnErr, IsErrOf, length};
+ghost use Rattle.std.specs.Prelude.{◌≡◌, ◌≢◌, ◌⊎◌, ◌↔◌, ◌<◌, ◌≤◌, ◌+◌, ◌-◌, ◌^◌, Ok, IsTrue, true, false, [], IfOk, IfErr, OnOk, OnErr, IsErrOf, length};
 ghost use Rattle.std.specs.List.{AllByRecursion};
 ghost use Rattle.disk_model.specs.World.{LeavesOnly};
 ghost use Rattle.disk_model.specs.World as worlds;
@@ -10,7 +10,7 @@ ghost use Rattle.place_map.specs.Update.{NamesText, effect_of};
 ghost use Rattle.store_meaning.specs.Stands.{PagesStand};
 ghost use Rattle.irtree_engine.specs.Changes.{block_with};
 ghost use Rattle.irtree_engine.specs.Holding.{HoldsState};
-ghost use Rattle.irtree_engine.specs.Updates.{LeavesOneOf, LeavesAllOrNone, StandsForOutcome, IsUpdateFault, IsCommitFault, IsDueTo, IsAtLimit, IsLater, state_after_all};
+ghost use Rattle.irtree_engine.specs.Updates.{LeavesOneOf, LeavesAllOrNone, StandsForOutcome, IsUpdateFault, IsCommitFault, IsDueTo, IsAtLimit, IsLater, most_takes, state_after_all};
 
 use crate::{Engine, EngineFault, change};
 use disk_model::Station;
@@ -18,15 +18,21 @@ use page_face::{Head, PageFault, Pages};
 use page_store::Store;
 use place_map::{Applied, Update};
 
+// How many takes of a page are allowed to each update of a commit, and once more beside them; and how many for each page counted.
+const TAKES_EACH: u64 = 65_536;
+
+const TAKES_A_PAGE: u64 = 256;
+
 impl<'d, D: Station> Engine<'d, D> {
     /// Stores one update in one commit, in the place table and in the tree. An update that changes nothing makes none. A key that a Put
     /// names is a text key.
     ///
     /// Refuses `Stopped` exactly where an earlier commit of this engine failed, before all else; `Full` exactly where 200,000 or
     /// more places live and a Put's key is new; `Worn` exactly where the update number is 2^40 and the update would change the
-    /// map; `NoRoom`, where no page is left for it; `Disk`; `Damaged`, never where the image stands for a state; `Memory`. After
-    /// `Disk` in the commit the engine is stopped, and the store is to be opened again. After every other refusal the map is as
-    /// before.
+    /// map; `NoRoom`, where no page is left for it: then the disk has room for at most the pages counted and as many more as an update is
+    /// allowed to take; `Disk`; `Damaged`, never where the image stands for a state; `Memory`, which also stops an update that would take
+    /// more pages than it is allowed. After `Disk` in the commit the engine is stopped, and the store is to be opened again. After every
+    /// other refusal the map is as before.
     ///
     /// Costs a look-up of the key, a put or a removal in the place table, for each word that the update changes a look-up and a
     /// put in the tables of words, and one commit of the pages that changed: two writes and two syncs. From time to time a checkpoint comes
@@ -52,6 +58,8 @@ impl<'d, D: Station> Engine<'d, D> {
         ensures causes { IfErr result IsUpdateFault }
         ensures disk { IsErrOf result EngineFault.Disk → worlds.Rose (D.world self.old.store.disk.now).faults (D.world self.new.store.disk.now).faults }
         ensures no_room { IsErrOf result EngineFault.NoRoom → Rose self.old.store.refused self.new.store.refused }
+        ensures room_left { IsErrOf result EngineFault.NoRoom → D.room_of self.old.store.disk.now ≤ self.old.store.current.counted + most_takes 1 self.old.store.current.counted }
+        ensures as_before { IsErrOf result EngineFault.NoRoom → self.new.store.current ≡ self.old.store.current }
 
         // After a refusal that doesn't stop the engine the image is as before.
         ensures rests { IsTrue D.tells → OnErr result (self.new.stopped ≡ self.old.stopped → Rests (D.world self.old.store.disk.now) (D.world self.new.store.disk.now)) }
@@ -64,9 +72,9 @@ impl<'d, D: Station> Engine<'d, D> {
         ensures rises { (self.new.store.current.head.live ≤ self.old.store.current.head.live + 1) × (self.new.store.current.head.number ≤ self.old.store.current.head.number + 1) }
         ensures emptied { IsErrOf result EngineFault.Stopped → self.new.store.asked.items ≡ [] }
     {
-        self.store.clear_log();
-        if self.stopped {
-            return Err(EngineFault::Stopped);
+        match begin(&mut self.store, self.stopped, 1) {
+            Ok(()) => {}
+            Err(fault) => return Err(fault),
         }
         let mut head = self.store.head();
         let applied = match change::update(
@@ -90,7 +98,8 @@ impl<'d, D: Station> Engine<'d, D> {
 
     /// Stores all updates in one commit, or none. There are at most 10,000, and a key that a Put names is a text key; of none nothing is stored.
     ///
-    /// Refuses as [`Engine::apply`], for the first update that meets a cause; then none is stored. Costs in the place table and in the
+    /// Refuses as [`Engine::apply`], for the first update that meets a cause; then none is stored. A batch is allowed to take so many pages
+    /// as its updates one by one, and once more those of one. Costs in the place table and in the
     /// tree as much as each update by itself, with one commit of the pages that changed. A word of the batch costs a look-up and one or
     /// two puts in the tables of words, however many of its places hold it, and each word of a place that is replaced or removed a
     /// look-up and a put.
@@ -111,6 +120,8 @@ impl<'d, D: Station> Engine<'d, D> {
         ensures causes { IfErr result IsUpdateFault }
         ensures disk { IsErrOf result EngineFault.Disk → worlds.Rose (D.world self.old.store.disk.now).faults (D.world self.new.store.disk.now).faults }
         ensures no_room { IsErrOf result EngineFault.NoRoom → Rose self.old.store.refused self.new.store.refused }
+        ensures room_left { IsErrOf result EngineFault.NoRoom → D.room_of self.old.store.disk.now ≤ self.old.store.current.counted + most_takes (length updates.now) self.old.store.current.counted }
+        ensures as_before { IsErrOf result EngineFault.NoRoom → self.new.store.current ≡ self.old.store.current }
 
         // After a refusal that doesn't stop the engine the image is as before.
         ensures rests { IsTrue D.tells → OnErr result (self.new.stopped ≡ self.old.stopped → Rests (D.world self.old.store.disk.now) (D.world self.new.store.disk.now)) }
@@ -123,9 +134,9 @@ impl<'d, D: Station> Engine<'d, D> {
         ensures rises { (self.new.store.current.head.live ≤ self.old.store.current.head.live + length updates.now) × (self.new.store.current.head.number ≤ self.old.store.current.head.number + length updates.now) }
         ensures emptied { IsErrOf result EngineFault.Stopped → self.new.store.asked.items ≡ [] }
     {
-        self.store.clear_log();
-        if self.stopped {
-            return Err(EngineFault::Stopped);
+        match begin(&mut self.store, self.stopped, updates.len()) {
+            Ok(()) => {}
+            Err(fault) => return Err(fault),
         }
         let mut head = self.store.head();
         if let Err(fault) = change::update_all(
@@ -139,6 +150,46 @@ impl<'d, D: Station> Engine<'d, D> {
             return Err(fault);
         }
         commit(&mut self.store, &mut self.stopped, &head)
+    }
+}
+
+// How many takes so many updates in one commit are allowed, where so many pages are counted.
+fn takes_for(updates: usize, counted: u32) -> u64
+    requires few { updates ≤ 10000 }
+    ensures { result ≡ most_takes updates counted }
+{
+    TAKES_EACH * (updates as u64 + 1) + TAKES_A_PAGE * counted as u64
+}
+
+// Empties the log of reads, and allows the takes for so many updates. Refuses `Stopped` exactly where the engine is stopped, and `Memory`
+// where no further refusal of a take would be counted.
+fn begin<'d, D: Station>(
+    store: &mut Store<'d, D>,
+    stopped: bool,
+    updates: usize,
+) -> Result<(), EngineFault>
+    requires few { updates ≤ 10000 }
+    ensures stopped { IsErrOf result EngineFault.Stopped ↔ IsTrue stopped }
+    ensures on { OnOk result (stopped ≡ false) }
+    ensures causes { IfErr result (λ fault. (fault ≡ EngineFault.Stopped) ⊎ (fault ≡ EngineFault.Memory)) }
+    ensures takes { OnOk result (store.new.takes_left ≡ most_takes updates store.old.current.counted) }
+    ensures counts { OnOk result (store.old.refused < 2 ^ 64 - 1) }
+    ensures log { store.new.asked.items ≡ [] }
+    ensures current { store.new.current ≡ store.old.current }
+    ensures last { store.new.last ≡ store.old.last }
+    ensures overlay { store.new.overlay ≡ store.old.overlay }
+    ensures disk { store.new.disk ≡ store.old.disk }
+    ensures refused { store.new.refused ≡ store.old.refused }
+    ensures as_before { store.new.stopped ≡ store.old.stopped }
+{
+    store.clear_log();
+    if stopped {
+        return Err(EngineFault::Stopped);
+    }
+    let takes = takes_for(updates, store.counted());
+    match store.allow(takes) {
+        Ok(()) => Ok(()),
+        Err(_) => Err(EngineFault::Memory),
     }
 }
 

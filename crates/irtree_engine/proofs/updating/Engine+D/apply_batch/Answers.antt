@@ -6,37 +6,39 @@ use Rattle.page_face.specs.FreeList.{PageMap}
 use Rattle.page_face.specs.declared.head.Head.{Head}
 use Rattle.page_store.specs.declared.superblock.Superblock.{Superblock}
 use Rattle.page_store.specs.Store.{Kept}
+use Rattle.page_store.specs.Takes.{counts_of}
 use Rattle.page_store.specs.Contents.{Overlay, counted_pages, shown}
 use Rattle.store_meaning.specs.Stands.{PagesStand}
 use Rattle.irtree_engine.specs.Changes.{block_with}
 use Rattle.irtree_engine.specs.Holding.{HoldsState}
-use Rattle.irtree_engine.specs.Updates.{LeavesAllOrNone, state_after_all}
+use Rattle.irtree_engine.specs.Updates.{LeavesAllOrNone, most_takes, state_after_all}
 use Rattle.irtree_engine.proofs.Batches.{all-rise, leaves-all, outcome-is, outcome-stands}
 use Rattle.irtree_engine.proofs.Commits.{rest-leaves, rest-stands}
 use Rattle.irtree_engine.proofs.Heads.{head-rises, head-stays, made-from}
 use Rattle.irtree_engine.proofs.Standing.{committed-stand, store-told}
+use Rattle.irtree_engine.proofs.Takes.{room-left}
 use Rattle.irtree_engine.proofs.updating.Engine+D.apply_batch.Goals as goal
 
-pub returns-in-Err-clause-due : goal.returns-in-Err-clause-due
-returns-in-Err-clause-due g c = λ t state holds.
-    let on = c.clear_log.ensures.stopped ∙ sym c.args.self.now.stops ∙ c.if-self.false in
-    let clean = ap (λ (o : Overlay). o.entries) c.clear_log.ensures.overlay ∙ c.args.self.now.clean in
-    let settled = c.clear_log.ensures.current ∙ c.args.self.now.settled ∙ sym c.clear_log.ensures.last in
-    let here = subst (λ disk. HoldsState (g.D.Disk.world disk) state) (λ i. (sym c.clear_log.ensures.disk i).now) holds in
-    let store = c.clear_log.new.self in
+pub returns-in-Err-update_all-clause-due : goal.returns-in-Err-update_all-clause-due
+returns-in-Err-update_all-clause-due g c = λ t state holds.
+    let on = c.begin.ensures.as_before ∙ sym c.args.self.now.stops ∙ c.in-Ok.ensures.on in
+    let clean = ap (λ (o : Overlay). o.entries) c.begin.ensures.overlay ∙ c.args.self.now.clean in
+    let settled = c.begin.ensures.current ∙ c.args.self.now.settled ∙ sym c.begin.ensures.last in
+    let here = subst (λ disk. HoldsState (g.D.Disk.world disk) state) (λ i. (sym c.begin.ensures.disk i).now) holds in
+    let store = c.begin.new.store in
     let held : PageMap = counted_pages store.current.counted (shown g.D.Disk.tells (applied (g.D.Disk.world store.disk.now).seen) store.overlay) in
     let committed = committed-stand g.D.Disk.tells (g.D.Disk.world store.disk.now) store.overlay store.current store.last store.end state t clean settled (store.ready t on) here in
     let stand : PagesStand (block_with store.current.counted store.current.first_free c.head-head.result) held state =
     subst (λ (h : Head). PagesStand (block_with store.current.counted store.current.first_free h) held state) (sym c.head-head.ensures) committed in
-    c.in-Err.ensures.due state stand (λ p. store-told g.D.Disk.tells (applied (g.D.Disk.world p.disk.now).seen) p.overlay p.current.counted t p.sized)
+    c.in-Err-update_all.ensures.due state stand (λ p. store-told g.D.Disk.tells (applied (g.D.Disk.world p.disk.now).seen) p.overlay p.current.counted t p.sized)
 
 pub returns-clause-applied : goal.returns-clause-applied
 returns-clause-applied g c = λ t state holds.
-    let on = c.clear_log.ensures.stopped ∙ sym c.args.self.now.stops ∙ c.if-self.false in
-    let clean = ap (λ (o : Overlay). o.entries) c.clear_log.ensures.overlay ∙ c.args.self.now.clean in
-    let settled = c.clear_log.ensures.current ∙ c.args.self.now.settled ∙ sym c.clear_log.ensures.last in
-    let here = subst (λ disk. HoldsState (g.D.Disk.world disk) state) (λ i. (sym c.clear_log.ensures.disk i).now) holds in
-    let store = c.clear_log.new.self in
+    let on = c.begin.ensures.as_before ∙ sym c.args.self.now.stops ∙ c.in-Ok.ensures.on in
+    let clean = ap (λ (o : Overlay). o.entries) c.begin.ensures.overlay ∙ c.args.self.now.clean in
+    let settled = c.begin.ensures.current ∙ c.args.self.now.settled ∙ sym c.begin.ensures.last in
+    let here = subst (λ disk. HoldsState (g.D.Disk.world disk) state) (λ i. (sym c.begin.ensures.disk i).now) holds in
+    let store = c.begin.new.store in
     let held : PageMap = counted_pages store.current.counted (shown g.D.Disk.tells (applied (g.D.Disk.world store.disk.now).seen) store.overlay) in
     let committed = committed-stand g.D.Disk.tells (g.D.Disk.world store.disk.now) store.overlay store.current store.last store.end state t clean settled (store.ready t on) here in
     let stand : PagesStand (block_with store.current.counted store.current.first_free c.head-head.result) held state =
@@ -50,11 +52,11 @@ returns-clause-applied g c = λ t state holds.
 
 pub returns-clause-any_moment : goal.returns-clause-any_moment
 returns-clause-any_moment g c = λ t state holds.
-    let on = c.clear_log.ensures.stopped ∙ sym c.args.self.now.stops ∙ c.if-self.false in
-    let clean = ap (λ (o : Overlay). o.entries) c.clear_log.ensures.overlay ∙ c.args.self.now.clean in
-    let settled = c.clear_log.ensures.current ∙ c.args.self.now.settled ∙ sym c.clear_log.ensures.last in
-    let here = subst (λ disk. HoldsState (g.D.Disk.world disk) state) (λ i. (sym c.clear_log.ensures.disk i).now) holds in
-    let store = c.clear_log.new.self in
+    let on = c.begin.ensures.as_before ∙ sym c.args.self.now.stops ∙ c.in-Ok.ensures.on in
+    let clean = ap (λ (o : Overlay). o.entries) c.begin.ensures.overlay ∙ c.args.self.now.clean in
+    let settled = c.begin.ensures.current ∙ c.args.self.now.settled ∙ sym c.begin.ensures.last in
+    let here = subst (λ disk. HoldsState (g.D.Disk.world disk) state) (λ i. (sym c.begin.ensures.disk i).now) holds in
+    let store = c.begin.new.store in
     let held : PageMap = counted_pages store.current.counted (shown g.D.Disk.tells (applied (g.D.Disk.world store.disk.now).seen) store.overlay) in
     let committed = committed-stand g.D.Disk.tells (g.D.Disk.world store.disk.now) store.overlay store.current store.last store.end state t clean settled (store.ready t on) here in
     let stand : PagesStand (block_with store.current.counted store.current.first_free c.head-head.result) held state =
@@ -63,23 +65,37 @@ returns-clause-any_moment g c = λ t state holds.
     let rests = c.update_all.ensures.follows.rests t in
     let holds_mid = rest-stands (g.D.Disk.world store.disk.now) (g.D.Disk.world mid.disk.now) state rests here in
     let outcome = outcome-is (state_after_all state c.args.updates.now) (block_with mid.current.counted mid.current.first_free c.update_all.new.head) (counted_pages mid.current.counted (shown g.D.Disk.tells (applied (g.D.Disk.world mid.disk.now).seen) mid.overlay)) (c.in_default.ensures.updated state stand) in
-    subst (λ disk. LeavesOnly (g.D.Disk.world disk) (g.D.Disk.world c.commit.new.store.disk.now) (LeavesAllOrNone state c.args.updates.now (g.D.Disk.world disk))) (λ i. (c.clear_log.ensures.disk i).now)
+    subst (λ disk. LeavesOnly (g.D.Disk.world disk) (g.D.Disk.world c.commit.new.store.disk.now) (LeavesAllOrNone state c.args.updates.now (g.D.Disk.world disk))) (λ i. (c.begin.ensures.disk i).now)
     (leaves-all (g.D.Disk.world store.disk.now) (g.D.Disk.world c.commit.new.store.disk.now) state c.args.updates.now outcome.0 outcome.1
     (rest-leaves (g.D.Disk.world store.disk.now) (g.D.Disk.world mid.disk.now) (g.D.Disk.world c.commit.new.store.disk.now) state outcome.0 rests
     (c.commit.ensures.any_moment t state outcome.0 holds_mid outcome.2)))
 
-pub returns-then-self-clause-rises : goal.returns-then-self-clause-rises
-returns-then-self-clause-rises g c = head-stays (length c.args.updates.now) _ _ (ap (λ (b : Superblock). b.head) c.clear_log.ensures.current)
-
 pub returns-in-Err-clause-rises : goal.returns-in-Err-clause-rises
-returns-in-Err-clause-rises g c =
-    let last = ap (λ (k : Kept). k.last) c.update_all.ensures.follows.kept ∙ c.clear_log.ensures.last ∙ sym c.args.self.now.settled in
+returns-in-Err-clause-rises g c = head-stays (length c.args.updates.now) _ _ (ap (λ (b : Superblock). b.head) c.begin.ensures.current)
+
+pub returns-in-Err-update_all-clause-rises : goal.returns-in-Err-update_all-clause-rises
+returns-in-Err-update_all-clause-rises g c =
+    let last = ap (λ (k : Kept). k.last) c.update_all.ensures.follows.kept ∙ c.begin.ensures.last ∙ sym c.args.self.now.settled in
     head-stays (length c.args.updates.now) _ _ (ap (λ (b : Superblock). b.head) (c.abandon.ensures.current ∙ last))
 
 pub returns-clause-rises : goal.returns-clause-rises
 returns-clause-rises g c =
-    let last = ap (λ (k : Kept). k.last) c.update_all.ensures.follows.kept ∙ c.clear_log.ensures.last ∙ sym c.args.self.now.settled in
-    let from = c.head-head.ensures ∙ ap (λ (b : Superblock). b.head) c.clear_log.ensures.current in
+    let last = ap (λ (k : Kept). k.last) c.update_all.ensures.follows.kept ∙ c.begin.ensures.last ∙ sym c.args.self.now.settled in
+    let from = c.head-head.ensures ∙ ap (λ (b : Superblock). b.head) c.begin.ensures.current in
     let old = c.args.self.now.store.current.head in
     let within = made-from (length c.args.updates.now) old c.head-head.result c.update_all.new.head from c.update_all.ensures.one_more_each in
     head-rises (length c.args.updates.now) old c.update_all.new.pages.last.head c.update_all.new.head c.commit.new.store.current.head (ap (λ (b : Superblock). b.head) last) within c.commit.ensures.new_head
+
+pub returns-in-Err-update_all-clause-room_left : goal.returns-in-Err-update_all-clause-room_left
+returns-in-Err-update_all-clause-room_left g c = λ is.
+    let old = c.args.self.now.store in
+    let allowed = c.begin.new.store in
+    let mid = c.update_all.new.pages in
+    room-left (g.D.Disk.room_of old.disk.now) old.current.counted old.refused (most_takes (length c.args.updates.now) old.current.counted) (g.D.Disk.room_of allowed.disk.now)
+    (counts_of allowed.current.counted allowed.takes_left allowed.refused) (counts_of mid.current.counted mid.takes_left mid.refused)
+    (λ i. g.D.Disk.room_of (c.begin.ensures.disk i).now) (λ i. (c.begin.ensures.current i).counted) c.begin.ensures.refused c.in-Ok.ensures.takes
+    c.update_all.ensures.follows.takes c.in-Ok.ensures.counts (c.in-Err-update_all.ensures.no_room is)
+
+pub returns-in-Err-update_all-clause-as_before : goal.returns-in-Err-update_all-clause-as_before
+returns-in-Err-update_all-clause-as_before g c = λ is.
+    c.abandon.ensures.current ∙ ap (λ (k : Kept). k.last) c.update_all.ensures.follows.kept ∙ c.begin.ensures.last ∙ sym c.args.self.now.settled
