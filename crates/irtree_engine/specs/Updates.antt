@@ -83,3 +83,7 @@ IsAtLimit live number _ = Unit {0}
 -- what a change takes it gave back before, and the larger the store, the more there is to give back: hence the pages counted.
 abbrev pub most_takes : ℕ → ℕ → ℕ
 most_takes updates counted = 65536 * (updates + 1) + 256 * counted
+
+-- the room is no more than the pages counted and as many as so many updates are allowed to take
+abbrev pub LacksRoom : ℕ → ℕ → ℕ → Type 0
+LacksRoom updates room counted = room ≤ counted + most_takes updates counted

@@ -10,7 +10,7 @@ ghost use Rattle.place_map.specs.Update.{NamesText, effect_of};
 ghost use Rattle.store_meaning.specs.Stands.{PagesStand};
 ghost use Rattle.irtree_engine.specs.Changes.{block_with};
 ghost use Rattle.irtree_engine.specs.Holding.{HoldsState};
-ghost use Rattle.irtree_engine.specs.Updates.{LeavesOneOf, LeavesAllOrNone, StandsForOutcome, IsUpdateFault, IsCommitFault, IsDueTo, IsAtLimit, IsLater, most_takes, state_after_all};
+ghost use Rattle.irtree_engine.specs.Updates.{LeavesOneOf, LeavesAllOrNone, StandsForOutcome, IsUpdateFault, IsCommitFault, IsDueTo, IsAtLimit, IsLater, LacksRoom, most_takes, state_after_all};
 
 use crate::{Engine, EngineFault, change};
 use disk_model::Station;
@@ -58,7 +58,7 @@ impl<'d, D: Station> Engine<'d, D> {
         ensures causes { IfErr result IsUpdateFault }
         ensures disk { IsErrOf result EngineFault.Disk → worlds.Rose (D.world self.old.store.disk.now).faults (D.world self.new.store.disk.now).faults }
         ensures no_room { IsErrOf result EngineFault.NoRoom → Rose self.old.store.refused self.new.store.refused }
-        ensures room_left { IsErrOf result EngineFault.NoRoom → D.room_of self.old.store.disk.now ≤ self.old.store.current.counted + most_takes 1 self.old.store.current.counted }
+        ensures room_left { IsErrOf result EngineFault.NoRoom → LacksRoom 1 (D.room_of self.old.store.disk.now) self.old.store.current.counted }
         ensures as_before { IsErrOf result EngineFault.NoRoom → self.new.store.current ≡ self.old.store.current }
 
         // After a refusal that doesn't stop the engine the image is as before.
@@ -120,7 +120,7 @@ impl<'d, D: Station> Engine<'d, D> {
         ensures causes { IfErr result IsUpdateFault }
         ensures disk { IsErrOf result EngineFault.Disk → worlds.Rose (D.world self.old.store.disk.now).faults (D.world self.new.store.disk.now).faults }
         ensures no_room { IsErrOf result EngineFault.NoRoom → Rose self.old.store.refused self.new.store.refused }
-        ensures room_left { IsErrOf result EngineFault.NoRoom → D.room_of self.old.store.disk.now ≤ self.old.store.current.counted + most_takes (length updates.now) self.old.store.current.counted }
+        ensures room_left { IsErrOf result EngineFault.NoRoom → LacksRoom (length updates.now) (D.room_of self.old.store.disk.now) self.old.store.current.counted }
         ensures as_before { IsErrOf result EngineFault.NoRoom → self.new.store.current ≡ self.old.store.current }
 
         // After a refusal that doesn't stop the engine the image is as before.

@@ -1,8 +1,9 @@
 -- What ends a script, whatever the image stands for.
-use Rattle.std.proofs.Common.{◌≡◌, ℕ, ◌+◌, ◌<◌, ◌≤◌, List, ◌++◌, length, take, refl, ap, subst, arith, length-append}
+use Rattle.std.proofs.Common.{◌≡◌, ℕ, ◌+◌, ◌<◌, ◌≤◌, List, ◌++◌, length, take, refl, sym, ap, subst, arith, length-append}
 use Rattle.std.specs.Prelude.{Result, Ok, Err, OnOk, IfErr, IsErrOf}
 use Rattle.std.proofs.lemmas.List.{length-take-le}
 use Rattle.irtree_engine.specs.Faults.{IsReadFault}
+use Rattle.irtree_engine.specs.Updates.{LacksRoom}
 use Rattle.irtree_engine.specs.declared.fault.EngineFault.{EngineFault}
 use Rattle.irtree_engine.specs.declared.fault.EngineFault.TheVariants as engine
 use Rattle.run_protocol.specs.Causes.{end_of_engine}
@@ -27,6 +28,35 @@ read-ends engine.Full reads = absurd reads
 read-ends engine.Worn reads = absurd reads
 read-ends engine.NoRoom reads = absurd reads
 read-ends _ reads = tt
+
+-- an update that ends a run for want of room was refused for that
+pub refused-full : (fault : EngineFault) → IsErrOf (refused_by fault) (ends.Limit limits.NoRoom) → fault ≡ engine.NoRoom
+refused-full engine.NoRoom is = refl
+refused-full engine.Full is = absurd (cc)
+refused-full engine.Worn is = absurd (cc)
+refused-full engine.Disk is = absurd (cc)
+refused-full engine.NotAStore is = absurd (cc)
+refused-full (engine.BadJournal at) is = absurd (cc)
+refused-full (engine.Damaged damage) is = absurd (cc)
+refused-full engine.Stopped is = absurd (cc)
+refused-full engine.Memory is = absurd (cc)
+
+-- a call that only reads ends none for want of room
+pub read-full : (fault : EngineFault) → IsReadFault fault → end_of_engine fault ≡ ends.Limit limits.NoRoom → ⊥
+read-full engine.NoRoom reads is = absurd reads
+read-full engine.Full reads is = absurd reads
+read-full engine.Worn reads is = absurd reads
+read-full engine.NotAStore reads is = absurd reads
+read-full (engine.BadJournal at) reads is = absurd reads
+read-full engine.Disk reads is = absurd (cc)
+read-full (engine.Damaged damage) reads is = absurd (cc)
+read-full engine.Stopped reads is = absurd (cc)
+read-full engine.Memory reads is = absurd (cc)
+
+-- what lacks room still lacks it where room and pages counted are as they were
+pub lacks-still : (n room_old room counted_old counted : ℕ) → room ≡ room_old → counted ≡ counted_old → LacksRoom n room_old counted_old → LacksRoom n room counted
+lacks-still n room_old room counted_old counted rooms counts lacks =
+    subst (λ (r : ℕ). LacksRoom n r counted) (sym rooms) (subst (LacksRoom n room_old) (sym counts) lacks)
 
 -- no input ends lines
 pub line-input : {T : Type 0} (result : Result T Ended) (fault : InputFault) → IfErr result IsLineEnd → IsErrOf result (ends.Input fault) → ⊥

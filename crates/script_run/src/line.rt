@@ -1,5 +1,5 @@
 // One line of a script, acted on, and its reply.
-ghost use Rattle.std.specs.Prelude.{◌≡◌, ◌++◌, ◌∷◌, [], false, IsTrue, IfErr, IfOk, OnOk, Ok};
+ghost use Rattle.std.specs.Prelude.{◌≡◌, ◌++◌, ◌∷◌, [], false, IsTrue, IfErr, IfOk, IsErrOf, OnOk, Ok};
 ghost use Rattle.place_map.specs.State.{Contents};
 ghost use Rattle.query_lang.specs.Line.{line_of};
 ghost use Rattle.query_lang.specs.Plain.{IsSound, plain_line};
@@ -8,6 +8,7 @@ ghost use Rattle.query_lang.specs.declared.line.Line.TheVariants as lines;
 ghost use Rattle.query_replies.specs.Reply.{HasReason};
 ghost use Rattle.place_map.specs.Query.{IsWithinLimits};
 ghost use Rattle.irtree_engine.specs.Holding.{HoldsState};
+ghost use Rattle.irtree_engine.specs.Updates.{LacksRoom};
 ghost use Rattle.place_map.specs.Update.{NamesText};
 ghost use Rattle.run_protocol.specs.Asking.{IsAsking, ReadsForLine};
 ghost use Rattle.run_protocol.specs.Causes.{HasEngineEnd};
@@ -18,7 +19,7 @@ use disk_model::Station;
 use irtree_engine::{Engine, EngineFault};
 use place_map::{Applied, Query, Update};
 use query_lang::{Line, LineFault, Reply, UpdateDone, read_line, reply_text};
-use run_protocol::{Ended, ended_by, say_all};
+use run_protocol::{Ended, LimitFault, ended_by, say_all};
 use spatial_base::{Key, Memory};
 use std::alloc::Global;
 
@@ -57,6 +58,7 @@ fn update<'d, T: Station>(engine: &mut Engine<'d, T>, update: &Update) -> Result
     ensures on { OnOk result (engine.new.stopped ≡ false) }
     ensures cause { HasEngineEnd T.tells (T.world engine.old.store.disk.now) (T.world engine.new.store.disk.now) result }
     ensures ends { IfErr result IsLineEnd }
+    ensures lacks { IsErrOf result (Ended.Limit LimitFault.NoRoom) → LacksRoom 1 (T.room_of engine.new.store.disk.now) engine.new.store.current.counted }
 {
     match engine.apply(update) {
         Ok(applied) => Ok(accepted(applied)),
@@ -82,6 +84,7 @@ fn ask<'d, T: Station>(
     ensures on { OnOk result (engine.new.stopped ≡ false) }
     ensures cause { HasEngineEnd T.tells (T.world engine.old.store.disk.now) (T.world engine.new.store.disk.now) result }
     ensures ends { IfErr result IsLineEnd }
+    ensures lacks { IsErrOf result (Ended.Limit LimitFault.NoRoom) → LacksRoom 1 (T.room_of engine.new.store.disk.now) engine.new.store.current.counted }
 {
     match engine.answer(&query) {
         Ok(answer) => Ok(Reply::Found {
@@ -104,6 +107,7 @@ fn show<'d, T: Station>(engine: &mut Engine<'d, T>, key: Key) -> Result<Reply, E
     ensures on { OnOk result (engine.new.stopped ≡ false) }
     ensures cause { HasEngineEnd T.tells (T.world engine.old.store.disk.now) (T.world engine.new.store.disk.now) result }
     ensures ends { IfErr result IsLineEnd }
+    ensures lacks { IsErrOf result (Ended.Limit LimitFault.NoRoom) → LacksRoom 1 (T.room_of engine.new.store.disk.now) engine.new.store.current.counted }
 {
     match engine.show(&key) {
         Ok(Some(place)) => Ok(Reply::Place {
@@ -130,6 +134,7 @@ fn answer<'d, T: Station>(engine: &mut Engine<'d, T>, line: Line) -> Result<Repl
     ensures on { OnOk result (engine.new.stopped ≡ false) }
     ensures cause { HasEngineEnd T.tells (T.world engine.old.store.disk.now) (T.world engine.new.store.disk.now) result }
     ensures ends { IfErr result IsLineEnd }
+    ensures lacks { IsErrOf result (Ended.Limit LimitFault.NoRoom) → LacksRoom 1 (T.room_of engine.new.store.disk.now) engine.new.store.current.counted }
 {
     match line {
         Line::Nothing => Ok(Reply::Nothing),
@@ -157,6 +162,7 @@ fn reply_to<'d, T: Station>(
     ensures on { OnOk result (engine.new.stopped ≡ false) }
     ensures cause { HasEngineEnd T.tells (T.world engine.old.store.disk.now) (T.world engine.new.store.disk.now) result }
     ensures ends { IfErr result IsLineEnd }
+    ensures lacks { IsErrOf result (Ended.Limit LimitFault.NoRoom) → LacksRoom 1 (T.room_of engine.new.store.disk.now) engine.new.store.current.counted }
 {
     match read_line(alloc, line) {
         Ok(line) => answer(engine, line),
@@ -180,6 +186,7 @@ pub(crate) fn act<'d, T: Station>(
     ensures on { OnOk result (engine.new.stopped ≡ false) }
     ensures cause { HasEngineEnd T.tells (T.world engine.old.store.disk.now) (T.world engine.new.store.disk.now) result }
     ensures ends { IfErr result IsLineEnd }
+    ensures lacks { IsErrOf result (Ended.Limit LimitFault.NoRoom) → LacksRoom 1 (T.room_of engine.new.store.disk.now) engine.new.store.current.counted }
 {
     reply.clear();
     let found = match reply_to(alloc, engine, line) {

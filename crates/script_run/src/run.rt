@@ -3,6 +3,7 @@ ghost use Rattle.std.specs.Prelude.{◌≡◌, ◌≤◌, ◌-◌, ◌+◌, ◌+
 ghost use Rattle.disk_model.specs.World.{LeavesOnly};
 ghost use Rattle.place_map.specs.State.{Contents};
 ghost use Rattle.irtree_engine.specs.Holding.{HoldsState};
+ghost use Rattle.irtree_engine.specs.Updates.{LacksRoom};
 ghost use Rattle.run_protocol.specs.Asking.{AreAsking, ReadsForLines};
 ghost use Rattle.run_protocol.specs.Causes.{HasJobEnd};
 ghost use Rattle.run_protocol.specs.Left.{LeftByLines};
@@ -47,6 +48,7 @@ fn take<'d, T: Station>(
     ensures on { OnOk result (engine.new.stopped ≡ false) }
     ensures cause { HasJobEnd T.tells 0 0 (T.world engine.old.store.disk.now) (T.world engine.new.store.disk.now) result }
     ensures ends { IfErr result (IsPieceEnd taken (length piece.now)) }
+    ensures lacks { IsErrOf result (Ended.Limit LimitFault.NoRoom) → LacksRoom 1 (T.room_of engine.new.store.disk.now) engine.new.store.current.counted }
 {
     let room = INPUT_MAX - taken;
     if piece.len() > room {
@@ -68,7 +70,8 @@ fn take<'d, T: Station>(
 /// A place that the map has no room for and an update past the last update number are replies, and the script goes on. Errors:
 ///
 /// - `Input(Long)` if the script has more bytes, after the replies to the lines whose LF is among the first 268,435,456.
-/// - `Limit(NoRoom)` if no page is left for an update, after the replies to the lines before it. The state is the one before it.
+/// - `Limit(NoRoom)` if no page is left for an update, after the replies to the lines before it. The state is the one before it, and the
+///   station has room for at most the pages counted and as many more as an update is allowed to take.
 /// - `Source` if the source fails, after the replies to all lines whose LF was read.
 /// - `Disk`, `Sink` and `Memory` if one of them fails, after a prefix of the replies.
 /// - `Store(Damaged)` if a page breaks a rule; never if the image stands for a state. A script without updates names a page and a rule that it
@@ -97,6 +100,7 @@ pub fn run_script<'d, S: Source, T: Station>(
     ensures input { IsTrue S.tells → (fault : InputFault) → IsErrOf result (Ended.Input fault) → IsScriptInput (S.left source.old) fault }
     ensures whole { IsTrue S.tells → OnOk result ((S.left source.new ≡ []) × FitsScript (S.left source.old)) }
     ensures limit { (fault : LimitFault) → IsErrOf result (Ended.Limit fault) → fault ≡ LimitFault.NoRoom }
+    ensures lacks { IsErrOf result (Ended.Limit LimitFault.NoRoom) → LacksRoom 1 (T.room_of engine.new.store.disk.now) engine.new.store.current.counted }
 {
     let mut piece = match vec![in alloc; 0; PIECE_LEN] {
         Ok(piece) => piece,

@@ -1,7 +1,8 @@
 // A script, read piece by piece.
-ghost use Rattle.std.specs.Prelude.{◌≡◌, ◌≤◌, ◌<◌, ◌++◌, ◌∷◌, [], ℕ, List, false, length, take, slice_index, IsTrue, IfOk, OnOk, IfNone, IfSome, IfErr};
+ghost use Rattle.std.specs.Prelude.{◌≡◌, ◌≤◌, ◌<◌, ◌++◌, ◌∷◌, [], ℕ, List, false, length, take, slice_index, IsTrue, IfOk, OnOk, IfNone, IfSome, IfErr, IsErrOf};
 ghost use Rattle.place_map.specs.State.{Contents};
 ghost use Rattle.irtree_engine.specs.Holding.{HoldsState};
+ghost use Rattle.irtree_engine.specs.Updates.{LacksRoom};
 ghost use Rattle.run_protocol.specs.Causes.{HasEngineEnd};
 ghost use Rattle.query_lang.specs.Line.{line_of};
 ghost use Rattle.run_protocol.specs.Reading.{AreReading, IsReading, KeepsImage};
@@ -13,7 +14,7 @@ use crate::line::act;
 use disk_model::Station;
 use irtree_engine::Engine;
 use query_lang::LINE_MAX;
-use run_protocol::Ended;
+use run_protocol::{Ended, LimitFault};
 use std::alloc::Global;
 
 /// How many bytes of a line are kept: a longer line is refused whatever its other bytes are.
@@ -96,6 +97,7 @@ impl Script {
         ensures on { OnOk result (engine.new.stopped ≡ false) }
         ensures cause { HasEngineEnd T.tells (T.world engine.old.store.disk.now) (T.world engine.new.store.disk.now) result }
         ensures ends { IfErr result IsLineEnd }
+        ensures lacks { IsErrOf result (Ended.Limit LimitFault.NoRoom) → LacksRoom 1 (T.room_of engine.new.store.disk.now) engine.new.store.current.counted }
     {
         if self.line.is_empty() {
             return act(self.alloc, engine, &mut self.reply, part);
@@ -125,6 +127,7 @@ impl Script {
         ensures on { OnOk result (engine.new.stopped ≡ false) }
         ensures cause { HasEngineEnd T.tells (T.world engine.old.store.disk.now) (T.world engine.new.store.disk.now) result }
         ensures ends { IfErr result IsLineEnd }
+        ensures lacks { IsErrOf result (Ended.Limit LimitFault.NoRoom) → LacksRoom 1 (T.room_of engine.new.store.disk.now) engine.new.store.current.counted }
     {
         let mut rest = piece;
         'lines: while let Some((line, next)) = first_line(rest) {
@@ -144,6 +147,7 @@ impl Script {
             → KeepsImage (T.world engine.old.store.disk.now) (T.world engine.new.store.disk.now) result }
         ensures cause { HasEngineEnd T.tells (T.world engine.old.store.disk.now) (T.world engine.new.store.disk.now) result }
         ensures ends { IfErr result IsLineEnd }
+        ensures lacks { IsErrOf result (Ended.Limit LimitFault.NoRoom) → LacksRoom 1 (T.room_of engine.new.store.disk.now) engine.new.store.current.counted }
     {
         if self.line.is_empty() {
             return Ok(());

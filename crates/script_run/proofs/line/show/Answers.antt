@@ -8,8 +8,10 @@ use Rattle.query_replies.specs.Reply.{text_of_reply}
 use Rattle.run_protocol.specs.Causes.{HasEngineEnd}
 use Rattle.run_protocol.specs.Reading.{IsMetIn}
 use Rattle.run_protocol.specs.declared.ended.Ended.{Ended}
+use Rattle.run_protocol.specs.declared.ended.Ended.TheVariants as ends
+use Rattle.run_protocol.specs.declared.ended.LimitFault.TheVariants as limits
 use Rattle.script_run.specs.Lines.{IsLineEnd, RepliesTo}
-use Rattle.script_run.proofs.Ends.{read-ends}
+use Rattle.script_run.proofs.Ends.{read-ends, read-full}
 use Rattle.run_protocol.proofs.Reading.{RefusedRead, met-engine, refused-read-cause}
 use Rattle.script_run.proofs.Replies.{read-replies, refused-read}
 use Rattle.script_run.proofs.line.show.Goals as goal
@@ -72,3 +74,8 @@ returns-in-Err-clause-kept g c = λ told.
       seen = (c.in-Err.ensures.rests told).seen;
       met = subst (IsMetIn image) (sym c.ended_by.ensures) (met-engine image c.in-Err.fault (λ damage e. inr (c.in-Err.ensures.broken told damage (ap Err e))));
     }
+
+pub returns-in-Err-clause-lacks : goal.returns-in-Err-clause-lacks
+returns-in-Err-clause-lacks g c = λ is.
+    let ended : c.ended_by.result ≡ ends.Limit limits.NoRoom = cc in
+    absurd (read-full c.in-Err.fault c.in-Err.ensures.causes (sym c.ended_by.ensures ∙ ended))

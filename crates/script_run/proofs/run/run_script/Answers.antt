@@ -2,6 +2,8 @@ use Rattle.std.proofs.Common.{◌≡◌, ℕ, ◌++◌, [], length, drop, refl, 
 use Rattle.std.specs.Prelude.{Err}
 use Rattle.disk_model.proofs.Moments.{started}
 use Rattle.run_protocol.specs.Script.{cut, script}
+use Rattle.run_protocol.specs.declared.ended.Ended.TheVariants as ends
+use Rattle.run_protocol.specs.declared.ended.LimitFault.TheVariants as limits
 use Rattle.script_run.proofs.Causes.{job-still, job-by-engine, job-then, job-failed, job-valued}
 use Rattle.script_run.proofs.Ends.{left-counts, line-input, line-limit, on_ok-held, piece-input, piece-limit}
 use Rattle.script_run.proofs.Fronts.{piece-came, none-behind}
@@ -244,3 +246,17 @@ returns-in-Err-take-clause-kept g c = λ tells told reads.
     keeps-failed ℕ (Unit {0}) _ _ c.in-Err-take.end
     (untouched-piece (g.S.Source.left c.args.source.now) (g.S.Source.left c.pieces.source) (g.T.Disk.world c.args.engine.now.store.disk.now) (g.T.Disk.world c.pieces.engine.store.disk.now) c.pieces.script.line.items c.pieces.taken u c.split_at.result.0.now (g.S.Source.left c.read.new.self) (g.T.Disk.world c.take.new.engine.store.disk.now) came _ c.pieces.invariant.taken
     (c.in-Err-take.ensures.kept (cut u.read).rest (rest-EndsNoLine u.read) u.keeps told) reads)
+
+-- ---- the room left
+
+pub returns-in-Err-clause-lacks : goal.returns-in-Err-clause-lacks
+returns-in-Err-clause-lacks g c = λ is. absurd (cc)
+
+pub returns-in-Err-read-clause-lacks : goal.returns-in-Err-read-clause-lacks
+returns-in-Err-read-clause-lacks g c = λ is. absurd (cc)
+
+pub returns-then-n-eq0-clause-lacks : goal.returns-then-n-eq0-clause-lacks
+returns-then-n-eq0-clause-lacks g c = λ is. c.end.ensures.lacks is
+
+pub returns-in-Err-take-clause-lacks : goal.returns-in-Err-take-clause-lacks
+returns-in-Err-take-clause-lacks g c = λ is. let same : c.in-Err-take.end ≡ ends.Limit limits.NoRoom = cc in c.in-Err-take.ensures.lacks (ap Err same)

@@ -1,9 +1,11 @@
-use Rattle.std.proofs.Common.{◌≡◌, ◌+◌, ◌-◌, ◌++◌, List, ℕ, length, take, refl, sym, subst, arith}
+use Rattle.std.proofs.Common.{◌≡◌, ◌+◌, ◌-◌, ◌++◌, List, ℕ, length, take, refl, sym, ap, subst, arith}
 use Rattle.std.specs.Prelude.{Ok, Err}
 use Rattle.std.proofs.lemmas.List.{take_all}
 use Rattle.run_protocol.specs.Reading.{AreReading}
 use Rattle.run_protocol.specs.Script.{cut}
+use Rattle.run_protocol.specs.declared.ended.Ended.TheVariants as endings
 use Rattle.run_protocol.specs.declared.ended.InputFault.TheVariants.{Long}
+use Rattle.run_protocol.specs.declared.ended.LimitFault.TheVariants as limits
 use Rattle.script_run.specs.Lines.{RunsLines}
 use Rattle.script_run.proofs.Causes.{job-by-failure, job-by-input, job-by-value}
 use Rattle.script_run.proofs.Ends.{piece-line}
@@ -129,3 +131,17 @@ returns-in-Err-feed-clause-kept g c = λ front ends is told reads.
     let whole : take (268435456 - c.args.taken) c.args.piece.now ≡ c.args.piece.now = take_all (268435456 - c.args.taken) c.args.piece.now (omega arith) in
     let all = subst (λ (part : List ℕ). AreReading (cut (front ++ part)).lines) whole reads in
     keeps-failed (Unit {0}) ℕ _ _ c.in-Err-feed.end (c.in-Err-feed.ensures.kept front ends is told all)
+
+-- ---- the room left
+
+pub returns-in-Ok-clause-lacks : goal.returns-in-Ok-clause-lacks
+returns-in-Ok-clause-lacks g c = λ is. absurd (cc)
+
+pub returns-in-Err-clause-lacks : goal.returns-in-Err-clause-lacks
+returns-in-Err-clause-lacks g c = λ is. let same : c.in-Err.end ≡ endings.Limit limits.NoRoom = cc in c.in-Err.ensures.lacks (ap Err same)
+
+pub returns-in-Ok-feed-clause-lacks : goal.returns-in-Ok-feed-clause-lacks
+returns-in-Ok-feed-clause-lacks g c = λ is. absurd (cc)
+
+pub returns-in-Err-feed-clause-lacks : goal.returns-in-Err-feed-clause-lacks
+returns-in-Err-feed-clause-lacks g c = λ is. let same : c.in-Err-feed.end ≡ endings.Limit limits.NoRoom = cc in c.in-Err-feed.ensures.lacks (ap Err same)
