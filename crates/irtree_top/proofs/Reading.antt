@@ -2,7 +2,6 @@
 use Rattle.std.proofs.Common.{◌≡◌, ◌⊎◌, inl, inr, refl, ap, subst}
 use Rattle.std.specs.Prelude.{Bool, IsTrue, Result, Ok, Err, IfErr}
 use Rattle.disk_model.specs.World.{World}
-use Rattle.page_face.specs.declared.fault.Damage.{Damage}
 use Rattle.page_journal.specs.Record.{StandsFor, applied}
 use Rattle.page_store.specs.Contents as pages
 use Rattle.irtree_engine.specs.Damages.{IsQueryDamageIn, IsShownDamageIn}
