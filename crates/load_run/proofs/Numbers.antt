@@ -1,10 +1,10 @@
 -- Page 0's numbers over the calls of a load, and what a limit says of the text.
-use Rattle.std.proofs.Common.{◌≡◌, ℕ, ◌+◌, ◌≤◌, List, [], ◌∷◌, length, map, ap, sym, subst, ◌∙◌, arith}
-use Rattle.std.specs.Prelude.{Option, Result, Ok, Err, OnOk, IfErr}
+use Rattle.std.proofs.Common.{◌≡◌, ℕ, ◌+◌, ◌≤◌, List, [], ◌∷◌, length, map, refl, ap, sym, subst, ◌∙◌, arith}
+use Rattle.std.specs.Prelude.{Option, Result, Ok, Err, OnOk, IfErr, IsErrOf}
 use Rattle.page_face.specs.declared.head.Head.{Head}
 use Rattle.geojson_points.specs.Takes.{Item, Placed, Skipped, item_of}
 use Rattle.geojson_points.specs.declared.taken.Taken.{Taken}
-use Rattle.irtree_engine.specs.Updates.{IsAtLimit}
+use Rattle.irtree_engine.specs.Updates.{IsAtLimit, LacksRoom}
 use Rattle.irtree_engine.specs.declared.fault.EngineFault.{EngineFault}
 use Rattle.irtree_engine.specs.declared.fault.EngineFault.TheVariants as engine
 use Rattle.run_protocol.specs.Causes.{end_of_engine}
@@ -15,6 +15,29 @@ use Rattle.run_protocol.specs.declared.ended.LimitFault.{LimitFault}
 use Rattle.run_protocol.specs.declared.ended.LimitFault.TheVariants as limits
 use Rattle.load_run.specs.declared.load.Load.{Load}
 use Rattle.load_run.specs.Loading.{HasStored, IsLimitAt, RisesBy}
+
+-- ---- the room left
+
+-- a call of the engine that ends a run for want of room was refused for that
+pub ended-full : (fault : EngineFault) → end_of_engine fault ≡ ends.Limit limits.NoRoom → fault ≡ engine.NoRoom
+ended-full engine.NoRoom is = refl
+ended-full engine.Full is = absurd (cc)
+ended-full engine.Worn is = absurd (cc)
+ended-full engine.Disk is = absurd (cc)
+ended-full engine.NotAStore is = absurd (cc)
+ended-full (engine.BadJournal at) is = absurd (cc)
+ended-full (engine.Damaged damage) is = absurd (cc)
+ended-full engine.Stopped is = absurd (cc)
+ended-full engine.Memory is = absurd (cc)
+
+-- what lacks room for fewer updates lacks it for more, where room and pages counted are as they were
+pub lacks-more : (n more room_old room counted_old counted : ℕ) → n ≤ more → room ≡ room_old → counted ≡ counted_old → LacksRoom n room_old counted_old → LacksRoom more room counted
+lacks-more n more room_old room counted_old counted few rooms counts lacks = omega (arith, few, rooms, counts, lacks)
+
+-- saying text ends none for want of room
+pub said-room : {T : Type 0} (result : Result T Ended) → IfErr result (λ (end : Ended). end ≡ ends.Sink) → IsErrOf result (ends.Limit limits.NoRoom) → ⊥
+said-room (Ok done) sink is = absurd (cc)
+said-room (Err end) sink is = absurd (cc)
 
 -- ---- limits
 

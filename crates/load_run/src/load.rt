@@ -1,10 +1,11 @@
 // A load, item by item, over an engine.
-ghost use Rattle.std.specs.Prelude.{◌≡◌, ◌≤◌, ◌<◌, ◌+◌, ◌^◌, ◌∷◌, [], List, length, false, IsTrue, IfOk, IfErr, OnOk};
+ghost use Rattle.std.specs.Prelude.{◌≡◌, ◌≤◌, ◌<◌, ◌+◌, ◌^◌, ◌∷◌, [], List, length, false, IsTrue, IfOk, IfErr, IsErrOf, OnOk};
 ghost use Rattle.std.specs.List.{AllByRecursion};
 ghost use Rattle.place_map.specs.State.{Contents};
 ghost use Rattle.place_map.specs.declared.update.Update.{Update};
 ghost use Rattle.geojson_points.specs.Takes.{Item, Placed, Skipped, HasTextKey, item_of, place_of};
 ghost use Rattle.irtree_engine.specs.Holding.{HoldsState};
+ghost use Rattle.irtree_engine.specs.Updates.{LacksRoom};
 ghost use Rattle.place_map.specs.Update.{NamesText};
 ghost use Rattle.run_protocol.specs.Causes.{HasEngineEnd};
 ghost use Rattle.run_protocol.specs.Load.{Closing, Step, Store, places_among, put_of, says_loaded};
@@ -16,7 +17,7 @@ use disk_model::Station;
 use geojson_points::{Draft, SkipReason, Taken};
 use irtree_engine::Engine;
 use place_map::Update;
-use run_protocol::{Ended, ended_by, say_all, write_bytes};
+use run_protocol::{Ended, LimitFault, ended_by, say_all, write_bytes};
 use std::alloc::Global;
 use std::mem;
 use term_impacts::impacts;
@@ -66,6 +67,7 @@ fn store_batch<'d, T: Station>(engine: &mut Engine<'d, T>, updates: &[Update]) -
     ensures on { OnOk result (engine.new.stopped ≡ false) }
     ensures cause { HasEngineEnd T.tells (T.world engine.old.store.disk.now) (T.world engine.new.store.disk.now) result }
     ensures rises { RisesBy (length updates.now) 0 0 engine.old.store.current.head engine.new.store.current.head result }
+    ensures lacks { IsErrOf result (Ended.Limit LimitFault.NoRoom) → LacksRoom 10000 (T.room_of engine.new.store.disk.now) engine.new.store.current.counted }
 {
     match engine.apply_batch(updates) {
         Ok(()) => Ok(()),
@@ -125,6 +127,7 @@ impl Load {
         ensures waits { OnOk result (CanWait self.new) }
         ensures cause { HasEngineEnd T.tells (T.world engine.old.store.disk.now) (T.world engine.new.store.disk.now) result }
         ensures rises { RisesBy (places_among (item_of item ∷ [])) (length self.old.waiting.items) (length self.new.waiting.items) engine.old.store.current.head engine.new.store.current.head result }
+        ensures lacks { IsErrOf result (Ended.Limit LimitFault.NoRoom) → LacksRoom 10000 (T.room_of engine.new.store.disk.now) engine.new.store.current.counted }
     {
         match item {
             Taken::Place(draft) => self.place(engine, draft),
@@ -151,6 +154,7 @@ impl Load {
         ensures waits { OnOk result (CanWait self.new) }
         ensures cause { HasEngineEnd T.tells (T.world engine.old.store.disk.now) (T.world engine.new.store.disk.now) result }
         ensures rises { RisesBy 0 (length self.old.waiting.items) (length self.new.waiting.items) engine.old.store.current.head engine.new.store.current.head result }
+        ensures lacks { IsErrOf result (Ended.Limit LimitFault.NoRoom) → LacksRoom 10000 (T.room_of engine.new.store.disk.now) engine.new.store.current.counted }
     {
         match write_skip(index, reason, &mut self.text) {
             Ok(()) => {}
@@ -185,6 +189,7 @@ impl Load {
         ensures waits { OnOk result (CanWait self.new) }
         ensures cause { HasEngineEnd T.tells (T.world engine.old.store.disk.now) (T.world engine.new.store.disk.now) result }
         ensures rises { RisesBy 1 (length self.old.waiting.items) (length self.new.waiting.items) engine.old.store.current.head engine.new.store.current.head result }
+        ensures lacks { IsErrOf result (Ended.Limit LimitFault.NoRoom) → LacksRoom 10000 (T.room_of engine.new.store.disk.now) engine.new.store.current.counted }
     {
         let update = match update_of(self.alloc, draft) {
             Ok(update) => update,
@@ -220,6 +225,7 @@ impl Load {
         ensures counts { OnOk result (HasStored (length updates.now) self.old self.new) }
         ensures cause { HasEngineEnd T.tells (T.world engine.old.store.disk.now) (T.world engine.new.store.disk.now) result }
         ensures rises { RisesBy (length updates.now) 0 0 engine.old.store.current.head engine.new.store.current.head result }
+        ensures lacks { IsErrOf result (Ended.Limit LimitFault.NoRoom) → LacksRoom 10000 (T.room_of engine.new.store.disk.now) engine.new.store.current.counted }
     {
         match say_text(&mut self.text, &mut *engine) {
             Ok(()) => {}
@@ -250,6 +256,7 @@ impl Load {
         ensures on { OnOk result (engine.new.stopped ≡ false) }
         ensures cause { HasEngineEnd T.tells (T.world engine.old.store.disk.now) (T.world engine.new.store.disk.now) result }
         ensures rises { RisesBy 0 (length self.old.waiting.items) 0 engine.old.store.current.head engine.new.store.current.head result }
+        ensures lacks { IsErrOf result (Ended.Limit LimitFault.NoRoom) → LacksRoom 10000 (T.room_of engine.new.store.disk.now) engine.new.store.current.counted }
     {
         let updates = mem::replace(&mut self.waiting, Vec::new(self.alloc));
         if updates.is_empty() {
@@ -272,6 +279,7 @@ impl Load {
             → Concludes (stage closing self.old state []) (T.world engine.old.store.disk.now) (T.world engine.new.store.disk.now) result }
         ensures cause { HasEngineEnd T.tells (T.world engine.old.store.disk.now) (T.world engine.new.store.disk.now) result }
         ensures rises { RisesBy 0 0 0 engine.old.store.current.head engine.new.store.current.head result }
+        ensures lacks { IsErrOf result (Ended.Limit LimitFault.NoRoom) → LacksRoom 10000 (T.room_of engine.new.store.disk.now) engine.new.store.current.counted }
     {
         match write_bytes(line, &mut self.text) {
             Ok(()) => say_text(&mut self.text, engine),
@@ -289,6 +297,7 @@ impl Load {
             → Concludes (stage_before says_loaded self.old state []) (T.world engine.old.store.disk.now) (T.world engine.new.store.disk.now) result }
         ensures cause { HasEngineEnd T.tells (T.world engine.old.store.disk.now) (T.world engine.new.store.disk.now) result }
         ensures rises { RisesBy 0 (length self.old.waiting.items) 0 engine.old.store.current.head engine.new.store.current.head result }
+        ensures lacks { IsErrOf result (Ended.Limit LimitFault.NoRoom) → LacksRoom 10000 (T.room_of engine.new.store.disk.now) engine.new.store.current.counted }
     {
         match self.store_rest(&mut *engine) {
             Ok(()) => self.conclude(engine),
@@ -304,6 +313,7 @@ impl Load {
             → Concludes (stage says_loaded self.old state []) (T.world engine.old.store.disk.now) (T.world engine.new.store.disk.now) result }
         ensures cause { HasEngineEnd T.tells (T.world engine.old.store.disk.now) (T.world engine.new.store.disk.now) result }
         ensures rises { RisesBy 0 0 0 engine.old.store.current.head engine.new.store.current.head result }
+        ensures lacks { IsErrOf result (Ended.Limit LimitFault.NoRoom) → LacksRoom 10000 (T.room_of engine.new.store.disk.now) engine.new.store.current.counted }
     {
         let mut line = Vec::new(self.alloc);
         match write_loaded(self.stored, self.skipped, &mut line) {

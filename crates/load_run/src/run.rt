@@ -5,6 +5,7 @@ ghost use Rattle.disk_model.specs.World.{LeavesOnly};
 ghost use Rattle.place_map.specs.State.{Contents};
 ghost use Rattle.geojson_points.specs.Takes.{HasTextKey, item_of};
 ghost use Rattle.irtree_engine.specs.Holding.{HoldsState};
+ghost use Rattle.irtree_engine.specs.Updates.{LacksRoom};
 ghost use Rattle.run_protocol.specs.Causes.{HasEngineEnd, HasJobEnd};
 ghost use Rattle.run_protocol.specs.Left.{LeftByLoad};
 ghost use Rattle.run_protocol.specs.Load.{GivesItems, IsTaken, ReachesLimit, places_among, says_loaded};
@@ -70,6 +71,7 @@ fn store_items<'d, T: Station>(
         → Concludes (stage_at_start says_loaded batch state (map item_of items.items)) (T.world engine.old.store.disk.now) (T.world engine.new.store.disk.now) result }
     ensures cause { HasEngineEnd T.tells (T.world engine.old.store.disk.now) (T.world engine.new.store.disk.now) result }
     ensures rises { RisesBy (places_among (map item_of items.items)) 0 0 engine.old.store.current.head engine.new.store.current.head result }
+    ensures lacks { IsErrOf result (Ended.Limit LimitFault.NoRoom) → LacksRoom 10000 (T.room_of engine.new.store.disk.now) engine.new.store.current.counted }
 {
     let mut load = Load::new(alloc, batch);
     for item in items {
@@ -101,7 +103,8 @@ fn refusal(fault: LoadFault) -> Ended
 ///
 /// - `Input` if the text is refused, for its first offence, or is longer than 67,108,864 bytes. Nothing is stored or said.
 /// - `Limit(Full)` or `Limit(Worn)` if a batch meets that limit; then the text has enough places to reach it. `Limit(NoRoom)` if no
-///   page is left for a batch. Nothing of that batch is stored, and all text before its line was said.
+///   page is left for a batch: the station has room for at most the pages counted and as many more as a batch is allowed to take. Nothing of
+///   that batch is stored, and all text before its line was said.
 /// - `Source` if the source fails. Nothing is stored or said.
 /// - `Disk`, `Sink` and `Memory` if one of them fails, after a prefix of the text.
 /// - `Store(Damaged)` if a page breaks a rule; never if the image stands for a state.
@@ -127,6 +130,8 @@ pub fn run_load<'d, S: Source, T: Station>(
     ensures whole { IsTrue S.tells → OnOk result ((S.left source.new ≡ []) × GivesItems (option_copied only.entry) (S.left source.old)) }
     ensures limit { IsTrue S.tells → (fault : LimitFault) → IsErrOf result (Ended.Limit fault)
         → ReachesLimit fault engine.old.store.current.head.live engine.old.store.current.head.number (option_copied only.entry) (S.left source.old) }
+    // For want of room it ends only where the station has no more than the pages counted and as many as a batch is allowed to take.
+    ensures lacks { IsErrOf result (Ended.Limit LimitFault.NoRoom) → LacksRoom 10000 (T.room_of engine.new.store.disk.now) engine.new.store.current.counted }
 {
     let text = match read_text(alloc, source) {
         Ok(text) => text,

@@ -1,10 +1,11 @@
 // Queries for the places of a seed, over an engine.
-ghost use Rattle.std.specs.Prelude.{◌≡◌, ◌≤◌, ◌*◌, ◌^◌, false, IsTrue, IfErr, IfOk};
+ghost use Rattle.std.specs.Prelude.{◌≡◌, ◌≤◌, ◌*◌, ◌^◌, false, IsTrue, IfErr, IfOk, IsErrOf};
 ghost use Rattle.made_places.specs.Makers.{place_in};
 ghost use Rattle.page_store.specs.Store.{Rests};
 ghost use Rattle.place_map.specs.Answer.{answer_of};
 ghost use Rattle.place_map.specs.State.{Contents};
 ghost use Rattle.irtree_engine.specs.Holding.{HoldsState};
+ghost use Rattle.irtree_engine.specs.Updates.{LacksRoom};
 ghost use Rattle.run_protocol.specs.Causes.{HasEngineEnd};
 ghost use Rattle.load_run.specs.Loading.{RisesBy};
 ghost use Rattle.make_run.specs.Asking as spec;
@@ -16,7 +17,7 @@ use crate::query::query_for;
 use disk_model::Station;
 use irtree_engine::Engine;
 use made_places::{Made, Maker};
-use run_protocol::{Ended, ended_by};
+use run_protocol::{Ended, LimitFault, ended_by};
 use spatial_base::Memory;
 use std::alloc::Global;
 
@@ -36,6 +37,7 @@ fn ask<'d, T: Station>(
     ensures on { engine.new.stopped ≡ false }
     ensures cause { HasEngineEnd T.tells (T.world engine.old.store.disk.now) (T.world engine.new.store.disk.now) result }
     ensures rises { RisesBy 0 0 0 engine.old.store.current.head engine.new.store.current.head result }
+    ensures lacks { IsErrOf result (Ended.Limit LimitFault.NoRoom) → LacksRoom 10000 (T.room_of engine.new.store.disk.now) engine.new.store.current.counted }
 {
     let query = match query_for(alloc, made) {
         Ok(query) => query,
@@ -63,6 +65,7 @@ pub(crate) fn ask_places<'d, T: Station>(
     ensures on { engine.new.stopped ≡ false }
     ensures cause { HasEngineEnd T.tells (T.world engine.old.store.disk.now) (T.world engine.new.store.disk.now) result }
     ensures rises { RisesBy 0 0 0 engine.old.store.current.head engine.new.store.current.head result }
+    ensures lacks { IsErrOf result (Ended.Limit LimitFault.NoRoom) → LacksRoom 10000 (T.room_of engine.new.store.disk.now) engine.new.store.current.counted }
 {
     let mut maker = Maker::new(seed);
     let mut found = Found { hits: 0, cost: 0 };

@@ -3,6 +3,7 @@ ghost use Rattle.std.specs.Prelude.{◌≡◌, ◌≤◌, [], false, IsErrOf, Is
 ghost use Rattle.disk_model.specs.World.{LeavesOnly};
 ghost use Rattle.place_map.specs.State.{Contents};
 ghost use Rattle.irtree_engine.specs.Holding.{HoldsState};
+ghost use Rattle.irtree_engine.specs.Updates.{LacksRoom};
 ghost use Rattle.run_protocol.specs.Causes.{HasEngineEnd};
 ghost use Rattle.load_run.specs.Loading.{Concludes, RisesBy, stage, stage_at_start};
 ghost use Rattle.make_run.specs.Making.{EndsMake, LeftByMake, ReachLimit, items_from, says_made};
@@ -33,6 +34,7 @@ fn conclude<'d, T: Station>(
         → Concludes (stage (says_made seed count) load.old state []) (T.world engine.old.store.disk.now) (T.world engine.new.store.disk.now) result }
     ensures cause { HasEngineEnd T.tells (T.world engine.old.store.disk.now) (T.world engine.new.store.disk.now) result }
     ensures rises { RisesBy 0 0 0 engine.old.store.current.head engine.new.store.current.head result }
+    ensures lacks { IsErrOf result (Ended.Limit LimitFault.NoRoom) → LacksRoom 10000 (T.room_of engine.new.store.disk.now) engine.new.store.current.counted }
 {
     let queries = count.min(QUERIES_MAX);
     let found = match ask_places(alloc, seed, queries, &mut *engine) {
@@ -62,6 +64,7 @@ fn make_places<'d, T: Station>(
         → Concludes (stage_at_start (says_made seed count) batch state (items_from seed 0 count)) (T.world engine.old.store.disk.now) (T.world engine.new.store.disk.now) result }
     ensures cause { HasEngineEnd T.tells (T.world engine.old.store.disk.now) (T.world engine.new.store.disk.now) result }
     ensures rises { RisesBy count 0 0 engine.old.store.current.head engine.new.store.current.head result }
+    ensures lacks { IsErrOf result (Ended.Limit LimitFault.NoRoom) → LacksRoom 10000 (T.room_of engine.new.store.disk.now) engine.new.store.current.counted }
 {
     let mut load = Load::new(alloc, batch);
     match store_places(alloc, seed, count, &mut load, &mut *engine) {
@@ -77,7 +80,8 @@ fn make_places<'d, T: Station>(
 /// Returns `Ok` if all of that was done and said. Errors:
 ///
 /// - `Limit(Full)` or `Limit(Worn)` if a batch meets that limit; then the places are enough to reach it. `Limit(NoRoom)` if no page is left
-///   for a batch. Nothing of that batch is stored, and all text before its line was said.
+///   for a batch: the station has room for at most the pages counted and as many more as a batch is allowed to take. Nothing of that batch is
+///   stored, and all text before its line was said.
 /// - `Disk`, `Sink` and `Memory` if one of them fails, after a prefix of the text.
 /// - `Store(Damaged)` if a page breaks a rule; never if the image stands for a state.
 pub fn run_make<'d, T: Station>(
@@ -100,6 +104,8 @@ pub fn run_make<'d, T: Station>(
     // Whatever the image stands for, a limit ends it only where the places reach it.
     ensures limit { (fault : LimitFault) → IsErrOf result (Ended.Limit fault)
         → ReachLimit count fault engine.old.store.current.head.live engine.old.store.current.head.number }
+    // For want of room it ends only where the station has no more than the pages counted and as many as a batch is allowed to take.
+    ensures lacks { IsErrOf result (Ended.Limit LimitFault.NoRoom) → LacksRoom 10000 (T.room_of engine.new.store.disk.now) engine.new.store.current.counted }
 {
     make_places(alloc, batch, seed, count, engine)
 }

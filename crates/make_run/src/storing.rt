@@ -1,9 +1,10 @@
 // Places made from a seed, stored batch by batch.
-ghost use Rattle.std.specs.Prelude.{◌≡◌, ◌≤◌, [], length, false, IsTrue, OnOk};
+ghost use Rattle.std.specs.Prelude.{◌≡◌, ◌≤◌, [], length, false, IsTrue, OnOk, IsErrOf};
 ghost use Rattle.made_places.specs.Makers.{place_in};
 ghost use Rattle.place_map.specs.State.{Contents};
 ghost use Rattle.geojson_points.specs.Takes.{place_of};
 ghost use Rattle.irtree_engine.specs.Holding.{HoldsState};
+ghost use Rattle.irtree_engine.specs.Updates.{LacksRoom};
 ghost use Rattle.run_protocol.specs.Causes.{HasEngineEnd};
 ghost use Rattle.run_protocol.specs.Load.{Closing};
 ghost use Rattle.load_run.specs.Loading.{CanWait, Moves, RisesBy, acted_on, stage, stage_before};
@@ -14,7 +15,7 @@ use geojson_points::Draft;
 use irtree_engine::Engine;
 use load_run::Load;
 use made_places::{Made, Maker};
-use run_protocol::Ended;
+use run_protocol::{Ended, LimitFault};
 use spatial_base::Memory;
 use std::alloc::Global;
 
@@ -54,6 +55,7 @@ pub(crate) fn store_places<'d, T: Station>(
     ensures on { OnOk result (engine.new.stopped ≡ false) }
     ensures cause { HasEngineEnd T.tells (T.world engine.old.store.disk.now) (T.world engine.new.store.disk.now) result }
     ensures rises { RisesBy count 0 0 engine.old.store.current.head engine.new.store.current.head result }
+    ensures lacks { IsErrOf result (Ended.Limit LimitFault.NoRoom) → LacksRoom 10000 (T.room_of engine.new.store.disk.now) engine.new.store.current.counted }
 {
     let mut maker = Maker::new(seed);
     for _number in 0..count {

@@ -1,8 +1,11 @@
-use Rattle.std.proofs.Common.{◌≢◌, sym, ◌∙◌, arith}
+use Rattle.std.proofs.Common.{◌≡◌, ◌≢◌, length, Err, ap, sym, ◌∙◌, arith}
 use Rattle.std.proofs.lemmas.Bool.{false≢true}
+use Rattle.page_store.specs.declared.superblock.Superblock.{Superblock}
 use Rattle.irtree_engine.specs.declared.fault.EngineFault.TheVariants as engine
 use Rattle.run_protocol.specs.Causes.{end_of_engine}
-use Rattle.load_run.proofs.Numbers.{limit-more, limit-of-engine}
+use Rattle.run_protocol.specs.declared.ended.Ended.TheVariants as ends
+use Rattle.run_protocol.specs.declared.ended.LimitFault.TheVariants as limits
+use Rattle.load_run.proofs.Numbers.{ended-full, lacks-more, limit-more, limit-of-engine}
 use Rattle.load_run.proofs.Batches.{failed, outcome-holds, not-stored, not-stored-cause}
 use Rattle.load_run.proofs.load.store_batch.Goals as goal
 
@@ -50,3 +53,10 @@ returns-in-Err-clause-rises g c = record {
   number = tt;
   limit = rw c.ended_by.ensures (limit-more _ _ _ _ (end_of_engine c.in-Err.fault) (omega arith) (omega arith) (limit-of-engine _ _ c.in-Err.fault c.in-Err.ensures.limits));
 }
+
+pub returns-in-Err-clause-lacks : goal.returns-in-Err-clause-lacks
+returns-in-Err-clause-lacks g c = λ is.
+    let ended : c.ended_by.result ≡ ends.Limit limits.NoRoom = cc in
+    let fault = ap Err (ended-full c.in-Err.fault (sym c.ended_by.ensures ∙ ended)) in
+    let was = c.in-Err.ensures in
+    lacks-more (length c.args.updates.now) 10000 _ _ _ _ c.requires.few was.room (ap (λ (b : Superblock). b.counted) (was.as_before fault)) (was.room_left fault)

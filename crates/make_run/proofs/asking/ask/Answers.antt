@@ -1,11 +1,13 @@
-use Rattle.std.proofs.Common.{sym, ap, ◌∙◌, arith}
+use Rattle.std.proofs.Common.{◌≡◌, sym, ap, ◌∙◌, arith}
 use Rattle.std.proofs.lemmas.Bool.{false≢true}
 use Rattle.std.specs.Prelude.{Err}
 use Rattle.page_store.specs.declared.superblock.Superblock.{Superblock}
 use Rattle.run_protocol.proofs.Reading.{RefusedRead, read-goes_on, refused-read-cause, rests-still}
+use Rattle.run_protocol.specs.declared.ended.Ended.TheVariants as ends
+use Rattle.run_protocol.specs.declared.ended.LimitFault.TheVariants as limits
 use Rattle.load_run.proofs.Causes.{engine-lacks}
 use Rattle.make_run.specs.declared.found.Found.{Found}
-use Rattle.make_run.proofs.Ends.{refused-asking, refused-limit}
+use Rattle.make_run.proofs.Ends.{refused-asking, refused-limit, refused-room}
 use Rattle.make_run.proofs.Hits.{counts-answer}
 use Rattle.make_run.proofs.asking.ask.Given as given
 use Rattle.make_run.proofs.asking.ask.Goals.{After-ended_by}
@@ -59,3 +61,8 @@ returns-clause-cause g c =
 
 pub returns-clause-rises : goal.returns-clause-rises
 returns-clause-rises g c = record { live = tt; number = tt; limit = rw c.ended_by.ensures (refused-limit _ _ c.in-Err-answer.fault c.in-Err-answer.ensures.causes) }
+
+pub returns-clause-lacks : goal.returns-clause-lacks
+returns-clause-lacks g c = λ is.
+    let ended : c.ended_by.result ≡ ends.Limit limits.NoRoom = cc in
+    absurd (refused-room c.in-Err-answer.fault c.in-Err-answer.ensures.causes (sym c.ended_by.ensures ∙ ended))

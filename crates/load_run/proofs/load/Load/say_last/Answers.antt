@@ -3,7 +3,7 @@ use Rattle.page_store.specs.declared.superblock.Superblock.{Superblock}
 use Rattle.load_run.specs.Loading.{stage}
 use Rattle.load_run.proofs.Stages.{lacks-memory}
 use Rattle.load_run.proofs.Moves.{concludes-said}
-use Rattle.load_run.proofs.Numbers.{rises-said}
+use Rattle.load_run.proofs.Numbers.{rises-said, said-room}
 use Rattle.load_run.proofs.load.Load.say_last.Goals as goal
 
 pub returns-in-Ok-clause-told : goal.returns-in-Ok-clause-told
@@ -20,3 +20,6 @@ returns-in-Ok-clause-rises g c = rises-said 0 0 0 c.args.engine.now.store.curren
 
 pub returns-in-Err-clause-rises : goal.returns-in-Err-clause-rises
 returns-in-Err-clause-rises g c = record { live = tt; number = tt; limit = tt }
+
+pub returns-in-Ok-clause-lacks : goal.returns-in-Ok-clause-lacks
+returns-in-Ok-clause-lacks g c = λ is. absurd (said-room c.say_text.result c.say_text.ensures.ends is)

@@ -4,7 +4,7 @@ use Rattle.run_protocol.specs.Load.{steps}
 use Rattle.load_run.specs.Loading.{Stage, stage_before}
 use Rattle.load_run.proofs.Stages.{lacks-memory, goes-moves}
 use Rattle.load_run.proofs.Moves.{goes-skipped, moves-said}
-use Rattle.load_run.proofs.Numbers.{rises-said}
+use Rattle.load_run.proofs.Numbers.{rises-said, said-room}
 use Rattle.load_run.proofs.load.Load.skip.Goals as goal
 
 pub returns-in-Err-clause-told : goal.returns-in-Err-clause-told
@@ -36,3 +36,6 @@ returns-clause-rises g c =
     let waits = length c.args.self.now.waiting.items in
     rises-said 0 waits waits c.args.engine.now.store.current.head c.args.engine.now.store.current.head c.say_text.new.engine.store.current.head c.say_text.result
     (omega arith) (omega arith) (ap (λ (b : Superblock). b.head) c.say_text.ensures.head) c.say_text.ensures.ends
+
+pub returns-clause-lacks : goal.returns-clause-lacks
+returns-clause-lacks g c = λ is. absurd (said-room c.say_text.result c.say_text.ensures.ends is)

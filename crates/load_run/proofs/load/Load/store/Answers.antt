@@ -6,7 +6,7 @@ use Rattle.run_protocol.specs.Load.{stored_line}
 use Rattle.load_run.specs.Loading.{RisesBy, Stage, stage}
 use Rattle.load_run.proofs.Causes.{engine-then}
 use Rattle.load_run.proofs.Stages.{goes-then, goes-as, goes-concludes, goes-moves, lacks-memory}
-use Rattle.load_run.proofs.Numbers.{rises-said}
+use Rattle.load_run.proofs.Numbers.{rises-said, said-room}
 use Rattle.load_run.proofs.Moves.{goes-said, goes-stored, concludes-unsaid, concludes-unstored, moves-said, behind_batch}
 use Rattle.load_run.proofs.load.Load.store.Goals as goal
 
@@ -75,3 +75,6 @@ returns-in-Ok-write_stored-clause-rises g c =
 
 pub returns-in-Err-write_stored-clause-rises : goal.returns-in-Err-write_stored-clause-rises
 returns-in-Err-write_stored-clause-rises g c = record { live = tt; number = tt; limit = tt }
+
+pub returns-in-Ok-write_stored-clause-lacks : goal.returns-in-Ok-write_stored-clause-lacks
+returns-in-Ok-write_stored-clause-lacks g c = λ is. absurd (said-room c.say_text-in-Ok-write_stored.result c.say_text-in-Ok-write_stored.ensures.ends is)
