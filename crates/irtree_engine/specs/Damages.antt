@@ -1,7 +1,9 @@
 -- Why a call that only reads finds damage.
-use Rattle.std.specs.Prelude.{◌⊎◌, ℕ, List}
+use Rattle.std.specs.Prelude.{◌⊎◌, ℕ, List, []}
 use Rattle.page_face.specs.FreeList.{PageMap}
 use Rattle.page_face.specs.declared.fault.Damage.{Damage}
+use Rattle.disk_model.specs.World.{Image}
+use Rattle.page_store.specs.Contents as stores
 use Rattle.page_store.specs.declared.superblock.Superblock.{Superblock}
 use Rattle.spatial_base.specs.Key.{Name}
 use Rattle.store_tables.specs.Broken.{IsPlaceDamage}
@@ -10,6 +12,7 @@ use Rattle.store_meaning.specs.Stands.{tables_in}
 use Rattle.tree_answers.specs.Damages.{IsAnswerHarm}
 use Rattle.place_updates.specs.Known.{IsWordsDamage}
 use Rattle.irtree_engine.specs.Changes.{tree_in}
+use Rattle.irtree_engine.specs.Queries.{contents_held}
 
 -- Why the place at a key can't be shown: a page of the place table is damaged, or the row at the key is no place's; or so it is with the words by number.
 abbrev pub IsShownDamage : PageMap → ℕ → Tables → Name → Damage → Type 0
@@ -19,3 +22,19 @@ IsShownDamage pages count tables key damage = IsPlaceDamage pages count tables.p
 abbrev pub IsQueryDamage : PageMap → Superblock → List ℕ → List ℕ → Damage → Type 0
 IsQueryDamage pages block before after damage =
     IsAnswerHarm pages block.counted (tables_in block.head) (tree_in block.head) before after damage
+
+-- ---- by what an image holds
+
+-- So it is with a query, by page 0's fields and the pages counted: some pages were asked for, and one of them breaks a rule.
+pub record IsQueryDamageIn (held : stores.Contents) (damage : Damage) : Type 0 where
+  pub asked : List ℕ
+  pub is : IsQueryDamage held.pages held.block [] asked damage
+
+-- And with a place that was to be shown, at some key.
+pub record IsShownDamageIn (held : stores.Contents) (damage : Damage) : Type 0 where
+  pub key : Name
+  pub is : IsShownDamage held.pages held.block.counted (tables_in held.block.head) key damage
+
+-- What an image holds is damaged so, as a query or a look at a key meets it: whatever it stands for.
+abbrev pub IsImageDamage : Image → Damage → Type 0
+IsImageDamage image damage = IsQueryDamageIn (contents_held image) damage ⊎ IsShownDamageIn (contents_held image) damage

@@ -5,7 +5,7 @@ ghost use Rattle.page_store.specs.Store.{Rests, ReadsOnly};
 ghost use Rattle.place_map.specs.Answer.{answer_of};
 ghost use Rattle.place_map.specs.Query.{IsWithinLimits};
 ghost use Rattle.place_map.specs.State.{Contents};
-ghost use Rattle.irtree_engine.specs.Damages.{IsQueryDamage};
+ghost use Rattle.irtree_engine.specs.Damages.{IsQueryDamage, IsQueryDamageIn};
 ghost use Rattle.irtree_engine.specs.Holding.{HoldsState};
 ghost use Rattle.irtree_engine.specs.Faults.{IsReadFault};
 ghost use Rattle.irtree_engine.specs.Queries.{EachRead, IsFoundByFew, IsReadForQuery, contents_held};
@@ -44,6 +44,9 @@ impl<'d, D: Station> Engine<'d, D> {
         // A page of the log breaks a rule, as reads give it.
         ensures damaged { IsTrue D.tells → (damage : Damage) → IsErrOf result (EngineFault.Damaged damage)
             → IsQueryDamage (⟦<Store<'d, D> as Pages>⟧.pages self.old.store) self.old.store.current [] self.new.store.asked.items damage }
+        // So it is by what the image holds, whatever it stands for.
+        ensures broken { IsTrue D.tells → (damage : Damage) → IsErrOf result (EngineFault.Damaged damage)
+            → IsQueryDamageIn (contents_held (D.world self.old.store.disk.now).seen) damage }
         ensures stopped { IsErrOf result EngineFault.Stopped ↔ IsTrue self.old.stopped }
         ensures causes { IfErr result IsReadFault }
         ensures disk { IsErrOf result EngineFault.Disk → Rose (D.world self.old.store.disk.now).faults (D.world self.new.store.disk.now).faults }

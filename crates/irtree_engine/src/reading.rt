@@ -4,9 +4,10 @@ ghost use Rattle.disk_model.specs.World.{Rose};
 ghost use Rattle.page_store.specs.Store.{Rests, ReadsOnly};
 ghost use Rattle.place_map.specs.State.{Contents, place_at};
 ghost use Rattle.store_meaning.specs.Stands.{tables_in};
-ghost use Rattle.irtree_engine.specs.Damages.{IsShownDamage};
+ghost use Rattle.irtree_engine.specs.Damages.{IsShownDamage, IsShownDamageIn};
 ghost use Rattle.irtree_engine.specs.Holding.{HoldsState};
 ghost use Rattle.irtree_engine.specs.Faults.{IsReadFault};
+ghost use Rattle.irtree_engine.specs.Queries.{contents_held};
 
 use crate::change::tables_of;
 use crate::{Engine, EngineFault};
@@ -32,6 +33,9 @@ impl<'d, D: Station> Engine<'d, D> {
         // The table or the words by number break a rule there, as reads give them.
         ensures damaged { IsTrue D.tells → (damage : Damage) → IsErrOf result (EngineFault.Damaged damage)
             → IsShownDamage (⟦<Store<'d, D> as Pages>⟧.pages self.old.store) self.old.store.current.counted (tables_in self.old.store.current.head) key.now damage }
+        // So it is by what the image holds, whatever it stands for.
+        ensures broken { IsTrue D.tells → (damage : Damage) → IsErrOf result (EngineFault.Damaged damage)
+            → IsShownDamageIn (contents_held (D.world self.old.store.disk.now).seen) damage }
         ensures stopped { IsErrOf result EngineFault.Stopped ↔ IsTrue self.old.stopped }
         ensures causes { IfErr result IsReadFault }
         ensures disk { IsErrOf result EngineFault.Disk → Rose (D.world self.old.store.disk.now).faults (D.world self.new.store.disk.now).faults }

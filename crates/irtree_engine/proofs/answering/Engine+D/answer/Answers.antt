@@ -117,6 +117,32 @@ returns-in_err-answer_in-clause-damaged g c = λ t damage is.
     (subst (λ (before : List ℕ). IsQueryDamage held store.current before log damage) c.clear_log.ensures.log
     (subst (λ (h : Head). IsQueryDamage held (block_with store.current.counted store.current.first_free h) store.asked.items log damage) c.head-head.ensures found))
 
+pub returns-in_err-answer_in-clause-broken : goal.returns-in_err-answer_in-clause-broken
+returns-in_err-answer_in-clause-broken g c = λ t damage is.
+    let world = g.D.Disk.world in
+    let on = c.clear_log.ensures.stopped ∙ sym c.args.self.now.stops ∙ c.if-self.false in
+    let clean = ap (λ (o : Overlay). o.entries) c.clear_log.ensures.overlay ∙ c.args.self.now.clean in
+    let settled = c.clear_log.ensures.current ∙ c.args.self.now.settled ∙ sym c.clear_log.ensures.last in
+    let store = c.clear_log.new.self in
+    let passed = err_from_is_err_and c.from_residual.result c.from_residual.ensures.1 in
+    let result_is = passed.1 in
+    let fault_is = passed.2 in
+    let was : fault_of_pages c.in_err-answer_in.field-0.0 ≡ Damaged damage = cc in
+    let told = store-told g.D.Disk.tells (applied (world store.disk.now).seen) store.overlay store.current.counted t store.sized in
+    let pages : PageMap = counted_pages store.current.counted (shown g.D.Disk.tells (applied (world store.disk.now).seen) store.overlay) in
+    let log = c.answer_in.new.pages.asked.items in
+    let found = c.answer_in.ensures.damaged told damage (c.in_err-answer_in.was ∙ ap Err (damaged-from _ damage was)) in
+    let held = contents_held (world c.args.self.now.store.disk.now).seen in
+    let same : ◌≡◌ {A = stores.Contents} (record { block = store.current; pages = pages }) held =
+    committed-held g.D.Disk.tells (world store.disk.now) store.overlay store.current store.last store.end t clean settled (store.ready t on)
+    ∙ (λ i. contents_held (world (c.clear_log.ensures.disk i).now).seen) in
+    record {
+      asked = log;
+      is = subst (λ (s : stores.Contents). IsQueryDamage s.pages s.block [] log damage) same
+          (subst (λ (before : List ℕ). IsQueryDamage pages store.current before log damage) c.clear_log.ensures.log
+          (subst (λ (h : Head). IsQueryDamage pages (block_with store.current.counted store.current.first_free h) store.asked.items log damage) c.head-head.ensures found));
+    }
+
 pub returns-then-self-clause-log : goal.returns-then-self-clause-log
 returns-then-self-clause-log g c = logged-none g.D.Disk.tells g.D.Disk.world c.clear_log.ensures.disk c.clear_log.ensures.log c.clear_log.new.self.overlay
 

@@ -14,8 +14,9 @@ use Rattle.irtree_engine.specs.declared.fault.EngineFault.TheVariants.{Damaged}
 use Rattle.irtree_engine.specs.Damages.{IsShownDamage}
 use Rattle.irtree_engine.specs.Holding.{HoldsState}
 use Rattle.irtree_engine.specs.Faults.{fault_of_pages}
+use Rattle.irtree_engine.specs.Queries.{contents_held}
 use Rattle.irtree_engine.proofs.Logs.{logged, logged-none}
-use Rattle.irtree_engine.proofs.Standing.{committed-stand, damaged-from, stand-counted, stand-known, store-told}
+use Rattle.irtree_engine.proofs.Standing.{committed-held, committed-stand, damaged-from, stand-counted, stand-known, store-told}
 use Rattle.irtree_engine.proofs.reading.Engine+D.show.Goals as goal
 
 pub returns-in_err-place_at-clause-honest : goal.returns-in_err-place_at-clause-honest
@@ -73,3 +74,29 @@ returns-in_err-place_at-clause-damaged g c = λ t damage is.
     λ i. record { block = c.clear_log.ensures.current i; pages = counted_pages (c.clear_log.ensures.current i).counted (shown g.D.Disk.tells (applied (g.D.Disk.world (c.clear_log.ensures.disk i).now).seen) (c.clear_log.ensures.overlay i)) } in
     subst (λ (s : stores.Contents). IsShownDamage s.pages s.block.counted (tables_in s.block.head) c.args.key.now damage) same
     (subst (λ (tables : Tables). IsShownDamage held store.current.counted tables c.args.key.now damage) tables_are found)
+
+pub returns-in_err-place_at-clause-broken : goal.returns-in_err-place_at-clause-broken
+returns-in_err-place_at-clause-broken g c = λ t damage is.
+    let world = g.D.Disk.world in
+    let on = c.clear_log.ensures.stopped ∙ sym c.args.self.now.stops ∙ c.if-self.false in
+    let clean = ap (λ (o : Overlay). o.entries) c.clear_log.ensures.overlay ∙ c.args.self.now.clean in
+    let settled = c.clear_log.ensures.current ∙ c.args.self.now.settled ∙ sym c.clear_log.ensures.last in
+    let store = c.clear_log.new.self in
+    let passed = err_from_is_err_and c.from_residual.result c.from_residual.ensures.1 in
+    let result_is = passed.1 in
+    let fault_is = passed.2 in
+    let was : fault_of_pages c.in_err-place_at.field-0.0 ≡ Damaged damage = cc in
+    let tables_are : c.tables_of-tables.result ≡ tables_in store.current.head = c.tables_of-tables.ensures ∙ ap tables_in c.head.ensures in
+    let told = store-told g.D.Disk.tells (applied (world store.disk.now).seen) store.overlay store.current.counted t store.sized in
+    let pages : PageMap = counted_pages store.current.counted (shown g.D.Disk.tells (applied (world store.disk.now).seen) store.overlay) in
+    let key = c.args.key.now in
+    let found = c.place_at.ensures.damaged told damage (c.in_err-place_at.was ∙ ap Err (damaged-from _ damage was)) in
+    let held = contents_held (world c.args.self.now.store.disk.now).seen in
+    let same : ◌≡◌ {A = stores.Contents} (record { block = store.current; pages = pages }) held =
+    committed-held g.D.Disk.tells (world store.disk.now) store.overlay store.current store.last store.end t clean settled (store.ready t on)
+    ∙ (λ i. contents_held (world (c.clear_log.ensures.disk i).now).seen) in
+    record {
+      key = key;
+      is = subst (λ (s : stores.Contents). IsShownDamage s.pages s.block.counted (tables_in s.block.head) key damage) same
+          (subst (λ (tables : Tables). IsShownDamage pages store.current.counted tables key damage) tables_are found);
+    }
