@@ -7,11 +7,13 @@ use Rattle.page_face.specs.declared.fault.Damage.{Damage}
 use Rattle.page_store.specs.Store.{Rests}
 use Rattle.place_map.specs.State.{Contents}
 use Rattle.store_meaning.specs.Stands.{Stands}
+use Rattle.irtree_engine.specs.Damages.{IsImageDamage}
 use Rattle.irtree_engine.specs.declared.fault.EngineFault.{EngineFault}
 use Rattle.irtree_engine.specs.declared.fault.EngineFault.TheVariants as engine
 use Rattle.irtree_engine.specs.Faults.{IsReadFault}
 use Rattle.irtree_engine.specs.Holding.{HoldsState}
 use Rattle.run_protocol.specs.Causes.{HasEngineEnd, end_of_engine}
+use Rattle.run_protocol.specs.Reading.{IsMetIn}
 
 -- an image that is as it was stands for the same state
 pub holds-same : (old new : World) (state : Contents) → new.seen ≡ old.seen → HoldsState old state → HoldsState new state
@@ -38,6 +40,18 @@ read-goes_on tells old new value rests faults sink = record {
   stands = λ told state holds. (state, holds-same old new state (rests told).seen holds);
   cause = tt;
 }
+
+-- damage that a call of the engine meets in the image ends a run so
+pub met-engine : (image : Image) (fault : EngineFault) → ((damage : Damage) → fault ≡ engine.Damaged damage → IsImageDamage image damage) → IsMetIn image (end_of_engine fault)
+met-engine image engine.Disk meets = tt
+met-engine image (engine.Damaged damage) meets = meets damage refl
+met-engine image engine.Stopped meets = tt
+met-engine image engine.Memory meets = tt
+met-engine image engine.Full meets = tt
+met-engine image engine.Worn meets = tt
+met-engine image engine.NoRoom meets = tt
+met-engine image engine.NotAStore meets = tt
+met-engine image (engine.BadJournal at) meets = tt
 
 -- what is known of a read that was refused
 pub record RefusedRead (tells : Bool) (old new : World) (fault : EngineFault) : Type 0 where

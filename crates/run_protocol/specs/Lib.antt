@@ -3,6 +3,7 @@ pub mod Causes
 pub mod Ended
 pub mod Left
 pub mod Load
+pub mod Reading
 pub mod Said
 pub mod Script
 pub mod Turn
