@@ -6,12 +6,14 @@ use Rattle.disk_model.specs.World.{World}
 use Rattle.place_map.specs.State.{Contents}
 use Rattle.query_lang.specs.Line.{line_of}
 use Rattle.irtree_engine.specs.Holding.{HoldsState}
+use Rattle.run_protocol.specs.Reading.{AreReading, IsMetIn, IsReading, KeepsImage}
 use Rattle.run_protocol.specs.Script.{Cut, cut, script, last_line}
 use Rattle.run_protocol.specs.declared.ended.Ended.{Ended}
 use Rattle.run_protocol.specs.declared.ended.Ended.TheVariants as ends
 use Rattle.script_run.specs.Feed.{kept, EndsNoLine}
 use Rattle.script_run.specs.Lines.{RunsLines}
 use Rattle.script_run.proofs.Lines.{cut-none, cut-ended, kept-append, kept-none, kept-nil, line-kept}
+use Rattle.script_run.proofs.Reading.{keeps-then, reading-alike, reading-first, reading-next}
 use Rattle.script_run.proofs.Runs.{runs-none, runs-lost, runs-goes_on, runs-then, runs-alike}
 
 -- Where a piece stands behind a front: some of its lines were acted on, and rest is left of it.
@@ -25,6 +27,8 @@ pub record Feeding (tells : Bool) (front piece line rest : List ℕ) (first now 
   pub lines : (cut (front ++ piece)).lines ≡ done ++ (cut (open_line ++ rest)).lines
   pub last : (cut (front ++ piece)).rest ≡ (cut (open_line ++ rest)).rest
   pub runs : IsTrue tells → (state : Contents) → HoldsState first state → RunsLines {T = Unit {0}} state done first now (Ok tt)
+  -- where they only read the image stayed
+  pub stays : IsTrue tells → AreReading done → now.seen ≡ first.seen
 
 -- none of it was acted on
 pub feeding-start : (tells : Bool) (front piece line : List ℕ) (first : World) → EndsNoLine front → line ≡ kept front → Feeding tells front piece line piece first first
@@ -36,6 +40,7 @@ feeding-start tells front piece line first ends is = record {
   lines = refl;
   last = refl;
   runs = λ told state holds. runs-none state first tt holds;
+  stays = λ told reads. refl;
 }
 
 -- two parts that end no line end none together
@@ -62,8 +67,8 @@ module _ (tells : Bool) (front piece line rest : List ℕ) (first now : World) (
 
     -- one line was acted on
     pub feeding-line : (value : Unit {0}) (ended : List ℕ) → ended ≡ [] → (IsTrue tells → (state : Contents) → HoldsState now state → RunsLines state ((f.open_line ++ part) ∷ []) now new (Ok value))
-        → Feeding tells front piece ended next first new
-    feeding-line value ended none call = record {
+        → (IsTrue tells → IsReading (line_of (f.open_line ++ part)) → KeepsImage now new (Ok value)) → Feeding tells front piece ended next first new
+    feeding-line value ended none call still = record {
       open_line = [];
       ends = λ i l. absurd (omega arith);
       is = none ∙ kept-nil;
@@ -73,6 +78,9 @@ module _ (tells : Bool) (front piece line rest : List ℕ) (first now : World) (
       runs = λ told state holds.
           let so_far = f.runs told state holds in
           runs-then state f.done ((f.open_line ++ part) ∷ []) first now new tt so_far (Ok value) (call told (script state f.done).state so_far.holds);
+      stays = λ told reads.
+          let last = (f.open_line ++ part) ∷ [] in
+          (still told (reading-next f.done last reads).0).seen ∙ f.stays told (reading-first f.done last reads);
     }
 
     -- a line stopped the run
@@ -85,6 +93,13 @@ module _ (tells : Bool) (front piece line rest : List ℕ) (first now : World) (
         subst (λ (lines : List (List ℕ)). RunsLines {T = T} state lines first new (Err end)) (sym lines-line)
         (runs-goes_on state (f.done ++ (f.open_line ++ part) ∷ []) (cut next).lines first new end broken)
 
+    -- and where the lines only read it left the image
+    pub feeding-met : {T : Type 0} (result : Result T Ended) → (IsTrue tells → IsReading (line_of (f.open_line ++ part)) → KeepsImage now new result) → IsTrue tells → AreReading (cut (front ++ piece)).lines → KeepsImage first new result
+    feeding-met result still told reads =
+        let last = (f.open_line ++ part) ∷ [] in
+        let done : AreReading (f.done ++ last) = reading-first (f.done ++ last) (cut next).lines (subst AreReading lines-line reads) in
+        keeps-then first now new result (f.stays told (reading-first f.done last done)) (still told (reading-next f.done last done).0)
+
   module _ (rest_ends : EndsNoLine rest) where
     -- the lines that were acted on are all of them
     lines-all : (cut (front ++ piece)).lines ≡ f.done
@@ -96,6 +111,11 @@ module _ (tells : Bool) (front piece line rest : List ℕ) (first now : World) (
     feeding-ends (Err end) lost told state holds =
         subst (λ (e : Ended). RunsLines {T = Unit {0}} state (cut (front ++ piece)).lines first now (Err e)) (sym lost)
         (subst (λ (lines : List (List ℕ)). RunsLines {T = Unit {0}} state lines first now (Err ends.Memory)) (sym lines-all) (runs-lost (Unit {0}) state f.done first now tt (f.runs told state holds)))
+
+    -- and where they only read the image stayed
+    pub feeding-stays : (result : Result (Unit {0}) Ended) → IfErr result (λ end. end ≡ ends.Memory) → IsTrue tells → AreReading (cut (front ++ piece)).lines → KeepsImage first now result
+    feeding-stays (Ok value) lost told reads = record { seen = f.stays told (subst AreReading lines-all reads); met = tt }
+    feeding-stays (Err end) lost told reads = record { seen = f.stays told (subst AreReading lines-all reads); met = subst (IsMetIn first.seen) (sym lost) tt }
 
     -- the line that the piece leaves
     pub feeding-kept : (longer : List ℕ) → longer ≡ kept (line ++ rest) → longer ≡ kept (cut (front ++ piece)).rest
@@ -120,3 +140,9 @@ last-some state line front old new result some is runs =
     let one : last_line front ≡ front ∷ [] = last-line front (λ e. some (is ∙ ap kept e ∙ sym kept-nil)) in
     subst (λ (lines : List (List ℕ)). RunsLines state lines old new result) (sym one)
     (runs-alike state line front old new result (ap line_of is ∙ line-kept front) runs)
+
+-- and what is kept of it only reads where it does
+pub last-reads : (line front : List ℕ) → (line ≡ [] → ⊥) → line ≡ kept front → AreReading (last_line front) → IsReading (line_of line)
+last-reads line front some is reads =
+    let one : last_line front ≡ front ∷ [] = last-line front (λ e. some (is ∙ ap kept e ∙ sym kept-nil)) in
+    reading-alike line front (ap line_of is ∙ line-kept front) (subst AreReading one reads).0

@@ -8,3 +8,5 @@ mod Replies
 mod Runs
 mod Saying
 mod Standing
+pub mod Reading
+pub mod Untouched

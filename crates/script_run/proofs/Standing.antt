@@ -36,7 +36,7 @@ lines-long : (input : List ℕ) → input_max < length input → script_lines in
 lines-long input long = rw (lt-ltb input_max (length input) long) refl
 
 -- of any other script all lines, and the last one without its LF
-lines-short : (input : List ℕ) → length input ≤ input_max → script_lines input ≡ (cut input).lines ++ last_line (cut input).rest
+pub lines-short : (input : List ℕ) → length input ≤ input_max → script_lines input ≡ (cut input).lines ++ last_line (cut input).rest
 lines-short input short = rw (le-ltb input_max (length input) short) refl
 
 -- a script that is too long is refused
@@ -48,11 +48,11 @@ end-short : (state : Contents) (input : List ℕ) → length input ≤ input_max
 end-short state input short = rw (le-ltb input_max (length input) short) refl
 
 -- the lines of what was read, when more comes
-cut-more : (read piece : List ℕ) → (cut (read ++ piece)).lines ≡ (cut read).lines ++ (cut ((cut read).rest ++ piece)).lines
+pub cut-more : (read piece : List ℕ) → (cut (read ++ piece)).lines ≡ (cut read).lines ++ (cut ((cut read).rest ++ piece)).lines
 cut-more read piece = ap (λ (c : Cut). c.lines) (cut-append read piece)
 
 -- the lines of a script begin with those that any front of it ends
-lines-front : (input read left : List ℕ) → input ≡ read ++ left → length read ≤ input_max → (more : List (List ℕ)) × (script_lines input ≡ (cut read).lines ++ more)
+pub lines-front : (input read left : List ℕ) → input ≡ read ++ left → length read ≤ input_max → (more : List (List ℕ)) × (script_lines input ≡ (cut read).lines ++ more)
 lines-front input read left is few = ⊎_elim
     (λ (long : input_max < length input).
     let room : length read + (input_max - length read) ≡ input_max = omega arith in

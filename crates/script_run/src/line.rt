@@ -11,6 +11,7 @@ ghost use Rattle.irtree_engine.specs.Holding.{HoldsState};
 ghost use Rattle.place_map.specs.Update.{NamesText};
 ghost use Rattle.run_protocol.specs.Asking.{IsAsking, ReadsForLine};
 ghost use Rattle.run_protocol.specs.Causes.{HasEngineEnd};
+ghost use Rattle.run_protocol.specs.Reading.{IsReading, KeepsImage};
 ghost use Rattle.script_run.specs.Lines.{refused_by, IsLineEnd, RepliesTo, RunsLines};
 
 use disk_model::Station;
@@ -76,6 +77,7 @@ fn ask<'d, T: Station>(
         → RepliesTo state (Ok (lines.Ask query explain)) (T.world engine.old.store.disk.now) (T.world engine.new.store.disk.now) result }
     ensures reads { IsTrue T.tells → (state : Contents) → HoldsState (T.world engine.old.store.disk.now) state
         → OnOk result (ReadsForLine state (Ok (plain_line (lines.Ask query explain))) (T.world engine.old.store.disk.now) (T.world engine.new.store.disk.now)) }
+    ensures kept { IsTrue T.tells → KeepsImage (T.world engine.old.store.disk.now) (T.world engine.new.store.disk.now) result }
     ensures reason { IfOk result HasReason }
     ensures on { OnOk result (engine.new.stopped ≡ false) }
     ensures cause { HasEngineEnd T.tells (T.world engine.old.store.disk.now) (T.world engine.new.store.disk.now) result }
@@ -97,6 +99,7 @@ fn show<'d, T: Station>(engine: &mut Engine<'d, T>, key: Key) -> Result<Reply, E
     ensures same_loan { engine.new.store.disk.ghost_name ≡ engine.old.store.disk.ghost_name }
     ensures told { IsTrue T.tells → (state : Contents) → HoldsState (T.world engine.old.store.disk.now) state
         → RepliesTo state (Ok (lines.Show key)) (T.world engine.old.store.disk.now) (T.world engine.new.store.disk.now) result }
+    ensures kept { IsTrue T.tells → KeepsImage (T.world engine.old.store.disk.now) (T.world engine.new.store.disk.now) result }
     ensures reason { IfOk result HasReason }
     ensures on { OnOk result (engine.new.stopped ≡ false) }
     ensures cause { HasEngineEnd T.tells (T.world engine.old.store.disk.now) (T.world engine.new.store.disk.now) result }
@@ -122,6 +125,7 @@ fn answer<'d, T: Station>(engine: &mut Engine<'d, T>, line: Line) -> Result<Repl
         → RepliesTo state (Ok line) (T.world engine.old.store.disk.now) (T.world engine.new.store.disk.now) result }
     ensures reads { IsTrue T.tells → (state : Contents) → HoldsState (T.world engine.old.store.disk.now) state → IsAsking (Ok (plain_line line))
         → OnOk result (ReadsForLine state (Ok (plain_line line)) (T.world engine.old.store.disk.now) (T.world engine.new.store.disk.now)) }
+    ensures kept { IsTrue T.tells → IsReading (Ok (plain_line line)) → KeepsImage (T.world engine.old.store.disk.now) (T.world engine.new.store.disk.now) result }
     ensures reason { IfOk result HasReason }
     ensures on { OnOk result (engine.new.stopped ≡ false) }
     ensures cause { HasEngineEnd T.tells (T.world engine.old.store.disk.now) (T.world engine.new.store.disk.now) result }
@@ -148,6 +152,7 @@ fn reply_to<'d, T: Station>(
         → RepliesTo state (line_of line.now) (T.world engine.old.store.disk.now) (T.world engine.new.store.disk.now) result }
     ensures reads { IsTrue T.tells → (state : Contents) → HoldsState (T.world engine.old.store.disk.now) state → IsAsking (line_of line.now)
         → OnOk result (ReadsForLine state (line_of line.now) (T.world engine.old.store.disk.now) (T.world engine.new.store.disk.now)) }
+    ensures kept { IsTrue T.tells → IsReading (line_of line.now) → KeepsImage (T.world engine.old.store.disk.now) (T.world engine.new.store.disk.now) result }
     ensures reason { IfOk result HasReason }
     ensures on { OnOk result (engine.new.stopped ≡ false) }
     ensures cause { HasEngineEnd T.tells (T.world engine.old.store.disk.now) (T.world engine.new.store.disk.now) result }
@@ -171,6 +176,7 @@ pub(crate) fn act<'d, T: Station>(
     ensures same_loan { engine.new.store.disk.ghost_name ≡ engine.old.store.disk.ghost_name }
     ensures told { IsTrue T.tells → (state : Contents) → HoldsState (T.world engine.old.store.disk.now) state
         → RunsLines state (line.now ∷ []) (T.world engine.old.store.disk.now) (T.world engine.new.store.disk.now) result }
+    ensures kept { IsTrue T.tells → IsReading (line_of line.now) → KeepsImage (T.world engine.old.store.disk.now) (T.world engine.new.store.disk.now) result }
     ensures on { OnOk result (engine.new.stopped ≡ false) }
     ensures cause { HasEngineEnd T.tells (T.world engine.old.store.disk.now) (T.world engine.new.store.disk.now) result }
     ensures ends { IfErr result IsLineEnd }

@@ -6,6 +6,7 @@ ghost use Rattle.irtree_engine.specs.Holding.{HoldsState};
 ghost use Rattle.run_protocol.specs.Asking.{AreAsking, ReadsForLines};
 ghost use Rattle.run_protocol.specs.Causes.{HasJobEnd};
 ghost use Rattle.run_protocol.specs.Left.{LeftByLines};
+ghost use Rattle.run_protocol.specs.Reading.{AreReading, KeepsImage};
 ghost use Rattle.run_protocol.specs.Script.{cut, script_lines, FitsScript, IsScriptInput};
 ghost use Rattle.script_run.specs.Feed.{kept, EndsNoLine};
 ghost use Rattle.script_run.specs.Lines.{IsPieceEnd, RunsPiece};
@@ -37,6 +38,8 @@ fn take<'d, T: Station>(
     ensures same_loan { engine.new.store.disk.ghost_name ≡ engine.old.store.disk.ghost_name }
     ensures told { (front : List ℕ) → EndsNoLine front → script.old.line.items ≡ kept front → IsTrue T.tells → (state : Contents) → HoldsState (T.world engine.old.store.disk.now) state
         → RunsPiece state (cut (front ++ take (268435456 - taken) piece.now)).lines (268435456 - taken) (length piece.now) (T.world engine.old.store.disk.now) (T.world engine.new.store.disk.now) result }
+    ensures kept { (front : List ℕ) → EndsNoLine front → script.old.line.items ≡ kept front → IsTrue T.tells → AreReading (cut (front ++ take (268435456 - taken) piece.now)).lines
+        → KeepsImage (T.world engine.old.store.disk.now) (T.world engine.new.store.disk.now) result }
     ensures line { (front : List ℕ) → EndsNoLine front → script.old.line.items ≡ kept front
         → OnOk result (script.new.line.items ≡ kept (cut (front ++ piece.now)).rest) }
     ensures few { IfOk result (λ now. (now ≤ 268435456) × (now ≡ taken + length piece.now)) }
@@ -68,7 +71,8 @@ fn take<'d, T: Station>(
 /// - `Limit(NoRoom)` if no page is left for an update, after the replies to the lines before it. The state is the one before it.
 /// - `Source` if the source fails, after the replies to all lines whose LF was read.
 /// - `Disk`, `Sink` and `Memory` if one of them fails, after a prefix of the replies.
-/// - `Store(Damaged)` if a page breaks a rule; never if the image stands for a state.
+/// - `Store(Damaged)` if a page breaks a rule; never if the image stands for a state. A script without updates names a page and a rule that it
+///   breaks, as the image at the start holds it.
 #[tactic(none)]
 pub fn run_script<'d, S: Source, T: Station>(
     alloc: Global,
@@ -85,6 +89,8 @@ pub fn run_script<'d, S: Source, T: Station>(
     // Lines that only ask read what their queries call for, by what the image holds, and change nothing.
     ensures opens_few { IsTrue S.tells → IsTrue T.tells → (state : Contents) → HoldsState (T.world engine.old.store.disk.now) state → AreAsking (script_lines (S.left source.old))
         → OnOk result (ReadsForLines state (script_lines (S.left source.old)) (T.world engine.old.store.disk.now) (T.world engine.new.store.disk.now)) }
+    // Lines that only read leave the image as it was, whatever it stands for, and damage that ends them is its own.
+    ensures kept { IsTrue S.tells → IsTrue T.tells → AreReading (script_lines (S.left source.old)) → KeepsImage (T.world engine.old.store.disk.now) (T.world engine.new.store.disk.now) result }
     ensures cause { HasJobEnd T.tells (S.faults source.old) (S.faults source.new) (T.world engine.old.store.disk.now) (T.world engine.new.store.disk.now) result }
 
     // Whatever the image stands for, the input and a limit end it only for their cause, and else the input was read to its end.

@@ -3,6 +3,8 @@ ghost use Rattle.std.specs.Prelude.{◌≡◌, ◌≤◌, ◌<◌, ◌++◌, ◌
 ghost use Rattle.place_map.specs.State.{Contents};
 ghost use Rattle.irtree_engine.specs.Holding.{HoldsState};
 ghost use Rattle.run_protocol.specs.Causes.{HasEngineEnd};
+ghost use Rattle.query_lang.specs.Line.{line_of};
+ghost use Rattle.run_protocol.specs.Reading.{AreReading, IsReading, KeepsImage};
 ghost use Rattle.run_protocol.specs.Script.{cut, last_line};
 ghost use Rattle.script_run.specs.Feed.{kept, EndsNoLine};
 ghost use Rattle.script_run.specs.Lines.{IsLineEnd, RunsLines};
@@ -88,6 +90,8 @@ impl Script {
         ensures same_loan { engine.new.store.disk.ghost_name ≡ engine.old.store.disk.ghost_name }
         ensures told { (front : List ℕ) → self.old.line.items ≡ kept front → IsTrue T.tells → (state : Contents) → HoldsState (T.world engine.old.store.disk.now) state
             → RunsLines state ((front ++ part.now) ∷ []) (T.world engine.old.store.disk.now) (T.world engine.new.store.disk.now) result }
+        ensures kept { (front : List ℕ) → self.old.line.items ≡ kept front → IsTrue T.tells → IsReading (line_of (front ++ part.now))
+            → KeepsImage (T.world engine.old.store.disk.now) (T.world engine.new.store.disk.now) result }
         ensures line { OnOk result (self.new.line.items ≡ []) }
         ensures on { OnOk result (engine.new.stopped ≡ false) }
         ensures cause { HasEngineEnd T.tells (T.world engine.old.store.disk.now) (T.world engine.new.store.disk.now) result }
@@ -113,6 +117,8 @@ impl Script {
         ensures same_loan { engine.new.store.disk.ghost_name ≡ engine.old.store.disk.ghost_name }
         ensures told { (front : List ℕ) → EndsNoLine front → self.old.line.items ≡ kept front → IsTrue T.tells → (state : Contents) → HoldsState (T.world engine.old.store.disk.now) state
             → RunsLines state (cut (front ++ piece.now)).lines (T.world engine.old.store.disk.now) (T.world engine.new.store.disk.now) result }
+        ensures kept { (front : List ℕ) → EndsNoLine front → self.old.line.items ≡ kept front → IsTrue T.tells → AreReading (cut (front ++ piece.now)).lines
+            → KeepsImage (T.world engine.old.store.disk.now) (T.world engine.new.store.disk.now) result }
         ensures line { (front : List ℕ) → EndsNoLine front → self.old.line.items ≡ kept front
             → OnOk result (self.new.line.items ≡ kept (cut (front ++ piece.now)).rest) }
         ensures short { OnOk result (length self.new.line.items ≤ 65537) }
@@ -134,6 +140,8 @@ impl Script {
         ensures same_loan { engine.new.store.disk.ghost_name ≡ engine.old.store.disk.ghost_name }
         ensures told { (front : List ℕ) → self.old.line.items ≡ kept front → IsTrue T.tells → (state : Contents) → HoldsState (T.world engine.old.store.disk.now) state
             → RunsLines state (last_line front) (T.world engine.old.store.disk.now) (T.world engine.new.store.disk.now) result }
+        ensures kept { (front : List ℕ) → self.old.line.items ≡ kept front → IsTrue T.tells → AreReading (last_line front)
+            → KeepsImage (T.world engine.old.store.disk.now) (T.world engine.new.store.disk.now) result }
         ensures cause { HasEngineEnd T.tells (T.world engine.old.store.disk.now) (T.world engine.new.store.disk.now) result }
         ensures ends { IfErr result IsLineEnd }
     {

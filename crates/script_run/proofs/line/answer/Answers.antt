@@ -7,6 +7,7 @@ use Rattle.query_replies.specs.declared.reply.Reply.TheVariants as replies
 use Rattle.query_replies.specs.Reply.{text_of_reply}
 use Rattle.query_lang.specs.Plain.{plain_line}
 use Rattle.run_protocol.specs.Asking.{IsAsking, ReadsForLine}
+use Rattle.run_protocol.specs.Reading.{IsReading}
 use Rattle.script_run.specs.Lines.{RepliesTo}
 use Rattle.run_protocol.proofs.Reading.{rests-still}
 use Rattle.script_run.proofs.Asking.{line-unread}
@@ -52,3 +53,18 @@ returns-in-Show-clause-reads g c = λ told state holds asks. absurd (subst (λ (
 
 pub returns-in-Count-clause-reads : goal.returns-in-Count-clause-reads
 returns-in-Count-clause-reads g c = λ told state holds asks. line-unread state (Ok (plain_line c.args.line)) (g.T.Disk.world c.args.engine.now.store.disk.now)
+
+pub returns-in-Nothing-clause-kept : goal.returns-in-Nothing-clause-kept
+returns-in-Nothing-clause-kept g c = λ told reads. record { seen = refl; met = tt }
+
+pub returns-in-Do-clause-kept : goal.returns-in-Do-clause-kept
+returns-in-Do-clause-kept g c = λ told reads. absurd (subst (λ (l : Line). IsReading (Ok (plain_line l))) c.in-Do.is reads)
+
+pub returns-in-Ask-clause-kept : goal.returns-in-Ask-clause-kept
+returns-in-Ask-clause-kept g c = λ told reads. c.ask.ensures.kept told
+
+pub returns-in-Show-clause-kept : goal.returns-in-Show-clause-kept
+returns-in-Show-clause-kept g c = λ told reads. c.show.ensures.kept told
+
+pub returns-in-Count-clause-kept : goal.returns-in-Count-clause-kept
+returns-in-Count-clause-kept g c = λ told reads. record { seen = refl; met = tt }

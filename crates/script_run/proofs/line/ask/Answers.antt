@@ -1,4 +1,4 @@
-use Rattle.std.proofs.Common.{◌≡◌, true, false, refl, sym, ap, subst, ◌∙◌}
+use Rattle.std.proofs.Common.{◌≡◌, true, false, inl, refl, sym, ap, subst, ◌∙◌}
 use Rattle.std.specs.Prelude.{Ok, Err}
 use Rattle.query_lang.specs.declared.line.Line.TheVariants as lines
 use Rattle.query_lang.specs.Reply.{reply_of}
@@ -6,11 +6,12 @@ use Rattle.query_replies.specs.declared.reply.Reply.{Reply}
 use Rattle.query_replies.specs.declared.reply.Reply.TheVariants as replies
 use Rattle.query_replies.specs.Reply.{text_of_reply}
 use Rattle.run_protocol.specs.Causes.{HasEngineEnd}
+use Rattle.run_protocol.specs.Reading.{IsMetIn}
 use Rattle.run_protocol.specs.declared.ended.Ended.{Ended}
 use Rattle.script_run.specs.Lines.{IsLineEnd, RepliesTo}
 use Rattle.script_run.proofs.Asking.{asked-reads}
 use Rattle.script_run.proofs.Ends.{read-ends}
-use Rattle.run_protocol.proofs.Reading.{RefusedRead, refused-read-cause}
+use Rattle.run_protocol.proofs.Reading.{RefusedRead, met-engine, refused-read-cause}
 use Rattle.script_run.proofs.Replies.{read-replies, refused-read}
 use Rattle.script_run.proofs.line.ask.Goals as goal
 
@@ -54,3 +55,14 @@ returns-in-Err-clause-ends g c = subst IsLineEnd (sym c.ended_by.ensures) (read-
 pub returns-in-Ok-clause-reads : goal.returns-in-Ok-clause-reads
 returns-in-Ok-clause-reads g c = λ told state holds.
     asked-reads state c.args.query c.args.explain _ _ (c.in-Ok.ensures.rests told).seen (c.in-Ok.ensures.opens_few told state holds)
+
+pub returns-in-Ok-clause-kept : goal.returns-in-Ok-clause-kept
+returns-in-Ok-clause-kept g c = λ told. record { seen = (c.in-Ok.ensures.rests told).seen; met = tt }
+
+pub returns-in-Err-clause-kept : goal.returns-in-Err-clause-kept
+returns-in-Err-clause-kept g c = λ told.
+    let image = (g.T.Disk.world c.args.engine.now.store.disk.now).seen in
+    record {
+      seen = (c.in-Err.ensures.rests told).seen;
+      met = subst (IsMetIn image) (sym c.ended_by.ensures) (met-engine image c.in-Err.fault (λ damage e. inl (c.in-Err.ensures.broken told damage (ap Err e))));
+    }

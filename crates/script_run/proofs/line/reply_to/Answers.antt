@@ -6,6 +6,7 @@ use Rattle.query_lang.specs.declared.line.Line.{Line}
 use Rattle.query_replies.specs.declared.fault.LineFault.{LineFault}
 use Rattle.query_replies.specs.declared.fault.LineFault.TheVariants.{Memory}
 use Rattle.run_protocol.specs.Asking.{IsAsking, ReadsForLine}
+use Rattle.run_protocol.specs.Reading.{IsReading}
 use Rattle.script_run.proofs.Asking.{line-unread}
 use Rattle.script_run.proofs.Replies.{plain-replies, bad-replies}
 use Rattle.script_run.proofs.Causes.{engine-still}
@@ -21,12 +22,18 @@ returns-in-Ok-clause-reads g c = λ told state holds asks.
     subst (λ (l : Result Line LineFault). OnOk c.answer.result (ReadsForLine state l (g.T.Disk.world c.args.engine.now.store.disk.now) (g.T.Disk.world c.answer.new.engine.store.disk.now))) (sym same)
     (c.answer.ensures.reads told state holds (subst IsAsking same asks))
 
+pub returns-in-Ok-clause-kept : goal.returns-in-Ok-clause-kept
+returns-in-Ok-clause-kept g c = λ told reads.
+    let same : line_of c.args.line.now ≡ Ok (plain_line c.in-Ok.line) = c.in-Ok.ensures.says in
+    c.answer.ensures.kept told (subst IsReading same reads)
+
 pub returns-in-Err : goal.returns-in-Err
 returns-in-Err g c =
     let apart : c.in-Err.fault ≡ Memory → ⊥ = search rules in
     record {
       same_loan = refl;
       told = λ told state holds. bad-replies state (line_of c.args.line.now) _ c.in-Err.fault (c.in-Err.ensures.says apart) holds;
+      kept = λ told reads. record { seen = refl; met = tt };
       reads = λ told state holds asks. line-unread state (line_of c.args.line.now) (g.T.Disk.world c.args.engine.now.store.disk.now);
       reason = apart;
       on = c.requires.on;

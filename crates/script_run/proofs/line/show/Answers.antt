@@ -1,4 +1,4 @@
-use Rattle.std.proofs.Common.{◌≡◌, true, false, refl, sym, ap, subst, ◌∙◌}
+use Rattle.std.proofs.Common.{◌≡◌, true, false, inr, refl, sym, ap, subst, ◌∙◌}
 use Rattle.std.specs.Prelude.{Ok, Err}
 use Rattle.query_lang.specs.declared.line.Line.TheVariants as lines
 use Rattle.query_lang.specs.Reply.{reply_of, show_reply}
@@ -6,10 +6,11 @@ use Rattle.query_replies.specs.declared.reply.Reply.{Reply}
 use Rattle.query_replies.specs.declared.reply.Reply.TheVariants as replies
 use Rattle.query_replies.specs.Reply.{text_of_reply}
 use Rattle.run_protocol.specs.Causes.{HasEngineEnd}
+use Rattle.run_protocol.specs.Reading.{IsMetIn}
 use Rattle.run_protocol.specs.declared.ended.Ended.{Ended}
 use Rattle.script_run.specs.Lines.{IsLineEnd, RepliesTo}
 use Rattle.script_run.proofs.Ends.{read-ends}
-use Rattle.run_protocol.proofs.Reading.{RefusedRead, refused-read-cause}
+use Rattle.run_protocol.proofs.Reading.{RefusedRead, met-engine, refused-read-cause}
 use Rattle.script_run.proofs.Replies.{read-replies, refused-read}
 use Rattle.script_run.proofs.line.show.Goals as goal
 
@@ -57,3 +58,17 @@ returns-in-Err-clause-cause g c =
 
 pub returns-in-Err-clause-ends : goal.returns-in-Err-clause-ends
 returns-in-Err-clause-ends g c = subst IsLineEnd (sym c.ended_by.ensures) (read-ends c.in-Err.fault c.in-Err.ensures.causes)
+
+pub returns-in-Ok-Some-clause-kept : goal.returns-in-Ok-Some-clause-kept
+returns-in-Ok-Some-clause-kept g c = λ told. record { seen = (c.in-Ok-Some.ensures.rests told).seen; met = tt }
+
+pub returns-in-Ok-None-clause-kept : goal.returns-in-Ok-None-clause-kept
+returns-in-Ok-None-clause-kept g c = λ told. record { seen = (c.in-Ok-None.ensures.rests told).seen; met = tt }
+
+pub returns-in-Err-clause-kept : goal.returns-in-Err-clause-kept
+returns-in-Err-clause-kept g c = λ told.
+    let image = (g.T.Disk.world c.args.engine.now.store.disk.now).seen in
+    record {
+      seen = (c.in-Err.ensures.rests told).seen;
+      met = subst (IsMetIn image) (sym c.ended_by.ensures) (met-engine image c.in-Err.fault (λ damage e. inr (c.in-Err.ensures.broken told damage (ap Err e))));
+    }

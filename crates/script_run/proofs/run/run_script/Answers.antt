@@ -6,6 +6,8 @@ use Rattle.script_run.proofs.Causes.{job-still, job-by-engine, job-then, job-fai
 use Rattle.script_run.proofs.Ends.{left-counts, line-input, line-limit, on_ok-held, piece-input, piece-limit}
 use Rattle.script_run.proofs.Fronts.{piece-came, none-behind}
 use Rattle.script_run.proofs.Lines.{rest-EndsNoLine}
+use Rattle.script_run.proofs.Reading.{keeps-failed}
+use Rattle.script_run.proofs.Untouched.{untouched-ends, untouched-fed, untouched-piece, untouched-start, untouched-still}
 use Rattle.script_run.proofs.Standing.{input_max-is, ends-lost, stops-ends, standing-start, standing-fed, standing-left, standing-failed, standing-ends, standing-ends_left, standing-ends_reads, piece-ends, piece-left}
 use Rattle.script_run.proofs.run.run_script.Goals as goal
 
@@ -33,6 +35,7 @@ pieces-init g c = record {
   short = omega (arith, ap length c.new-script.ensures);
   came = λ tells. omega arith;
   standing = λ tells told state holds. standing-start state (g.S.Source.left c.args.source.now) _ (g.T.Disk.world c.args.engine.now.store.disk.now) c.new-script.ensures holds;
+  untouched = λ tells told. untouched-start (g.S.Source.left c.args.source.now) _ (g.T.Disk.world c.args.engine.now.store.disk.now) c.new-script.ensures;
   cause = job-still _ _ _ _;
 }
 
@@ -160,6 +163,14 @@ pieces-preserved g c = record {
       standing-fed state (g.S.Source.left c.args.source.now) (g.S.Source.left c.pieces.source) (g.T.Disk.world c.args.engine.now.store.disk.now) (g.T.Disk.world c.pieces.engine.store.disk.now) c.pieces.script.line.items c.pieces.taken s c.split_at.result.0.now (g.S.Source.left c.read.new.self) _ (g.T.Disk.world c.take.new.engine.store.disk.now) _ came
       (c.in-Ok-take.ensures.line (cut s.read).rest (rest-EndsNoLine s.read) s.keeps) c.in-Ok-take.ensures.few.0 c.in-Ok-take.ensures.few.1
       (c.in-Ok-take.ensures.told (cut s.read).rest (rest-EndsNoLine s.read) s.keeps told (script state (cut s.read).lines).state s.holds);
+  untouched = λ tells told.
+      let u = c.pieces.invariant.untouched tells told in
+      let came : g.S.Source.left c.pieces.source ≡ c.split_at.result.0.now ++ g.S.Source.left c.read.new.self =
+      piece-came c.in-Ok-read.n c.pieces.piece.len c.read.new.buf (drop (length c.read.new.buf) c.pieces.piece.items) _ c.split_at.result.0.now _ _ c.in-Ok-read.ensures.count
+      (omega (arith, c.read.auto.buf, c.deref_mut.ensures.len, c.pieces.invariant.room)) c.as_slice.ensures.value c.split_at.ensures.front (c.in-Ok-read.ensures.told tells).given in
+      untouched-fed (g.S.Source.left c.args.source.now) (g.S.Source.left c.pieces.source) (g.T.Disk.world c.args.engine.now.store.disk.now) (g.T.Disk.world c.pieces.engine.store.disk.now) c.pieces.script.line.items c.pieces.taken u c.split_at.result.0.now (g.S.Source.left c.read.new.self) (g.T.Disk.world c.take.new.engine.store.disk.now) came _ _ _
+      (c.in-Ok-take.ensures.line (cut u.read).rest (rest-EndsNoLine u.read) u.keeps) c.in-Ok-take.ensures.few.0 c.in-Ok-take.ensures.few.1
+      (c.in-Ok-take.ensures.kept (cut u.read).rest (rest-EndsNoLine u.read) u.keeps told);
   cause = job-valued _ _ _ _ _ _ tt (job-then _ (g.S.Source.faults c.args.source.now) (g.S.Source.faults c.pieces.source) (g.S.Source.faults c.read.new.self) (g.T.Disk.world c.args.engine.now.store.disk.now) (g.T.Disk.world c.pieces.engine.store.disk.now) (g.T.Disk.world c.take.new.engine.store.disk.now) tt c.pieces.invariant.cause c.in-Ok-read.ensures.cause.later _ c.in-Ok-take.ensures.cause);
 }
 
@@ -205,3 +216,31 @@ returns-in-Err-take-clause-whole g c = λ tells. tt
 
 pub returns-in-Err-take-clause-limit : goal.returns-in-Err-take-clause-limit
 returns-in-Err-take-clause-limit g c = λ fault is. piece-limit {T = Unit {0}} c.pieces.taken (length c.split_at.result.0.now) (Err c.in-Err-take.end) fault c.in-Err-take.ensures.ends is
+
+-- ---- lines that only read
+
+pub returns-in-Err-clause-kept : goal.returns-in-Err-clause-kept
+returns-in-Err-clause-kept g c = λ tells told reads. record { seen = refl; met = tt }
+
+pub returns-in-Err-read-clause-kept : goal.returns-in-Err-read-clause-kept
+returns-in-Err-read-clause-kept g c = λ tells told reads.
+    let u = c.pieces.invariant.untouched tells told in
+    record { seen = untouched-still (g.S.Source.left c.args.source.now) (g.S.Source.left c.pieces.source) (g.T.Disk.world c.args.engine.now.store.disk.now) (g.T.Disk.world c.pieces.engine.store.disk.now) c.pieces.script.line.items c.pieces.taken u (omega (arith, c.pieces.invariant.taken, input_max-is)) reads; met = tt }
+
+pub returns-then-n-eq0-clause-kept : goal.returns-then-n-eq0-clause-kept
+returns-then-n-eq0-clause-kept g c = λ tells told reads.
+    let u = c.pieces.invariant.untouched tells told in
+    let given = c.in-Ok-read.ensures.told tells in
+    let none : g.S.Source.left c.pieces.source ≡ [] = given.ends c.if-n-eq0.true in
+    untouched-ends (g.S.Source.left c.args.source.now) (g.S.Source.left c.pieces.source) (g.T.Disk.world c.args.engine.now.store.disk.now) (g.T.Disk.world c.pieces.engine.store.disk.now) c.pieces.script.line.items c.pieces.taken u (g.T.Disk.world c.end.new.engine.store.disk.now) c.end.result (omega (arith, c.pieces.invariant.taken, input_max-is)) none
+    (c.end.ensures.kept (cut u.read).rest u.keeps told) reads
+
+pub returns-in-Err-take-clause-kept : goal.returns-in-Err-take-clause-kept
+returns-in-Err-take-clause-kept g c = λ tells told reads.
+    let u = c.pieces.invariant.untouched tells told in
+    let came : g.S.Source.left c.pieces.source ≡ c.split_at.result.0.now ++ g.S.Source.left c.read.new.self =
+    piece-came c.in-Ok-read.n c.pieces.piece.len c.read.new.buf (drop (length c.read.new.buf) c.pieces.piece.items) _ c.split_at.result.0.now _ _ c.in-Ok-read.ensures.count
+    (omega (arith, c.read.auto.buf, c.deref_mut.ensures.len, c.pieces.invariant.room)) c.as_slice.ensures.value c.split_at.ensures.front (c.in-Ok-read.ensures.told tells).given in
+    keeps-failed ℕ (Unit {0}) _ _ c.in-Err-take.end
+    (untouched-piece (g.S.Source.left c.args.source.now) (g.S.Source.left c.pieces.source) (g.T.Disk.world c.args.engine.now.store.disk.now) (g.T.Disk.world c.pieces.engine.store.disk.now) c.pieces.script.line.items c.pieces.taken u c.split_at.result.0.now (g.S.Source.left c.read.new.self) (g.T.Disk.world c.take.new.engine.store.disk.now) came _ c.pieces.invariant.taken
+    (c.in-Err-take.ensures.kept (cut u.read).rest (rest-EndsNoLine u.read) u.keeps told) reads)

@@ -4,6 +4,7 @@ use Rattle.place_map.specs.State.{Contents}
 use Rattle.irtree_engine.specs.Holding.{HoldsState}
 use Rattle.run_protocol.specs.Causes.{HasJobEnd}
 use Rattle.script_run.specs.Standing.{Standing}
+use Rattle.script_run.proofs.Untouched.{Untouched}
 use Rattle.script_run.proofs.run.run_script.Given as goal
 
 abbrev pub invariant-pieces : goal.invariant-pieces
@@ -16,6 +17,8 @@ invariant-pieces g l = record {
   came : IsTrue g.S.Source.tells → length (g.S.Source.left l.fn.source) ≡ l.taken + length (g.S.Source.left l.source);
   standing : IsTrue g.S.Source.tells → IsTrue g.T.Disk.tells → (state : Contents) → HoldsState (g.T.Disk.world l.fn.engine.store.disk.now) state
       → Standing state (g.S.Source.left l.fn.source) (g.S.Source.left l.source) (g.T.Disk.world l.fn.engine.store.disk.now) (g.T.Disk.world l.engine.store.disk.now) l.script.line.items l.taken;
+  untouched : IsTrue g.S.Source.tells → IsTrue g.T.Disk.tells
+      → Untouched (g.S.Source.left l.fn.source) (g.S.Source.left l.source) (g.T.Disk.world l.fn.engine.store.disk.now) (g.T.Disk.world l.engine.store.disk.now) l.script.line.items l.taken;
   cause : HasJobEnd {T = Unit {0}} g.T.Disk.tells (g.S.Source.faults l.fn.source) (g.S.Source.faults l.source) (g.T.Disk.world l.fn.engine.store.disk.now) (g.T.Disk.world l.engine.store.disk.now) (Ok tt);
 }
 

@@ -1,11 +1,13 @@
 use Rattle.std.proofs.Common.{◌≡◌, ◌+◌, ◌-◌, ◌++◌, List, ℕ, length, take, refl, sym, subst, arith}
 use Rattle.std.specs.Prelude.{Ok, Err}
 use Rattle.std.proofs.lemmas.List.{take_all}
+use Rattle.run_protocol.specs.Reading.{AreReading}
 use Rattle.run_protocol.specs.Script.{cut}
 use Rattle.run_protocol.specs.declared.ended.InputFault.TheVariants.{Long}
 use Rattle.script_run.specs.Lines.{RunsLines}
 use Rattle.script_run.proofs.Causes.{job-by-failure, job-by-input, job-by-value}
 use Rattle.script_run.proofs.Ends.{piece-line}
+use Rattle.script_run.proofs.Reading.{keeps-failed}
 use Rattle.script_run.proofs.Runs.{runs-valued}
 use Rattle.script_run.proofs.Standing.{piece-stopped}
 use Rattle.script_run.proofs.run.take.Goals as goal
@@ -105,3 +107,25 @@ returns-in-Ok-feed-clause-ends g c = tt
 
 pub returns-in-Err-feed-clause-ends : goal.returns-in-Err-feed-clause-ends
 returns-in-Err-feed-clause-ends g c = piece-line _ _ c.in-Err-feed.end c.in-Err-feed.ensures.ends
+
+pub returns-in-Ok-clause-kept : goal.returns-in-Ok-clause-kept
+returns-in-Ok-clause-kept g c = λ front ends is told reads.
+    let within = subst (λ (part : List ℕ). AreReading (cut (front ++ part)).lines) (sym c.split_at.ensures.front) reads in
+    record { seen = (c.in-Ok.ensures.kept front ends is told within).seen; met = tt }
+
+pub returns-in-Err-clause-kept : goal.returns-in-Err-clause-kept
+returns-in-Err-clause-kept g c = λ front ends is told reads.
+    let within = subst (λ (part : List ℕ). AreReading (cut (front ++ part)).lines) (sym c.split_at.ensures.front) reads in
+    keeps-failed (Unit {0}) ℕ _ _ c.in-Err.end (c.in-Err.ensures.kept front ends is told within)
+
+pub returns-in-Ok-feed-clause-kept : goal.returns-in-Ok-feed-clause-kept
+returns-in-Ok-feed-clause-kept g c = λ front ends is told reads.
+    let whole : take (268435456 - c.args.taken) c.args.piece.now ≡ c.args.piece.now = take_all (268435456 - c.args.taken) c.args.piece.now (omega arith) in
+    let all = subst (λ (part : List ℕ). AreReading (cut (front ++ part)).lines) whole reads in
+    record { seen = (c.in-Ok-feed.ensures.kept front ends is told all).seen; met = tt }
+
+pub returns-in-Err-feed-clause-kept : goal.returns-in-Err-feed-clause-kept
+returns-in-Err-feed-clause-kept g c = λ front ends is told reads.
+    let whole : take (268435456 - c.args.taken) c.args.piece.now ≡ c.args.piece.now = take_all (268435456 - c.args.taken) c.args.piece.now (omega arith) in
+    let all = subst (λ (part : List ℕ). AreReading (cut (front ++ part)).lines) whole reads in
+    keeps-failed (Unit {0}) ℕ _ _ c.in-Err-feed.end (c.in-Err-feed.ensures.kept front ends is told all)

@@ -1,6 +1,6 @@
-use Rattle.std.proofs.Common.{◌≡◌, [], arith}
+use Rattle.std.proofs.Common.{◌≡◌, [], refl, arith}
 use Rattle.script_run.proofs.Lines.{none-left, some-left}
-use Rattle.script_run.proofs.Feeding.{last-none, last-some}
+use Rattle.script_run.proofs.Feeding.{last-none, last-reads, last-some}
 use Rattle.script_run.proofs.script.Script.end.Goals as goal
 
 pub returns-then-is_empty-clause-told : goal.returns-then-is_empty-clause-told
@@ -13,3 +13,11 @@ returns-clause-told g c = λ front is told state holds.
     let some : c.args.self.now.line.items ≡ [] → ⊥ = some-left _ _ _ (omega arith) c.is_empty.ensures c.if-is_empty.false in
     last-some state c.args.self.now.line.items front (g.T.Disk.world c.args.engine.now.store.disk.now) (g.T.Disk.world c.act.new.engine.store.disk.now) c.act.result some is
     (rw (← c.deref.ensures.value) (c.act.ensures.told told state holds))
+
+pub returns-then-is_empty-clause-kept : goal.returns-then-is_empty-clause-kept
+returns-then-is_empty-clause-kept g c = λ front is told reads. record { seen = refl; met = tt }
+
+pub returns-clause-kept : goal.returns-clause-kept
+returns-clause-kept g c = λ front is told reads.
+    let some : c.args.self.now.line.items ≡ [] → ⊥ = some-left _ _ _ (omega arith) c.is_empty.ensures c.if-is_empty.false in
+    c.act.ensures.kept told (rw c.deref.ensures.value (last-reads c.args.self.now.line.items front some is reads))

@@ -1,9 +1,11 @@
-use Rattle.std.proofs.Common.{◌≡◌, List, ℕ, [], ◌∷◌, ◌++◌, subst, arith, ◌∙◌}
+use Rattle.std.proofs.Common.{◌≡◌, List, ℕ, [], ◌∷◌, ◌++◌, refl, ap, subst, arith, ◌∙◌}
 use Rattle.std.specs.Prelude.{Err}
 use Rattle.std.proofs.lemmas.Result.{err_from_is_err_and}
 use Rattle.script_run.specs.Lines.{RunsLines}
 use Rattle.script_run.proofs.Lines.{line-fresh, line-ended, none-left}
 use Rattle.run_protocol.specs.declared.ended.Ended.TheVariants as ends
+use Rattle.query_lang.specs.Line.{line_of}
+use Rattle.script_run.proofs.Reading.{reading-alike}
 use Rattle.script_run.proofs.Runs.{runs-alike, runs-nothing}
 use Rattle.script_run.proofs.script.Script.end_line.Goals as goal
 
@@ -30,3 +32,26 @@ returns-in_err-act-clause-told g c = λ front is told state holds.
 pub returns-clause-told : goal.returns-clause-told
 returns-clause-told g c = λ front is told state holds.
     runs-alike state c.deref.result.now (front ++ c.args.part.now) _ _ _ (line-ended c.args.self.now.line.items _ front _ (c.deref.ensures.value ∙ c.in_ok-extend.ensures.ok) is) (c.in_ok-act.ensures.told told state holds)
+
+pub returns-then-is_empty-clause-kept : goal.returns-then-is_empty-clause-kept
+returns-then-is_empty-clause-kept g c = λ front is told reads.
+    let none : c.args.self.now.line.items ≡ [] = none-left _ _ _ (omega arith) c.is_empty.ensures c.if-is_empty.true in
+    c.act.ensures.kept told (reading-alike c.args.part.now (front ++ c.args.part.now) (ap line_of (line-fresh c.args.self.now.line.items front c.args.part.now none is)) reads)
+
+pub returns-in_err-extend-clause-kept : goal.returns-in_err-extend-clause-kept
+returns-in_err-extend-clause-kept g c = λ front is told reads.
+    let passed = err_from_is_err_and c.from_residual.result c.from_residual.ensures.1 in
+    let memory : c.in_err-extend.field-0.0 ≡ ends.Memory = c.in_err-extend.ensures.err in
+    let same : c.from_residual.result ≡ Err ends.Memory = cc (passed.1, passed.2, memory) in
+    rw same (record { seen = refl; met = tt })
+
+pub returns-in_err-act-clause-kept : goal.returns-in_err-act-clause-kept
+returns-in_err-act-clause-kept g c = λ front is told reads.
+    let passed = err_from_is_err_and c.from_residual-in_err-act.result c.from_residual-in_err-act.ensures.1 in
+    let same : c.from_residual-in_err-act.result ≡ Err c.in_err-act.field-0.0 = cc (passed.1, passed.2) in
+    rw same
+    (c.in_err-act.ensures.kept told (reading-alike c.deref.result.now (front ++ c.args.part.now) (line-ended c.args.self.now.line.items _ front _ (c.deref.ensures.value ∙ c.in_ok-extend.ensures.ok) is) reads))
+
+pub returns-clause-kept : goal.returns-clause-kept
+returns-clause-kept g c = λ front is told reads.
+    c.in_ok-act.ensures.kept told (reading-alike c.deref.result.now (front ++ c.args.part.now) (line-ended c.args.self.now.line.items _ front _ (c.deref.ensures.value ∙ c.in_ok-extend.ensures.ok) is) reads)

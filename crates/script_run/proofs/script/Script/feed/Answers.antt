@@ -4,7 +4,7 @@ use Rattle.std.proofs.lemmas.Result.{on_ok_weaker, err_from_is_err_and}
 use Rattle.run_protocol.specs.Causes.{HasEngineEnd}
 use Rattle.run_protocol.specs.declared.ended.Ended.{Ended}
 use Rattle.script_run.proofs.Causes.{engine-still, engine-then, engine-ends}
-use Rattle.script_run.proofs.Feeding.{feeding-start, feeding-line, feeding-breaks, feeding-ends, feeding-kept}
+use Rattle.script_run.proofs.Feeding.{feeding-start, feeding-line, feeding-breaks, feeding-ends, feeding-kept, feeding-met, feeding-stays}
 use Rattle.script_run.proofs.script.Script.feed.Goals as goal
 
 pub lines-init : goal.lines-init
@@ -38,7 +38,7 @@ lines-preserved g c = record {
   short = omega (arith, ap length c.in_ok-end_line.ensures.line);
   feeding = λ front ends is.
       let f = c.lines.invariant.feeding front ends is in
-      feeding-line _ _ _ _ _ _ _ f c.in-Some.line.now c.in-Some.next.now _ c.in-Some.ensures.whole c.in-Some.ensures.line _ _ c.in_ok-end_line.ensures.line (c.in_ok-end_line.ensures.told f.open_line f.is);
+      feeding-line _ _ _ _ _ _ _ f c.in-Some.line.now c.in-Some.next.now _ c.in-Some.ensures.whole c.in-Some.ensures.line _ _ c.in_ok-end_line.ensures.line (c.in_ok-end_line.ensures.told f.open_line f.is) (c.in_ok-end_line.ensures.kept f.open_line f.is);
   cause = engine-then _ _ _ _ tt c.lines.invariant.cause _ c.in_ok-end_line.ensures.cause;
 }
 
@@ -52,3 +52,15 @@ returns-clause-line g c = λ front ends is.
 
 pub returns-clause-cause : goal.returns-clause-cause
 returns-clause-cause g c = engine-ends _ _ _ tt c.extend.result c.lines.invariant.cause c.extend.ensures.err
+
+pub returns-in_err-end_line-clause-kept : goal.returns-in_err-end_line-clause-kept
+returns-in_err-end_line-clause-kept g c = λ front ends is told reads.
+    let f = c.lines.invariant.feeding front ends is in
+    let passed = err_from_is_err_and c.from_residual.result c.from_residual.ensures.1 in
+    let same : c.from_residual.result ≡ Err c.in_err-end_line.field-0.0 = cc (passed.1, passed.2) in
+    rw same
+    (feeding-met _ _ _ _ _ _ _ f c.in-Some.line.now c.in-Some.next.now _ c.in-Some.ensures.whole c.in-Some.ensures.line _ (c.in_err-end_line.ensures.kept f.open_line f.is) told reads)
+
+pub returns-clause-kept : goal.returns-clause-kept
+returns-clause-kept g c = λ front ends is told reads.
+    feeding-stays _ _ _ _ _ _ _ (c.lines.invariant.feeding front ends is) c.in_default.ensures.none c.extend.result c.extend.ensures.err told reads
