@@ -5,6 +5,7 @@ pub mod Fronts
 pub mod Jobs
 pub mod Loads
 pub mod Openings
+pub mod Reading
 pub mod Replies
 pub mod Scripts
 pub mod Settled

@@ -1,6 +1,7 @@
 -- What a run of the program promises.
 use Rattle.std.specs.Prelude.{◌≡◌, ◌⊎◌, ◌≤◌, ℕ, List, [], Bool, Option, IsTrue, IfErr, OnOk, Ok, Err, Result}
 use Rattle.disk_model.specs.World.{World, Image, LeavesOnly, Range, Rose, WritesNothing}
+use Rattle.irtree_engine.specs.Damages.{IsImageDamage}
 use Rattle.irtree_engine.specs.Holding.{HasBrokenHead, IsForeign, StandsForNone}
 use Rattle.irtree_engine.specs.Opening.{IsRecovered}
 use Rattle.irtree_engine.specs.Queries.{EachRead, contents_held}
@@ -118,6 +119,16 @@ abbrev pub IsBroken : StoreFault → Image → Type 0
 IsBroken stores.NotAStore image = StandsForNone image × IsForeign image
 IsBroken (stores.BadJournal at) image = StandsForNone image × IsBad image at
 IsBroken (stores.Damaged damage) image = StandsForNone image × IsDamagedAt damage image
+
+-- The page that is named breaks the rule that is named: page 0 the rule Head, or another one of those that the image holds, as a query or a
+-- look at a key meets it.
+abbrev pub IsBrokenRule : Damage → Image → Type 0
+IsBrokenRule damage image = ((damage ≡ head_damage) × HasBrokenHead image) ⊎ IsImageDamage image damage
+
+-- an end that names a page and a rule names one that the page breaks
+abbrev pub NamesBrokenRule : Image → Ended → Type 0
+NamesBrokenRule image (ends.Store (stores.Damaged damage)) = IsBrokenRule damage image
+NamesBrokenRule image _ = Unit {0}
 
 -- What may end a job whose store is opened first: want of memory, a count that rose, an image that is broken so, or, over an image that
 -- is opened, the input or a limit.

@@ -5,8 +5,9 @@ ghost use Rattle.place_map.specs.State.{Contents};
 ghost use Rattle.irtree_engine.specs.Holding.{HoldsState, LeavesState};
 ghost use Rattle.run_protocol.specs.Asking.{AreAsking};
 ghost use Rattle.run_protocol.specs.Causes.{HasJobEnd};
+ghost use Rattle.run_protocol.specs.Reading.{AreReading, IsMetIn};
 ghost use Rattle.run_protocol.specs.Script.{script_lines};
-ghost use Rattle.irtree_top.specs.Run.{EndsJob, HasRunEnd, HoldsPrefix, IsLimitReached, IsInputEnd, IsLimitOf, IsUnreadEnd, IsWholeInput, LeavesAlone, LeavesInput, OpensFew, ReachesLimitBy};
+ghost use Rattle.irtree_top.specs.Run.{EndsJob, HasRunEnd, HoldsPrefix, IsLimitReached, IsInputEnd, IsLimitOf, IsUnreadEnd, IsWholeInput, LeavesAlone, LeavesInput, NamesBrokenRule, OpensFew, ReachesLimitBy};
 ghost use Rattle.command_words.specs.Job.{asked_of};
 
 use crate::{transcript_is_one, transcript_is_some};
@@ -49,6 +50,8 @@ fn act<'d, S: Source, T: Station>(
         → LeavesOnly (T.world engine.old.store.disk.now) (T.world engine.new.store.disk.now) (HoldsPrefix (asked_of job.now) state (S.left source.old) (T.world engine.old.store.disk.now)) }
     ensures opens_few { job.now.action ≡ Action.Run → IsTrue S.tells → IsTrue T.tells → (state : Contents) → HoldsState (T.world engine.old.store.disk.now) state
         → AreAsking (script_lines (S.left source.old)) → OnOk result (OpensFew state (S.left source.old) (T.world engine.old.store.disk.now) (T.world engine.new.store.disk.now)) }
+    ensures met { job.now.action ≡ Action.Run → IsTrue S.tells → IsTrue T.tells → AreReading (script_lines (S.left source.old))
+        → IfErr result (IsMetIn (T.world engine.old.store.disk.now).seen) }
     ensures cause { HasJobEnd T.tells (S.faults source.old) (S.faults source.new) (T.world engine.old.store.disk.now) (T.world engine.new.store.disk.now) result }
     ensures input { IsTrue S.tells → (fault : InputFault) → IsErrOf result (Ended.Input fault) → IsInputEnd job.now.action (option_map string_bytes job.now.text) (S.left source.old) fault }
     ensures whole { IsTrue S.tells → OnOk result (LeavesInput job.now.action (S.left source.old) (S.left source.new) × IsWholeInput job.now.action (option_map string_bytes job.now.text) (S.left source.old)) }
@@ -107,6 +110,8 @@ fn serve<'d, S: Source, T: Station>(
         → LeavesOnly (T.world engine.old.store.disk.now) (T.world engine.new.store.disk.now) (HoldsPrefix (asked_of job.now) state (S.left source.old) (T.world engine.old.store.disk.now)) }
     ensures opens_few { job.now.action ≡ Action.Run → IsTrue S.tells → IsTrue T.tells → (state : Contents) → HoldsState (T.world engine.old.store.disk.now) state
         → AreAsking (script_lines (S.left source.old)) → OnOk result (OpensFew state (S.left source.old) (T.world engine.old.store.disk.now) (T.world engine.new.store.disk.now)) }
+    ensures met { job.now.action ≡ Action.Run → IsTrue S.tells → IsTrue T.tells → AreReading (script_lines (S.left source.old))
+        → IfErr result (IsMetIn (T.world engine.old.store.disk.now).seen) }
     ensures cause { HasJobEnd T.tells (S.faults source.old) (S.faults source.new) (T.world engine.old.store.disk.now) (T.world engine.new.store.disk.now) result }
     ensures input { IsTrue S.tells → (fault : InputFault) → IsErrOf result (Ended.Input fault) → IsInputEnd job.now.action (option_map string_bytes job.now.text) (S.left source.old) fault }
     ensures whole { IsTrue S.tells → OnOk result (LeavesInput job.now.action (S.left source.old) (S.left source.new) × IsWholeInput job.now.action (option_map string_bytes job.now.text) (S.left source.old)) }
@@ -144,6 +149,8 @@ pub(crate) fn run_job<S: Source, T: Station>(
         → LeavesOnly (T.world station.old) (T.world station.new) (HoldsPrefix (asked_of job.now) state (S.left source.old) (T.world station.old)) }
     ensures opens_few { job.now.action ≡ Action.Run → IsTrue S.tells → IsTrue T.tells → (state : Contents) → HoldsState (T.world station.old) state
         → AreAsking (script_lines (S.left source.old)) → OnOk result (OpensFew state (S.left source.old) (T.world station.old) (T.world station.new)) }
+    ensures broken_rule { job.now.action ≡ Action.Run → IsTrue S.tells → IsTrue T.tells → AreReading (script_lines (S.left source.old))
+        → IfErr result (NamesBrokenRule (T.world station.old).seen) }
     ensures cause { HasRunEnd T.tells (S.faults source.old) (S.faults source.new) (T.world station.old) (T.world station.new) result }
     ensures left_alone { IsTrue T.tells → IfErr result (λ end. LeavesAlone end (T.world station.old) (T.world station.new)) }
     ensures input { IsTrue S.tells → (fault : InputFault) → IsErrOf result (Ended.Input fault) → IsInputEnd job.now.action (option_map string_bytes job.now.text) (S.left source.old) fault }

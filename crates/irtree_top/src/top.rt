@@ -4,9 +4,10 @@ ghost use Rattle.disk_model.specs.World.{LeavesOnly, Rose};
 ghost use Rattle.place_map.specs.State.{Contents};
 ghost use Rattle.irtree_engine.specs.Holding.{HoldsState};
 ghost use Rattle.run_protocol.specs.Asking.{AreAsking};
+ghost use Rattle.run_protocol.specs.Reading.{AreReading};
 ghost use Rattle.run_protocol.specs.Script.{script_lines};
 ghost use Rattle.run_protocol.specs.Turn.{Transcript, Done, Input};
-ghost use Rattle.irtree_top.specs.Run.{EndsBy, HoldsPrefix, IsLimitReached, IsBehindOpening, IsBroken, IsCompleteEnd, IsInputEnd, IsLimitOf, IsOpenable, IsSettled, IsUnreadEnd, IsWholeInput, LeavesAlone, LeavesInput, OpensFew, SaysFront, SaysWhatWasRead, StopsAtLimit};
+ghost use Rattle.irtree_top.specs.Run.{EndsBy, HoldsPrefix, IsLimitReached, IsBehindOpening, IsBroken, IsBrokenRule, IsCompleteEnd, IsInputEnd, IsLimitOf, IsOpenable, IsSettled, IsUnreadEnd, IsWholeInput, LeavesAlone, LeavesInput, OpensFew, SaysFront, SaysWhatWasRead, StopsAtLimit};
 ghost use Rattle.irtree_top.specs.Transcript.{IsTranscript};
 ghost use Rattle.command_words.specs.Job.{Asked, AskFor, AreAccepted};
 
@@ -15,6 +16,7 @@ use crate::{Ended, InputFault, LimitFault, StoreFault};
 use command_words::{Action, WordsFault, read_words};
 use disk_model::{Source, Station};
 use geojson_points::{outcome_is_one, outcome_is_some};
+use page_face::Damage;
 use split_policy::SplitPolicy;
 use std::alloc::Global;
 
@@ -37,7 +39,8 @@ use std::alloc::Global;
 /// - `Limit(Full)` and `Limit(Worn)` in a load or a make alone, if a batch meets that limit. The whole transcript was said; the live places
 ///   or the update number of page 0, with the places of the text or those to be made added, reach the limit.
 /// - `Store` if the image at the start is no well-formed store: `NotAStore` if its page 0 is foreign; `BadJournal` with the first byte of
-///   its journal that breaks a rule; `Damaged` with the rule Head at page 0 if that breaks it, or with what is met behind the opening.
+///   its journal that breaks a rule; `Damaged` with the rule Head at page 0 if that breaks it, or with what is met behind the opening: in a
+///   script without updates a page and a rule that it breaks, as a query or a look at a key met it.
 ///   A store that is refused as it is opened is left alone: a bad journal as it was, the others recovered and nothing else.
 /// - `Source` if the source fails, after the replies to all lines that were read, and in a load with nothing said; never in a make.
 /// - `Disk`, `Sink` and `Memory` if one of them fails, after a prefix of the transcript's text.
@@ -113,6 +116,9 @@ pub fn run<S: Source, T: Station>(
 
     // Each end has its cause, and no count falls.
     ensures store { (fault : StoreFault) → result ≡ Ended.Store fault → IsTrue T.tells → IsBroken fault (T.world station.old).seen }
+    // A script that changes nothing names a page that breaks the rule it names, by what the image held at the start.
+    ensures broken_rule { (asked : Asked) → AskFor (map string_bytes words.now) asked → asked.action ≡ Action.Run → IsTrue S.tells → IsTrue T.tells
+        → AreReading (script_lines (S.left source.old)) → (damage : Damage) → result ≡ Ended.Store (StoreFault.Damaged damage) → IsBrokenRule damage (T.world station.old).seen }
     ensures opened { IsBehindOpening result → IsTrue T.tells → IsOpenable (T.world station.old).seen }
     ensures disk_cause { result ≡ Ended.Disk → Rose (T.world station.old).faults (T.world station.new).faults }
     ensures source_cause { result ≡ Ended.Source → Rose (S.faults source.old) (S.faults source.new) }

@@ -121,3 +121,14 @@ returns-in-Make-clause-reached g c = λ tells fault is.
 
 pub returns-in-Make-clause-unread : goal.returns-in-Make-clause-unread
 returns-in-Make-clause-unread g c = λ makes. (refl, engine-unread g.T.Disk.tells (g.T.Disk.world c.args.engine.now.store.disk.now) (g.T.Disk.world c.run_make.new.engine.store.disk.now) (Unit {0}) c.run_make.result c.run_make.ensures.cause.cause)
+
+-- ---- a script that only reads
+
+pub returns-in-Run-clause-met : goal.returns-in-Run-clause-met
+returns-in-Run-clause-met g c = λ runs tells told reads. (c.run_script.ensures.kept tells told reads).met
+
+pub returns-in-Load-clause-met : goal.returns-in-Load-clause-met
+returns-in-Load-clause-met g c = λ runs tells told reads. let loads : actions.Load ≡ actions.Run = sym c.in-Load.is ∙ runs in absurd (cc)
+
+pub returns-in-Make-clause-met : goal.returns-in-Make-clause-met
+returns-in-Make-clause-met g c = λ runs tells told reads. let makes : actions.Make ≡ actions.Run = sym c.in-Make.is ∙ runs in absurd (cc)

@@ -1,5 +1,5 @@
 use Rattle.std.proofs.Common.{◌≡◌, rules, refl, sym, ap, subst, ◌∙◌, arith}
-use Rattle.std.specs.Prelude.{IsErrOf, OnOk}
+use Rattle.std.specs.Prelude.{IfErr, IsErrOf, OnOk}
 use Rattle.command_words.specs.Job.{asked_of}
 use Rattle.irtree_engine.specs.declared.fault.EngineFault.TheVariants as engine
 use Rattle.disk_model.specs.World.{LeavesOnly, LeavesOnlySeen}
@@ -14,6 +14,8 @@ use Rattle.irtree_top.proofs.Asking.{opened-opens}
 use Rattle.irtree_top.proofs.Crashes.{left-from, none-held}
 use Rattle.irtree_top.proofs.Jobs.{fault-unread, job-from}
 use Rattle.irtree_top.proofs.Openings.{IsOpeningEnd, Refuses, given-back, job-alone, job-cause, none-by, opened-image, opened-limit, opened-quiet, opening-end, refused-alone, refused-cause, refused-job}
+use Rattle.run_protocol.specs.Reading.{IsMetIn}
+use Rattle.irtree_top.proofs.Reading.{opened-names, refused-names}
 use Rattle.irtree_top.proofs.serve.run_job.Given as given
 use Rattle.irtree_top.proofs.serve.run_job.Goals.{After-ended_by}
 use Rattle.irtree_top.proofs.serve.run_job.Goals as goal
@@ -136,3 +138,15 @@ returns-clause-reached g c = λ tells told fault is.
     let block : c.over-engine.result.store.current ≡ c.in-Ok.block = c.over-engine.result.settled ∙ c.over-engine.ensures.block in
     opened-limit c.in-Ok.block (world c.args.station.now) (world c.recover_superblock.new.disk) (c.in-Ok.ensures.opened told) fault (asked_of c.args.job.now) input
     (subst (λ (b : Superblock). ReachesLimitBy c.args.job.now.action (asked_of c.args.job.now) fault b.head.live b.head.number input) block (c.serve-end.ensures.reached tells fault is))
+
+pub returns-in-Err-clause-broken_rule : goal.returns-in-Err-clause-broken_rule
+returns-in-Err-clause-broken_rule g c = λ runs tells told reads.
+    rw c.ended_by.ensures
+    (refused-names g.T.Disk.tells (g.T.Disk.world c.args.station.now) (g.T.Disk.world c.recover_superblock.new.disk) c.in-Err.fault told (refuses g (goal.at.returns-in-Err-clause-broken_rule g c).After-ended_by))
+
+pub returns-clause-broken_rule : goal.returns-clause-broken_rule
+returns-clause-broken_rule g c = λ runs tells told reads.
+    let world = g.T.Disk.world in
+    let over : c.over-engine.result.store.disk.now ≡ c.recover_superblock.new.disk = c.over-engine.ensures.disk in
+    opened-names (world c.args.station.now) (world c.recover_superblock.new.disk) (c.in-Ok.ensures.opened told).stands c.serve-end.result
+    (subst (λ disk. IfErr c.serve-end.result (IsMetIn (world disk).seen)) over (c.serve-end.ensures.met runs tells told reads))

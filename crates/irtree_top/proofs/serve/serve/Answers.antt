@@ -70,3 +70,9 @@ returns-in-Err-clause-cause g c = record {
   stands = λ t. tt;
   cause = omega (arith, c.in-Err.ensures.cause.rose, c.act-end.ensures.cause.faults);
 }
+
+pub returns-in-Ok-clause-met : goal.returns-in-Ok-clause-met
+returns-in-Ok-clause-met g c = c.act-end.ensures.met
+
+pub returns-in-Err-clause-met : goal.returns-in-Err-clause-met
+returns-in-Err-clause-met g c = λ runs tells told reads. tt

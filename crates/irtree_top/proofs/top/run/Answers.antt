@@ -3,7 +3,7 @@ use Rattle.std.specs.Prelude.{Err, IsErrOf}
 use Rattle.run_protocol.specs.declared.ended.Ended.{Ended}
 use Rattle.run_protocol.specs.declared.ended.Ended.TheVariants as ends
 use Rattle.disk_model.specs.World.{LeavesOnly}
-use Rattle.irtree_top.specs.Run.{EndsBy, EndsJob, HoldsPrefix, IsInputEnd, IsLimitOf, IsLimitReached, IsRunEnd, IsWholeInput, LeavesInput, SaysFront}
+use Rattle.irtree_top.specs.Run.{EndsBy, EndsJob, HoldsPrefix, IsInputEnd, IsLimitOf, IsLimitReached, IsRunEnd, IsWholeInput, LeavesInput, NamesBrokenRule, SaysFront}
 use Rattle.run_protocol.specs.Turn.{Done}
 use Rattle.command_words.specs.Job.{Asked, asked_of}
 use Rattle.irtree_top.proofs.Jobs.{decided-front, job-front}
@@ -110,3 +110,11 @@ returns-in-Ok-clause-complete g c = λ asked wants told state holds source disk 
     complete-end g.T.Disk.tells (g.S.Source.faults c.args.source.now) (g.S.Source.faults c.run_job.new.source) (g.T.Disk.world c.args.station.now) (g.T.Disk.world c.run_job.new.station) asked.action state told holds source disk sink c.in-Err.end
     (λ fault is. let named : IsErrOf c.run_job.result (ends.Limit fault) = cc in subst (λ (a : Asked). IsLimitOf a.action fault) same (c.run_job.ensures.limits fault named))
     c.in-Err.ensures.cause.cause
+
+pub returns-in-Ok-run_job-clause-broken_rule : goal.returns-in-Ok-run_job-clause-broken_rule
+returns-in-Ok-run_job-clause-broken_rule g c = λ asked wants runs tells told reads damage is. absurd (cc)
+
+pub returns-in-Ok-clause-broken_rule : goal.returns-in-Ok-clause-broken_rule
+returns-in-Ok-clause-broken_rule g c = λ asked wants runs tells told reads damage is.
+    let same : asked_of c.in-Ok.job ≡ asked = cc (c.in-Ok.ensures.reading) in
+    subst (λ (e : Ended). NamesBrokenRule (g.T.Disk.world c.args.station.now).seen e) is (c.in-Err.ensures.broken_rule (ap (λ (a : Asked). a.action) same ∙ runs) tells told reads)
