@@ -1,5 +1,5 @@
 -- What a script that only asks reads, from its opening to its end.
-use Rattle.std.proofs.Common.{◌≡◌, ℕ, inl, inr, List, sym, ap, subst}
+use Rattle.std.proofs.Common.{◌≡◌, ℕ, inl, inr, List, ap, subst}
 use Rattle.std.specs.Prelude.{Result, OnOk}
 use Rattle.std.proofs.lemmas.Result.{on_ok_weaker}
 use Rattle.disk_model.specs.World.{World, Range, ReadsJournalOnly}

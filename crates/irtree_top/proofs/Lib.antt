@@ -6,6 +6,7 @@ pub mod Jobs
 pub mod Loads
 pub mod Openings
 pub mod Reading
+pub mod Rooms
 pub mod Replies
 pub mod Scripts
 pub mod Settled

@@ -18,6 +18,7 @@ use Rattle.irtree_top.specs.Prefix.{HoldsAcked, IsNearInScript, IsNearInLoad}
 use Rattle.load_run.specs.Loading.{SaysNothingYet}
 use Rattle.make_run.specs.Making.{ReachLimit, make_steps}
 use Rattle.run_protocol.specs.Asking.{IsReadForOneOf}
+use Rattle.run_protocol.specs.Causes.{LacksRoomIn}
 use Rattle.run_protocol.specs.Left.{StopsAtBatch, StopsAtLine}
 use Rattle.run_protocol.specs.Load.{GivesItems, IsTaken, ReachesLimit, steps}
 use Rattle.run_protocol.specs.Said.{EndsAs, SaysFrontOf}
@@ -170,6 +171,16 @@ abbrev pub IsLimitOf : Action → LimitFault → Type 0
 IsLimitOf Run fault = fault ≡ limits.NoRoom
 IsLimitOf Load fault = Unit {0}
 IsLimitOf Make fault = Unit {0}
+
+-- how many updates of the action one commit stores at most
+abbrev pub most_updates : Action → ℕ
+most_updates Run = 1
+most_updates Load = 10000
+most_updates Make = 10000
+
+-- the disk has room for no more pages than the image counts, and as many as a commit of the action is allowed to take
+abbrev pub LacksRoomFor : Action → ℕ → Image → Type 0
+LacksRoomFor action room image = LacksRoomIn (most_updates action) room image
 
 -- The places of an action reach the limit, from so many live places and this update number on: those of the text of a load, or those that
 -- are made.

@@ -3,11 +3,12 @@ ghost use Rattle.std.specs.Prelude.{◌≡◌, ◌≤◌, false, option_copied, 
 ghost use Rattle.disk_model.specs.World.{HasDiskCause, LeavesOnly, LeavesOnlySeen, ReadsJournalOnly};
 ghost use Rattle.place_map.specs.State.{Contents};
 ghost use Rattle.irtree_engine.specs.Holding.{HoldsState, LeavesState};
+ghost use Rattle.irtree_engine.specs.Queries.{contents_held};
 ghost use Rattle.run_protocol.specs.Asking.{AreAsking};
 ghost use Rattle.run_protocol.specs.Causes.{HasJobEnd};
 ghost use Rattle.run_protocol.specs.Reading.{AreReading, IsMetIn};
 ghost use Rattle.run_protocol.specs.Script.{script_lines};
-ghost use Rattle.irtree_top.specs.Run.{EndsJob, HasRunEnd, HoldsPrefix, IsLimitReached, IsInputEnd, IsLimitOf, IsUnreadEnd, IsWholeInput, LeavesAlone, LeavesInput, NamesBrokenRule, OpensFew, ReachesLimitBy};
+ghost use Rattle.irtree_top.specs.Run.{EndsJob, HasRunEnd, HoldsPrefix, IsLimitReached, IsInputEnd, IsLimitOf, IsUnreadEnd, IsWholeInput, LacksRoomFor, LeavesAlone, LeavesInput, NamesBrokenRule, OpensFew, ReachesLimitBy};
 ghost use Rattle.command_words.specs.Job.{asked_of};
 
 use crate::{transcript_is_one, transcript_is_some};
@@ -59,6 +60,8 @@ fn act<'d, S: Source, T: Station>(
     ensures limits { (fault : LimitFault) → IsErrOf result (Ended.Limit fault) → IsLimitOf job.now.action fault }
     ensures reached { IsTrue S.tells → (fault : LimitFault) → IsErrOf result (Ended.Limit fault)
         → ReachesLimitBy job.now.action (asked_of job.now) fault engine.old.store.current.head.live engine.old.store.current.head.number (S.left source.old) }
+    ensures lacks { IsTrue T.tells → IsErrOf result (Ended.Limit LimitFault.NoRoom)
+        → LacksRoomFor job.now.action (T.room_of engine.new.store.disk.now) (T.world engine.new.store.disk.now).seen }
 {
     match job.action {
         Action::Run => run_script(alloc, source, engine),
@@ -83,6 +86,8 @@ fn settle<'d, T: Station>(engine: &mut Engine<'d, T>) -> Result<(), Failed>
     ensures silent { IsTrue T.tells → (T.world engine.new.store.disk.now).said ≡ (T.world engine.old.store.disk.now).said }
     ensures reads { IsTrue T.tells → ReadsJournalOnly (T.world engine.old.store.disk.now) (T.world engine.new.store.disk.now) }
     ensures cause { HasDiskCause (T.world engine.old.store.disk.now) (T.world engine.new.store.disk.now) result }
+    ensures room { T.room_of engine.new.store.disk.now ≡ T.room_of engine.old.store.disk.now }
+    ensures alike { IsTrue T.tells → OnOk result ((contents_held (T.world engine.new.store.disk.now).seen).block ≡ (contents_held (T.world engine.old.store.disk.now).seen).block) }
 {
     match engine.settle() {
         Ok(()) => Ok(()),
@@ -119,6 +124,8 @@ fn serve<'d, S: Source, T: Station>(
     ensures limits { (fault : LimitFault) → IsErrOf result (Ended.Limit fault) → IsLimitOf job.now.action fault }
     ensures reached { IsTrue S.tells → (fault : LimitFault) → IsErrOf result (Ended.Limit fault)
         → ReachesLimitBy job.now.action (asked_of job.now) fault engine.old.store.current.head.live engine.old.store.current.head.number (S.left source.old) }
+    ensures lacks { IsTrue T.tells → IsErrOf result (Ended.Limit LimitFault.NoRoom)
+        → LacksRoomFor job.now.action (T.room_of engine.new.store.disk.now) (T.world engine.new.store.disk.now).seen }
 {
     transcript_is_one();
     transcript_is_some();
@@ -159,6 +166,7 @@ pub(crate) fn run_job<S: Source, T: Station>(
     ensures limits { (fault : LimitFault) → IsErrOf result (Ended.Limit fault) → IsLimitOf job.now.action fault }
     ensures reached { IsTrue S.tells → IsTrue T.tells → (fault : LimitFault) → IsErrOf result (Ended.Limit fault)
         → IsLimitReached fault (asked_of job.now) (S.left source.old) (T.world station.old).seen }
+    ensures lacks { IsTrue T.tells → IsErrOf result (Ended.Limit LimitFault.NoRoom) → LacksRoomFor job.now.action (T.room_of station.new) (T.world station.new).seen }
 {
     let block = match recover_superblock(&mut *station) {
         Ok(block) => block,

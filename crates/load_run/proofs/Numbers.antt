@@ -4,7 +4,7 @@ use Rattle.std.specs.Prelude.{Option, Result, Ok, Err, OnOk, IfErr, IsErrOf}
 use Rattle.page_face.specs.declared.head.Head.{Head}
 use Rattle.geojson_points.specs.Takes.{Item, Placed, Skipped, item_of}
 use Rattle.geojson_points.specs.declared.taken.Taken.{Taken}
-use Rattle.irtree_engine.specs.Updates.{IsAtLimit, LacksRoom}
+use Rattle.irtree_engine.specs.Updates.{IsAtLimit}
 use Rattle.irtree_engine.specs.declared.fault.EngineFault.{EngineFault}
 use Rattle.irtree_engine.specs.declared.fault.EngineFault.TheVariants as engine
 use Rattle.run_protocol.specs.Causes.{end_of_engine}
@@ -29,10 +29,6 @@ ended-full (engine.BadJournal at) is = absurd (cc)
 ended-full (engine.Damaged damage) is = absurd (cc)
 ended-full engine.Stopped is = absurd (cc)
 ended-full engine.Memory is = absurd (cc)
-
--- what lacks room for fewer updates lacks it for more, where room and pages counted are as they were
-pub lacks-more : (n more room_old room counted_old counted : ℕ) → n ≤ more → room ≡ room_old → counted ≡ counted_old → LacksRoom n room_old counted_old → LacksRoom more room counted
-lacks-more n more room_old room counted_old counted few rooms counts lacks = omega (arith, few, rooms, counts, lacks)
 
 -- saying text ends none for want of room
 pub said-room : {T : Type 0} (result : Result T Ended) → IfErr result (λ (end : Ended). end ≡ ends.Sink) → IsErrOf result (ends.Limit limits.NoRoom) → ⊥

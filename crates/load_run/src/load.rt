@@ -5,9 +5,8 @@ ghost use Rattle.place_map.specs.State.{Contents};
 ghost use Rattle.place_map.specs.declared.update.Update.{Update};
 ghost use Rattle.geojson_points.specs.Takes.{Item, Placed, Skipped, HasTextKey, item_of, place_of};
 ghost use Rattle.irtree_engine.specs.Holding.{HoldsState};
-ghost use Rattle.irtree_engine.specs.Updates.{LacksRoom};
 ghost use Rattle.place_map.specs.Update.{NamesText};
-ghost use Rattle.run_protocol.specs.Causes.{HasEngineEnd};
+ghost use Rattle.run_protocol.specs.Causes.{HasEngineEnd, LacksRoomIn};
 ghost use Rattle.run_protocol.specs.Load.{Closing, Step, Store, places_among, put_of, says_loaded};
 ghost use Rattle.run_protocol.specs.Said.{SaysAll};
 ghost use Rattle.load_run.specs.Loading.{CanWait, Concludes, HasStored, Moves, RisesBy, StoresAll, acted_on, closing_of, stage, stage_at_start, stage_before};
@@ -67,7 +66,7 @@ fn store_batch<'d, T: Station>(engine: &mut Engine<'d, T>, updates: &[Update]) -
     ensures on { OnOk result (engine.new.stopped ≡ false) }
     ensures cause { HasEngineEnd T.tells (T.world engine.old.store.disk.now) (T.world engine.new.store.disk.now) result }
     ensures rises { RisesBy (length updates.now) 0 0 engine.old.store.current.head engine.new.store.current.head result }
-    ensures lacks { IsErrOf result (Ended.Limit LimitFault.NoRoom) → LacksRoom 10000 (T.room_of engine.new.store.disk.now) engine.new.store.current.counted }
+    ensures lacks { IsTrue T.tells → IsErrOf result (Ended.Limit LimitFault.NoRoom) → LacksRoomIn 10000 (T.room_of engine.new.store.disk.now) (T.world engine.new.store.disk.now).seen }
 {
     match engine.apply_batch(updates) {
         Ok(()) => Ok(()),
@@ -127,7 +126,7 @@ impl Load {
         ensures waits { OnOk result (CanWait self.new) }
         ensures cause { HasEngineEnd T.tells (T.world engine.old.store.disk.now) (T.world engine.new.store.disk.now) result }
         ensures rises { RisesBy (places_among (item_of item ∷ [])) (length self.old.waiting.items) (length self.new.waiting.items) engine.old.store.current.head engine.new.store.current.head result }
-        ensures lacks { IsErrOf result (Ended.Limit LimitFault.NoRoom) → LacksRoom 10000 (T.room_of engine.new.store.disk.now) engine.new.store.current.counted }
+        ensures lacks { IsTrue T.tells → IsErrOf result (Ended.Limit LimitFault.NoRoom) → LacksRoomIn 10000 (T.room_of engine.new.store.disk.now) (T.world engine.new.store.disk.now).seen }
     {
         match item {
             Taken::Place(draft) => self.place(engine, draft),
@@ -154,7 +153,7 @@ impl Load {
         ensures waits { OnOk result (CanWait self.new) }
         ensures cause { HasEngineEnd T.tells (T.world engine.old.store.disk.now) (T.world engine.new.store.disk.now) result }
         ensures rises { RisesBy 0 (length self.old.waiting.items) (length self.new.waiting.items) engine.old.store.current.head engine.new.store.current.head result }
-        ensures lacks { IsErrOf result (Ended.Limit LimitFault.NoRoom) → LacksRoom 10000 (T.room_of engine.new.store.disk.now) engine.new.store.current.counted }
+        ensures lacks { IsTrue T.tells → IsErrOf result (Ended.Limit LimitFault.NoRoom) → LacksRoomIn 10000 (T.room_of engine.new.store.disk.now) (T.world engine.new.store.disk.now).seen }
     {
         match write_skip(index, reason, &mut self.text) {
             Ok(()) => {}
@@ -189,7 +188,7 @@ impl Load {
         ensures waits { OnOk result (CanWait self.new) }
         ensures cause { HasEngineEnd T.tells (T.world engine.old.store.disk.now) (T.world engine.new.store.disk.now) result }
         ensures rises { RisesBy 1 (length self.old.waiting.items) (length self.new.waiting.items) engine.old.store.current.head engine.new.store.current.head result }
-        ensures lacks { IsErrOf result (Ended.Limit LimitFault.NoRoom) → LacksRoom 10000 (T.room_of engine.new.store.disk.now) engine.new.store.current.counted }
+        ensures lacks { IsTrue T.tells → IsErrOf result (Ended.Limit LimitFault.NoRoom) → LacksRoomIn 10000 (T.room_of engine.new.store.disk.now) (T.world engine.new.store.disk.now).seen }
     {
         let update = match update_of(self.alloc, draft) {
             Ok(update) => update,
@@ -225,7 +224,7 @@ impl Load {
         ensures counts { OnOk result (HasStored (length updates.now) self.old self.new) }
         ensures cause { HasEngineEnd T.tells (T.world engine.old.store.disk.now) (T.world engine.new.store.disk.now) result }
         ensures rises { RisesBy (length updates.now) 0 0 engine.old.store.current.head engine.new.store.current.head result }
-        ensures lacks { IsErrOf result (Ended.Limit LimitFault.NoRoom) → LacksRoom 10000 (T.room_of engine.new.store.disk.now) engine.new.store.current.counted }
+        ensures lacks { IsTrue T.tells → IsErrOf result (Ended.Limit LimitFault.NoRoom) → LacksRoomIn 10000 (T.room_of engine.new.store.disk.now) (T.world engine.new.store.disk.now).seen }
     {
         match say_text(&mut self.text, &mut *engine) {
             Ok(()) => {}
@@ -256,7 +255,7 @@ impl Load {
         ensures on { OnOk result (engine.new.stopped ≡ false) }
         ensures cause { HasEngineEnd T.tells (T.world engine.old.store.disk.now) (T.world engine.new.store.disk.now) result }
         ensures rises { RisesBy 0 (length self.old.waiting.items) 0 engine.old.store.current.head engine.new.store.current.head result }
-        ensures lacks { IsErrOf result (Ended.Limit LimitFault.NoRoom) → LacksRoom 10000 (T.room_of engine.new.store.disk.now) engine.new.store.current.counted }
+        ensures lacks { IsTrue T.tells → IsErrOf result (Ended.Limit LimitFault.NoRoom) → LacksRoomIn 10000 (T.room_of engine.new.store.disk.now) (T.world engine.new.store.disk.now).seen }
     {
         let updates = mem::replace(&mut self.waiting, Vec::new(self.alloc));
         if updates.is_empty() {
@@ -279,7 +278,7 @@ impl Load {
             → Concludes (stage closing self.old state []) (T.world engine.old.store.disk.now) (T.world engine.new.store.disk.now) result }
         ensures cause { HasEngineEnd T.tells (T.world engine.old.store.disk.now) (T.world engine.new.store.disk.now) result }
         ensures rises { RisesBy 0 0 0 engine.old.store.current.head engine.new.store.current.head result }
-        ensures lacks { IsErrOf result (Ended.Limit LimitFault.NoRoom) → LacksRoom 10000 (T.room_of engine.new.store.disk.now) engine.new.store.current.counted }
+        ensures lacks { IsTrue T.tells → IsErrOf result (Ended.Limit LimitFault.NoRoom) → LacksRoomIn 10000 (T.room_of engine.new.store.disk.now) (T.world engine.new.store.disk.now).seen }
     {
         match write_bytes(line, &mut self.text) {
             Ok(()) => say_text(&mut self.text, engine),
@@ -297,7 +296,7 @@ impl Load {
             → Concludes (stage_before says_loaded self.old state []) (T.world engine.old.store.disk.now) (T.world engine.new.store.disk.now) result }
         ensures cause { HasEngineEnd T.tells (T.world engine.old.store.disk.now) (T.world engine.new.store.disk.now) result }
         ensures rises { RisesBy 0 (length self.old.waiting.items) 0 engine.old.store.current.head engine.new.store.current.head result }
-        ensures lacks { IsErrOf result (Ended.Limit LimitFault.NoRoom) → LacksRoom 10000 (T.room_of engine.new.store.disk.now) engine.new.store.current.counted }
+        ensures lacks { IsTrue T.tells → IsErrOf result (Ended.Limit LimitFault.NoRoom) → LacksRoomIn 10000 (T.room_of engine.new.store.disk.now) (T.world engine.new.store.disk.now).seen }
     {
         match self.store_rest(&mut *engine) {
             Ok(()) => self.conclude(engine),
@@ -313,7 +312,7 @@ impl Load {
             → Concludes (stage says_loaded self.old state []) (T.world engine.old.store.disk.now) (T.world engine.new.store.disk.now) result }
         ensures cause { HasEngineEnd T.tells (T.world engine.old.store.disk.now) (T.world engine.new.store.disk.now) result }
         ensures rises { RisesBy 0 0 0 engine.old.store.current.head engine.new.store.current.head result }
-        ensures lacks { IsErrOf result (Ended.Limit LimitFault.NoRoom) → LacksRoom 10000 (T.room_of engine.new.store.disk.now) engine.new.store.current.counted }
+        ensures lacks { IsTrue T.tells → IsErrOf result (Ended.Limit LimitFault.NoRoom) → LacksRoomIn 10000 (T.room_of engine.new.store.disk.now) (T.world engine.new.store.disk.now).seen }
     {
         let mut line = Vec::new(self.alloc);
         match write_loaded(self.stored, self.skipped, &mut line) {

@@ -5,8 +5,7 @@ ghost use Rattle.disk_model.specs.World.{LeavesOnly};
 ghost use Rattle.place_map.specs.State.{Contents};
 ghost use Rattle.geojson_points.specs.Takes.{HasTextKey, item_of};
 ghost use Rattle.irtree_engine.specs.Holding.{HoldsState};
-ghost use Rattle.irtree_engine.specs.Updates.{LacksRoom};
-ghost use Rattle.run_protocol.specs.Causes.{HasEngineEnd, HasJobEnd};
+ghost use Rattle.run_protocol.specs.Causes.{HasEngineEnd, HasJobEnd, LacksRoomIn};
 ghost use Rattle.run_protocol.specs.Left.{LeftByLoad};
 ghost use Rattle.run_protocol.specs.Load.{GivesItems, IsTaken, ReachesLimit, places_among, says_loaded};
 ghost use Rattle.load_run.specs.Loading.{Concludes, EndsLoad, HasReadEnd, HasText, RefusesSo, RisesBy, stage_at_start};
@@ -71,7 +70,7 @@ fn store_items<'d, T: Station>(
         → Concludes (stage_at_start says_loaded batch state (map item_of items.items)) (T.world engine.old.store.disk.now) (T.world engine.new.store.disk.now) result }
     ensures cause { HasEngineEnd T.tells (T.world engine.old.store.disk.now) (T.world engine.new.store.disk.now) result }
     ensures rises { RisesBy (places_among (map item_of items.items)) 0 0 engine.old.store.current.head engine.new.store.current.head result }
-    ensures lacks { IsErrOf result (Ended.Limit LimitFault.NoRoom) → LacksRoom 10000 (T.room_of engine.new.store.disk.now) engine.new.store.current.counted }
+    ensures lacks { IsTrue T.tells → IsErrOf result (Ended.Limit LimitFault.NoRoom) → LacksRoomIn 10000 (T.room_of engine.new.store.disk.now) (T.world engine.new.store.disk.now).seen }
 {
     let mut load = Load::new(alloc, batch);
     for item in items {
@@ -131,7 +130,7 @@ pub fn run_load<'d, S: Source, T: Station>(
     ensures limit { IsTrue S.tells → (fault : LimitFault) → IsErrOf result (Ended.Limit fault)
         → ReachesLimit fault engine.old.store.current.head.live engine.old.store.current.head.number (option_copied only.entry) (S.left source.old) }
     // For want of room it ends only where the station has no more than the pages counted and as many as a batch is allowed to take.
-    ensures lacks { IsErrOf result (Ended.Limit LimitFault.NoRoom) → LacksRoom 10000 (T.room_of engine.new.store.disk.now) engine.new.store.current.counted }
+    ensures lacks { IsTrue T.tells → IsErrOf result (Ended.Limit LimitFault.NoRoom) → LacksRoomIn 10000 (T.room_of engine.new.store.disk.now) (T.world engine.new.store.disk.now).seen }
 {
     let text = match read_text(alloc, source) {
         Ok(text) => text,

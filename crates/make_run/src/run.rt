@@ -3,8 +3,7 @@ ghost use Rattle.std.specs.Prelude.{◌≡◌, ◌≤◌, [], false, IsErrOf, Is
 ghost use Rattle.disk_model.specs.World.{LeavesOnly};
 ghost use Rattle.place_map.specs.State.{Contents};
 ghost use Rattle.irtree_engine.specs.Holding.{HoldsState};
-ghost use Rattle.irtree_engine.specs.Updates.{LacksRoom};
-ghost use Rattle.run_protocol.specs.Causes.{HasEngineEnd};
+ghost use Rattle.run_protocol.specs.Causes.{HasEngineEnd, LacksRoomIn};
 ghost use Rattle.load_run.specs.Loading.{Concludes, RisesBy, stage, stage_at_start};
 ghost use Rattle.make_run.specs.Making.{EndsMake, LeftByMake, ReachLimit, items_from, says_made};
 
@@ -34,7 +33,7 @@ fn conclude<'d, T: Station>(
         → Concludes (stage (says_made seed count) load.old state []) (T.world engine.old.store.disk.now) (T.world engine.new.store.disk.now) result }
     ensures cause { HasEngineEnd T.tells (T.world engine.old.store.disk.now) (T.world engine.new.store.disk.now) result }
     ensures rises { RisesBy 0 0 0 engine.old.store.current.head engine.new.store.current.head result }
-    ensures lacks { IsErrOf result (Ended.Limit LimitFault.NoRoom) → LacksRoom 10000 (T.room_of engine.new.store.disk.now) engine.new.store.current.counted }
+    ensures lacks { IsTrue T.tells → IsErrOf result (Ended.Limit LimitFault.NoRoom) → LacksRoomIn 10000 (T.room_of engine.new.store.disk.now) (T.world engine.new.store.disk.now).seen }
 {
     let queries = count.min(QUERIES_MAX);
     let found = match ask_places(alloc, seed, queries, &mut *engine) {
@@ -64,7 +63,7 @@ fn make_places<'d, T: Station>(
         → Concludes (stage_at_start (says_made seed count) batch state (items_from seed 0 count)) (T.world engine.old.store.disk.now) (T.world engine.new.store.disk.now) result }
     ensures cause { HasEngineEnd T.tells (T.world engine.old.store.disk.now) (T.world engine.new.store.disk.now) result }
     ensures rises { RisesBy count 0 0 engine.old.store.current.head engine.new.store.current.head result }
-    ensures lacks { IsErrOf result (Ended.Limit LimitFault.NoRoom) → LacksRoom 10000 (T.room_of engine.new.store.disk.now) engine.new.store.current.counted }
+    ensures lacks { IsTrue T.tells → IsErrOf result (Ended.Limit LimitFault.NoRoom) → LacksRoomIn 10000 (T.room_of engine.new.store.disk.now) (T.world engine.new.store.disk.now).seen }
 {
     let mut load = Load::new(alloc, batch);
     match store_places(alloc, seed, count, &mut load, &mut *engine) {
@@ -105,7 +104,7 @@ pub fn run_make<'d, T: Station>(
     ensures limit { (fault : LimitFault) → IsErrOf result (Ended.Limit fault)
         → ReachLimit count fault engine.old.store.current.head.live engine.old.store.current.head.number }
     // For want of room it ends only where the station has no more than the pages counted and as many as a batch is allowed to take.
-    ensures lacks { IsErrOf result (Ended.Limit LimitFault.NoRoom) → LacksRoom 10000 (T.room_of engine.new.store.disk.now) engine.new.store.current.counted }
+    ensures lacks { IsTrue T.tells → IsErrOf result (Ended.Limit LimitFault.NoRoom) → LacksRoomIn 10000 (T.room_of engine.new.store.disk.now) (T.world engine.new.store.disk.now).seen }
 {
     make_places(alloc, batch, seed, count, engine)
 }

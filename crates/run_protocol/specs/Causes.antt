@@ -1,12 +1,14 @@
 -- Why a run ends.
 use Rattle.std.specs.Prelude.{ℕ, ◌≤◌, Bool, IsTrue, Result, OnOk, IfErr}
-use Rattle.disk_model.specs.World.{World, Rose}
+use Rattle.disk_model.specs.World.{World, Image, Rose}
 use Rattle.place_map.specs.State.{Contents}
 use Rattle.irtree_engine.specs.Holding.{HoldsState, StandsForNone}
+use Rattle.irtree_engine.specs.Queries.{contents_held}
+use Rattle.irtree_engine.specs.Updates.{LacksRoom}
 use Rattle.irtree_engine.specs.declared.fault.EngineFault.{EngineFault}
 use Rattle.irtree_engine.specs.declared.fault.EngineFault.TheVariants as engine
 use Rattle.run_protocol.specs.declared.ended.Ended.{Ended}
-use Rattle.run_protocol.specs.declared.ended.Ended.TheVariants.{Done, Memory, Words, Disk, Source, Sink, Input, Store, Limit}
+use Rattle.run_protocol.specs.declared.ended.Ended.TheVariants.{Memory, Disk, Source, Sink, Input, Store, Limit}
 use Rattle.run_protocol.specs.declared.ended.StoreFault.{StoreFault}
 use Rattle.run_protocol.specs.declared.ended.StoreFault.TheVariants as stores
 use Rattle.run_protocol.specs.declared.ended.LimitFault.TheVariants as limits
@@ -66,3 +68,7 @@ pub record HasJobEnd {T : Type 0} (tells : Bool) (source_old source_new : ℕ) (
   pub sink : old.sink_faults ≤ new.sink_faults
   pub stands : IsTrue tells → OnOk result (StandsStill old new)
   pub cause : IfErr result (IsJobEnd tells source_old source_new old new)
+
+-- the room is no more than the pages that page 0 of the image counts, and as many as so many updates in one commit are allowed to take
+abbrev pub LacksRoomIn : ℕ → ℕ → Image → Type 0
+LacksRoomIn updates room image = LacksRoom updates room (contents_held image).block.counted

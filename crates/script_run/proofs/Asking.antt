@@ -2,7 +2,7 @@
 use Rattle.std.proofs.Common.{◌≡◌, Bool, ℕ, zero, suc, List, [], ◌∷◌, ◌++◌, refl, sym, ap, subst, ◌∙◌, arith}
 use Rattle.std.specs.Prelude.{Result, Ok, Err, Contains}
 use Rattle.std.proofs.lemmas.List.Elements.{Contains-append_left, Contains-append_right}
-use Rattle.disk_model.specs.World.{World, Image, Range}
+use Rattle.disk_model.specs.World.{World, Image}
 use Rattle.place_map.specs.State.{Contents}
 use Rattle.place_map.specs.declared.query.Query.{Query}
 use Rattle.query_lang.specs.Line.{line_of}

@@ -1,9 +1,8 @@
 -- What ends a script, whatever the image stands for.
-use Rattle.std.proofs.Common.{◌≡◌, ℕ, ◌+◌, ◌<◌, ◌≤◌, List, ◌++◌, length, take, refl, sym, ap, subst, arith, length-append}
+use Rattle.std.proofs.Common.{◌≡◌, ℕ, ◌+◌, ◌<◌, ◌≤◌, List, ◌++◌, length, take, refl, ap, subst, arith, length-append}
 use Rattle.std.specs.Prelude.{Result, Ok, Err, OnOk, IfErr, IsErrOf}
 use Rattle.std.proofs.lemmas.List.{length-take-le}
 use Rattle.irtree_engine.specs.Faults.{IsReadFault}
-use Rattle.irtree_engine.specs.Updates.{LacksRoom}
 use Rattle.irtree_engine.specs.declared.fault.EngineFault.{EngineFault}
 use Rattle.irtree_engine.specs.declared.fault.EngineFault.TheVariants as engine
 use Rattle.run_protocol.specs.Causes.{end_of_engine}
@@ -52,11 +51,6 @@ read-full engine.Disk reads is = absurd (cc)
 read-full (engine.Damaged damage) reads is = absurd (cc)
 read-full engine.Stopped reads is = absurd (cc)
 read-full engine.Memory reads is = absurd (cc)
-
--- what lacks room still lacks it where room and pages counted are as they were
-pub lacks-still : (n room_old room counted_old counted : ℕ) → room ≡ room_old → counted ≡ counted_old → LacksRoom n room_old counted_old → LacksRoom n room counted
-lacks-still n room_old room counted_old counted rooms counts lacks =
-    subst (λ (r : ℕ). LacksRoom n r counted) (sym rooms) (subst (LacksRoom n room_old) (sym counts) lacks)
 
 -- no input ends lines
 pub line-input : {T : Type 0} (result : Result T Ended) (fault : InputFault) → IfErr result IsLineEnd → IsErrOf result (ends.Input fault) → ⊥

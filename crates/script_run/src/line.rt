@@ -8,10 +8,9 @@ ghost use Rattle.query_lang.specs.declared.line.Line.TheVariants as lines;
 ghost use Rattle.query_replies.specs.Reply.{HasReason};
 ghost use Rattle.place_map.specs.Query.{IsWithinLimits};
 ghost use Rattle.irtree_engine.specs.Holding.{HoldsState};
-ghost use Rattle.irtree_engine.specs.Updates.{LacksRoom};
 ghost use Rattle.place_map.specs.Update.{NamesText};
 ghost use Rattle.run_protocol.specs.Asking.{IsAsking, ReadsForLine};
-ghost use Rattle.run_protocol.specs.Causes.{HasEngineEnd};
+ghost use Rattle.run_protocol.specs.Causes.{HasEngineEnd, LacksRoomIn};
 ghost use Rattle.run_protocol.specs.Reading.{IsReading, KeepsImage};
 ghost use Rattle.script_run.specs.Lines.{refused_by, IsLineEnd, RepliesTo, RunsLines};
 
@@ -58,7 +57,7 @@ fn update<'d, T: Station>(engine: &mut Engine<'d, T>, update: &Update) -> Result
     ensures on { OnOk result (engine.new.stopped ≡ false) }
     ensures cause { HasEngineEnd T.tells (T.world engine.old.store.disk.now) (T.world engine.new.store.disk.now) result }
     ensures ends { IfErr result IsLineEnd }
-    ensures lacks { IsErrOf result (Ended.Limit LimitFault.NoRoom) → LacksRoom 1 (T.room_of engine.new.store.disk.now) engine.new.store.current.counted }
+    ensures lacks { IsTrue T.tells → IsErrOf result (Ended.Limit LimitFault.NoRoom) → LacksRoomIn 1 (T.room_of engine.new.store.disk.now) (T.world engine.new.store.disk.now).seen }
 {
     match engine.apply(update) {
         Ok(applied) => Ok(accepted(applied)),
@@ -84,7 +83,7 @@ fn ask<'d, T: Station>(
     ensures on { OnOk result (engine.new.stopped ≡ false) }
     ensures cause { HasEngineEnd T.tells (T.world engine.old.store.disk.now) (T.world engine.new.store.disk.now) result }
     ensures ends { IfErr result IsLineEnd }
-    ensures lacks { IsErrOf result (Ended.Limit LimitFault.NoRoom) → LacksRoom 1 (T.room_of engine.new.store.disk.now) engine.new.store.current.counted }
+    ensures lacks { IsTrue T.tells → IsErrOf result (Ended.Limit LimitFault.NoRoom) → LacksRoomIn 1 (T.room_of engine.new.store.disk.now) (T.world engine.new.store.disk.now).seen }
 {
     match engine.answer(&query) {
         Ok(answer) => Ok(Reply::Found {
@@ -107,7 +106,7 @@ fn show<'d, T: Station>(engine: &mut Engine<'d, T>, key: Key) -> Result<Reply, E
     ensures on { OnOk result (engine.new.stopped ≡ false) }
     ensures cause { HasEngineEnd T.tells (T.world engine.old.store.disk.now) (T.world engine.new.store.disk.now) result }
     ensures ends { IfErr result IsLineEnd }
-    ensures lacks { IsErrOf result (Ended.Limit LimitFault.NoRoom) → LacksRoom 1 (T.room_of engine.new.store.disk.now) engine.new.store.current.counted }
+    ensures lacks { IsTrue T.tells → IsErrOf result (Ended.Limit LimitFault.NoRoom) → LacksRoomIn 1 (T.room_of engine.new.store.disk.now) (T.world engine.new.store.disk.now).seen }
 {
     match engine.show(&key) {
         Ok(Some(place)) => Ok(Reply::Place {
@@ -134,7 +133,7 @@ fn answer<'d, T: Station>(engine: &mut Engine<'d, T>, line: Line) -> Result<Repl
     ensures on { OnOk result (engine.new.stopped ≡ false) }
     ensures cause { HasEngineEnd T.tells (T.world engine.old.store.disk.now) (T.world engine.new.store.disk.now) result }
     ensures ends { IfErr result IsLineEnd }
-    ensures lacks { IsErrOf result (Ended.Limit LimitFault.NoRoom) → LacksRoom 1 (T.room_of engine.new.store.disk.now) engine.new.store.current.counted }
+    ensures lacks { IsTrue T.tells → IsErrOf result (Ended.Limit LimitFault.NoRoom) → LacksRoomIn 1 (T.room_of engine.new.store.disk.now) (T.world engine.new.store.disk.now).seen }
 {
     match line {
         Line::Nothing => Ok(Reply::Nothing),
@@ -162,7 +161,7 @@ fn reply_to<'d, T: Station>(
     ensures on { OnOk result (engine.new.stopped ≡ false) }
     ensures cause { HasEngineEnd T.tells (T.world engine.old.store.disk.now) (T.world engine.new.store.disk.now) result }
     ensures ends { IfErr result IsLineEnd }
-    ensures lacks { IsErrOf result (Ended.Limit LimitFault.NoRoom) → LacksRoom 1 (T.room_of engine.new.store.disk.now) engine.new.store.current.counted }
+    ensures lacks { IsTrue T.tells → IsErrOf result (Ended.Limit LimitFault.NoRoom) → LacksRoomIn 1 (T.room_of engine.new.store.disk.now) (T.world engine.new.store.disk.now).seen }
 {
     match read_line(alloc, line) {
         Ok(line) => answer(engine, line),
@@ -186,7 +185,7 @@ pub(crate) fn act<'d, T: Station>(
     ensures on { OnOk result (engine.new.stopped ≡ false) }
     ensures cause { HasEngineEnd T.tells (T.world engine.old.store.disk.now) (T.world engine.new.store.disk.now) result }
     ensures ends { IfErr result IsLineEnd }
-    ensures lacks { IsErrOf result (Ended.Limit LimitFault.NoRoom) → LacksRoom 1 (T.room_of engine.new.store.disk.now) engine.new.store.current.counted }
+    ensures lacks { IsTrue T.tells → IsErrOf result (Ended.Limit LimitFault.NoRoom) → LacksRoomIn 1 (T.room_of engine.new.store.disk.now) (T.world engine.new.store.disk.now).seen }
 {
     reply.clear();
     let found = match reply_to(alloc, engine, line) {

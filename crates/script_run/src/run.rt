@@ -3,9 +3,8 @@ ghost use Rattle.std.specs.Prelude.{◌≡◌, ◌≤◌, ◌-◌, ◌+◌, ◌+
 ghost use Rattle.disk_model.specs.World.{LeavesOnly};
 ghost use Rattle.place_map.specs.State.{Contents};
 ghost use Rattle.irtree_engine.specs.Holding.{HoldsState};
-ghost use Rattle.irtree_engine.specs.Updates.{LacksRoom};
 ghost use Rattle.run_protocol.specs.Asking.{AreAsking, ReadsForLines};
-ghost use Rattle.run_protocol.specs.Causes.{HasJobEnd};
+ghost use Rattle.run_protocol.specs.Causes.{HasJobEnd, LacksRoomIn};
 ghost use Rattle.run_protocol.specs.Left.{LeftByLines};
 ghost use Rattle.run_protocol.specs.Reading.{AreReading, KeepsImage};
 ghost use Rattle.run_protocol.specs.Script.{cut, script_lines, FitsScript, IsScriptInput};
@@ -48,7 +47,7 @@ fn take<'d, T: Station>(
     ensures on { OnOk result (engine.new.stopped ≡ false) }
     ensures cause { HasJobEnd T.tells 0 0 (T.world engine.old.store.disk.now) (T.world engine.new.store.disk.now) result }
     ensures ends { IfErr result (IsPieceEnd taken (length piece.now)) }
-    ensures lacks { IsErrOf result (Ended.Limit LimitFault.NoRoom) → LacksRoom 1 (T.room_of engine.new.store.disk.now) engine.new.store.current.counted }
+    ensures lacks { IsTrue T.tells → IsErrOf result (Ended.Limit LimitFault.NoRoom) → LacksRoomIn 1 (T.room_of engine.new.store.disk.now) (T.world engine.new.store.disk.now).seen }
 {
     let room = INPUT_MAX - taken;
     if piece.len() > room {
@@ -100,7 +99,7 @@ pub fn run_script<'d, S: Source, T: Station>(
     ensures input { IsTrue S.tells → (fault : InputFault) → IsErrOf result (Ended.Input fault) → IsScriptInput (S.left source.old) fault }
     ensures whole { IsTrue S.tells → OnOk result ((S.left source.new ≡ []) × FitsScript (S.left source.old)) }
     ensures limit { (fault : LimitFault) → IsErrOf result (Ended.Limit fault) → fault ≡ LimitFault.NoRoom }
-    ensures lacks { IsErrOf result (Ended.Limit LimitFault.NoRoom) → LacksRoom 1 (T.room_of engine.new.store.disk.now) engine.new.store.current.counted }
+    ensures lacks { IsTrue T.tells → IsErrOf result (Ended.Limit LimitFault.NoRoom) → LacksRoomIn 1 (T.room_of engine.new.store.disk.now) (T.world engine.new.store.disk.now).seen }
 {
     let mut piece = match vec![in alloc; 0; PIECE_LEN] {
         Ok(piece) => piece,

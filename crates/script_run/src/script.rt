@@ -2,8 +2,7 @@
 ghost use Rattle.std.specs.Prelude.{◌≡◌, ◌≤◌, ◌<◌, ◌++◌, ◌∷◌, [], ℕ, List, false, length, take, slice_index, IsTrue, IfOk, OnOk, IfNone, IfSome, IfErr, IsErrOf};
 ghost use Rattle.place_map.specs.State.{Contents};
 ghost use Rattle.irtree_engine.specs.Holding.{HoldsState};
-ghost use Rattle.irtree_engine.specs.Updates.{LacksRoom};
-ghost use Rattle.run_protocol.specs.Causes.{HasEngineEnd};
+ghost use Rattle.run_protocol.specs.Causes.{HasEngineEnd, LacksRoomIn};
 ghost use Rattle.query_lang.specs.Line.{line_of};
 ghost use Rattle.run_protocol.specs.Reading.{AreReading, IsReading, KeepsImage};
 ghost use Rattle.run_protocol.specs.Script.{cut, last_line};
@@ -97,7 +96,7 @@ impl Script {
         ensures on { OnOk result (engine.new.stopped ≡ false) }
         ensures cause { HasEngineEnd T.tells (T.world engine.old.store.disk.now) (T.world engine.new.store.disk.now) result }
         ensures ends { IfErr result IsLineEnd }
-        ensures lacks { IsErrOf result (Ended.Limit LimitFault.NoRoom) → LacksRoom 1 (T.room_of engine.new.store.disk.now) engine.new.store.current.counted }
+        ensures lacks { IsTrue T.tells → IsErrOf result (Ended.Limit LimitFault.NoRoom) → LacksRoomIn 1 (T.room_of engine.new.store.disk.now) (T.world engine.new.store.disk.now).seen }
     {
         if self.line.is_empty() {
             return act(self.alloc, engine, &mut self.reply, part);
@@ -127,7 +126,7 @@ impl Script {
         ensures on { OnOk result (engine.new.stopped ≡ false) }
         ensures cause { HasEngineEnd T.tells (T.world engine.old.store.disk.now) (T.world engine.new.store.disk.now) result }
         ensures ends { IfErr result IsLineEnd }
-        ensures lacks { IsErrOf result (Ended.Limit LimitFault.NoRoom) → LacksRoom 1 (T.room_of engine.new.store.disk.now) engine.new.store.current.counted }
+        ensures lacks { IsTrue T.tells → IsErrOf result (Ended.Limit LimitFault.NoRoom) → LacksRoomIn 1 (T.room_of engine.new.store.disk.now) (T.world engine.new.store.disk.now).seen }
     {
         let mut rest = piece;
         'lines: while let Some((line, next)) = first_line(rest) {
@@ -147,7 +146,7 @@ impl Script {
             → KeepsImage (T.world engine.old.store.disk.now) (T.world engine.new.store.disk.now) result }
         ensures cause { HasEngineEnd T.tells (T.world engine.old.store.disk.now) (T.world engine.new.store.disk.now) result }
         ensures ends { IfErr result IsLineEnd }
-        ensures lacks { IsErrOf result (Ended.Limit LimitFault.NoRoom) → LacksRoom 1 (T.room_of engine.new.store.disk.now) engine.new.store.current.counted }
+        ensures lacks { IsTrue T.tells → IsErrOf result (Ended.Limit LimitFault.NoRoom) → LacksRoomIn 1 (T.room_of engine.new.store.disk.now) (T.world engine.new.store.disk.now).seen }
     {
         if self.line.is_empty() {
             return Ok(());

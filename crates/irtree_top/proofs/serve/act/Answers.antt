@@ -9,7 +9,7 @@ use Rattle.run_protocol.specs.Load.{GivesItems, IsTaken, ReachesLimit}
 use Rattle.command_words.specs.Job.{asked_of}
 use Rattle.command_words.specs.declared.job.Action.{Action}
 use Rattle.command_words.specs.declared.job.Action.TheVariants as actions
-use Rattle.irtree_top.specs.Run.{IsInputEnd, IsLimitOf, IsWholeInput, LeavesInput, ReachesLimitBy}
+use Rattle.irtree_top.specs.Run.{IsInputEnd, IsLimitOf, IsWholeInput, LacksRoomFor, LeavesInput, ReachesLimitBy}
 use Rattle.load_run.proofs.Causes.{job-of-engine}
 use Rattle.load_run.proofs.Outcomes.{on_ok-held}
 use Rattle.irtree_top.proofs.Asking.{script-opens}
@@ -132,3 +132,20 @@ returns-in-Load-clause-met g c = λ runs tells told reads. let loads : actions.L
 
 pub returns-in-Make-clause-met : goal.returns-in-Make-clause-met
 returns-in-Make-clause-met g c = λ runs tells told reads. let makes : actions.Make ≡ actions.Run = sym c.in-Make.is ∙ runs in absurd (cc)
+
+-- ---- the room left
+
+pub returns-in-Run-clause-lacks : goal.returns-in-Run-clause-lacks
+returns-in-Run-clause-lacks g c = λ told is.
+    let disk = c.run_script.new.engine.store.disk.now in
+    subst (λ (a : Action). LacksRoomFor a (g.T.Disk.room_of disk) (g.T.Disk.world disk).seen) (sym c.in-Run.is) (c.run_script.ensures.lacks told is)
+
+pub returns-in-Load-clause-lacks : goal.returns-in-Load-clause-lacks
+returns-in-Load-clause-lacks g c = λ told is.
+    let disk = c.run_load.new.engine.store.disk.now in
+    subst (λ (a : Action). LacksRoomFor a (g.T.Disk.room_of disk) (g.T.Disk.world disk).seen) (sym c.in-Load.is) (c.run_load.ensures.lacks told is)
+
+pub returns-in-Make-clause-lacks : goal.returns-in-Make-clause-lacks
+returns-in-Make-clause-lacks g c = λ told is.
+    let disk = c.run_make.new.engine.store.disk.now in
+    subst (λ (a : Action). LacksRoomFor a (g.T.Disk.room_of disk) (g.T.Disk.world disk).seen) (sym c.in-Make.is) (c.run_make.ensures.lacks told is)

@@ -9,7 +9,8 @@ use Rattle.page_store.specs.declared.superblock.Superblock.{Superblock}
 use Rattle.run_protocol.specs.Causes.{HasJobEnd}
 use Rattle.run_protocol.specs.declared.ended.Ended.{Ended}
 use Rattle.run_protocol.specs.declared.ended.Ended.TheVariants as ends
-use Rattle.irtree_top.specs.Run.{EndsJob, HasRunEnd, HoldsPrefix, OpensFew, ReachesLimitBy}
+use Rattle.run_protocol.specs.declared.ended.LimitFault.TheVariants as limits
+use Rattle.irtree_top.specs.Run.{EndsJob, HasRunEnd, HoldsPrefix, LacksRoomFor, OpensFew, ReachesLimitBy}
 use Rattle.irtree_top.proofs.Asking.{opened-opens}
 use Rattle.irtree_top.proofs.Crashes.{left-from, none-held}
 use Rattle.irtree_top.proofs.Jobs.{fault-unread, job-from}
@@ -150,3 +151,10 @@ returns-clause-broken_rule g c = λ runs tells told reads.
     let over : c.over-engine.result.store.disk.now ≡ c.recover_superblock.new.disk = c.over-engine.ensures.disk in
     opened-names (world c.args.station.now) (world c.recover_superblock.new.disk) (c.in-Ok.ensures.opened told).stands c.serve-end.result
     (subst (λ disk. IfErr c.serve-end.result (IsMetIn (world disk).seen)) over (c.serve-end.ensures.met runs tells told reads))
+
+pub returns-in-Err-clause-lacks : goal.returns-in-Err-clause-lacks
+returns-in-Err-clause-lacks g c = λ told is. absurd (ends-otherwise g (goal.at.returns-in-Err-clause-lacks g c).After-ended_by (ends.Limit limits.NoRoom) (cc is))
+
+pub returns-clause-lacks : goal.returns-clause-lacks
+returns-clause-lacks g c = λ told is.
+    given-back (λ disk. LacksRoomFor c.args.job.now.action (g.T.Disk.room_of disk) (g.T.Disk.world disk).seen) c.serve-end.new.engine.store.disk.now _ (search rules) (c.serve-end.ensures.lacks told is)

@@ -6,6 +6,7 @@ use Rattle.irtree_top.specs.Run.{HoldsPrefix}
 use Rattle.command_words.specs.Job.{asked_of}
 use Rattle.irtree_top.proofs.Asking.{settled-opens}
 use Rattle.irtree_top.proofs.Crashes.{none-held}
+use Rattle.irtree_top.proofs.Rooms.{lacks-settled}
 use Rattle.irtree_top.proofs.Settled.{cause-settled, ends-front, now-left, settled-front, settled-job, settled-left}
 use Rattle.irtree_top.proofs.serve.serve.Given as given
 use Rattle.irtree_top.proofs.serve.serve.Goals.{After-settle}
@@ -76,3 +77,12 @@ returns-in-Ok-clause-met g c = c.act-end.ensures.met
 
 pub returns-in-Err-clause-met : goal.returns-in-Err-clause-met
 returns-in-Err-clause-met g c = λ runs tells told reads. tt
+
+pub returns-in-Ok-clause-lacks : goal.returns-in-Ok-clause-lacks
+returns-in-Ok-clause-lacks g c = λ told is.
+    let mid = c.act-end.new.engine.store.disk.now in
+    let new = c.settle.new.engine.store.disk.now in
+    lacks-settled c.args.job.now.action (g.T.Disk.room_of mid) (g.T.Disk.room_of new) (g.T.Disk.world mid).seen (g.T.Disk.world new).seen c.settle.ensures.room (c.in-Ok.ensures.alike told) (c.act-end.ensures.lacks told is)
+
+pub returns-in-Err-clause-lacks : goal.returns-in-Err-clause-lacks
+returns-in-Err-clause-lacks g c = λ told is. absurd (cc)

@@ -2,8 +2,9 @@ use Rattle.std.proofs.Common.{◌≡◌, ◌∙◌, ap, subst}
 use Rattle.std.specs.Prelude.{Err, IsErrOf}
 use Rattle.run_protocol.specs.declared.ended.Ended.{Ended}
 use Rattle.run_protocol.specs.declared.ended.Ended.TheVariants as ends
+use Rattle.run_protocol.specs.declared.ended.LimitFault.TheVariants as limits
 use Rattle.disk_model.specs.World.{LeavesOnly}
-use Rattle.irtree_top.specs.Run.{EndsBy, EndsJob, HoldsPrefix, IsInputEnd, IsLimitOf, IsLimitReached, IsRunEnd, IsWholeInput, LeavesInput, NamesBrokenRule, SaysFront}
+use Rattle.irtree_top.specs.Run.{EndsBy, EndsJob, HoldsPrefix, IsInputEnd, IsLimitOf, IsLimitReached, IsRunEnd, IsWholeInput, LacksRoomFor, LeavesInput, NamesBrokenRule, SaysFront}
 use Rattle.run_protocol.specs.Turn.{Done}
 use Rattle.command_words.specs.Job.{Asked, asked_of}
 use Rattle.irtree_top.proofs.Jobs.{decided-front, job-front}
@@ -118,3 +119,10 @@ pub returns-in-Ok-clause-broken_rule : goal.returns-in-Ok-clause-broken_rule
 returns-in-Ok-clause-broken_rule g c = λ asked wants runs tells told reads damage is.
     let same : asked_of c.in-Ok.job ≡ asked = cc (c.in-Ok.ensures.reading) in
     subst (λ (e : Ended). NamesBrokenRule (g.T.Disk.world c.args.station.now).seen e) is (c.in-Err.ensures.broken_rule (ap (λ (a : Asked). a.action) same ∙ runs) tells told reads)
+
+pub returns-in-Ok-clause-lacks : goal.returns-in-Ok-clause-lacks
+returns-in-Ok-clause-lacks g c = λ asked wants told is.
+    let same : asked_of c.in-Ok.job ≡ asked = cc (c.in-Ok.ensures.reading) in
+    let named : IsErrOf c.run_job.result (ends.Limit limits.NoRoom) = cc in
+    let station = c.run_job.new.station in
+    subst (λ (a : Asked). LacksRoomFor a.action (g.T.Disk.room_of station) (g.T.Disk.world station).seen) same (c.run_job.ensures.lacks told named)

@@ -5,7 +5,8 @@ use Rattle.irtree_engine.specs.declared.fault.EngineFault.TheVariants as engine
 use Rattle.run_protocol.specs.Causes.{end_of_engine}
 use Rattle.run_protocol.specs.declared.ended.Ended.TheVariants as ends
 use Rattle.run_protocol.specs.declared.ended.LimitFault.TheVariants as limits
-use Rattle.load_run.proofs.Numbers.{ended-full, lacks-more, limit-more, limit-of-engine}
+use Rattle.run_protocol.proofs.Rooms.{lacks-image}
+use Rattle.load_run.proofs.Numbers.{ended-full, limit-more, limit-of-engine}
 use Rattle.load_run.proofs.Batches.{failed, outcome-holds, not-stored, not-stored-cause}
 use Rattle.load_run.proofs.load.store_batch.Goals as goal
 
@@ -55,8 +56,12 @@ returns-in-Err-clause-rises g c = record {
 }
 
 pub returns-in-Err-clause-lacks : goal.returns-in-Err-clause-lacks
-returns-in-Err-clause-lacks g c = λ is.
+returns-in-Err-clause-lacks g c = λ told is.
     let ended : c.ended_by.result ≡ ends.Limit limits.NoRoom = cc in
-    let fault = ap Err (ended-full c.in-Err.fault (sym c.ended_by.ensures ∙ ended)) in
+    let no : c.in-Err.fault ≡ engine.NoRoom = ended-full c.in-Err.fault (sym c.ended_by.ensures ∙ ended) in
     let was = c.in-Err.ensures in
-    lacks-more (length c.args.updates.now) 10000 _ _ _ _ c.requires.few was.room (ap (λ (b : Superblock). b.counted) (was.as_before fault)) (was.room_left fault)
+    let new = c.apply_batch.new.self in
+    let apart : c.in-Err.fault ≡ engine.Disk → ⊥ = λ e. let both : engine.NoRoom ≡ engine.Disk = sym no ∙ e in absurd (cc) in
+    let on = sym new.stops ∙ was.goes_on (λ e. apart (cc)) ∙ c.requires.on in
+    lacks-image (length c.args.updates.now) 10000 _ _ _ (g.T.Disk.world new.store.disk.now) new.store.current new.store.last new.store.end c.requires.few was.room (ap (λ (b : Superblock). b.counted) (was.as_before (ap Err no)))
+    new.settled (new.store.ready told on) (was.room_left (ap Err no))

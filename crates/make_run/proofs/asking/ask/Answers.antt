@@ -63,6 +63,6 @@ pub returns-clause-rises : goal.returns-clause-rises
 returns-clause-rises g c = record { live = tt; number = tt; limit = rw c.ended_by.ensures (refused-limit _ _ c.in-Err-answer.fault c.in-Err-answer.ensures.causes) }
 
 pub returns-clause-lacks : goal.returns-clause-lacks
-returns-clause-lacks g c = λ is.
+returns-clause-lacks g c = λ told is.
     let ended : c.ended_by.result ≡ ends.Limit limits.NoRoom = cc in
     absurd (refused-room c.in-Err-answer.fault c.in-Err-answer.ensures.causes (sym c.ended_by.ensures ∙ ended))

@@ -70,6 +70,6 @@ returns-in-Err-clause-kept g c = λ told.
     }
 
 pub returns-in-Err-clause-lacks : goal.returns-in-Err-clause-lacks
-returns-in-Err-clause-lacks g c = λ is.
+returns-in-Err-clause-lacks g c = λ told is.
     let ended : c.ended_by.result ≡ ends.Limit limits.NoRoom = cc in
     absurd (read-full c.in-Err.fault c.in-Err.ensures.causes (sym c.ended_by.ensures ∙ ended))

@@ -39,5 +39,5 @@ returns-in-Err g c =
       on = c.requires.on;
       cause = engine-still _ _ _;
       ends = tt;
-      lacks = λ is. absurd (cc);
+      lacks = λ told is. absurd (cc);
     }

@@ -1,12 +1,14 @@
-use Rattle.std.proofs.Common.{◌≡◌, true, false, sym, ap, subst, ◌∙◌}
+use Rattle.std.proofs.Common.{◌≡◌, true, false, sym, ap, subst, ◌∙◌, arith}
 use Rattle.std.specs.Prelude.{Result, Ok, Err, IfErr}
 use Rattle.page_store.specs.declared.superblock.Superblock.{Superblock}
+use Rattle.irtree_engine.specs.declared.fault.EngineFault.TheVariants as engine
 use Rattle.query_lang.specs.declared.line.Line.TheVariants as lines
 use Rattle.query_replies.specs.declared.reply.Reply.{Reply}
 use Rattle.run_protocol.specs.Causes.{HasEngineEnd}
 use Rattle.run_protocol.specs.declared.ended.Ended.{Ended}
 use Rattle.script_run.specs.Lines.{IsLineEnd, RepliesTo}
-use Rattle.script_run.proofs.Ends.{lacks-still, refused-ends, refused-full}
+use Rattle.run_protocol.proofs.Rooms.{lacks-image}
+use Rattle.script_run.proofs.Ends.{refused-ends, refused-full}
 use Rattle.script_run.proofs.Replies.{AcceptedUpdate, RefusedUpdate, accepted-replies, accepted-goes_on, refused-replies, refused-cause}
 use Rattle.script_run.proofs.line.update.Goals as goal
 
@@ -68,6 +70,11 @@ pub returns-in-Err-clause-ends : goal.returns-in-Err-clause-ends
 returns-in-Err-clause-ends g c = subst (λ (r : Result Reply Ended). IfErr r IsLineEnd) (sym c.refused.ensures.reply) (refused-ends c.in-Err.fault)
 
 pub returns-in-Err-clause-lacks : goal.returns-in-Err-clause-lacks
-returns-in-Err-clause-lacks g c = λ is.
-    let fault = refused-full c.in-Err.fault (sym c.refused.ensures.reply ∙ is) in
-    lacks-still 1 _ _ _ _ c.in-Err.ensures.room (ap (λ (b : Superblock). b.counted) (c.in-Err.ensures.as_before (ap Err fault))) (c.in-Err.ensures.room_left (ap Err fault))
+returns-in-Err-clause-lacks g c = λ told is.
+    let no : c.in-Err.fault ≡ engine.NoRoom = refused-full c.in-Err.fault (sym c.refused.ensures.reply ∙ is) in
+    let was = c.in-Err.ensures in
+    let new = c.apply.new.self in
+    let apart : c.in-Err.fault ≡ engine.Disk → ⊥ = λ e. let both : engine.NoRoom ≡ engine.Disk = sym no ∙ e in absurd (cc) in
+    let on = sym new.stops ∙ was.goes_on (λ e. apart (cc)) ∙ c.requires.on in
+    lacks-image 1 1 _ _ _ (g.T.Disk.world new.store.disk.now) new.store.current new.store.last new.store.end (omega arith) was.room (ap (λ (b : Superblock). b.counted) (was.as_before (ap Err no)))
+    new.settled (new.store.ready told on) (was.room_left (ap Err no))

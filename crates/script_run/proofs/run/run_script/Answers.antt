@@ -250,13 +250,13 @@ returns-in-Err-take-clause-kept g c = λ tells told reads.
 -- ---- the room left
 
 pub returns-in-Err-clause-lacks : goal.returns-in-Err-clause-lacks
-returns-in-Err-clause-lacks g c = λ is. absurd (cc)
+returns-in-Err-clause-lacks g c = λ told is. absurd (cc)
 
 pub returns-in-Err-read-clause-lacks : goal.returns-in-Err-read-clause-lacks
-returns-in-Err-read-clause-lacks g c = λ is. absurd (cc)
+returns-in-Err-read-clause-lacks g c = λ told is. absurd (cc)
 
 pub returns-then-n-eq0-clause-lacks : goal.returns-then-n-eq0-clause-lacks
-returns-then-n-eq0-clause-lacks g c = λ is. c.end.ensures.lacks is
+returns-then-n-eq0-clause-lacks g c = λ told is. c.end.ensures.lacks told is
 
 pub returns-in-Err-take-clause-lacks : goal.returns-in-Err-take-clause-lacks
-returns-in-Err-take-clause-lacks g c = λ is. let same : c.in-Err-take.end ≡ ends.Limit limits.NoRoom = cc in c.in-Err-take.ensures.lacks (ap Err same)
+returns-in-Err-take-clause-lacks g c = λ told is. let same : c.in-Err-take.end ≡ ends.Limit limits.NoRoom = cc in c.in-Err-take.ensures.lacks told (ap Err same)

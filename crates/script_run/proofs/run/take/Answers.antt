@@ -135,13 +135,13 @@ returns-in-Err-feed-clause-kept g c = λ front ends is told reads.
 -- ---- the room left
 
 pub returns-in-Ok-clause-lacks : goal.returns-in-Ok-clause-lacks
-returns-in-Ok-clause-lacks g c = λ is. absurd (cc)
+returns-in-Ok-clause-lacks g c = λ told is. absurd (cc)
 
 pub returns-in-Err-clause-lacks : goal.returns-in-Err-clause-lacks
-returns-in-Err-clause-lacks g c = λ is. let same : c.in-Err.end ≡ endings.Limit limits.NoRoom = cc in c.in-Err.ensures.lacks (ap Err same)
+returns-in-Err-clause-lacks g c = λ told is. let same : c.in-Err.end ≡ endings.Limit limits.NoRoom = cc in c.in-Err.ensures.lacks told (ap Err same)
 
 pub returns-in-Ok-feed-clause-lacks : goal.returns-in-Ok-feed-clause-lacks
-returns-in-Ok-feed-clause-lacks g c = λ is. absurd (cc)
+returns-in-Ok-feed-clause-lacks g c = λ told is. absurd (cc)
 
 pub returns-in-Err-feed-clause-lacks : goal.returns-in-Err-feed-clause-lacks
-returns-in-Err-feed-clause-lacks g c = λ is. let same : c.in-Err-feed.end ≡ endings.Limit limits.NoRoom = cc in c.in-Err-feed.ensures.lacks (ap Err same)
+returns-in-Err-feed-clause-lacks g c = λ told is. let same : c.in-Err-feed.end ≡ endings.Limit limits.NoRoom = cc in c.in-Err-feed.ensures.lacks told (ap Err same)

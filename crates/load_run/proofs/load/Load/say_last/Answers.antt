@@ -22,4 +22,4 @@ pub returns-in-Err-clause-rises : goal.returns-in-Err-clause-rises
 returns-in-Err-clause-rises g c = record { live = tt; number = tt; limit = tt }
 
 pub returns-in-Ok-clause-lacks : goal.returns-in-Ok-clause-lacks
-returns-in-Ok-clause-lacks g c = λ is. absurd (said-room c.say_text.result c.say_text.ensures.ends is)
+returns-in-Ok-clause-lacks g c = λ told is. absurd (said-room c.say_text.result c.say_text.ensures.ends is)

@@ -38,4 +38,4 @@ returns-clause-rises g c =
     (omega arith) (omega arith) (ap (λ (b : Superblock). b.head) c.say_text.ensures.head) c.say_text.ensures.ends
 
 pub returns-clause-lacks : goal.returns-clause-lacks
-returns-clause-lacks g c = λ is. absurd (said-room c.say_text.result c.say_text.ensures.ends is)
+returns-clause-lacks g c = λ told is. absurd (said-room c.say_text.result c.say_text.ensures.ends is)

@@ -77,4 +77,4 @@ pub returns-in-Err-write_stored-clause-rises : goal.returns-in-Err-write_stored-
 returns-in-Err-write_stored-clause-rises g c = record { live = tt; number = tt; limit = tt }
 
 pub returns-in-Ok-write_stored-clause-lacks : goal.returns-in-Ok-write_stored-clause-lacks
-returns-in-Ok-write_stored-clause-lacks g c = λ is. absurd (said-room c.say_text-in-Ok-write_stored.result c.say_text-in-Ok-write_stored.ensures.ends is)
+returns-in-Ok-write_stored-clause-lacks g c = λ told is. absurd (said-room c.say_text-in-Ok-write_stored.result c.say_text-in-Ok-write_stored.ensures.ends is)
