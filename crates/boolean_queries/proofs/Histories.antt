@@ -21,7 +21,8 @@ use Rattle.best_first.proofs.Logs.{asked_sooner, asked_before}
 use Rattle.best_first.proofs.Steps.{all_nodes}
 use Rattle.boolean_queries.specs.declared.region.Region.{Region}
 use Rattle.boolean_queries.specs.Walked.{Stands, AsksFor, Walked}
-use Rattle.boolean_queries.specs.Harms.{IsRowsHarm, IsNodeHarm, IsQueryHarm}
+use Rattle.node_rows.specs.Damages.{IsRowsDamage}
+use Rattle.boolean_queries.specs.Harms.{IsNodeHarm, IsQueryHarm}
 use Rattle.boolean_queries.proofs.Logs.{asks-wider, asks-then}
 
 contains-head : {X : Type 0} (x : X) (xs : List X) → Contains (x ∷ xs) x
@@ -198,7 +199,7 @@ module _ (region : Region) (pages : PageMap) (mine : ℕ → ℕ) (fits : Type 0
           breaks = subst (λ (n : ℕ). BreaksAlone damage.rule pages count n ⊎ ((damage.rule ≡ Level) × HasWrongLevel pages root old new n)) same
               (⊎_elim (λ (alone : BreaksAlone damage.rule pages count page). inl alone) (λ (at_level : (damage.rule ≡ Level) × IfTold pages page (λ bytes. level_in bytes ≢ level)). inr (at_level.0, wrong-level right among d.1 at_level.1 u)) d.2);
         }))
-        (λ (m : IsRowsHarm pages count rows mid new damage). inr (m.0, asked_sooner old more new damage.page (subst (λ (l : List ℕ). AskedSince l new damage.page) log m.1)))
+        (λ (m : IsRowsDamage pages count rows mid new damage). inr (m.0, asked_sooner old more new damage.page (subst (λ (l : List ℕ). AskedSince l new damage.page) log m.1)))
         h
 
 -- nothing was opened, and nothing found
@@ -252,5 +253,5 @@ harm-sooner pages count rows root old more mid new damage e h =
                 (λ (m : IsMislevelled pages mid new damage.page). inr (record { parent = m.parent; at = m.at; asked = sooner m.parent m.asked; names = m.names; level = m.level })) at_level.1,
           )) harm.breaks;
     }))
-    (λ (m : IsRowsHarm pages count rows mid new damage). inr (m.0, sooner damage.page m.1))
+    (λ (m : IsRowsDamage pages count rows mid new damage). inr (m.0, sooner damage.page m.1))
     h

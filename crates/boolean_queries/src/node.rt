@@ -18,7 +18,8 @@ ghost use Rattle.best_first.specs.Items.{IsGivenAt};
 ghost use Rattle.boolean_queries.specs.Near.{kept};
 ghost use Rattle.boolean_queries.specs.Opens.{filter_in, opens_in};
 ghost use Rattle.boolean_queries.specs.Walked.{Stands, AsksFor};
-ghost use Rattle.boolean_queries.specs.Harms.{IsRowsHarm, IsNodeHarm};
+ghost use Rattle.node_rows.specs.Damages.{IsRowsDamage};
+ghost use Rattle.boolean_queries.specs.Harms.{IsNodeHarm};
 
 use crate::near::{Near, gather};
 use crate::query::Query;
@@ -40,7 +41,7 @@ fn admit<P: Pages>(
     ensures honest { IsMap rows_form (P.pages pages.old) tree.now.rows → AreCounted (map_uses rows_form (P.pages pages.old) tree.now.rows) (P.count pages.old)
         → AreTold (P.pages pages.old) (P.count pages.old) → (damage : Damage) → result ≢ Err (PageFault.Damaged damage) }
     ensures damaged { AreTold (P.pages pages.old) (P.count pages.old) → (damage : Damage) → IsErrOf result (PageFault.Damaged damage)
-        → IsRowsHarm (P.pages pages.old) (P.count pages.old) tree.now.rows (P.asked pages.old) (P.asked pages.new) damage }
+        → IsRowsDamage (P.pages pages.old) (P.count pages.old) tree.now.rows (P.asked pages.old) (P.asked pages.new) damage }
     ensures asks { AreTold (P.pages pages.old) (P.count pages.old)
         → AsksFor [] (map_uses rows_form (P.pages pages.old) tree.now.rows) (P.asked pages.old) (P.asked pages.new) }
     ensures fails { FailsReading P.Pages pages.old pages.new result }

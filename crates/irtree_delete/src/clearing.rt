@@ -16,7 +16,7 @@ use page_face::{PageFault, Pages};
 /// Makes the bytes of these words at a slot of a node 0. All other bytes stay; of `words` the numbers count alone.
 ///
 /// Returns `Damaged`, `Disk`, `NoRoom`, `Stopped`, or `Memory` as [`set_impact`] does; on a well-formed map whose pages are
-/// told no page is damaged. After a failure `tree` is as before, and pages may have changed: they are to be abandoned.
+/// told no page is damaged. After a failure `tree` and the pages are as the call left them, and are to be abandoned.
 ///
 /// Costs a call of [`set_impact`] for each word: one way down, and a write of the leaf if the byte isn't 0.
 pub(crate) fn clear_words<P: Pages>(
@@ -31,20 +31,17 @@ pub(crate) fn clear_words<P: Pages>(
         → OnOk result (Turns (view (P.pages pages.old) (P.count pages.old) (P.first pages.old) free) tree.old.rows (P.pages pages.new) (P.count pages.new) (P.first pages.new) tree.new.rows
         (on_words words.now (cleared node slot (bytes_in (P.pages pages.old) tree.old.rows)) (bytes_in (P.pages pages.old) tree.old.rows))) }
     ensures root { tree.new.root ≡ tree.old.root }
-    ensures kept { OnErr result (tree.new ≡ tree.old) }
     ensures honest { (free : List ℕ) → IsRows (view (P.pages pages.old) (P.count pages.old) (P.first pages.old) free) tree.old.rows → AreTold (P.pages pages.old) (P.count pages.old)
         → (damage : Damage) → ¬ IsErrOf result (PageFault.Damaged damage) }
     ensures damaged { AreTold (P.pages pages.old) (P.count pages.old) → (damage : Damage) → IsErrOf result (PageFault.Damaged damage)
-        → IsRowsHarm (P.pages pages.new) (P.count pages.new) (P.first pages.new) (P.asked pages.old) (P.asked pages.new) damage }
+        → IsRowsHarm (P.pages pages.new) (P.count pages.new) (P.first pages.new) tree.new.rows (P.asked pages.old) (P.asked pages.new) damage }
     ensures told { AreTold (P.pages pages.old) (P.count pages.old) → OnOk result (AreTold (P.pages pages.new) (P.count pages.new)) }
     ensures more { AreTold (P.pages pages.old) (P.count pages.old) → AsksOnly (λ _. 1) (P.asked pages.old) (P.asked pages.new) }
     ensures fails { FailsChanging P.Pages pages.old pages.new result }
     ensures frame { Changes P.Pages pages.old pages.new }
 {
-    let mut changed = *tree;
     for pair in words {
-        set_impact(pages, &mut changed, node, slot, pair.0, 0)?;
+        set_impact(pages, tree, node, slot, pair.0, 0)?;
     }
-    *tree = changed;
     Ok(())
 }

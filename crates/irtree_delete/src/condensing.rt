@@ -152,7 +152,7 @@ fn dissolve<P: Pages>(
     ensures honest { (free : List ℕ) → IsRows (plain (view (P.pages pages.old) tree.old.rows (P.count pages.old) (P.first pages.old) free)) tree.old.rows
         → AreTold (P.pages pages.old) (P.count pages.old) → is_form bytes.now ≡ true → (damage : Damage) → result ≢ Err (PageFault.Damaged damage) }
     ensures damaged { is_form bytes.now ≡ true → AreTold (P.pages pages.old) (P.count pages.old) → (damage : Damage) → IsErrOf result (PageFault.Damaged damage)
-        → IsRowsHarm (P.pages pages.new) (P.count pages.new) (P.first pages.new) (P.asked pages.old) (P.asked pages.new) damage }
+        → IsRowsHarm (P.pages pages.new) (P.count pages.new) (P.first pages.new) tree.new.rows (P.asked pages.old) (P.asked pages.new) damage }
     ensures more { AreTold (P.pages pages.old) (P.count pages.old) → AsksOnly (λ _. 1) (P.asked pages.old) (P.asked pages.new) }
     ensures root { tree.new.root ≡ tree.old.root }
     ensures fails { FailsChanging P.Pages pages.old pages.new result }
@@ -226,7 +226,7 @@ pub(crate) fn settle<P: Pages>(
     ensures honest { (free : List ℕ) → IsRows (plain (view (P.pages pages.old) tree.old.rows (P.count pages.old) (P.first pages.old) free)) tree.old.rows
         → AreTold (P.pages pages.old) (P.count pages.old) → is_form bytes.now ≡ true → (damage : Damage) → result ≢ Err (PageFault.Damaged damage) }
     ensures damaged { is_form bytes.now ≡ true → AreTold (P.pages pages.old) (P.count pages.old) → (damage : Damage) → IsErrOf result (PageFault.Damaged damage)
-        → IsRowsHarm (P.pages pages.new) (P.count pages.new) (P.first pages.new) (P.asked pages.old) (P.asked pages.new) damage }
+        → IsRowsHarm (P.pages pages.new) (P.count pages.new) (P.first pages.new) tree.new.rows (P.asked pages.old) (P.asked pages.new) damage }
     ensures more { AreTold (P.pages pages.old) (P.count pages.old) → AsksOnly (λ _. 1) (P.asked pages.old) (P.asked pages.new) }
     ensures root { tree.new.root ≡ tree.old.root }
     ensures fails { FailsChanging P.Pages pages.old pages.new result }

@@ -54,7 +54,7 @@ fn remove_from<P: Pages>(
         → level ≡ level_at (nodes_in node_of (P.pages pages.old) tree.old.rows) tree.old.root → AreTold (P.pages pages.old) (P.count pages.old)
         → (damage : Damage) → result ≢ Err (PageFault.Damaged damage) }
     ensures damaged { AreTold (P.pages pages.old) (P.count pages.old) → IsWay (P.pages pages.old) path.now level tree.old.root → (damage : Damage) → IsErrOf result (PageFault.Damaged damage)
-        → IsTreeHarm (P.pages pages.new) (P.count pages.new) (P.first pages.new) (P.asked pages.old) (P.asked pages.new) damage }
+        → IsTreeHarm (P.pages pages.new) (P.count pages.new) (P.first pages.new) tree.new.rows (P.asked pages.old) (P.asked pages.new) damage }
     ensures told { AreTold (P.pages pages.old) (P.count pages.old) → OnOk result (AreTold (P.pages pages.new) (P.count pages.new)) }
     ensures more { AreTold (P.pages pages.old) (P.count pages.old) → AsksOnly (λ _. 1) (P.asked pages.old) (P.asked pages.new) }
     ensures fails { FailsChanging P.Pages pages.old pages.new result }
@@ -101,7 +101,7 @@ fn remove_from<P: Pages>(
 /// has levels, with `Fill` if it is an inner node of one child, and with `Value` if its slot on the path isn't used; then as the rows' calls and `insert_at` do;
 /// and in the end with `Link`, `Kind` or `Fill` at the root that is left. Where the path leads down by the bytes of told pages, a damage is of a page that was asked
 /// for and breaks the rule as the call leaves it, or the rows' map gave a row before the one that was looked for (`Order`), or it is what a take was refused for.
-/// Refuses `Disk`; `NoRoom`; `Stopped`; `Memory`, too. After a refusal `tree` is as before, and pages may have changed: they are to be abandoned.
+/// Refuses `Disk`; `NoRoom`; `Stopped`; `Memory`, too. After a refusal `tree` and the pages are as the call left them, and are to be abandoned.
 ///
 /// Reads one page a level, decodes it once, and writes one at most. Costs two rows for each of the words a level, or a call of `refresh` above nodes that are
 /// dissolved, and an insertion for each item of a dissolved node.
@@ -116,7 +116,6 @@ pub fn remove_at<P: Pages>(
     ensures felled { (free : List ℕ) (x : Item) → IsWhole node_of (view (P.pages pages.old) tree.old.rows (P.count pages.old) (P.first pages.old) free) tree.old.root
         → Leads (nodes_in node_of (P.pages pages.old) tree.old.rows) path.now (level_at (nodes_in node_of (P.pages pages.old) tree.old.rows) tree.old.root) tree.old.root (worded (impact_in words.now) x)
         → OnOk result (IsFelled node_of (view (P.pages pages.old) tree.old.rows (P.count pages.old) (P.first pages.old) free) (P.pages pages.new) tree.new.rows (P.count pages.new) (P.first pages.new) tree.old.root tree.new.root (worded (impact_in words.now) x)) }
-    ensures kept { OnErr result (tree.new ≡ tree.old) }
 
     // On a well-formed tree whose pages are told no page is damaged.
     ensures honest { (free : List ℕ) (x : Item) → IsWhole node_of (view (P.pages pages.old) tree.old.rows (P.count pages.old) (P.first pages.old) free) tree.old.root → 0 < tree.old.root
@@ -125,7 +124,7 @@ pub fn remove_at<P: Pages>(
         → (damage : Damage) → result ≢ Err (PageFault.Damaged damage) }
 
     // Over told pages, where the path leads down from the root by their bytes, a damage is of a page that was asked for, as the call leaves it, or of the take that was refused.
-    ensures damaged { (level : ℕ) → AreTold (P.pages pages.old) (P.count pages.old) → length path.now ≡ suc level → level ≤ 9 → IsWay (P.pages pages.old) path.now level tree.old.root → (damage : Damage) → IsErrOf result (PageFault.Damaged damage) → IsTreeHarm (P.pages pages.new) (P.count pages.new) (P.first pages.new) (P.asked pages.old) (P.asked pages.new) damage }
+    ensures damaged { (level : ℕ) → AreTold (P.pages pages.old) (P.count pages.old) → length path.now ≡ suc level → level ≤ 9 → IsWay (P.pages pages.old) path.now level tree.old.root → (damage : Damage) → IsErrOf result (PageFault.Damaged damage) → IsTreeHarm (P.pages pages.new) (P.count pages.new) (P.first pages.new) tree.new.rows (P.asked pages.old) (P.asked pages.new) damage }
     ensures told { AreTold (P.pages pages.old) (P.count pages.old) → OnOk result (AreTold (P.pages pages.new) (P.count pages.new)) }
     ensures more { AreTold (P.pages pages.old) (P.count pages.old) → AsksOnly (λ _. 1) (P.asked pages.old) (P.asked pages.new) }
     ensures fails { FailsChanging P.Pages pages.old pages.new result }
@@ -136,12 +135,5 @@ pub fn remove_at<P: Pages>(
         Some(level) => level,
         None => return Err(damaged(tree.root, Rule::Level)),
     };
-    let mut changed = *tree;
-    match remove_from(alloc, pages, &mut changed, policy, level, path, words) {
-        Ok(()) => {
-            *tree = changed;
-            Ok(())
-        }
-        Err(fault) => Err(fault),
-    }
+    remove_from(alloc, pages, tree, policy, level, path, words)
 }

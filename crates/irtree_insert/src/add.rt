@@ -56,7 +56,7 @@ fn part_words<P: Pages>(
         → (page ≡ right → ⊥) → HasNone (bytes_in (P.pages pages.old) tree.old.rows) right → AreTold (P.pages pages.old) (P.count pages.old)
         → (damage : Damage) → result ≢ Err (PageFault.Damaged damage) }
     ensures damaged { AreTold (P.pages pages.old) (P.count pages.old) → (damage : Damage) → IsErrOf result (PageFault.Damaged damage)
-        → IsRowsHarm (P.pages pages.new) (P.count pages.new) (P.first pages.new) (P.asked pages.old) (P.asked pages.new) damage }
+        → IsRowsHarm (P.pages pages.new) (P.count pages.new) (P.first pages.new) tree.new.rows (P.asked pages.old) (P.asked pages.new) damage }
     ensures told { AreTold (P.pages pages.old) (P.count pages.old) → OnOk result (AreTold (P.pages pages.new) (P.count pages.new)) }
     ensures more { AreTold (P.pages pages.old) (P.count pages.old) → AsksOnly (λ _. 1) (P.asked pages.old) (P.asked pages.new) }
     ensures fails { FailsChanging P.Pages pages.old pages.new result }
@@ -89,7 +89,7 @@ fn split<P: Pages>(
         → IsDraft draft.old → Fits level slot.now → IsFull (slots_in draft.old.bytes) → AreTold (P.pages pages.old) (P.count pages.old)
         → (damage : Damage) → result ≢ Err (PageFault.Damaged damage) }
     ensures damaged { AreTold (P.pages pages.old) (P.count pages.old) → (damage : Damage) → IsErrOf result (PageFault.Damaged damage)
-        → IsRowsHarm (P.pages pages.new) (P.count pages.new) (P.first pages.new) (P.asked pages.old) (P.asked pages.new) damage }
+        → IsRowsHarm (P.pages pages.new) (P.count pages.new) (P.first pages.new) tree.new.rows (P.asked pages.old) (P.asked pages.new) damage }
     ensures told { AreTold (P.pages pages.old) (P.count pages.old) → OnOk result (AreTold (P.pages pages.new) (P.count pages.new)) }
     ensures more { AreTold (P.pages pages.old) (P.count pages.old) → AsksOnly (λ _. 1) (P.asked pages.old) (P.asked pages.new) }
     ensures fails { FailsChanging P.Pages pages.old pages.new result }
@@ -147,7 +147,7 @@ pub(crate) fn add<P: Pages>(
         → IsDraft draft.old → Fits level slot.now → AreTold (P.pages pages.old) (P.count pages.old)
         → (damage : Damage) → result ≢ Err (PageFault.Damaged damage) }
     ensures damaged { AreTold (P.pages pages.old) (P.count pages.old) → (damage : Damage) → IsErrOf result (PageFault.Damaged damage)
-        → IsRowsHarm (P.pages pages.new) (P.count pages.new) (P.first pages.new) (P.asked pages.old) (P.asked pages.new) damage }
+        → IsRowsHarm (P.pages pages.new) (P.count pages.new) (P.first pages.new) tree.new.rows (P.asked pages.old) (P.asked pages.new) damage }
     ensures told { AreTold (P.pages pages.old) (P.count pages.old) → OnOk result (AreTold (P.pages pages.new) (P.count pages.new)) }
     ensures more { AreTold (P.pages pages.old) (P.count pages.old) → AsksOnly (λ _. 1) (P.asked pages.old) (P.asked pages.new) }
     ensures fails { FailsChanging P.Pages pages.old pages.new result }

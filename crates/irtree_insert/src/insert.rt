@@ -58,7 +58,7 @@ fn climb<P: Pages>(
 
     ensures honest { (least level : ℕ) (free : List ℕ) → IsOpen node_of (view (P.pages pages.old) tree.old.rows (P.count pages.old) (P.first pages.old) free) least level root goal (worded (impact_in words.now) (item_of slot.now)) → Fits goal slot.now → AreTold (P.pages pages.old) (P.count pages.old) → (damage : Damage) → result ≢ Err (PageFault.Damaged damage) }
     ensures damaged { AreTold (P.pages pages.old) (P.count pages.old) → (damage : Damage) → IsErrOf result (PageFault.Damaged damage)
-        → IsTreeHarm (P.pages pages.new) (P.count pages.new) (P.first pages.new) (P.asked pages.old) (P.asked pages.new) damage }
+        → IsTreeHarm (P.pages pages.new) (P.count pages.new) (P.first pages.new) tree.new.rows (P.asked pages.old) (P.asked pages.new) damage }
     ensures told { AreTold (P.pages pages.old) (P.count pages.old) → OnOk result (AreTold (P.pages pages.new) (P.count pages.new)) }
     ensures more { AreTold (P.pages pages.old) (P.count pages.old) → AsksOnly (λ _. 1) (P.asked pages.old) (P.asked pages.new) }
     ensures fails { FailsChanging P.Pages pages.old pages.new result }
@@ -103,7 +103,7 @@ fn insert_below<P: Pages>(
     ensures honest_standing { (before : View) (free : List ℕ) (level : ℕ) (rest : Loose) (mine : ℕ → ℕ) (sums : (Item → ℕ) → ℕ) → IsSupplied before
         → IsStanding node_of before (view (P.pages pages.old) tree.old.rows (P.count pages.old) (P.first pages.old) free) level tree.old.root ((goal, (worded (impact_in words.now) (item_of slot.now))) ∷ rest) mine sums → Fits goal slot.now → AreTold (P.pages pages.old) (P.count pages.old) → (damage : Damage) → result ≢ Err (PageFault.Damaged damage) }
     ensures damaged { AreTold (P.pages pages.old) (P.count pages.old) → (damage : Damage) → IsErrOf result (PageFault.Damaged damage)
-        → IsTreeHarm (P.pages pages.new) (P.count pages.new) (P.first pages.new) (P.asked pages.old) (P.asked pages.new) damage }
+        → IsTreeHarm (P.pages pages.new) (P.count pages.new) (P.first pages.new) tree.new.rows (P.asked pages.old) (P.asked pages.new) damage }
     ensures told { AreTold (P.pages pages.old) (P.count pages.old) → OnOk result (AreTold (P.pages pages.new) (P.count pages.new)) }
     ensures more { AreTold (P.pages pages.old) (P.count pages.old) → AsksOnly (λ _. 1) (P.asked pages.old) (P.asked pages.new) }
     ensures fails { FailsChanging P.Pages pages.old pages.new result }
@@ -130,7 +130,8 @@ fn insert_below<P: Pages>(
 /// rectangle that is none (`Value`), isn't of the level that its place asks, or is a root above level 9 (`Level`), or as the rows'
 /// calls do; over told pages it names a page that was asked for and breaks the rule so, but for a refused take and for rows out of
 /// their order. On a well-formed tree whose pages are told no page is damaged. Refuses as `take` does, `NoRoom` among it, `Disk`,
-/// `Stopped` and `Memory`. After a failure `tree` is as before, and pages may have changed: they are to be abandoned.
+/// `Stopped` and `Memory`. After a failure the tree's root is as before, and its root of rows and
+/// the pages are as the call left them: they are to be abandoned.
 pub fn insert_at<P: Pages>(
     alloc: Global,
     pages: &mut P,
@@ -147,7 +148,7 @@ pub fn insert_at<P: Pages>(
     ensures standing { (before : View) (free : List ℕ) (level : ℕ) (rest : Loose) (mine : ℕ → ℕ) (sums : (Item → ℕ) → ℕ) → IsSupplied before
         → IsStanding node_of before (view (P.pages pages.old) tree.old.rows (P.count pages.old) (P.first pages.old) free) level tree.old.root ((goal, (worded (impact_in words.now) (item_of slot.now))) ∷ rest) mine sums → Fits goal slot.now
         → OnOk result (Stands before (P.pages pages.new) tree.new.rows (P.count pages.new) (P.first pages.new) tree.new.root rest mine sums) }
-    ensures kept { OnErr result (tree.new ≡ tree.old) }
+    ensures root { OnErr result (tree.new.root ≡ tree.old.root) }
 
     // On a well-formed tree, or while loose items are put back, no page is damaged.
     ensures honest { (free : List ℕ) → goal ≡ 0 → Fits goal slot.now → IsWhole node_of (view (P.pages pages.old) tree.old.rows (P.count pages.old) (P.first pages.old) free) tree.old.root → AreTold (P.pages pages.old) (P.count pages.old) → (damage : Damage) → result ≢ Err (PageFault.Damaged damage) }
@@ -156,19 +157,16 @@ pub fn insert_at<P: Pages>(
 
     // Over told pages a damage is of a page that was asked for, as the call leaves it, or of the take that was refused.
     ensures damaged { AreTold (P.pages pages.old) (P.count pages.old) → (damage : Damage) → IsErrOf result (PageFault.Damaged damage)
-        → IsTreeHarm (P.pages pages.new) (P.count pages.new) (P.first pages.new) (P.asked pages.old) (P.asked pages.new) damage }
+        → IsTreeHarm (P.pages pages.new) (P.count pages.new) (P.first pages.new) tree.new.rows (P.asked pages.old) (P.asked pages.new) damage }
     ensures told { AreTold (P.pages pages.old) (P.count pages.old) → OnOk result (AreTold (P.pages pages.new) (P.count pages.new)) }
     ensures more { AreTold (P.pages pages.old) (P.count pages.old) → AsksOnly (λ _. 1) (P.asked pages.old) (P.asked pages.new) }
     ensures fails { FailsChanging P.Pages pages.old pages.new result }
     ensures frame { Changes P.Pages pages.old pages.new }
 {
-    let mut changed = *tree;
-    let root = if tree.root == 0 {
-        first_leaf(pages, &mut changed, slot, words)?
+    tree.root = if tree.root == 0 {
+        first_leaf(pages, tree, slot, words)?
     } else {
-        insert_below(alloc, pages, &mut changed, policy, goal, slot, words)?
+        insert_below(alloc, pages, tree, policy, goal, slot, words)?
     };
-    changed.root = root;
-    *tree = changed;
     Ok(())
 }

@@ -65,7 +65,7 @@ fn words_beside<P: Pages>(
     ensures honest { IsMap rows_form (P.pages pages.old) tree.now.rows → AreCounted (map_uses rows_form (P.pages pages.old) tree.now.rows) (P.count pages.old)
         → AreTold (P.pages pages.old) (P.count pages.old) → (damage : Damage) → result ≢ Err (PageFault.Damaged damage) }
     ensures damaged { AreTold (P.pages pages.old) (P.count pages.old) → (damage : Damage) → IsErrOf result (PageFault.Damaged damage)
-        → IsRowsHarm (P.pages pages.new) (P.count pages.new) (P.first pages.new) (P.asked pages.old) (P.asked pages.new) damage }
+        → IsRowsHarm (P.pages pages.new) (P.count pages.new) (P.first pages.new) tree.now.rows (P.asked pages.old) (P.asked pages.new) damage }
     ensures more { AreTold (P.pages pages.old) (P.count pages.old) → AsksOnly (λ _. 1) (P.asked pages.old) (P.asked pages.new) }
     ensures fails { FailsReading P.Pages pages.old pages.new result }
     ensures frame { Reads P.Pages pages.old pages.new }
@@ -101,7 +101,7 @@ fn relink<P: Pages>(
 
     ensures honest { (free : List ℕ) → IsSupplied (view (P.pages pages.old) tree.old.rows (P.count pages.old) (P.first pages.old) free) → (page ≡ child → ⊥) → AreTold (P.pages pages.old) (P.count pages.old) → (damage : Damage) → result ≢ Err (PageFault.Damaged damage) }
     ensures damaged { AreTold (P.pages pages.old) (P.count pages.old) → (damage : Damage) → IsErrOf result (PageFault.Damaged damage)
-        → IsRowsHarm (P.pages pages.new) (P.count pages.new) (P.first pages.new) (P.asked pages.old) (P.asked pages.new) damage }
+        → IsRowsHarm (P.pages pages.new) (P.count pages.new) (P.first pages.new) tree.new.rows (P.asked pages.old) (P.asked pages.new) damage }
     ensures told { AreTold (P.pages pages.old) (P.count pages.old) → OnOk result (AreTold (P.pages pages.new) (P.count pages.new)) }
     ensures more { AreTold (P.pages pages.old) (P.count pages.old) → AsksOnly (λ _. 1) (P.asked pages.old) (P.asked pages.new) }
     ensures fails { FailsChanging P.Pages pages.old pages.new result }
@@ -170,7 +170,7 @@ fn add_child<P: Pages>(
     ensures honest { (least below : ℕ) (free : List ℕ) → IsReady node_of (view (P.pages pages.old) tree.old.rows (P.count pages.old) (P.first pages.old) free) least (suc below) page (joined (node_of draft.old.bytes) (bytes_in (P.pages pages.old) tree.old.rows page)) (Some (crowned (nodes_in node_of (P.pages pages.old) tree.old.rows) (beside_item more.now)))
         → IsDraft draft.old → ((w : ℕ) → impact_in words.now w ≡ top_at (bytes_in (P.pages pages.old) tree.old.rows) more.now.page w) → AreTold (P.pages pages.old) (P.count pages.old) → (damage : Damage) → result ≢ Err (PageFault.Damaged damage) }
     ensures damaged { AreTold (P.pages pages.old) (P.count pages.old) → (damage : Damage) → IsErrOf result (PageFault.Damaged damage)
-        → IsRowsHarm (P.pages pages.new) (P.count pages.new) (P.first pages.new) (P.asked pages.old) (P.asked pages.new) damage }
+        → IsRowsHarm (P.pages pages.new) (P.count pages.new) (P.first pages.new) tree.new.rows (P.asked pages.old) (P.asked pages.new) damage }
     ensures told { AreTold (P.pages pages.old) (P.count pages.old) → OnOk result (AreTold (P.pages pages.new) (P.count pages.new)) }
     ensures more { AreTold (P.pages pages.old) (P.count pages.old) → AsksOnly (λ _. 1) (P.asked pages.old) (P.asked pages.new) }
     ensures fails { FailsChanging P.Pages pages.old pages.new result }
@@ -210,7 +210,7 @@ fn finish<P: Pages>(
         → ((w : ℕ) → impact_in theirs.now w ≡ beside_top (bytes_in (P.pages pages.old) tree.old.rows) grown.now.more w)
         → AreTold (P.pages pages.old) (P.count pages.old) → (damage : Damage) → result ≢ Err (PageFault.Damaged damage) }
     ensures damaged { AreTold (P.pages pages.old) (P.count pages.old) → (damage : Damage) → IsErrOf result (PageFault.Damaged damage)
-        → IsRowsHarm (P.pages pages.new) (P.count pages.new) (P.first pages.new) (P.asked pages.old) (P.asked pages.new) damage }
+        → IsRowsHarm (P.pages pages.new) (P.count pages.new) (P.first pages.new) tree.new.rows (P.asked pages.old) (P.asked pages.new) damage }
     ensures told { AreTold (P.pages pages.old) (P.count pages.old) → OnOk result (AreTold (P.pages pages.new) (P.count pages.new)) }
     ensures more { AreTold (P.pages pages.old) (P.count pages.old) → AsksOnly (λ _. 1) (P.asked pages.old) (P.asked pages.new) }
     ensures fails { FailsChanging P.Pages pages.old pages.new result }
@@ -267,7 +267,7 @@ pub(crate) fn put_below<P: Pages>(
         → IsOpen node_of (view (P.pages pages.old) tree.old.rows (P.count pages.old) (P.first pages.old) free) least level page goal (worded (impact_in words.now) (item_of slot.now)) → Fits goal slot.now → AreTold (P.pages pages.old) (P.count pages.old) → (damage : Damage) → result ≢ Err (PageFault.Damaged damage) }
     ensures damaged { (before : List ℕ) → AreTold (P.pages pages.old) (P.count pages.old) → draft.old.bytes ≡ P.pages pages.old page → draft.old.used ≡ mask_of draft.old.bytes → level_in draft.old.bytes ≡ level
         → AskedSince before (P.asked pages.old) page → (damage : Damage) → IsErrOf result (PageFault.Damaged damage)
-        → IsTreeHarm (P.pages pages.new) (P.count pages.new) (P.first pages.new) before (P.asked pages.new) damage }
+        → IsTreeHarm (P.pages pages.new) (P.count pages.new) (P.first pages.new) tree.new.rows before (P.asked pages.new) damage }
     ensures told { AreTold (P.pages pages.old) (P.count pages.old) → OnOk result (AreTold (P.pages pages.new) (P.count pages.new)) }
     ensures more { AreTold (P.pages pages.old) (P.count pages.old) → AsksOnly (λ _. 1) (P.asked pages.old) (P.asked pages.new) }
     ensures fails { FailsChanging P.Pages pages.old pages.new result }

@@ -35,6 +35,6 @@ pub record IsNodeHarm (pages : PageMap) (count : ℕ) (before after : List ℕ) 
   pub asked : AskedSince before after damage.page
   pub breaks : IsBroken damage.rule pages count damage.page ⊎ ((damage.rule ≡ Level) × IsMislevelled pages before after damage.page)
 
--- why a change of a tree is damaged, over the pages as it leaves them: by a node's page, or as a change of rows is
-abbrev pub IsTreeHarm : PageMap → ℕ → ℕ → List ℕ → List ℕ → Damage → Type 0
-IsTreeHarm pages count first before after damage = IsNodeHarm pages count before after damage ⊎ IsRowsHarm pages count first before after damage
+-- why a change of a tree is damaged, over the pages and the root of the rows as it leaves them: by a node's page, or as a change of rows is
+abbrev pub IsTreeHarm : PageMap → ℕ → ℕ → ℕ → List ℕ → List ℕ → Damage → Type 0
+IsTreeHarm pages count first rows before after damage = IsNodeHarm pages count before after damage ⊎ IsRowsHarm pages count first rows before after damage

@@ -39,7 +39,7 @@ pub(crate) fn set_byte<P: Pages>(
     ensures honest { (free : List ℕ) → IsRows (view (P.pages pages.old) (P.count pages.old) (P.first pages.old) free) tree.old.rows
         → (damage : Damage) → ¬ IsErrOf result (PageFault.Damaged damage) }
     ensures damaged { AreTold (P.pages pages.old) (P.count pages.old) → (damage : Damage) → IsErrOf result (PageFault.Damaged damage)
-        → IsRowsHarm (P.pages pages.new) (P.count pages.new) (P.first pages.new) (P.asked pages.old) (P.asked pages.new) damage }
+        → IsRowsHarm (P.pages pages.new) (P.count pages.new) (P.first pages.new) tree.new.rows (P.asked pages.old) (P.asked pages.new) damage }
     ensures more { AreTold (P.pages pages.old) (P.count pages.old) → AsksOnly (λ _. 1) (P.asked pages.old) (P.asked pages.new) }
     ensures fails { FailsChanging P.Pages pages.old pages.new result }
     ensures frame { Changes P.Pages pages.old pages.new }
@@ -80,7 +80,7 @@ pub fn set_impact<P: Pages>(
     ensures honest { (free : List ℕ) → IsRows (view (P.pages pages.old) (P.count pages.old) (P.first pages.old) free) tree.old.rows → AreTold (P.pages pages.old) (P.count pages.old)
         → (damage : Damage) → ¬ IsErrOf result (PageFault.Damaged damage) }
     ensures damaged { AreTold (P.pages pages.old) (P.count pages.old) → (damage : Damage) → IsErrOf result (PageFault.Damaged damage)
-        → IsRowsHarm (P.pages pages.new) (P.count pages.new) (P.first pages.new) (P.asked pages.old) (P.asked pages.new) damage }
+        → IsRowsHarm (P.pages pages.new) (P.count pages.new) (P.first pages.new) tree.new.rows (P.asked pages.old) (P.asked pages.new) damage }
     ensures more { AreTold (P.pages pages.old) (P.count pages.old) → AsksOnly (λ _. 1) (P.asked pages.old) (P.asked pages.new) }
     ensures fails { FailsChanging P.Pages pages.old pages.new result }
     ensures frame { Changes P.Pages pages.old pages.new }
@@ -94,7 +94,7 @@ pub fn set_impact<P: Pages>(
 /// word's impact. `pairs` are the entry's words, each by its number, with their impacts.
 ///
 /// Returns `Damaged`, `Disk`, `NoRoom`, `Stopped`, or `Memory` as [`row`](crate::row()) and [`set_row`](crate::set_row) do; on a well-formed map whose pages
-/// are told no page is damaged. After a failure `tree` is as before, and pages may have changed: they are to be abandoned.
+/// are told no page is damaged. After a failure `tree` and the pages are as the call left them, and are to be abandoned.
 ///
 /// For pairs in the order of their words' numbers whose rows stand in L leaves of the rows' map, costs L ways down, each of which looks at
 /// one page a level, and L writes of a page; and a call of [`set_row`](crate::set_row) for each row for which a leaf has no room.
@@ -110,14 +110,13 @@ pub fn raise<P: Pages>(
         → OnOk result (Turns (view (P.pages pages.old) (P.count pages.old) (P.first pages.old) free) tree.old.rows (P.pages pages.new) (P.count pages.new) (P.first pages.new) tree.new.rows
         (raised node slot (impact_in pairs.now) (bytes_in (P.pages pages.old) tree.old.rows))) }
     ensures root { tree.new.root ≡ tree.old.root }
-    ensures kept { OnErr result (tree.new ≡ tree.old) }
     ensures told { AreTold (P.pages pages.old) (P.count pages.old) → OnOk result (AreTold (P.pages pages.new) (P.count pages.new)) }
 
     // On a well-formed map and a free list that ends at 0 no page is damaged.
     ensures honest { (free : List ℕ) → IsRows (view (P.pages pages.old) (P.count pages.old) (P.first pages.old) free) tree.old.rows → AreTold (P.pages pages.old) (P.count pages.old)
         → (damage : Damage) → ¬ IsErrOf result (PageFault.Damaged damage) }
     ensures damaged { AreTold (P.pages pages.old) (P.count pages.old) → (damage : Damage) → IsErrOf result (PageFault.Damaged damage)
-        → IsRowsHarm (P.pages pages.new) (P.count pages.new) (P.first pages.new) (P.asked pages.old) (P.asked pages.new) damage }
+        → IsRowsHarm (P.pages pages.new) (P.count pages.new) (P.first pages.new) tree.new.rows (P.asked pages.old) (P.asked pages.new) damage }
     ensures more { AreTold (P.pages pages.old) (P.count pages.old) → AsksOnly (λ _. 1) (P.asked pages.old) (P.asked pages.new) }
     ensures fails { FailsChanging P.Pages pages.old pages.new result }
     ensures frame { Changes P.Pages pages.old pages.new }

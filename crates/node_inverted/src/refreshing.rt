@@ -48,7 +48,7 @@ fn refresh_word<P: Pages>(
         → IsRefreshing before root (P.pages pages.old) (P.count pages.old) (P.first pages.old) tree.old.rows node slot child b below.old above.old
         → AreTold (P.pages pages.old) (P.count pages.old) → (damage : Damage) → ¬ IsErrOf result (PageFault.Damaged damage) }
     ensures damaged { AreTold (P.pages pages.old) (P.count pages.old) → (damage : Damage) → IsErrOf result (PageFault.Damaged damage)
-        → IsRowsHarm (P.pages pages.new) (P.count pages.new) (P.first pages.new) (P.asked pages.old) (P.asked pages.new) damage }
+        → IsRowsHarm (P.pages pages.new) (P.count pages.new) (P.first pages.new) tree.new.rows (P.asked pages.old) (P.asked pages.new) damage }
     ensures more { AreTold (P.pages pages.old) (P.count pages.old) → AsksOnly (λ _. 1) (P.asked pages.old) (P.asked pages.new) }
     ensures fails { FailsChanging P.Pages pages.old pages.new result }
     ensures frame { Changes P.Pages pages.old pages.new }
@@ -64,8 +64,8 @@ fn refresh_word<P: Pages>(
 /// Makes the byte of each word at a slot of a node the greatest of the words' bytes in the slot's child. All other bytes stay.
 ///
 /// Returns `Damaged`, `Disk`, `NoRoom`, `Stopped`, or `Memory` as [`next_row`](crate::next_row) and [`set_row`](crate::set_row) do; on a
-/// well-formed map whose pages are told no page is damaged. After a failure `tree` is as before, and pages may have changed:
-/// they are to be abandoned.
+/// well-formed map whose pages are told no page is damaged. After a failure `tree` and the pages are as the call left
+/// them, and are to be abandoned.
 ///
 /// Goes through the rows of the child and of the node once, side by side: if they stand in L leaves of the rows' map, costs at most
 /// L + 8 ways down, each of which looks at one page a level, and a call of `set_row` for each byte that differs.
@@ -81,14 +81,13 @@ pub fn refresh<P: Pages>(
         → OnOk result (Turns (view (P.pages pages.old) (P.count pages.old) (P.first pages.old) free) tree.old.rows (P.pages pages.new) (P.count pages.new) (P.first pages.new) tree.new.rows
         (refreshed node slot child (bytes_in (P.pages pages.old) tree.old.rows))) }
     ensures root { tree.new.root ≡ tree.old.root }
-    ensures kept { OnErr result (tree.new ≡ tree.old) }
     ensures told { AreTold (P.pages pages.old) (P.count pages.old) → OnOk result (AreTold (P.pages pages.new) (P.count pages.new)) }
 
     // On a well-formed map and a free list that ends at 0 no page is damaged.
     ensures honest { (free : List ℕ) → IsRows (view (P.pages pages.old) (P.count pages.old) (P.first pages.old) free) tree.old.rows → (node ≡ child → ⊥)
         → AreTold (P.pages pages.old) (P.count pages.old) → (damage : Damage) → ¬ IsErrOf result (PageFault.Damaged damage) }
     ensures damaged { AreTold (P.pages pages.old) (P.count pages.old) → (damage : Damage) → IsErrOf result (PageFault.Damaged damage)
-        → IsRowsHarm (P.pages pages.new) (P.count pages.new) (P.first pages.new) (P.asked pages.old) (P.asked pages.new) damage }
+        → IsRowsHarm (P.pages pages.new) (P.count pages.new) (P.first pages.new) tree.new.rows (P.asked pages.old) (P.asked pages.new) damage }
     ensures more { AreTold (P.pages pages.old) (P.count pages.old) → AsksOnly (λ _. 1) (P.asked pages.old) (P.asked pages.new) }
     ensures fails { FailsChanging P.Pages pages.old pages.new result }
     ensures frame { Changes P.Pages pages.old pages.new }
@@ -97,11 +96,10 @@ pub fn refresh<P: Pages>(
     let mut above_copy = LeafCopy::none();
     let mut below = next_in(&mut below_copy, pages, tree, child, 0)?;
     let mut above = next_in(&mut above_copy, pages, tree, node, 0)?;
-    let mut changed = *tree;
     while let Some(number) = next_word(&below, &above) {
         refresh_word(
             pages,
-            &mut changed,
+            tree,
             node,
             slot,
             child,
@@ -112,7 +110,6 @@ pub fn refresh<P: Pages>(
             &mut above_copy,
         )?;
     }
-    *tree = changed;
     Ok(())
 }
 
@@ -157,7 +154,7 @@ fn renew_next<P: Pages>(
     ensures honest { IsMap rows_form (P.pages pages.old) tree.now.rows → AreCounted (map_uses rows_form (P.pages pages.old) tree.now.rows) (P.count pages.old)
         → AreTold (P.pages pages.old) (P.count pages.old) → (damage : Damage) → ¬ IsErrOf result (PageFault.Damaged damage) }
     ensures damaged { AreTold (P.pages pages.old) (P.count pages.old) → (damage : Damage) → IsErrOf result (PageFault.Damaged damage)
-        → IsRowsHarm (P.pages pages.new) (P.count pages.new) (P.first pages.new) (P.asked pages.old) (P.asked pages.new) damage }
+        → IsRowsHarm (P.pages pages.new) (P.count pages.new) (P.first pages.new) tree.now.rows (P.asked pages.old) (P.asked pages.new) damage }
     ensures own { AreTold (P.pages pages.old) (P.count pages.old)
         → AsksOnly (map_uses rows_form (P.pages pages.old) tree.now.rows) (P.asked pages.old) (P.asked pages.new) }
     ensures fails { FailsReading P.Pages pages.old pages.new result }
@@ -192,7 +189,7 @@ fn renew_one<P: Pages>(
     ensures honest { (free : List ℕ) → IsRows (view (P.pages pages.old) (P.count pages.old) (P.first pages.old) free) tree.old.rows → AreTold (P.pages pages.old) (P.count pages.old)
         → (damage : Damage) → ¬ IsErrOf result (PageFault.Damaged damage) }
     ensures damaged { AreTold (P.pages pages.old) (P.count pages.old) → (damage : Damage) → IsErrOf result (PageFault.Damaged damage)
-        → IsRowsHarm (P.pages pages.new) (P.count pages.new) (P.first pages.new) (P.asked pages.old) (P.asked pages.new) damage }
+        → IsRowsHarm (P.pages pages.new) (P.count pages.new) (P.first pages.new) tree.new.rows (P.asked pages.old) (P.asked pages.new) damage }
     ensures more { AreTold (P.pages pages.old) (P.count pages.old) → AsksOnly (λ _. 1) (P.asked pages.old) (P.asked pages.new) }
     ensures fails { FailsChanging P.Pages pages.old pages.new result }
     ensures frame { Changes P.Pages pages.old pages.new }
@@ -211,7 +208,7 @@ fn renew_one<P: Pages>(
 /// [`refresh`] for a child of which no other word has changed, and goes through no other row; of `words` the numbers count alone.
 ///
 /// Returns `Damaged`, `Disk`, `NoRoom`, `Stopped`, or `Memory` as [`row`](crate::row()) and [`set_row`](crate::set_row) do; on a well-formed
-/// map whose pages are told no page is damaged. After a failure `tree` is as before, and pages may have changed: they are to be
+/// map whose pages are told no page is damaged. After a failure `tree` and the pages are as the call left them, and are to be
 /// abandoned.
 ///
 /// For words in the order of their numbers whose rows stand in L leaves of the rows' map at the child and in M at the node, goes down
@@ -232,26 +229,24 @@ pub fn renew<P: Pages>(
         → OnOk result (Turns (view (P.pages pages.old) (P.count pages.old) (P.first pages.old) free) tree.old.rows (P.pages pages.new) (P.count pages.new) (P.first pages.new) tree.new.rows
         (on_words words.now (refreshed node slot child (bytes_in (P.pages pages.old) tree.old.rows)) (bytes_in (P.pages pages.old) tree.old.rows))) }
     ensures root { tree.new.root ≡ tree.old.root }
-    ensures kept { OnErr result (tree.new ≡ tree.old) }
     ensures told { AreTold (P.pages pages.old) (P.count pages.old) → OnOk result (AreTold (P.pages pages.new) (P.count pages.new)) }
 
     // On a well-formed map and a free list that ends at 0 no page is damaged.
     ensures honest { (free : List ℕ) → IsRows (view (P.pages pages.old) (P.count pages.old) (P.first pages.old) free) tree.old.rows → (node ≡ child → ⊥)
         → AreTold (P.pages pages.old) (P.count pages.old) → (damage : Damage) → ¬ IsErrOf result (PageFault.Damaged damage) }
     ensures damaged { AreTold (P.pages pages.old) (P.count pages.old) → (damage : Damage) → IsErrOf result (PageFault.Damaged damage)
-        → IsRowsHarm (P.pages pages.new) (P.count pages.new) (P.first pages.new) (P.asked pages.old) (P.asked pages.new) damage }
+        → IsRowsHarm (P.pages pages.new) (P.count pages.new) (P.first pages.new) tree.new.rows (P.asked pages.old) (P.asked pages.new) damage }
     ensures more { AreTold (P.pages pages.old) (P.count pages.old) → AsksOnly (λ _. 1) (P.asked pages.old) (P.asked pages.new) }
     ensures fails { FailsChanging P.Pages pages.old pages.new result }
     ensures frame { Changes P.Pages pages.old pages.new }
 {
-    let mut changed = *tree;
     let mut rows = Vec::new(alloc);
     let mut below = LeafCopy::none();
     let mut above = LeafCopy::none();
     for pair in words {
         renew_one(
             pages,
-            &mut changed,
+            tree,
             node,
             slot,
             child,
@@ -261,7 +256,5 @@ pub fn renew<P: Pages>(
             &mut rows,
         )?;
     }
-    set_rows(pages, &mut changed, node, &rows)?;
-    *tree = changed;
-    Ok(())
+    set_rows(pages, tree, node, &rows)
 }

@@ -7,30 +7,19 @@ ghost use Rattle.paged_map.specs.Maps.{AreCounted};
 ghost use Rattle.rtree_shape.specs.Stock.{rows_form};
 ghost use Rattle.node_rows.specs.Rows.{bytes_in};
 ghost use Rattle.node_rows.specs.Turns.{Next};
-ghost use Rattle.node_rows.specs.Damages.{IsNextDamage};
+ghost use Rattle.node_rows.specs.Damages.{IsRowsDamage};
 
 use crate::Tree;
 use crate::key::RowKey;
 use crate::layout::WordRows;
-use page_face::{Damage, PageFault, Pages, Rule};
+use page_face::{Damage, PageFault, Pages};
 use paged_map::PagedMap;
-
-// The fault of a leaf that gave a row before the one that was looked for.
-fn misordered(leaf: u32) -> PageFault
-    ensures { result ≡ PageFault.Damaged (record { page = leaf; rule = Rule.Order }) }
-{
-    PageFault::Damaged(Damage {
-        page: leaf,
-        rule: Rule::Order,
-    })
-}
 
 /// Returns the first row of a node whose word's number isn't less than `from`, with that number, or `None` if the node has no
 /// such row.
 ///
-/// Returns `Damaged` with a rule that a page asked for in this call breaks in its place, or with `Order` at the leaf that gave
-/// a row before the one that was looked for, which no well-formed map does; `Disk`, `Stopped`, or `Memory` if it runs out of
-/// memory. The number returned isn't less than `from` on any pages, so a loop that goes on behind it ends.
+/// Returns `Damaged` with a rule that a page asked for in this call breaks in its place; `Disk`, `Stopped`, or `Memory` if it
+/// runs out of memory. The number returned isn't less than `from` on any pages, so a loop that goes on behind it ends.
 ///
 /// Looks at most at two pages a level of the rows' map, and writes none.
 pub fn next_row<P: Pages>(
@@ -47,7 +36,7 @@ pub fn next_row<P: Pages>(
     ensures honest { IsMap rows_form (P.pages pages.old) tree.now.rows → AreCounted (map_uses rows_form (P.pages pages.old) tree.now.rows) (P.count pages.old)
         → AreTold (P.pages pages.old) (P.count pages.old) → (damage : Damage) → ¬ IsErrOf result (PageFault.Damaged damage) }
     ensures damaged { AreTold (P.pages pages.old) (P.count pages.old) → (damage : Damage) → IsErrOf result (PageFault.Damaged damage)
-        → IsNextDamage (P.pages pages.old) (P.count pages.old) tree.now.rows (P.asked pages.old) (P.asked pages.new) damage }
+        → IsRowsDamage (P.pages pages.old) (P.count pages.old) tree.now.rows (P.asked pages.old) (P.asked pages.new) damage }
     ensures own { AreTold (P.pages pages.old) (P.count pages.old)
         → AsksOnly (map_uses rows_form (P.pages pages.old) tree.now.rows) (P.asked pages.old) (P.asked pages.new) }
     ensures fails { FailsReading P.Pages pages.old pages.new result }
@@ -57,15 +46,12 @@ pub fn next_row<P: Pages>(
     let mut found = [0; 12];
     let mut row = [0; 32];
     let map = PagedMap::<WordRows>::at(tree.rows);
-    let Some(leaf) = map.first_from(pages, &key, &mut found, &mut row)? else {
+    let Some(_leaf) = map.first_from(pages, &key, &mut found, &mut row)? else {
         return Ok(None);
     };
     let next = RowKey::of_bytes(&found);
     if next.node != node {
         return Ok(None);
-    }
-    if next.number < from {
-        return Err(misordered(leaf));
     }
     Ok(Some((next.number, row)))
 }

@@ -231,7 +231,7 @@ pub fn set_found<P: Pages>(
     ensures honest { (free : List ℕ) → IsKept rows_form (view (P.pages pages.old) (P.count pages.old) (P.first pages.old) free) tree.old.rows
         → (damage : Damage) → ¬ IsErrOf result (PageFault.Damaged damage) }
     ensures damaged { AreTold (P.pages pages.old) (P.count pages.old) → (damage : Damage) → IsErrOf result (PageFault.Damaged damage)
-        → IsRowsHarm (P.pages pages.new) (P.count pages.new) (P.first pages.new) (P.asked pages.old) (P.asked pages.new) damage }
+        → IsRowsHarm (P.pages pages.new) (P.count pages.new) (P.first pages.new) tree.new.rows (P.asked pages.old) (P.asked pages.new) damage }
     ensures own { AreTold (P.pages pages.old) (P.count pages.old)
         → AsksOnly (map_uses rows_form (P.pages pages.old) tree.old.rows) (P.asked pages.old) (P.asked pages.new) }
     ensures fails { FailsChanging P.Pages pages.old pages.new result }

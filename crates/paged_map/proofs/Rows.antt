@@ -69,6 +69,14 @@ module _ (form : Form) (page : List ℕ) (low high key at : ℕ) (place : IsPlac
         ap (λ (k : ℕ). lookup k (rows_in form page)) key-same ∙ lookup-at low high (rows_in form page) at within (omega (arith, length-rows_in form page))
         ∙ ap (λ (v : List ℕ). Some v) (sym value-same)
 
+    -- its key isn't less
+    pub first-on : key ≤ number found
+    first-on =
+        let a = place.after small in
+        let r = row-key form page at small in
+        let k = key-same in
+        omega arith
+
 -- a read that was refused as damaged has asked for its page, and for it alone
 pub named-first : (asked new : List ℕ) (child : ℕ) (result : Result (List ℕ) PageFault) (damage : Damage) → new ≡ asked_after result child asked → result ≡ Err (Damaged damage) → damage.page ≡ child → AskedSince asked new damage.page
 named-first asked new child result damage n e same =

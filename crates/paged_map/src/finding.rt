@@ -118,6 +118,7 @@ fn first_in(
         → first_from (number key.now) (rows_in form page.now) ≡ (if result then Some (number found.new, value.new) else None) }
     ensures holds { (low high : ℕ) → IsWithin low high (rows_in form page.now)
         → result ≡ true → lookup (number found.new) (rows_in form page.now) ≡ Some value.new }
+    ensures on { (low high : ℕ) → IsWithin low high (rows_in form page.now) → result ≡ true → number key.now ≤ number found.new }
 {
     let at = place(page, key, false, form.key + form.value, count);
     if at == count {
@@ -150,6 +151,7 @@ fn first_at<P: Pages>(
         (first_from (high_of form bounds.new) (map_rows form (P.pages pages.old) root))) }
     ensures last { IsMap form (P.pages pages.old) root → bounds.new.top ≡ 0
         → IfOk result (λ leaf. first_from (high_of form bounds.new) (map_rows form (P.pages pages.old) root) ≡ None) }
+    ensures on { IfOk result (λ leaf. IfSome leaf (λ page. number key.now ≤ number found.new)) }
     ensures past { IfOk result (λ leaf. number key.now < high_of form bounds.new) }
     ensures top { IfOk result (λ leaf. 0 < bounds.new.top → bounds.new.top ≡ form.key) }
     ensures damaged { AreTold (P.pages pages.old) (P.count pages.old)
@@ -200,6 +202,7 @@ pub fn first_below<P: Pages>(
     ensures found { IsMap form (P.pages pages.old) root
         → IfOk result (Locates (first_from (number key.now) (map_rows form (P.pages pages.old) root)) (number found.new, value.new)
         (HoldsRow form (P.pages pages.old) (map_uses form (P.pages pages.old) root) (number found.new, value.new))) }
+    ensures on { IfOk result (λ leaf. IfSome leaf (λ page. number key.now ≤ number found.new)) }
     ensures damaged { AreTold (P.pages pages.old) (P.count pages.old)
         → (damage : Damage) → IsErrOf result (PageFault.Damaged damage) → IsMapDamaged form (P.pages pages.old) (P.count pages.old) root damage }
     ensures named { AreTold (P.pages pages.old) (P.count pages.old)

@@ -146,6 +146,9 @@ impl<L: Layout> PagedMap<L> {
             → IfOk result (Locates (first_from (number key.now) (map_rows L.form (P.pages pages.old) self.now.root)) (number found.new, value.new)
             (HoldsRow L.form (P.pages pages.old) (map_uses L.form (P.pages pages.old) self.now.root) (number found.new, value.new))) }
 
+        // On any pages the row's key isn't less.
+        ensures on { IfOk result (λ leaf. IfSome leaf (λ page. number key.now ≤ number found.new)) }
+
         // On a well-formed map whose pages are counted no page is damaged.
         ensures honest { IsMap L.form (P.pages pages.old) self.now.root → AreCounted (map_uses L.form (P.pages pages.old) self.now.root) (P.count pages.old)
             → AreTold (P.pages pages.old) (P.count pages.old) → (damage : Damage) → result ≢ Err (PageFault.Damaged damage) }

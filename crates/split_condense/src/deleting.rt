@@ -24,8 +24,8 @@ use std::alloc::Global;
 ///
 /// Nodes left with fewer than 12 slots are dissolved and their items put back at their level; rectangles and impacts become the least ones again; a
 /// root of one child gives way to it, and the last entry gives the last page back. Fails with `Damaged`, which names a page and a rule as that of
-/// [`insert`](crate::insert) does; with `Disk`, `NoRoom` or `Stopped`; or with `Memory`. The tree's roots are then as before; pages may have changed,
-/// and are to be abandoned.
+/// [`insert`](crate::insert) does; with `Disk`, `NoRoom` or `Stopped`; or with `Memory`. The tree's roots and the pages are then as the call left
+/// them, and are to be abandoned.
 ///
 /// Looks at each node whose rectangle holds the point until it has found the entry, then once more at those of its path and at their rows, and writes each
 /// of these that changes. Each node that is dissolved costs a way down for each of its items.
@@ -45,7 +45,6 @@ pub fn delete<P: Pages>(
     ensures absent { (free : List ℕ) → IsWhole node_of (view (P.pages pages.old) tree.old.rows (P.count pages.old) (P.first pages.old) free) tree.old.root → result ≡ Ok false
         → tree_sum (nodes_in node_of (P.pages pages.old) tree.old.rows) tree.old.root (is_entry entry.now.point (form_of entry.now.key)) ≡ 0 }
     ensures left { result ≡ Ok false → (P.pages pages.new ≡ P.pages pages.old) × (P.count pages.new ≡ P.count pages.old) × (P.first pages.new ≡ P.first pages.old) × (tree.new ≡ tree.old) }
-    ensures kept { OnErr result (tree.new ≡ tree.old) }
     ensures honest { (free : List ℕ) → IsWhole node_of (view (P.pages pages.old) tree.old.rows (P.count pages.old) (P.first pages.old) free) tree.old.root
         → AreWorded (nodes_in node_of (P.pages pages.old) tree.old.rows) tree.old.root entry.now.point (form_of entry.now.key) (impact_of entry.now)
         → AreTold (P.pages pages.old) (P.count pages.old)
@@ -53,7 +52,7 @@ pub fn delete<P: Pages>(
 
     // Over told pages, which stay told: why it is damaged, over the pages as the call leaves them.
     ensures damaged { AreTold (P.pages pages.old) (P.count pages.old) → (damage : Damage) → IsErrOf result (PageFault.Damaged damage)
-        → IsTreeHarm (P.pages pages.new) (P.count pages.new) (P.first pages.new) (P.asked pages.old) (P.asked pages.new) damage }
+        → IsTreeHarm (P.pages pages.new) (P.count pages.new) (P.first pages.new) tree.new.rows (P.asked pages.old) (P.asked pages.new) damage }
     ensures told { AreTold (P.pages pages.old) (P.count pages.old) → OnOk result (AreTold (P.pages pages.new) (P.count pages.new)) }
     ensures more { AreTold (P.pages pages.old) (P.count pages.old) → AsksOnly (λ _. 1) (P.asked pages.old) (P.asked pages.new) }
     ensures fails { FailsChanging P.Pages pages.old pages.new result }

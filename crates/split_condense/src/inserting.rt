@@ -21,7 +21,7 @@ use std::alloc::Global;
 ///
 /// Over a well-formed tree each node stays at its page and level, and as many new nodes are made as the policy was asked for splits, and
 /// one more if the tree was empty or its root was split. Fails with `Damaged`, as below; with `Disk`, `NoRoom` or `Stopped`; or with `Memory`. The
-/// tree's roots are then as before; pages may have changed, and are to be abandoned.
+/// tree's roots and the pages are then as the call left them, and are to be abandoned.
 ///
 /// Over told pages `Damaged` names a page that was asked for and a rule that it breaks as the call leaves it: a node's page by itself, or by not being
 /// one level below a node's that names it, or a page of the map of rows in its place there. Else it is `Order` of a map of rows that gave a row before
@@ -40,14 +40,13 @@ pub fn insert<P: Pages>(
     ensures planted { (free : List ℕ) → IsWhole node_of (view (P.pages pages.old) tree.old.rows (P.count pages.old) (P.first pages.old) free) tree.old.root
         → OnOk result (IsPlanted node_of (view (P.pages pages.old) tree.old.rows (P.count pages.old) (P.first pages.old) free) (P.pages pages.new) tree.new.rows (P.count pages.new) (P.first pages.new)
         tree.old.root tree.new.root (entry_item entry.now) (Rises ((SplitPolicy-dyn policy.old).count policy.old.1) ((SplitPolicy-dyn policy.new).count policy.new.1))) }
-    ensures kept { OnErr result (tree.new ≡ tree.old) }
     ensures honest { (free : List ℕ) → IsWhole node_of (view (P.pages pages.old) tree.old.rows (P.count pages.old) (P.first pages.old) free) tree.old.root
         → AreTold (P.pages pages.old) (P.count pages.old)
         → (damage : Damage) → result ≢ Err (PageFault.Damaged damage) }
 
     // Over told pages, which stay told: why it is damaged, over the pages as the call leaves them.
     ensures damaged { AreTold (P.pages pages.old) (P.count pages.old) → (damage : Damage) → IsErrOf result (PageFault.Damaged damage)
-        → IsTreeHarm (P.pages pages.new) (P.count pages.new) (P.first pages.new) (P.asked pages.old) (P.asked pages.new) damage }
+        → IsTreeHarm (P.pages pages.new) (P.count pages.new) (P.first pages.new) tree.new.rows (P.asked pages.old) (P.asked pages.new) damage }
     ensures told { AreTold (P.pages pages.old) (P.count pages.old) → OnOk result (AreTold (P.pages pages.new) (P.count pages.new)) }
     ensures more { AreTold (P.pages pages.old) (P.count pages.old) → AsksOnly (λ _. 1) (P.asked pages.old) (P.asked pages.new) }
     ensures fails { FailsChanging P.Pages pages.old pages.new result }

@@ -22,8 +22,8 @@ use std::alloc::Global;
 /// Puts the entry of a key's place `new` into a tree, and takes that of the place `old` out that the key had before, if there was one.
 ///
 /// Does nothing if both are the same, with the same words. Fails as [`take_entry`] of `old` and [`insert`] do: with `Damaged`, the rule `Entry` and page 0
-/// only if there was a place, and the tree has no entry of it; else `Damaged` says which page breaks which rule. The tree's roots are then as before;
-/// pages may have changed, and are to be abandoned. Costs an [`insert`], and a [`take_entry`] if there was a place.
+/// only if there was a place, and the tree has no entry of it; else `Damaged` says which page breaks which rule. The tree's roots and
+/// the pages are then as the call left them, and are to be abandoned. Costs an [`insert`], and a [`take_entry`] if there was a place.
 pub fn put_entry<P: Pages>(
     alloc: Global,
     pages: &mut P,
@@ -41,11 +41,10 @@ pub fn put_entry<P: Pages>(
         → IfSome (option_copied old.entry) (HasEntry (nodes_in node_of (P.pages pages.old) tree.old.rows) tree.old.root key.now)
         → AreTold (P.pages pages.old) (P.count pages.old)
         → (damage : Damage) → result ≢ Err (PageFault.Damaged damage) }
-    ensures kept { OnErr result (tree.new ≡ tree.old) }
 
     // Over told pages, which stay told: why it is damaged, over the pages as the call leaves them, or the old tree has no entry of the old place.
     ensures damaged { AreTold (P.pages pages.old) (P.count pages.old) → (damage : Damage) → IsErrOf result (PageFault.Damaged damage)
-        → IsTreeHarm (P.pages pages.new) (P.count pages.new) (P.first pages.new) (P.asked pages.old) (P.asked pages.new) damage
+        → IsTreeHarm (P.pages pages.new) (P.count pages.new) (P.first pages.new) tree.new.rows (P.asked pages.old) (P.asked pages.new) damage
         ⊎ MatchOption (option_copied old.entry) ⊥ (λ stored. IsMissing (P.pages pages.old) tree.old.rows (P.count pages.old) (P.first pages.old) tree.old.root key.now stored.point damage) }
     ensures told { AreTold (P.pages pages.old) (P.count pages.old) → OnOk result (AreTold (P.pages pages.new) (P.count pages.new)) }
     ensures more { AreTold (P.pages pages.old) (P.count pages.old) → AsksOnly (λ _. 1) (P.asked pages.old) (P.asked pages.new) }
@@ -58,9 +57,6 @@ pub fn put_entry<P: Pages>(
     if old == new {
         return Ok(());
     }
-    let mut next = *tree;
-    take_entry(alloc, pages, &mut next, policy, key, old)?;
-    insert(alloc, pages, &mut next, policy, &entry_of(key, new))?;
-    *tree = next;
-    Ok(())
+    take_entry(alloc, pages, tree, policy, key, old)?;
+    insert(alloc, pages, tree, policy, &entry_of(key, new))
 }

@@ -20,7 +20,7 @@ use std::alloc::Global;
 /// Takes the entry of a key's place out of a tree that has it: the place's point, and its words.
 ///
 /// Fails with `Damaged`, the rule `Entry` and page 0 if the tree has no entry of that key at that point, and else as [`delete`] does, whose `Damaged`
-/// says which page breaks which rule. The tree's roots are then as before; pages may have changed, and are to be abandoned. Costs a [`delete`].
+/// says which page breaks which rule. The tree's roots and the pages are then as the call left them, and are to be abandoned. Costs a [`delete`].
 pub fn take_entry<P: Pages>(
     alloc: Global,
     pages: &mut P,
@@ -39,11 +39,10 @@ pub fn take_entry<P: Pages>(
         → HasEntry (nodes_in node_of (P.pages pages.old) tree.old.rows) tree.old.root key.now old.now
         → AreTold (P.pages pages.old) (P.count pages.old)
         → (damage : Damage) → result ≢ Err (PageFault.Damaged damage) }
-    ensures kept { OnErr result (tree.new ≡ tree.old) }
 
     // Over told pages, which stay told: why it is damaged, over the pages as the call leaves them, or the old tree has no such entry.
     ensures damaged { AreTold (P.pages pages.old) (P.count pages.old) → (damage : Damage) → IsErrOf result (PageFault.Damaged damage)
-        → IsTreeHarm (P.pages pages.new) (P.count pages.new) (P.first pages.new) (P.asked pages.old) (P.asked pages.new) damage
+        → IsTreeHarm (P.pages pages.new) (P.count pages.new) (P.first pages.new) tree.new.rows (P.asked pages.old) (P.asked pages.new) damage
         ⊎ IsMissing (P.pages pages.old) tree.old.rows (P.count pages.old) (P.first pages.old) tree.old.root key.now old.now.point damage }
     ensures told { AreTold (P.pages pages.old) (P.count pages.old) → OnOk result (AreTold (P.pages pages.new) (P.count pages.new)) }
     ensures more { AreTold (P.pages pages.old) (P.count pages.old) → AsksOnly (λ _. 1) (P.asked pages.old) (P.asked pages.new) }

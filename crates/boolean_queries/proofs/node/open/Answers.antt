@@ -13,7 +13,7 @@ use Rattle.tree_entries.specs.Numbers.{byte_of}
 use Rattle.tree_entries.specs.Filters.{admits_by}
 use Rattle.boolean_queries.specs.Opens.{filter_in}
 use Rattle.boolean_queries.specs.Walked.{AsksFor}
-use Rattle.boolean_queries.specs.Harms.{IsRowsHarm}
+use Rattle.node_rows.specs.Damages.{IsRowsDamage}
 use Rattle.boolean_queries.proofs.Results.{ok-always, ok-then, on-always}
 use Rattle.boolean_queries.proofs.Logs.{contains-none, asks-then, asks-wider, asks-page}
 use Rattle.boolean_queries.proofs.Opened.{gives-node, gives-none, kept-children, kept-stand, kept-few, joined-read}
@@ -95,8 +95,8 @@ returns-clause-damaged g c = λ told damage e.
     let f = c.enter_at.ensures.frame in
     let mid : List ℕ = g.P.Pages.asked c.enter_at.new.pages in
     let new : List ℕ = g.P.Pages.asked c.admit.new.pages in
-    let harm = subst (λ (k : ℕ). AreTold old k → IsRowsHarm old k rows mid new damage) f.count
-    (subst (λ (x : PageMap). AreTold x (g.P.Pages.count c.enter_at.new.pages) → IsRowsHarm x (g.P.Pages.count c.enter_at.new.pages) rows mid new damage) f.pages (λ t. c.admit.ensures.damaged t damage e)) told in
+    let harm = subst (λ (k : ℕ). AreTold old k → IsRowsDamage old k rows mid new damage) f.count
+    (subst (λ (x : PageMap). AreTold x (g.P.Pages.count c.enter_at.new.pages) → IsRowsDamage x (g.P.Pages.count c.enter_at.new.pages) rows mid new damage) f.pages (λ t. c.admit.ensures.damaged t damage e)) told in
     let first = c.enter_at.ensures.asks in
     inr (harm.0, asked_sooner (g.P.Pages.asked c.args.pages.now) first.more new damage.page (subst (λ (l : List ℕ). AskedSince l new damage.page) first.is harm.1))
 

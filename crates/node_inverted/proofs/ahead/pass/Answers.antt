@@ -6,7 +6,7 @@ use Rattle.rtree_shape.specs.Stock.{rows_form}
 use Rattle.node_rows.specs.Rows.{bytes_in}
 use Rattle.node_rows.specs.Turns.{Next}
 use Rattle.node_rows.proofs.Bytes.{bytes-large}
-use Rattle.node_rows.proofs.Harms.{harm-next}
+use Rattle.node_rows.proofs.Harms.{harm-looked}
 use Rattle.node_inverted.proofs.ahead.pass.Goals as goal
 
 pub returns-in-None-clause-ahead : goal.returns-in-None-clause-ahead
@@ -33,5 +33,5 @@ returns-in_err-next-in-Some-clause-damaged g c = λ told damage.
     let f = c.next_in.ensures.frame in
     let r = err_from_is_err_and c.from_residual.result c.from_residual.ensures.1 in
     λ e. (let same : c.in_err-next-in-Some.field-0.0 ≡ Damaged damage = cc (r.1, r.2, e) in
-    harm-next (p.pages c.args.pages.now) (p.pages c.next_in.new.pages) (p.count c.args.pages.now) (p.count c.next_in.new.pages) (p.first c.next_in.new.pages) c.args.tree.now.rows (p.asked c.args.pages.now) (p.asked c.next_in.new.pages) damage
+    harm-looked (p.pages c.args.pages.now) (p.pages c.next_in.new.pages) (p.count c.args.pages.now) (p.count c.next_in.new.pages) (p.first c.next_in.new.pages) c.args.tree.now.rows (p.asked c.args.pages.now) (p.asked c.next_in.new.pages) damage
     f.pages f.count (c.in_err-next-in-Some.ensures.damaged told damage (ap Err same)))

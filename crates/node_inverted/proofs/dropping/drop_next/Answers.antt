@@ -10,7 +10,7 @@ use Rattle.rtree_shape.specs.Stock.{rows_form}
 use Rattle.node_rows.specs.Rows.{IsRows, bytes_in}
 use Rattle.node_rows.specs.Turns.{Turns}
 use Rattle.node_rows.specs.Ascents.{reached}
-use Rattle.node_rows.proofs.Harms.{harm-later, harm-next}
+use Rattle.node_rows.proofs.Harms.{harm-later, harm-looked}
 use Rattle.node_inverted.specs.Drafts.{with_rows}
 use Rattle.node_inverted.specs.declared.taking.NodeRow.{NodeRow}
 use Rattle.node_inverted.proofs.Gathers.{dropping-none, dropping-set}
@@ -57,7 +57,7 @@ returns-in_err-next-clause-damaged g c = λ told damage.
     let f = c.clear_next.ensures.frame in
     let r = err_from_is_err_and c.from_residual.result c.from_residual.ensures.1 in
     λ e. (let same : c.in_err-next.field-0.0 ≡ Damaged damage = cc (r.1, r.2, e) in
-    harm-next (p.pages c.args.pages.now) (p.pages c.clear_next.new.pages) (p.count c.args.pages.now) (p.count c.clear_next.new.pages) (p.first c.clear_next.new.pages) c.args.tree.now.rows (p.asked c.args.pages.now) (p.asked c.clear_next.new.pages) damage
+    harm-looked (p.pages c.args.pages.now) (p.pages c.clear_next.new.pages) (p.count c.args.pages.now) (p.count c.clear_next.new.pages) (p.first c.clear_next.new.pages) c.args.tree.now.rows (p.asked c.args.pages.now) (p.asked c.clear_next.new.pages) damage
     f.pages f.count (c.in_err-next.ensures.damaged told damage (ap Err same)))
 
 pub returns-in_err-next-clause-more : goal.returns-in_err-next-clause-more

@@ -16,7 +16,7 @@ use Rattle.node_rows.specs.Impacts.{refreshed}
 use Rattle.node_inverted.specs.Refreshing.{IsBounded, lesser_of, word_of}
 use Rattle.node_rows.proofs.Bytes.{bytes-large}
 use Rattle.node_rows.proofs.Faults.{changes-none}
-use Rattle.node_rows.proofs.Harms.{harm-later, harm-next}
+use Rattle.node_rows.proofs.Harms.{harm-later, harm-looked}
 use Rattle.node_rows.proofs.Told.{told-turned}
 use Rattle.node_inverted.proofs.Refreshes.{refresh-begins, refreshed-all}
 use Rattle.node_inverted.proofs.refreshing.refresh.Goals as goal
@@ -120,7 +120,7 @@ returns-in_err-below-clause-damaged g c = λ told damage.
     let f = c.next_in.ensures.frame in
     let r = err_from_is_err_and c.from_residual.result c.from_residual.ensures.1 in
     λ e. (let same : c.in_err-below.field-0.0 ≡ Damaged damage = cc (r.1, r.2, e) in
-    harm-next (p.pages c.args.pages.now) (p.pages c.next_in.new.pages) (p.count c.args.pages.now) (p.count c.next_in.new.pages) (p.first c.next_in.new.pages) c.args.tree.now.rows (p.asked c.args.pages.now) (p.asked c.next_in.new.pages) damage
+    harm-looked (p.pages c.args.pages.now) (p.pages c.next_in.new.pages) (p.count c.args.pages.now) (p.count c.next_in.new.pages) (p.first c.next_in.new.pages) c.args.tree.now.rows (p.asked c.args.pages.now) (p.asked c.next_in.new.pages) damage
     f.pages f.count (c.in_err-below.ensures.damaged told damage (ap Err same)))
 
 pub returns-in_err-below-clause-more : goal.returns-in_err-below-clause-more
@@ -137,7 +137,7 @@ returns-in_err-above-clause-damaged g c = λ told damage.
     λ e. (let same : c.in_err-above.field-0.0 ≡ Damaged damage = cc (r.1, r.2, e) in
     harm-later (map_uses rows_form (p.pages c.args.pages.now) c.args.tree.now.rows) (p.pages c.next_in-2.new.pages) (p.count c.next_in-2.new.pages) (p.first c.next_in-2.new.pages)
     (p.asked c.args.pages.now) (p.asked c.next_in.new.pages) (p.asked c.next_in-2.new.pages) damage (c.next_in.ensures.own told)
-    (harm-next (p.pages c.next_in.new.pages) (p.pages c.next_in-2.new.pages) (p.count c.next_in.new.pages) (p.count c.next_in-2.new.pages) (p.first c.next_in-2.new.pages) c.args.tree.now.rows
+    (harm-looked (p.pages c.next_in.new.pages) (p.pages c.next_in-2.new.pages) (p.count c.next_in.new.pages) (p.count c.next_in-2.new.pages) (p.first c.next_in-2.new.pages) c.args.tree.now.rows
     (p.asked c.next_in.new.pages) (p.asked c.next_in-2.new.pages) damage two.pages two.count (c.in_err-above.ensures.damaged (rw (one.pages, one.count) told) damage (ap Err same))))
 
 pub returns-in_err-above-clause-more : goal.returns-in_err-above-clause-more

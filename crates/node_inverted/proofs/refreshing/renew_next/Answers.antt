@@ -11,7 +11,7 @@ use Rattle.node_rows.specs.Rows.{Bytes, bytes_in}
 use Rattle.node_rows.specs.Turns.{Next}
 use Rattle.node_rows.specs.Impacts.{refreshed, top_at}
 use Rattle.node_inverted.specs.Drafts.{with_rows}
-use Rattle.node_rows.proofs.Harms.{harm-later, harm-next}
+use Rattle.node_rows.proofs.Harms.{harm-later, harm-looked}
 use Rattle.node_rows.proofs.Turned.{turned-rest}
 use Rattle.node_rows.proofs.Impacts.{byte-here, byte-another, top-row}
 use Rattle.node_inverted.proofs.Refreshes.{ahead-byte, away, next-from, refreshed-beside, renewed-next}
@@ -61,7 +61,7 @@ returns-in_err-low_ahead-clause-damaged g c = λ told damage.
     let f = c.next_in.ensures.frame in
     let r = err_from_is_err_and c.from_residual.result c.from_residual.ensures.1 in
     λ e. (let same : c.in_err-low_ahead.field-0.0 ≡ Damaged damage = cc (r.1, r.2, e) in
-    harm-next (p.pages c.args.pages.now) (p.pages c.next_in.new.pages) (p.count c.args.pages.now) (p.count c.next_in.new.pages) (p.first c.next_in.new.pages) c.args.tree.now.rows (p.asked c.args.pages.now) (p.asked c.next_in.new.pages) damage
+    harm-looked (p.pages c.args.pages.now) (p.pages c.next_in.new.pages) (p.count c.args.pages.now) (p.count c.next_in.new.pages) (p.first c.next_in.new.pages) c.args.tree.now.rows (p.asked c.args.pages.now) (p.asked c.next_in.new.pages) damage
     f.pages f.count (c.in_err-low_ahead.ensures.damaged told damage (ap Err same)))
 
 pub returns-in_err-high_ahead-clause-damaged : goal.returns-in_err-high_ahead-clause-damaged
@@ -73,7 +73,7 @@ returns-in_err-high_ahead-clause-damaged g c = λ told damage.
     λ e. (let same : c.in_err-high_ahead.field-0.0 ≡ Damaged damage = cc (r.1, r.2, e) in
     harm-later (map_uses rows_form (p.pages c.args.pages.now) c.args.tree.now.rows) (p.pages c.next_in-2.new.pages) (p.count c.next_in-2.new.pages) (p.first c.next_in-2.new.pages)
     (p.asked c.args.pages.now) (p.asked c.next_in.new.pages) (p.asked c.next_in-2.new.pages) damage (c.next_in.ensures.own told)
-    (harm-next (p.pages c.next_in.new.pages) (p.pages c.next_in-2.new.pages) (p.count c.next_in.new.pages) (p.count c.next_in-2.new.pages) (p.first c.next_in-2.new.pages) c.args.tree.now.rows
+    (harm-looked (p.pages c.next_in.new.pages) (p.pages c.next_in-2.new.pages) (p.count c.next_in.new.pages) (p.count c.next_in-2.new.pages) (p.first c.next_in-2.new.pages) c.args.tree.now.rows
     (p.asked c.next_in.new.pages) (p.asked c.next_in-2.new.pages) damage h.pages h.count (c.in_err-high_ahead.ensures.damaged (rw (f.pages, f.count) told) damage (ap Err same))))
 
 pub returns-in_err-high_ahead-clause-own : goal.returns-in_err-high_ahead-clause-own

@@ -15,7 +15,7 @@ use Rattle.node_rows.specs.Words.{no_bytes}
 use Rattle.node_inverted.specs.Lifts.{AreOrdered, bytes_at, lifted_at}
 use Rattle.node_inverted.specs.declared.taking.NodeRow.{NodeRow}
 use Rattle.node_rows.proofs.Bytes.{bytes-large}
-use Rattle.node_rows.proofs.Harms.{harm-later, harm-next}
+use Rattle.node_rows.proofs.Harms.{harm-later, harm-looked}
 use Rattle.node_rows.proofs.Ascents.{start, all}
 use Rattle.node_rows.proofs.Faults.{reads-none}
 use Rattle.node_inverted.proofs.taking.list_rows.Goals as goal
@@ -93,5 +93,5 @@ returns-in_err-from-clause-damaged g c = λ told damage.
     λ e. (let same : c.in_err-from.field-0.0 ≡ Damaged damage = cc (r.1, r.2, e) in
     harm-later (map_uses rows_form (p.pages c.args.pages.now) c.args.tree.now.rows) (p.pages c.list_next.new.pages) (p.count c.list_next.new.pages) (p.first c.list_next.new.pages)
     (p.asked c.args.pages.now) (p.asked c.loop-from.pages) (p.asked c.list_next.new.pages) damage (c.loop-from.invariant.own told)
-    (harm-next (p.pages c.loop-from.pages) (p.pages c.list_next.new.pages) (p.count c.loop-from.pages) (p.count c.list_next.new.pages) (p.first c.list_next.new.pages) c.args.tree.now.rows
+    (harm-looked (p.pages c.loop-from.pages) (p.pages c.list_next.new.pages) (p.count c.loop-from.pages) (p.count c.list_next.new.pages) (p.first c.list_next.new.pages) c.args.tree.now.rows
     (p.asked c.loop-from.pages) (p.asked c.list_next.new.pages) damage h.pages h.count (c.in_err-from.ensures.damaged (rw (f.pages, f.count) told) damage (ap Err same))))

@@ -11,7 +11,7 @@ use Rattle.rtree_shape.specs.Stock.{rows_form}
 use Rattle.node_rows.specs.Rows.{Bytes, bytes_in}
 use Rattle.node_rows.specs.Copies.{IsCopy}
 use Rattle.node_rows.specs.Ascents.{until, reached}
-use Rattle.node_rows.specs.Damages.{IsNextDamage}
+use Rattle.node_rows.specs.Damages.{IsRowsDamage}
 use Rattle.node_rows.specs.Impacts.{impact_in}
 use Rattle.node_rows.specs.Words.{AreWords, slot_of, no_bytes}
 use Rattle.node_rows.proofs.Bytes.{bytes-large}
@@ -87,8 +87,8 @@ returns-in_err-from-clause-damaged g c = λ told damage.
     let p = err_from_is_err_and c.from_residual.result c.from_residual.ensures.1 in
     λ e. (let same : c.in_err-from.field-0.0 ≡ Damaged damage = cc (p.1, p.2, e) in
     damage-later old count root (map_uses rows_form old root) (g.P.Pages.asked c.args.pages.now) (g.P.Pages.asked c.loop-from.pages) (g.P.Pages.asked c.column_next.new.pages) damage (h.own told)
-    (subst (λ (n : ℕ). IsNextDamage old n root (g.P.Pages.asked c.loop-from.pages) (g.P.Pages.asked c.column_next.new.pages) damage) f.count
-    (subst (λ (q : PageMap). IsNextDamage q (g.P.Pages.count c.loop-from.pages) root (g.P.Pages.asked c.loop-from.pages) (g.P.Pages.asked c.column_next.new.pages) damage) f.pages
+    (subst (λ (n : ℕ). IsRowsDamage old n root (g.P.Pages.asked c.loop-from.pages) (g.P.Pages.asked c.column_next.new.pages) damage) f.count
+    (subst (λ (q : PageMap). IsRowsDamage q (g.P.Pages.count c.loop-from.pages) root (g.P.Pages.asked c.loop-from.pages) (g.P.Pages.asked c.column_next.new.pages) damage) f.pages
     (c.in_err-from.ensures.damaged still damage (ap Err same)))))
 
 pub returns-in_err-from-clause-own : goal.returns-in_err-from-clause-own

@@ -7,7 +7,7 @@ use Rattle.btree_nodes.proofs.Harms.{asks-further}
 use Rattle.rtree_shape.specs.Stock.{rows_form}
 use Rattle.node_rows.specs.Rows.{Bytes, bytes_in}
 use Rattle.node_rows.specs.Turns.{Next}
-use Rattle.node_rows.specs.Damages.{IsNextDamage}
+use Rattle.node_rows.specs.Damages.{IsRowsDamage}
 use Rattle.node_rows.proofs.Faults.{damage-later}
 use Rattle.node_rows.proofs.Copies.{next-on}
 use Rattle.node_rows.proofs.leaf.next_filled.Goals as goal
@@ -34,8 +34,8 @@ returns-in-Err-seek-clause-damaged g c = λ told damage e.
     let root : ℕ = c.args.tree.now.rows in
     let still : AreTold (g.P.Pages.pages c.fill.new.pages) (g.P.Pages.count c.fill.new.pages) = rw (f.pages, f.count) told in
     damage-later old count root (map_uses rows_form old root) (g.P.Pages.asked c.args.pages.now) (g.P.Pages.asked c.fill.new.pages) (g.P.Pages.asked c.next_row.new.pages) damage (c.fill.ensures.own told)
-    (subst (λ (n : ℕ). IsNextDamage old n root (g.P.Pages.asked c.fill.new.pages) (g.P.Pages.asked c.next_row.new.pages) damage) f.count
-    (subst (λ (q : PageMap). IsNextDamage q (g.P.Pages.count c.fill.new.pages) root (g.P.Pages.asked c.fill.new.pages) (g.P.Pages.asked c.next_row.new.pages) damage) f.pages
+    (subst (λ (n : ℕ). IsRowsDamage old n root (g.P.Pages.asked c.fill.new.pages) (g.P.Pages.asked c.next_row.new.pages) damage) f.count
+    (subst (λ (q : PageMap). IsRowsDamage q (g.P.Pages.count c.fill.new.pages) root (g.P.Pages.asked c.fill.new.pages) (g.P.Pages.asked c.next_row.new.pages) damage) f.pages
     (c.next_row.ensures.damaged still damage e)))
 
 pub returns-in-Err-seek-clause-own : goal.returns-in-Err-seek-clause-own

@@ -19,10 +19,6 @@ pub returns-then-next-node-clause-own : goal.returns-then-next-node-clause-own
 returns-then-next-node-clause-own g c = λ told.
     subst (λ (r : ℕ). AsksOnly (map_uses rows_form (g.P.Pages.pages c.args.pages.now) r) (g.P.Pages.asked c.args.pages.now) (g.P.Pages.asked c.first_from.new.pages)) c.at-map.ensures (c.first_from.ensures.own told)
 
-pub returns-then-next-from-clause-own : goal.returns-then-next-from-clause-own
-returns-then-next-from-clause-own g c = λ told.
-    subst (λ (r : ℕ). AsksOnly (map_uses rows_form (g.P.Pages.pages c.args.pages.now) r) (g.P.Pages.asked c.args.pages.now) (g.P.Pages.asked c.first_from.new.pages)) c.at-map.ensures (c.first_from.ensures.own told)
-
 pub returns-clause-own : goal.returns-clause-own
 returns-clause-own g c = λ told.
     subst (λ (r : ℕ). AsksOnly (map_uses rows_form (g.P.Pages.pages c.args.pages.now) r) (g.P.Pages.asked c.args.pages.now) (g.P.Pages.asked c.first_from.new.pages)) c.at-map.ensures (c.first_from.ensures.own told)
@@ -45,34 +41,7 @@ returns-then-next-node-clause-next g c = λ map.
     let fits : c.of_bytes-next.result.number < 2 ^ 64 = search rules in
     subst (λ (r : ℕ). Next (bytes_in old r) c.args.node c.args.from None) same
     (next-passed old c.at-map.result.root c.args.node c.args.from (number c.bytes-key.result) c.ranges.from.fits c.bytes-key.ensures row c.in_ok-leaf.field-0 map' (c.in_ok-leaf.ensures.found map')
-    c.in-Some.leaf c.of_bytes-next.result.node c.of_bytes-next.result.number c.in-Some.is fits c.of_bytes-next.ensures c.if-next-node.true)
-
-pub returns-then-next-from-clause-honest : goal.returns-then-next-from-clause-honest
-returns-then-next-from-clause-honest g c = λ map counted told damage e.
-    let old : PageMap = g.P.Pages.pages c.args.pages.now in
-    let map' : IsMap rows_form old c.at-map.result.root = subst (IsMap rows_form old) (sym c.at-map.ensures) map in
-    let row : Row = (number c.first_from.new.found, c.first_from.new.value) in
-    let fits : c.of_bytes-next.result.number < 2 ^ 64 = search rules in
-    let next = next-found old c.at-map.result.root c.args.node c.args.from (number c.bytes-key.result) c.ranges.from.fits c.bytes-key.ensures row c.in_ok-leaf.field-0 map' (c.in_ok-leaf.ensures.found map')
-    c.in-Some.leaf c.of_bytes-next.result.node c.of_bytes-next.result.number c.in-Some.is fits c.of_bytes-next.ensures c.if-next-node.false in
-    let on : c.args.from ≤ c.of_bytes-next.result.number = next.on in
-    let less : c.of_bytes-next.result.number < c.args.from = c.if-next-from.true in
-    omega arith
-
-pub returns-then-next-from-clause-damaged : goal.returns-then-next-from-clause-damaged
-returns-then-next-from-clause-damaged g c = λ told damage e. inr (
-  order-at c.in-Some.leaf c.misordered.result damage c.misordered.ensures (same-fault _ _ e),
-  λ map.
-      let old : PageMap = g.P.Pages.pages c.args.pages.now in
-      let map' : IsMap rows_form old c.at-map.result.root = subst (IsMap rows_form old) (sym c.at-map.ensures) map in
-      let row : Row = (number c.first_from.new.found, c.first_from.new.value) in
-      let fits : c.of_bytes-next.result.number < 2 ^ 64 = search rules in
-      let next = next-found old c.at-map.result.root c.args.node c.args.from (number c.bytes-key.result) c.ranges.from.fits c.bytes-key.ensures row c.in_ok-leaf.field-0 map' (c.in_ok-leaf.ensures.found map')
-      c.in-Some.leaf c.of_bytes-next.result.node c.of_bytes-next.result.number c.in-Some.is fits c.of_bytes-next.ensures c.if-next-node.false in
-      let on : c.args.from ≤ c.of_bytes-next.result.number = next.on in
-      let less : c.of_bytes-next.result.number < c.args.from = c.if-next-from.true in
-      omega arith,
-)
+    c.in-Some._leaf c.of_bytes-next.result.node c.of_bytes-next.result.number c.in-Some.is fits c.of_bytes-next.ensures c.if-next-node.true)
 
 pub returns-clause-next : goal.returns-clause-next
 returns-clause-next g c = λ map.
@@ -83,4 +52,4 @@ returns-clause-next g c = λ map.
     let fits : c.of_bytes-next.result.number < 2 ^ 64 = search rules in
     subst (λ (r : ℕ). IsNext (bytes_in old r) c.args.node c.args.from c.of_bytes-next.result.number c.first_from.new.value) same
     (next-found old c.at-map.result.root c.args.node c.args.from (number c.bytes-key.result) c.ranges.from.fits c.bytes-key.ensures row c.in_ok-leaf.field-0 map' (c.in_ok-leaf.ensures.found map')
-    c.in-Some.leaf c.of_bytes-next.result.node c.of_bytes-next.result.number c.in-Some.is fits c.of_bytes-next.ensures c.if-next-node.false)
+    c.in-Some._leaf c.of_bytes-next.result.node c.of_bytes-next.result.number c.in-Some.is fits c.of_bytes-next.ensures c.if-next-node.false)

@@ -1,4 +1,6 @@
-use Rattle.std.proofs.Common.{◌≡◌, ◌^◌, ℕ, List, take, ◌∙◌, sym, ap, subst}
+use Rattle.std.proofs.Common.{◌≡◌, ◌^◌, ◌≤◌, ℕ, Bool, true, false, List, Option, take, ◌∙◌, sym, ap, subst, refl}
+use Rattle.std.specs.Prelude.{IfSome}
+use Rattle.std.specs.Bool.{then_some}
 use Rattle.page_face.specs.FreeList.{PageMap}
 use Rattle.page_face.specs.Number.{number}
 use Rattle.btree_nodes.specs.Bounds.{upper_of}
@@ -27,3 +29,15 @@ returns-in-Ok-clause-last g c = λ map top.
     let e : high_of c.args.form c.locate.new.bounds ≡ 256 ^ c.args.form.key = ap (λ (n : ℕ). upper_of c.args.form.key (take n c.locate.new.bounds.high)) top in
     ap (λ (k : ℕ). first_from k (map_rows c.args.form old c.args.root)) e
     ∙ first-end c.args.form old c.args.root c.in-Ok.leaf.least c.in-Ok.leaf.page (low_of c.args.form c.locate.new.bounds) (high_of c.args.form c.locate.new.bounds) l.1
+
+hit-on : (hit : Bool) (page : ℕ) (answer : Option ℕ) (key found : ℕ) → answer ≡ then_some hit page → (hit ≡ true → key ≤ found) → IfSome answer (λ n. key ≤ found)
+hit-on true page answer key found e h = subst (λ (o : Option ℕ). IfSome o (λ n. key ≤ found)) (sym e) (h refl)
+hit-on false page answer key found e h = subst (λ (o : Option ℕ). IfSome o (λ n. key ≤ found)) (sym e) tt
+
+pub returns-in-Ok-clause-on : goal.returns-in-Ok-clause-on
+returns-in-Ok-clause-on g c =
+    let s = c.in-Ok.ensures.shown in
+    let low : ℕ = low_of c.args.form c.locate.new.bounds in
+    let high : ℕ = high_of c.args.form c.locate.new.bounds in
+    let within : IsWithin low high (rows_in c.args.form c.looked.result.now) = subst (λ (x : List ℕ). IsWithin low high (rows_in c.args.form x)) (sym c.looked.ensures) s.within in
+    hit-on c.first_in-hit.result c.in-Ok.leaf.page c.then_some.result (number c.args.key.now) (number c.first_in-hit.new.found) c.then_some.ensures (c.first_in-hit.ensures.on low high within)

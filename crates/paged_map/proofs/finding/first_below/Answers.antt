@@ -20,6 +20,7 @@ leaves-init g c =
     record {
       same = λ map. ap (λ (k : List ℕ). first_from (number k) (map_rows form (g.P.Pages.pages c.args.pages.now) c.args.root)) (sym e);
       own = λ told. asks-nothing _ _ _ refl;
+      on = rw e (omega arith);
       below = rw e (subst (λ (n : ℕ). number key < 256 ^ n) c.requires.key c.set_key.ensures.below);
       key = c.requires.key;
       found = c.requires.found;
@@ -61,11 +62,13 @@ leaves-preserved g c =
     upper-some form.key (take c.first_at.new.bounds.top c.first_at.new.bounds.high) (subst (λ (x : List ℕ). 0 < length x) c.high-high.ensures.is some)
     ∙ ap number (sym c.high-high.ensures.is) ∙ ap number (sym e) in
     let past = rw c.in-Ok-None.field-0-is at c.in-Ok-None.ensures.found in
+    let further : number (take form.key c.leaves.from) < high_of form c.first_at.new.bounds = search rules in
     record {
       same = λ map. c.leaves.invariant.same map
           ∙ subst (λ (x : PageMap). IsMap form x root → first_from (number (take form.key c.leaves.from)) (map_rows form x root) ≡ first_from (high_of form c.first_at.new.bounds) (map_rows form x root)) f.pages past map
           ∙ ap (λ (k : ℕ). first_from k (map_rows form old root)) is;
       own = λ told. own-behind form root _ _ _ _ f.pages f.count _ _ _ c.leaves.invariant.own c.first_at.ensures.own told;
+      on = let k = c.leaves.invariant.on in omega (arith, is, further, k);
       below = rw e (subst (λ (n : ℕ). number high < 256 ^ n) long c.set_key-in-leaves.ensures.below);
       key = c.leaves.invariant.key;
       found = search rules;

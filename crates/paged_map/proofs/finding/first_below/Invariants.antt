@@ -1,4 +1,4 @@
-use Rattle.std.proofs.Common.{◌≡◌, ◌-◌, ◌^◌, ◌<◌, take, length}
+use Rattle.std.proofs.Common.{◌≡◌, ◌-◌, ◌^◌, ◌<◌, ◌≤◌, take, length}
 use Rattle.page_face.specs.Calls.{Reads}
 use Rattle.page_face.specs.Number.{number}
 use Rattle.btree_nodes.specs.Rows.{first_from}
@@ -17,6 +17,7 @@ invariant-leaves g l =
       same : IsMap l.form (p.pages l.fn.pages) l.root
           → first_from (number l.key) (map_rows l.form (p.pages l.fn.pages) l.root) ≡ first_from (number (take l.form.key l.from)) (map_rows l.form (p.pages l.fn.pages) l.root);
       own : AreTold (p.pages l.fn.pages) (p.count l.fn.pages) → AsksOnly (map_uses l.form (p.pages l.fn.pages) l.root) (p.asked l.fn.pages) (p.asked l.pages);
+      on : number l.key ≤ number (take l.form.key l.from);
       below : number (take l.form.key l.from) < 256 ^ l.form.key;
       key : length l.key ≡ l.form.key;
       found : length l.found ≡ l.form.key;
