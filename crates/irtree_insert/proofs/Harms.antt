@@ -48,28 +48,28 @@ pub asks-since : (before after : List ℕ) (page : ℕ) → AskedSince before af
 asks-since before after page a = record { more = a.front ++ (page ∷ a.back); is = a.is; own = any-own (a.front ++ (page ∷ a.back)) }
 
 -- the damage of a page that was read first
-pub page-harm : {rows : ℕ} (old new : PageMap) (c0 c1 first : ℕ) (before after : List ℕ) (page : ℕ) (damage : Damage) → new ≡ old → c1 ≡ c0 → damage.page ≡ page → AskedSince before after page → IsBroken damage.rule old c0 page
+pub page-harm : (rows : ℕ) (old new : PageMap) (c0 c1 first : ℕ) (before after : List ℕ) (page : ℕ) (damage : Damage) → new ≡ old → c1 ≡ c0 → damage.page ≡ page → AskedSince before after page → IsBroken damage.rule old c0 page
     → IsTreeHarm new c1 first rows before after damage
-page-harm {rows} old new c0 c1 first before after page damage same counted is asked broken = inl (record {
+page-harm rows old new c0 c1 first before after page damage same counted is asked broken = inl (record {
   asked = subst (λ (n : ℕ). AskedSince before after n) (sym is) asked;
   breaks = inl (subst (λ (n : ℕ). IsBroken damage.rule new c1 n) (sym is) (subst (λ (p : PageMap). IsBroken damage.rule p c1 page) (sym same) (subst (λ (k : ℕ). IsBroken damage.rule old k page) (sym counted) broken)));
 })
 
 -- a root whose level is above 9
-pub high-harm : {rows : ℕ} (old new : PageMap) (count first : ℕ) (before after : List ℕ) (page level : ℕ) (bytes : List ℕ) (damage : Damage) → new ≡ old → damage ≡ record { page = page; rule = Level } → AskedSince before after page
+pub high-harm : (rows : ℕ) (old new : PageMap) (count first : ℕ) (before after : List ℕ) (page level : ℕ) (bytes : List ℕ) (damage : Damage) → new ≡ old → damage ≡ record { page = page; rule = Level } → AskedSince before after page
     → (0 < length (old page) → bytes ≡ old page) → level ≡ level_in bytes → 9 < level → IsTreeHarm new count first rows before after damage
-high-harm {rows} old new count first before after page level bytes damage same is asked told level_is high = subst (λ (d : Damage). IsTreeHarm new count first rows before after d) (sym is) (inl (record {
+high-harm rows old new count first before after page level bytes damage same is asked told level_is high = subst (λ (d : Damage). IsTreeHarm new count first rows before after d) (sym is) (inl (record {
   asked = asked;
   breaks = inl (inr (subst (λ (p : PageMap). IfTold p page (λ b. 9 < level_in b)) (sym same) (λ some. let e = level_is ∙ ap level_in (told some) in omega arith)));
 }))
 
 -- a child's damage
-pub child-harm : {rows : ℕ} (old mid new : PageMap) (c1 c2 first : ℕ) (before asked0 asked1 asked2 bytes : List ℕ) (l page at child : ℕ) (damage : Damage)
+pub child-harm : (rows : ℕ) (old mid new : PageMap) (c1 c2 first : ℕ) (before asked0 asked1 asked2 bytes : List ℕ) (l page at child : ℕ) (damage : Damage)
     → mid ≡ old → new ≡ mid → c2 ≡ c1 → bytes ≡ old page → level_in bytes ≡ suc l → IsChildAt (stored_in bytes) at child
     → AskedSince before asked0 page → AsksOnly (λ _. 1) asked0 asked1 → AsksOnly (λ _. 1) asked1 asked2
     → (damage.page ≡ child) × AskedSince asked1 asked2 child × (IsBroken damage.rule mid c1 child ⊎ ((damage.rule ≡ Level) × IfTold mid child (λ b. level_in b ≢ l)))
     → IsTreeHarm new c2 first rows before asked2 damage
-child-harm {rows} old mid new c1 c2 first before asked0 asked1 asked2 bytes l page at child damage same0 same1 counted is level kept asked more0 more1 d =
+child-harm rows old mid new c1 c2 first before asked0 asked1 asked2 bytes l page at child damage same0 same1 counted is level kept asked more0 more1 d =
     let is' : bytes ≡ mid page = is ∙ ap (λ (p : PageMap). p page) (sym same0) in
     let here : child ≡ damage.page = sym d.0 in
     let mislevelled : IfTold mid child (λ b. level_in b ≢ l) → IsMislevelled mid before asked2 child = λ wrong. record {
@@ -88,8 +88,8 @@ child-harm {rows} old mid new c1 c2 first before asked0 asked1 asked2 bytes l pa
     subst (λ (p : PageMap). IsTreeHarm p c2 first rows before asked2 damage) (sym same1) (subst (λ (k : ℕ). IsTreeHarm mid k first rows before asked2 damage) (sym counted) (inl harm))
 
 -- a change of rows that was damaged
-pub rows-harm : {rows : ℕ} (pages : PageMap) (count first : ℕ) (before middle after : List ℕ) (page : ℕ) (damage : Damage) → AskedSince before middle page → IsRowsHarm pages count first rows middle after damage → IsTreeHarm pages count first rows before after damage
-rows-harm {rows} pages count first before middle after page damage asked h = inr (harm-later (λ _. 1) pages count first before middle after damage (asks-since before middle page asked) h)
+pub rows-harm : (rows : ℕ) (pages : PageMap) (count first : ℕ) (before middle after : List ℕ) (page : ℕ) (damage : Damage) → AskedSince before middle page → IsRowsHarm pages count first rows middle after damage → IsTreeHarm pages count first rows before after damage
+rows-harm rows pages count first before middle after page damage asked h = inr (harm-later rows (λ _. 1) pages count first before middle after damage (asks-since before middle page asked) h)
 
 -- a counted page holds bytes
 pub told-counted : (pages : PageMap) (count page : ℕ) → AreTold pages count → (IsUncounted count page → ⊥) → 0 < length (pages page)

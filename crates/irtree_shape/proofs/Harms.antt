@@ -28,9 +28,9 @@ node-later mine pages count before middle after damage more h = record {
 }
 
 -- a tree's damage, after more was asked for
-pub tree-later : {rows : ℕ} (mine : ℕ → ℕ) (pages : PageMap) (count first : ℕ) (before middle after : List ℕ) (damage : Damage) → AsksOnly mine before middle → IsTreeHarm pages count first rows middle after damage → IsTreeHarm pages count first rows before after damage
-tree-later {rows} mine pages count first before middle after damage more h =
-    ⊎_elim (λ node. inl (node-later mine pages count before middle after damage more node)) (λ harm. inr (harm-later mine pages count first before middle after damage more harm)) h
+pub tree-later : (rows : ℕ) (mine : ℕ → ℕ) (pages : PageMap) (count first : ℕ) (before middle after : List ℕ) (damage : Damage) → AsksOnly mine before middle → IsTreeHarm pages count first rows middle after damage → IsTreeHarm pages count first rows before after damage
+tree-later rows mine pages count first before middle after damage more h =
+    ⊎_elim (λ node. inl (node-later mine pages count before middle after damage more node)) (λ harm. inr (harm-later rows mine pages count first before middle after damage more harm)) h
 
 -- what a page breaks by itself on a search
 pub broken-alone : (rule : Rule) (pages : PageMap) (count page : ℕ) → BreaksAlone rule pages count page → IsBroken rule pages count page

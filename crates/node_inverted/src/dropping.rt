@@ -122,5 +122,6 @@ pub fn drop_node<P: Pages>(
     while let Some(at) = from {
         from = drop_next(pages, tree, node, at, &mut copy, &mut rows)?;
     }
-    set_rows(pages, tree, node, &rows)
+    set_rows(pages, tree, node, &rows)?;
+    Ok(())
 }

@@ -198,5 +198,6 @@ pub fn move_slots<P: Pages>(
             &mut goes,
         )?;
     }
-    set_parts(pages, tree, node, to, &mut stays, &mut goes)
+    set_parts(pages, tree, node, to, &mut stays, &mut goes)?;
+    Ok(())
 }

@@ -256,5 +256,6 @@ pub fn renew<P: Pages>(
             &mut rows,
         )?;
     }
-    set_rows(pages, tree, node, &rows)
+    set_rows(pages, tree, node, &rows)?;
+    Ok(())
 }

@@ -1,10 +1,7 @@
 -- What a look-up in the rows' map finds.
-use Rattle.std.proofs.Common.{◌≡◌, ℕ, ◌^◌, ◌<◌, Option, Some, None, List, sym, ap, ◌∙◌}
+use Rattle.std.proofs.Common.{◌≡◌, ℕ, ◌+◌, ◌*◌, ◌^◌, ◌<◌, ◌≤◌, Option, Some, None, List, arith, sym, ap, subst, ◌∙◌}
+use Rattle.std.specs.Prelude.{IfSome}
 use Rattle.page_face.specs.FreeList.{PageMap}
-use Rattle.page_face.specs.declared.fault.Damage.{Damage}
-use Rattle.page_face.specs.declared.fault.PageFault.{PageFault}
-use Rattle.page_face.specs.declared.fault.PageFault.TheVariants.{Damaged}
-use Rattle.page_face.specs.declared.fault.Rule.TheVariants.{Order}
 use Rattle.btree_nodes.specs.Rows.{Row, lookup, first_from}
 use Rattle.btree_nodes.specs.Tree.{IsMap, map_rows, map_uses}
 use Rattle.paged_map.specs.Answers.{HoldsRow, Locates}
@@ -59,9 +56,13 @@ module _ (pages : PageMap) (root node from key : ℕ) (small : from < 2 ^ 64) (k
     pub next-passed : (n ≡ node → ⊥) → Next (bytes_in pages root) node from None
     next-passed other = next-away (map_rows rows_form pages root) 0 (256 ^ rows_form.key) node from small (map-within rows_form pages root map) n w row.1 fits first-is other
 
--- the damage that a fault of this rule names has this rule
-pub order-at : (leaf : ℕ) (fault : PageFault) (damage : Damage) → fault ≡ Damaged (record { page = leaf; rule = Order }) → fault ≡ Damaged damage → damage.rule ≡ Order
-order-at leaf fault damage is e =
-    let same : Damaged (record { page = leaf; rule = Order }) ≡ Damaged damage = sym is ∙ e in
-    let one : record { page = leaf; rule = Order } ≡ damage = cc same in
-    sym (ap (λ (d : Damage). d.rule) one)
+key-within : (node from n w : ℕ) → n ≡ node → key_of node from ≤ key_of n w → from ≤ w
+unfolding key_of
+key-within node from n w same h = let t : node * 2 ^ 64 + from ≤ node * 2 ^ 64 + w = subst (λ (k : ℕ). node * 2 ^ 64 + from ≤ k * 2 ^ 64 + w) same h in omega arith
+
+-- where the row that follows is the node's, its word isn't less than the one asked for, on any pages
+pub next-on : (at : Option ℕ) (leaf key found node from n w : ℕ) → at ≡ Some leaf → IfSome at (λ page. key ≤ found) → key ≡ key_of node from → found ≡ key_of n w → n ≡ node → from ≤ w
+next-on at leaf key found node from n w some on key_is found_is same =
+    let less : key ≤ found = subst (λ (o : Option ℕ). IfSome o (λ page. key ≤ found)) some on in
+    let two : key_of node from ≤ key_of n w = subst (λ (k : ℕ). k ≤ key_of n w) key_is (subst (λ (k : ℕ). key ≤ k) found_is less) in
+    key-within node from n w same two

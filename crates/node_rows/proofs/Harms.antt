@@ -24,7 +24,7 @@ harm-stayed old new count count' first root before asked damage d stays =
     (λ r. inr r) d
 
 -- damage that a later step found
-pub harm-later : {root : ℕ} (mine : ℕ → ℕ) (pages : PageMap) (count first : ℕ) (before middle asked : List ℕ) (damage : Damage) → AsksOnly mine before middle
+pub harm-later : (root : ℕ) (mine : ℕ → ℕ) (pages : PageMap) (count first : ℕ) (before middle asked : List ℕ) (damage : Damage) → AsksOnly mine before middle
     → IsRowsHarm pages count first root middle asked damage → IsRowsHarm pages count first root before asked damage
-harm-later {root} mine pages count first before middle asked damage m h =
+harm-later root mine pages count first before middle asked damage m h =
     ⊎_elim {C = IsRowsHarm pages count first root before asked damage} (λ d. inl (d.0, asked-before mine before middle asked damage.page m d.1)) (λ r. inr r) h

@@ -79,7 +79,7 @@ returns-in-Err-clause-damaged g c = λ told damage e.
     let p = g.P.Pages in
     let f = c.fetch.ensures.looks.frame in
     let d = c.fetch.ensures.damaged damage (c.in-Err.is ∙ ap Err (same-fault {T = Climbed} _ _ e)) in
-    page-harm (p.pages c.args.pages.now) (p.pages c.fetch.new.pages) (p.count c.args.pages.now) (p.count c.fetch.new.pages) (p.first c.fetch.new.pages) (p.asked c.args.pages.now) (p.asked c.fetch.new.pages) c.args.root damage
+    page-harm _ (p.pages c.args.pages.now) (p.pages c.fetch.new.pages) (p.count c.args.pages.now) (p.count c.fetch.new.pages) (p.first c.fetch.new.pages) (p.asked c.args.pages.now) (p.asked c.fetch.new.pages) c.args.root damage
     f.pages f.count d.0 d.1 d.2
 
 pub returns-then-level-gt-LEVEL_MAX-clause-damaged : goal.returns-then-level-gt-LEVEL_MAX-clause-damaged
@@ -89,7 +89,7 @@ returns-then-level-gt-LEVEL_MAX-clause-damaged g c = λ told damage e.
     let high = c.if-level-gt-LEVEL_MAX.true in
     let same : Damaged damage ≡ Damaged (record { page = c.args.root; rule = Level }) = sym (same-fault {T = Climbed} _ _ e) ∙ c.damaged.ensures in
     let is : damage ≡ record { page = c.args.root; rule = Level } = cc same in
-    high-harm (p.pages c.args.pages.now) (p.pages c.fetch.new.pages) (p.count c.fetch.new.pages) (p.first c.fetch.new.pages) (p.asked c.args.pages.now) (p.asked c.fetch.new.pages) c.args.root c.in-Ok.level c.fetch.new.draft.bytes damage
+    high-harm _ (p.pages c.args.pages.now) (p.pages c.fetch.new.pages) (p.count c.fetch.new.pages) (p.first c.fetch.new.pages) (p.asked c.args.pages.now) (p.asked c.fetch.new.pages) c.args.root c.in-Ok.level c.fetch.new.draft.bytes damage
     f.pages is c.in-Ok.ensures.here c.in-Ok.ensures.bytes c.in-Ok.ensures.level (omega arith)
 
 pub returns-in-Err-put_below-clause-damaged : goal.returns-in-Err-put_below-clause-damaged

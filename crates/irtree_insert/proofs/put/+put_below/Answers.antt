@@ -293,7 +293,7 @@ returns-clause-frame g t c =
 pub returns-then-level-goal-clause-damaged : goal.returns-then-level-goal-clause-damaged
 returns-then-level-goal-clause-damaged g t c = λ before told is used level asked damage e.
     let p = g.P.Pages in
-    rows-harm (p.pages c.add.new.pages) (p.count c.add.new.pages) (p.first c.add.new.pages) before (p.asked c.args.pages.now) (p.asked c.add.new.pages) c.args.page damage asked (c.add.ensures.damaged told damage e)
+    rows-harm _ (p.pages c.add.new.pages) (p.count c.add.new.pages) (p.first c.add.new.pages) before (p.asked c.args.pages.now) (p.asked c.add.new.pages) c.args.page damage asked (c.add.ensures.damaged told damage e)
 
 pub returns-in_err-known-clause-damaged : goal.returns-in_err-known-clause-damaged
 returns-in_err-known-clause-damaged g t c = λ before told is used level asked damage.
@@ -301,7 +301,7 @@ returns-in_err-known-clause-damaged g t c = λ before told is used level asked d
     let f = c.rows_at.ensures.frame in
     let r = err_from_is_err_and c.from_residual.result c.from_residual.ensures.1 in
     λ e. (let same : c.in_err-known.field-0.0 ≡ Damaged damage = cc (r.1, r.2, e) in
-    rows-harm (p.pages c.rows_at.new.pages) (p.count c.rows_at.new.pages) (p.first c.rows_at.new.pages) before (p.asked c.args.pages.now) (p.asked c.rows_at.new.pages) c.args.page damage asked
+    rows-harm _ (p.pages c.rows_at.new.pages) (p.count c.rows_at.new.pages) (p.first c.rows_at.new.pages) before (p.asked c.args.pages.now) (p.asked c.rows_at.new.pages) c.args.page damage asked
     (harm-looked (p.pages c.args.pages.now) (p.pages c.rows_at.new.pages) (p.count c.args.pages.now) (p.count c.rows_at.new.pages) (p.first c.rows_at.new.pages) c.args.tree.now.rows (p.asked c.args.pages.now) (p.asked c.rows_at.new.pages) damage
     f.pages f.count (c.in_err-known.ensures.damaged told damage (ap Err same))))
 
@@ -327,7 +327,7 @@ returns-in_err-fetch_at-clause-damaged g t c = λ before told is used level aske
     let kept = stored-child c.args.draft.now at child used (omega arith) c.choose-at.ensures.used.0 c.choose-at.ensures.used.1 c.child_at-child.ensures.number in
     let r = err_from_is_err_and c.from_residual-in_err-fetch_at.result c.from_residual-in_err-fetch_at.ensures.1 in
     λ e. (let same : c.in_err-fetch_at.field-0.0 ≡ Damaged damage = cc (r.1, r.2, e) in
-    child-harm (p.pages c.args.pages.now) (p.pages c.rows_at.new.pages) (p.pages c.fetch_at.new.pages) (p.count c.rows_at.new.pages) (p.count c.fetch_at.new.pages) (p.first c.fetch_at.new.pages) before a0 a1 a2
+    child-harm _ (p.pages c.args.pages.now) (p.pages c.rows_at.new.pages) (p.pages c.fetch_at.new.pages) (p.count c.rows_at.new.pages) (p.count c.fetch_at.new.pages) (p.first c.fetch_at.new.pages) before a0 a1 a2
     c.args.draft.now.bytes l c.args.page at child damage f1.pages f2.pages f2.count is up kept asked more1 c.fetch_at.ensures.more (c.in_err-fetch_at.ensures.damaged damage (ap Err same)))
 
 pub returns-in_err-fetch_at-clause-more : goal.returns-in_err-fetch_at-clause-more
@@ -394,8 +394,8 @@ returns-in_err-theirs-clause-damaged g t c = λ before told is used level asked 
     let a4 : List ℕ = p.asked c.relink.new.pages in
     let r = err_from_is_err_and c.from_residual-in_err-theirs.result c.from_residual-in_err-theirs.ensures.1 in
     λ e. (let same : c.in_err-theirs.field-0.0 ≡ Damaged damage = cc (r.1, r.2, e) in
-    rows-harm (p.pages c.relink.new.pages) (p.count c.relink.new.pages) (p.first c.relink.new.pages) before a0 a4 c.args.page damage asked
-    (harm-later (λ _. 1) (p.pages c.relink.new.pages) (p.count c.relink.new.pages) (p.first c.relink.new.pages) a0 a3 a4 damage more3 (c.in_err-theirs.ensures.damaged told3 damage (ap Err same))))
+    rows-harm _ (p.pages c.relink.new.pages) (p.count c.relink.new.pages) (p.first c.relink.new.pages) before a0 a4 c.args.page damage asked
+    (harm-later _ (λ _. 1) (p.pages c.relink.new.pages) (p.count c.relink.new.pages) (p.first c.relink.new.pages) a0 a3 a4 damage more3 (c.in_err-theirs.ensures.damaged told3 damage (ap Err same))))
 
 pub returns-in_err-theirs-clause-more : goal.returns-in_err-theirs-clause-more
 returns-in_err-theirs-clause-more g t c = λ told.
@@ -435,8 +435,8 @@ returns-clause-damaged g t c = λ before told is used level asked damage e.
     let more4 : AsksOnly (λ _. 1) a0 a4 = asks-further (λ _. 1) a0 a3 a4 more3 (c.relink.ensures.more told3) in
     let told4 : AreTold (p.pages c.relink.new.pages) (p.count c.relink.new.pages) = c.in_ok-theirs.ensures.told told3 in
     let a5 : List ℕ = p.asked c.finish.new.pages in
-    rows-harm (p.pages c.finish.new.pages) (p.count c.finish.new.pages) (p.first c.finish.new.pages) before a0 a5 c.args.page damage asked
-    (harm-later (λ _. 1) (p.pages c.finish.new.pages) (p.count c.finish.new.pages) (p.first c.finish.new.pages) a0 a4 a5 damage more4 (c.finish.ensures.damaged told4 damage e))
+    rows-harm _ (p.pages c.finish.new.pages) (p.count c.finish.new.pages) (p.first c.finish.new.pages) before a0 a5 c.args.page damage asked
+    (harm-later _ (λ _. 1) (p.pages c.finish.new.pages) (p.count c.finish.new.pages) (p.first c.finish.new.pages) a0 a4 a5 damage more4 (c.finish.ensures.damaged told4 damage e))
 
 pub returns-clause-told : goal.returns-clause-told
 returns-clause-told g t c = λ told.

@@ -77,7 +77,7 @@ returns-in_err-edit_one-clause-damaged g c = λ told damage.
     let f = c.open.ensures.frame in
     let r = err_from_is_err_and c.from_residual-in_err-edit_one.result c.from_residual-in_err-edit_one.ensures.1 in
     λ e. (let same : c.in_err-edit_one.field-0.0 ≡ Damaged damage = cc (r.1, r.2, e) in
-    harm-later (map_uses rows_form (p.pages c.args.pages.now) c.args.tree.now.rows) (p.pages c.edit_one.new.pages) (p.count c.edit_one.new.pages) (p.first c.edit_one.new.pages)
+    harm-later _ (map_uses rows_form (p.pages c.args.pages.now) c.args.tree.now.rows) (p.pages c.edit_one.new.pages) (p.count c.edit_one.new.pages) (p.first c.edit_one.new.pages)
     (p.asked c.args.pages.now) (p.asked c.open.new.pages) (p.asked c.edit_one.new.pages) damage (c.open.ensures.own told) (c.in_err-edit_one.ensures.damaged (rw (f.pages, f.count) told) damage (ap Err same)))
 
 pub returns-in_err-edit_one-clause-more : goal.returns-in_err-edit_one-clause-more

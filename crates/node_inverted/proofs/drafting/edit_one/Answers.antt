@@ -57,7 +57,7 @@ pub returns-in_ok-spot-in-Raise-clause-damaged : goal.returns-in_ok-spot-in-Rais
 returns-in_ok-spot-in-Raise-clause-damaged g c = λ told damage e.
     let p = g.P.Pages in
     let f = c.find_row.ensures.frame in
-    harm-later (map_uses rows_form (p.pages c.args.pages.now) c.args.tree.now.rows) (p.pages c.set_byte.new.pages) (p.count c.set_byte.new.pages) (p.first c.set_byte.new.pages)
+    harm-later _ (map_uses rows_form (p.pages c.args.pages.now) c.args.tree.now.rows) (p.pages c.set_byte.new.pages) (p.count c.set_byte.new.pages) (p.first c.set_byte.new.pages)
     (p.asked c.args.pages.now) (p.asked c.find_row.new.pages) (p.asked c.set_byte.new.pages) damage (c.find_row.ensures.own told) (c.set_byte.ensures.damaged (rw (f.pages, f.count) told) damage e)
 
 pub returns-in_ok-spot-in-Raise-clause-more : goal.returns-in_ok-spot-in-Raise-clause-more

@@ -22,7 +22,7 @@ loop-number-preserved g c = record {
       let s = c.in_ok-left.ensures.turns t.turn.free t.turn.rows in
       record {
         bytes = s.bytes;
-        turn = turns-further before c.args.tree.now.rows (g.P.Pages.pages c.loop-number.pages) (g.P.Pages.count c.loop-number.pages) (g.P.Pages.first c.loop-number.pages) c.loop-number.changed.rows t.bytes t.turn
+        turn = turns-further before c.args.tree.now.rows (g.P.Pages.pages c.loop-number.pages) (g.P.Pages.count c.loop-number.pages) (g.P.Pages.first c.loop-number.pages) c.loop-number.tree.rows t.bytes t.turn
             (g.P.Pages.pages c.edit_leaf.new.pages) (g.P.Pages.count c.edit_leaf.new.pages) (g.P.Pages.first c.edit_leaf.new.pages) c.edit_leaf.new.tree.rows s.bytes s.turn;
         is = s.is ∙ ap (λ (b : Bytes). edited_by c.args.node c.in-Some.behind (edited c.args.node c.in-Some.number c.in-Some.first b)) (fun_ext (λ n. fun_ext (λ w. fun_ext (λ i. t.turn.is n w i))))
             ∙ sym (c.in-Some.ensures.some c.args.node t.bytes) ∙ t.is;
@@ -38,14 +38,14 @@ returns-in_err-left-clause-honest g c free rows told damage =
     let t = c.loop-number.invariant.turns free rows in
     let p = err_from_is_err_and c.from_residual.result c.from_residual.ensures.1 in
     λ e. (let same : c.in_err-left.field-0.0 ≡ Damaged damage = cc (p.1, p.2, e) in
-    c.in_err-left.ensures.honest t.turn.free t.turn.rows (told-turned before c.args.tree.now.rows (g.P.Pages.pages c.loop-number.pages) (g.P.Pages.count c.loop-number.pages) (g.P.Pages.first c.loop-number.pages) c.loop-number.changed.rows
+    c.in_err-left.ensures.honest t.turn.free t.turn.rows (told-turned before c.args.tree.now.rows (g.P.Pages.pages c.loop-number.pages) (g.P.Pages.count c.loop-number.pages) (g.P.Pages.first c.loop-number.pages) c.loop-number.tree.rows
     t.bytes t.turn told) damage (ap Err same))
 
 pub returns-clause-turns : goal.returns-clause-turns
 returns-clause-turns g c = λ free rows.
     let before : View = view (g.P.Pages.pages c.args.pages.now) (g.P.Pages.count c.args.pages.now) (g.P.Pages.first c.args.pages.now) free in
     let t = c.loop-number.invariant.turns free rows in
-    subst (Turns before c.args.tree.now.rows (g.P.Pages.pages c.loop-number.pages) (g.P.Pages.count c.loop-number.pages) (g.P.Pages.first c.loop-number.pages) c.loop-number.changed.rows)
+    subst (Turns before c.args.tree.now.rows (g.P.Pages.pages c.loop-number.pages) (g.P.Pages.count c.loop-number.pages) (g.P.Pages.first c.loop-number.pages) c.loop-number.tree.rows)
     (sym (c.in_default.ensures.none c.args.node t.bytes) ∙ t.is) t.turn
 
 pub returns-in_err-left-clause-damaged : goal.returns-in_err-left-clause-damaged
@@ -53,7 +53,7 @@ returns-in_err-left-clause-damaged g c = λ told damage.
     let p = g.P.Pages in
     let r = err_from_is_err_and c.from_residual.result c.from_residual.ensures.1 in
     λ e. (let same : c.in_err-left.field-0.0 ≡ Damaged damage = cc (r.1, r.2, e) in
-    harm-later (λ _. 1) (p.pages c.edit_leaf.new.pages) (p.count c.edit_leaf.new.pages) (p.first c.edit_leaf.new.pages) (p.asked c.args.pages.now) (p.asked c.loop-number.pages) (p.asked c.edit_leaf.new.pages) damage
+    harm-later _ (λ _. 1) (p.pages c.edit_leaf.new.pages) (p.count c.edit_leaf.new.pages) (p.first c.edit_leaf.new.pages) (p.asked c.args.pages.now) (p.asked c.loop-number.pages) (p.asked c.edit_leaf.new.pages) damage
     (c.loop-number.invariant.more told) (c.in_err-left.ensures.damaged (c.loop-number.invariant.told told) damage (ap Err same)))
 
 pub returns-in_err-left-clause-more : goal.returns-in_err-left-clause-more

@@ -76,7 +76,7 @@ returns-in_err-set_rows-clause-damaged g c = λ told damage.
     let f = c.clear_next.ensures.frame in
     let r = err_from_is_err_and c.from_residual-in_err-set_rows.result c.from_residual-in_err-set_rows.ensures.1 in
     λ e. (let same : c.in_err-set_rows.field-0.0 ≡ Damaged damage = cc (r.1, r.2, e) in
-    harm-later (map_uses rows_form (p.pages c.args.pages.now) c.args.tree.now.rows) (p.pages c.set_rows.new.pages) (p.count c.set_rows.new.pages) (p.first c.set_rows.new.pages)
+    harm-later _ (map_uses rows_form (p.pages c.args.pages.now) c.args.tree.now.rows) (p.pages c.set_rows.new.pages) (p.count c.set_rows.new.pages) (p.first c.set_rows.new.pages)
     (p.asked c.args.pages.now) (p.asked c.clear_next.new.pages) (p.asked c.set_rows.new.pages) damage (c.clear_next.ensures.own told) (c.in_err-set_rows.ensures.damaged (rw (f.pages, f.count) told) damage (ap Err same)))
 
 pub returns-in_err-set_rows-clause-more : goal.returns-in_err-set_rows-clause-more

@@ -46,12 +46,12 @@ loop-from-preserved g c = record {
   dropping = λ free rows.
       let before : View = view (g.P.Pages.pages c.args.pages.now) (g.P.Pages.count c.args.pages.now) (g.P.Pages.first c.args.pages.now) free in
       let b : Bytes = bytes_in (g.P.Pages.pages c.args.pages.now) c.args.tree.now.rows in
-      c.in_ok-from.ensures.dropping before c.args.tree.now.rows b (c.loop-from.invariant.copy free rows) (subst (λ (o : Option ℕ). IsDropping before c.args.tree.now.rows (g.P.Pages.pages c.loop-from.pages) (g.P.Pages.count c.loop-from.pages) (g.P.Pages.first c.loop-from.pages) c.loop-from.changed.rows
+      c.in_ok-from.ensures.dropping before c.args.tree.now.rows b (c.loop-from.invariant.copy free rows) (subst (λ (o : Option ℕ). IsDropping before c.args.tree.now.rows (g.P.Pages.pages c.loop-from.pages) (g.P.Pages.count c.loop-from.pages) (g.P.Pages.first c.loop-from.pages) c.loop-from.tree.rows
       c.args.node b (reached o) c.loop-from.rows.items) c.in-Some.is (c.loop-from.invariant.dropping free rows));
   copy = λ free rows.
       let before : View = view (g.P.Pages.pages c.args.pages.now) (g.P.Pages.count c.args.pages.now) (g.P.Pages.first c.args.pages.now) free in
       let b : Bytes = bytes_in (g.P.Pages.pages c.args.pages.now) c.args.tree.now.rows in
-      c.in_ok-from.ensures.copy before c.args.tree.now.rows b (c.loop-from.invariant.copy free rows) (subst (λ (o : Option ℕ). IsDropping before c.args.tree.now.rows (g.P.Pages.pages c.loop-from.pages) (g.P.Pages.count c.loop-from.pages) (g.P.Pages.first c.loop-from.pages) c.loop-from.changed.rows
+      c.in_ok-from.ensures.copy before c.args.tree.now.rows b (c.loop-from.invariant.copy free rows) (subst (λ (o : Option ℕ). IsDropping before c.args.tree.now.rows (g.P.Pages.pages c.loop-from.pages) (g.P.Pages.count c.loop-from.pages) (g.P.Pages.first c.loop-from.pages) c.loop-from.tree.rows
       c.args.node b (reached o) c.loop-from.rows.items) c.in-Some.is (c.loop-from.invariant.dropping free rows));
   told = λ t. c.in_ok-from.ensures.told (c.loop-from.invariant.told t);
   more = λ t. asks-further (λ _. 1) _ _ _ (c.loop-from.invariant.more t) (c.drop_next.ensures.more (c.loop-from.invariant.told t));
@@ -70,10 +70,10 @@ returns-clause-turns g c = λ free rows.
     turns-as before root (g.P.Pages.pages c.set_rows.new.pages) (g.P.Pages.count c.set_rows.new.pages) (g.P.Pages.first c.set_rows.new.pages) c.set_rows.new.tree.rows
     (until (reached c.loop-from.from) (f b) b) (f b)
     (λ n w i. ap (λ (k : ℕ). until k (f b) b n w i) e ∙ all (2 ^ 64) (f b) b (λ n' w' i' l. dropped-idle c.args.node b w' (λ j. large c.args.node w' j l) n' i') n w i)
-    (dropping-set before root (g.P.Pages.pages c.loop-from.pages) (g.P.Pages.count c.loop-from.pages) (g.P.Pages.first c.loop-from.pages) c.loop-from.changed.rows c.args.node b (reached c.loop-from.from) c.loop-from.rows.items h
+    (dropping-set before root (g.P.Pages.pages c.loop-from.pages) (g.P.Pages.count c.loop-from.pages) (g.P.Pages.first c.loop-from.pages) c.loop-from.tree.rows c.args.node b (reached c.loop-from.from) c.loop-from.rows.items h
     (g.P.Pages.pages c.set_rows.new.pages) (g.P.Pages.count c.set_rows.new.pages) (g.P.Pages.first c.set_rows.new.pages) c.set_rows.new.tree.rows
-    (subst (λ (rs : List NodeRow). Turns (view (g.P.Pages.pages c.loop-from.pages) (g.P.Pages.count c.loop-from.pages) (g.P.Pages.first c.loop-from.pages) h.turn.free) c.loop-from.changed.rows
-    (g.P.Pages.pages c.set_rows.new.pages) (g.P.Pages.count c.set_rows.new.pages) (g.P.Pages.first c.set_rows.new.pages) c.set_rows.new.tree.rows (with_rows c.args.node rs (bytes_in (g.P.Pages.pages c.loop-from.pages) c.loop-from.changed.rows)))
+    (subst (λ (rs : List NodeRow). Turns (view (g.P.Pages.pages c.loop-from.pages) (g.P.Pages.count c.loop-from.pages) (g.P.Pages.first c.loop-from.pages) h.turn.free) c.loop-from.tree.rows
+    (g.P.Pages.pages c.set_rows.new.pages) (g.P.Pages.count c.set_rows.new.pages) (g.P.Pages.first c.set_rows.new.pages) c.set_rows.new.tree.rows (with_rows c.args.node rs (bytes_in (g.P.Pages.pages c.loop-from.pages) c.loop-from.tree.rows)))
     c.deref.ensures.value (c.in_ok-set_rows.ensures.turns h.turn.free h.turn.rows)))
 
 pub returns-in_err-from-clause-honest : goal.returns-in_err-from-clause-honest
@@ -82,7 +82,7 @@ returns-in_err-from-clause-honest g c free rows told damage =
     let h = c.loop-from.invariant.dropping free rows in
     let p = err_from_is_err_and c.from_residual.result c.from_residual.ensures.1 in
     λ e. (let same : c.in_err-from.field-0.0 ≡ Damaged damage = cc (p.1, p.2, e) in
-    c.in_err-from.ensures.honest h.turn.free h.turn.rows (told-turned before c.args.tree.now.rows (g.P.Pages.pages c.loop-from.pages) (g.P.Pages.count c.loop-from.pages) (g.P.Pages.first c.loop-from.pages) c.loop-from.changed.rows
+    c.in_err-from.ensures.honest h.turn.free h.turn.rows (told-turned before c.args.tree.now.rows (g.P.Pages.pages c.loop-from.pages) (g.P.Pages.count c.loop-from.pages) (g.P.Pages.first c.loop-from.pages) c.loop-from.tree.rows
     h.bytes h.turn told) damage (ap Err same))
 
 pub returns-in_err-set_rows-clause-honest : goal.returns-in_err-set_rows-clause-honest
@@ -91,7 +91,7 @@ returns-in_err-set_rows-clause-honest g c free rows told damage =
     let h = c.loop-from.invariant.dropping free rows in
     let p = err_from_is_err_and c.from_residual-in_err-set_rows.result c.from_residual-in_err-set_rows.ensures.1 in
     λ e. (let same : c.in_err-set_rows.field-0.0 ≡ Damaged damage = cc (p.1, p.2, e) in
-    c.in_err-set_rows.ensures.honest h.turn.free h.turn.rows (told-turned before c.args.tree.now.rows (g.P.Pages.pages c.loop-from.pages) (g.P.Pages.count c.loop-from.pages) (g.P.Pages.first c.loop-from.pages) c.loop-from.changed.rows
+    c.in_err-set_rows.ensures.honest h.turn.free h.turn.rows (told-turned before c.args.tree.now.rows (g.P.Pages.pages c.loop-from.pages) (g.P.Pages.count c.loop-from.pages) (g.P.Pages.first c.loop-from.pages) c.loop-from.tree.rows
     h.bytes h.turn told) damage (ap Err same))
 
 pub returns-in_err-from-clause-damaged : goal.returns-in_err-from-clause-damaged
@@ -99,7 +99,7 @@ returns-in_err-from-clause-damaged g c = λ told damage.
     let p = g.P.Pages in
     let r = err_from_is_err_and c.from_residual.result c.from_residual.ensures.1 in
     λ e. (let same : c.in_err-from.field-0.0 ≡ Damaged damage = cc (r.1, r.2, e) in
-    harm-later (λ _. 1) (p.pages c.drop_next.new.pages) (p.count c.drop_next.new.pages) (p.first c.drop_next.new.pages) (p.asked c.args.pages.now) (p.asked c.loop-from.pages) (p.asked c.drop_next.new.pages) damage
+    harm-later _ (λ _. 1) (p.pages c.drop_next.new.pages) (p.count c.drop_next.new.pages) (p.first c.drop_next.new.pages) (p.asked c.args.pages.now) (p.asked c.loop-from.pages) (p.asked c.drop_next.new.pages) damage
     (c.loop-from.invariant.more told) (c.in_err-from.ensures.damaged (c.loop-from.invariant.told told) damage (ap Err same)))
 
 pub returns-in_err-from-clause-more : goal.returns-in_err-from-clause-more
@@ -110,7 +110,7 @@ returns-in_err-set_rows-clause-damaged g c = λ told damage.
     let p = g.P.Pages in
     let r = err_from_is_err_and c.from_residual-in_err-set_rows.result c.from_residual-in_err-set_rows.ensures.1 in
     λ e. (let same : c.in_err-set_rows.field-0.0 ≡ Damaged damage = cc (r.1, r.2, e) in
-    harm-later (λ _. 1) (p.pages c.set_rows.new.pages) (p.count c.set_rows.new.pages) (p.first c.set_rows.new.pages) (p.asked c.args.pages.now) (p.asked c.loop-from.pages) (p.asked c.set_rows.new.pages) damage
+    harm-later _ (λ _. 1) (p.pages c.set_rows.new.pages) (p.count c.set_rows.new.pages) (p.first c.set_rows.new.pages) (p.asked c.args.pages.now) (p.asked c.loop-from.pages) (p.asked c.set_rows.new.pages) damage
     (c.loop-from.invariant.more told) (c.in_err-set_rows.ensures.damaged (c.loop-from.invariant.told told) damage (ap Err same)))
 
 pub returns-in_err-set_rows-clause-more : goal.returns-in_err-set_rows-clause-more

@@ -13,9 +13,9 @@ abbrev pub invariant-loop-from : goal.invariant-loop-from
 invariant-loop-from g l =
     let p = g.P.Pages in
     record {
-      root : l.changed.root ≡ l.fn.tree.root;
+      root : l.tree.root ≡ l.fn.tree.root;
       dropping : (free : List ℕ) → IsRows (view (p.pages l.fn.pages) (p.count l.fn.pages) (p.first l.fn.pages) free) l.fn.tree.rows
-          → IsDropping (view (p.pages l.fn.pages) (p.count l.fn.pages) (p.first l.fn.pages) free) l.fn.tree.rows (p.pages l.pages) (p.count l.pages) (p.first l.pages) l.changed.rows
+          → IsDropping (view (p.pages l.fn.pages) (p.count l.fn.pages) (p.first l.fn.pages) free) l.fn.tree.rows (p.pages l.pages) (p.count l.pages) (p.first l.pages) l.tree.rows
           l.node (bytes_in (p.pages l.fn.pages) l.fn.tree.rows) (reached l.from) l.rows.items;
       copy : (free : List ℕ) → IsRows (view (p.pages l.fn.pages) (p.count l.fn.pages) (p.first l.fn.pages) free) l.fn.tree.rows → IsCopy (bytes_in (p.pages l.fn.pages) l.fn.tree.rows) l.node l.copy;
       told : AreTold (p.pages l.fn.pages) (p.count l.fn.pages) → AreTold (p.pages l.pages) (p.count l.pages);

@@ -45,12 +45,12 @@ loop-from-preserved g c = record {
   moving = λ free apart rows clear.
       let before : View = view (g.P.Pages.pages c.args.pages.now) (g.P.Pages.count c.args.pages.now) (g.P.Pages.first c.args.pages.now) free in
       let b : Bytes = bytes_in (g.P.Pages.pages c.args.pages.now) c.args.tree.now.rows in
-      c.in_ok-from.ensures.moving before c.args.tree.now.rows b apart clear (c.loop-from.invariant.copy free apart rows clear) (subst (λ (o : Option ℕ). IsMoving before c.args.tree.now.rows (g.P.Pages.pages c.loop-from.pages) (g.P.Pages.count c.loop-from.pages) (g.P.Pages.first c.loop-from.pages) c.loop-from.changed.rows
+      c.in_ok-from.ensures.moving before c.args.tree.now.rows b apart clear (c.loop-from.invariant.copy free apart rows clear) (subst (λ (o : Option ℕ). IsMoving before c.args.tree.now.rows (g.P.Pages.pages c.loop-from.pages) (g.P.Pages.count c.loop-from.pages) (g.P.Pages.first c.loop-from.pages) c.loop-from.tree.rows
       c.args.node c.args.slots c.args.to b (reached o) c.loop-from.stays.items c.loop-from.goes.items) c.in-Some.is (c.loop-from.invariant.moving free apart rows clear));
   copy = λ free apart rows clear.
       let before : View = view (g.P.Pages.pages c.args.pages.now) (g.P.Pages.count c.args.pages.now) (g.P.Pages.first c.args.pages.now) free in
       let b : Bytes = bytes_in (g.P.Pages.pages c.args.pages.now) c.args.tree.now.rows in
-      c.in_ok-from.ensures.copy before c.args.tree.now.rows b (c.loop-from.invariant.copy free apart rows clear) (subst (λ (o : Option ℕ). IsMoving before c.args.tree.now.rows (g.P.Pages.pages c.loop-from.pages) (g.P.Pages.count c.loop-from.pages) (g.P.Pages.first c.loop-from.pages) c.loop-from.changed.rows
+      c.in_ok-from.ensures.copy before c.args.tree.now.rows b (c.loop-from.invariant.copy free apart rows clear) (subst (λ (o : Option ℕ). IsMoving before c.args.tree.now.rows (g.P.Pages.pages c.loop-from.pages) (g.P.Pages.count c.loop-from.pages) (g.P.Pages.first c.loop-from.pages) c.loop-from.tree.rows
       c.args.node c.args.slots c.args.to b (reached o) c.loop-from.stays.items c.loop-from.goes.items) c.in-Some.is (c.loop-from.invariant.moving free apart rows clear));
   told = λ t. c.in_ok-from.ensures.told (c.loop-from.invariant.told t);
   more = λ t. asks-further (λ _. 1) _ _ _ (c.loop-from.invariant.more t) (c.move_next.ensures.more (c.loop-from.invariant.told t));
@@ -76,7 +76,7 @@ returns-in_err-from-clause-honest g c free apart rows clear told damage =
     let h = c.loop-from.invariant.moving free apart rows clear in
     let p = err_from_is_err_and c.from_residual.result c.from_residual.ensures.1 in
     λ e. (let same : c.in_err-from.field-0.0 ≡ Damaged damage = cc (p.1, p.2, e) in
-    c.in_err-from.ensures.honest h.turn.free h.turn.rows (told-turned before c.args.tree.now.rows (g.P.Pages.pages c.loop-from.pages) (g.P.Pages.count c.loop-from.pages) (g.P.Pages.first c.loop-from.pages) c.loop-from.changed.rows
+    c.in_err-from.ensures.honest h.turn.free h.turn.rows (told-turned before c.args.tree.now.rows (g.P.Pages.pages c.loop-from.pages) (g.P.Pages.count c.loop-from.pages) (g.P.Pages.first c.loop-from.pages) c.loop-from.tree.rows
     h.bytes h.turn told) damage (ap Err same))
 
 pub returns-in_err-set_parts-clause-honest : goal.returns-in_err-set_parts-clause-honest
@@ -85,7 +85,7 @@ returns-in_err-set_parts-clause-honest g c free apart rows clear told damage =
     let h = c.loop-from.invariant.moving free apart rows clear in
     let p = err_from_is_err_and c.from_residual-in_err-set_parts.result c.from_residual-in_err-set_parts.ensures.1 in
     λ e. (let same : c.in_err-set_parts.field-0.0 ≡ Damaged damage = cc (p.1, p.2, e) in
-    c.in_err-set_parts.ensures.honest h.turn.free h.turn.rows (told-turned before c.args.tree.now.rows (g.P.Pages.pages c.loop-from.pages) (g.P.Pages.count c.loop-from.pages) (g.P.Pages.first c.loop-from.pages) c.loop-from.changed.rows
+    c.in_err-set_parts.ensures.honest h.turn.free h.turn.rows (told-turned before c.args.tree.now.rows (g.P.Pages.pages c.loop-from.pages) (g.P.Pages.count c.loop-from.pages) (g.P.Pages.first c.loop-from.pages) c.loop-from.tree.rows
     h.bytes h.turn told) damage (ap Err same))
 
 pub returns-in_err-from-clause-damaged : goal.returns-in_err-from-clause-damaged
@@ -93,7 +93,7 @@ returns-in_err-from-clause-damaged g c = λ told damage.
     let p = g.P.Pages in
     let r = err_from_is_err_and c.from_residual.result c.from_residual.ensures.1 in
     λ e. (let same : c.in_err-from.field-0.0 ≡ Damaged damage = cc (r.1, r.2, e) in
-    harm-later (λ _. 1) (p.pages c.move_next.new.pages) (p.count c.move_next.new.pages) (p.first c.move_next.new.pages) (p.asked c.args.pages.now) (p.asked c.loop-from.pages) (p.asked c.move_next.new.pages) damage
+    harm-later _ (λ _. 1) (p.pages c.move_next.new.pages) (p.count c.move_next.new.pages) (p.first c.move_next.new.pages) (p.asked c.args.pages.now) (p.asked c.loop-from.pages) (p.asked c.move_next.new.pages) damage
     (c.loop-from.invariant.more told) (c.in_err-from.ensures.damaged (c.loop-from.invariant.told told) damage (ap Err same)))
 
 pub returns-in_err-from-clause-more : goal.returns-in_err-from-clause-more
@@ -104,7 +104,7 @@ returns-in_err-set_parts-clause-damaged g c = λ told damage.
     let p = g.P.Pages in
     let r = err_from_is_err_and c.from_residual-in_err-set_parts.result c.from_residual-in_err-set_parts.ensures.1 in
     λ e. (let same : c.in_err-set_parts.field-0.0 ≡ Damaged damage = cc (r.1, r.2, e) in
-    harm-later (λ _. 1) (p.pages c.set_parts.new.pages) (p.count c.set_parts.new.pages) (p.first c.set_parts.new.pages) (p.asked c.args.pages.now) (p.asked c.loop-from.pages) (p.asked c.set_parts.new.pages) damage
+    harm-later _ (λ _. 1) (p.pages c.set_parts.new.pages) (p.count c.set_parts.new.pages) (p.first c.set_parts.new.pages) (p.asked c.args.pages.now) (p.asked c.loop-from.pages) (p.asked c.set_parts.new.pages) damage
     (c.loop-from.invariant.more told) (c.in_err-set_parts.ensures.damaged (c.loop-from.invariant.told told) damage (ap Err same)))
 
 pub returns-in_err-set_parts-clause-more : goal.returns-in_err-set_parts-clause-more

@@ -14,10 +14,10 @@ abbrev pub invariant-loop-from : goal.invariant-loop-from
 invariant-loop-from g l =
     let p = g.P.Pages in
     record {
-      root : l.changed.root ≡ l.fn.tree.root;
+      root : l.tree.root ≡ l.fn.tree.root;
       moving : (free : List ℕ) → (l.node ≡ l.to → ⊥) → IsRows (view (p.pages l.fn.pages) (p.count l.fn.pages) (p.first l.fn.pages) free) l.fn.tree.rows
           → HasNone (bytes_in (p.pages l.fn.pages) l.fn.tree.rows) l.to
-          → IsMoving (view (p.pages l.fn.pages) (p.count l.fn.pages) (p.first l.fn.pages) free) l.fn.tree.rows (p.pages l.pages) (p.count l.pages) (p.first l.pages) l.changed.rows
+          → IsMoving (view (p.pages l.fn.pages) (p.count l.fn.pages) (p.first l.fn.pages) free) l.fn.tree.rows (p.pages l.pages) (p.count l.pages) (p.first l.pages) l.tree.rows
           l.node l.slots l.to (bytes_in (p.pages l.fn.pages) l.fn.tree.rows) (reached l.from) l.stays.items l.goes.items;
       copy : (free : List ℕ) → (l.node ≡ l.to → ⊥) → IsRows (view (p.pages l.fn.pages) (p.count l.fn.pages) (p.first l.fn.pages) free) l.fn.tree.rows
           → HasNone (bytes_in (p.pages l.fn.pages) l.fn.tree.rows) l.to

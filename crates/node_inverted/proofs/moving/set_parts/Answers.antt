@@ -48,7 +48,7 @@ returns-in_err-set_rows-2-clause-damaged g c = λ told damage.
     let p = g.P.Pages in
     let r = err_from_is_err_and c.from_residual-in_err-set_rows-2.result c.from_residual-in_err-set_rows-2.ensures.1 in
     λ e. (let same : c.in_err-set_rows-2.field-0.0 ≡ Damaged damage = cc (r.1, r.2, e) in
-    harm-later (λ _. 1) (p.pages c.set_rows-2.new.pages) (p.count c.set_rows-2.new.pages) (p.first c.set_rows-2.new.pages) (p.asked c.args.pages.now) (p.asked c.set_rows.new.pages) (p.asked c.set_rows-2.new.pages) damage
+    harm-later _ (λ _. 1) (p.pages c.set_rows-2.new.pages) (p.count c.set_rows-2.new.pages) (p.first c.set_rows-2.new.pages) (p.asked c.args.pages.now) (p.asked c.set_rows.new.pages) (p.asked c.set_rows-2.new.pages) damage
     (c.set_rows.ensures.more told) (c.in_err-set_rows-2.ensures.damaged (c.in_ok-set_rows.ensures.told told) damage (ap Err same)))
 
 pub returns-in_err-set_rows-2-clause-more : goal.returns-in_err-set_rows-2-clause-more

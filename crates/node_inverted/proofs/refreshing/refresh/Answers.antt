@@ -67,7 +67,7 @@ returns-clause-turns g c = λ free rows apart.
     let begun = refresh-begins before root rows (g.P.Pages.pages c.next_in-2.new.pages) (g.P.Pages.count c.next_in-2.new.pages) (g.P.Pages.first c.next_in-2.new.pages) c.args.node c.args.slot c.args.child c.in_ok-below.below c.in_ok-above.above
     (two.pages ∙ one.pages) (two.count ∙ one.count) (two.first ∙ one.first) (c.in_ok-below.ensures.next b rows.kept.map (λ w i l. refl) none_low) high in
     let none : lesser_of (word_of c.loop-number.below) (word_of c.loop-number.above) ≡ None = sym c.next_word.ensures ∙ c.in_default.is in
-    refreshed-all before root (g.P.Pages.pages c.loop-number.pages) (g.P.Pages.count c.loop-number.pages) (g.P.Pages.first c.loop-number.pages) c.loop-number.changed.rows c.args.node c.args.slot c.args.child b c.loop-number.below c.loop-number.above bounded none
+    refreshed-all before root (g.P.Pages.pages c.loop-number.pages) (g.P.Pages.count c.loop-number.pages) (g.P.Pages.first c.loop-number.pages) c.loop-number.tree.rows c.args.node c.args.slot c.args.child b c.loop-number.below c.loop-number.above bounded none
     (c.loop-number.invariant.turns before root b bounded apart begun held_low held_high).0
 
 pub returns-in_err-refresh_word-clause-honest : goal.returns-in_err-refresh_word-clause-honest
@@ -90,7 +90,7 @@ returns-in_err-refresh_word-clause-honest g c = λ free rows apart told damage.
     (two.pages ∙ one.pages) (two.count ∙ one.count) (two.first ∙ one.first) (c.in_ok-below.ensures.next b rows.kept.map (λ w i l. refl) none_low) high in
     let first : lesser_of (word_of c.loop-number.below) (word_of c.loop-number.above) ≡ Some c.in-Some.number = sym c.next_word.ensures ∙ c.in-Some.is in
     let h = (c.loop-number.invariant.turns before root b bounded apart begun held_low held_high).0 in
-    let still = told-turned before root (g.P.Pages.pages c.loop-number.pages) (g.P.Pages.count c.loop-number.pages) (g.P.Pages.first c.loop-number.pages) c.loop-number.changed.rows (until h.k (refreshed c.args.node c.args.slot c.args.child b) b) h.turn told in
+    let still = told-turned before root (g.P.Pages.pages c.loop-number.pages) (g.P.Pages.count c.loop-number.pages) (g.P.Pages.first c.loop-number.pages) c.loop-number.tree.rows (until h.k (refreshed c.args.node c.args.slot c.args.child b) b) h.turn told in
     let p = err_from_is_err_and c.from_residual-in_err-refresh_word.result c.from_residual-in_err-refresh_word.ensures.1 in
     λ e. (let same : c.in_err-refresh_word.field-0.0 ≡ Damaged damage = cc (p.1, p.2, e) in
     c.in_err-refresh_word.ensures.honest before root b apart first h still damage (ap Err same))
@@ -135,7 +135,7 @@ returns-in_err-above-clause-damaged g c = λ told damage.
     let two = c.next_in-2.ensures.frame in
     let r = err_from_is_err_and c.from_residual-in_err-above.result c.from_residual-in_err-above.ensures.1 in
     λ e. (let same : c.in_err-above.field-0.0 ≡ Damaged damage = cc (r.1, r.2, e) in
-    harm-later (map_uses rows_form (p.pages c.args.pages.now) c.args.tree.now.rows) (p.pages c.next_in-2.new.pages) (p.count c.next_in-2.new.pages) (p.first c.next_in-2.new.pages)
+    harm-later _ (map_uses rows_form (p.pages c.args.pages.now) c.args.tree.now.rows) (p.pages c.next_in-2.new.pages) (p.count c.next_in-2.new.pages) (p.first c.next_in-2.new.pages)
     (p.asked c.args.pages.now) (p.asked c.next_in.new.pages) (p.asked c.next_in-2.new.pages) damage (c.next_in.ensures.own told)
     (harm-looked (p.pages c.next_in.new.pages) (p.pages c.next_in-2.new.pages) (p.count c.next_in.new.pages) (p.count c.next_in-2.new.pages) (p.first c.next_in-2.new.pages) c.args.tree.now.rows
     (p.asked c.next_in.new.pages) (p.asked c.next_in-2.new.pages) damage two.pages two.count (c.in_err-above.ensures.damaged (rw (one.pages, one.count) told) damage (ap Err same))))
@@ -153,7 +153,7 @@ returns-in_err-refresh_word-clause-damaged g c = λ told damage.
     let p = g.P.Pages in
     let r = err_from_is_err_and c.from_residual-in_err-refresh_word.result c.from_residual-in_err-refresh_word.ensures.1 in
     λ e. (let same : c.in_err-refresh_word.field-0.0 ≡ Damaged damage = cc (r.1, r.2, e) in
-    harm-later (λ _. 1) (p.pages c.refresh_word.new.pages) (p.count c.refresh_word.new.pages) (p.first c.refresh_word.new.pages) (p.asked c.args.pages.now) (p.asked c.loop-number.pages) (p.asked c.refresh_word.new.pages) damage
+    harm-later _ (λ _. 1) (p.pages c.refresh_word.new.pages) (p.count c.refresh_word.new.pages) (p.first c.refresh_word.new.pages) (p.asked c.args.pages.now) (p.asked c.loop-number.pages) (p.asked c.refresh_word.new.pages) damage
     (c.loop-number.invariant.more told) (c.in_err-refresh_word.ensures.damaged (c.loop-number.invariant.told told) damage (ap Err same)))
 
 pub returns-in_err-refresh_word-clause-more : goal.returns-in_err-refresh_word-clause-more

@@ -13,11 +13,11 @@ abbrev pub invariant-loop-number : goal.invariant-loop-number
 invariant-loop-number g l =
     let p = g.P.Pages in
     record {
-      root : l.changed.root ≡ l.initial.changed.root;
+      root : l.tree.root ≡ l.initial.tree.root;
       turns : (before : View) (root : ℕ) (b : Bytes) → IsBounded b → (l.node ≡ l.child → ⊥)
-          → IsRefreshing before root (p.pages l.initial.pages) (p.count l.initial.pages) (p.first l.initial.pages) l.initial.changed.rows l.node l.slot l.child b l.initial.below l.initial.above
+          → IsRefreshing before root (p.pages l.initial.pages) (p.count l.initial.pages) (p.first l.initial.pages) l.initial.tree.rows l.node l.slot l.child b l.initial.below l.initial.above
           → IsCopy b l.child l.initial.below_copy → IsCopy b l.node l.initial.above_copy
-          → IsRefreshing before root (p.pages l.pages) (p.count l.pages) (p.first l.pages) l.changed.rows l.node l.slot l.child b l.below l.above × IsCopy b l.child l.below_copy × IsCopy b l.node l.above_copy;
+          → IsRefreshing before root (p.pages l.pages) (p.count l.pages) (p.first l.pages) l.tree.rows l.node l.slot l.child b l.below l.above × IsCopy b l.child l.below_copy × IsCopy b l.node l.above_copy;
       told : AreTold (p.pages l.fn.pages) (p.count l.fn.pages) → AreTold (p.pages l.pages) (p.count l.pages);
       more : AreTold (p.pages l.fn.pages) (p.count l.fn.pages) → AsksOnly (λ _. 1) (p.asked l.fn.pages) (p.asked l.pages);
       frame : Changes p l.initial.pages l.pages;

@@ -118,7 +118,7 @@ returns-in_err-pass-clause-damaged g c = λ told damage.
     let p = g.P.Pages in
     let r = err_from_is_err_and c.from_residual-in_err-pass.result c.from_residual-in_err-pass.ensures.1 in
     λ e. (let same : c.in_err-pass.field-0.0 ≡ Damaged damage = cc (r.1, r.2, e) in
-    harm-later (λ _. 1) (p.pages c.pass.new.pages) (p.count c.pass.new.pages) (p.first c.pass.new.pages) (p.asked c.args.pages.now) (p.asked c.set_byte.new.pages) (p.asked c.pass.new.pages) damage
+    harm-later _ (λ _. 1) (p.pages c.pass.new.pages) (p.count c.pass.new.pages) (p.first c.pass.new.pages) (p.asked c.args.pages.now) (p.asked c.set_byte.new.pages) (p.asked c.pass.new.pages) damage
     (c.set_byte.ensures.more told) (c.in_err-pass.ensures.damaged (c.in_ok-set_byte.ensures.told told) damage (ap Err same)))
 
 pub returns-in_err-pass-clause-more : goal.returns-in_err-pass-clause-more
@@ -133,7 +133,7 @@ returns-clause-damaged g c = λ told damage e.
     let told' : AreTold (p.pages c.pass.new.pages) (p.count c.pass.new.pages) = rw (c.pass.ensures.frame.pages, c.pass.ensures.frame.count) (c.in_ok-set_byte.ensures.told told) in
     let more : AsksOnly (λ _. 1) (p.asked c.args.pages.now) (p.asked c.pass.new.pages) = asks-further (λ _. 1) (p.asked c.args.pages.now) (p.asked c.set_byte.new.pages) (p.asked c.pass.new.pages) (c.set_byte.ensures.more told)
     (asks-more (map_uses rows_form (p.pages c.set_byte.new.pages) c.set_byte.new.tree.rows) (λ _. 1) (p.asked c.set_byte.new.pages) (p.asked c.pass.new.pages) (λ n h. omega arith) (c.pass.ensures.own (c.in_ok-set_byte.ensures.told told))) in
-    harm-later (λ _. 1) (p.pages c.pass-2.new.pages) (p.count c.pass-2.new.pages) (p.first c.pass-2.new.pages) (p.asked c.args.pages.now) (p.asked c.pass.new.pages) (p.asked c.pass-2.new.pages) damage
+    harm-later _ (λ _. 1) (p.pages c.pass-2.new.pages) (p.count c.pass-2.new.pages) (p.first c.pass-2.new.pages) (p.asked c.args.pages.now) (p.asked c.pass.new.pages) (p.asked c.pass-2.new.pages) damage
     more (c.pass-2.ensures.damaged told' damage e)
 
 pub returns-clause-more : goal.returns-clause-more

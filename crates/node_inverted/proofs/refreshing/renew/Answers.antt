@@ -61,11 +61,11 @@ returns-clause-turns g c = λ free rows apart.
     let passed : take c.loop-pair.pair-index c.args.words.now ≡ c.args.words.now = take_all c.loop-pair.pair-index c.args.words.now c.loop-pair-test.false in
     subst (λ (ps : List (ℕ × ℕ)). Turns before root (g.P.Pages.pages c.set_rows.new.pages) (g.P.Pages.count c.set_rows.new.pages) (g.P.Pages.first c.set_rows.new.pages) c.set_rows.new.tree.rows
     (on_words ps (refreshed c.args.node c.args.slot c.args.child b) b)) passed
-    (renewing-set before root (g.P.Pages.pages c.loop-pair.pages) (g.P.Pages.count c.loop-pair.pages) (g.P.Pages.first c.loop-pair.pages) c.loop-pair.changed.rows c.args.node c.args.slot c.args.child b (take c.loop-pair.pair-index c.args.words.now)
+    (renewing-set before root (g.P.Pages.pages c.loop-pair.pages) (g.P.Pages.count c.loop-pair.pages) (g.P.Pages.first c.loop-pair.pages) c.loop-pair.tree.rows c.args.node c.args.slot c.args.child b (take c.loop-pair.pair-index c.args.words.now)
     c.loop-pair.rows.items c.loop-pair.below c.loop-pair.above h
     (g.P.Pages.pages c.set_rows.new.pages) (g.P.Pages.count c.set_rows.new.pages) (g.P.Pages.first c.set_rows.new.pages) c.set_rows.new.tree.rows
-    (subst (λ (rs : List NodeRow). Turns (view (g.P.Pages.pages c.loop-pair.pages) (g.P.Pages.count c.loop-pair.pages) (g.P.Pages.first c.loop-pair.pages) h.turn.free) c.loop-pair.changed.rows
-    (g.P.Pages.pages c.set_rows.new.pages) (g.P.Pages.count c.set_rows.new.pages) (g.P.Pages.first c.set_rows.new.pages) c.set_rows.new.tree.rows (with_rows c.args.node rs (bytes_in (g.P.Pages.pages c.loop-pair.pages) c.loop-pair.changed.rows)))
+    (subst (λ (rs : List NodeRow). Turns (view (g.P.Pages.pages c.loop-pair.pages) (g.P.Pages.count c.loop-pair.pages) (g.P.Pages.first c.loop-pair.pages) h.turn.free) c.loop-pair.tree.rows
+    (g.P.Pages.pages c.set_rows.new.pages) (g.P.Pages.count c.set_rows.new.pages) (g.P.Pages.first c.set_rows.new.pages) c.set_rows.new.tree.rows (with_rows c.args.node rs (bytes_in (g.P.Pages.pages c.loop-pair.pages) c.loop-pair.tree.rows)))
     c.deref.ensures.value (c.in_ok-set_rows.ensures.turns h.turn.free h.turn.rows)))
 
 pub returns-in_err-renew_one-clause-honest : goal.returns-in_err-renew_one-clause-honest
@@ -74,7 +74,7 @@ returns-in_err-renew_one-clause-honest g c free rows apart told damage =
     let h = c.loop-pair.invariant.renewing free rows apart in
     let p = err_from_is_err_and c.from_residual.result c.from_residual.ensures.1 in
     λ e. (let same : c.in_err-renew_one.field-0.0 ≡ Damaged damage = cc (p.1, p.2, e) in
-    c.in_err-renew_one.ensures.honest h.turn.free h.turn.rows (told-turned before c.args.tree.now.rows (g.P.Pages.pages c.loop-pair.pages) (g.P.Pages.count c.loop-pair.pages) (g.P.Pages.first c.loop-pair.pages) c.loop-pair.changed.rows
+    c.in_err-renew_one.ensures.honest h.turn.free h.turn.rows (told-turned before c.args.tree.now.rows (g.P.Pages.pages c.loop-pair.pages) (g.P.Pages.count c.loop-pair.pages) (g.P.Pages.first c.loop-pair.pages) c.loop-pair.tree.rows
     h.bytes h.turn told) damage (ap Err same))
 
 pub returns-in_err-set_rows-clause-honest : goal.returns-in_err-set_rows-clause-honest
@@ -83,7 +83,7 @@ returns-in_err-set_rows-clause-honest g c free rows apart told damage =
     let h = c.loop-pair.invariant.renewing free rows apart in
     let p = err_from_is_err_and c.from_residual-in_err-set_rows.result c.from_residual-in_err-set_rows.ensures.1 in
     λ e. (let same : c.in_err-set_rows.field-0.0 ≡ Damaged damage = cc (p.1, p.2, e) in
-    c.in_err-set_rows.ensures.honest h.turn.free h.turn.rows (told-turned before c.args.tree.now.rows (g.P.Pages.pages c.loop-pair.pages) (g.P.Pages.count c.loop-pair.pages) (g.P.Pages.first c.loop-pair.pages) c.loop-pair.changed.rows
+    c.in_err-set_rows.ensures.honest h.turn.free h.turn.rows (told-turned before c.args.tree.now.rows (g.P.Pages.pages c.loop-pair.pages) (g.P.Pages.count c.loop-pair.pages) (g.P.Pages.first c.loop-pair.pages) c.loop-pair.tree.rows
     h.bytes h.turn told) damage (ap Err same))
 
 pub returns-in_err-renew_one-clause-damaged : goal.returns-in_err-renew_one-clause-damaged
@@ -91,7 +91,7 @@ returns-in_err-renew_one-clause-damaged g c = λ told damage.
     let p = g.P.Pages in
     let r = err_from_is_err_and c.from_residual.result c.from_residual.ensures.1 in
     λ e. (let same : c.in_err-renew_one.field-0.0 ≡ Damaged damage = cc (r.1, r.2, e) in
-    harm-later (λ _. 1) (p.pages c.renew_one.new.pages) (p.count c.renew_one.new.pages) (p.first c.renew_one.new.pages) (p.asked c.args.pages.now) (p.asked c.loop-pair.pages) (p.asked c.renew_one.new.pages) damage
+    harm-later _ (λ _. 1) (p.pages c.renew_one.new.pages) (p.count c.renew_one.new.pages) (p.first c.renew_one.new.pages) (p.asked c.args.pages.now) (p.asked c.loop-pair.pages) (p.asked c.renew_one.new.pages) damage
     (c.loop-pair.invariant.more told) (c.in_err-renew_one.ensures.damaged (c.loop-pair.invariant.told told) damage (ap Err same)))
 
 pub returns-in_err-renew_one-clause-more : goal.returns-in_err-renew_one-clause-more
@@ -102,7 +102,7 @@ returns-in_err-set_rows-clause-damaged g c = λ told damage.
     let p = g.P.Pages in
     let r = err_from_is_err_and c.from_residual-in_err-set_rows.result c.from_residual-in_err-set_rows.ensures.1 in
     λ e. (let same : c.in_err-set_rows.field-0.0 ≡ Damaged damage = cc (r.1, r.2, e) in
-    harm-later (λ _. 1) (p.pages c.set_rows.new.pages) (p.count c.set_rows.new.pages) (p.first c.set_rows.new.pages) (p.asked c.args.pages.now) (p.asked c.loop-pair.pages) (p.asked c.set_rows.new.pages) damage
+    harm-later _ (λ _. 1) (p.pages c.set_rows.new.pages) (p.count c.set_rows.new.pages) (p.first c.set_rows.new.pages) (p.asked c.args.pages.now) (p.asked c.loop-pair.pages) (p.asked c.set_rows.new.pages) damage
     (c.loop-pair.invariant.more told) (c.in_err-set_rows.ensures.damaged (c.loop-pair.invariant.told told) damage (ap Err same)))
 
 pub returns-in_err-set_rows-clause-more : goal.returns-in_err-set_rows-clause-more

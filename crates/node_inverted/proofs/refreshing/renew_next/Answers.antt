@@ -71,7 +71,7 @@ returns-in_err-high_ahead-clause-damaged g c = λ told damage.
     let h = c.next_in-2.ensures.frame in
     let r = err_from_is_err_and c.from_residual-in_err-high_ahead.result c.from_residual-in_err-high_ahead.ensures.1 in
     λ e. (let same : c.in_err-high_ahead.field-0.0 ≡ Damaged damage = cc (r.1, r.2, e) in
-    harm-later (map_uses rows_form (p.pages c.args.pages.now) c.args.tree.now.rows) (p.pages c.next_in-2.new.pages) (p.count c.next_in-2.new.pages) (p.first c.next_in-2.new.pages)
+    harm-later _ (map_uses rows_form (p.pages c.args.pages.now) c.args.tree.now.rows) (p.pages c.next_in-2.new.pages) (p.count c.next_in-2.new.pages) (p.first c.next_in-2.new.pages)
     (p.asked c.args.pages.now) (p.asked c.next_in.new.pages) (p.asked c.next_in-2.new.pages) damage (c.next_in.ensures.own told)
     (harm-looked (p.pages c.next_in.new.pages) (p.pages c.next_in-2.new.pages) (p.count c.next_in.new.pages) (p.count c.next_in-2.new.pages) (p.first c.next_in-2.new.pages) c.args.tree.now.rows
     (p.asked c.next_in.new.pages) (p.asked c.next_in-2.new.pages) damage h.pages h.count (c.in_err-high_ahead.ensures.damaged (rw (f.pages, f.count) told) damage (ap Err same))))

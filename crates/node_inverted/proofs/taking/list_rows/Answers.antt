@@ -91,7 +91,7 @@ returns-in_err-from-clause-damaged g c = λ told damage.
     let h = c.list_next.ensures.frame in
     let r = err_from_is_err_and c.from_residual.result c.from_residual.ensures.1 in
     λ e. (let same : c.in_err-from.field-0.0 ≡ Damaged damage = cc (r.1, r.2, e) in
-    harm-later (map_uses rows_form (p.pages c.args.pages.now) c.args.tree.now.rows) (p.pages c.list_next.new.pages) (p.count c.list_next.new.pages) (p.first c.list_next.new.pages)
+    harm-later _ (map_uses rows_form (p.pages c.args.pages.now) c.args.tree.now.rows) (p.pages c.list_next.new.pages) (p.count c.list_next.new.pages) (p.first c.list_next.new.pages)
     (p.asked c.args.pages.now) (p.asked c.loop-from.pages) (p.asked c.list_next.new.pages) damage (c.loop-from.invariant.own told)
     (harm-looked (p.pages c.loop-from.pages) (p.pages c.list_next.new.pages) (p.count c.loop-from.pages) (p.count c.list_next.new.pages) (p.first c.list_next.new.pages) c.args.tree.now.rows
     (p.asked c.loop-from.pages) (p.asked c.list_next.new.pages) damage h.pages h.count (c.in_err-from.ensures.damaged (rw (f.pages, f.count) told) damage (ap Err same))))

@@ -62,7 +62,7 @@ returns-in_err-drop_node-clause-damaged g c = λ told damage.
     let f = c.list_rows.ensures.frame in
     let r = err_from_is_err_and c.from_residual-in_err-drop_node.result c.from_residual-in_err-drop_node.ensures.1 in
     λ e. (let same : c.in_err-drop_node.field-0.0 ≡ Damaged damage = cc (r.1, r.2, e) in
-    harm-later (map_uses rows_form (p.pages c.args.pages.now) c.args.tree.now.rows) (p.pages c.drop_node.new.pages) (p.count c.drop_node.new.pages) (p.first c.drop_node.new.pages)
+    harm-later _ (map_uses rows_form (p.pages c.args.pages.now) c.args.tree.now.rows) (p.pages c.drop_node.new.pages) (p.count c.drop_node.new.pages) (p.first c.drop_node.new.pages)
     (p.asked c.args.pages.now) (p.asked c.list_rows.new.pages) (p.asked c.drop_node.new.pages) damage (c.list_rows.ensures.own told) (c.in_err-drop_node.ensures.damaged (rw (f.pages, f.count) told) damage (ap Err same)))
 
 pub returns-in_err-drop_node-clause-more : goal.returns-in_err-drop_node-clause-more

@@ -8,7 +8,7 @@ use Rattle.btree_nodes.proofs.Walks.{same-fault}
 use Rattle.rtree_shape.specs.Stock.{rows_form}
 use Rattle.node_rows.specs.Rows.{bytes_in}
 use Rattle.node_rows.specs.Turns.{IsNext, Next}
-use Rattle.node_rows.proofs.Found.{next-found, next-lost, next-passed, order-at}
+use Rattle.node_rows.proofs.Found.{next-found, next-lost, next-on, next-passed}
 use Rattle.node_rows.proofs.next.next_row.Goals as goal
 
 pub returns-in_default-clause-own : goal.returns-in_default-clause-own
@@ -30,7 +30,7 @@ returns-in_default-clause-next g c = λ map.
     let map' : IsMap rows_form old c.at-map.result.root = subst (IsMap rows_form old) (sym same) map in
     let row : Row = (number c.first_from.new.found, c.first_from.new.value) in
     subst (λ (r : ℕ). Next (bytes_in old r) c.args.node c.args.from None) same
-    (next-lost old c.at-map.result.root c.args.node c.args.from (number c.bytes-key.result) c.ranges.from.fits c.bytes-key.ensures row c.in_ok-leaf.field-0 map' (c.in_ok-leaf.ensures.found map') c.in_default.is)
+    (next-lost old c.at-map.result.root c.args.node c.args.from (number c.bytes-key.result) c.ranges.from.fits c.bytes-key.ensures row c.in_ok-_leaf.field-0 map' (c.in_ok-_leaf.ensures.found map') c.in_default.is)
 
 pub returns-then-next-node-clause-next : goal.returns-then-next-node-clause-next
 returns-then-next-node-clause-next g c = λ map.
@@ -40,7 +40,7 @@ returns-then-next-node-clause-next g c = λ map.
     let row : Row = (number c.first_from.new.found, c.first_from.new.value) in
     let fits : c.of_bytes-next.result.number < 2 ^ 64 = search rules in
     subst (λ (r : ℕ). Next (bytes_in old r) c.args.node c.args.from None) same
-    (next-passed old c.at-map.result.root c.args.node c.args.from (number c.bytes-key.result) c.ranges.from.fits c.bytes-key.ensures row c.in_ok-leaf.field-0 map' (c.in_ok-leaf.ensures.found map')
+    (next-passed old c.at-map.result.root c.args.node c.args.from (number c.bytes-key.result) c.ranges.from.fits c.bytes-key.ensures row c.in_ok-_leaf.field-0 map' (c.in_ok-_leaf.ensures.found map')
     c.in-Some._leaf c.of_bytes-next.result.node c.of_bytes-next.result.number c.in-Some.is fits c.of_bytes-next.ensures c.if-next-node.true)
 
 pub returns-clause-next : goal.returns-clause-next
@@ -51,5 +51,10 @@ returns-clause-next g c = λ map.
     let row : Row = (number c.first_from.new.found, c.first_from.new.value) in
     let fits : c.of_bytes-next.result.number < 2 ^ 64 = search rules in
     subst (λ (r : ℕ). IsNext (bytes_in old r) c.args.node c.args.from c.of_bytes-next.result.number c.first_from.new.value) same
-    (next-found old c.at-map.result.root c.args.node c.args.from (number c.bytes-key.result) c.ranges.from.fits c.bytes-key.ensures row c.in_ok-leaf.field-0 map' (c.in_ok-leaf.ensures.found map')
+    (next-found old c.at-map.result.root c.args.node c.args.from (number c.bytes-key.result) c.ranges.from.fits c.bytes-key.ensures row c.in_ok-_leaf.field-0 map' (c.in_ok-_leaf.ensures.found map')
     c.in-Some._leaf c.of_bytes-next.result.node c.of_bytes-next.result.number c.in-Some.is fits c.of_bytes-next.ensures c.if-next-node.false)
+
+pub returns-clause-onto : goal.returns-clause-onto
+returns-clause-onto g c =
+    next-on c.in_ok-_leaf.field-0 c.in-Some._leaf (number c.bytes-key.result) (number c.first_from.new.found) c.args.node c.args.from c.of_bytes-next.result.node c.of_bytes-next.result.number c.in-Some.is
+    c.in_ok-_leaf.ensures.on c.bytes-key.ensures c.of_bytes-next.ensures c.if-next-node.false
