@@ -59,8 +59,8 @@ lone-anywhere : (rule : Rule) (page : List ℕ) → rule ≡ Fill → BreaksAnyw
 lone-anywhere rule page e h = subst (λ (r : Rule). BreaksAnywhere r page) (sym e) h
 
 -- a page that is asked for now, of pages that are as they were
-module _ (old new : PageMap) (c0 c1 first : ℕ) (before after : List ℕ) (page : ℕ) (damage : Damage) (same : new ≡ old) (counted : c1 ≡ c0) (asked : after ≡ before ++ page ∷ []) where
-  page-harm : damage.page ≡ page → IsBroken damage.rule old c0 page → IsTreeHarm new c1 first before after damage
+module _ (rows : ℕ) (old new : PageMap) (c0 c1 first : ℕ) (before after : List ℕ) (page : ℕ) (damage : Damage) (same : new ≡ old) (counted : c1 ≡ c0) (asked : after ≡ before ++ page ∷ []) where
+  page-harm : damage.page ≡ page → IsBroken damage.rule old c0 page → IsTreeHarm new c1 first rows before after damage
   page-harm is broken = inl (record {
     asked = subst (λ (n : ℕ). AskedSince before after n) (sym is) (asked-here before after page asked);
     breaks = inl (subst (λ (n : ℕ). IsBroken damage.rule new c1 n) (sym is)
@@ -68,17 +68,17 @@ module _ (old new : PageMap) (c0 c1 first : ℕ) (before after : List ℕ) (page
   })
 
   -- it isn't counted
-  pub link-harm : damage ≡ unlinked page → IsUncounted c0 page → IsTreeHarm new c1 first before after damage
+  pub link-harm : damage ≡ unlinked page → IsUncounted c0 page → IsTreeHarm new c1 first rows before after damage
   link-harm is uncounted = page-harm (ap (λ (d : Damage). d.page) is) (inl (ap (λ (d : Damage). d.rule) is, uncounted))
 
   -- it doesn't say that it is a node's
-  pub head-harm : (bytes : List ℕ) → (0 < length (old page) → bytes ≡ old page) → IsHeadless page bytes (Damaged damage) → IsTreeHarm new c1 first before after damage
+  pub head-harm : (bytes : List ℕ) → (0 < length (old page) → bytes ≡ old page) → IsHeadless page bytes (Damaged damage) → IsTreeHarm new c1 first rows before after damage
   head-harm bytes is h = page-harm h.0 (inr (λ some. subst (λ (b : List ℕ). BreaksAnywhere damage.rule b) (is some) (header-anywhere damage.rule bytes h.1)))
 
   -- it isn't a node's, or that of an inner node of one child, where it is of the level that is asked
-  pub node-harm : (level : ℕ) (bytes : List ℕ) → bytes ≡ old page → level_in (old page) ≡ level → IsMisplaced page level bytes (Damaged damage) → IsTreeHarm new c1 first before after damage
+  pub node-harm : (level : ℕ) (bytes : List ℕ) → bytes ≡ old page → level_in (old page) ≡ level → IsMisplaced page level bytes (Damaged damage) → IsTreeHarm new c1 first rows before after damage
   node-harm level bytes is right h =
-      let broken : BreaksAnywhere damage.rule bytes → IsTreeHarm new c1 first before after damage
+      let broken : BreaksAnywhere damage.rule bytes → IsTreeHarm new c1 first rows before after damage
       = λ b. page-harm h.0 (inr (λ some. subst (λ (b : List ℕ). BreaksAnywhere damage.rule b) is b)) in
       elim h.1 [
         | inl breaks ↦ broken (first-anywhere damage.rule bytes breaks)

@@ -65,4 +65,4 @@ returns-in_err-let_all_go-clause-damaged g c = λ form told damage e.
     let r = err_from_is_err_and c.from_residual-in_err-let_all_go.result c.from_residual-in_err-let_all_go.ensures.1 in
     let same : c.in_err-let_all_go.field-0.0 ≡ Damaged damage = cc (r.1, r.2, e) in
     let unread = subst (IsUnread c.args.page c.args.bytes.now) same c.in_err-let_all_go.ensures.refuses in
-    absurd {A = IsRowsHarm (p.pages c.take_rows.new.pages) (p.count c.take_rows.new.pages) (p.first c.take_rows.new.pages) (p.asked c.args.pages.now) (p.asked c.take_rows.new.pages) damage} (true≢false (sym form ∙ unread.1))
+    absurd {A = IsRowsHarm (p.pages c.take_rows.new.pages) (p.count c.take_rows.new.pages) (p.first c.take_rows.new.pages) _ (p.asked c.args.pages.now) (p.asked c.take_rows.new.pages) damage} (true≢false (sym form ∙ unread.1))

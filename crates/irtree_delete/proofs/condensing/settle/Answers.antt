@@ -133,7 +133,7 @@ returns-in-Ok-give_back-clause-gone g c = λ form none. (
 pub returns-in-Err-clause-damaged : goal.returns-in-Err-clause-damaged
 returns-in-Err-clause-damaged g c = λ form told damage e.
     let p = g.P.Pages in
-    absurd {A = IsRowsHarm (p.pages c.args.pages.now) (p.count c.args.pages.now) (p.first c.args.pages.now) (p.asked c.args.pages.now) (p.asked c.args.pages.now) damage} (true≢false (sym (c.in-Err.ensures.ok form)))
+    absurd {A = IsRowsHarm (p.pages c.args.pages.now) (p.count c.args.pages.now) (p.first c.args.pages.now) _ (p.asked c.args.pages.now) (p.asked c.args.pages.now) damage} (true≢false (sym (c.in-Err.ensures.ok form)))
 
 pub returns-in-Err-clause-more : goal.returns-in-Err-clause-more
 returns-in-Err-clause-more g c = λ told. asks-nothing (λ _. 1) _ _ refl
@@ -141,7 +141,7 @@ returns-in-Err-clause-more g c = λ told. asks-nothing (λ _. 1) _ _ refl
 pub returns-in-Err-write_changed-clause-damaged : goal.returns-in-Err-write_changed-clause-damaged
 returns-in-Err-write_changed-clause-damaged g c = λ form told damage e.
     let p = g.P.Pages in
-    absurd {A = IsRowsHarm (p.pages c.write_changed.new.pages) (p.count c.write_changed.new.pages) (p.first c.write_changed.new.pages) (p.asked c.args.pages.now) (p.asked c.write_changed.new.pages) damage}
+    absurd {A = IsRowsHarm (p.pages c.write_changed.new.pages) (p.count c.write_changed.new.pages) (p.first c.write_changed.new.pages) _ (p.asked c.args.pages.now) (p.asked c.write_changed.new.pages) damage}
     (c.in-Err-write_changed.ensures.sound damage (ap Err (same-fault {T = Option Slot} _ _ e)))
 
 pub returns-in-Err-write_changed-clause-more : goal.returns-in-Err-write_changed-clause-more
@@ -161,7 +161,7 @@ returns-in-Err-give_back-clause-damaged g c = λ form told damage e.
     let more = c.in-Ok-dissolve.ensures.frame.count in
     let p = g.P.Pages in
     let none : ⊥ = elim d.1 [ inl z ↦ omega arith | inr l ↦ omega arith ] in
-    absurd {A = IsRowsHarm (p.pages c.give_back.new.self) (p.count c.give_back.new.self) (p.first c.give_back.new.self) (p.asked c.args.pages.now) (p.asked c.give_back.new.self) damage} none
+    absurd {A = IsRowsHarm (p.pages c.give_back.new.self) (p.count c.give_back.new.self) (p.first c.give_back.new.self) _ (p.asked c.args.pages.now) (p.asked c.give_back.new.self) damage} none
 
 pub returns-in-Err-give_back-clause-more : goal.returns-in-Err-give_back-clause-more
 returns-in-Err-give_back-clause-more g c = λ told. asks-further (λ _. 1) _ _ _ (c.dissolve.ensures.more told) (asks-nothing (λ _. 1) _ _ c.give_back.ensures.asked)

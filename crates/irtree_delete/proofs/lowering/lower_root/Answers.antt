@@ -135,7 +135,7 @@ returns-in-Err-clause-damaged g c = λ told damage e.
     let root : ℕ = c.args.tree.now.root in
     let r = c.in-Err.is ∙ ap Err (same-fault {T = Unit {0}} _ _ e) in
     let d = c.look.ensures.damaged damage r in
-    link-harm (p.pages c.args.pages.now) (p.pages c.look.new.self) (p.count c.args.pages.now) (p.count c.look.new.self) (p.first c.look.new.self) (p.asked c.args.pages.now) (p.asked c.look.new.self) root damage
+    link-harm _ (p.pages c.args.pages.now) (p.pages c.look.new.self) (p.count c.args.pages.now) (p.count c.look.new.self) (p.first c.look.new.self) (p.asked c.args.pages.now) (p.asked c.look.new.self) root damage
     c.look.ensures.pages c.look.ensures.count (c.look.ensures.asked ∙ ap (λ (x : Result (Unit {0}) PageFault). asked_after x root (p.asked c.args.pages.now)) r) d.0 d.1
 
 pub returns-in-Err-clause-more : goal.returns-in-Err-clause-more
@@ -150,7 +150,7 @@ returns-in-Err-only_child-clause-damaged g c = λ told damage e.
     let p = g.P.Pages in
     let root : ℕ = c.args.tree.now.root in
     let read = c.in-Ok.ensures in
-    head-harm (p.pages c.args.pages.now) (p.pages c.look.new.self) (p.count c.args.pages.now) (p.count c.look.new.self) (p.first c.look.new.self) (p.asked c.args.pages.now) (p.asked c.look.new.self) root damage
+    head-harm _ (p.pages c.args.pages.now) (p.pages c.look.new.self) (p.count c.args.pages.now) (p.count c.look.new.self) (p.first c.look.new.self) (p.asked c.args.pages.now) (p.asked c.look.new.self) root damage
     read.pages read.count read.asked c.looked.result.now (λ some. c.looked.ensures ∙ read.gives some)
     (subst (IsHeadless root c.looked.result.now) (same-fault {T = Unit {0}} _ _ e) c.in-Err-only_child.ensures.refuses)
 
@@ -193,7 +193,7 @@ returns-in-Err-give_back-clause-damaged g c = λ told damage e.
     let more = c.in-Ok-drop_node.ensures.frame.count in
     let p = g.P.Pages in
     let none : ⊥ = elim d.1 [ inl z ↦ omega arith | inr l ↦ omega arith ] in
-    absurd {A = IsTreeHarm (p.pages c.give_back.new.self) (p.count c.give_back.new.self) (p.first c.give_back.new.self) (p.asked c.args.pages.now) (p.asked c.give_back.new.self) damage} none
+    absurd {A = IsTreeHarm (p.pages c.give_back.new.self) (p.count c.give_back.new.self) (p.first c.give_back.new.self) _ (p.asked c.args.pages.now) (p.asked c.give_back.new.self) damage} none
 
 pub returns-in-Err-give_back-clause-more : goal.returns-in-Err-give_back-clause-more
 returns-in-Err-give_back-clause-more g c = λ told.

@@ -23,7 +23,7 @@ pub returns-in-None-clause-damaged : goal.returns-in-None-clause-damaged
 returns-in-None-clause-damaged g c = λ level told long low way damage e.
     let p = g.P.Pages in
     let none : ⊥ = elim c.in-None.ensures [ inl none ↦ omega arith | inr many ↦ omega arith ] in
-    absurd {A = IsTreeHarm (p.pages c.args.pages.now) (p.count c.args.pages.now) (p.first c.args.pages.now) (p.asked c.args.pages.now) (p.asked c.args.pages.now) damage} none
+    absurd {A = IsTreeHarm (p.pages c.args.pages.now) (p.count c.args.pages.now) (p.first c.args.pages.now) _ (p.asked c.args.pages.now) (p.asked c.args.pages.now) damage} none
 
 pub returns-in-None-clause-more : goal.returns-in-None-clause-more
 returns-in-None-clause-more g c = λ told. asks-nothing (λ _. 1) _ _ refl

@@ -627,7 +627,7 @@ returns-in-Err-clause-damaged g t c = λ told way damage e.
     let p = g.P.Pages in
     let r = c.in-Err.is ∙ ap Err (same-fault {T = Option Slot} _ _ e) in
     let d = c.look.ensures.damaged damage r in
-    link-harm (p.pages c.args.pages.now) (p.pages c.look.new.self) (p.count c.args.pages.now) (p.count c.look.new.self) (p.first c.look.new.self) (p.asked c.args.pages.now) (p.asked c.look.new.self) c.args.page damage
+    link-harm _ (p.pages c.args.pages.now) (p.pages c.look.new.self) (p.count c.args.pages.now) (p.count c.look.new.self) (p.first c.look.new.self) (p.asked c.args.pages.now) (p.asked c.look.new.self) c.args.page damage
     c.look.ensures.pages c.look.ensures.count (c.look.ensures.asked ∙ ap (λ (x : Result (Unit {0}) PageFault). asked_after x c.args.page (p.asked c.args.pages.now)) r) d.0 d.1
 
 pub returns-in-Err-clause-more : goal.returns-in-Err-clause-more
@@ -659,7 +659,7 @@ returns-in-Err-slot_on_path-clause-damaged g t c = λ told way damage e.
     let read = c.in-Ok.ensures in
     let seen : c.looked.result.now ≡ old c.args.page = c.looked.ensures ∙ read.gives (told-read old (p.count c.args.pages.now) c.args.page told (looked-counted (p.count c.args.pages.now) c.args.page read.uncounted)) in
     let is : c.in-Err-slot_on_path.fault ≡ Damaged damage = same-fault {T = Option Slot} _ _ e in
-    absurd {A = IsTreeHarm (p.pages c.look.new.self) (p.count c.look.new.self) (p.first c.look.new.self) (p.asked c.args.pages.now) (p.asked c.look.new.self) damage}
+    absurd {A = IsTreeHarm (p.pages c.look.new.self) (p.count c.look.new.self) (p.first c.look.new.self) _ (p.asked c.args.pages.now) (p.asked c.look.new.self) damage}
     (way-on old c.args.path.now c.args.level c.args.page c.from-at.result c.looked.result.now damage way seen c.in-Ok-check_node.ensures.form (c.from-at.ensures ∙ ap (slice_index c.args.path.now) c.from.ensures)
     (subst (IsOffPath c.args.page c.from-at.result c.looked.result.now) is c.in-Err-slot_on_path.ensures.refuses))
 
