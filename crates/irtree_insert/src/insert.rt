@@ -163,10 +163,12 @@ pub fn insert_at<P: Pages>(
     ensures fails { FailsChanging P.Pages pages.old pages.new result }
     ensures frame { Changes P.Pages pages.old pages.new }
 {
-    tree.root = if tree.root == 0 {
-        first_leaf(pages, tree, slot, words)?
-    } else {
-        insert_below(alloc, pages, tree, policy, goal, slot, words)?
-    };
+    if tree.root == 0 {
+        let root = first_leaf(pages, tree, slot, words)?;
+        tree.root = root;
+        return Ok(());
+    }
+    let root = insert_below(alloc, pages, tree, policy, goal, slot, words)?;
+    tree.root = root;
     Ok(())
 }

@@ -65,7 +65,7 @@ returns-in_err-set_impact-clause-damaged g c = λ told damage.
     let p = g.P.Pages in
     let r = err_from_is_err_and c.from_residual.result c.from_residual.ensures.1 in
     λ e. (let same : c.in_err-set_impact.field-0.0 ≡ Damaged damage = cc (r.1, r.2, e) in
-    harm-later _ (λ _. 1) (p.pages c.set_impact.new.pages) (p.count c.set_impact.new.pages) (p.first c.set_impact.new.pages) (p.asked c.args.pages.now) (p.asked c.loop-pair.pages) (p.asked c.set_impact.new.pages) damage
+    harm-later c.set_impact.new.tree.rows (λ _. 1) (p.pages c.set_impact.new.pages) (p.count c.set_impact.new.pages) (p.first c.set_impact.new.pages) (p.asked c.args.pages.now) (p.asked c.loop-pair.pages) (p.asked c.set_impact.new.pages) damage
     (c.loop-pair.invariant.more told) (c.in_err-set_impact.ensures.damaged (c.loop-pair.invariant.told told) damage (ap Err same)))
 
 pub returns-in_err-set_impact-clause-more : goal.returns-in_err-set_impact-clause-more

@@ -163,7 +163,7 @@ returns-in-Err-drop_node-clause-damaged g c = λ told damage e.
     let p = g.P.Pages in
     let read = c.in-Ok.ensures in
     let told-look : AreTold (p.pages c.look.new.self) (p.count c.look.new.self) = rw (read.pages, read.count) told in
-    inr (harm-later _ (λ _. 1) (p.pages c.drop_node.new.pages) (p.count c.drop_node.new.pages) (p.first c.drop_node.new.pages) (p.asked c.args.pages.now) (p.asked c.look.new.self) (p.asked c.drop_node.new.pages) damage
+    inr (harm-later c.drop_node.new.tree.rows (λ _. 1) (p.pages c.drop_node.new.pages) (p.count c.drop_node.new.pages) (p.first c.drop_node.new.pages) (p.asked c.args.pages.now) (p.asked c.look.new.self) (p.asked c.drop_node.new.pages) damage
     (asks-here (λ _. 1) _ _ c.args.tree.now.root (omega arith) read.asked)
     (c.in-Err-drop_node.ensures.damaged told-look damage (ap Err (same-fault {T = Unit {0}} _ _ e))))
 

@@ -66,7 +66,7 @@ returns-clause-standing g c = λ before free level mine sums start st.
 pub returns-in-Err-clause-damaged : goal.returns-in-Err-clause-damaged
 returns-in-Err-clause-damaged g c = λ told damage e.
     let p = g.P.Pages in
-    tree-later _ (λ _. 1) (p.pages c.insert_at.new.pages) (p.count c.insert_at.new.pages) (p.first c.insert_at.new.pages) (p.asked c.args.pages.now) (p.asked c.loop-orphan.pages) (p.asked c.insert_at.new.pages) damage
+    tree-later c.insert_at.new.tree.rows (λ _. 1) (p.pages c.insert_at.new.pages) (p.count c.insert_at.new.pages) (p.first c.insert_at.new.pages) (p.asked c.args.pages.now) (p.asked c.loop-orphan.pages) (p.asked c.insert_at.new.pages) damage
     (c.loop-orphan.invariant.more told) (c.in-Err.ensures.damaged (c.loop-orphan.invariant.told told) damage (ap Err (same-fault {T = Unit {0}} _ _ e)))
 
 pub returns-in-Err-clause-more : goal.returns-in-Err-clause-more

@@ -174,7 +174,7 @@ pub returns-in-Ok-clause-damaged : goal.returns-in-Ok-clause-damaged
 returns-in-Ok-clause-damaged g c = λ told way damage e.
     let p = g.P.Pages in
     let told-mid = c.in-Ok-Some.ensures.told told in
-    tree-later _ (λ _. 1) (p.pages c.lower_root.new.pages) (p.count c.lower_root.new.pages) (p.first c.lower_root.new.pages) (p.asked c.args.pages.now) (p.asked c.put_back.new.pages) (p.asked c.lower_root.new.pages) damage
+    tree-later c.lower_root.new.tree.rows (λ _. 1) (p.pages c.lower_root.new.pages) (p.count c.lower_root.new.pages) (p.first c.lower_root.new.pages) (p.asked c.args.pages.now) (p.asked c.put_back.new.pages) (p.asked c.lower_root.new.pages) damage
     (asks-further (λ _. 1) _ _ _ (c.take_out.ensures.more told) (c.put_back.ensures.more told-mid)) (c.lower_root.ensures.damaged (c.in-Ok.ensures.told told-mid) damage e)
 
 pub returns-in-Ok-clause-told : goal.returns-in-Ok-clause-told
@@ -188,7 +188,7 @@ returns-in-Ok-clause-more g c = λ told.
 pub returns-clause-damaged : goal.returns-clause-damaged
 returns-clause-damaged g c = λ told way damage e.
     let p = g.P.Pages in
-    tree-later _ (λ _. 1) (p.pages c.put_back.new.pages) (p.count c.put_back.new.pages) (p.first c.put_back.new.pages) (p.asked c.args.pages.now) (p.asked c.take_out.new.pages) (p.asked c.put_back.new.pages) damage
+    tree-later c.put_back.new.tree.rows (λ _. 1) (p.pages c.put_back.new.pages) (p.count c.put_back.new.pages) (p.first c.put_back.new.pages) (p.asked c.args.pages.now) (p.asked c.take_out.new.pages) (p.asked c.put_back.new.pages) damage
     (c.take_out.ensures.more told) (c.in-Err-put_back.ensures.damaged (c.in-Ok-Some.ensures.told told) damage (ap Err (same-fault {T = Unit {0}} _ _ e)))
 
 pub returns-clause-more : goal.returns-clause-more

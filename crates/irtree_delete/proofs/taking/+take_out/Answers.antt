@@ -672,7 +672,7 @@ returns-in-Err-clear_words-clause-damaged g t c = λ told way damage e.
     let p = g.P.Pages in
     let read = c.in-Ok.ensures in
     let told-look : AreTold (p.pages c.look.new.self) (p.count c.look.new.self) = rw (read.pages, read.count) told in
-    inr (harm-later _ (λ _. 1) (p.pages c.clear_words.new.pages) (p.count c.clear_words.new.pages) (p.first c.clear_words.new.pages) (p.asked c.args.pages.now) (p.asked c.look.new.self) (p.asked c.clear_words.new.pages) damage
+    inr (harm-later c.clear_words.new.tree.rows (λ _. 1) (p.pages c.clear_words.new.pages) (p.count c.clear_words.new.pages) (p.first c.clear_words.new.pages) (p.asked c.args.pages.now) (p.asked c.look.new.self) (p.asked c.clear_words.new.pages) damage
     (asks-here (λ _. 1) _ _ c.args.page (omega arith) read.asked)
     (c.in-Err-clear_words.ensures.damaged told-look damage (ap Err (same-fault {T = Option Slot} _ _ e))))
 
@@ -689,7 +689,7 @@ returns-in-Place-clause-damaged g t c = λ told way damage e.
     let p = g.P.Pages in
     let read = c.in-Ok.ensures in
     let told-look : AreTold (p.pages c.look.new.self) (p.count c.look.new.self) = rw (read.pages, read.count) told in
-    inr (harm-later _ (λ _. 1) (p.pages c.settle.new.pages) (p.count c.settle.new.pages) (p.first c.settle.new.pages) (p.asked c.args.pages.now) (p.asked c.clear_words.new.pages) (p.asked c.settle.new.pages) damage
+    inr (harm-later c.settle.new.tree.rows (λ _. 1) (p.pages c.settle.new.pages) (p.count c.settle.new.pages) (p.first c.settle.new.pages) (p.asked c.args.pages.now) (p.asked c.clear_words.new.pages) (p.asked c.settle.new.pages) damage
     (asks-further (λ _. 1) _ _ _ (asks-here (λ _. 1) _ _ c.args.page (omega arith) read.asked) (c.clear_words.ensures.more told-look))
     (c.settle.ensures.damaged (c.clear_slot.ensures.form c.in-Ok-check_node.ensures.form) (c.in-Ok-clear_words.ensures.told told-look) damage e))
 
@@ -719,7 +719,7 @@ returns-in-Err-take_out-clause-damaged g t c = λ told way damage e.
     let up : 0 < c.args.level = let a = child-level (level_in c.looked.result.now) c.in-Ok-slot_on_path.old c.in-Ok-slot_on_path.ensures.fits (ap is_place c.in-Child.is) in let b = c.in-Ok-check_node.ensures.level in omega arith in
     let way-l : IsWay old path l c.in-Child.child = way-child old path c.args.level l c.args.page c.from-at.result c.looked.result.now (item_of c.in-Ok-slot_on_path.old) c.in-Child.child way (omega arith) seen form
     (c.from-at.ensures ∙ ap (slice_index path) c.from.ensures) (c.in-Ok-slot_on_path.ensures.item form) (ap (λ (s : Slot). (item_of s).to) c.in-Child.is) in
-    tree-later _ (λ _. 1) (p.pages c.take_out.new.pages) (p.count c.take_out.new.pages) (p.first c.take_out.new.pages) (p.asked c.args.pages.now) (p.asked c.look.new.self) (p.asked c.take_out.new.pages) damage
+    tree-later c.take_out.new.tree.rows (λ _. 1) (p.pages c.take_out.new.pages) (p.count c.take_out.new.pages) (p.first c.take_out.new.pages) (p.asked c.args.pages.now) (p.asked c.look.new.self) (p.asked c.take_out.new.pages) damage
     (asks-here (λ _. 1) _ _ c.args.page (omega arith) read.asked)
     (c.in-Err-take_out.ensures.damaged told-look (subst (λ (m : PageMap). IsWay m path l c.in-Child.child) (sym read.pages) way-l) damage (ap Err (same-fault {T = Option Slot} _ _ e)))
 
@@ -736,7 +736,7 @@ returns-in-Err-relink-clause-damaged g t c = λ told way damage e.
     let p = g.P.Pages in
     let read = c.in-Ok.ensures in
     let told-look : AreTold (p.pages c.look.new.self) (p.count c.look.new.self) = rw (read.pages, read.count) told in
-    inr (harm-later _ (λ _. 1) (p.pages c.relink.new.pages) (p.count c.relink.new.pages) (p.first c.relink.new.pages) (p.asked c.args.pages.now) (p.asked c.take_out.new.pages) (p.asked c.relink.new.pages) damage
+    inr (harm-later c.relink.new.tree.rows (λ _. 1) (p.pages c.relink.new.pages) (p.count c.relink.new.pages) (p.first c.relink.new.pages) (p.asked c.args.pages.now) (p.asked c.take_out.new.pages) (p.asked c.relink.new.pages) damage
     (asks-further (λ _. 1) _ _ _ (asks-here (λ _. 1) _ _ c.args.page (omega arith) read.asked) (c.take_out.ensures.more told-look))
     (c.in-Err-relink.ensures.damaged (c.in-Ok-take_out.ensures.told told-look) damage (ap Err (same-fault {T = Option Slot} _ _ e))))
 
@@ -755,7 +755,7 @@ returns-clause-damaged g t c = λ told way damage e.
     let read = c.in-Ok.ensures in
     let told-look : AreTold (p.pages c.look.new.self) (p.count c.look.new.self) = rw (read.pages, read.count) told in
     let told-mid = c.in-Ok-take_out.ensures.told told-look in
-    inr (harm-later _ (λ _. 1) (p.pages c.settle-2.new.pages) (p.count c.settle-2.new.pages) (p.first c.settle-2.new.pages) (p.asked c.args.pages.now) (p.asked c.relink.new.pages) (p.asked c.settle-2.new.pages) damage
+    inr (harm-later c.settle-2.new.tree.rows (λ _. 1) (p.pages c.settle-2.new.pages) (p.count c.settle-2.new.pages) (p.first c.settle-2.new.pages) (p.asked c.args.pages.now) (p.asked c.relink.new.pages) (p.asked c.settle-2.new.pages) damage
     (asks-further (λ _. 1) _ _ _ (asks-further (λ _. 1) _ _ _ (asks-here (λ _. 1) _ _ c.args.page (omega arith) read.asked) (c.take_out.ensures.more told-look)) (c.relink.ensures.more told-mid))
     (c.settle-2.ensures.damaged (c.set_slot-is_changed.ensures.form c.in-Ok-check_node.ensures.form) (c.in-Ok-relink.ensures.told told-mid) damage e))
 

@@ -49,7 +49,7 @@ returns-in_err-move_slots-clause-damaged g c = λ told damage.
 pub returns-clause-damaged : goal.returns-clause-damaged
 returns-clause-damaged g c = λ told damage e.
     let p = g.P.Pages in
-    harm-later _ (λ _. 1) (p.pages c.raise.new.pages) (p.count c.raise.new.pages) (p.first c.raise.new.pages) (p.asked c.args.pages.now) (p.asked c.move_slots.new.pages) (p.asked c.raise.new.pages) damage
+    harm-later c.raise.new.tree.rows (λ _. 1) (p.pages c.raise.new.pages) (p.count c.raise.new.pages) (p.first c.raise.new.pages) (p.asked c.args.pages.now) (p.asked c.move_slots.new.pages) (p.asked c.raise.new.pages) damage
     (c.move_slots.ensures.more told) (c.raise.ensures.damaged (c.in_ok-move_slots.ensures.told told) damage e)
 
 pub returns-clause-told : goal.returns-clause-told

@@ -124,7 +124,7 @@ returns-in_err-part_words-clause-damaged g c = λ told damage.
     let a3 : List ℕ = p.asked c.part_words.new.pages in
     let r = err_from_is_err_and c.from_residual-in_err-part_words.result c.from_residual-in_err-part_words.ensures.1 in
     λ e. (let same : c.in_err-part_words.field-0.0 ≡ Damaged damage = cc (r.1, r.2, e) in
-    harm-later _ (λ _. 1) (p.pages c.part_words.new.pages) (p.count c.part_words.new.pages) (p.first c.part_words.new.pages) a0 a2 a3 damage more2 (c.in_err-part_words.ensures.damaged told2 damage (ap Err same)))
+    harm-later c.part_words.new.tree.rows (λ _. 1) (p.pages c.part_words.new.pages) (p.count c.part_words.new.pages) (p.first c.part_words.new.pages) a0 a2 a3 damage more2 (c.in_err-part_words.ensures.damaged told2 damage (ap Err same)))
 
 pub returns-in_err-part_words-clause-more : goal.returns-in_err-part_words-clause-more
 returns-in_err-part_words-clause-more g c = λ told.

@@ -24,14 +24,14 @@ returns-in_err-root-2-clause-honest_standing g c =
     rw (passed.1, passed.2) (λ before free level rest mine sums start standing fits told damage e.
     c.insert_below.ensures.honest_standing before free level rest mine sums start standing fits told damage (c.in_err-root-2.was ∙ ap Err (same-fault {T = Unit {0}} _ _ e)))
 
-pub returns-in_ok-root-clause-planted : goal.returns-in_ok-root-clause-planted
-returns-in_ok-root-clause-planted g c = λ free low fits whole.
+pub returns-then-tree-eq0-clause-planted : goal.returns-then-tree-eq0-clause-planted
+returns-then-tree-eq0-clause-planted g c = λ free low fits whole.
     let before : View = view (g.P.Pages.pages c.args.pages.now) c.args.tree.now.rows (g.P.Pages.count c.args.pages.now) (g.P.Pages.first c.args.pages.now) free in
     let zero_is : c.args.tree.now.root ≡ 0 = c.if-tree-eq0.true in
     first-planted _ zero_is (c.in_ok-root.ensures.planted free (place-fits c.args.goal c.args.slot.now low fits) (empty-whole before c.args.tree.now.root zero_is whole))
 
-pub returns-in_ok-root-clause-standing : goal.returns-in_ok-root-clause-standing
-returns-in_ok-root-clause-standing g c = λ before free level rest mine sums start standing fits.
+pub returns-then-tree-eq0-clause-standing : goal.returns-then-tree-eq0-clause-standing
+returns-then-tree-eq0-clause-standing g c = λ before free level rest mine sums start standing fits.
     let now : View = view (g.P.Pages.pages c.args.pages.now) c.args.tree.now.rows (g.P.Pages.count c.args.pages.now) (g.P.Pages.first c.args.pages.now) free in
     let x : Item = worded (impact_in c.args.words.now) (item_of c.args.slot.now) in
     let some = standing-some before now level c.args.tree.now.root (c.args.goal, x) rest mine sums start standing in

@@ -183,7 +183,7 @@ returns-in_err-climbed-clause-damaged g c = λ told damage.
 pub returns-in-Some-clause-damaged : goal.returns-in-Some-clause-damaged
 returns-in-Some-clause-damaged g c = λ told damage e.
     let p = g.P.Pages in
-    inr (harm-later _ (λ _. 1) (p.pages c.raise_root.new.pages) (p.count c.raise_root.new.pages) (p.first c.raise_root.new.pages) (p.asked c.args.pages.now) (p.asked c.climb.new.pages) (p.asked c.raise_root.new.pages) damage
+    inr (harm-later c.raise_root.new.tree.rows (λ _. 1) (p.pages c.raise_root.new.pages) (p.count c.raise_root.new.pages) (p.first c.raise_root.new.pages) (p.asked c.args.pages.now) (p.asked c.climb.new.pages) (p.asked c.raise_root.new.pages) damage
     (c.climb.ensures.more told) (c.raise_root.ensures.damaged (c.in_ok-climbed.ensures.told told) damage e))
 
 pub returns-in-Some-clause-told : goal.returns-in-Some-clause-told

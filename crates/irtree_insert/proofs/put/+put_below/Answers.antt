@@ -293,7 +293,7 @@ returns-clause-frame g t c =
 pub returns-then-level-goal-clause-damaged : goal.returns-then-level-goal-clause-damaged
 returns-then-level-goal-clause-damaged g t c = λ before told is used level asked damage e.
     let p = g.P.Pages in
-    rows-harm _ (p.pages c.add.new.pages) (p.count c.add.new.pages) (p.first c.add.new.pages) before (p.asked c.args.pages.now) (p.asked c.add.new.pages) c.args.page damage asked (c.add.ensures.damaged told damage e)
+    rows-harm c.add.new.tree.rows (p.pages c.add.new.pages) (p.count c.add.new.pages) (p.first c.add.new.pages) before (p.asked c.args.pages.now) (p.asked c.add.new.pages) c.args.page damage asked (c.add.ensures.damaged told damage e)
 
 pub returns-in_err-known-clause-damaged : goal.returns-in_err-known-clause-damaged
 returns-in_err-known-clause-damaged g t c = λ before told is used level asked damage.
@@ -394,8 +394,8 @@ returns-in_err-theirs-clause-damaged g t c = λ before told is used level asked 
     let a4 : List ℕ = p.asked c.relink.new.pages in
     let r = err_from_is_err_and c.from_residual-in_err-theirs.result c.from_residual-in_err-theirs.ensures.1 in
     λ e. (let same : c.in_err-theirs.field-0.0 ≡ Damaged damage = cc (r.1, r.2, e) in
-    rows-harm _ (p.pages c.relink.new.pages) (p.count c.relink.new.pages) (p.first c.relink.new.pages) before a0 a4 c.args.page damage asked
-    (harm-later _ (λ _. 1) (p.pages c.relink.new.pages) (p.count c.relink.new.pages) (p.first c.relink.new.pages) a0 a3 a4 damage more3 (c.in_err-theirs.ensures.damaged told3 damage (ap Err same))))
+    rows-harm c.relink.new.tree.rows (p.pages c.relink.new.pages) (p.count c.relink.new.pages) (p.first c.relink.new.pages) before a0 a4 c.args.page damage asked
+    (harm-later c.relink.new.tree.rows (λ _. 1) (p.pages c.relink.new.pages) (p.count c.relink.new.pages) (p.first c.relink.new.pages) a0 a3 a4 damage more3 (c.in_err-theirs.ensures.damaged told3 damage (ap Err same))))
 
 pub returns-in_err-theirs-clause-more : goal.returns-in_err-theirs-clause-more
 returns-in_err-theirs-clause-more g t c = λ told.
@@ -435,8 +435,8 @@ returns-clause-damaged g t c = λ before told is used level asked damage e.
     let more4 : AsksOnly (λ _. 1) a0 a4 = asks-further (λ _. 1) a0 a3 a4 more3 (c.relink.ensures.more told3) in
     let told4 : AreTold (p.pages c.relink.new.pages) (p.count c.relink.new.pages) = c.in_ok-theirs.ensures.told told3 in
     let a5 : List ℕ = p.asked c.finish.new.pages in
-    rows-harm _ (p.pages c.finish.new.pages) (p.count c.finish.new.pages) (p.first c.finish.new.pages) before a0 a5 c.args.page damage asked
-    (harm-later _ (λ _. 1) (p.pages c.finish.new.pages) (p.count c.finish.new.pages) (p.first c.finish.new.pages) a0 a4 a5 damage more4 (c.finish.ensures.damaged told4 damage e))
+    rows-harm c.finish.new.tree.rows (p.pages c.finish.new.pages) (p.count c.finish.new.pages) (p.first c.finish.new.pages) before a0 a5 c.args.page damage asked
+    (harm-later c.finish.new.tree.rows (λ _. 1) (p.pages c.finish.new.pages) (p.count c.finish.new.pages) (p.first c.finish.new.pages) a0 a4 a5 damage more4 (c.finish.ensures.damaged told4 damage e))
 
 pub returns-clause-told : goal.returns-clause-told
 returns-clause-told g t c = λ told.

@@ -83,7 +83,7 @@ returns-in_err-raise-clause-damaged g c = λ told damage.
     let told1 : AreTold (p.pages c.words_beside.new.pages) (p.count c.words_beside.new.pages) = rw (f.pages, f.count) told in
     let r = err_from_is_err_and c.from_residual-in_err-raise.result c.from_residual-in_err-raise.ensures.1 in
     λ e. (let same : c.in_err-raise.field-0.0 ≡ Damaged damage = cc (r.1, r.2, e) in
-    harm-later _ (λ _. 1) (p.pages c.raise.new.pages) (p.count c.raise.new.pages) (p.first c.raise.new.pages) (p.asked c.args.pages.now) (p.asked c.words_beside.new.pages) (p.asked c.raise.new.pages) damage
+    harm-later c.raise.new.tree.rows (λ _. 1) (p.pages c.raise.new.pages) (p.count c.raise.new.pages) (p.first c.raise.new.pages) (p.asked c.args.pages.now) (p.asked c.words_beside.new.pages) (p.asked c.raise.new.pages) damage
     (c.words_beside.ensures.more told) (c.in_err-raise.ensures.damaged told1 damage (ap Err same)))
 
 pub returns-in_err-raise-clause-more : goal.returns-in_err-raise-clause-more
@@ -110,7 +110,7 @@ returns-in_err-renew-clause-damaged g c = λ told damage.
     let told2 : AreTold (p.pages c.raise.new.pages) (p.count c.raise.new.pages) = c.in_ok-raise.ensures.told told1 in
     let r = err_from_is_err_and c.from_residual-in_err-renew.result c.from_residual-in_err-renew.ensures.1 in
     λ e. (let same : c.in_err-renew.field-0.0 ≡ Damaged damage = cc (r.1, r.2, e) in
-    harm-later _ (λ _. 1) (p.pages c.renew.new.pages) (p.count c.renew.new.pages) (p.first c.renew.new.pages) a0 a2 a3 damage more2 (c.in_err-renew.ensures.damaged told2 damage (ap Err same)))
+    harm-later c.renew.new.tree.rows (λ _. 1) (p.pages c.renew.new.pages) (p.count c.renew.new.pages) (p.first c.renew.new.pages) a0 a2 a3 damage more2 (c.in_err-renew.ensures.damaged told2 damage (ap Err same)))
 
 pub returns-in_err-renew-clause-more : goal.returns-in_err-renew-clause-more
 returns-in_err-renew-clause-more g c = λ told.

@@ -72,7 +72,7 @@ returns-in_err-raise-clause-damaged g c = λ told damage.
     let a2 : List ℕ = p.asked c.raise.new.pages in
     let r = err_from_is_err_and c.from_residual-in_err-raise.result c.from_residual-in_err-raise.ensures.1 in
     λ e. (let same : c.in_err-raise.field-0.0 ≡ Damaged damage = cc (r.1, r.2, e) in
-    harm-later _ (λ _. 1) (p.pages c.raise.new.pages) (p.count c.raise.new.pages) (p.first c.raise.new.pages) a0 a1 a2 damage more1 (c.in_err-raise.ensures.damaged told1 damage (ap Err same)))
+    harm-later c.raise.new.tree.rows (λ _. 1) (p.pages c.raise.new.pages) (p.count c.raise.new.pages) (p.first c.raise.new.pages) a0 a1 a2 damage more1 (c.in_err-raise.ensures.damaged told1 damage (ap Err same)))
 
 pub returns-in_err-raise-clause-more : goal.returns-in_err-raise-clause-more
 returns-in_err-raise-clause-more g c = λ told.

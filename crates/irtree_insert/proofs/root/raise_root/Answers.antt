@@ -119,7 +119,7 @@ returns-in_err-refresh-clause-damaged g c = λ told damage.
     let a2 : List ℕ = p.asked c.refresh.new.pages in
     let r = err_from_is_err_and c.from_residual-in_err-refresh.result c.from_residual-in_err-refresh.ensures.1 in
     λ e. (let same : c.in_err-refresh.field-0.0 ≡ Damaged damage = cc (r.1, r.2, e) in
-    harm-later _ (λ _. 1) (p.pages c.refresh.new.pages) (p.count c.refresh.new.pages) (p.first c.refresh.new.pages) a0 a1 a2 damage more1 (c.in_err-refresh.ensures.damaged told1 damage (ap Err same)))
+    harm-later c.refresh.new.tree.rows (λ _. 1) (p.pages c.refresh.new.pages) (p.count c.refresh.new.pages) (p.first c.refresh.new.pages) a0 a1 a2 damage more1 (c.in_err-refresh.ensures.damaged told1 damage (ap Err same)))
 
 pub returns-in_err-refresh-clause-more : goal.returns-in_err-refresh-clause-more
 returns-in_err-refresh-clause-more g c = λ told.
@@ -145,7 +145,7 @@ returns-in_err-refresh-2-clause-damaged g c = λ told damage.
     let a3 : List ℕ = p.asked c.refresh-2.new.pages in
     let r = err_from_is_err_and c.from_residual-in_err-refresh-2.result c.from_residual-in_err-refresh-2.ensures.1 in
     λ e. (let same : c.in_err-refresh-2.field-0.0 ≡ Damaged damage = cc (r.1, r.2, e) in
-    harm-later _ (λ _. 1) (p.pages c.refresh-2.new.pages) (p.count c.refresh-2.new.pages) (p.first c.refresh-2.new.pages) a0 a2 a3 damage more2 (c.in_err-refresh-2.ensures.damaged told2 damage (ap Err same)))
+    harm-later c.refresh-2.new.tree.rows (λ _. 1) (p.pages c.refresh-2.new.pages) (p.count c.refresh-2.new.pages) (p.first c.refresh-2.new.pages) a0 a2 a3 damage more2 (c.in_err-refresh-2.ensures.damaged told2 damage (ap Err same)))
 
 pub returns-in_err-refresh-2-clause-more : goal.returns-in_err-refresh-2-clause-more
 returns-in_err-refresh-2-clause-more g c = λ told.

@@ -134,7 +134,7 @@ returns-in-Err-remove_at-clause-damaged g c = λ told damage e.
     let length_is : length path ≡ suc level = let f = c.from.ensures in omega arith in
     let told_there : AreTold mid (P.count c.find.new.pages) = subst (λ (p : PageMap). AreTold p (P.count c.find.new.pages)) (sym frame.pages) (subst (λ (n : ℕ). AreTold old n) (sym frame.count) told) in
     let fault_is : c.in-Err-remove_at.fault ≡ Damaged damage = cc in
-    tree-later _ (λ _. 1) (P.pages c.remove_at.new.pages) (P.count c.remove_at.new.pages) (P.first c.remove_at.new.pages) (P.asked c.args.pages.now) (P.asked c.find.new.pages) (P.asked c.remove_at.new.pages) damage
+    tree-later c.remove_at.new.tree.rows (λ _. 1) (P.pages c.remove_at.new.pages) (P.count c.remove_at.new.pages) (P.first c.remove_at.new.pages) (P.asked c.args.pages.now) (P.asked c.find.new.pages) (P.asked c.remove_at.new.pages) damage
     c.find.ensures.more (c.remove_at.ensures.damaged level told_there length_is low way damage (c.in-Err-remove_at.is ∙ ap Err fault_is))
 
 pub returns-in-Err-clause-damaged : goal.returns-in-Err-clause-damaged
