@@ -232,15 +232,7 @@ pub(crate) fn edit_rows<P: Pages>(
     let mut draft = RowDraft::blank();
     let mut left = *edits;
     while let Some((number, first, behind)) = left.split_first() {
-        left = edit_leaf(
-            pages,
-            tree,
-            node,
-            number,
-            &first,
-            &behind,
-            &mut draft,
-        )?;
+        left = edit_leaf(pages, tree, node, number, &first, &behind, &mut draft)?;
     }
     Ok(())
 }

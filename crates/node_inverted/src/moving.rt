@@ -187,15 +187,7 @@ pub fn move_slots<P: Pages>(
     let mut from = Some(0);
     while let Some(at) = from {
         from = move_next(
-            pages,
-            tree,
-            node,
-            slots,
-            to,
-            at,
-            &mut copy,
-            &mut stays,
-            &mut goes,
+            pages, tree, node, slots, to, at, &mut copy, &mut stays, &mut goes,
         )?;
     }
     set_parts(pages, tree, node, to, &mut stays, &mut goes)?;

@@ -245,15 +245,7 @@ pub fn renew<P: Pages>(
     let mut above = LeafCopy::none();
     for pair in words {
         renew_one(
-            pages,
-            tree,
-            node,
-            slot,
-            child,
-            pair.0,
-            &mut below,
-            &mut above,
-            &mut rows,
+            pages, tree, node, slot, child, pair.0, &mut below, &mut above, &mut rows,
         )?;
     }
     set_rows(pages, tree, node, &rows)?;

@@ -36,11 +36,11 @@ loop-pair-preserved g c = record {
       let p : ℕ × ℕ = get_or c.args.words.now c.loop-pair.pair-index (0, 0) in
       let front : List (ℕ × ℕ) = take c.loop-pair.pair-index c.args.words.now in
       let f : Bytes = cleared c.args.node c.args.slot b in
-      let now : Bytes = bytes_in (g.P.Pages.pages c.loop-pair.pages) c.loop-pair.changed.rows in
+      let now : Bytes = bytes_in (g.P.Pages.pages c.loop-pair.pages) c.loop-pair.tree.rows in
       let d : Bytes = on_words (take (c.loop-pair.pair-index + 1) c.args.words.now) f b in
-      turns-further before c.args.tree.now.rows (g.P.Pages.pages c.loop-pair.pages) (g.P.Pages.count c.loop-pair.pages) (g.P.Pages.first c.loop-pair.pages) c.loop-pair.changed.rows (on_words front f b) turn
+      turns-further before c.args.tree.now.rows (g.P.Pages.pages c.loop-pair.pages) (g.P.Pages.count c.loop-pair.pages) (g.P.Pages.first c.loop-pair.pages) c.loop-pair.tree.rows (on_words front f b) turn
       (g.P.Pages.pages c.set_impact.new.pages) (g.P.Pages.count c.set_impact.new.pages) (g.P.Pages.first c.set_impact.new.pages) c.set_impact.new.tree.rows d
-      (turns-as _ c.loop-pair.changed.rows (g.P.Pages.pages c.set_impact.new.pages) (g.P.Pages.count c.set_impact.new.pages) (g.P.Pages.first c.set_impact.new.pages) c.set_impact.new.tree.rows
+      (turns-as _ c.loop-pair.tree.rows (g.P.Pages.pages c.set_impact.new.pages) (g.P.Pages.count c.set_impact.new.pages) (g.P.Pages.first c.set_impact.new.pages) c.set_impact.new.tree.rows
       (with_byte c.args.node p.0 c.args.slot 0 now) d
       (λ n w i. cleared-next c.args.node c.args.slot b now front turn.is p n w i
       ∙ ap (λ (ps : List (ℕ × ℕ)). on_words ps f b n w i) (sym (take_more c.args.words.now c.loop-pair.pair-index (0, 0) l)))
@@ -57,7 +57,7 @@ returns-in_err-set_impact-clause-honest g c free rows told damage =
     let turn = c.loop-pair.invariant.turns free rows in
     let p = err_from_is_err_and c.from_residual.result c.from_residual.ensures.1 in
     λ e. (let same : c.in_err-set_impact.field-0.0 ≡ Damaged damage = cc (p.1, p.2, e) in
-    c.in_err-set_impact.ensures.honest turn.free turn.rows (told-turned before c.args.tree.now.rows (g.P.Pages.pages c.loop-pair.pages) (g.P.Pages.count c.loop-pair.pages) (g.P.Pages.first c.loop-pair.pages) c.loop-pair.changed.rows
+    c.in_err-set_impact.ensures.honest turn.free turn.rows (told-turned before c.args.tree.now.rows (g.P.Pages.pages c.loop-pair.pages) (g.P.Pages.count c.loop-pair.pages) (g.P.Pages.first c.loop-pair.pages) c.loop-pair.tree.rows
     (on_words (take c.loop-pair.pair-index c.args.words.now) (cleared c.args.node c.args.slot b) b) turn told) damage (ap Err same))
 
 pub returns-in_err-set_impact-clause-damaged : goal.returns-in_err-set_impact-clause-damaged

@@ -644,7 +644,7 @@ returns-in-Err-check_node-clause-damaged g t c = λ told way damage e.
     let read = c.in-Ok.ensures in
     let seen : c.looked.result.now ≡ old c.args.page = c.looked.ensures ∙ read.gives (told-read old (p.count c.args.pages.now) c.args.page told (looked-counted (p.count c.args.pages.now) c.args.page read.uncounted)) in
     let is : c.in-Err-check_node.fault ≡ Damaged damage = same-fault {T = Option Slot} _ _ e in
-    node-harm old (p.pages c.look.new.self) (p.count c.args.pages.now) (p.count c.look.new.self) (p.first c.look.new.self) (p.asked c.args.pages.now) (p.asked c.look.new.self) c.args.page damage
+    node-harm _ old (p.pages c.look.new.self) (p.count c.args.pages.now) (p.count c.look.new.self) (p.first c.look.new.self) (p.asked c.args.pages.now) (p.asked c.look.new.self) c.args.page damage
     read.pages read.count read.asked c.args.level c.looked.result.now seen (way-level old c.args.path.now c.args.level c.args.page way)
     (subst (IsMisplaced c.args.page c.args.level c.looked.result.now) is c.in-Err-check_node.ensures.refuses)
 

@@ -1,10 +1,9 @@
-use Rattle.std.proofs.Common.{ℕ, ◌^◌, ◌<◌, ◌≤◌, None, inr, sym, subst, arith, rules}
+use Rattle.std.proofs.Common.{ℕ, ◌^◌, ◌<◌, None, sym, subst, rules}
 use Rattle.page_face.specs.FreeList.{PageMap}
 use Rattle.page_face.specs.Number.{number}
 use Rattle.btree_nodes.specs.Damages.{AsksOnly}
 use Rattle.btree_nodes.specs.Rows.{Row}
 use Rattle.btree_nodes.specs.Tree.{IsMap, map_uses}
-use Rattle.btree_nodes.proofs.Walks.{same-fault}
 use Rattle.rtree_shape.specs.Stock.{rows_form}
 use Rattle.node_rows.specs.Rows.{bytes_in}
 use Rattle.node_rows.specs.Turns.{IsNext, Next}
