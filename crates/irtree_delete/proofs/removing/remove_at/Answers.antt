@@ -1,6 +1,5 @@
-use Rattle.std.proofs.Common.{arith, ◌≡◌, ℕ, Err, ap, refl, subst, inl, inr}
+use Rattle.std.proofs.Common.{arith, ◌≡◌, ℕ, refl, subst, inl, inr}
 use Rattle.btree_nodes.proofs.Harms.{asks-nothing}
-use Rattle.btree_nodes.proofs.Walks.{same-fault}
 use Rattle.rtree_shape.specs.Stock.{view}
 use Rattle.rtree_find.specs.Ways.{IsWay}
 use Rattle.irtree_shape.specs.Damages.{IsTreeHarm}
@@ -14,9 +13,9 @@ returns-in-None-clause-honest g c = λ free x whole some leads long told damage 
     (let a = c.counted-counted.ensures in let b = c.counted-counted.type_inv in omega arith) in
     elim c.in-None.ensures [ inl none ↦ omega arith | inr many ↦ omega arith ]
 
-pub returns-in-Err-clause-honest : goal.returns-in-Err-clause-honest
-returns-in-Err-clause-honest g c = λ free x whole some leads long told damage e.
-    c.in-Err.ensures.honest free x whole some leads (let a = c.in-Some.ensures in omega arith) told damage (ap Err (same-fault {T = Unit {0}} _ _ e))
+pub returns-clause-honest : goal.returns-clause-honest
+returns-clause-honest g c = λ free x whole some leads long told damage e.
+    c.remove_from.ensures.honest free x whole some leads (let a = c.in-Some.ensures in omega arith) told damage e
 
 -- a path of these many slots has a level
 pub returns-in-None-clause-damaged : goal.returns-in-None-clause-damaged
@@ -28,7 +27,7 @@ returns-in-None-clause-damaged g c = λ level told long low way damage e.
 pub returns-in-None-clause-more : goal.returns-in-None-clause-more
 returns-in-None-clause-more g c = λ told. asks-nothing (λ _. 1) _ _ refl
 
-pub returns-in-Err-clause-damaged : goal.returns-in-Err-clause-damaged
-returns-in-Err-clause-damaged g c = λ level told long low way damage e.
+pub returns-clause-damaged : goal.returns-clause-damaged
+returns-clause-damaged g c = λ level told long low way damage e.
     let is : level ≡ c.in-Some.level = let a = c.in-Some.ensures in omega arith in
-    c.in-Err.ensures.damaged told (subst (λ (l : ℕ). IsWay (g.P.Pages.pages c.args.pages.now) c.args.path.now l c.args.tree.now.root) is way) damage (ap Err (same-fault {T = Unit {0}} _ _ e))
+    c.remove_from.ensures.damaged told (subst (λ (l : ℕ). IsWay (g.P.Pages.pages c.args.pages.now) c.args.path.now l c.args.tree.now.root) is way) damage e
