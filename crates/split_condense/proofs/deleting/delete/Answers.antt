@@ -147,8 +147,8 @@ returns-in-Err-clause-damaged g c = λ told damage e.
     let frame = c.find.ensures.frame in
     let fault_is : c.in-Err.fault ≡ Damaged damage = cc in
     let harm = find-harm old (P.count c.args.pages.now) c.args.tree.now.root before after damage (c.find.ensures.damaged damage (c.in-Err.is ∙ ap Err fault_is)) in
-    subst (λ (p : PageMap). IsTreeHarm p (P.count c.find.new.pages) first _ before after damage) (sym frame.pages)
-    (subst (λ (n : ℕ). IsTreeHarm old n first _ before after damage) (sym frame.count) (inl harm))
+    subst (λ (p : PageMap). IsTreeHarm p (P.count c.find.new.pages) first c.args.tree.now.rows before after damage) (sym frame.pages)
+    (subst (λ (n : ℕ). IsTreeHarm old n first c.args.tree.now.rows before after damage) (sym frame.count) (inl harm))
 
 pub returns-in-Ok-clause-told : goal.returns-in-Ok-clause-told
 returns-in-Ok-clause-told g c = λ told.
