@@ -58,5 +58,6 @@ pub fn put_entry<P: Pages>(
         return Ok(());
     }
     take_entry(alloc, pages, tree, policy, key, old)?;
-    insert(alloc, pages, tree, policy, &entry_of(key, new))
+    insert(alloc, pages, tree, policy, &entry_of(key, new))?;
+    Ok(())
 }

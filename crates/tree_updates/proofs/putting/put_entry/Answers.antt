@@ -95,5 +95,5 @@ returns-in_err-insert-clause-damaged g c = λ told damage e.
     let P = g.P.Pages in
     let passed = err_from_is_err_and c.from_residual-in_err-insert.result c.from_residual-in_err-insert.ensures.1 in
     let fault_is : c.in_err-insert.field-0.0 ≡ Damaged damage = cc (passed.1, passed.2, e) in
-    inl (tree-later _ (λ _. 1) (P.pages c.insert-2.new.pages) (P.count c.insert-2.new.pages) (P.first c.insert-2.new.pages) (P.asked c.args.pages.now) (P.asked c.take_entry.new.pages) (P.asked c.insert-2.new.pages) damage
+    inl (tree-later c.insert-2.new.tree.rows (λ _. 1) (P.pages c.insert-2.new.pages) (P.count c.insert-2.new.pages) (P.first c.insert-2.new.pages) (P.asked c.args.pages.now) (P.asked c.take_entry.new.pages) (P.asked c.insert-2.new.pages) damage
     (c.take_entry.ensures.more told) (c.insert-2.ensures.damaged (c.in_ok-take_entry.ensures.told told) damage (c.in_err-insert.was ∙ ap Err fault_is)))
