@@ -7,3 +7,4 @@ pub mod Steps
 pub mod Logs
 pub mod Histories
 pub mod Insides
+pub mod Levels

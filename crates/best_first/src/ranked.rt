@@ -1,12 +1,14 @@
 //! What a best-first search goes over.
-ghost use Rattle.std.specs.Prelude.{◌≡◌, ◌≢◌, ℕ, ◌≤◌, List, ◌∷◌, [], ◌++◌, length, Option, Err, IfOk, IsErrOf};
+ghost use Rattle.std.specs.Prelude.{◌≡◌, ◌≢◌, ◌⊎◌, ℕ, ◌≤◌, List, ◌∷◌, [], ◌++◌, length, Option, Err, IfOk, IsErrOf};
 ghost use Rattle.std.specs.List.{AllByRecursion};
 ghost use Rattle.page_face.specs.Calls.{Reads, FailsReading};
+ghost use Rattle.page_face.specs.declared.fault.Rule.TheVariants.{Level};
 ghost use Rattle.btree_nodes.specs.Damages.{AskedSince};
 ghost use Rattle.best_first.specs.declared.item.Item.{Item};
 ghost use Rattle.best_first.specs.Items.{IsGivenAt, IsRootAlone, OfNode, pages_of};
 ghost use Rattle.best_first.specs.Leads.{Bounds};
 ghost use Rattle.best_first.specs.Openings.{AsksNodes};
+ghost use Rattle.best_first.specs.Levels.{IsOffLevel, IsGivenBelow};
 ghost use Rattle.best_first.specs.Faults.{held_after};
 
 use crate::Item;
@@ -46,6 +48,9 @@ pub trait Ranked<P: Pages> {
     /// Whether an item stands in the bytes of a page as a node of a level.
     ghost stands: { List ℕ → ℕ → Item → Type 0 };
 
+    /// Whether the bytes of a page are told, and say that its node is of a level.
+    ghost has_level: { List ℕ → ℕ → Type 0 };
+
     /// What a damage says of the pages that were asked for between two logs.
     ghost harms: { Self → P → List ℕ → List ℕ → Damage → Type 0 };
 
@@ -58,6 +63,7 @@ pub trait Ranked<P: Pages> {
     fn start(&mut self, alloc: Global, pages: &mut P) -> Result<Vec<Item>, PageFault>
         ensures gives { fits self.old pages.old → IfOk result (λ items. items.items ≡ starts self.old pages.old) }
         ensures alone { IfOk result (λ items. IsRootAlone (root self.old) items.items) }
+        ensures levels { told self.old pages.old → IfOk result (λ items. AllByRecursion (OfNode (λ page level. has_level (P.pages pages.old page) level)) items.items) }
         ensures asks { told self.old pages.old → AsksNodes (is_node self.old pages.old) (root self.old ∷ []) (P.asked pages.old) (P.asked pages.new) }
         ensures asks_given { fits self.old pages.old → IfOk result (λ items. AsksNodes (is_node self.old pages.old) (pages_of items.items) (P.asked pages.old) (P.asked pages.new)) }
         ensures damaged { told self.old pages.old → (damage : Damage) → IsErrOf result (PageFault.Damaged damage) → harms self.old pages.old (P.asked pages.old) (P.asked pages.new) damage }
@@ -76,7 +82,7 @@ pub trait Ranked<P: Pages> {
 
     /// Opens a node: gives the places of a leaf that may be answers, and of every other node the children below which one may be, each with its bound.
     ///
-    /// Refuses `Damaged`, `Disk`, `Stopped` and `Memory`.
+    /// Refuses `Damaged`, with `Level` also where the node's page isn't of the level that it is opened with; `Disk`, `Stopped` and `Memory`.
     fn open(
         &mut self,
         alloc: Global,
@@ -88,9 +94,11 @@ pub trait Ranked<P: Pages> {
         ensures few { IfOk result (λ items. length items.items ≤ 32) }
         ensures children { IfOk result (λ items. AllByRecursion (IsGivenAt level) items.items) }
         ensures stand { IfOk result (λ items. AllByRecursion (stands (P.pages pages.old node) level) items.items) }
+        ensures level { told self.old pages.old → IfOk result (λ items. has_level (P.pages pages.old node) level) }
         ensures asked { told self.old pages.old → IfOk result (λ items. AskedSince (P.asked pages.old) (P.asked pages.new) node) }
         ensures asks { told self.old pages.old → AsksNodes (is_node self.old pages.old) (node ∷ []) (P.asked pages.old) (P.asked pages.new) }
-        ensures damaged { told self.old pages.old → (damage : Damage) → IsErrOf result (PageFault.Damaged damage) → harms self.old pages.old (P.asked pages.old) (P.asked pages.new) damage }
+        ensures damaged { told self.old pages.old → (damage : Damage) → IsErrOf result (PageFault.Damaged damage) → harms self.old pages.old (P.asked pages.old) (P.asked pages.new) damage
+            ⊎ ((damage ≡ record { page = node; rule = Level }) × IsOffLevel has_level (P.pages pages.old) (P.asked pages.old) (P.asked pages.new) node level) }
         ensures honest { fits self.old pages.old → has_node self.old pages.old node level → (damage : Damage) → result ≢ Err (PageFault.Damaged damage) }
         ensures fails { FailsReading P.Pages pages.old pages.new result }
         ensures frame { Reads P.Pages pages.old pages.new }
@@ -115,4 +123,8 @@ pub trait Ranked<P: Pages> {
 
     /// What a damage says of the pages asked for last, it says of all that were asked for.
     ghost harms_sooner: { (s : Self) (p : P) (old more new : List ℕ) (damage : Damage) → harms s p (old ++ more) new damage → harms s p old new damage };
+
+    /// The rule `Level` may be told of a page that was given below another one, and hasn't the level that it was given with.
+    ghost mislevelled: { (s : Self) (p : P) (old new : List ℕ) (page level : ℕ) → IsGivenBelow stands has_level (P.pages p) old new page level
+        → IsOffLevel has_level (P.pages p) old new page level → harms s p old new (record { page = page; rule = Level }) };
 }

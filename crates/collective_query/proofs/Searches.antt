@@ -9,12 +9,12 @@ use Rattle.page_face.specs.declared.fault.PageFault.{PageFault}
 use Rattle.page_face.specs.declared.fault.PageFault.TheVariants.{Damaged, Memory}
 use Rattle.page_face.specs.declared.pages.Pages.{Ghosts}
 use Rattle.page_face.proofs.Frames.{reads_then}
-use Rattle.btree_nodes.specs.Damages.{AreTold, AskedSince}
+use Rattle.btree_nodes.specs.Damages.{AreTold}
 use Rattle.btree_nodes.proofs.Walks.{same-fault}
 use Rattle.node_rows.specs.declared.roots.Tree.{Tree}
 use Rattle.node_rows.proofs.Faults.{reads-none}
-use Rattle.best_first.proofs.Logs.{asked_sooner}
 use Rattle.tree_ranking.specs.Harms.{IsHarm}
+use Rattle.tree_ranking.specs.Laws.{harm-sooner as ranked-sooner}
 use Rattle.boolean_queries.specs.Harms.{IsQueryHarm}
 use Rattle.boolean_queries.proofs.Histories.{harm-sooner}
 use Rattle.collective_query.specs.Searches.{IsSearchHarm, GoesOn, Searches}
@@ -23,7 +23,7 @@ use Rattle.collective_query.specs.Searches.{IsSearchHarm, GoesOn, Searches}
 harm-later : (pages : PageMap) (count : ℕ) (tree : Tree) (old mid new : List ℕ) (damage : Damage) → GoesOn old mid → IsSearchHarm pages count tree mid new damage → IsSearchHarm pages count tree old new damage
 harm-later pages count tree old mid new damage on harm = ⊎_elim
     (λ (walk : IsQueryHarm pages count tree.rows tree.root mid new damage). inl (harm-sooner pages count tree.rows tree.root old on.more mid new damage on.is walk))
-    (λ (ranked : IsHarm pages count tree.rows mid new damage). inr (asked_sooner old on.more new damage.page (subst (λ (l : List ℕ). AskedSince l new damage.page) on.is ranked.0), ranked.1))
+    (λ (ranked : IsHarm pages count tree.rows mid new damage). inr (ranked-sooner pages count tree.rows old on.more new damage (subst (λ (l : List ℕ). IsHarm pages count tree.rows l new damage) on.is ranked)))
     harm
 
 goes-then : (old mid new : List ℕ) → GoesOn old mid → GoesOn mid new → GoesOn old new

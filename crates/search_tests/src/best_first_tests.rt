@@ -81,6 +81,8 @@ impl<P: Pages> Ranked<P> for Table {
 
     ghost stands = { λ bytes level item. Unit {0} };
 
+    ghost has_level = { λ bytes level. Unit {0} };
+
     ghost harms = { λ s p old new damage. Unit {0} };
 
     ghost held = { λ s. s.held };
@@ -92,6 +94,8 @@ impl<P: Pages> Ranked<P> for Table {
     ghost opens_in = { λ s p page level f h. tt };
 
     ghost harms_sooner = { λ s p old more new damage h. tt };
+
+    ghost mislevelled = { λ s p old new page level below off. tt };
 
     fn start(&mut self, alloc: Global, pages: &mut P) -> Result<Vec<Item>, PageFault> {
         let mut items = Vec::new(alloc);

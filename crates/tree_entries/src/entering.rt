@@ -1,6 +1,7 @@
 //! A node's page is looked at, and its header checked.
 ghost use Rattle.std.specs.Prelude.{◌≡◌, ◌≢◌, ◌<◌, length, IfOk, OnOk, IsErrOf};
 ghost use Rattle.page_face.specs.Calls.{Reads, FailsReading};
+ghost use Rattle.page_face.specs.Causes.{IsUncounted};
 ghost use Rattle.btree_nodes.specs.Damages.{AskedSince, AsksOnly};
 ghost use Rattle.btree_nodes.specs.Supply.{one_at};
 ghost use Rattle.rtree_nodes.specs.Pages.{level_in};
@@ -17,6 +18,7 @@ use rtree_nodes::header;
 pub fn enter<P: Pages>(pages: &mut P, page: u32) -> Result<u8, PageFault>
     ensures level { IfOk result (λ level. level ≡ level_in (P.looked pages.new)) }
     ensures gives { OnOk result (0 < length (P.pages pages.old page) → P.looked pages.new ≡ P.pages pages.old page) }
+    ensures counted { OnOk result (IsUncounted (P.count pages.old) page → ⊥) }
     ensures here { OnOk result (AskedSince (P.asked pages.old) (P.asked pages.new) page) }
     ensures asks { AsksOnly (one_at page) (P.asked pages.old) (P.asked pages.new) }
     ensures damaged { (damage : Damage) → IsErrOf result (PageFault.Damaged damage)
@@ -39,6 +41,7 @@ pub fn enter<P: Pages>(pages: &mut P, page: u32) -> Result<u8, PageFault>
 pub fn enter_at<P: Pages>(pages: &mut P, page: u32, level: u8) -> Result<(), PageFault>
     ensures level { OnOk result (level ≡ level_in (P.looked pages.new)) }
     ensures gives { OnOk result (0 < length (P.pages pages.old page) → P.looked pages.new ≡ P.pages pages.old page) }
+    ensures counted { OnOk result (IsUncounted (P.count pages.old) page → ⊥) }
     ensures here { OnOk result (AskedSince (P.asked pages.old) (P.asked pages.new) page) }
     ensures asks { AsksOnly (one_at page) (P.asked pages.old) (P.asked pages.new) }
     ensures damaged { (damage : Damage) → IsErrOf result (PageFault.Damaged damage)

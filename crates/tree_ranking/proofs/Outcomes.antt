@@ -14,7 +14,8 @@ use Rattle.rtree_nodes.specs.Pages.{is_form, has_values}
 use Rattle.rtree_nodes.proofs.Formed.{form-parts, values-from}
 use Rattle.rtree_find.specs.Harms.{BreaksAlone, BreaksPlace}
 use Rattle.best_first.specs.declared.item.Item.{Item}
-use Rattle.tree_ranking.specs.Openings.{IsSoundNode}
+use Rattle.best_first.specs.Levels.{IsOffLevel}
+use Rattle.tree_ranking.specs.Openings.{IsSoundNode, SaysLevel}
 use Rattle.tree_ranking.specs.Harms.{IsHarm}
 
 pub ok-weaker : {X : Type 0} (P Q : X → Type 0) (r : Result X PageFault) → ((x : X) → P x → Q x) → IfOk r P → IfOk r Q
@@ -54,13 +55,14 @@ value-harm pages count rows node old new bytes (Err fault) damage e there told c
     (λ d. harm-of pages count rows node old new damage (same-damage damage (record { page = node; rule = Value }) (sym same ∙ d.0)) there
     (λ some. subst (BreaksNode Value) (told some) d.1)) cause
 
--- a page that breaks a rule in its place
+-- a page that breaks a rule by itself, or hasn't the level that it is opened with
 pub place-harm : (pages : PageMap) (count rows node level : ℕ) (old new : List ℕ) (damage : Damage) → damage.page ≡ node → AskedSince old new node → BreaksPlace damage.rule pages count node (λ found. found ≡ level → ⊥)
-    → IsHarm pages count rows old new damage
-place-harm pages count rows node level old new damage e there broken = (
-  subst (AskedSince old new) (sym e) there,
-  inl (⊎_elim (λ alone. inl (subst (BreaksAlone damage.rule pages count) (sym e) alone)) (λ at_level. inr at_level.0) broken),
-)
+    → IsHarm pages count rows old new damage ⊎ ((damage ≡ record { page = node; rule = Level }) × IsOffLevel SaysLevel pages old new node level)
+place-harm pages count rows node level old new damage e there broken =
+    ⊎_elim
+    (λ alone. inl (subst (AskedSince old new) (sym e) there, inl (inl (subst (BreaksAlone damage.rule pages count) (sym e) alone))))
+    (λ at_level. let rule = at_level.0 in inr ((λ i. record { page = e i; rule = rule i }), (there, λ says. at_level.1 says.0 says.1)))
+    broken
 
 values-form : (page : List ℕ) → is_form page ≡ true → has_values page ≡ true
 values-form page h = let p = form-parts page h in values-from page p.values

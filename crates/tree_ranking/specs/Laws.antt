@@ -1,9 +1,10 @@
 -- What a whole tree promises to a search of it.
-use Rattle.std.proofs.Common.{◌≡◌, ℕ, zero, suc, ◌<◌, ◌≤◌, Bool, true, false, if◌then◌else◌, List, [], ◌∷◌, ◌++◌, length, take, Option, Some, None, refl, sym, ap, ◌∙◌, arith, ⊎_elim}
+use Rattle.std.proofs.Common.{◌≡◌, ℕ, zero, suc, ◌<◌, ◌≤◌, Bool, true, false, if◌then◌else◌, List, [], ◌∷◌, ◌++◌, length, take, Option, Some, None, refl, sym, ap, ◌∙◌, arith, inl, inr, ⊎_elim}
 use Rattle.std.specs.Borrow.{Bor}
 use Rattle.std.specs.List.{AllByRecursion, flat_map}
 use Rattle.page_face.specs.FreeList.{PageMap}
 use Rattle.page_face.specs.declared.fault.Damage.{Damage}
+use Rattle.page_face.specs.declared.fault.Rule.TheVariants.{Level}
 use Rattle.btree_nodes.specs.Tree.{IsMap, map_uses}
 use Rattle.btree_nodes.proofs.Supplies.{uncounted-past}
 use Rattle.paged_map.specs.Maps.{AreCounted as AreMapCounted}
@@ -23,10 +24,12 @@ use Rattle.rtree_nodes.specs.Pages.{node_of, level_in}
 use Rattle.node_rows.specs.declared.roots.Tree.{Tree}
 use Rattle.node_rows.specs.Rows.{bytes_in}
 use Rattle.irtree_shape.specs.Whole.{IsWhole, level_at, tree_uses}
+use Rattle.rtree_find.specs.Harms.{IsMislevelled}
 use Rattle.rtree_find.proofs.Subtrees.{some-read, child-node, child-counted, page-counted}
 use Rattle.best_first.specs.declared.item.Item.TheVariants.{Node, Place}
-use Rattle.best_first.specs.Items.{OfNode}
+use Rattle.best_first.specs.Items.{OfNode, IsGivenAt}
 use Rattle.best_first.specs.Leads.{leads, Bounds}
+use Rattle.best_first.specs.Levels.{IsOffLevel, IsGivenBelow}
 use Rattle.best_first.proofs.Logs.{asked_sooner}
 use Rattle.tree_entries.specs.Numbers.{Numbers, impact_of, byte_of}
 use Rattle.tree_entries.specs.Entries.{tree_places}
@@ -34,16 +37,41 @@ use Rattle.tree_ranking.specs.declared.ask.Ask.{Ask}
 use Rattle.tree_entries.specs.Hits.{near_item, top_item}
 use Rattle.tree_ranking.specs.declared.ask.Ask.TheVariants.{Nearest, Top}
 use Rattle.tree_ranking.specs.Asks.{filter_of, qualifies, hits_for, bound_by, hit_by, IsTopFor}
-use Rattle.tree_ranking.specs.Openings.{given_by, given_at, some_below, first_in, opened_in, started_in, IsSoundNode}
+use Rattle.tree_ranking.specs.Openings.{given_by, given_at, some_below, first_in, opened_in, started_in, IsSoundNode, StandsIn, SaysLevel}
 use Rattle.tree_ranking.specs.Fits.{FitsTree, HasNode, nodes_at}
-use Rattle.tree_ranking.specs.Harms.{IsHarm}
+use Rattle.tree_ranking.specs.Harms.{BreaksOne, IsHarm}
 use Rattle.tree_ranking.specs.Belows.{IsPlaceItem, all-spread}
 use Rattle.tree_ranking.specs.Trees.{tree-members, tree-bounds}
 use Rattle.tree_ranking.specs.Leaves.{leaf-held, slot-impacts, filled-joined}
 
 -- what a damage says of the pages asked for last
 pub harm-sooner : (pages : PageMap) (count rows : ℕ) (old more new : List ℕ) (damage : Damage) → IsHarm pages count rows (old ++ more) new damage → IsHarm pages count rows old new damage
-harm-sooner pages count rows old more new damage h = (asked_sooner old more new damage.page h.0, h.1)
+harm-sooner pages count rows old more new damage h = (asked_sooner old more new damage.page h.0, breaks-sooner h.1)
+  where
+    mislevelled : IsMislevelled pages (old ++ more) new damage.page → IsMislevelled pages old new damage.page
+    mislevelled m = record { parent = m.parent; at = m.at; asked = asked_sooner old more new m.parent m.asked; names = m.names; level = m.level }
+
+    breaks-sooner : BreaksOne pages count rows (old ++ more) new damage → BreaksOne pages count rows old new damage
+    breaks-sooner b = elim b [ inl one ↦ inl (elim one [ inl alone ↦ inl alone | inr level ↦ inr (level.0, mislevelled level.1) ]) | inr row ↦ inr row ]
+
+one-above : (above page level bound : ℕ) → IsGivenAt above (Node page level bound) → above ≡ suc level
+one-above zero page level bound g = absurd g
+one-above (suc l) page level bound g = ap suc (sym g)
+
+-- a page below one that names it, with another level than it was given with, breaks the rule Level
+pub harm-below : (pages : PageMap) (count rows : ℕ) (old new : List ℕ) (page level : ℕ) → IsGivenBelow StandsIn SaysLevel pages old new page level → IsOffLevel SaysLevel pages old new page level
+    → IsHarm pages count rows old new (record { page = page; rule = Level })
+harm-below pages count rows old new page level b off =
+    let child = b.stood b.has.0 in
+    let one = one-above b.above page level b.bound b.below in
+    let parent_level = b.has.1 in
+    (off.0, inl (inr (refl, record {
+      parent = b.parent;
+      at = child.0;
+      asked = b.asked;
+      names = λ some. child.2;
+      level = λ some told same. off.1 (told, omega arith);
+    })))
 
 leaves-at : (pages : PageMap) (tree : Tree) (page i : ℕ) → (nodes_at pages tree page).level ≡ 0 → i < 32 → Held IsPlaceItem ((nodes_at pages tree page).slots i)
 leaves-at pages tree page i level l = leaf-held (pages page) (bytes_in pages tree.rows page) i level l

@@ -64,6 +64,10 @@ IsIn slots (Place hit) = (at : ℕ) × (at < 32) × (slots at ≡ Some (place_it
 abbrev pub StandsIn : List ℕ → ℕ → Item → Type 0
 StandsIn bytes level item = 0 < length bytes → IsIn (stored_in bytes) item
 
+-- the bytes of a page are told, and say this level
+abbrev pub SaysLevel : List ℕ → ℕ → Type 0
+SaysLevel bytes level = (0 < length bytes) × (level_in bytes ≡ level)
+
 -- what there is, as a list
 abbrev pub listed_item : Option Item → List Item
 listed_item (Some item) = item ∷ []

@@ -1,7 +1,8 @@
 //! A node is opened.
-ghost use Rattle.std.specs.Prelude.{◌≡◌, ◌≢◌, ◌<◌, ◌≤◌, ◌∷◌, [], ℕ, length, IfOk, IfErr, IsErrOf, Err};
+ghost use Rattle.std.specs.Prelude.{◌≡◌, ◌≢◌, ◌⊎◌, ◌<◌, ◌≤◌, ◌∷◌, [], ℕ, length, IfOk, IfErr, IsErrOf, Err};
 ghost use Rattle.std.specs.List.{AllByRecursion};
 ghost use Rattle.page_face.specs.Calls.{Reads, FailsReading};
+ghost use Rattle.page_face.specs.declared.fault.Rule.TheVariants.{Level};
 ghost use Rattle.btree_nodes.specs.Damages.{AreTold, AskedSince, AsksOnly};
 ghost use Rattle.btree_nodes.specs.Supply.{one_at};
 ghost use Rattle.btree_nodes.specs.Tree.{IsMap, map_uses};
@@ -11,13 +12,14 @@ ghost use Rattle.rtree_nodes.specs.Pages.{level_in, stored_in};
 ghost use Rattle.rtree_find.specs.Harms.{BreaksAlone};
 ghost use Rattle.node_rows.specs.Rows.{bytes_in};
 ghost use Rattle.best_first.specs.declared.item.Item.TheVariants.{Node};
-ghost use Rattle.best_first.specs.Items.{IsGivenAt, IsRootAlone, pages_of};
+ghost use Rattle.best_first.specs.Items.{IsGivenAt, IsRootAlone, OfNode, pages_of};
+ghost use Rattle.best_first.specs.Levels.{IsOffLevel};
 ghost use Rattle.best_first.specs.Openings.{AsksNodes};
 ghost use Rattle.tree_entries.specs.Masks.{has_slot};
 ghost use Rattle.tree_entries.specs.Numbers.{byte_of};
 ghost use Rattle.tree_ranking.specs.Asks.{qualifies};
 ghost use Rattle.tree_ranking.specs.Harms.{IsHarm, IsNodePage};
-ghost use Rattle.tree_ranking.specs.Openings.{given_by, given_at, spread, some_below, first_in, StandsIn, IsSoundNode};
+ghost use Rattle.tree_ranking.specs.Openings.{given_by, given_at, spread, some_below, first_in, StandsIn, SaysLevel, IsSoundNode};
 
 use crate::Ask;
 use crate::gathering::gather;
@@ -33,7 +35,7 @@ use tree_entries::{Ids, enter, enter_at};
 /// its bound.
 ///
 /// Looks at the node's row of each word of the search that the store knows, and once at its page. Refuses `Damaged` with a rule that a page
-/// looked at breaks, `Disk`, `Stopped` and `Memory`.
+/// looked at breaks, with `Level` if the node's page says that it has another level; `Disk`, `Stopped` and `Memory`.
 pub fn opened<P: Pages>(
     alloc: Global,
     pages: &mut P,
@@ -49,10 +51,12 @@ pub fn opened<P: Pages>(
     ensures few { IfOk result (λ items. length items.items ≤ 32) }
     ensures levels { IfOk result (λ items. AllByRecursion (IsGivenAt level) items.items) }
     ensures stand { IfOk result (λ items. AllByRecursion (StandsIn (P.pages pages.old node) level) items.items) }
+    ensures level { AreTold (P.pages pages.old) (P.count pages.old) → IfOk result (λ items. SaysLevel (P.pages pages.old node) level) }
     ensures asked { AreTold (P.pages pages.old) (P.count pages.old) → IfOk result (λ items. AskedSince (P.asked pages.old) (P.asked pages.new) node) }
     ensures asks { AreTold (P.pages pages.old) (P.count pages.old) → AsksNodes (IsNodePage (P.pages pages.old) tree.now.rows) (node ∷ []) (P.asked pages.old) (P.asked pages.new) }
     ensures damaged { AreTold (P.pages pages.old) (P.count pages.old) → (damage : Damage) → IsErrOf result (PageFault.Damaged damage)
-        → IsHarm (P.pages pages.old) (P.count pages.old) tree.now.rows (P.asked pages.old) (P.asked pages.new) damage }
+        → IsHarm (P.pages pages.old) (P.count pages.old) tree.now.rows (P.asked pages.old) (P.asked pages.new) damage
+        ⊎ ((damage ≡ record { page = node; rule = Level }) × IsOffLevel SaysLevel (P.pages pages.old) (P.asked pages.old) (P.asked pages.new) node level) }
     ensures honest { IsMap rows_form (P.pages pages.old) tree.now.rows → AreCounted (map_uses rows_form (P.pages pages.old) tree.now.rows) (P.count pages.old) → AreTold (P.pages pages.old) (P.count pages.old)
         → IsSoundNode (P.pages pages.old) (P.count pages.old) node level → (damage : Damage) → result ≢ Err (PageFault.Damaged damage) }
     ensures fails { FailsReading P.Pages pages.old pages.new result }
@@ -91,6 +95,7 @@ fn has_any(slots: u32) -> bool
 fn root_item<P: Pages>(alloc: Global, pages: &mut P, root: u32) -> Result<Vec<Item>, PageFault>
     ensures given { 0 < length (P.pages pages.old root) → IfOk result (λ items. items.items ≡ Node root (level_in (P.pages pages.old root)) 0 ∷ []) }
     ensures alone { IfOk result (λ items. IsRootAlone root items.items × (pages_of items.items ≡ root ∷ [])) }
+    ensures levels { AreTold (P.pages pages.old) (P.count pages.old) → IfOk result (λ items. AllByRecursion (OfNode (λ page level. SaysLevel (P.pages pages.old page) level)) items.items) }
     ensures asks { AsksOnly (one_at root) (P.asked pages.old) (P.asked pages.new) }
     ensures damaged { (damage : Damage) → IsErrOf result (PageFault.Damaged damage)
         → (damage.page ≡ root) × AskedSince (P.asked pages.old) (P.asked pages.new) root × BreaksAlone damage.rule (P.pages pages.old) (P.count pages.old) root }
@@ -123,6 +128,7 @@ pub fn started<P: Pages>(
     ensures given { IsMap rows_form (P.pages pages.old) tree.now.rows → (0 < tree.now.root → 0 < length (P.pages pages.old tree.now.root)) → IfOk result (λ items. items.items
         ≡ first_in (some_below 32 (λ i. qualifies ask.now 1 (byte_of ids.now (bytes_in (P.pages pages.old) tree.now.rows tree.now.root) i))) tree.now.root (level_in (P.pages pages.old tree.now.root))) }
     ensures alone { IfOk result (λ items. IsRootAlone tree.now.root items.items) }
+    ensures levels { AreTold (P.pages pages.old) (P.count pages.old) → IfOk result (λ items. AllByRecursion (OfNode (λ page level. SaysLevel (P.pages pages.old page) level)) items.items) }
     ensures asks { AreTold (P.pages pages.old) (P.count pages.old) → IfOk result (λ items. AsksNodes (IsNodePage (P.pages pages.old) tree.now.rows) (pages_of items.items) (P.asked pages.old) (P.asked pages.new)) }
     ensures asks_root { AreTold (P.pages pages.old) (P.count pages.old) → AsksNodes (IsNodePage (P.pages pages.old) tree.now.rows) (tree.now.root ∷ []) (P.asked pages.old) (P.asked pages.new) }
     ensures damaged { AreTold (P.pages pages.old) (P.count pages.old) → (damage : Damage) → IsErrOf result (PageFault.Damaged damage)

@@ -23,8 +23,8 @@ impl<'q, P: Pages> Ranked<P> for Ranking<'q> {
     ghost use Rattle.node_rows.specs.Rows.{bytes_in};
     ghost use Rattle.tree_ranking.specs.Fits.{FitsTree, HasNode, nodes_at};
     ghost use Rattle.tree_ranking.specs.Harms.{IsHarm, IsNodePage};
-    ghost use Rattle.tree_ranking.specs.Openings.{StandsIn, opened_in, started_in};
-    ghost use Rattle.tree_ranking.specs.Laws.{fits-bounded, fits-starts, fits-opens, harm-sooner};
+    ghost use Rattle.tree_ranking.specs.Openings.{StandsIn, SaysLevel, opened_in, started_in};
+    ghost use Rattle.tree_ranking.specs.Laws.{fits-bounded, fits-starts, fits-opens, harm-sooner, harm-below};
 
     ghost fits = { λ s p. FitsTree (P.pages p) (P.count p) (P.first p) s.tree };
 
@@ -42,6 +42,8 @@ impl<'q, P: Pages> Ranked<P> for Ranking<'q> {
 
     ghost stands = { StandsIn };
 
+    ghost has_level = { SaysLevel };
+
     ghost harms = { λ s p old new damage. IsHarm (P.pages p) (P.count p) s.tree.rows old new damage };
 
     ghost held = { λ s. s.held };
@@ -53,6 +55,8 @@ impl<'q, P: Pages> Ranked<P> for Ranking<'q> {
     ghost opens_in = { λ s p page level f h. fits-opens (P.pages p) (P.count p) s.tree s.ids.now s.at s.ask page level h };
 
     ghost harms_sooner = { λ s p old more new damage h. harm-sooner (P.pages p) (P.count p) s.tree.rows old more new damage h };
+
+    ghost mislevelled = { λ s p old new page level b off. harm-below (P.pages p) (P.count p) s.tree.rows old new page level b off };
 
     fn start(&mut self, alloc: Global, pages: &mut P) -> Result<Vec<Item>, PageFault> {
         match started(alloc, pages, &self.tree, self.ids, &self.ask) {

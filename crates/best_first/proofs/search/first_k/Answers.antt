@@ -1,16 +1,19 @@
-use Rattle.std.proofs.Common.{◌∙◌, ap, ◌≡◌, ◌++◌, Err, sym, subst, Vec, Global}
+use Rattle.std.proofs.Common.{◌∙◌, ap, ◌≡◌, ◌++◌, ℕ, List, Err, sym, subst, ⊎_elim, Vec, Global}
 use Rattle.std.specs.BinaryHeap.{heap_items}
 use Rattle.std.specs.List.{AllByRecursion}
 use Rattle.std.proofs.lemmas.Result.{err_from_is_err_and}
+use Rattle.page_face.specs.FreeList.{PageMap}
 use Rattle.page_face.proofs.Frames.{reads_then}
+use Rattle.btree_nodes.specs.Damages.{AskedSince}
 use Rattle.btree_nodes.proofs.Walks.{same-fault}
 use Rattle.place_map.specs.declared.hit.Hit.{Hit}
-use Rattle.best_first.specs.Items.{places_of, OfNode}
+use Rattle.best_first.specs.Items.{places_of, OfNode, IsGivenAt}
 use Rattle.best_first.specs.Queue.{item_of, waiting}
 use Rattle.best_first.proofs.Firsts.{kept_ranked, kept_short}
 use Rattle.best_first.proofs.Steps.{started, node_next, none_waits, enough, node_smaller}
 use Rattle.best_first.proofs.Insides.{first_inside, next_inside, opened_inside}
-use Rattle.best_first.proofs.Logs.{asks_of}
+use Rattle.best_first.proofs.Logs.{asks_of, asked_sooner}
+use Rattle.best_first.proofs.Levels.{led_begun, led_opened, led_off}
 use Rattle.best_first.proofs.Histories.{begun, opened, ended}
 use Rattle.best_first.proofs.search.first_k.Goals as goal
 
@@ -36,6 +39,7 @@ search-init g c =
       short = kept_short c.args.k (c.new-found.result.items ++ places_of items) _ sorted.found;
       search = λ f. started opens (g.R.Ranked.starts c.args.ranked.now c.args.pages.now) items c.args.k _ _ c.new-found.result.items _ c.new-queue.ensures c.new-found.ensures.items (value ∙ given.gives f) sorted.queue sorted.found (g.met.R.Ranked.starts_bounded c.args.ranked.now c.args.pages.now f);
       history = λ w. begun _ _ _ _ _ _ _ items _ _ c.new-found.result.items _ _ _ c.args.k c.new-queue.ensures c.new-found.ensures.items sorted.queue sorted.found (rw value given.alone) (λ f. value ∙ given.gives f) (c.start.ensures.asks w) (λ f. rw value (given.asks_given f));
+      led = λ w. led_begun g.R.Ranked.stands g.R.Ranked.has_level (g.P.Pages.pages c.args.pages.now) _ _ items _ _ c.new-queue.ensures sorted.queue (rw value (given.levels w));
     }
 
 pub search-smaller : goal.search-smaller
@@ -58,6 +62,9 @@ search-preserved g c =
     let gives : g.R.Ranked.fits c.args.ranked.now c.args.pages.now → items ≡ opens node.page node.level =
     λ f. value ∙ given.gives (kept.fits f) (kept.stays node.page node.level (waits f).0) ∙ ap (λ o. o node.page node.level) kept.opens in
     let few = rw c.deref-in-Some.ensures.value at (c.is_settled.ensures.unsettled c.if-is_settled.false) in
+    let pages : PageMap = g.P.Pages.pages c.args.pages.now in
+    let stood : AllByRecursion (g.R.Ranked.stands (pages node.page) node.level) items = rw value (rw (← kept.frame.pages) given.stand) in
+    let children : AllByRecursion (IsGivenAt node.level) items = rw value given.children in
     record {
       opens = c.open.ensures.same_opens ∙ kept.opens;
       told = λ w. c.open.ensures.same_told (kept.told w);
@@ -71,7 +78,12 @@ search-preserved g c =
       ranked = kept_ranked c.args.k (c.search.found.items ++ places_of items) _ sorted.found;
       short = kept_short c.args.k (c.search.found.items ++ places_of items) _ sorted.found;
       search = λ f. node_next opens _ c.args.k node.page node.level node.bound items _ _ _ c.search.found.items _ (kept.search f) c.in-Some.ensures.some (gives f) (rw value given.children) sorted.queue sorted.found;
-      history = λ w. opened _ _ _ _ opens _ _ _ _ _ c.args.k node.page node.level node.bound items _ _ _ c.search.found.items _ _ few c.in-Some.ensures.some sorted.queue sorted.found (asks_of (g.R.Ranked.is_node c.search.ranked c.search.pages) (g.R.Ranked.is_node c.args.ranked.now c.args.pages.now) _ _ _ kept.nodes (c.open.ensures.asks (kept.told w))) (given.asked (kept.told w)) (rw value (rw (← kept.frame.pages) given.stand)) (rw value given.children) gives kept.search (kept.history w);
+      history = λ w. opened _ _ _ _ opens _ _ _ _ _ c.args.k node.page node.level node.bound items _ _ _ c.search.found.items _ _ few c.in-Some.ensures.some sorted.queue sorted.found (asks_of (g.R.Ranked.is_node c.search.ranked c.search.pages) (g.R.Ranked.is_node c.args.ranked.now c.args.pages.now) _ _ _ kept.nodes (c.open.ensures.asks (kept.told w))) (given.asked (kept.told w)) stood children gives kept.search (kept.history w);
+      led = λ w.
+          let log = (kept.history w).told.log in
+          let since = subst (λ (l : List ℕ). AskedSince l (g.P.Pages.asked c.open.new.pages) node.page) log.log (given.asked (kept.told w)) in
+          let has : g.R.Ranked.has_level (pages node.page) node.level = subst (λ (p : PageMap). g.R.Ranked.has_level (p node.page) node.level) kept.frame.pages (given.level (kept.told w)) in
+          led_opened g.R.Ranked.stands g.R.Ranked.has_level pages _ _ _ _ _ node.page node.level node.bound items _ _ _ (c.open.ensures.asks (kept.told w)) (asked_sooner _ log.more _ node.page since) has c.in-Some.ensures.some sorted.queue stood children (kept.led w);
     }
 
 pub returns-then-is_settled-clause-found : goal.returns-then-is_settled-clause-found
@@ -93,11 +105,22 @@ pub returns-in_err-items-2-clause-damaged : goal.returns-in_err-items-2-clause-d
 returns-in_err-items-2-clause-damaged g c =
     let passed = err_from_is_err_and c.from_residual-in_err-items-2.result c.from_residual-in_err-items-2.ensures.1 in
     rw (passed.1, passed.2) (λ w damage e.
-    let log = (c.search.invariant.history w).told.log in
-    let harm = c.open.ensures.damaged (c.search.invariant.told w) damage (c.in_err-items-2.was ∙ ap Err (same-fault {T = Vec Hit Global} _ _ e)) in
-    g.met.R.Ranked.harms_sooner c.args.ranked.now c.args.pages.now (g.P.Pages.asked c.args.pages.now) log.more _ damage
-    (subst (λ l. g.R.Ranked.harms c.args.ranked.now c.args.pages.now l (g.P.Pages.asked c.open.new.pages) damage) log.log
-    (c.search.invariant.harms _ _ damage harm)))
+    let kept = c.search.invariant in
+    let node = c.in-Some.node in
+    let old : List ℕ = g.P.Pages.asked c.args.pages.now in
+    let new : List ℕ = g.P.Pages.asked c.open.new.pages in
+    let harms = g.R.Ranked.harms c.args.ranked.now c.args.pages.now old new in
+    let has = g.R.Ranked.has_level in
+    let log = (kept.history w).told.log in
+    ⊎_elim
+    (λ harm. g.met.R.Ranked.harms_sooner c.args.ranked.now c.args.pages.now old log.more new damage
+    (subst (λ l. g.R.Ranked.harms c.args.ranked.now c.args.pages.now l new damage) log.log (kept.harms _ _ damage harm)))
+    (λ off.
+    let asked : AskedSince old new node.page = asked_sooner old log.more new node.page (subst (λ l. AskedSince l new node.page) log.log off.1.0) in
+    let other : has (g.P.Pages.pages c.args.pages.now node.page) node.level → ⊥ = subst (λ (p : PageMap). has (p node.page) node.level → ⊥) kept.frame.pages off.1.1 in
+    subst harms (sym off.0) (g.met.R.Ranked.mislevelled c.args.ranked.now c.args.pages.now old new node.page node.level
+    (led_off g.R.Ranked.stands has (g.P.Pages.pages c.args.pages.now) _ _ _ _ _ node.page node.level node.bound _ _ (c.open.ensures.asks (kept.told w)) c.in-Some.ensures.some (kept.led w) other) (asked, other)))
+    (c.open.ensures.damaged (kept.told w) damage (c.in_err-items-2.was ∙ ap Err (same-fault {T = Vec Hit Global} _ _ e))))
 
 pub returns-in_err-items-2-clause-honest : goal.returns-in_err-items-2-clause-honest
 returns-in_err-items-2-clause-honest g c =

@@ -11,6 +11,7 @@ use Rattle.best_first.specs.Leads.{leads}
 use Rattle.best_first.specs.Queue.{waiting}
 use Rattle.best_first.proofs.Steps.{Searching, work}
 use Rattle.best_first.proofs.Histories.{Underway}
+use Rattle.best_first.proofs.Levels.{IsLed}
 use Rattle.best_first.proofs.search.first_k.Given as goal
 
 abbrev pub invariant-search : goal.invariant-search
@@ -28,6 +29,7 @@ invariant-search g l = record {
   short : length l.found.items ≤ l.k;
   search : g.R.Ranked.fits l.fn.ranked l.fn.pages → Searching (g.R.Ranked.opens l.fn.ranked l.fn.pages) (leads (g.R.Ranked.opens l.fn.ranked l.fn.pages) (g.R.Ranked.starts l.fn.ranked l.fn.pages)) l.k l.found.items (waiting (heap_items l.queue.heap));
   history : g.R.Ranked.told l.fn.ranked l.fn.pages → Underway g.R.Ranked.stands (g.P.Pages.pages l.fn.pages) (g.R.Ranked.is_node l.fn.ranked l.fn.pages) (g.R.Ranked.fits l.fn.ranked l.fn.pages) (g.R.Ranked.opens l.fn.ranked l.fn.pages) (g.R.Ranked.starts l.fn.ranked l.fn.pages) (g.R.Ranked.root l.fn.ranked) (g.P.Pages.asked l.fn.pages) (g.P.Pages.asked l.pages) l.k l.found.items (waiting (heap_items l.queue.heap));
+  led : g.R.Ranked.told l.fn.ranked l.fn.pages → AllByRecursion (IsLed g.R.Ranked.stands g.R.Ranked.has_level (g.P.Pages.pages l.fn.pages) (g.P.Pages.asked l.fn.pages) (g.P.Pages.asked l.pages)) (waiting (heap_items l.queue.heap));
 }
 
 abbrev pub decreases-search : goal.decreases-search

@@ -1,19 +1,20 @@
-use Rattle.std.proofs.Common.{◌≡◌, ℕ, ◌<◌, ◌∙◌, List, length, Vec, Global, Err, ap, subst}
+use Rattle.std.proofs.Common.{◌≡◌, ℕ, ◌<◌, ◌∙◌, List, length, Vec, Global, Err, inl, ap, sym, subst}
 use Rattle.std.specs.Prelude.{IfOk}
 use Rattle.std.specs.List.{AllByRecursion}
 use Rattle.page_face.specs.FreeList.{PageMap}
+use Rattle.page_face.specs.Causes.{IsUncounted}
 use Rattle.btree_nodes.specs.Damages.{AskedSince}
 use Rattle.btree_nodes.specs.Tree.{map_uses}
 use Rattle.btree_nodes.proofs.Harms.{asked-before}
-use Rattle.btree_nodes.proofs.Walks.{same-fault}
+use Rattle.btree_nodes.proofs.Walks.{same-fault, told-read}
 use Rattle.rtree_shape.specs.Stock.{rows_form}
-use Rattle.rtree_nodes.specs.Pages.{stored_in}
+use Rattle.rtree_nodes.specs.Pages.{level_in, stored_in}
 use Rattle.rtree_find.specs.Harms.{BreaksPlace}
 use Rattle.node_rows.specs.Rows.{bytes_in}
 use Rattle.best_first.specs.declared.item.Item.{Item}
 use Rattle.best_first.proofs.Lists.{all_weaker}
 use Rattle.tree_entries.specs.Numbers.{byte_of}
-use Rattle.tree_ranking.specs.Openings.{given_by, given_at, spread, IsIn, StandsIn}
+use Rattle.tree_ranking.specs.Openings.{given_by, given_at, spread, IsIn, StandsIn, SaysLevel}
 use Rattle.tree_ranking.proofs.Asking.{asks-both}
 use Rattle.tree_ranking.proofs.Outcomes.{ok-weaker, ok-always, value-harm, place-harm, sound-fine}
 use Rattle.tree_ranking.proofs.opening.opened.Goals as goal
@@ -37,6 +38,15 @@ returns-in-Ok-enter_at-clause-stand g c =
     subst (λ (bytes : List ℕ). IsIn (stored_in bytes) i) same k)) items.items h)
     c.gather.ensures.stand
 
+pub returns-in-Ok-enter_at-clause-level : goal.returns-in-Ok-enter_at-clause-level
+returns-in-Ok-enter_at-clause-level g c = λ told.
+    let old : PageMap = g.P.Pages.pages c.args.pages.now in
+    let count : ℕ = g.P.Pages.count c.args.pages.now in
+    let f = c.marks.ensures.rows.frame in
+    let some : 0 < length (old c.args.node) = told-read old count c.args.node told (subst (λ (k : ℕ). IsUncounted k c.args.node → ⊥) f.count c.in-Ok-enter_at.ensures.counted) in
+    let same = subst (λ (p : PageMap). 0 < length (p c.args.node) → g.P.Pages.looked c.enter_at.new.pages ≡ p c.args.node) f.pages c.in-Ok-enter_at.ensures.gives some in
+    ok-always (λ (items : Vec Item Global). SaysLevel (old c.args.node) c.args.level) c.gather.result (λ items. (some, sym (c.in-Ok-enter_at.ensures.level ∙ ap level_in same)))
+
 pub returns-in-Ok-enter_at-clause-asked : goal.returns-in-Ok-enter_at-clause-asked
 returns-in-Ok-enter_at-clause-asked g c = λ told.
     let old : PageMap = g.P.Pages.pages c.args.pages.now in
@@ -56,9 +66,9 @@ returns-in-Ok-enter_at-clause-damaged g c = λ told damage e.
     let old : PageMap = g.P.Pages.pages c.args.pages.now in
     let count : ℕ = g.P.Pages.count c.args.pages.now in
     let there = asked-before (map_uses rows_form old c.args.tree.now.rows) (g.P.Pages.asked c.args.pages.now) (g.P.Pages.asked c.marks.new.pages) (g.P.Pages.asked c.enter_at.new.pages) c.args.node (c.marks.ensures.rows.own told) c.in-Ok-enter_at.ensures.here in
-    value-harm old count c.args.tree.now.rows c.args.node (g.P.Pages.asked c.args.pages.now) (g.P.Pages.asked c.enter_at.new.pages) c.looked.result.now c.gather.result damage e there
+    inl (value-harm old count c.args.tree.now.rows c.args.node (g.P.Pages.asked c.args.pages.now) (g.P.Pages.asked c.enter_at.new.pages) c.looked.result.now c.gather.result damage e there
     (λ some. c.looked.ensures ∙ subst (λ (p : PageMap). 0 < length (p c.args.node) → g.P.Pages.looked c.enter_at.new.pages ≡ p c.args.node) c.marks.ensures.rows.frame.pages c.in-Ok-enter_at.ensures.gives some)
-    c.gather.ensures.cause
+    c.gather.ensures.cause)
 
 pub returns-in-Err-enter_at-clause-damaged : goal.returns-in-Err-enter_at-clause-damaged
 returns-in-Err-enter_at-clause-damaged g c = λ told damage e.
