@@ -10,13 +10,14 @@ use Rattle.store_tables.specs.Broken.{IsPlaceDamage}
 use Rattle.store_tables.specs.declared.tables.Tables.{Tables}
 use Rattle.store_meaning.specs.Stands.{tables_in}
 use Rattle.tree_answers.specs.Damages.{IsAnswerHarm}
-use Rattle.place_updates.specs.Known.{IsWordsDamage}
+use Rattle.place_updates.specs.Known.{IsHeldDamage}
 use Rattle.irtree_engine.specs.Changes.{tree_in}
 use Rattle.irtree_engine.specs.Queries.{contents_held}
 
--- Why the place at a key can't be shown: a page of the place table is damaged, or the row at the key is no place's; or so it is with the words by number.
-abbrev pub IsShownDamage : PageMap → ℕ → Tables → Name → Damage → Type 0
-IsShownDamage pages count tables key damage = IsPlaceDamage pages count tables.places key damage ⊎ IsWordsDamage pages count tables.numbers damage
+-- Why the place at a key can't be shown, with the pages asked for before and after: a page of the place table that was asked for is damaged, or the row at the key is no place's; or so it is with the words by number at a number that the place holds, or they have no row of it.
+abbrev pub IsShownDamage : PageMap → ℕ → Tables → Name → List ℕ → List ℕ → Damage → Type 0
+IsShownDamage pages count tables key before after damage =
+    IsPlaceDamage pages count tables.places key before after damage ⊎ IsHeldDamage pages count tables key before after damage
 
 -- Why a query can't be answered, with the pages asked for before and after: one that was asked for, of the words by text, of the tree or of its rows of words, breaks a rule.
 abbrev pub IsQueryDamage : PageMap → Superblock → List ℕ → List ℕ → Damage → Type 0
@@ -33,7 +34,8 @@ pub record IsQueryDamageIn (held : stores.Contents) (damage : Damage) : Type 0 w
 -- And with a place that was to be shown, at some key.
 pub record IsShownDamageIn (held : stores.Contents) (damage : Damage) : Type 0 where
   pub key : Name
-  pub is : IsShownDamage held.pages held.block.counted (tables_in held.block.head) key damage
+  pub asked : List ℕ
+  pub is : IsShownDamage held.pages held.block.counted (tables_in held.block.head) key [] asked damage
 
 -- What an image holds is damaged so, as a query or a look at a key meets it: whatever it stands for.
 abbrev pub IsImageDamage : Image → Damage → Type 0

@@ -30,9 +30,9 @@ impl<'d, D: Station> Engine<'d, D> {
         ensures honest { IsTrue D.tells → (state : Contents) → HoldsState (D.world self.old.store.disk.now) state
             → (damage : Damage) → ¬ IsErrOf result (EngineFault.Damaged damage) }
 
-        // The table or the words by number break a rule there, as reads give them.
+        // A page of the log, of the table or of the words by number, breaks a rule, or the row at the key does, or that of a number there.
         ensures damaged { IsTrue D.tells → (damage : Damage) → IsErrOf result (EngineFault.Damaged damage)
-            → IsShownDamage (⟦<Store<'d, D> as Pages>⟧.pages self.old.store) self.old.store.current.counted (tables_in self.old.store.current.head) key.now damage }
+            → IsShownDamage (⟦<Store<'d, D> as Pages>⟧.pages self.old.store) self.old.store.current.counted (tables_in self.old.store.current.head) key.now [] self.new.store.asked.items damage }
         // So it is by what the image holds, whatever it stands for.
         ensures broken { IsTrue D.tells → (damage : Damage) → IsErrOf result (EngineFault.Damaged damage)
             → IsShownDamageIn (contents_held (D.world self.old.store.disk.now).seen) damage }

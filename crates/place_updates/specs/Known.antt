@@ -1,5 +1,5 @@
 -- Word numbers that the words by number have.
-use Rattle.std.specs.Prelude.{◌≡◌, ◌⊎◌, ℕ, List, [], ◌∷◌, IsSome}
+use Rattle.std.specs.Prelude.{◌≡◌, ◌⊎◌, ℕ, List, [], ◌∷◌, Any, Some, None, IsSome}
 use Rattle.page_face.specs.FreeList.{PageMap}
 use Rattle.page_face.specs.declared.fault.Damage.{Damage}
 use Rattle.spatial_base.specs.Key.{Name}
@@ -8,7 +8,9 @@ use Rattle.row_codec.specs.declared.stored.Stored.{Stored}
 use Rattle.row_codec.specs.Pairs.{Pair}
 use Rattle.row_codec.specs.Stored.{held_pairs}
 use Rattle.store_tables.specs.Entries.{word_of_number}
-use Rattle.store_tables.specs.Broken.{IsNumberDamage, words_disagree}
+use Rattle.store_tables.specs.Broken.{IsNumberDamage, IsPlaceSought, IsRowSought, words_disagree}
+use Rattle.store_tables.specs.Coded.{IsPlaceValue}
+use Rattle.store_tables.specs.declared.tables.Tables.{Tables}
 
 -- each of these numbers has a word
 abbrev pub AreKnown : List (ℕ × Counted) → List Pair → Type 0
@@ -20,6 +22,18 @@ abbrev pub AreAllKnown : List (ℕ × Counted) → List (Name × Stored) → Typ
 AreAllKnown numbers [] = Unit {0}
 AreAllKnown numbers (entry ∷ places) = AreKnown numbers (held_pairs entry.1) × AreAllKnown numbers places
 
--- Why words that were looked for by number are damaged: some number's look-up is, or a number has no word.
-abbrev pub IsWordsDamage : PageMap → ℕ → ℕ → Damage → Type 0
-IsWordsDamage pages count root damage = ((number : ℕ) × IsNumberDamage pages count root number damage) ⊎ (damage ≡ words_disagree)
+-- Why a word that was looked for by its number is damaged: the look-up is, or the number has no word.
+abbrev pub IsWordDamage : PageMap → ℕ → Tables → ℕ → List ℕ → List ℕ → Damage → Type 0
+IsWordDamage pages count tables number before asked damage =
+    IsNumberDamage pages count tables.numbers number before asked damage ⊎ ((damage ≡ words_disagree) × IsRowSought pages tables number None)
+
+-- Why words that were looked for by number are damaged: one of them is.
+abbrev pub IsWordsDamage : PageMap → ℕ → Tables → List Pair → List ℕ → List ℕ → Damage → Type 0
+IsWordsDamage pages count tables pairs before asked damage = Any (λ (pair : Pair). IsWordDamage pages count tables pair.0 before asked damage) pairs
+
+-- Why the words of the place at a key are damaged: one that the place holds is.
+pub record IsHeldDamage (pages : PageMap) (count : ℕ) (tables : Tables) (key : Name) (before asked : List ℕ) (damage : Damage) : Type 0 where
+  pub stored : Stored
+  pub form : IsPlaceValue stored
+  pub place : IsPlaceSought pages tables key (Some stored)
+  pub words : IsWordsDamage pages count tables (held_pairs stored) before asked damage

@@ -7,7 +7,7 @@ ghost use Rattle.store_tables.specs.Entries.{Entries, place_of_key};
 ghost use Rattle.store_tables.specs.Holding.{Holds, table_uses};
 ghost use Rattle.store_tables.specs.Broken.{IsPlaceDamage};
 ghost use Rattle.store_meaning.specs.Stands.{place_in};
-ghost use Rattle.place_updates.specs.Known.{AreAllKnown, IsWordsDamage};
+ghost use Rattle.place_updates.specs.Known.{AreAllKnown, IsHeldDamage};
 
 use crate::words::words_of;
 use page_face::{Damage, PageFault, Pages};
@@ -32,8 +32,8 @@ pub fn place_at<P: Pages>(
         → (damage : Damage) → ¬ IsErrOf result (PageFault.Damaged damage) }
     ensures damaged { AreTold (P.pages pages.old) (P.count pages.old)
         → (damage : Damage) → IsErrOf result (PageFault.Damaged damage)
-        → IsPlaceDamage (P.pages pages.old) (P.count pages.old) tables.now.places key.now damage
-        ⊎ IsWordsDamage (P.pages pages.old) (P.count pages.old) tables.now.numbers damage }
+        → IsPlaceDamage (P.pages pages.old) (P.count pages.old) tables.now.places key.now (P.asked pages.old) (P.asked pages.new) damage
+        ⊎ IsHeldDamage (P.pages pages.old) (P.count pages.old) tables.now key.now (P.asked pages.old) (P.asked pages.new) damage }
     ensures fails { FailsReading P.Pages pages.old pages.new result }
     ensures frame { Reads P.Pages pages.old pages.new }
 {

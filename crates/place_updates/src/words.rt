@@ -2,12 +2,13 @@
 ghost use Rattle.std.specs.Prelude.{◌≡◌, ◌≤◌, ◌<◌, ◌+◌, [], length, IfOk, OnOk, OnErr, IsErrOf, All};
 ghost use Rattle.std.specs.BTreeMap.{insert_entry};
 ghost use Rattle.page_face.specs.Calls.{FailsReading, Reads};
-ghost use Rattle.btree_nodes.specs.Damages.{AreTold};
+ghost use Rattle.btree_nodes.specs.Tree.{map_uses};
+ghost use Rattle.btree_nodes.specs.Damages.{AreTold, AsksOnly};
 ghost use Rattle.paged_map.specs.Maps.{AreCounted};
 ghost use Rattle.row_codec.specs.Pairs.{HasImpact};
 ghost use Rattle.row_codec.specs.Stored.{IsStored, held_pairs};
 ghost use Rattle.store_tables.specs.Entries.{Entries, word_cmp};
-ghost use Rattle.store_tables.specs.Holding.{Holds, table_uses};
+ghost use Rattle.store_tables.specs.Holding.{Holds, numbers_form, table_uses};
 ghost use Rattle.store_tables.specs.Words.{words_of_pairs, words_of_place};
 ghost use Rattle.store_tables.specs.Broken.{words_disagree};
 ghost use Rattle.term_impacts.specs.Pairs.{IsWordMap};
@@ -48,7 +49,9 @@ pub fn words_of<P: Pages>(
         → (damage : Damage) → ¬ IsErrOf result (PageFault.Damaged damage) }
     ensures damaged { AreTold (P.pages pages.old) (P.count pages.old)
         → (damage : Damage) → IsErrOf result (PageFault.Damaged damage)
-        → IsWordsDamage (P.pages pages.old) (P.count pages.old) tables.now.numbers damage }
+        → IsWordsDamage (P.pages pages.old) (P.count pages.old) tables.now (held_pairs stored.now) (P.asked pages.old) (P.asked pages.new) damage }
+    ensures own { AreTold (P.pages pages.old) (P.count pages.old)
+        → AsksOnly (map_uses numbers_form (P.pages pages.old) tables.now.numbers) (P.asked pages.old) (P.asked pages.new) }
     ensures fails { FailsReading P.Pages pages.old pages.new result }
     ensures frame { Reads P.Pages pages.old pages.new }
 {
@@ -78,7 +81,9 @@ fn words_of_pairs<P: Pages>(
         → (damage : Damage) → ¬ IsErrOf result (PageFault.Damaged damage) }
     ensures damaged { AreTold (P.pages pages.old) (P.count pages.old)
         → (damage : Damage) → IsErrOf result (PageFault.Damaged damage)
-        → IsWordsDamage (P.pages pages.old) (P.count pages.old) tables.now.numbers damage }
+        → IsWordsDamage (P.pages pages.old) (P.count pages.old) tables.now pairs.now (P.asked pages.old) (P.asked pages.new) damage }
+    ensures own { AreTold (P.pages pages.old) (P.count pages.old)
+        → AsksOnly (map_uses numbers_form (P.pages pages.old) tables.now.numbers) (P.asked pages.old) (P.asked pages.new) }
     ensures fails { FailsReading P.Pages pages.old pages.new result }
     ensures frame { Reads P.Pages pages.old pages.new }
 {

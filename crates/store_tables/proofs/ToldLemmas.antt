@@ -1,19 +1,16 @@
--- Pages that are told and counted, and rules that no page of a map breaks.
-use Rattle.std.proofs.Common.{◌≡◌, ◌≢◌, ℕ, zero, suc, ◌+◌, ◌<◌, ◌≤◌, ◌^◌, ⊎_elim, List, [], ◌∷◌, length, arith, sym, subst, ◌∙◌}
+-- Pages that are told and counted.
+use Rattle.std.proofs.Common.{◌≡◌, ℕ, zero, suc, ◌+◌, ◌<◌, ◌≤◌, ◌^◌, ⊎_elim, List, [], ◌∷◌, length, arith, sym, subst}
 use Rattle.std.proofs.lemmas.Bool.{cases_lt}
 use Rattle.page_face.specs.FreeList.{PageMap, IsFreeList, next_free}
-use Rattle.page_face.specs.declared.fault.Damage.{Damage}
-use Rattle.page_face.specs.declared.fault.Rule.{Rule}
-use Rattle.page_face.specs.declared.fault.Rule.TheVariants.{Link, Value}
 use Rattle.btree_nodes.specs.declared.form.Form.{Form}
-use Rattle.btree_nodes.specs.Damages.{AreTold, AsksOnly, Breaks, IsDamaged, SomeChild}
+use Rattle.btree_nodes.specs.Damages.{AreTold, AsksOnly}
 use Rattle.btree_nodes.specs.Nodes.{Entry, entries_in, half_of, least_of_root}
 use Rattle.btree_nodes.specs.Supply.{View, one_at, spare_in, times, uncounted}
 use Rattle.btree_nodes.specs.Tree.{IsFan, IsMap, IsTree, level_of, map_uses, next_key, total, uses, with_low}
 use Rattle.btree_nodes.proofs.Frames.{with_low-total}
 use Rattle.btree_nodes.proofs.Harms.{asks-further, asks-more}
 use Rattle.btree_nodes.proofs.Supplies.{counted-none, free-told, one_at-is, uncounted-past}
-use Rattle.paged_map.specs.Maps.{AreCounted, IsMapDamaged}
+use Rattle.paged_map.specs.Maps.{AreCounted}
 use Rattle.store_tables.specs.declared.tables.Tables.{Tables}
 use Rattle.store_tables.specs.Entries.{Entries}
 use Rattle.store_tables.specs.Holding.{Holds, IsApart, IsChanged, IsSameMap, numbers_form, places_form, table_uses, texts_form, word_uses}
@@ -89,32 +86,6 @@ apart-counted v tables apart n used out =
     (λ (e : n ≡ 0). let none : table_uses v.pages tables n ≡ 0 = subst (λ (k : ℕ). table_uses v.pages tables k ≡ 0) (sym e) apart.away in omega arith)
     (λ (past : v.count ≤ n). let one = uncounted-past v.count n past in omega arith)
     out
-
--- ---- the rule Value
-
-breaks-value : (rule : Rule) (number kind level width least : ℕ) (order : Type 0) (page : List ℕ) → Breaks rule number kind level width least order page → rule ≡ Value → ⊥
-breaks-value rule number kind level width least order page h is = subst (λ (r : Rule). Breaks r number kind level width least order page) is h
-
-link-value : (rule : Rule) → rule ≡ Link → rule ≡ Value → ⊥
-link-value rule is e = (let no : Link ≡ Value = sym is ∙ e in cc no)
-
-some-child : (P : ℕ → ℕ → ℕ → Type 0) (high : ℕ) (es : List Entry) → ((c a b : ℕ) → P c a b → ⊥) → SomeChild P high es → ⊥
-some-child P high [] none h = h
-some-child P high (e ∷ es) none h = ⊎_elim (λ here. none e.1 e.0 (next_key high es) here) (λ rest. some-child P high es none rest) h
-
-tree-value : (form : Form) (pages : PageMap) (count : ℕ) (damage : Damage) (least level page low high : ℕ) → IsDamaged form pages count damage least level page low high → damage.rule ≡ Value → ⊥
-tree-value form pages count damage least zero page low high h is =
-    ⊎_elim (λ link. link-value damage.rule link.0 is) (λ breaks. breaks-value damage.rule _ _ _ _ _ _ _ breaks is) h.1
-tree-value form pages count damage least (suc level) page low high h is =
-    ⊎_elim
-    (λ here. ⊎_elim (λ link. link-value damage.rule link.0 is) (λ breaks. breaks-value damage.rule _ _ _ _ _ _ _ breaks is) here.1)
-    (λ below. some-child (IsDamaged form pages count damage (half_of form level) level) high (with_low low (entries_in form (pages page))) (λ c a b d. tree-value form pages count damage (half_of form level) level c a b d is) below)
-    h
-
--- a damaged page of a map breaks another rule than a row's
-pub map-value : (form : Form) (pages : PageMap) (count root : ℕ) (damage : Damage) → IsMapDamaged form pages count root damage → damage.rule ≢ Value
-map-value form pages count zero damage h is = h
-map-value form pages count (suc n) damage h is = tree-value form pages count damage (least_of_root (level_of (pages (suc n)))) (level_of (pages (suc n))) (suc n) 0 (256 ^ form.key) h is
 
 -- ---- pages of the word tables that were asked for
 

@@ -12,6 +12,7 @@ use Rattle.paged_map.specs.Maps.{IsMapDamaged}
 use Rattle.spatial_base.specs.Key.{Name, IsName}
 use Rattle.row_codec.specs.declared.counted.Counted.{Counted}
 use Rattle.row_codec.specs.Counted.{IsCounted, counted_value, number_bytes}
+use Rattle.row_codec.specs.declared.stored.Stored.{Stored}
 use Rattle.row_codec.specs.Stored.{place_value}
 use Rattle.store_tables.specs.Coded.{IsEntryOf, IsPlaceValue, IsU64, key_code, number_code, row_by, word_code}
 use Rattle.store_tables.specs.Holding.{numbers_form, places_form, texts_form}
@@ -31,27 +32,32 @@ IsBrokenPlace = IsBroken places_form key_code place_value IsName IsPlaceValue
 abbrev pub IsBrokenNumber : PageMap → ℕ → Row → ℕ → Type 0
 IsBrokenNumber = IsBroken numbers_form number_code counted_value IsU64 IsCounted
 
--- Why a place that was looked for is damaged: a page of the map is, or the row at the key is no place's.
-abbrev pub IsPlaceDamage : PageMap → ℕ → ℕ → Name → Damage → Type 0
-IsPlaceDamage pages count root key damage =
-    IsMapDamaged places_form pages count root damage
+-- Why a place that was looked for is damaged: a page of the map that was asked for is, or the row at the key is no place's.
+abbrev pub IsPlaceDamage : PageMap → ℕ → ℕ → Name → List ℕ → List ℕ → Damage → Type 0
+IsPlaceDamage pages count root key before asked damage =
+    (IsMapDamaged places_form pages count root damage × AskedSince before asked damage.page)
     ⊎ ((damage.rule ≡ Value) × (IsMap places_form pages root → (bytes : List ℕ) × IsBrokenPlace pages root (key_code key, bytes) damage.page))
 
--- Why a number that was looked for is damaged: a page of the map is, or the row at the number is no word's.
-abbrev pub IsNumberDamage : PageMap → ℕ → ℕ → ℕ → Damage → Type 0
-IsNumberDamage pages count root number damage =
-    IsMapDamaged numbers_form pages count root damage
+-- Why a number that was looked for is damaged: a page of the map that was asked for is, or the row at the number is no word's.
+abbrev pub IsNumberDamage : PageMap → ℕ → ℕ → ℕ → List ℕ → List ℕ → Damage → Type 0
+IsNumberDamage pages count root number before asked damage =
+    (IsMapDamaged numbers_form pages count root damage × AskedSince before asked damage.page)
     ⊎ ((damage.rule ≡ Value) × (IsMap numbers_form pages root → (bytes : List ℕ) × IsBrokenNumber pages root (number, bytes) damage.page))
 
--- Why the first place from a key's number on is damaged: a page of the map is, or that row is no place's.
-abbrev pub IsNextDamage : PageMap → ℕ → ℕ → ℕ → Damage → Type 0
-IsNextDamage pages count root from damage =
-    IsMapDamaged places_form pages count root damage
+-- Why the first place from a key's number on is damaged: a page of the map that was asked for is, or that row is no place's.
+abbrev pub IsNextDamage : PageMap → ℕ → ℕ → ℕ → List ℕ → List ℕ → Damage → Type 0
+IsNextDamage pages count root from before asked damage =
+    (IsMapDamaged places_form pages count root damage × AskedSince before asked damage.page)
     ⊎ ((damage.rule ≡ Value) × (IsMap places_form pages root → (row : Row) × (first_from from (map_rows places_form pages root) ≡ Some row) × IsBrokenPlace pages root row damage.page))
 
 -- the rule Words, broken at page 0
 abbrev pub words_disagree : Damage
 words_disagree = record { page = 0; rule = Words }
+
+-- the place that the place table has at a key, or none, where it is well formed
+abbrev pub IsPlaceSought : PageMap → Tables → Name → Option Stored → Type 0
+IsPlaceSought pages tables key place =
+    IsMap places_form pages tables.places → lookup (key_code key) (map_rows places_form pages tables.places) ≡ option_map place_value place
 
 -- the number that the words by text have of a word, or none, where they are well formed
 abbrev pub IsTextSought : PageMap → Tables → List ℕ → Option ℕ → Type 0

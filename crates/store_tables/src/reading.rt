@@ -1,5 +1,5 @@
 //! What the tables hold, looked up.
-ghost use Rattle.std.specs.Prelude.{◌≡◌, ◌≢◌, ◌<◌, option_map, Some, IfOk, IfSome, IsErrOf};
+ghost use Rattle.std.specs.Prelude.{◌≡◌, ◌<◌, Option, option_map, Some, IfOk, IfSome, IsErrOf};
 ghost use Rattle.std.specs.Option.{option_copied};
 ghost use Rattle.page_face.specs.Calls.{FailsReading, Reads};
 ghost use Rattle.page_face.specs.Number.{number as number_of_bytes};
@@ -46,6 +46,7 @@ impl Tables {
     ghost use Rattle.store_tables.specs.Holding.{Holds, table_uses, numbers_form, places_form, texts_form};
     ghost use Rattle.store_tables.specs.Broken.{IsPlaceDamage, IsNumberDamage, IsNextDamage};
     ghost use Rattle.store_tables.specs.Rows.{IsNumberSpot};
+    ghost use Rattle.store_tables.specs.Words.{word_in};
 
     /// The place of a key.
     ///
@@ -63,9 +64,7 @@ impl Tables {
             → (damage : Damage) → ¬ IsErrOf result (PageFault.Damaged damage) }
         ensures damaged { AreTold (P.pages pages.old) (P.count pages.old)
             → (damage : Damage) → IsErrOf result (PageFault.Damaged damage)
-            → IsPlaceDamage (P.pages pages.old) (P.count pages.old) self.now.places key.now damage }
-        ensures named { AreTold (P.pages pages.old) (P.count pages.old)
-            → (damage : Damage) → IsErrOf result (PageFault.Damaged damage) → damage.rule ≢ Rule.Value → AskedSince (P.asked pages.old) (P.asked pages.new) damage.page }
+            → IsPlaceDamage (P.pages pages.old) (P.count pages.old) self.now.places key.now (P.asked pages.old) (P.asked pages.new) damage }
         ensures own { AreTold (P.pages pages.old) (P.count pages.old)
             → AsksOnly (map_uses places_form (P.pages pages.old) self.now.places) (P.asked pages.old) (P.asked pages.new) }
         ensures fails { FailsReading P.Pages pages.old pages.new result }
@@ -128,9 +127,7 @@ impl Tables {
             → (damage : Damage) → ¬ IsErrOf result (PageFault.Damaged damage) }
         ensures damaged { AreTold (P.pages pages.old) (P.count pages.old)
             → (damage : Damage) → IsErrOf result (PageFault.Damaged damage)
-            → IsNumberDamage (P.pages pages.old) (P.count pages.old) self.now.numbers number damage }
-        ensures named { AreTold (P.pages pages.old) (P.count pages.old)
-            → (damage : Damage) → IsErrOf result (PageFault.Damaged damage) → damage.rule ≢ Rule.Value → AskedSince (P.asked pages.old) (P.asked pages.new) damage.page }
+            → IsNumberDamage (P.pages pages.old) (P.count pages.old) self.now.numbers number (P.asked pages.old) (P.asked pages.new) damage }
         ensures own { AreTold (P.pages pages.old) (P.count pages.old)
             → AsksOnly (map_uses numbers_form (P.pages pages.old) self.now.numbers) (P.asked pages.old) (P.asked pages.new) }
         ensures fails { FailsReading P.Pages pages.old pages.new result }
@@ -163,9 +160,7 @@ impl Tables {
             → (damage : Damage) → ¬ IsErrOf result (PageFault.Damaged damage) }
         ensures damaged { AreTold (P.pages pages.old) (P.count pages.old)
             → (damage : Damage) → IsErrOf result (PageFault.Damaged damage)
-            → IsNumberDamage (P.pages pages.old) (P.count pages.old) self.now.numbers number damage }
-        ensures named { AreTold (P.pages pages.old) (P.count pages.old)
-            → (damage : Damage) → IsErrOf result (PageFault.Damaged damage) → damage.rule ≢ Rule.Value → AskedSince (P.asked pages.old) (P.asked pages.new) damage.page }
+            → IsNumberDamage (P.pages pages.old) (P.count pages.old) self.now.numbers number (P.asked pages.old) (P.asked pages.new) damage }
         ensures own { AreTold (P.pages pages.old) (P.count pages.old)
             → AsksOnly (map_uses numbers_form (P.pages pages.old) self.now.numbers) (P.asked pages.old) (P.asked pages.new) }
         ensures fails { FailsReading P.Pages pages.old pages.new result }
@@ -184,14 +179,15 @@ impl Tables {
     pub fn word_of<P: Pages>(&self, pages: &mut P, number: u64) -> Result<Option<Word>, PageFault>
         ensures found { (entries : Entries) → Holds (P.pages pages.old) self.now entries
             → IfOk result (λ found. found ≡ option_map (λ c. c.word) (word_of_number number entries.numbers)) }
+        ensures formed { IsMap numbers_form (P.pages pages.old) self.now.numbers
+            → IfOk result (λ found. (row : Option Counted) × (lookup number (map_rows numbers_form (P.pages pages.old) self.now.numbers) ≡ option_map counted_value row)
+            × IfSome row IsCounted × (found ≡ word_in row)) }
         ensures honest { (entries : Entries) → Holds (P.pages pages.old) self.now entries
             → AreTold (P.pages pages.old) (P.count pages.old) → AreCounted (table_uses (P.pages pages.old) self.now) (P.count pages.old)
             → (damage : Damage) → ¬ IsErrOf result (PageFault.Damaged damage) }
         ensures damaged { AreTold (P.pages pages.old) (P.count pages.old)
             → (damage : Damage) → IsErrOf result (PageFault.Damaged damage)
-            → IsNumberDamage (P.pages pages.old) (P.count pages.old) self.now.numbers number damage }
-        ensures named { AreTold (P.pages pages.old) (P.count pages.old)
-            → (damage : Damage) → IsErrOf result (PageFault.Damaged damage) → damage.rule ≢ Rule.Value → AskedSince (P.asked pages.old) (P.asked pages.new) damage.page }
+            → IsNumberDamage (P.pages pages.old) (P.count pages.old) self.now.numbers number (P.asked pages.old) (P.asked pages.new) damage }
         ensures own { AreTold (P.pages pages.old) (P.count pages.old)
             → AsksOnly (map_uses numbers_form (P.pages pages.old) self.now.numbers) (P.asked pages.old) (P.asked pages.new) }
         ensures fails { FailsReading P.Pages pages.old pages.new result }
@@ -223,9 +219,7 @@ impl Tables {
             → (damage : Damage) → ¬ IsErrOf result (PageFault.Damaged damage) }
         ensures damaged { AreTold (P.pages pages.old) (P.count pages.old)
             → (damage : Damage) → IsErrOf result (PageFault.Damaged damage)
-            → IsNextDamage (P.pages pages.old) (P.count pages.old) self.now.places (next_code (option_copied after.entry)) damage }
-        ensures named { AreTold (P.pages pages.old) (P.count pages.old)
-            → (damage : Damage) → IsErrOf result (PageFault.Damaged damage) → damage.rule ≢ Rule.Value → AskedSince (P.asked pages.old) (P.asked pages.new) damage.page }
+            → IsNextDamage (P.pages pages.old) (P.count pages.old) self.now.places (next_code (option_copied after.entry)) (P.asked pages.old) (P.asked pages.new) damage }
         ensures own { AreTold (P.pages pages.old) (P.count pages.old)
             → AsksOnly (map_uses places_form (P.pages pages.old) self.now.places) (P.asked pages.old) (P.asked pages.new) }
         ensures fails { FailsReading P.Pages pages.old pages.new result }

@@ -1,10 +1,12 @@
-use Rattle.std.proofs.Common.{◌≡◌, IsErrOf, IfSome, inr, Some, sym, subst, ◌∙◌, rules}
+use Rattle.std.proofs.Common.{◌≡◌, IsErrOf, IfSome, inr, Some, option_map, ap, sym, subst, ◌∙◌, rules}
 use Rattle.std.proofs.lemmas.Result.{err_from_is_err_and}
 use Rattle.page_face.specs.declared.fault.PageFault.TheVariants.{Damaged}
-use Rattle.row_codec.specs.Stored.{held_pairs}
+use Rattle.row_codec.specs.Stored.{held_pairs, place_value}
+use Rattle.btree_nodes.specs.Tree.{map_uses}
 use Rattle.store_tables.specs.Entries.{place_of_key}
+use Rattle.store_tables.specs.Holding.{places_form}
 use Rattle.place_updates.specs.Known.{AreKnown}
-use Rattle.place_updates.proofs.Known.{known-at, same-damage}
+use Rattle.place_updates.proofs.Known.{known-at, same-damage, words-later}
 use Rattle.place_updates.proofs.place.place_at.Goals as goal
 
 -- src/place.rt:54:17
@@ -27,4 +29,11 @@ returns-in_err-words-clause-damaged g c = λ told damage is.
     let was = c.in_err-words.was in
     let named : IsErrOf c.words_of.result (Damaged damage) = cc in
     let found = c.words_of.ensures.damaged (search rules) damage named in
-    inr (same-damage _ _ _ _ _ damage c.in_ok-stored.ensures.frame.pages c.in_ok-stored.ensures.frame.count found)
+    let place = c.in_ok-stored.ensures in
+    inr (record {
+      stored = c.in-Some.stored;
+      form = search rules;
+      place = λ tree. (place.formed tree).0 ∙ ap (option_map place_value) c.in-Some.is;
+      words = words-later (map_uses places_form (g.P.Pages.pages c.args.pages.now) c.args.tables.now.places) _ _ c.args.tables.now _ _ _ _ damage (place.own told)
+          (same-damage _ _ _ _ c.args.tables.now _ _ _ damage place.frame.pages place.frame.count found);
+    })

@@ -1,7 +1,14 @@
-use Rattle.std.proofs.Common.{IsErrOf, inl, rules}
+use Rattle.std.proofs.Common.{IsErrOf, None, inl, inr, rules, sym, subst}
 use Rattle.std.proofs.lemmas.Result.{err_from_is_err_and}
+use Rattle.page_face.specs.FreeList.{PageMap}
 use Rattle.page_face.specs.declared.fault.PageFault.TheVariants.{Damaged}
-use Rattle.place_updates.proofs.Known.{known-rest}
+use Rattle.page_face.proofs.Frames.{reads_then}
+use Rattle.btree_nodes.specs.Damages.{AreTold}
+use Rattle.btree_nodes.proofs.Harms.{asks-further}
+use Rattle.btree_nodes.specs.Tree.{map_uses}
+use Rattle.store_tables.specs.Broken.{IsRowSought}
+use Rattle.store_tables.specs.Holding.{numbers_form}
+use Rattle.place_updates.proofs.Known.{known-rest, number-later, same-number, without-row, words-behind, words-here}
 use Rattle.place_updates.proofs.words.+words_of_pairs.Goals as goal
 
 -- src/words.rt:108:21
@@ -14,7 +21,17 @@ returns-in_err-words-clause-honest g t c = λ entries holds known told counted d
     let named : IsErrOf c.words_of_pairs.result (Damaged damage) = cc in
     c.words_of_pairs.ensures.honest entries holds (known-rest entries.numbers c.args.pairs.now c.in-Some.rest.now (c.in-Some.number, c.in-Some.impact) (search rules) known) told counted damage named
 
--- src/words.rt:109:22
+-- src/words.rt:113:22
+pub returns-in_err-words-clause-damaged : goal.returns-in_err-words-clause-damaged
+returns-in_err-words-clause-damaged g t c = λ told damage is.
+    let passed = err_from_is_err_and c.from_residual.result c.from_residual.ensures.1 in
+    let fault_is = passed.1 in
+    let same = passed.2 in
+    let was = c.in_err-words.was in
+    let named : IsErrOf c.words_of_pairs.result (Damaged damage) = cc in
+    words-behind _ _ c.args.tables.now c.args.pairs.now c.in-Some.rest.now (c.in-Some.number, c.in-Some.impact) _ _ damage (search rules) (c.words_of_pairs.ensures.damaged told damage named)
+
+-- src/words.rt:114:22
 pub returns-in_err-word-clause-damaged : goal.returns-in_err-word-clause-damaged
 returns-in_err-word-clause-damaged g t c = λ told damage is.
     let passed = err_from_is_err_and c.from_residual-in_err-word.result c.from_residual-in_err-word.ensures.1 in
@@ -22,4 +39,52 @@ returns-in_err-word-clause-damaged g t c = λ told damage is.
     let same = passed.2 in
     let was = c.in_err-word.was in
     let named : IsErrOf c.word_of.result (Damaged damage) = cc in
-    inl (c.in-Some.number, search rules)
+    let rest = c.words_of_pairs.ensures in
+    let still : AreTold (g.P.Pages.pages c.words_of_pairs.new.pages) (g.P.Pages.count c.words_of_pairs.new.pages) = rw rest.frame.pages (rw rest.frame.count told) in
+    words-here _ _ c.args.tables.now c.args.pairs.now c.in-Some.rest.now c.in-Some.field-0-0.now _ _ damage (search rules)
+    (inl (number-later (map_uses numbers_form (g.P.Pages.pages c.args.pages.now) c.args.tables.now.numbers) _ _ _ c.in-Some.field-0-0.now.0 _ _ _ damage (rest.own told)
+    (same-number _ _ _ _ _ c.in-Some.field-0-0.now.0 _ _ damage rest.frame.pages rest.frame.count (c.word_of.ensures.damaged still damage named))))
+
+-- src/words.rt:94:22
+pub returns-in_err-word-clause-own : goal.returns-in_err-word-clause-own
+returns-in_err-word-clause-own g t c told =
+    let rest = c.words_of_pairs.ensures in
+    let still : AreTold (g.P.Pages.pages c.words_of_pairs.new.pages) (g.P.Pages.count c.words_of_pairs.new.pages) = rw rest.frame.pages (rw rest.frame.count told) in
+    asks-further (map_uses numbers_form (g.P.Pages.pages c.args.pages.now) c.args.tables.now.numbers) _ _ _ (rest.own told) (rw (sym rest.frame.pages) (c.word_of.ensures.own still))
+
+-- src/words.rt:95:9
+pub returns-in_default-2-clause-own : goal.returns-in_default-2-clause-own
+returns-in_default-2-clause-own g t c told =
+    let rest = c.words_of_pairs.ensures in
+    let still : AreTold (g.P.Pages.pages c.words_of_pairs.new.pages) (g.P.Pages.count c.words_of_pairs.new.pages) = rw rest.frame.pages (rw rest.frame.count told) in
+    asks-further (map_uses numbers_form (g.P.Pages.pages c.args.pages.now) c.args.tables.now.numbers) _ _ _ (rest.own told) (rw (sym rest.frame.pages) (c.word_of.ensures.own still))
+
+-- src/words.rt:97:5
+pub returns-in_err-put_word-clause-own : goal.returns-in_err-put_word-clause-own
+returns-in_err-put_word-clause-own g t c told =
+    let rest = c.words_of_pairs.ensures in
+    let still : AreTold (g.P.Pages.pages c.words_of_pairs.new.pages) (g.P.Pages.count c.words_of_pairs.new.pages) = rw rest.frame.pages (rw rest.frame.count told) in
+    asks-further (map_uses numbers_form (g.P.Pages.pages c.args.pages.now) c.args.tables.now.numbers) _ _ _ (rest.own told) (rw (sym rest.frame.pages) (c.word_of.ensures.own still))
+
+-- src/words.rt:66:1
+pub returns-clause-own : goal.returns-clause-own
+returns-clause-own g t c told =
+    let rest = c.words_of_pairs.ensures in
+    let still : AreTold (g.P.Pages.pages c.words_of_pairs.new.pages) (g.P.Pages.count c.words_of_pairs.new.pages) = rw rest.frame.pages (rw rest.frame.count told) in
+    asks-further (map_uses numbers_form (g.P.Pages.pages c.args.pages.now) c.args.tables.now.numbers) _ _ _ (rest.own told) (rw (sym rest.frame.pages) (c.word_of.ensures.own still))
+
+-- src/words.rt:97:5
+pub returns-in_err-put_word-clause-frame : goal.returns-in_err-put_word-clause-frame
+returns-in_err-put_word-clause-frame g t c = reads_then g.P.Pages g.met.P.Pages.goes_further g.met.P.Pages.reads_further _ _ _ c.words_of_pairs.ensures.frame c.word_of.ensures.frame
+
+-- src/words.rt:66:1
+pub returns-clause-frame : goal.returns-clause-frame
+returns-clause-frame g t c = reads_then g.P.Pages g.met.P.Pages.goes_further g.met.P.Pages.reads_further _ _ _ c.words_of_pairs.ensures.frame c.word_of.ensures.frame
+
+-- src/words.rt:95:9
+pub returns-in_default-2-clause-damaged : goal.returns-in_default-2-clause-damaged
+returns-in_default-2-clause-damaged g t c = λ told damage is.
+    let rest = c.words_of_pairs.ensures in
+    let none = without-row (g.P.Pages.pages c.words_of_pairs.new.pages) c.args.tables.now c.in-Some.field-0-0.now.0 _ c.in_ok-word.ensures.formed c.in_default-2.is in
+    words-here _ _ c.args.tables.now c.args.pairs.now c.in-Some.rest.now c.in-Some.field-0-0.now _ _ damage (search rules)
+    (inr (cc, subst (λ (pages : PageMap). IsRowSought pages c.args.tables.now c.in-Some.field-0-0.now.0 None) rest.frame.pages none))

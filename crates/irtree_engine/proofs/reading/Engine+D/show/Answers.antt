@@ -1,4 +1,4 @@
-use Rattle.std.proofs.Common.{◌≡◌, Err, ap, sym, subst, ◌∙◌}
+use Rattle.std.proofs.Common.{◌≡◌, ℕ, List, [], Err, ap, sym, subst, ◌∙◌}
 use Rattle.std.proofs.lemmas.Result.{err_from_is_err_and}
 use Rattle.page_journal.specs.Record.{applied}
 use Rattle.page_face.specs.FreeList.{PageMap}
@@ -69,11 +69,13 @@ returns-in_err-place_at-clause-damaged g c = λ t damage is.
     let tables_are : c.tables_of-tables.result ≡ tables_in store.current.head = c.tables_of-tables.ensures ∙ ap tables_in c.head.ensures in
     let told = store-told g.D.Disk.tells (applied (g.D.Disk.world store.disk.now).seen) store.overlay store.current.counted t store.sized in
     let held : PageMap = counted_pages store.current.counted (shown g.D.Disk.tells (applied (g.D.Disk.world store.disk.now).seen) store.overlay) in
+    let log = c.place_at.new.pages.asked.items in
     let found = c.place_at.ensures.damaged told damage (c.in_err-place_at.was ∙ ap Err (damaged-from _ damage was)) in
     let same : ◌≡◌ {A = stores.Contents} (record { block = store.current; pages = held }) (record { block = c.args.self.now.store.current; pages = counted_pages c.args.self.now.store.current.counted (shown g.D.Disk.tells (applied (g.D.Disk.world c.args.self.now.store.disk.now).seen) c.args.self.now.store.overlay) }) =
     λ i. record { block = c.clear_log.ensures.current i; pages = counted_pages (c.clear_log.ensures.current i).counted (shown g.D.Disk.tells (applied (g.D.Disk.world (c.clear_log.ensures.disk i).now).seen) (c.clear_log.ensures.overlay i)) } in
-    subst (λ (s : stores.Contents). IsShownDamage s.pages s.block.counted (tables_in s.block.head) c.args.key.now damage) same
-    (subst (λ (tables : Tables). IsShownDamage held store.current.counted tables c.args.key.now damage) tables_are found)
+    subst (λ (s : stores.Contents). IsShownDamage s.pages s.block.counted (tables_in s.block.head) c.args.key.now [] log damage) same
+    (subst (λ (before : List ℕ). IsShownDamage held store.current.counted (tables_in store.current.head) c.args.key.now before log damage) c.clear_log.ensures.log
+    (subst (λ (tables : Tables). IsShownDamage held store.current.counted tables c.args.key.now store.asked.items log damage) tables_are found))
 
 pub returns-in_err-place_at-clause-broken : goal.returns-in_err-place_at-clause-broken
 returns-in_err-place_at-clause-broken g c = λ t damage is.
@@ -90,6 +92,7 @@ returns-in_err-place_at-clause-broken g c = λ t damage is.
     let told = store-told g.D.Disk.tells (applied (world store.disk.now).seen) store.overlay store.current.counted t store.sized in
     let pages : PageMap = counted_pages store.current.counted (shown g.D.Disk.tells (applied (world store.disk.now).seen) store.overlay) in
     let key = c.args.key.now in
+    let log = c.place_at.new.pages.asked.items in
     let found = c.place_at.ensures.damaged told damage (c.in_err-place_at.was ∙ ap Err (damaged-from _ damage was)) in
     let held = contents_held (world c.args.self.now.store.disk.now).seen in
     let same : ◌≡◌ {A = stores.Contents} (record { block = store.current; pages = pages }) held =
@@ -97,6 +100,8 @@ returns-in_err-place_at-clause-broken g c = λ t damage is.
     ∙ (λ i. contents_held (world (c.clear_log.ensures.disk i).now).seen) in
     record {
       key = key;
-      is = subst (λ (s : stores.Contents). IsShownDamage s.pages s.block.counted (tables_in s.block.head) key damage) same
-          (subst (λ (tables : Tables). IsShownDamage pages store.current.counted tables key damage) tables_are found);
+      asked = log;
+      is = subst (λ (s : stores.Contents). IsShownDamage s.pages s.block.counted (tables_in s.block.head) key [] log damage) same
+          (subst (λ (before : List ℕ). IsShownDamage pages store.current.counted (tables_in store.current.head) key before log damage) c.clear_log.ensures.log
+          (subst (λ (tables : Tables). IsShownDamage pages store.current.counted tables key store.asked.items log damage) tables_are found));
     }

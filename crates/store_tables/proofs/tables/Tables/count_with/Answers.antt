@@ -4,10 +4,9 @@ use Rattle.std.proofs.lemmas.Result.{err_from_is_err_and}
 use Rattle.page_face.specs.declared.fault.PageFault.TheVariants.{Damaged}
 use Rattle.paged_map.specs.declared.replacing.RowSpot.{RowSpot}
 use Rattle.store_tables.specs.Entries.{word_of_number}
-use Rattle.store_tables.specs.Holding.{numbers_form}
 use Rattle.store_tables.specs.Rows.{IsNumberSpot, spot_in}
 use Rattle.store_tables.proofs.HoldLemmas.{can_hold-read, cannot_hold-read, known-read, places-read}
-use Rattle.store_tables.proofs.ToldLemmas.{asks-numbers, map-value}
+use Rattle.store_tables.proofs.ToldLemmas.{asks-numbers}
 use Rattle.store_tables.proofs.tables.Tables.count_with.Goals as goal
 
 pub returns-in-Some-clause-held : goal.returns-in-Some-clause-held
@@ -41,7 +40,7 @@ returns-in_err-row-clause-damaged g c told sought damage =
     let p = err_from_is_err_and c.from_residual.result c.from_residual.ensures.1 in
     λ e. (let same : c.in_err-row.field-0.0 ≡ Damaged damage = cc (p.1, p.2, e) in
     ⊎_elim
-    (λ map. inr (inl (map, c.in_err-row.ensures.named told damage (ap Err same) (map-value numbers_form (g.P.Pages.pages c.args.pages.now) (g.P.Pages.count c.args.pages.now) c.args.self.now.numbers damage map))))
+    (λ map. inr (inl map))
     (λ row. inr (inr (inl (row.0, c.args.found, sought, λ tree. rw (sym c.unwrap_or.ensures) (row.1 tree)))))
     (c.in_err-row.ensures.damaged told damage (ap Err same)))
 

@@ -78,10 +78,6 @@ returns-in-None-clause-damaged g c told damage e =
           ),
     )
 
-pub returns-in-None-clause-named : goal.returns-in-None-clause-named
-returns-in-None-clause-named g c told damage e other =
-    let at = value_at c.in-Some.spot.page c.broken.result damage c.broken.ensures (same_fault c.broken.result (Damaged damage) _ _ refl refl e) in absurd (other at.1)
-
 pub returns-in-Some-decode-clause-spot : goal.returns-in-Some-decode-clause-spot
 returns-in-Some-decode-clause-spot g c =
     let found = subst (λ (x : Option RowSpot). IfSome x (IsNumberSpot (g.P.Pages.pages c.find_row.new.pages) (g.P.Pages.count c.find_row.new.pages) c.args.self.now.numbers (g.P.Pages.looked c.find_row.new.pages) (number c.number_bytes-key.result))) c.in-Some.is c.in_ok-spot.ensures.spot in

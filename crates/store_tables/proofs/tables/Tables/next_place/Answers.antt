@@ -81,7 +81,3 @@ returns-in-None-clause-damaged g c told damage e =
                 (place-unread pages root row c.in-Some.leaf some.1 (λ entry is key value. let no = c.in-None.ensures.every entry is key value in cc no)),
           ),
     )
-
-pub returns-in-None-clause-named : goal.returns-in-None-clause-named
-returns-in-None-clause-named g c told damage e other =
-    let at = value_at c.in-Some.leaf c.broken.result damage c.broken.ensures (same_fault c.broken.result (Damaged damage) _ _ refl refl e) in absurd (other at.1)

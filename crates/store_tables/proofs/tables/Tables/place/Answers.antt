@@ -73,7 +73,3 @@ returns-in-None-clause-damaged g c told damage e =
                 (place-broken pages root (key_code c.args.key.now, c.get_row.new.value) c.in-Some.leaf some.held (λ stored is same. let no = c.in-None.ensures.every stored is.0 is.1 same in cc no)),
           ),
     )
-
-pub returns-in-None-clause-named : goal.returns-in-None-clause-named
-returns-in-None-clause-named g c told damage e other =
-    let at = value_at c.in-Some.leaf c.broken.result damage c.broken.ensures (same_fault c.broken.result (Damaged damage) _ _ refl refl e) in absurd (other at.1)

@@ -3,8 +3,8 @@ use Rattle.std.proofs.lemmas.Result.{err_from_is_err_and}
 use Rattle.page_face.specs.declared.fault.PageFault.TheVariants.{Damaged}
 use Rattle.btree_nodes.proofs.Harms.{asked-before, asks-further}
 use Rattle.btree_nodes.specs.Damages.{AreTold}
-use Rattle.store_tables.specs.Holding.{numbers_form, word_uses}
-use Rattle.store_tables.proofs.ToldLemmas.{asks-numbers, asks-texts, map-value}
+use Rattle.store_tables.specs.Holding.{word_uses}
+use Rattle.store_tables.proofs.ToldLemmas.{asks-numbers, asks-texts}
 use Rattle.store_tables.proofs.tables.Tables.releasable.Goals as goal
 
 pub returns-in_err-row-clause-damaged : goal.returns-in_err-row-clause-damaged
@@ -12,7 +12,7 @@ returns-in_err-row-clause-damaged g c told damage =
     let p = err_from_is_err_and c.from_residual.result c.from_residual.ensures.1 in
     λ e. (let same : c.in_err-row.field-0.0 ≡ Damaged damage = cc (p.1, p.2, e) in
     ⊎_elim
-    (λ map. inl (map, c.in_err-row.ensures.named told damage (ap Err same) (map-value numbers_form (g.P.Pages.pages c.args.pages.now) (g.P.Pages.count c.args.pages.now) c.args.self.now.numbers damage map)))
+    (λ map. inl map)
     (λ row. inr (inl row))
     (c.in_err-row.ensures.damaged told damage (ap Err same)))
 
