@@ -100,7 +100,7 @@ fn remove_from<P: Pages>(
 /// isn't counted, with the first rule of a node's page that it breaks, with `Level` if it isn't of its level, so at the root if the path isn't as long as the tree
 /// has levels, with `Fill` if it is an inner node of one child, and with `Value` if its slot on the path isn't used; then as the rows' calls and `insert_at` do;
 /// and in the end with `Link`, `Kind` or `Fill` at the root that is left. Where the path leads down by the bytes of told pages, a damage is of a page that was asked
-/// for and breaks the rule as the call leaves it, or the rows' map gave a row before the one that was looked for (`Order`), or it is what a take was refused for.
+/// for and breaks the rule as the call leaves it, or it is what a take was refused for.
 /// Refuses `Disk`; `NoRoom`; `Stopped`; `Memory`, too. After a refusal `tree` and the pages are as the call left them, and are to be abandoned.
 ///
 /// Reads one page a level, decodes it once, and writes one at most. Costs two rows for each of the words a level, or a call of `refresh` above nodes that are

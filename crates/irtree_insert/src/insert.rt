@@ -128,10 +128,9 @@ fn insert_below<P: Pages>(
 ///
 /// Refuses `Damaged` if a page on the way is 0 or isn't counted (`Link`), isn't a node's (`Kind`), has no slot (`Fill`) or a point or
 /// rectangle that is none (`Value`), isn't of the level that its place asks, or is a root above level 9 (`Level`), or as the rows'
-/// calls do; over told pages it names a page that was asked for and breaks the rule so, but for a refused take and for rows out of
-/// their order. On a well-formed tree whose pages are told no page is damaged. Refuses as `take` does, `NoRoom` among it, `Disk`,
-/// `Stopped` and `Memory`. After a failure the tree's root is as before, and its root of rows and
-/// the pages are as the call left them: they are to be abandoned.
+/// calls do; over told pages it names a page that was asked for and breaks the rule so, but for a refused take. On a well-formed tree
+/// whose pages are told no page is damaged. Refuses as `take` does, `NoRoom` among it, `Disk`, `Stopped` and `Memory`. After a failure
+/// the tree's root is as before, and its root of rows and the pages are as the call left them: they are to be abandoned.
 pub fn insert_at<P: Pages>(
     alloc: Global,
     pages: &mut P,

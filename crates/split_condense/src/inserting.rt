@@ -24,8 +24,7 @@ use std::alloc::Global;
 /// tree's roots and the pages are then as the call left them, and are to be abandoned.
 ///
 /// Over told pages `Damaged` names a page that was asked for and a rule that it breaks as the call leaves it: a node's page by itself, or by not being
-/// one level below a node's that names it, or a page of the map of rows in its place there. Else it is `Order` of a map of rows that gave a row before
-/// the one that was looked for, or what a `take` was refused for.
+/// one level below a node's that names it, or a page of the map of rows in its place there. Else it is what a `take` was refused for.
 ///
 /// For each level looks at one page and at a row for each of the entry's words, and writes those that change: the leaf, each node above it whose
 /// slot's rectangle grew or whose child was split, and each row in which a word's impact rose. A split takes a page, and moves or makes a row for
