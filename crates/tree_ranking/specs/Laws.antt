@@ -64,14 +64,19 @@ pub harm-below : (pages : PageMap) (count rows : ℕ) (old new : List ℕ) (page
 harm-below pages count rows old new page level b off =
     let child = b.stood b.has.0 in
     let one = one-above b.above page level b.bound b.below in
-    let parent_level = b.has.1 in
-    (off.0, inl (inr (refl, record {
-      parent = b.parent;
-      at = child.0;
-      asked = b.asked;
-      names = λ some. child.2;
-      level = λ some told same. off.1 (told, omega arith);
-    })))
+    let parent_level = b.has.1 in (
+      off.0,
+      inl (inr (
+        refl,
+        record {
+          parent = b.parent;
+          at = child.0;
+          asked = b.asked;
+          names = λ some. child.2;
+          level = λ some told same. off.1 (told, omega arith);
+        },
+      )),
+    )
 
 leaves-at : (pages : PageMap) (tree : Tree) (page i : ℕ) → (nodes_at pages tree page).level ≡ 0 → i < 32 → Held IsPlaceItem ((nodes_at pages tree page).slots i)
 leaves-at pages tree page i level l = leaf-held (pages page) (bytes_in pages tree.rows page) i level l
