@@ -6,7 +6,7 @@ use Rattle.btree_nodes.specs.Damages.{AskedSince}
 use Rattle.best_first.specs.declared.item.Item.{Item}
 use Rattle.best_first.specs.declared.item.Item.TheVariants.{Node, Place}
 use Rattle.best_first.specs.Items.{IsGivenAt, OfNode, nodes_of}
-use Rattle.best_first.specs.Levels.{IsOffLevel, IsGivenBelow}
+use Rattle.best_first.specs.Levels.{IsGivenBelow}
 use Rattle.best_first.specs.Openings.{AsksNodes}
 use Rattle.best_first.specs.Queue.{IsNext}
 use Rattle.best_first.proofs.Insides.{first_inside, next_inside, opened_inside}

@@ -1,5 +1,5 @@
 -- Nodes whose pages aren't of the level that they were given with.
-use Rattle.std.specs.Prelude.{◌≡◌, ℕ, List}
+use Rattle.std.specs.Prelude.{ℕ, List}
 use Rattle.page_face.specs.FreeList.{PageMap}
 use Rattle.btree_nodes.specs.Damages.{AskedSince}
 use Rattle.best_first.specs.declared.item.Item.{Item}

@@ -117,7 +117,8 @@ fn root_item<P: Pages>(alloc: Global, pages: &mut P, root: u32) -> Result<Vec<It
 
 /// Starts a search: returns the root, or nothing for the empty tree and where no slot of the root may have an answer below it.
 ///
-/// Looks at the root's row of each word of the search that the store knows, and then at its page if it is given. Refuses as [`opened`].
+/// Looks at the root's row of each word of the search that the store knows, and then at its page if it is given. Refuses as [`opened`], but
+/// for `Level`.
 pub fn started<P: Pages>(
     alloc: Global,
     pages: &mut P,
