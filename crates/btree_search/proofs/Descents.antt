@@ -110,3 +110,9 @@ module _ {form : Form} {pages : PageMap} {count key least level page low high : 
   leaf-lies down is tree =
       let was = d.below is (inl tree) in
       (was.0, subst (λ (k : ℕ). LiesBelow form pages least level page low high fill k here lo hi) down (was.1.lies tree))
+
+  -- it was asked for, and is as the pages have it
+  pub leaf-read : (before : List ℕ) → asked ≡ before ++ page ∷ [] → bytes ≡ pages page → AreTold pages count → AskedSince before since here × (looked ≡ pages here)
+  leaf-read before a is told =
+      let was = d.ends before a in
+      (record { front = was.0; back = []; is = was.1 }, (d.below is (inr told)).0)

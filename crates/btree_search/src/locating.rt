@@ -57,6 +57,9 @@ fn descend_to_leaf<P: Pages>(
         → IsDamaged form (P.pages pages.old) (P.count pages.old) damage least level page (low_of form bounds.old) (high_of form bounds.old) }
     ensures named { (before : List ℕ) → P.asked pages.old ≡ before ++ page ∷ []
         → (damage : Damage) → IsErrOf result (PageFault.Damaged damage) → AskedSince before (P.asked pages.new) damage.page }
+    ensures read { (before : List ℕ) → P.asked pages.old ≡ before ++ page ∷ []
+        → AreTold (P.pages pages.old) (P.count pages.old) → P.looked pages.old ≡ P.pages pages.old page
+        → IfOk result (λ leaf. AskedSince before (P.asked pages.new) leaf.page × (P.looked pages.new ≡ P.pages pages.old leaf.page)) }
     ensures own { (before : List ℕ) → P.asked pages.old ≡ before ++ page ∷ []
         → AreTold (P.pages pages.old) (P.count pages.old) → P.looked pages.old ≡ P.pages pages.old page
         → AsksOnly (uses form (P.pages pages.old) level page) before (P.asked pages.new) }
@@ -115,6 +118,8 @@ pub fn locate<P: Pages>(
         → IsDamaged form (P.pages pages.old) (P.count pages.old) damage (least_of_root (level_of (P.pages pages.old root))) (level_of (P.pages pages.old root)) root 0 (256 ^ form.key) }
     ensures named { AreTold (P.pages pages.old) (P.count pages.old)
         → (damage : Damage) → IsErrOf result (PageFault.Damaged damage) → AskedSince (P.asked pages.old) (P.asked pages.new) damage.page }
+    ensures read { AreTold (P.pages pages.old) (P.count pages.old)
+        → IfOk result (λ leaf. AskedSince (P.asked pages.old) (P.asked pages.new) leaf.page × (P.looked pages.new ≡ P.pages pages.old leaf.page)) }
     ensures own { AreTold (P.pages pages.old) (P.count pages.old)
         → AsksOnly (map_uses form (P.pages pages.old) root) (P.asked pages.old) (P.asked pages.new) }
     ensures fails { FailsReading P.Pages pages.old pages.new result }

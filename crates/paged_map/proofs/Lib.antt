@@ -2,6 +2,7 @@ pub mod Behind
 pub mod Leaves
 pub mod Edits
 pub mod Rows
+pub mod Readings
 pub mod Maps
 pub mod Removes
 pub mod Spots

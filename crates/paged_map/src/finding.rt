@@ -10,7 +10,7 @@ ghost use Rattle.btree_nodes.specs.Tree.{IsMap, map_rows, map_uses};
 ghost use Rattle.btree_nodes.specs.Damages.{AreTold, AskedSince, AsksOnly};
 ghost use Rattle.btree_search.specs.Leaves.{IsShown};
 ghost use Rattle.btree_search.specs.Steps.{high_of};
-ghost use Rattle.paged_map.specs.Answers.{HoldsRow, Locates, LocatesOr};
+ghost use Rattle.paged_map.specs.Answers.{HasRead, HoldsRow, Locates, LocatesOr};
 ghost use Rattle.paged_map.specs.Maps.{IsMapDamaged};
 ghost use Rattle.paged_map.specs.Spots.{IsRowAt, IsSpot, leaf_of};
 
@@ -63,6 +63,8 @@ pub fn find_below<P: Pages>(
         → IfOk result (λ found. Locates (lookup (number key.now) (map_rows form (P.pages pages.old) root)) value.new
         (HoldsRow form (P.pages pages.old) (map_uses form (P.pages pages.old) root) (number key.now, value.new)) (leaf_of found)) }
     ensures spot { IfOk result (λ found. IfSome found (IsSpot form (P.pages pages.new) (P.count pages.new) root (P.looked pages.new) (number key.now))) }
+    ensures read { AreTold (P.pages pages.old) (P.count pages.old)
+        → IfOk result (λ found. IfSome (leaf_of found) (HasRead form (P.pages pages.old) (P.asked pages.old) (P.asked pages.new) (number key.now, value.new))) }
     ensures damaged { AreTold (P.pages pages.old) (P.count pages.old)
         → (damage : Damage) → IsErrOf result (PageFault.Damaged damage) → IsMapDamaged form (P.pages pages.old) (P.count pages.old) root damage }
     ensures named { AreTold (P.pages pages.old) (P.count pages.old)
@@ -152,6 +154,8 @@ fn first_at<P: Pages>(
     ensures last { IsMap form (P.pages pages.old) root → bounds.new.top ≡ 0
         → IfOk result (λ leaf. first_from (high_of form bounds.new) (map_rows form (P.pages pages.old) root) ≡ None) }
     ensures on { IfOk result (λ leaf. IfSome leaf (λ page. number key.now ≤ number found.new)) }
+    ensures read { AreTold (P.pages pages.old) (P.count pages.old)
+        → IfOk result (λ leaf. IfSome leaf (HasRead form (P.pages pages.old) (P.asked pages.old) (P.asked pages.new) (number found.new, value.new))) }
     ensures past { IfOk result (λ leaf. number key.now < high_of form bounds.new) }
     ensures top { IfOk result (λ leaf. 0 < bounds.new.top → bounds.new.top ≡ form.key) }
     ensures damaged { AreTold (P.pages pages.old) (P.count pages.old)
@@ -203,6 +207,8 @@ pub fn first_below<P: Pages>(
         → IfOk result (Locates (first_from (number key.now) (map_rows form (P.pages pages.old) root)) (number found.new, value.new)
         (HoldsRow form (P.pages pages.old) (map_uses form (P.pages pages.old) root) (number found.new, value.new))) }
     ensures on { IfOk result (λ leaf. IfSome leaf (λ page. number key.now ≤ number found.new)) }
+    ensures read { AreTold (P.pages pages.old) (P.count pages.old)
+        → IfOk result (λ leaf. IfSome leaf (HasRead form (P.pages pages.old) (P.asked pages.old) (P.asked pages.new) (number found.new, value.new))) }
     ensures damaged { AreTold (P.pages pages.old) (P.count pages.old)
         → (damage : Damage) → IsErrOf result (PageFault.Damaged damage) → IsMapDamaged form (P.pages pages.old) (P.count pages.old) root damage }
     ensures named { AreTold (P.pages pages.old) (P.count pages.old)

@@ -7,7 +7,7 @@ ghost use Rattle.btree_nodes.specs.Supply.{view};
 ghost use Rattle.btree_nodes.specs.Rows.{lookup, first_from, put, without};
 ghost use Rattle.btree_nodes.specs.Tree.{IsMap, map_rows, map_uses};
 ghost use Rattle.btree_nodes.specs.Damages.{AreTold, AskedSince, AsksOnly, IsRefusedTake};
-ghost use Rattle.paged_map.specs.Answers.{HoldsRow, Locates};
+ghost use Rattle.paged_map.specs.Answers.{HasRead, HoldsRow, Locates};
 ghost use Rattle.paged_map.specs.Drafts.{Drafts, IsKeyOf, IsLeafDraft};
 ghost use Rattle.paged_map.specs.Maps.{AreCounted, IsMapDamaged, IsKept, HasBecome};
 ghost use Rattle.paged_map.specs.Spots.{IsSpot, leaf_of};
@@ -70,6 +70,10 @@ impl<L: Layout> PagedMap<L> {
             → IfOk result (Locates (lookup (number key.now) (map_rows L.form (P.pages pages.old) self.now.root)) value.new
             (HoldsRow L.form (P.pages pages.old) (map_uses L.form (P.pages pages.old) self.now.root) (number key.now, value.new))) }
 
+        // On any pages that tell their bytes, the leaf was asked for and has the row.
+        ensures read { AreTold (P.pages pages.old) (P.count pages.old)
+            → IfOk result (λ leaf. IfSome leaf (HasRead L.form (P.pages pages.old) (P.asked pages.old) (P.asked pages.new) (number key.now, value.new))) }
+
         // On a well-formed map whose pages are counted no page is damaged.
         ensures honest { IsMap L.form (P.pages pages.old) self.now.root → AreCounted (map_uses L.form (P.pages pages.old) self.now.root) (P.count pages.old)
             → AreTold (P.pages pages.old) (P.count pages.old) → (damage : Damage) → result ≢ Err (PageFault.Damaged damage) }
@@ -106,6 +110,10 @@ impl<L: Layout> PagedMap<L> {
             → IfOk result (λ found. Locates (lookup (number key.now) (map_rows L.form (P.pages pages.old) self.now.root)) value.new
             (HoldsRow L.form (P.pages pages.old) (map_uses L.form (P.pages pages.old) self.now.root) (number key.now, value.new)) (leaf_of found)) }
         ensures spot { IfOk result (λ found. IfSome found (IsSpot L.form (P.pages pages.new) (P.count pages.new) self.now.root (P.looked pages.new) (number key.now))) }
+
+        // On any pages that tell their bytes, the leaf was asked for and has the row.
+        ensures read { AreTold (P.pages pages.old) (P.count pages.old)
+            → IfOk result (λ found. IfSome (leaf_of found) (HasRead L.form (P.pages pages.old) (P.asked pages.old) (P.asked pages.new) (number key.now, value.new))) }
 
         // On a well-formed map whose pages are counted no page is damaged.
         ensures honest { IsMap L.form (P.pages pages.old) self.now.root → AreCounted (map_uses L.form (P.pages pages.old) self.now.root) (P.count pages.old)
@@ -146,8 +154,10 @@ impl<L: Layout> PagedMap<L> {
             → IfOk result (Locates (first_from (number key.now) (map_rows L.form (P.pages pages.old) self.now.root)) (number found.new, value.new)
             (HoldsRow L.form (P.pages pages.old) (map_uses L.form (P.pages pages.old) self.now.root) (number found.new, value.new))) }
 
-        // On any pages the row's key isn't less.
+        // On any pages the row's key isn't less, and where they tell their bytes the leaf was asked for and has the row.
         ensures on { IfOk result (λ leaf. IfSome leaf (λ page. number key.now ≤ number found.new)) }
+        ensures read { AreTold (P.pages pages.old) (P.count pages.old)
+            → IfOk result (λ leaf. IfSome leaf (HasRead L.form (P.pages pages.old) (P.asked pages.old) (P.asked pages.new) (number found.new, value.new))) }
 
         // On a well-formed map whose pages are counted no page is damaged.
         ensures honest { IsMap L.form (P.pages pages.old) self.now.root → AreCounted (map_uses L.form (P.pages pages.old) self.now.root) (P.count pages.old)

@@ -3,10 +3,11 @@ use Rattle.page_face.specs.FreeList.{PageMap}
 use Rattle.page_face.specs.Causes.{IsUncounted, asked_after}
 use Rattle.page_face.specs.Number.{number}
 use Rattle.page_face.proofs.Frames.{reads_then}
+use Rattle.btree_nodes.specs.Damages.{AskedSince}
 use Rattle.btree_nodes.proofs.Walks.{same-fault}
 use Rattle.btree_search.specs.Steps.{low_of, high_of}
 use Rattle.btree_search.specs.declared.locating.Leaf.{Leaf}
-use Rattle.btree_search.proofs.Descents.{descends-start, descends-step, damaged-link, named-link, own-link, leaf-lies}
+use Rattle.btree_search.proofs.Descents.{descends-start, descends-step, damaged-link, named-link, own-link, leaf-lies, leaf-read}
 use Rattle.btree_search.proofs.locating.descend_to_leaf.Goals as goal
 
 pub down-init : goal.down-init
@@ -70,3 +71,8 @@ pub returns-in-Ok-leaf_count-clause-located : goal.returns-in-Ok-leaf_count-clau
 returns-in-Ok-leaf_count-clause-located g c = λ is tree.
     let l = leaf-lies c.down.invariant.descends (omega arith) is tree in
     (c.leaf_count.ensures.looked ∙ l.0, l.1)
+
+pub returns-in-Ok-leaf_count-clause-read : goal.returns-in-Ok-leaf_count-clause-read
+returns-in-Ok-leaf_count-clause-read g c = λ before asked told is.
+    let l = leaf-read c.down.invariant.descends before asked is told in
+    (subst (λ (x : List ℕ). AskedSince before x c.down.here) (sym c.leaf_count.ensures.asked) l.0, c.leaf_count.ensures.looked ∙ l.1)

@@ -8,7 +8,7 @@ use Rattle.btree_nodes.proofs.Numbers.{number_below}
 use Rattle.btree_nodes.specs.declared.form.Form.{Form}
 use Rattle.btree_nodes.specs.Nodes.{least_of_root}
 use Rattle.btree_nodes.specs.Tree.{IsTree, uses, map_uses, level_of}
-use Rattle.btree_nodes.specs.Damages.{AreTold, AsksOnly}
+use Rattle.btree_nodes.specs.Damages.{AreTold, AskedSince, AsksOnly}
 use Rattle.btree_nodes.proofs.Trees.{tree-size}
 use Rattle.btree_nodes.proofs.Harms.{asks-more, asks-nothing}
 use Rattle.btree_nodes.proofs.Walks.{same-fault, told-read, uses-self, asks-read}
@@ -76,3 +76,16 @@ returns-in-Err-clause-own g c = λ told.
     let u = uses-self form old (level_of (old root)) root in
     let m = map-uses form old root root c.requires.root in
     subst (λ (x : List ℕ). AsksOnly mine asked x) (sym c.look.ensures.asked) (asks-read mine asked asked root c.look.result (asks-nothing mine asked asked refl) (omega arith))
+
+pub returns-in-Ok-clause-read : goal.returns-in-Ok-clause-read
+returns-in-Ok-clause-read g c = λ told.
+    let old : PageMap = g.P.Pages.pages c.args.pages.now in
+    let root : ℕ = c.args.root in
+    let asked : List ℕ = g.P.Pages.asked c.args.pages.now in
+    let last : List ℕ = g.P.Pages.asked c.descend_to_leaf.new.pages in
+    let looked : List ℕ = g.P.Pages.looked c.descend_to_leaf.new.pages in
+    let bytes = c.in-Ok.ensures.gives (told-read old (g.P.Pages.count c.args.pages.now) root told (λ u. let f = c.in-Ok.ensures.uncounted u in cc)) in
+    let claim = enter (λ p k v w a b. AreTold p k → g.P.Pages.looked c.look.new.self ≡ p root → IfOk c.descend_to_leaf.result (λ leaf. AskedSince asked last leaf.page × (looked ≡ p leaf.page)))
+    old (g.P.Pages.pages c.look.new.self) (g.P.Pages.count c.args.pages.now) (g.P.Pages.count c.look.new.self) 0 0 0 0 0 0 0 0
+    c.in-Ok.ensures.pages c.in-Ok.ensures.count refl refl refl refl (c.descend_to_leaf.ensures.read asked c.in-Ok.ensures.asked) in
+    claim told bytes

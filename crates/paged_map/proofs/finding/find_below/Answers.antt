@@ -2,12 +2,14 @@ use Rattle.std.proofs.Common.{◌∙◌, ℕ, List, is_some, sym, subst}
 use Rattle.std.specs.Prelude.{IfSome}
 use Rattle.page_face.specs.Causes.{IsUncounted}
 use Rattle.page_face.specs.Number.{number}
-use Rattle.btree_nodes.specs.Nodes.{rows_in}
+use Rattle.btree_nodes.specs.declared.form.Form.{Form}
+use Rattle.btree_nodes.specs.Nodes.{IsLeaf, rows_in}
 use Rattle.btree_nodes.specs.Rows.{IsWithin}
 use Rattle.btree_search.specs.Leaves.{IsShown}
 use Rattle.btree_search.specs.Steps.{low_of, high_of}
 use Rattle.paged_map.specs.Spots.{IsRowAt, leaf_of}
 use Rattle.paged_map.proofs.Leaves.{found-leaf}
+use Rattle.paged_map.proofs.Readings.{hit-there, leaf-read}
 use Rattle.paged_map.proofs.Spots.{leaf-found, spots}
 use Rattle.paged_map.proofs.finding.find_below.Goals as goal
 
@@ -34,3 +36,15 @@ returns-in-Ok-clause-spot g c =
     (subst (λ (x : List ℕ). IfSome c.row_at.result (IsRowAt c.args.form count x key)) c.looked.ensures
     (c.row_at.ensures.spot count (low_of c.args.form c.locate.new.bounds) (high_of c.args.form c.locate.new.bounds) (λ u. c.in-Ok.ensures.counted (subst (λ (n : ℕ). IsUncounted n c.in-Ok.leaf.page) f.count u))
     (subst (λ (x : List ℕ). IsShown c.args.form x key (low_of c.args.form c.locate.new.bounds) (high_of c.args.form c.locate.new.bounds) c.in-Ok.leaf) (sym c.looked.ensures) s)))
+
+pub returns-in-Ok-clause-read : goal.returns-in-Ok-clause-read
+returns-in-Ok-clause-read g c = λ told.
+    let l = c.in-Ok.ensures.read told in
+    let s = c.in-Ok.ensures.shown in
+    let form : Form = c.args.form in
+    let low : ℕ = low_of form c.locate.new.bounds in
+    let high : ℕ = high_of form c.locate.new.bounds in
+    let within : IsWithin low high (rows_in form c.looked.result.now) = subst (λ (x : List ℕ). IsWithin low high (rows_in form x)) (sym c.looked.ensures) s.within in
+    leaf-read form (g.P.Pages.pages c.args.pages.now) (g.P.Pages.asked c.args.pages.now) (g.P.Pages.asked c.locate.new.pages) c.looked.result.now c.row_at.new.value c.in-Ok.leaf.least (number c.args.key.now) c.in-Ok.leaf.page
+    (is_some c.row_at.result) (leaf_of c.row_at.result) l.0 (c.looked.ensures ∙ l.1) (subst (IsLeaf form c.in-Ok.leaf.least) (sym c.looked.ensures) s.sound)
+    (hit-there (is_some c.row_at.result) c.row_at.new.value _ (c.row_at.ensures.found low high within s.from s.to)) (leaf-found c.row_at.result c.in-Ok.leaf.page c.row_at.ensures.page)

@@ -1,15 +1,19 @@
-use Rattle.std.proofs.Common.{rules, arith, ◌≡◌, ◌^◌, ◌<◌, ℕ, List, length, take, ◌∙◌, sym, ap, subst, refl, Err, Option}
+use Rattle.std.proofs.Common.{rules, arith, ◌≡◌, ◌^◌, ◌<◌, ℕ, List, length, take, ◌∙◌, sym, ap, subst, refl, Err, Option, Some}
+use Rattle.std.specs.Prelude.{IfSome}
 use Rattle.std.proofs.lemmas.Bool.Decides.{nat_tests}
 use Rattle.page_face.specs.FreeList.{PageMap}
 use Rattle.page_face.specs.Number.{number}
 use Rattle.btree_nodes.specs.declared.form.Form.{Form}
 use Rattle.btree_nodes.specs.Rows.{first_from}
-use Rattle.btree_nodes.specs.Tree.{IsMap, map_rows}
+use Rattle.btree_nodes.specs.Damages.{AreTold}
+use Rattle.btree_nodes.specs.Tree.{IsMap, map_rows, map_uses}
 use Rattle.btree_nodes.proofs.Checks.{upper-some}
 use Rattle.btree_nodes.proofs.Harms.{asks-nothing}
 use Rattle.btree_nodes.proofs.Walks.{same-fault}
 use Rattle.btree_search.specs.Steps.{high_of}
+use Rattle.paged_map.specs.Answers.{HasRead}
 use Rattle.paged_map.proofs.Behind.{own-behind, named-behind}
+use Rattle.paged_map.proofs.Readings.{read-behind}
 use Rattle.paged_map.proofs.finding.first_below.Goals as goal
 
 pub leaves-init : goal.leaves-init
@@ -75,3 +79,13 @@ leaves-preserved g c =
       value = search rules;
       frame = search rules;
     }
+
+pub returns-in-Ok-Some-clause-read : goal.returns-in-Ok-Some-clause-read
+returns-in-Ok-Some-clause-read g c = λ told.
+    let f = c.leaves.invariant.frame in
+    let there : AreTold (g.P.Pages.pages c.leaves.pages) (g.P.Pages.count c.leaves.pages) = rw (f.pages, f.count) told in
+    let form : Form = c.args.form in
+    read-behind form (g.P.Pages.pages c.args.pages.now) (g.P.Pages.pages c.leaves.pages) (map_uses form (g.P.Pages.pages c.args.pages.now) c.args.root) (g.P.Pages.asked c.args.pages.now) (g.P.Pages.asked c.leaves.pages) (g.P.Pages.asked c.first_at.new.pages)
+    (number c.first_at.new.found, c.first_at.new.value) (Some c.in-Ok-Some.leaf) f.pages (c.leaves.invariant.own told)
+    (subst (λ (o : Option ℕ). IfSome o (HasRead form (g.P.Pages.pages c.leaves.pages) (g.P.Pages.asked c.leaves.pages) (g.P.Pages.asked c.first_at.new.pages) (number c.first_at.new.found, c.first_at.new.value))) c.in-Ok-Some.field-0-is
+    (c.in-Ok-Some.ensures.read there))

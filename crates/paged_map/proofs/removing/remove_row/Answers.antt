@@ -13,7 +13,8 @@ use Rattle.btree_nodes.specs.Build.{image}
 use Rattle.btree_nodes.specs.Rows.{lookup, without}
 use Rattle.btree_nodes.specs.Nodes.{rows_in}
 use Rattle.btree_nodes.specs.Supply.{view}
-use Rattle.btree_nodes.specs.Tree.{map_rows}
+use Rattle.btree_nodes.specs.Tree.{map_rows, map_uses}
+use Rattle.btree_nodes.specs.Damages.{AsksOnly}
 use Rattle.btree_nodes.proofs.Finds.{found, missed}
 use Rattle.btree_nodes.proofs.Puts.{without-edit}
 use Rattle.btree_search.specs.Steps.{low_of, high_of}
@@ -204,3 +205,11 @@ returns-clause-removed g c = λ free kept.
           (g.P.Pages.count c.write_leaf.new.pages) (g.P.Pages.first c.write_leaf.new.pages) l.1 s.from s.to (without-edit key) l.0 made kept written
           (c.write_leaf.ensures.count ∙ f.count) (c.write_leaf.ensures.first ∙ f.first),
     )
+
+pub returns-in_err-write_leaf-clause-own : goal.returns-in_err-write_leaf-clause-own
+returns-in_err-write_leaf-clause-own g c = λ told.
+    subst (λ (x : List ℕ). AsksOnly (map_uses c.args.form (g.P.Pages.pages c.args.pages.now) c.args.root) (g.P.Pages.asked c.args.pages.now) x) (sym c.write_leaf.ensures.asked) (c.in-Ok.ensures.own told)
+
+pub returns-clause-own : goal.returns-clause-own
+returns-clause-own g c = λ told.
+    subst (λ (x : List ℕ). AsksOnly (map_uses c.args.form (g.P.Pages.pages c.args.pages.now) c.args.root) (g.P.Pages.asked c.args.pages.now) x) (sym c.write_leaf.ensures.asked) (c.in-Ok.ensures.own told)

@@ -1,8 +1,11 @@
 use Rattle.std.proofs.Common.{ℕ, subst}
+use Rattle.std.specs.Prelude.{IfOk, IfSome}
 use Rattle.page_face.specs.FreeList.{PageMap}
 use Rattle.btree_nodes.specs.declared.form.Form.{Form}
 use Rattle.btree_nodes.specs.Tree.{map_uses}
 use Rattle.btree_nodes.specs.Damages.{AsksOnly}
+use Rattle.page_face.specs.Number.{number}
+use Rattle.paged_map.specs.Answers.{HasRead}
 use Rattle.paged_map.specs.Maps.{IsMapDamaged}
 use Rattle.paged_map.proofs.Maps.{map-undamaged}
 use Rattle.paged_map.proofs.map.PagedMap.first_from.Goals as goal
@@ -17,3 +20,6 @@ returns-clause-honest g c = λ map counted told damage e.
 pub returns-clause-own : goal.returns-clause-own
 returns-clause-own g c = λ told.
     subst (λ (f : Form). AsksOnly (map_uses f (g.P.Pages.pages c.args.pages.now) c.args.self.now.root) (g.P.Pages.asked c.args.pages.now) (g.P.Pages.asked c.first_below.new.pages)) c.form_of.ensures (c.first_below.ensures.own told)
+
+pub returns-clause-read : goal.returns-clause-read
+returns-clause-read g c = λ told. subst (λ (f : Form). IfOk c.first_below.result (λ leaf. IfSome leaf (HasRead f (g.P.Pages.pages c.args.pages.now) (g.P.Pages.asked c.args.pages.now) (g.P.Pages.asked c.first_below.new.pages) (number c.first_below.new.found, c.first_below.new.value)))) c.form_of.ensures (c.first_below.ensures.read told)
