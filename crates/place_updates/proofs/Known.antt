@@ -16,6 +16,7 @@ use Rattle.btree_nodes.proofs.Harms.{asked-before}
 use Rattle.row_codec.specs.Counted.{IsCounted, counted_value}
 use Rattle.store_tables.specs.Broken.{IsNumberDamage, IsRowSought}
 use Rattle.store_tables.specs.Holding.{numbers_form}
+use Rattle.store_tables.proofs.LookupLemmas.{number-broken-later}
 use Rattle.store_tables.specs.Words.{word_in}
 use Rattle.store_tables.specs.declared.tables.Tables.{Tables}
 use Rattle.place_updates.specs.Known.{AreKnown, AreAllKnown, IsWordDamage, IsWordsDamage}
@@ -52,7 +53,8 @@ same-number old new before after root number asked asks damage pages count found
 pub number-later : (mine : ℕ → ℕ) (pages : PageMap) (count root number : ℕ) (before middle after : List ℕ) (damage : Damage) → AsksOnly mine before middle
     → IsNumberDamage pages count root number middle after damage → IsNumberDamage pages count root number before after damage
 number-later mine pages count root number before middle after damage asks found =
-    ⊎_elim (λ map. inl (map.0, asked-before mine before middle after damage.page asks map.1)) (λ row. inr row) found
+    ⊎_elim (λ map. inl (map.0, asked-before mine before middle after damage.page asks map.1))
+    (λ row. inr (row.0, row.1, number-broken-later mine pages root before middle after (number, row.1) damage.page asks row.2)) found
 
 -- and so are words
 pub words-later : (mine : ℕ → ℕ) (pages : PageMap) (count : ℕ) (tables : Tables) (pairs : List Pair) (before middle after : List ℕ) (damage : Damage) → AsksOnly mine before middle

@@ -8,7 +8,7 @@ use Rattle.row_codec.specs.declared.stored.Stored.{Stored}
 use Rattle.row_codec.specs.Pairs.{Pair}
 use Rattle.row_codec.specs.Stored.{held_pairs}
 use Rattle.store_tables.specs.Entries.{word_of_number}
-use Rattle.store_tables.specs.Broken.{IsNumberDamage, IsPlaceSought, IsRowSought, words_disagree}
+use Rattle.store_tables.specs.Broken.{IsNumberDamage, IsPlaceRead, IsPlaceSought, IsRowSought, words_disagree}
 use Rattle.store_tables.specs.Coded.{IsPlaceValue}
 use Rattle.store_tables.specs.declared.tables.Tables.{Tables}
 
@@ -31,9 +31,10 @@ IsWordDamage pages count tables number before asked damage =
 abbrev pub IsWordsDamage : PageMap → ℕ → Tables → List Pair → List ℕ → List ℕ → Damage → Type 0
 IsWordsDamage pages count tables pairs before asked damage = Any (λ (pair : Pair). IsWordDamage pages count tables pair.0 before asked damage) pairs
 
--- Why the words of the place at a key are damaged: one that the place holds is.
+-- Why the words of the place that was read at a key are damaged: one that the place holds is; where the place table is well formed, the place is the one it has there.
 pub record IsHeldDamage (pages : PageMap) (count : ℕ) (tables : Tables) (key : Name) (before asked : List ℕ) (damage : Damage) : Type 0 where
   pub stored : Stored
   pub form : IsPlaceValue stored
+  pub read : IsPlaceRead pages key before asked stored
   pub place : IsPlaceSought pages tables key (Some stored)
   pub words : IsWordsDamage pages count tables (held_pairs stored) before asked damage

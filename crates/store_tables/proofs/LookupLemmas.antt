@@ -11,14 +11,16 @@ use Rattle.page_face.specs.Number.{number}
 use Rattle.btree_nodes.specs.declared.form.Form.{Form}
 use Rattle.btree_nodes.specs.Rows.{Row}
 use Rattle.btree_nodes.specs.Rows as Rows
-use Rattle.btree_nodes.specs.Tree.{map_rows, map_uses}
+use Rattle.btree_nodes.specs.Tree.{IsMap, map_rows, map_uses}
+use Rattle.btree_nodes.specs.Damages.{AsksOnly}
+use Rattle.btree_nodes.proofs.Harms.{asked-before, asks-keep}
 use Rattle.page_face.specs.declared.fault.PageFault.{PageFault}
 use Rattle.page_face.specs.declared.fault.PageFault.TheVariants.{Damaged}
 use Rattle.page_face.specs.declared.fault.Rule.TheVariants.{Value}
-use Rattle.paged_map.specs.Answers.{HoldsRow, Locates}
+use Rattle.paged_map.specs.Answers.{HasRead, HoldsRow, Locates}
 use Rattle.spatial_base.specs.Key.{Name, IsName, form_of, key_cmp}
 use Rattle.term_impacts.specs.Form.{IsWordText, word_form}
-use Rattle.store_tables.specs.Broken.{IsBrokenNumber, IsBrokenPlace}
+use Rattle.store_tables.specs.Broken.{IsBrokenNumber, IsBrokenPlace, IsPlaceRead}
 use Rattle.store_tables.specs.Entries.{number_of_word, place_after, place_of_key, word_cmp, word_of_number}
 use Rattle.store_tables.specs.Coded.{IsEntryOf, IsPlaceEntry, IsPlaceValue, IsU64, key_code, next_code, number_code, place_row, row_by, word_code}
 use Rattle.store_tables.specs.Holding.{HoldsNumbers, HoldsPlaces, HoldsTexts, numbers_form, places_form, texts_form}
@@ -110,6 +112,17 @@ told-some form pages root n code value at leaf is some there =
       held = subst (λ (k : ℕ). HoldsRow form pages (map_uses form pages root) (k, value) leaf) is one.1;
     }
 
+-- and was read
+pub read-some : (form : Form) (pages : PageMap) (before asked : List ℕ) (n code : ℕ) (value : List ℕ) (at : Option ℕ) (leaf : ℕ) → n ≡ code → at ≡ Some leaf
+    → IfSome at (HasRead form pages before asked (n, value)) → HasRead form pages before asked (code, value) leaf
+read-some form pages before asked n code value at leaf is some read =
+    subst (λ (k : ℕ). HasRead form pages before asked (k, value) leaf) is (subst (λ (o : Option ℕ). IfSome o (HasRead form pages before asked (n, value))) some read)
+
+-- what was read stays so where more pages are asked for
+pub place-read-keeps : (mine : ℕ → ℕ) (pages : PageMap) (key : Name) (before middle after : List ℕ) (stored : Stored) → AsksOnly mine middle after → IsPlaceRead pages key before middle stored → IsPlaceRead pages key before after stored
+place-read-keeps mine pages key before middle after stored asks r =
+    (r.0, record { asked = asks-keep mine middle after asks before r.0 r.1.asked; leaf = r.1.leaf; holds = r.1.holds })
+
 -- a key that no row has has no place
 pub place-none : (pages : PageMap) (root : ℕ) (places : List (Name × Stored)) (key : Name) → IsName key → HoldsPlaces pages root places → Rows.lookup (key_code key) (map_rows places_form pages root) ≡ None → place_of_key key places ≡ None
 place-none pages root places key is holds none = found-none IsPlaceValue place_value keys_coding key is places holds.each (map_rows places_form pages root) holds.rows none
@@ -119,9 +132,11 @@ pub place-some : (pages : PageMap) (root : ℕ) (places : List (Name × Stored))
     → IsFound IsPlaceValue place_value (place_of_key key places) value
 place-some pages root places key value is holds some = found-some IsPlaceValue place_value keys_coding key is places holds.each (map_rows places_form pages root) holds.rows value some
 
--- a row that no place has is broken
-pub place-broken : (pages : PageMap) (root : ℕ) (row : Row) (leaf : ℕ) → HoldsRow places_form pages (map_uses places_form pages root) row leaf → ((stored : Stored) → IsPlaceValue stored → row.1 ≢ place_value stored) → IsBrokenPlace pages root row leaf
-place-broken pages root row leaf held none = record { held = held; broken = λ e is same. none e.1 is.1 (ap (λ (r : Row). r.1) same) }
+-- a row that was read is broken where no place has it
+pub place-broken : (pages : PageMap) (root : ℕ) (before asked : List ℕ) (row : Row) (leaf : ℕ) → HasRead places_form pages before asked row leaf
+    → (IsMap places_form pages root → HoldsRow places_form pages (map_uses places_form pages root) row leaf)
+    → ((stored : Stored) → IsPlaceValue stored → row.1 ≢ place_value stored) → IsBrokenPlace pages root before asked row leaf
+place-broken pages root before asked row leaf read held none = record { read = read; broken = λ e is same. none e.1 is.1 (ap (λ (r : Row). r.1) same); held = held }
 
 -- one error's fault is the other's
 pub same_fault : {T : Type 0} (a b : PageFault) (x y : Result T PageFault) → x ≡ Err a → y ≡ Err b → x ≡ y → a ≡ b
@@ -158,9 +173,17 @@ pub number-some : (pages : PageMap) (root : ℕ) (numbers : List (ℕ × Counted
     → IsFound IsCounted counted_value (word_of_number n numbers) value
 number-some pages root numbers n value is holds some = found-some IsCounted counted_value numbers_coding n is numbers holds.each (map_rows numbers_form pages root) holds.rows value some
 
--- a row that no word has is broken
-pub number-broken : (pages : PageMap) (root : ℕ) (row : Row) (leaf : ℕ) → HoldsRow numbers_form pages (map_uses numbers_form pages root) row leaf → ((counted : Counted) → IsCounted counted → row.1 ≢ counted_value counted) → IsBrokenNumber pages root row leaf
-number-broken pages root row leaf held none = record { held = held; broken = λ e is same. none e.1 is.1 (ap (λ (r : Row). r.1) same) }
+-- a row that was read is broken where no word has it
+pub number-broken : (pages : PageMap) (root : ℕ) (before asked : List ℕ) (row : Row) (leaf : ℕ) → HasRead numbers_form pages before asked row leaf
+    → (IsMap numbers_form pages root → HoldsRow numbers_form pages (map_uses numbers_form pages root) row leaf)
+    → ((counted : Counted) → IsCounted counted → row.1 ≢ counted_value counted) → IsBrokenNumber pages root before asked row leaf
+number-broken pages root before asked row leaf read held none = record { read = read; broken = λ e is same. none e.1 is.1 (ap (λ (r : Row). r.1) same); held = held }
+
+-- and so it is where other pages were asked for before
+pub number-broken-later : (mine : ℕ → ℕ) (pages : PageMap) (root : ℕ) (before middle after : List ℕ) (row : Row) (leaf : ℕ) → AsksOnly mine before middle
+    → IsBrokenNumber pages root middle after row leaf → IsBrokenNumber pages root before after row leaf
+number-broken-later mine pages root before middle after row leaf asks b =
+    record { read = record { asked = asked-before mine before middle after leaf asks b.read.asked; leaf = b.read.leaf; holds = b.read.holds }; broken = b.broken; held = b.held }
 
 -- ---- the next place
 
@@ -219,7 +242,8 @@ first-some form pages root n code row at leaf is some there =
     let one = located-some (Rows.first_from n (map_rows form pages root)) row (HoldsRow form pages (map_uses form pages root) row) at leaf some there in
     (ap (λ (k : ℕ). Rows.first_from k (map_rows form pages root)) (sym is) ∙ one.0, one.1)
 
--- a row whose key and value are no place's is broken
-pub place-unread : (pages : PageMap) (root : ℕ) (row : Row) (leaf : ℕ) → HoldsRow places_form pages (map_uses places_form pages root) row leaf
-    → ((e : Name × Stored) → IsPlaceEntry e → row.0 ≡ key_code e.0 → row.1 ≡ place_value e.1 → ⊥) → IsBrokenPlace pages root row leaf
-place-unread pages root row leaf held none = record { held = held; broken = λ e is same. none e is (ap (λ (r : Row). r.0) same) (ap (λ (r : Row). r.1) same) }
+-- a row that was read is broken where its key and value are no place's
+pub place-unread : (pages : PageMap) (root : ℕ) (before asked : List ℕ) (row : Row) (leaf : ℕ) → HasRead places_form pages before asked row leaf
+    → (IsMap places_form pages root → HoldsRow places_form pages (map_uses places_form pages root) row leaf)
+    → ((e : Name × Stored) → IsPlaceEntry e → row.0 ≡ key_code e.0 → row.1 ≡ place_value e.1 → ⊥) → IsBrokenPlace pages root before asked row leaf
+place-unread pages root before asked row leaf read held none = record { read = read; broken = λ e is same. none e is (ap (λ (r : Row). r.0) same) (ap (λ (r : Row). r.1) same); held = held }

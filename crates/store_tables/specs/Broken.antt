@@ -7,7 +7,7 @@ use Rattle.btree_nodes.specs.declared.form.Form.{Form}
 use Rattle.btree_nodes.specs.Damages.{AskedSince}
 use Rattle.btree_nodes.specs.Rows.{Row, first_from, lookup}
 use Rattle.btree_nodes.specs.Tree.{IsMap, map_rows, map_uses}
-use Rattle.paged_map.specs.Answers.{HoldsRow}
+use Rattle.paged_map.specs.Answers.{HasRead, HoldsRow}
 use Rattle.paged_map.specs.Maps.{IsMapDamaged}
 use Rattle.spatial_base.specs.Key.{Name, IsName}
 use Rattle.row_codec.specs.declared.counted.Counted.{Counted}
@@ -19,36 +19,42 @@ use Rattle.store_tables.specs.Holding.{numbers_form, places_form, texts_form}
 use Rattle.store_tables.specs.Words.{IsHoldableRow}
 use Rattle.store_tables.specs.declared.tables.Tables.{Tables}
 
--- a row of a leaf of the map is no entry's
-pub record IsBroken {K V : Type 0} (form : Form) (code : K → ℕ) (value : V → List ℕ) (IsKey : K → Type 0) (IsValue : V → Type 0) (pages : PageMap) (root : ℕ) (row : Row) (leaf : ℕ) : Type 0 where
-  pub held : HoldsRow form pages (map_uses form pages root) row leaf
+-- A row that was read at a leaf that was asked for is no entry's; where the map is well formed, the leaf is one of its pages.
+pub record IsBroken {K V : Type 0} (form : Form) (code : K → ℕ) (value : V → List ℕ) (IsKey : K → Type 0) (IsValue : V → Type 0) (pages : PageMap) (root : ℕ) (before asked : List ℕ) (row : Row) (leaf : ℕ) : Type 0 where
+  pub read : HasRead form pages before asked row leaf
   pub broken : (e : K × V) → IsEntryOf IsKey IsValue e → row ≢ row_by code value e
+  pub held : IsMap form pages root → HoldsRow form pages (map_uses form pages root) row leaf
 
--- a row of the place table is no place's
-abbrev pub IsBrokenPlace : PageMap → ℕ → Row → ℕ → Type 0
+-- a row that was read in the place table is no place's
+abbrev pub IsBrokenPlace : PageMap → ℕ → List ℕ → List ℕ → Row → ℕ → Type 0
 IsBrokenPlace = IsBroken places_form key_code place_value IsName IsPlaceValue
 
--- a row of the words by number is no word's
-abbrev pub IsBrokenNumber : PageMap → ℕ → Row → ℕ → Type 0
+-- a row that was read in the words by number is no word's
+abbrev pub IsBrokenNumber : PageMap → ℕ → List ℕ → List ℕ → Row → ℕ → Type 0
 IsBrokenNumber = IsBroken numbers_form number_code counted_value IsU64 IsCounted
 
--- Why a place that was looked for is damaged: a page of the map that was asked for is, or the row at the key is no place's.
+-- the place's row was read at the key, at a leaf that was asked for
+abbrev pub IsPlaceRead : PageMap → Name → List ℕ → List ℕ → Stored → Type 0
+IsPlaceRead pages key before asked stored = (leaf : ℕ) × HasRead places_form pages before asked (key_code key, place_value stored) leaf
+
+-- Why a place that was looked for is damaged: a page of the map that was asked for is, or the row that was read at the key is no place's.
 abbrev pub IsPlaceDamage : PageMap → ℕ → ℕ → Name → List ℕ → List ℕ → Damage → Type 0
 IsPlaceDamage pages count root key before asked damage =
     (IsMapDamaged places_form pages count root damage × AskedSince before asked damage.page)
-    ⊎ ((damage.rule ≡ Value) × (IsMap places_form pages root → (bytes : List ℕ) × IsBrokenPlace pages root (key_code key, bytes) damage.page))
+    ⊎ ((damage.rule ≡ Value) × (bytes : List ℕ) × IsBrokenPlace pages root before asked (key_code key, bytes) damage.page)
 
--- Why a number that was looked for is damaged: a page of the map that was asked for is, or the row at the number is no word's.
+-- Why a number that was looked for is damaged: a page of the map that was asked for is, or the row that was read at the number is no word's.
 abbrev pub IsNumberDamage : PageMap → ℕ → ℕ → ℕ → List ℕ → List ℕ → Damage → Type 0
 IsNumberDamage pages count root number before asked damage =
     (IsMapDamaged numbers_form pages count root damage × AskedSince before asked damage.page)
-    ⊎ ((damage.rule ≡ Value) × (IsMap numbers_form pages root → (bytes : List ℕ) × IsBrokenNumber pages root (number, bytes) damage.page))
+    ⊎ ((damage.rule ≡ Value) × (bytes : List ℕ) × IsBrokenNumber pages root before asked (number, bytes) damage.page)
 
--- Why the first place from a key's number on is damaged: a page of the map that was asked for is, or that row is no place's.
+-- Why the first place from a key's number on is damaged: a page of the map that was asked for is, or a row that was read there, which is the first one where the map is well formed, is no place's.
 abbrev pub IsNextDamage : PageMap → ℕ → ℕ → ℕ → List ℕ → List ℕ → Damage → Type 0
 IsNextDamage pages count root from before asked damage =
     (IsMapDamaged places_form pages count root damage × AskedSince before asked damage.page)
-    ⊎ ((damage.rule ≡ Value) × (IsMap places_form pages root → (row : Row) × (first_from from (map_rows places_form pages root) ≡ Some row) × IsBrokenPlace pages root row damage.page))
+    ⊎ ((damage.rule ≡ Value) × (row : Row) × (from ≤ row.0) × IsBrokenPlace pages root before asked row damage.page
+    × (IsMap places_form pages root → first_from from (map_rows places_form pages root) ≡ Some row))
 
 -- the rule Words, broken at page 0
 abbrev pub words_disagree : Damage
@@ -77,13 +83,13 @@ pub record IsUnholdable (places : ℕ) (pages : PageMap) (tables : Tables) (word
   pub number : IsRowSought pages tables (unwrap_or found tables.next_word) row
   pub unheld : IsHoldableRow places word found row → ⊥
 
--- Why a word's count is damaged: a page of the words by text is, or one of those by number, or there the row of the word's number or of the next one is no word's, or the two disagree.
+-- Why a word's count is damaged: a page of the words by text is, or one of those by number, or there the row that was read of the word's number or of the next one is no word's, or the two disagree.
 abbrev pub IsCountDamage : ℕ → PageMap → ℕ → Tables → List ℕ → List ℕ → List ℕ → Damage → Type 0
 IsCountDamage places pages count tables word before asked damage =
     (IsMapDamaged texts_form pages count tables.texts damage × AskedSince before asked damage.page)
     ⊎ (IsMapDamaged numbers_form pages count tables.numbers damage × AskedSince before asked damage.page)
     ⊎ ((damage.rule ≡ Value) × (found : Option ℕ) × IsTextSought pages tables word found
-    × (IsMap numbers_form pages tables.numbers → (bytes : List ℕ) × IsBrokenNumber pages tables.numbers (unwrap_or found tables.next_word, bytes) damage.page))
+    × (bytes : List ℕ) × IsBrokenNumber pages tables.numbers before asked (unwrap_or found tables.next_word, bytes) damage.page)
     ⊎ ((damage ≡ words_disagree) × IsUnholdable places pages tables word)
 
 -- What the word tables say of a number is no word that can be released: there is no row, or the word of the row has its last place, and the words by text have another number of it, or none.
@@ -93,10 +99,10 @@ IsUnreleasable pages tables number =
     ⊎ ((counted : Counted) × IsRowSought pages tables number (Some counted) × (counted.places ≤ 1)
     × (found : Option ℕ) × IsTextSought pages tables counted.word found × (found ≢ Some number))
 
--- Why a release is damaged: a page of the words by number is, or the row there is no word's, or a page of the words by text is, or the two disagree.
+-- Why a release is damaged: a page of the words by number is, or the row that was read there is no word's, or a page of the words by text is, or the two disagree.
 abbrev pub IsReleaseDamage : PageMap → ℕ → Tables → ℕ → List ℕ → List ℕ → Damage → Type 0
 IsReleaseDamage pages count tables number before asked damage =
     (IsMapDamaged numbers_form pages count tables.numbers damage × AskedSince before asked damage.page)
-    ⊎ ((damage.rule ≡ Value) × (IsMap numbers_form pages tables.numbers → (bytes : List ℕ) × IsBrokenNumber pages tables.numbers (number, bytes) damage.page))
+    ⊎ ((damage.rule ≡ Value) × (bytes : List ℕ) × IsBrokenNumber pages tables.numbers before asked (number, bytes) damage.page)
     ⊎ (IsMapDamaged texts_form pages count tables.texts damage × AskedSince before asked damage.page)
     ⊎ ((damage ≡ words_disagree) × IsUnreleasable pages tables number)

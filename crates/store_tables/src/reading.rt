@@ -44,7 +44,7 @@ pub(crate) struct CountedRow {
 impl Tables {
     ghost use Rattle.store_tables.specs.Coded.{IsPlaceEntry, IsPlaceValue, key_code, next_code, place_row, word_code};
     ghost use Rattle.store_tables.specs.Holding.{Holds, table_uses, numbers_form, places_form, texts_form};
-    ghost use Rattle.store_tables.specs.Broken.{IsPlaceDamage, IsNumberDamage, IsNextDamage};
+    ghost use Rattle.store_tables.specs.Broken.{IsPlaceDamage, IsPlaceRead, IsNumberDamage, IsNextDamage};
     ghost use Rattle.store_tables.specs.Rows.{IsNumberSpot};
     ghost use Rattle.store_tables.specs.Words.{word_in};
 
@@ -59,6 +59,10 @@ impl Tables {
             → IfOk result (λ found. (lookup (key_code key.now) (map_rows places_form (P.pages pages.old) self.now.places) ≡ option_map place_value found)
             × IfSome found IsPlaceValue) }
         ensures of_form { IfOk result (λ found. IfSome found IsPlaceValue) }
+
+        // On any pages that are told the place's row was read at the key.
+        ensures read { AreTold (P.pages pages.old) (P.count pages.old)
+            → IfOk result (λ found. IfSome found (IsPlaceRead (P.pages pages.old) key.now (P.asked pages.old) (P.asked pages.new))) }
         ensures honest { (entries : Entries) → Holds (P.pages pages.old) self.now entries
             → AreTold (P.pages pages.old) (P.count pages.old) → AreCounted (table_uses (P.pages pages.old) self.now) (P.count pages.old)
             → (damage : Damage) → ¬ IsErrOf result (PageFault.Damaged damage) }

@@ -1,10 +1,13 @@
-use Rattle.std.proofs.Common.{◌≡◌, IsErrOf, IfSome, inr, Some, option_map, ap, sym, subst, ◌∙◌, rules}
+use Rattle.std.proofs.Common.{◌≡◌, IsErrOf, IfSome, inr, Option, Some, option_map, ap, sym, subst, ◌∙◌, rules}
 use Rattle.std.proofs.lemmas.Result.{err_from_is_err_and}
 use Rattle.page_face.specs.declared.fault.PageFault.TheVariants.{Damaged}
+use Rattle.row_codec.specs.declared.stored.Stored.{Stored}
 use Rattle.row_codec.specs.Stored.{held_pairs, place_value}
 use Rattle.btree_nodes.specs.Tree.{map_uses}
 use Rattle.store_tables.specs.Entries.{place_of_key}
-use Rattle.store_tables.specs.Holding.{places_form}
+use Rattle.store_tables.specs.Broken.{IsPlaceRead}
+use Rattle.store_tables.specs.Holding.{numbers_form, places_form}
+use Rattle.store_tables.proofs.LookupLemmas.{place-read-keeps}
 use Rattle.place_updates.specs.Known.{AreKnown}
 use Rattle.place_updates.proofs.Known.{known-at, same-damage, words-later}
 use Rattle.place_updates.proofs.place.place_at.Goals as goal
@@ -33,6 +36,8 @@ returns-in_err-words-clause-damaged g c = λ told damage is.
     inr (record {
       stored = c.in-Some.stored;
       form = search rules;
+      read = place-read-keeps (map_uses numbers_form (g.P.Pages.pages c.place.new.pages) c.args.tables.now.numbers) (g.P.Pages.pages c.args.pages.now) c.args.key.now _ _ _ c.in-Some.stored (c.words_of.ensures.own (search rules))
+          (subst (λ (o : Option Stored). IfSome o (IsPlaceRead (g.P.Pages.pages c.args.pages.now) c.args.key.now (g.P.Pages.asked c.args.pages.now) (g.P.Pages.asked c.place.new.pages))) c.in-Some.is (place.read told));
       place = λ tree. (place.formed tree).0 ∙ ap (option_map place_value) c.in-Some.is;
       words = words-later (map_uses places_form (g.P.Pages.pages c.args.pages.now) c.args.tables.now.places) _ _ c.args.tables.now _ _ _ _ damage (place.own told)
           (same-damage _ _ _ _ c.args.tables.now _ _ _ damage place.frame.pages place.frame.count found);

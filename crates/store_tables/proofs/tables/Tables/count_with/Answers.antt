@@ -41,7 +41,7 @@ returns-in_err-row-clause-damaged g c told sought damage =
     λ e. (let same : c.in_err-row.field-0.0 ≡ Damaged damage = cc (p.1, p.2, e) in
     ⊎_elim
     (λ map. inr (inl map))
-    (λ row. inr (inr (inl (row.0, c.args.found, sought, λ tree. rw (sym c.unwrap_or.ensures) (row.1 tree)))))
+    (λ row. inr (inr (inl (row.0, c.args.found, sought, row.1, rw (sym c.unwrap_or.ensures) row.2))))
     (c.in_err-row.ensures.damaged told damage (ap Err same)))
 
 pub returns-in_err-row-clause-own : goal.returns-in_err-row-clause-own

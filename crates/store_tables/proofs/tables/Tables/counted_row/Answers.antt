@@ -1,4 +1,4 @@
-use Rattle.std.proofs.Common.{◌≡◌, ℕ, Err, Option, Some, inr, ap, refl, sym, subst, ◌∙◌, arith, rules}
+use Rattle.std.proofs.Common.{◌≡◌, ℕ, List, Err, Option, Some, inr, ap, refl, sym, subst, ◌∙◌, arith, rules}
 use Rattle.std.proofs.lemmas.Result.{err_from_is_err_and}
 use Rattle.page_face.specs.FreeList.{PageMap}
 use Rattle.page_face.specs.Number.{number}
@@ -9,7 +9,7 @@ use Rattle.store_tables.specs.Rows.{IsNumberSpot}
 use Rattle.paged_map.specs.declared.replacing.RowSpot.{RowSpot}
 use Rattle.std.specs.Prelude.{IfSome}
 use Rattle.store_tables.specs.Holding.{numbers_form}
-use Rattle.store_tables.proofs.LookupLemmas.{number-broken, number-none, number-of_number, number-some, same_fault, told-none, told-some, value_at}
+use Rattle.store_tables.proofs.LookupLemmas.{number-broken, number-none, number-of_number, number-some, read-some, same_fault, told-none, told-some, value_at}
 use Rattle.store_tables.proofs.tables.Tables.counted_row.Goals as goal
 
 pub returns-in_err-spot-clause-honest : goal.returns-in_err-spot-clause-honest
@@ -65,17 +65,20 @@ returns-in-None-clause-honest g c entries holds told counted damage e =
 
 pub returns-in-None-clause-damaged : goal.returns-in-None-clause-damaged
 returns-in-None-clause-damaged g c told damage e =
+    let pages : PageMap = g.P.Pages.pages c.args.pages.now in
+    let root : ℕ = c.args.self.now.numbers in
+    let before : List ℕ = g.P.Pages.asked c.args.pages.now in
+    let asked : List ℕ = g.P.Pages.asked c.find_row.new.pages in
+    let value : List ℕ = c.find_row.new.value in
+    let same = number-of_number c.number_bytes-key.result c.args.number (search rules) c.number_bytes-key.ensures in
     let at = value_at c.in-Some.spot.page c.broken.result damage c.broken.ensures (same_fault c.broken.result (Damaged damage) _ _ refl refl e) in
     inr (
       at.1,
-      λ tree.
-          let pages : PageMap = g.P.Pages.pages c.args.pages.now in
-          let root : ℕ = c.args.self.now.numbers in
-          let some = told-some numbers_form pages root _ c.args.number _ _ c.in-Some.spot.page (number-of_number c.number_bytes-key.result c.args.number (search rules) c.number_bytes-key.ensures) (ap leaf_of c.in-Some.is) (c.in_ok-spot.ensures.found tree) in (
-            c.find_row.new.value,
-            subst (λ leaf. IsBrokenNumber pages root (c.args.number, c.find_row.new.value) leaf) at.0
-                (number-broken pages root (c.args.number, c.find_row.new.value) c.in-Some.spot.page some.held (λ counted is same. let no = c.in-None.ensures.every counted is same in cc no)),
-          ),
+      value,
+      subst (λ leaf. IsBrokenNumber pages root before asked (c.args.number, value) leaf) at.0
+          (number-broken pages root before asked (c.args.number, value) c.in-Some.spot.page (read-some numbers_form pages before asked _ c.args.number value _ c.in-Some.spot.page same (ap leaf_of c.in-Some.is) (c.in_ok-spot.ensures.read told))
+          (λ tree. (told-some numbers_form pages root _ c.args.number _ _ c.in-Some.spot.page same (ap leaf_of c.in-Some.is) (c.in_ok-spot.ensures.found tree)).held)
+          (λ counted is bytes. let no = c.in-None.ensures.every counted is bytes in cc no)),
     )
 
 pub returns-in-Some-decode-clause-spot : goal.returns-in-Some-decode-clause-spot

@@ -6,6 +6,7 @@ use Rattle.btree_nodes.specs.Damages.{AreTold, AsksOnly}
 use Rattle.btree_nodes.specs.Supply.{View, view}
 use Rattle.store_tables.specs.Broken.{IsTextSought}
 use Rattle.store_tables.specs.Holding.{Holds, IsApart, word_uses}
+use Rattle.store_tables.proofs.LookupLemmas.{number-broken-later}
 use Rattle.store_tables.proofs.ToldLemmas.{apart-counted, asks-texts}
 use Rattle.store_tables.proofs.tables.Tables.hold.Goals as goal
 
@@ -50,7 +51,8 @@ returns-clause-damaged g c told damage =
     (⊎_elim
     (λ count. inl (⊎_elim
     (λ map. inl (map.0, asked-before (word_uses (g.P.Pages.pages c.args.pages.now) c.args.self.now) _ _ _ damage.page own map.1))
-    (λ rest. inr (⊎_elim (λ map. inl (map.0, asked-before (word_uses (g.P.Pages.pages c.args.pages.now) c.args.self.now) _ _ _ damage.page own map.1)) (λ more. inr more) rest))
+    (λ rest. inr (⊎_elim (λ map. inl (map.0, asked-before (word_uses (g.P.Pages.pages c.args.pages.now) c.args.self.now) _ _ _ damage.page own map.1))
+    (λ more. inr (⊎_elim (λ row. inl (row.0, row.1, row.2, row.3, number-broken-later (word_uses (g.P.Pages.pages c.args.pages.now) c.args.self.now) _ _ _ _ _ _ damage.page own row.4)) (λ none. inr none) more)) rest))
     count))
     (λ other. inr other)
     (c.hold_numbered.ensures.damaged still sought damage e))

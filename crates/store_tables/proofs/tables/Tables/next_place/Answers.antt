@@ -1,10 +1,12 @@
-use Rattle.std.proofs.Common.{◌≡◌, ℕ, Err, Some, inr, ap, refl, sym, subst, ◌∙◌, arith}
+use Rattle.std.proofs.Common.{◌≡◌, ℕ, ◌≤◌, List, Err, Option, Some, IfSome, inr, ap, refl, sym, subst, ◌∙◌, arith}
 use Rattle.std.proofs.lemmas.Result.{err_from_is_err_and}
 use Rattle.std.specs.Option.{option_copied}
 use Rattle.btree_nodes.specs.Rows.{Row}
 use Rattle.page_face.specs.Number.{number}
 use Rattle.page_face.specs.FreeList.{PageMap}
 use Rattle.page_face.specs.declared.fault.PageFault.TheVariants.{Damaged}
+use Rattle.btree_nodes.specs.Tree.{IsMap}
+use Rattle.paged_map.specs.Answers.{HasRead}
 use Rattle.store_tables.specs.Broken.{IsBrokenPlace}
 use Rattle.store_tables.specs.Coded.{next_code}
 use Rattle.store_tables.specs.Holding.{places_form}
@@ -67,17 +69,20 @@ returns-in-None-clause-honest g c entries holds told counted damage e =
 
 pub returns-in-None-clause-damaged : goal.returns-in-None-clause-damaged
 returns-in-None-clause-damaged g c told damage e =
+    let pages : PageMap = g.P.Pages.pages c.args.pages.now in
+    let root : ℕ = c.args.self.now.places in
+    let before : List ℕ = g.P.Pages.asked c.args.pages.now in
+    let asked : List ℕ = g.P.Pages.asked c.first_row.new.pages in
+    let from : ℕ = next_code (option_copied c.args.after) in
+    let row : Row = (number c.first_row.new.found, c.first_row.new.value) in
+    let some = λ (tree : IsMap places_form pages root). first-some places_form pages root _ from row _ c.in-Some.leaf c.first_behind-from.ensures.number c.in-Some.is (c.in_ok-leaf.ensures.found tree) in
     let at = value_at c.in-Some.leaf c.broken.result damage c.broken.ensures (same_fault c.broken.result (Damaged damage) _ _ refl refl e) in
     inr (
       at.1,
-      λ tree.
-          let pages : PageMap = g.P.Pages.pages c.args.pages.now in
-          let root : ℕ = c.args.self.now.places in
-          let row : Row = (number c.first_row.new.found, c.first_row.new.value) in
-          let some = first-some places_form pages root _ (next_code (option_copied c.args.after)) row _ c.in-Some.leaf c.first_behind-from.ensures.number c.in-Some.is (c.in_ok-leaf.ensures.found tree) in (
-            row,
-            some.0,
-            subst (λ leaf. IsBrokenPlace pages root row leaf) at.0
-                (place-unread pages root row c.in-Some.leaf some.1 (λ entry is key value. let no = c.in-None.ensures.every entry is key value in cc no)),
-          ),
+      row,
+      subst (λ (n : ℕ). n ≤ row.0) c.first_behind-from.ensures.number (subst (λ (o : Option ℕ). IfSome o (λ page. number c.first_behind-from.result ≤ row.0)) c.in-Some.is c.in_ok-leaf.ensures.on),
+      subst (λ leaf. IsBrokenPlace pages root before asked row leaf) at.0
+          (place-unread pages root before asked row c.in-Some.leaf (subst (λ (o : Option ℕ). IfSome o (HasRead places_form pages before asked row)) c.in-Some.is (c.in_ok-leaf.ensures.read told)) (λ tree. (some tree).1)
+          (λ entry is key value. let no = c.in-None.ensures.every entry is key value in cc no)),
+      λ tree. (some tree).0,
     )

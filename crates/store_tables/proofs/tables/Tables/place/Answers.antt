@@ -1,11 +1,12 @@
-use Rattle.std.proofs.Common.{◌≡◌, ℕ, Err, Some, inr, ap, refl, sym, subst, ◌∙◌, arith}
+use Rattle.std.proofs.Common.{◌≡◌, ℕ, List, Err, Some, inr, ap, refl, sym, subst, ◌∙◌, arith}
 use Rattle.std.proofs.lemmas.Result.{err_from_is_err_and}
 use Rattle.page_face.specs.FreeList.{PageMap}
 use Rattle.page_face.specs.declared.fault.PageFault.TheVariants.{Damaged}
+use Rattle.paged_map.specs.Answers.{HasRead}
 use Rattle.store_tables.specs.Broken.{IsBrokenPlace}
 use Rattle.store_tables.specs.Coded.{key_code}
 use Rattle.store_tables.specs.Holding.{places_form}
-use Rattle.store_tables.proofs.LookupLemmas.{number-key, place-broken, place-none, place-some, same_fault, told-none, told-some, value_at}
+use Rattle.store_tables.proofs.LookupLemmas.{number-key, place-broken, place-none, place-some, read-some, same_fault, told-none, told-some, value_at}
 use Rattle.store_tables.proofs.tables.Tables.place.Goals as goal
 
 pub returns-in_err-leaf-clause-honest : goal.returns-in_err-leaf-clause-honest
@@ -61,15 +62,28 @@ returns-in-None-clause-honest g c entries holds told counted damage e =
 
 pub returns-in-None-clause-damaged : goal.returns-in-None-clause-damaged
 returns-in-None-clause-damaged g c told damage e =
+    let pages : PageMap = g.P.Pages.pages c.args.pages.now in
+    let root : ℕ = c.args.self.now.places in
+    let before : List ℕ = g.P.Pages.asked c.args.pages.now in
+    let asked : List ℕ = g.P.Pages.asked c.get_row.new.pages in
+    let code : ℕ = key_code c.args.key.now in
+    let value : List ℕ = c.get_row.new.value in
+    let same = number-key c.bytes.result c.args.key.now c.bytes.ensures.form in
     let at = value_at c.in-Some.leaf c.broken.result damage c.broken.ensures (same_fault c.broken.result (Damaged damage) _ _ refl refl e) in
     inr (
       at.1,
-      λ tree.
-          let pages : PageMap = g.P.Pages.pages c.args.pages.now in
-          let root : ℕ = c.args.self.now.places in
-          let some = told-some places_form pages root _ (key_code c.args.key.now) _ _ c.in-Some.leaf (number-key c.bytes.result c.args.key.now c.bytes.ensures.form) c.in-Some.is (c.in_ok-leaf.ensures.found tree) in (
-            c.get_row.new.value,
-            subst (λ leaf. IsBrokenPlace pages root (key_code c.args.key.now, c.get_row.new.value) leaf) at.0
-                (place-broken pages root (key_code c.args.key.now, c.get_row.new.value) c.in-Some.leaf some.held (λ stored is same. let no = c.in-None.ensures.every stored is.0 is.1 same in cc no)),
-          ),
+      value,
+      subst (λ leaf. IsBrokenPlace pages root before asked (code, value) leaf) at.0
+          (place-broken pages root before asked (code, value) c.in-Some.leaf (read-some places_form pages before asked _ code value _ c.in-Some.leaf same c.in-Some.is (c.in_ok-leaf.ensures.read told))
+          (λ tree. (told-some places_form pages root _ code _ _ c.in-Some.leaf same c.in-Some.is (c.in_ok-leaf.ensures.found tree)).held)
+          (λ stored is bytes. let no = c.in-None.ensures.every stored is.0 is.1 bytes in cc no)),
     )
+
+pub returns-in-Some-decode-clause-read : goal.returns-in-Some-decode-clause-read
+returns-in-Some-decode-clause-read g c told =
+    let pages : PageMap = g.P.Pages.pages c.args.pages.now in
+    let before : List ℕ = g.P.Pages.asked c.args.pages.now in
+    let asked : List ℕ = g.P.Pages.asked c.get_row.new.pages in
+    let code : ℕ = key_code c.args.key.now in
+    (c.in-Some.leaf, subst (λ (bytes : List ℕ). HasRead places_form pages before asked (code, bytes) c.in-Some.leaf) c.in-Some-decode.ensures.form.2
+    (read-some places_form pages before asked _ code c.get_row.new.value _ c.in-Some.leaf (number-key c.bytes.result c.args.key.now c.bytes.ensures.form) c.in-Some.is (c.in_ok-leaf.ensures.read told)))

@@ -1,0 +1,11 @@
+use Rattle.std.proofs.Common.{ℕ, subst}
+use Rattle.btree_nodes.specs.Damages.{AsksOnly}
+use Rattle.btree_nodes.specs.Tree.{map_uses}
+use Rattle.store_tables.proofs.maps.get_row.Goals as goal
+
+pub returns-clause-read : goal.returns-clause-read
+returns-clause-read g c told = c.get.ensures.read told
+
+pub returns-clause-own : goal.returns-clause-own
+returns-clause-own g c told =
+    subst (λ (r : ℕ). AsksOnly (map_uses g.L.Layout.form (g.P.Pages.pages c.args.pages.now) r) (g.P.Pages.asked c.args.pages.now) (g.P.Pages.asked c.get.new.pages)) c.at.ensures (c.get.ensures.own told)
