@@ -14,7 +14,7 @@ use Rattle.place_updates.specs.Known.{IsHeldDamage}
 use Rattle.irtree_engine.specs.Changes.{tree_in}
 use Rattle.irtree_engine.specs.Queries.{contents_held}
 
--- Why the place at a key can't be shown, with the pages asked for before and after: a page of the place table that was asked for is damaged, or the row at the key is no place's; or so it is with the words by number at a number that the place holds, or they have no row of it.
+-- Why the place at a key can't be shown, with the pages asked for before and after: a page of the place table that was asked for is damaged, or the row that was read at the key is no place's; or so it is with the words by number at a number that the place that was read there holds, or they have no row of it.
 abbrev pub IsShownDamage : PageMap → ℕ → Tables → Name → List ℕ → List ℕ → Damage → Type 0
 IsShownDamage pages count tables key before after damage =
     IsPlaceDamage pages count tables.places key before after damage ⊎ IsHeldDamage pages count tables key before after damage

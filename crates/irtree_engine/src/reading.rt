@@ -30,7 +30,7 @@ impl<'d, D: Station> Engine<'d, D> {
         ensures honest { IsTrue D.tells → (state : Contents) → HoldsState (D.world self.old.store.disk.now) state
             → (damage : Damage) → ¬ IsErrOf result (EngineFault.Damaged damage) }
 
-        // A page of the log, of the table or of the words by number, breaks a rule, or the row at the key does, or that of a number there.
+        // A page of the log, of the table or of the words by number, breaks a rule, or the row that was read at the key does, or that at a number of the place there.
         ensures damaged { IsTrue D.tells → (damage : Damage) → IsErrOf result (EngineFault.Damaged damage)
             → IsShownDamage (⟦<Store<'d, D> as Pages>⟧.pages self.old.store) self.old.store.current.counted (tables_in self.old.store.current.head) key.now [] self.new.store.asked.items damage }
         // So it is by what the image holds, whatever it stands for.

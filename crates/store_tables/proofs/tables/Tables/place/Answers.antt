@@ -84,6 +84,8 @@ returns-in-Some-decode-clause-read g c told =
     let pages : PageMap = g.P.Pages.pages c.args.pages.now in
     let before : List ℕ = g.P.Pages.asked c.args.pages.now in
     let asked : List ℕ = g.P.Pages.asked c.get_row.new.pages in
-    let code : ℕ = key_code c.args.key.now in
-    (c.in-Some.leaf, subst (λ (bytes : List ℕ). HasRead places_form pages before asked (code, bytes) c.in-Some.leaf) c.in-Some-decode.ensures.form.2
-    (read-some places_form pages before asked _ code c.get_row.new.value _ c.in-Some.leaf (number-key c.bytes.result c.args.key.now c.bytes.ensures.form) c.in-Some.is (c.in_ok-leaf.ensures.read told)))
+    let code : ℕ = key_code c.args.key.now in (
+      c.in-Some.leaf,
+      subst (λ (bytes : List ℕ). HasRead places_form pages before asked (code, bytes) c.in-Some.leaf) c.in-Some-decode.ensures.form.2
+          (read-some places_form pages before asked _ code c.get_row.new.value _ c.in-Some.leaf (number-key c.bytes.result c.args.key.now c.bytes.ensures.form) c.in-Some.is (c.in_ok-leaf.ensures.read told)),
+    )
