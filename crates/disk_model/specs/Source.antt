@@ -1,5 +1,5 @@
 -- What a read of a source gives.
-use Rattle.std.specs.Prelude.{◌≡◌, ℕ, ◌≤◌, List, [], ◌++◌, take, Result, IfOk, OnErr}
+use Rattle.std.specs.Prelude.{◌≡◌, ℕ, ◌≤◌, List, [], ◌++◌, take, Result, IfOk, OnOk, OnErr}
 use Rattle.disk_model.specs.declared.disk.Failed.{Failed}
 use Rattle.disk_model.specs.World.{Rose}
 
@@ -9,7 +9,8 @@ pub record HasGiven (buffer old new : List ℕ) (result : Result ℕ Failed) : T
   pub ends : IfOk result (λ n. n ≡ 0 → old ≡ [])
   pub failed : OnErr result (new ≡ old)
 
--- a read fails only where the source's count rose, and the count never falls
+-- a read fails just where the source's count rose, or stands at its last value, and the count never falls
 pub record HasReadCause {T : Type 0} (old new : ℕ) (result : Result T Failed) : Type 0 where
   pub later : old ≤ new
   pub rose : OnErr result (Rose old new)
+  pub stays : OnOk result (new ≡ old)

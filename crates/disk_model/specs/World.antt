@@ -125,17 +125,19 @@ pub record HasSaid (piece : List ℕ) (old new : World) (result : Result ℕ Fai
 abbrev pub Rose : ℕ → ℕ → Type 0
 Rose old new = min (old + 1) (2 ^ 64 - 1) ≤ new
 
--- a disk call fails only where the disk's count rose, and no count falls
+-- a disk call fails just where the disk's count rose, or stands at its last value, and no count falls
 pub record HasDiskCause {T : Type 0} (old new : World) (result : Result T Failed) : Type 0 where
   pub later : old.faults ≤ new.faults
   pub sink : new.sink_faults ≡ old.sink_faults
   pub rose : OnErr result (Rose old.faults new.faults)
+  pub stays : OnOk result (new.faults ≡ old.faults)
 
--- a say fails only where the sink's count rose, and no count falls
+-- a say fails just where the sink's count rose, or stands at its last value, and no count falls
 pub record HasSinkCause {T : Type 0} (old new : World) (result : Result T Failed) : Type 0 where
   pub later : old.sink_faults ≤ new.sink_faults
   pub disk : new.faults ≡ old.faults
   pub rose : OnErr result (Rose old.sink_faults new.sink_faults)
+  pub stays : OnOk result (new.sink_faults ≡ old.sink_faults)
 
 -- ---- runs of calls
 

@@ -1,5 +1,5 @@
 -- Records of pages in the journal, one behind the other, and which pages an image stands for.
-use Rattle.std.specs.Prelude.{◌≡◌, ◌≢◌, ◌⊎◌, ℕ, zero, suc, ◌+◌, ◌*◌, ◌/◌, ◌%◌, ◌^◌, ◌<◌, ◌≤◌, ◌==◌, if◌then◌else◌, List, [], ◌∷◌, ◌++◌, length, slice_index, map, Option, Some, None, Box, get_or, Result, IsErrOf}
+use Rattle.std.specs.Prelude.{◌≡◌, ◌≢◌, ◌⊎◌, ℕ, zero, suc, ◌+◌, ◌*◌, ◌/◌, ◌%◌, ◌^◌, ◌<◌, ◌≤◌, ◌==◌, if◌then◌else◌, List, [], ◌∷◌, ◌++◌, length, slice_index, map, Option, Some, None, Box, get_or, Result, Err, IsErrOf}
 use Rattle.std.specs.Int.{w32, from_be_bytes, to_be_bytes}
 use Rattle.std.specs.List.{AllByRecursion, flat_map}
 use Rattle.std.specs.declared.alloc.Global.{Global}
@@ -189,11 +189,12 @@ pub record SaysNothing (old new : World) : Type 0 where
   pub said : new.said ≡ old.said
   pub reads : ReadsJournalOnly old new
 
--- Disk comes only where the disk's count rose, and no count falls
+-- Disk comes just where the disk's count rose, or stands at its last value, and no count falls
 pub record HasJournalCause {T : Type 0} (old new : World) (result : Result T JournalFault) : Type 0 where
   pub later : old.faults ≤ new.faults
   pub sink : new.sink_faults ≡ old.sink_faults
   pub rose : IsErrOf result Disk → Rose old.faults new.faults
+  pub stays : result ≢ Err Disk → new.faults ≡ old.faults
 
 -- ---- places that a step of a call leaves alone
 

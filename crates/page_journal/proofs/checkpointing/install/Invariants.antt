@@ -1,4 +1,4 @@
-use Rattle.std.proofs.Common.{◌≡◌, ◌≤◌, ℕ, IsTrue}
+use Rattle.std.proofs.Common.{◌≡◌, ℕ, IsTrue}
 use Rattle.disk_model.specs.World.{Keeps}
 use Rattle.disk_model.specs.declared.disk.Area.TheVariants.{Pages}
 use Rattle.page_journal.specs.Record.{batch_of, kept, AllButPages, with_batch}
@@ -12,7 +12,7 @@ invariant-loop-number g l =
       apart : (i : ℕ) → AllButPages (batch_of (kept l.pages.entries)) Pages i → AllButPages (batch_of (kept l.number-iterator)) Pages i;
       keeps : IsTrue g.D.Disk.tells → Keeps (AllButPages (batch_of (kept l.pages.entries))) (g.D.Disk.world l.fn.disk) (g.D.Disk.world l.disk);
       done : IsTrue g.D.Disk.tells → with_batch (batch_of (kept l.number-iterator)) ((g.D.Disk.world l.disk).seen Pages) ≡ with_batch (batch_of (kept l.pages.entries)) ((g.D.Disk.world l.fn.disk).seen Pages);
-      faults : (g.D.Disk.world l.fn.disk).faults ≤ (g.D.Disk.world l.disk).faults;
+      faults : (g.D.Disk.world l.disk).faults ≡ (g.D.Disk.world l.fn.disk).faults;
       room : g.D.Disk.room_of l.disk ≡ g.D.Disk.room_of l.fn.disk;
       sink : (g.D.Disk.world l.disk).sink_faults ≡ (g.D.Disk.world l.fn.disk).sink_faults;
     }

@@ -13,7 +13,7 @@ invariant-loop-gate g l =
       place : IsTrue g.D.Disk.tells → l.at ≡ gate_of ((g.D.Disk.world l.fn.disk).seen Journal) l.records;
       gate : IsTrue g.D.Disk.tells → l.gate ≡ (g.D.Disk.world l.fn.disk).seen Journal l.at;
       records : IsTrue g.D.Disk.tells → (k : ℕ) → k < l.records → IsRecordAt ((g.D.Disk.world l.fn.disk).seen Journal) (gate_of ((g.D.Disk.world l.fn.disk).seen Journal) k);
-      faults : (g.D.Disk.world l.fn.disk).faults ≤ (g.D.Disk.world l.disk).faults;
+      faults : (g.D.Disk.world l.disk).faults ≡ (g.D.Disk.world l.fn.disk).faults;
       room : g.D.Disk.room_of l.disk ≡ g.D.Disk.room_of l.fn.disk;
       sink : (g.D.Disk.world l.disk).sink_faults ≡ (g.D.Disk.world l.fn.disk).sink_faults;
     }

@@ -12,7 +12,7 @@ invariant-loop-k g l =
       rested : IsTrue g.D.Disk.tells → WritesNothing (g.D.Disk.world l.fn.disk) (g.D.Disk.world l.disk);
       last : IsTrue g.D.Disk.tells → l.last ≡ (batch_at ((g.D.Disk.world l.fn.disk).seen Journal) l.at).number (l.k - 1);
       ascends : IsTrue g.D.Disk.tells → (k : ℕ) → k + 1 < l.k → (batch_at ((g.D.Disk.world l.fn.disk).seen Journal) l.at).number k < (batch_at ((g.D.Disk.world l.fn.disk).seen Journal) l.at).number (k + 1);
-      faults : (g.D.Disk.world l.fn.disk).faults ≤ (g.D.Disk.world l.disk).faults;
+      faults : (g.D.Disk.world l.disk).faults ≡ (g.D.Disk.world l.fn.disk).faults;
       room : g.D.Disk.room_of l.disk ≡ g.D.Disk.room_of l.fn.disk;
       sink : (g.D.Disk.world l.disk).sink_faults ≡ (g.D.Disk.world l.fn.disk).sink_faults;
     }

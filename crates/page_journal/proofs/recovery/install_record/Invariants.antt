@@ -1,4 +1,4 @@
-use Rattle.std.proofs.Common.{◌≡◌, ◌≤◌, IsTrue, length}
+use Rattle.std.proofs.Common.{◌≡◌, IsTrue, length}
 use Rattle.disk_model.specs.declared.disk.Area.TheVariants.{Pages, Journal}
 use Rattle.page_journal.specs.Record.{batch_at, AllButPages, Spares, written_up_to}
 use Rattle.page_journal.proofs.recovery.install_record.Given as goal
@@ -9,7 +9,7 @@ invariant-loop-k g l =
       size : length l.page ≡ 4096;
       spares : IsTrue g.D.Disk.tells → Spares (AllButPages (batch_at ((g.D.Disk.world l.fn.disk).seen Journal) l.at)) (g.D.Disk.world l.fn.disk) (g.D.Disk.world l.disk);
       done : IsTrue g.D.Disk.tells → (g.D.Disk.world l.disk).seen Pages ≡ written_up_to (batch_at ((g.D.Disk.world l.fn.disk).seen Journal) l.at) l.k ((g.D.Disk.world l.fn.disk).seen Pages);
-      faults : (g.D.Disk.world l.fn.disk).faults ≤ (g.D.Disk.world l.disk).faults;
+      faults : (g.D.Disk.world l.disk).faults ≡ (g.D.Disk.world l.fn.disk).faults;
       room : g.D.Disk.room_of l.disk ≡ g.D.Disk.room_of l.fn.disk;
       sink : (g.D.Disk.world l.disk).sink_faults ≡ (g.D.Disk.world l.fn.disk).sink_faults;
     }
