@@ -17,6 +17,7 @@ use Rattle.rtree_nodes.specs.Pages.{level_in, stored_in, slots_in, is_form}
 use Rattle.rtree_nodes.proofs.Formed.{form-slots, stored-past}
 use Rattle.rtree_find.specs.Ways.{IsWay}
 use Rattle.irtree_shape.specs.Damages.{BreaksAnywhere, IsBroken, IsTreeHarm}
+use Rattle.irtree_shape.proofs.Harms.{broken-link, broken-read}
 use Rattle.irtree_delete.specs.Orphans.{IsHeadless, IsMisplaced, IsOffPath}
 use Rattle.irtree_delete.proofs.Forms.{some-none}
 
@@ -69,17 +70,17 @@ module _ (rows : ℕ) (old new : PageMap) (c0 c1 first : ℕ) (before after : Li
 
   -- it isn't counted
   pub link-harm : damage ≡ unlinked page → IsUncounted c0 page → IsTreeHarm new c1 first rows before after damage
-  link-harm is uncounted = page-harm (ap (λ (d : Damage). d.page) is) (inl (ap (λ (d : Damage). d.rule) is, uncounted))
+  link-harm is uncounted = page-harm (ap (λ (d : Damage). d.page) is) (broken-link damage.rule old c0 page (ap (λ (d : Damage). d.rule) is) uncounted)
 
   -- it doesn't say that it is a node's
   pub head-harm : (bytes : List ℕ) → (0 < length (old page) → bytes ≡ old page) → IsHeadless page bytes (Damaged damage) → IsTreeHarm new c1 first rows before after damage
-  head-harm bytes is h = page-harm h.0 (inr (λ some. subst (λ (b : List ℕ). BreaksAnywhere damage.rule b) (is some) (header-anywhere damage.rule bytes h.1)))
+  head-harm bytes is h = page-harm h.0 (broken-read damage.rule old c0 page bytes is (header-anywhere damage.rule bytes h.1))
 
   -- it isn't a node's, or that of an inner node of one child, where it is of the level that is asked
   pub node-harm : (level : ℕ) (bytes : List ℕ) → bytes ≡ old page → level_in (old page) ≡ level → IsMisplaced page level bytes (Damaged damage) → IsTreeHarm new c1 first rows before after damage
   node-harm level bytes is right h =
       let broken : BreaksAnywhere damage.rule bytes → IsTreeHarm new c1 first rows before after damage
-      = λ b. page-harm h.0 (inr (λ some. subst (λ (b : List ℕ). BreaksAnywhere damage.rule b) is b)) in
+      = λ b. page-harm h.0 (broken-read damage.rule old c0 page bytes (λ some. is) b) in
       elim h.1 [
         | inl breaks ↦ broken (first-anywhere damage.rule bytes breaks)
         | inr other ↦ elim other [

@@ -60,7 +60,7 @@ pub high-harm : (rows : ℕ) (old new : PageMap) (count first : ℕ) (before aft
     → (0 < length (old page) → bytes ≡ old page) → level ≡ level_in bytes → 9 < level → IsTreeHarm new count first rows before after damage
 high-harm rows old new count first before after page level bytes damage same is asked told level_is high = subst (λ (d : Damage). IsTreeHarm new count first rows before after d) (sym is) (inl (record {
   asked = asked;
-  breaks = inl (inr (subst (λ (p : PageMap). IfTold p page (λ b. 9 < level_in b)) (sym same) (λ some. let e = level_is ∙ ap level_in (told some) in omega arith)));
+  breaks = inl (subst (λ (p : PageMap). IfTold p page (λ b. 9 < level_in b)) (sym same) (λ some. let e = level_is ∙ ap level_in (told some) in omega arith));
 }))
 
 -- a child's damage

@@ -1,6 +1,7 @@
 -- Why a change of a tree is damaged, by more pages asked for, and after a search.
-use Rattle.std.proofs.Common.{◌≡◌, ◌⊎◌, ℕ, ⊎_elim, inl, inr, List, refl}
+use Rattle.std.proofs.Common.{◌≡◌, ◌⊎◌, ℕ, ◌<◌, ⊎_elim, inl, inr, List, length, refl, sym, subst}
 use Rattle.page_face.specs.FreeList.{PageMap}
+use Rattle.page_face.specs.Causes.{IsUncounted}
 use Rattle.page_face.specs.declared.fault.Rule.{Rule}
 use Rattle.page_face.specs.declared.fault.Rule.TheVariants.{Head, Link, Kind, Fill, Order, Spare, Level, Value, Shared, Rect, Row, Entry, Words, Counts}
 use Rattle.page_face.specs.declared.fault.Damage.{Damage}
@@ -8,7 +9,7 @@ use Rattle.btree_nodes.specs.Damages.{AsksOnly}
 use Rattle.btree_nodes.proofs.Harms.{asked-before}
 use Rattle.rtree_find.specs.Harms.{BreaksAlone, HasWrongLevel, IsMislevelled, IsHarm}
 use Rattle.node_rows.proofs.Harms.{harm-later}
-use Rattle.irtree_shape.specs.Damages.{IsBroken, IsNodeHarm, IsTreeHarm}
+use Rattle.irtree_shape.specs.Damages.{BreaksAnywhere, IsBroken, IsNodeHarm, IsTreeHarm}
 
 -- a child of another level, after more was asked for
 pub mislevelled-later : (mine : ℕ → ℕ) (pages : PageMap) (before middle after : List ℕ) (child : ℕ) → AsksOnly mine before middle → IsMislevelled pages middle after child → IsMislevelled pages before after child
@@ -32,12 +33,33 @@ pub tree-later : (rows : ℕ) (mine : ℕ → ℕ) (pages : PageMap) (count firs
 tree-later rows mine pages count first before middle after damage more h =
     ⊎_elim (λ node. inl (node-later mine pages count before middle after damage more node)) (λ harm. inr (harm-later rows mine pages count first before middle after damage more harm)) h
 
+-- a page that isn't counted
+pub broken-link : (rule : Rule) (pages : PageMap) (count page : ℕ) → rule ≡ Link → IsUncounted count page → IsBroken rule pages count page
+broken-link rule pages count page is uncounted = subst (λ (r : Rule). IsBroken r pages count page) (sym is) uncounted
+
+-- a page whose bytes were read
+pub broken-read : (rule : Rule) (pages : PageMap) (count page : ℕ) (bytes : List ℕ) → (0 < length (pages page) → bytes ≡ pages page) → BreaksAnywhere rule bytes → IsBroken rule pages count page
+broken-read Kind pages count page bytes is h = λ some. subst (BreaksAnywhere Kind) (is some) h
+broken-read Fill pages count page bytes is h = λ some. subst (BreaksAnywhere Fill) (is some) h
+broken-read Spare pages count page bytes is h = λ some. subst (BreaksAnywhere Spare) (is some) h
+broken-read Value pages count page bytes is h = λ some. subst (BreaksAnywhere Value) (is some) h
+broken-read Level pages count page bytes is h = λ some. subst (BreaksAnywhere Level) (is some) h
+broken-read Link pages count page bytes is h = absurd h
+broken-read Head pages count page bytes is h = absurd h
+broken-read Order pages count page bytes is h = absurd h
+broken-read Shared pages count page bytes is h = absurd h
+broken-read Rect pages count page bytes is h = absurd h
+broken-read Row pages count page bytes is h = absurd h
+broken-read Entry pages count page bytes is h = absurd h
+broken-read Words pages count page bytes is h = absurd h
+broken-read Counts pages count page bytes is h = absurd h
+
 -- what a page breaks by itself on a search
 pub broken-alone : (rule : Rule) (pages : PageMap) (count page : ℕ) → BreaksAlone rule pages count page → IsBroken rule pages count page
-broken-alone Link pages count page h = inl (refl, h)
-broken-alone Kind pages count page h = inr h
-broken-alone Fill pages count page h = inr (λ some. inl (h some))
-broken-alone Value pages count page h = inr h
+broken-alone Link pages count page h = h
+broken-alone Kind pages count page h = h
+broken-alone Fill pages count page h = λ some. inl (h some)
+broken-alone Value pages count page h = h
 broken-alone Head pages count page h = absurd h
 broken-alone Order pages count page h = absurd h
 broken-alone Spare pages count page h = absurd h
@@ -51,7 +73,7 @@ broken-alone Counts pages count page h = absurd h
 
 broken-high : (rule : Rule) (pages : PageMap) (count root : ℕ) (before after : List ℕ) (page : ℕ) → rule ≡ Level → HasWrongLevel pages root before after page
     → IsBroken rule pages count page ⊎ ((rule ≡ Level) × IsMislevelled pages before after page)
-broken-high Level pages count root before after page e h = ⊎_elim (λ high. inl (inr high.1)) (λ below. inr (refl, below)) h
+broken-high Level pages count root before after page e h = ⊎_elim (λ high. inl high.1) (λ below. inr (refl, below)) h
 broken-high Link pages count root before after page e h = cc
 broken-high Kind pages count root before after page e h = cc
 broken-high Fill pages count root before after page e h = cc

@@ -28,7 +28,13 @@ BreaksAnywhere _ page = ⊥
 
 -- the rule that a page breaks by itself: it isn't counted, or its bytes, if they are told, break the rule
 abbrev pub IsBroken : Rule → PageMap → ℕ → ℕ → Type 0
-IsBroken rule pages count page = ((rule ≡ Link) × IsUncounted count page) ⊎ IfTold pages page (BreaksAnywhere rule)
+IsBroken Link pages count page = IsUncounted count page
+IsBroken Kind pages count page = IfTold pages page (BreaksAnywhere Kind)
+IsBroken Fill pages count page = IfTold pages page (BreaksAnywhere Fill)
+IsBroken Spare pages count page = IfTold pages page (BreaksAnywhere Spare)
+IsBroken Value pages count page = IfTold pages page (BreaksAnywhere Value)
+IsBroken Level pages count page = IfTold pages page (BreaksAnywhere Level)
+IsBroken _ pages count page = ⊥
 
 -- the damage is of a node's page that was asked for: a rule that it breaks by itself, or it isn't one level below a page that names it and was asked for
 pub record IsNodeHarm (pages : PageMap) (count : ℕ) (before after : List ℕ) (damage : Damage) : Type 0 where
