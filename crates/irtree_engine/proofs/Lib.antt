@@ -7,6 +7,8 @@ pub mod Effects
 pub mod Heads
 pub mod Logs
 pub mod Named
+pub mod NoHead
+pub mod Numbers
 pub mod Openings
 pub mod Roots
 pub mod Standing

@@ -1,9 +1,11 @@
 -- Page 0's fields before and after an update.
-use Rattle.std.specs.Prelude.{ℕ, ◌+◌, ◌*◌, ◌≤◌, ◌^◌}
+use Rattle.std.specs.Prelude.{ℕ, ◌+◌, ◌*◌, ◌≤◌, ◌^◌, List, [], Option, None}
 use Rattle.node_rows.specs.declared.roots.Tree.{Tree}
 use Rattle.page_face.specs.declared.head.Head.{Head}
 use Rattle.page_store.specs.declared.superblock.Superblock.{Superblock}
+use Rattle.place_map.specs.declared.update.Update.{Update}
 use Rattle.store_tables.specs.declared.tables.Tables.{Tables}
+use Rattle.store_meaning.specs.Ahead.{HaveNumbers, last_number}
 
 -- page 0's fields: the pages counted, the first free page and the head
 abbrev pub block_with : ℕ → ℕ → Head → Superblock
@@ -32,9 +34,14 @@ head_with head tables tree live serial =
       next_word = tables.next_word;
     }
 
--- The numbers of page 0 that an update raises are at most what updates make of them; a batch that holds its words ahead raises the next
--- word number first.
-pub record AreHeadNumbers (head : Head) : Type 0 where
+-- The numbers of page 0 are in their ranges, where these updates of a batch are left: the next word number may be what it is by the update
+-- number at the batch's end, if its words were held ahead, and there are update numbers for what is left.
+pub record AreNumbersAhead (held : Option (List (List ℕ × ℕ))) (left : List Update) (head : Head) : Type 0 where
   pub number : head.number ≤ 2 ^ 40
   pub serial : head.serial ≤ head.number + 1
-  pub words : head.next_word ≤ 64 * (2 ^ 40 + 1)
+  pub words : head.next_word ≤ 64 * (last_number held left head.number + 1)
+  pub last : HaveNumbers held head.number left
+
+-- So they are between updates.
+abbrev pub AreHeadNumbers : Head → Type 0
+AreHeadNumbers = AreNumbersAhead None []

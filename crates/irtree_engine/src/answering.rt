@@ -1,5 +1,5 @@
 //! What a query is answered.
-ghost use Rattle.std.specs.Prelude.{◌≡◌, ◌≤◌, IsTrue, IfOk, IfErr, OnOk, IsErrOf, ◌↔◌, []};
+ghost use Rattle.std.specs.Prelude.{◌≡◌, ◌≤◌, IsTrue, IfOk, IfErr, OnOk, IsErrOf, ◌↔◌, [], ◌≢◌};
 ghost use Rattle.disk_model.specs.World.{Rose};
 ghost use Rattle.page_store.specs.Store.{Rests, ReadsOnly};
 ghost use Rattle.place_map.specs.Answer.{answer_of};
@@ -13,15 +13,15 @@ ghost use Rattle.irtree_engine.specs.Queries.{EachRead, IsFoundByFew, IsReadForQ
 use crate::queries::answer_in;
 use crate::{Engine, EngineFault};
 use disk_model::Station;
-use page_face::{Damage, Pages};
+use page_face::{Damage, Pages, Rule};
 use page_store::Store;
 use place_map::{Answer, Query};
 
 impl<'d, D: Station> Engine<'d, D> {
     /// Returns the answer to a query over the places of the state. The tree answers it, and no call of it reads the place table.
     ///
-    /// Refuses `Stopped` exactly where an earlier commit of this engine failed, before all else; `Disk`; `Damaged`, never where
-    /// the image stands for a state; `Memory`.
+    /// Refuses `Stopped` exactly where an earlier commit of this engine failed, before all else; `Disk` wherever a read failed, whatever
+    /// else was met; `Damaged`, never where the image stands for a state; `Memory`.
     ///
     /// By the tree it looks at one page a level of the words by text for each word of the query. Then it opens the nodes that may hold an
     /// answer: each costs a look at its page and, for each word of the query that the store knows, at one page a level of the rows of
@@ -47,10 +47,12 @@ impl<'d, D: Station> Engine<'d, D> {
         // So it is by what the image holds, whatever it stands for.
         ensures broken { IsTrue D.tells → (damage : Damage) → IsErrOf result (EngineFault.Damaged damage)
             → IsQueryDamageIn (contents_held (D.world self.old.store.disk.now).seen) damage }
+        ensures no_head { IsTrue D.tells → (damage : Damage) → IsErrOf result (EngineFault.Damaged damage) → damage.rule ≢ Rule.Head }
         ensures stopped { IsErrOf result EngineFault.Stopped ↔ IsTrue self.old.stopped }
         ensures causes { IfErr result IsReadFault }
         ensures disk { IsErrOf result EngineFault.Disk → Rose (D.world self.old.store.disk.now).faults (D.world self.new.store.disk.now).faults }
 
+        ensures stays { result ≢ Err EngineFault.Disk → (D.world self.new.store.disk.now).faults ≡ (D.world self.old.store.disk.now).faults }
         ensures rests { IsTrue D.tells → Rests (D.world self.old.store.disk.now) (D.world self.new.store.disk.now) }
         ensures later { (D.world self.old.store.disk.now).faults ≤ (D.world self.new.store.disk.now).faults }
         ensures sink { (D.world self.new.store.disk.now).sink_faults ≡ (D.world self.old.store.disk.now).sink_faults }
@@ -68,6 +70,10 @@ impl<'d, D: Station> Engine<'d, D> {
             return Err(EngineFault::Stopped);
         }
         let head = self.store.head();
-        Ok(answer_in(self.alloc, &mut self.store, &head, query)?)
+        let answer = answer_in(self.alloc, &mut self.store, &head, query);
+        if self.store.has_failed() {
+            return Err(EngineFault::Disk);
+        }
+        Ok(answer?)
     }
 }

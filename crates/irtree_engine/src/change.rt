@@ -1,5 +1,5 @@
 //! One update, or a batch of them, of the tables, the tree and page 0's fields, over any pages.
-ghost use Rattle.std.specs.Prelude.{◌≡◌, ℕ, ◌≤◌, ◌<◌, ◌+◌, ◌^◌, ◌↔◌, List, ◌∷◌, Option, Ok, IsTrue, IfOk, IfErr, OnOk, IsErrOf, length, option_map};
+ghost use Rattle.std.specs.Prelude.{◌≡◌, ℕ, ◌≤◌, ◌<◌, ◌+◌, ◌^◌, ◌↔◌, List, ◌∷◌, Option, Ok, IsTrue, IfOk, IfErr, OnOk, IsErrOf, length, option_map, ◌≢◌};
 ghost use Rattle.std.specs.List.{AllByRecursion};
 ghost use Rattle.page_face.specs.Causes.{Rose};
 ghost use Rattle.btree_nodes.specs.Damages.{AreTold};
@@ -11,13 +11,13 @@ ghost use Rattle.place_map.specs.Update.{effect_of, key_for, put_at, removed_at,
 ghost use Rattle.store_meaning.specs.Ahead.{StandAhead};
 ghost use Rattle.store_meaning.specs.Stands.{PagesStand, tables_in};
 ghost use Rattle.irtree_engine.specs.Updates.{IsUpdateFault, IsDueTo, IsAtLimit, StandForOutcome, state_after_all};
-ghost use Rattle.irtree_engine.specs.Changes.{block_with, head_at, head_with, tree_in, AreHeadNumbers};
+ghost use Rattle.irtree_engine.specs.Changes.{block_with, head_at, head_with, tree_in, AreHeadNumbers, AreNumbersAhead};
 
 use crate::EngineFault;
 use crate::fault::broken_by_head;
 use indexmap::IndexMap;
 use node_inverted::Tree;
-use page_face::{Head, Pages, Rule};
+use page_face::{Damage, Head, Pages, Rule};
 use place_map::{Applied, NUMBER_MAX, PLACES_MAX, Update};
 use place_updates::{gather_words, hold_words, put_in_batch, remove_place};
 use row_codec::PAIRS_MAX;
@@ -30,8 +30,8 @@ use tree_updates::{put_entry, take_entry};
 
 /// Changes the tables, the tree and page 0's fields by one update. A key that a Put names is a text key.
 ///
-/// Refuses `Full`, `Worn` and what the tables and the tree refuse, and `Damaged` where a number of page 0 is out of its range. After a
-/// refusal the fields are as before, and pages may have changed.
+/// Refuses `Full`, `Worn` and what the tables and the tree refuse, and `Damaged` with the rule Counts where page 0 counts no place and one
+/// is removed. After a refusal the fields are as before, and pages may have changed.
 pub(crate) fn update<P: Pages>(
     alloc: Global,
     pages: &mut P,
@@ -39,12 +39,15 @@ pub(crate) fn update<P: Pages>(
     policy: &mut dyn SplitPolicy,
     update: &Update,
 ) -> Result<Applied, EngineFault>
-    requires { NamesText update.now }
+    requires text { NamesText update.now }
+    requires numbers { AreHeadNumbers head.old }
     ensures updated { (state : Contents) → PagesStand (block_with (P.count pages.old) (P.first pages.old) head.old) (P.pages pages.old) state
         → IfOk result (λ applied. ((effect_of state update.now).answer ≡ Ok applied)
         × PagesStand (block_with (P.count pages.new) (P.first pages.new) head.new) (P.pages pages.new) (effect_of state update.now).state) }
     ensures due { (state : Contents) → PagesStand (block_with (P.count pages.old) (P.first pages.old) head.old) (P.pages pages.old) state
         → AreTold (P.pages pages.old) (P.count pages.old) → IfErr result (IsDueTo (effect_of state update.now).answer) }
+    ensures numbers { OnOk result (AreHeadNumbers head.new) }
+    ensures no_head { ((p : P) → AreTold (P.pages p) (P.count p)) → (damage : Damage) → IsErrOf result (EngineFault.Damaged damage) → damage.rule ≢ Rule.Head }
     ensures limits { IfErr result (IsAtLimit head.old.live head.old.number) }
     ensures causes { IfErr result IsUpdateFault }
     ensures one_more { (head.new.live ≤ head.old.live + 1) × (head.new.number ≤ head.old.number + 1) }
@@ -74,11 +77,14 @@ pub(crate) fn update_all<P: Pages>(
     policy: &mut dyn SplitPolicy,
     updates: &[Update],
 ) -> Result<(), EngineFault>
-    requires { AllByRecursion NamesText updates.now }
+    requires texts { AllByRecursion NamesText updates.now }
+    requires numbers { AreHeadNumbers head.old }
     ensures updated { (state : Contents) → PagesStand (block_with (P.count pages.old) (P.first pages.old) head.old) (P.pages pages.old) state
         → OnOk result (StandForOutcome (state_after_all state updates.now) (block_with (P.count pages.new) (P.first pages.new) head.new) (P.pages pages.new)) }
     ensures due { (state : Contents) → PagesStand (block_with (P.count pages.old) (P.first pages.old) head.old) (P.pages pages.old) state
         → ((p : P) → AreTold (P.pages p) (P.count p)) → IfErr result (IsDueTo (state_after_all state updates.now)) }
+    ensures numbers { OnOk result (AreHeadNumbers head.new) }
+    ensures no_head { ((p : P) → AreTold (P.pages p) (P.count p)) → (damage : Damage) → IsErrOf result (EngineFault.Damaged damage) → damage.rule ≢ Rule.Head }
     ensures limits { IfErr result (IsAtLimit (head.old.live + length updates.now) (head.old.number + length updates.now)) }
     ensures causes { IfErr result IsUpdateFault }
     ensures one_more_each { (head.new.live ≤ head.old.live + length updates.now) × (head.new.number ≤ head.old.number + length updates.now) }
@@ -111,12 +117,15 @@ fn update_in_batch<P: Pages>(
     update: &Update,
     held: &Option<IndexMap<Word, u64>>,
 ) -> Result<Applied, EngineFault>
-    requires { NamesText update.now }
+    requires text { NamesText update.now }
+    requires numbers { (left : List Update) × AreNumbersAhead (option_map (λ numbers. numbers.entries) held.now) (update.now ∷ left) head.old }
     ensures updated { (state : Contents) (left : List Update) → StandAhead (option_map (λ numbers. numbers.entries) held.now) (update.now ∷ left) (block_with (P.count pages.old) (P.first pages.old) head.old) (P.pages pages.old) state
         → IfOk result (λ applied. ((effect_of state update.now).answer ≡ Ok applied)
         × StandAhead (option_map (λ numbers. numbers.entries) held.now) left (block_with (P.count pages.new) (P.first pages.new) head.new) (P.pages pages.new) (effect_of state update.now).state) }
     ensures due { (state : Contents) (left : List Update) → StandAhead (option_map (λ numbers. numbers.entries) held.now) (update.now ∷ left) (block_with (P.count pages.old) (P.first pages.old) head.old) (P.pages pages.old) state
         → AreTold (P.pages pages.old) (P.count pages.old) → IfErr result (IsDueTo (effect_of state update.now).answer) }
+    ensures numbers { (left : List Update) → AreNumbersAhead (option_map (λ numbers. numbers.entries) held.now) (update.now ∷ left) head.old → OnOk result (AreNumbersAhead (option_map (λ numbers. numbers.entries) held.now) left head.new) }
+    ensures no_head { ((p : P) → AreTold (P.pages p) (P.count p)) → (damage : Damage) → IsErrOf result (EngineFault.Damaged damage) → damage.rule ≢ Rule.Head }
     ensures limits { IfErr result (IsAtLimit head.old.live head.old.number) }
     ensures causes { IfErr result IsUpdateFault }
     ensures one_more { (head.new.live ≤ head.old.live + 1) × (head.new.number ≤ head.old.number + 1) }
@@ -130,9 +139,6 @@ fn update_in_batch<P: Pages>(
     ensures goes_on { P.is_stopped pages.new ≡ P.is_stopped pages.old }
     ensures follows { P.follows_from pages.old pages.new }
 {
-    if !are_in_range(head) {
-        return Err(EngineFault::Damaged(broken_by_head(Rule::Head)));
-    }
     match update {
         Update::Put { key, point, words } => {
             let (key, serial) = named(head, key);
@@ -142,15 +148,6 @@ fn update_in_batch<P: Pages>(
         }
         Update::Remove { key } => remove(alloc, pages, head, policy, key, held),
     }
-}
-
-// Whether the serial, the update number and the next word number are in their ranges. A store refuses others as it opens.
-fn are_in_range(head: &Head) -> bool
-    ensures { IsTrue result ↔ AreHeadNumbers head.now }
-{
-    head.number <= NUMBER_MAX
-        && head.serial <= head.number + 1
-        && head.next_word <= 64 * (NUMBER_MAX + 1)
 }
 
 // Whether there are a place and an update number for each of so many updates, so that none is refused for want of them.
@@ -169,10 +166,13 @@ fn hold_ahead<P: Pages>(
     head: &mut Head,
     updates: &[Update],
 ) -> Result<Option<IndexMap<Word, u64>>, EngineFault>
+    requires numbers { AreHeadNumbers head.old }
     ensures begun { (state : Contents) → PagesStand (block_with (P.count pages.old) (P.first pages.old) head.old) (P.pages pages.old) state
         → IfOk result (λ held. StandAhead (option_map (λ numbers. numbers.entries) held) updates.now (block_with (P.count pages.new) (P.first pages.new) head.new) (P.pages pages.new) state) }
     ensures due { (state : Contents) → PagesStand (block_with (P.count pages.old) (P.first pages.old) head.old) (P.pages pages.old) state
         → AreTold (P.pages pages.old) (P.count pages.old) → IfErr result (IsDueTo (state_after_all state updates.now)) }
+    ensures numbers { IfOk result (λ held. AreNumbersAhead (option_map (λ numbers. numbers.entries) held) updates.now head.new) }
+    ensures no_head { ((p : P) → AreTold (P.pages p) (P.count p)) → (damage : Damage) → IsErrOf result (EngineFault.Damaged damage) → damage.rule ≢ Rule.Head }
     ensures limits { IfErr result (IsAtLimit (head.old.live + length updates.now) (head.old.number + length updates.now)) }
     ensures causes { IfErr result IsUpdateFault }
     ensures same { (head.new.live ≡ head.old.live) × (head.new.number ≡ head.old.number) }
@@ -186,9 +186,6 @@ fn hold_ahead<P: Pages>(
     ensures goes_on { P.is_stopped pages.new ≡ P.is_stopped pages.old }
     ensures follows { P.follows_from pages.old pages.new }
 {
-    if !are_in_range(head) {
-        return Err(EngineFault::Damaged(broken_by_head(Rule::Head)));
-    }
     if !has_room_for(head, updates.len()) {
         return Ok(None);
     }
@@ -214,7 +211,8 @@ fn head_between(head: &Head, tables: &Tables) -> Head
 
 // The key under which a place is put, and the next serial then.
 fn named(head: &Head, key: &Option<Key>) -> (Key, u64)
-    requires { AreHeadNumbers head.now }
+    requires serial { head.now.serial ≤ head.now.number + 1 }
+    requires number { head.now.number ≤ 2 ^ 40 }
     ensures key { (state : Contents) → state.serial ≡ head.now.serial → result.0 ≡ key_for state key.now }
     ensures serial { (state : Contents) → state.serial ≡ head.now.serial → result.1 ≡ serial_after state key.now }
 {
@@ -276,13 +274,16 @@ fn put<P: Pages>(
     words: &Words,
     held: &Option<IndexMap<Word, u64>>,
 ) -> Result<Applied, EngineFault>
-    requires range { AreHeadNumbers head.old }
+    requires numbers { (name : Option Name) × (left : List Update) × AreNumbersAhead (option_map (λ numbers. numbers.entries) held.now) (Put name point words.now ∷ left) head.old }
+    requires serial { serial ≤ head.old.number + 2 }
     ensures updated { (state : Contents) (name : Option Name) (left : List Update) → StandAhead (option_map (λ numbers. numbers.entries) held.now) (Put name point words.now ∷ left) (block_with (P.count pages.old) (P.first pages.old) head.old) (P.pages pages.old) state
         → head.old.serial ≤ serial → serial ≤ head.old.number + 2 → IsSerialAbove serial key.now
         → IfOk result (λ applied. ((put_at state key.now serial (record { point = point; words = words.now })).answer ≡ Ok applied)
         × StandAhead (option_map (λ numbers. numbers.entries) held.now) left (block_with (P.count pages.new) (P.first pages.new) head.new) (P.pages pages.new) (put_at state key.now serial (record { point = point; words = words.now })).state) }
     ensures due { (state : Contents) (name : Option Name) (left : List Update) → StandAhead (option_map (λ numbers. numbers.entries) held.now) (Put name point words.now ∷ left) (block_with (P.count pages.old) (P.first pages.old) head.old) (P.pages pages.old) state
         → AreTold (P.pages pages.old) (P.count pages.old) → IfErr result (IsDueTo (put_at state key.now serial (record { point = point; words = words.now })).answer) }
+    ensures numbers { (name : Option Name) (left : List Update) → AreNumbersAhead (option_map (λ numbers. numbers.entries) held.now) (Put name point words.now ∷ left) head.old → OnOk result (AreNumbersAhead (option_map (λ numbers. numbers.entries) held.now) left head.new) }
+    ensures no_head { ((p : P) → AreTold (P.pages p) (P.count p)) → (damage : Damage) → IsErrOf result (EngineFault.Damaged damage) → damage.rule ≢ Rule.Head }
     ensures limits { IfErr result (IsAtLimit head.old.live head.old.number) }
     ensures causes { IfErr result IsUpdateFault }
     ensures one_more { (head.new.live ≤ head.old.live + 1) × (head.new.number ≤ head.old.number + 1) }
@@ -337,12 +338,14 @@ fn remove<P: Pages>(
     key: &Key,
     held: &Option<IndexMap<Word, u64>>,
 ) -> Result<Applied, EngineFault>
-    requires range { AreHeadNumbers head.old }
+    requires numbers { (left : List Update) × AreNumbersAhead (option_map (λ numbers. numbers.entries) held.now) (Remove key.now ∷ left) head.old }
     ensures updated { (state : Contents) (left : List Update) → StandAhead (option_map (λ numbers. numbers.entries) held.now) (Remove key.now ∷ left) (block_with (P.count pages.old) (P.first pages.old) head.old) (P.pages pages.old) state
         → IfOk result (λ applied. ((removed_at state key.now).answer ≡ Ok applied)
         × StandAhead (option_map (λ numbers. numbers.entries) held.now) left (block_with (P.count pages.new) (P.first pages.new) head.new) (P.pages pages.new) (removed_at state key.now).state) }
     ensures due { (state : Contents) (left : List Update) → StandAhead (option_map (λ numbers. numbers.entries) held.now) (Remove key.now ∷ left) (block_with (P.count pages.old) (P.first pages.old) head.old) (P.pages pages.old) state
         → AreTold (P.pages pages.old) (P.count pages.old) → IfErr result (IsDueTo (removed_at state key.now).answer) }
+    ensures numbers { (left : List Update) → AreNumbersAhead (option_map (λ numbers. numbers.entries) held.now) (Remove key.now ∷ left) head.old → OnOk result (AreNumbersAhead (option_map (λ numbers. numbers.entries) held.now) left head.new) }
+    ensures no_head { ((p : P) → AreTold (P.pages p) (P.count p)) → (damage : Damage) → IsErrOf result (EngineFault.Damaged damage) → damage.rule ≢ Rule.Head }
     ensures limits { IfErr result (IsAtLimit head.old.live head.old.number) }
     ensures causes { IfErr result IsUpdateFault }
     ensures one_more { (head.new.live ≤ head.old.live + 1) × (head.new.number ≤ head.old.number + 1) }

@@ -7,6 +7,8 @@ ghost use Rattle.page_store.specs.Opening.{SaysNothingReadsHead, head_damage};
 ghost use Rattle.place_map.specs.State.{Contents};
 ghost use Rattle.irtree_engine.specs.Holding.{HasBrokenHead, HoldsState, IsForeign, LeavesState, StandsForNone};
 ghost use Rattle.irtree_engine.specs.Faults.{IsOpenFault, IsSettleFault};
+ghost use Rattle.page_store.specs.Superblock.{IsInRange};
+ghost use Rattle.irtree_engine.specs.Changes.{AreHeadNumbers};
 
 use crate::{EngineFault, recover_superblock};
 use disk_model::{Failed, Station};
@@ -29,6 +31,7 @@ pub struct Engine<'d, D: Station, P: Drop = Box<dyn SplitPolicy>> {
     ghost clean: { store.overlay.entries ≡ [] },
     ghost settled: { store.current ≡ store.last },
     ghost stops: { stopped ≡ store.stopped },
+    ghost numbers: { AreHeadNumbers store.current.head },
 }
 
 impl<'d, D: Station> Engine<'d, D> {
@@ -78,7 +81,7 @@ impl<'d, D: Station> Engine<'d, D> {
         cache: u32,
         policy: Box<dyn SplitPolicy>,
     ) -> Engine<'d, D>
-        requires in_range { block.first_free < block.counted }
+        requires in_range { IsInRange block }
         requires committed { IsTrue D.tells → IsCommitted block 0 (D.world disk.old) }
         ensures same_loan { result.store.disk.ghost_name ≡ disk.entry.ghost_name }
         ensures disk { result.store.disk.now ≡ disk.old }
@@ -174,6 +177,7 @@ impl<'d, D: Station> Engine<'d, D> {
         ensures causes { IfErr result IsSettleFault }
         ensures disk { IsErrOf result EngineFault.Disk → Rose (D.world self.old.store.disk.now).faults (D.world self.new.store.disk.now).faults }
 
+        ensures stays { result ≢ Err EngineFault.Disk → (D.world self.new.store.disk.now).faults ≡ (D.world self.old.store.disk.now).faults }
         ensures stops { IsErrOf result EngineFault.Disk → self.new.stopped ≡ true }
         ensures goes_on { result ≢ Err EngineFault.Disk → self.new.stopped ≡ self.old.stopped }
         ensures untouched { result ≢ Err EngineFault.Disk → OnErr result (self.new.store.disk ≡ self.old.store.disk) }

@@ -1,5 +1,5 @@
 //! Opening a store.
-ghost use Rattle.std.specs.Prelude.{◌≡◌, ◌≢◌, ◌<◌, ◌≤◌, IsTrue, IfOk, IfErr, IsErrOf, ℕ};
+ghost use Rattle.std.specs.Prelude.{◌≡◌, ◌≢◌, ◌≤◌, IsTrue, IfOk, IfErr, IsErrOf, ℕ};
 ghost use Rattle.disk_model.specs.World.{LeavesOnly, Rose};
 ghost use Rattle.page_journal.specs.Record.{StandsAlike, IsBad};
 ghost use Rattle.page_store.specs.Opening.{IsOpened, SaysNothingReadsHead, HasOpenCause, head_damage};
@@ -7,6 +7,7 @@ ghost use Rattle.place_map.specs.State.{Contents};
 ghost use Rattle.irtree_engine.specs.Holding.{HasBrokenHead, HoldsState, IsForeign, LeavesState, StandsForNone};
 ghost use Rattle.irtree_engine.specs.Faults.{IsOpenFault};
 ghost use Rattle.irtree_engine.specs.Opening.{LeavesRefused};
+ghost use Rattle.page_store.specs.Superblock.{IsInRange};
 
 use crate::EngineFault;
 use disk_model::Disk;
@@ -23,7 +24,7 @@ pub fn recover_superblock<D: Disk>(disk: &mut D) -> Result<Superblock, EngineFau
     ensures holds { IsTrue D.tells → (state : Contents) → HoldsState (D.world disk.old) state → IfOk result (λ _. HoldsState (D.world disk.new) state) }
     ensures any_moment { IsTrue D.tells → (state : Contents) → HoldsState (D.world disk.old) state
         → LeavesOnly (D.world disk.old) (D.world disk.new) (LeavesState state (D.world disk.old)) }
-    ensures in_range { IfOk result (λ block. block.first_free < block.counted) }
+    ensures in_range { IfOk result IsInRange }
 
     // An image that stands for no state is left alone, too: what it stood for it stands for at any moment.
     ensures alike { IsTrue D.tells → LeavesOnly (D.world disk.old) (D.world disk.new) (StandsAlike (D.world disk.old)) }
@@ -42,6 +43,7 @@ pub fn recover_superblock<D: Disk>(disk: &mut D) -> Result<Superblock, EngineFau
     ensures later { (D.world disk.old).faults ≤ (D.world disk.new).faults }
     ensures sink { (D.world disk.new).sink_faults ≡ (D.world disk.old).sink_faults }
     ensures disk { IsErrOf result EngineFault.Disk → Rose (D.world disk.old).faults (D.world disk.new).faults }
+    ensures stays { result ≢ Err EngineFault.Disk → (D.world disk.new).faults ≡ (D.world disk.old).faults }
     ensures room { D.room_of disk.new ≡ D.room_of disk.old }
 {
     match page_store::recover_superblock(disk) {

@@ -1,5 +1,5 @@
 //! What lives at a key.
-ghost use Rattle.std.specs.Prelude.{◌≡◌, ◌≤◌, IsTrue, IfOk, IfErr, IsErrOf, ◌↔◌, []};
+ghost use Rattle.std.specs.Prelude.{◌≡◌, ◌≤◌, IsTrue, IfOk, IfErr, IsErrOf, ◌↔◌, [], ◌≢◌};
 ghost use Rattle.disk_model.specs.World.{Rose};
 ghost use Rattle.page_store.specs.Store.{Rests, ReadsOnly};
 ghost use Rattle.place_map.specs.State.{Contents, place_at};
@@ -12,7 +12,7 @@ ghost use Rattle.irtree_engine.specs.Queries.{contents_held};
 use crate::change::tables_of;
 use crate::{Engine, EngineFault};
 use disk_model::Station;
-use page_face::{Damage, Pages};
+use page_face::{Damage, Pages, Rule};
 use page_store::Store;
 use place_map::Place;
 use place_updates::place_at;
@@ -21,8 +21,8 @@ use spatial_base::Key;
 impl<'d, D: Station> Engine<'d, D> {
     /// The place at a key, and `None` where none lives there.
     ///
-    /// Refuses `Stopped` exactly where an earlier commit of this engine failed, before all else; `Disk`; `Damaged`, never where
-    /// the image stands for a state; `Memory`. It reads a page a level of the place table and of the words by number, for each word.
+    /// Refuses `Stopped` exactly where an earlier commit of this engine failed, before all else; `Disk` wherever a read failed, whatever
+    /// else was met; `Damaged`, never where the image stands for a state; `Memory`. It reads a page a level of the place table and of the words by number, for each word.
     pub fn show(&mut self, key: &Key) -> Result<Option<Place>, EngineFault>
         ensures same_loan { self.new.store.disk.ghost_name ≡ self.old.store.disk.ghost_name }
         ensures shown { IsTrue D.tells → (state : Contents) → HoldsState (D.world self.old.store.disk.now) state
@@ -36,10 +36,12 @@ impl<'d, D: Station> Engine<'d, D> {
         // So it is by what the image holds, whatever it stands for.
         ensures broken { IsTrue D.tells → (damage : Damage) → IsErrOf result (EngineFault.Damaged damage)
             → IsShownDamageIn (contents_held (D.world self.old.store.disk.now).seen) damage }
+        ensures no_head { IsTrue D.tells → (damage : Damage) → IsErrOf result (EngineFault.Damaged damage) → damage.rule ≢ Rule.Head }
         ensures stopped { IsErrOf result EngineFault.Stopped ↔ IsTrue self.old.stopped }
         ensures causes { IfErr result IsReadFault }
         ensures disk { IsErrOf result EngineFault.Disk → Rose (D.world self.old.store.disk.now).faults (D.world self.new.store.disk.now).faults }
 
+        ensures stays { result ≢ Err EngineFault.Disk → (D.world self.new.store.disk.now).faults ≡ (D.world self.old.store.disk.now).faults }
         ensures rests { IsTrue D.tells → Rests (D.world self.old.store.disk.now) (D.world self.new.store.disk.now) }
         ensures later { (D.world self.old.store.disk.now).faults ≤ (D.world self.new.store.disk.now).faults }
         ensures sink { (D.world self.new.store.disk.now).sink_faults ≡ (D.world self.old.store.disk.now).sink_faults }
@@ -56,6 +58,10 @@ impl<'d, D: Station> Engine<'d, D> {
             return Err(EngineFault::Stopped);
         }
         let tables = tables_of(&self.store.head());
-        Ok(place_at(self.alloc, &mut self.store, &tables, key)?)
+        let shown = place_at(self.alloc, &mut self.store, &tables, key);
+        if self.store.has_failed() {
+            return Err(EngineFault::Disk);
+        }
+        Ok(shown?)
     }
 }

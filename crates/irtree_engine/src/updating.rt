@@ -14,7 +14,7 @@ ghost use Rattle.irtree_engine.specs.Updates.{LeavesOneOf, LeavesAllOrNone, Stan
 
 use crate::{Engine, EngineFault, change};
 use disk_model::Station;
-use page_face::{Head, PageFault, Pages};
+use page_face::{Damage, Head, PageFault, Pages, Rule};
 use page_store::Store;
 use place_map::{Applied, Update};
 
@@ -30,7 +30,7 @@ impl<'d, D: Station> Engine<'d, D> {
     /// Refuses `Stopped` exactly where an earlier commit of this engine failed, before all else; `Full` exactly where 200,000 or
     /// more places live and a Put's key is new; `Worn` exactly where the update number is 2^40 and the update would change the
     /// map; `NoRoom`, where no page is left for it: then the disk has room for at most the pages counted and as many more as an update is
-    /// allowed to take; `Disk`; `Damaged`, never where the image stands for a state; `Memory`, which also stops an update that would take
+    /// allowed to take; `Disk`; `Damaged`, never where the image stands for a state or with the rule Head; `Memory`, which also stops an update that would take
     /// more pages than it is allowed. After `Disk` in the commit the engine is stopped, and the store is to be opened again. After every
     /// other refusal the map is as before.
     ///
@@ -54,9 +54,11 @@ impl<'d, D: Station> Engine<'d, D> {
 
         ensures due { IsTrue D.tells → (state : Contents) → HoldsState (D.world self.old.store.disk.now) state → IfErr result (IsDueTo (effect_of state update.now).answer) }
         ensures limits { IfErr result (IsAtLimit self.old.store.current.head.live self.old.store.current.head.number) }
+        ensures no_head { IsTrue D.tells → (damage : Damage) → IsErrOf result (EngineFault.Damaged damage) → damage.rule ≢ Rule.Head }
         ensures stopped { IsErrOf result EngineFault.Stopped ↔ IsTrue self.old.stopped }
         ensures causes { IfErr result IsUpdateFault }
         ensures disk { IsErrOf result EngineFault.Disk → worlds.Rose (D.world self.old.store.disk.now).faults (D.world self.new.store.disk.now).faults }
+        ensures stays { result ≢ Err EngineFault.Disk → (D.world self.new.store.disk.now).faults ≡ (D.world self.old.store.disk.now).faults }
         ensures no_room { IsErrOf result EngineFault.NoRoom → Rose self.old.store.refused self.new.store.refused }
         ensures room_left { IsErrOf result EngineFault.NoRoom → LacksRoom 1 (D.room_of self.old.store.disk.now) self.old.store.current.counted }
         ensures as_before { IsErrOf result EngineFault.NoRoom → self.new.store.current ≡ self.old.store.current }
@@ -77,13 +79,18 @@ impl<'d, D: Station> Engine<'d, D> {
             Err(fault) => return Err(fault),
         }
         let mut head = self.store.head();
-        let applied = match change::update(
+        let changed = change::update(
             self.alloc,
             &mut self.store,
             &mut head,
             &mut *self.policy,
             update,
-        ) {
+        );
+        if self.store.has_failed() {
+            self.store.abandon();
+            return Err(EngineFault::Disk);
+        }
+        let applied = match changed {
             Ok(applied) => applied,
             Err(fault) => {
                 self.store.abandon();
@@ -116,9 +123,11 @@ impl<'d, D: Station> Engine<'d, D> {
 
         ensures due { IsTrue D.tells → (state : Contents) → HoldsState (D.world self.old.store.disk.now) state → IfErr result (IsDueTo (state_after_all state updates.now)) }
         ensures limits { IfErr result (IsAtLimit (self.old.store.current.head.live + length updates.now) (self.old.store.current.head.number + length updates.now)) }
+        ensures no_head { IsTrue D.tells → (damage : Damage) → IsErrOf result (EngineFault.Damaged damage) → damage.rule ≢ Rule.Head }
         ensures stopped { IsErrOf result EngineFault.Stopped ↔ IsTrue self.old.stopped }
         ensures causes { IfErr result IsUpdateFault }
         ensures disk { IsErrOf result EngineFault.Disk → worlds.Rose (D.world self.old.store.disk.now).faults (D.world self.new.store.disk.now).faults }
+        ensures stays { result ≢ Err EngineFault.Disk → (D.world self.new.store.disk.now).faults ≡ (D.world self.old.store.disk.now).faults }
         ensures no_room { IsErrOf result EngineFault.NoRoom → Rose self.old.store.refused self.new.store.refused }
         ensures room_left { IsErrOf result EngineFault.NoRoom → LacksRoom (length updates.now) (D.room_of self.old.store.disk.now) self.old.store.current.counted }
         ensures as_before { IsErrOf result EngineFault.NoRoom → self.new.store.current ≡ self.old.store.current }
@@ -139,13 +148,18 @@ impl<'d, D: Station> Engine<'d, D> {
             Err(fault) => return Err(fault),
         }
         let mut head = self.store.head();
-        if let Err(fault) = change::update_all(
+        let changed = change::update_all(
             self.alloc,
             &mut self.store,
             &mut head,
             &mut *self.policy,
             updates,
-        ) {
+        );
+        if self.store.has_failed() {
+            self.store.abandon();
+            return Err(EngineFault::Disk);
+        }
+        if let Err(fault) = changed {
             self.store.abandon();
             return Err(fault);
         }
@@ -175,6 +189,7 @@ fn begin<'d, D: Station>(
     ensures takes { OnOk result (store.new.takes_left ≡ most_takes updates store.old.current.counted) }
     ensures counts { OnOk result (store.old.refused < 2 ^ 64 - 1) }
     ensures log { store.new.asked.items ≡ [] }
+    ensures unfailed { store.new.failed ≡ false }
     ensures current { store.new.current ≡ store.old.current }
     ensures last { store.new.last ≡ store.old.last }
     ensures overlay { store.new.overlay ≡ store.old.overlay }
@@ -214,6 +229,7 @@ fn commit<'d, D: Station>(
     ensures settled { store.new.current ≡ store.new.last }
     ensures causes { IfErr result IsCommitFault }
     ensures disk { IsErrOf result EngineFault.Disk → worlds.Rose (D.world store.old.disk.now).faults (D.world store.new.disk.now).faults }
+    ensures stays { result ≢ Err EngineFault.Disk → (D.world store.new.disk.now).faults ≡ (D.world store.old.disk.now).faults }
     ensures stops { IsErrOf result EngineFault.Disk → stopped.new ≡ true }
     ensures as_the_store { stopped.new ≡ store.new.stopped }
     ensures goes_on { result ≢ Err EngineFault.Disk → store.new.stopped ≡ false }

@@ -1,5 +1,5 @@
 -- A job behind the opening of its store.
-use Rattle.std.proofs.Common.{◌≡◌, ℕ, zero, ◌≤◌, ◌==◌, Bool, false, List, [], ◌∷◌, slice_index, inl, inr, refl, sym, ap, subst, arith}
+use Rattle.std.proofs.Common.{◌≡◌, ℕ, zero, ◌==◌, Bool, false, List, [], ◌∷◌, slice_index, inl, inr, refl, sym, ap, subst, arith}
 use Rattle.std.proofs.lemmas.Bool.{and_left, ne_eqb}
 use Rattle.std.specs.Prelude.{Result, Ok, Err, IfErr, IsTrue}
 use Rattle.disk_model.specs.World.{World, Image, LeavesOnly, LeavesOnlySeen, Rose}
@@ -11,6 +11,7 @@ use Rattle.irtree_engine.specs.Opening.{LeavesRefused}
 use Rattle.irtree_engine.specs.declared.fault.EngineFault.{EngineFault}
 use Rattle.irtree_engine.specs.declared.fault.EngineFault.TheVariants as engine
 use Rattle.run_protocol.specs.Causes.{end_of_engine, HasJobEnd, IsJobEnd, IsStoreEnd}
+use Rattle.run_protocol.proofs.Counts.{keeps-from}
 use Rattle.run_protocol.specs.declared.ended.LimitFault.{LimitFault}
 use Rattle.run_protocol.specs.declared.ended.StoreFault.{StoreFault}
 use Rattle.run_protocol.specs.declared.ended.StoreFault.TheVariants as stores
@@ -73,11 +74,11 @@ refused-job T tells t asked state input left old new holds none engine.NoRoom op
 refused-job T tells t asked state input left old new holds none engine.Stopped opens refuses = absurd opens
 refused-job T tells t asked state input left old new holds none engine.Memory opens refuses = absurd opens
 
-module _ (tells : Bool) (old was new : World) (faults : old.faults ≤ was.faults) (sink : was.sink_faults ≡ old.sink_faults) (opened : IsTrue tells → IsOpenable old.seen)
+module _ (tells : Bool) (old was new : World) (faults : was.faults ≡ old.faults) (sink : was.sink_faults ≡ old.sink_faults) (opened : IsTrue tells → IsOpenable old.seen)
     (stands : IsTrue tells → (state : Contents) → HoldsState old state → HoldsState was state) where
   -- damage that was met behind the opening
   broken-from : (fault : StoreFault) → IsStoreEnd tells was fault → IsTrue tells → IsBroken fault old.seen
-  broken-from (stores.Damaged damage) cause t = ((λ state holds. cause t state (stands t state holds)), inr (opened t))
+  broken-from (stores.Damaged damage) cause t = ((λ state holds. (cause t).0 state (stands t state holds)), inr ((cause t).1, opened t))
   broken-from stores.NotAStore cause t = absurd cause
   broken-from (stores.BadJournal at) cause t = absurd cause
 
@@ -98,6 +99,8 @@ module _ (tells : Bool) (old was new : World) (faults : old.faults ≤ was.fault
     source = cause.source;
     faults = omega (arith, cause.faults, faults);
     sink = omega (arith, cause.sink, sink);
+    reads = cause.reads;
+    keeps = keeps-from old was new (Ok done) faults sink cause.keeps;
     opened = opened;
     cause = tt;
   }
@@ -105,6 +108,8 @@ module _ (tells : Bool) (old was new : World) (faults : old.faults ≤ was.fault
     source = cause.source;
     faults = omega (arith, cause.faults, faults);
     sink = omega (arith, cause.sink, sink);
+    reads = cause.reads;
+    keeps = keeps-from old was new (Err end) faults sink cause.keeps;
     opened = λ t. tt;
     cause = cause-from source_old source_new end cause.cause;
   }

@@ -1,5 +1,5 @@
 -- A job, and the settling of its engine behind it.
-use Rattle.std.proofs.Common.{◌≡◌, ℕ, ◌+◌, ◌≤◌, ⊎_elim, inl, inr, Bool, List, [], ◌∷◌, ◌++◌, length, take, subst, sym, ◌∙◌, arith}
+use Rattle.std.proofs.Common.{◌≡◌, ℕ, ◌+◌, ⊎_elim, inl, inr, Bool, List, [], ◌∷◌, ◌++◌, length, take, subst, sym, ◌∙◌, arith}
 use Rattle.std.specs.Prelude.{IsTrue, Result, Ok, Err}
 use Rattle.disk_model.specs.World.{World, Image, LeavesOnly, LeavesOnlySeen}
 use Rattle.disk_model.proofs.Moments.{then, within}
@@ -8,6 +8,7 @@ use Rattle.place_map.specs.declared.update.UpdateFault.{UpdateFault}
 use Rattle.irtree_engine.specs.Holding.{HoldsState, LeavesState}
 use Rattle.irtree_engine.specs.Updates.{state_after_all}
 use Rattle.run_protocol.specs.Causes.{HasJobEnd, IsJobEnd}
+use Rattle.run_protocol.proofs.Counts.{keeps-on}
 use Rattle.run_protocol.specs.Left.{StopsAtBatch, StopsAtLine, StopsBehind}
 use Rattle.run_protocol.specs.Load.{Step, Skip, Store, skip_line, steps, stored_line}
 use Rattle.run_protocol.specs.Script.{script_lines, turn}
@@ -98,7 +99,7 @@ module _ (asked : Asked) (state : Contents) (input : List ℕ) (old mid new : Wo
 
 -- ---- why the job ended
 
-module _ (tells : Bool) (source_old source_new : ℕ) (old mid new : World) (faults : mid.faults ≤ new.faults) (sink : new.sink_faults ≡ mid.sink_faults) where
+module _ (tells : Bool) (source_old source_new : ℕ) (old mid new : World) (faults : new.faults ≡ mid.faults) (sink : new.sink_faults ≡ mid.sink_faults) where
   end-settled : (end : Ended) → IsJobEnd tells source_old source_new old mid end → IsJobEnd tells source_old source_new old new end
   end-settled ends.Memory cause = tt
   end-settled ends.Disk cause = omega (arith, cause, faults)
@@ -117,6 +118,8 @@ module _ (tells : Bool) (source_old source_new : ℕ) (old mid new : World) (fau
     source = cause.source;
     faults = omega (arith, cause.faults, faults);
     sink = omega (arith, cause.sink, sink);
+    reads = cause.reads;
+    keeps = keeps-on old mid new (Ok done) faults sink cause.keeps;
     stands = λ t held holds. (let after = cause.stands t held holds in (after.0, stands t after.0 after.1));
     cause = tt;
   }
@@ -124,6 +127,8 @@ module _ (tells : Bool) (source_old source_new : ℕ) (old mid new : World) (fau
     source = cause.source;
     faults = omega (arith, cause.faults, faults);
     sink = omega (arith, cause.sink, sink);
+    reads = cause.reads;
+    keeps = keeps-on old mid new (Err end) faults sink cause.keeps;
     stands = λ t. tt;
     cause = end-settled end cause.cause;
   }

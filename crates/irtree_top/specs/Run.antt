@@ -1,5 +1,5 @@
 -- What a run of the program promises.
-use Rattle.std.specs.Prelude.{◌≡◌, ◌⊎◌, ◌≤◌, ℕ, List, [], Bool, Option, IsTrue, IfErr, OnOk, Ok, Err, Result}
+use Rattle.std.specs.Prelude.{◌≡◌, ◌≢◌, ◌⊎◌, ◌≤◌, ℕ, List, [], Bool, Option, IsTrue, IfErr, OnOk, Ok, Err, Result}
 use Rattle.disk_model.specs.World.{World, Image, LeavesOnly, Range, Rose, WritesNothing}
 use Rattle.irtree_engine.specs.Damages.{IsImageDamage}
 use Rattle.irtree_engine.specs.Holding.{HasBrokenHead, IsForeign, StandsForNone}
@@ -11,6 +11,7 @@ use Rattle.page_store.specs.Contents.{page_bytes}
 use Rattle.page_store.specs.Opening.{IsOpeningRead, head_damage}
 use Rattle.page_store.specs.Superblock.{IsStorePage, superblock_in}
 use Rattle.page_face.specs.declared.fault.Damage.{Damage}
+use Rattle.page_face.specs.declared.fault.Rule.TheVariants.{Head}
 use Rattle.place_map.specs.State.{Contents}
 use Rattle.geojson_points.specs.Takes.{Item}
 use Rattle.irtree_top.specs.Acked.{acked_by_script, acked_by_load}
@@ -18,7 +19,7 @@ use Rattle.irtree_top.specs.Prefix.{HoldsAcked, IsNearInScript, IsNearInLoad}
 use Rattle.load_run.specs.Loading.{SaysNothingYet}
 use Rattle.make_run.specs.Making.{ReachLimit, make_steps}
 use Rattle.run_protocol.specs.Asking.{IsReadForOneOf}
-use Rattle.run_protocol.specs.Causes.{LacksRoomIn}
+use Rattle.run_protocol.specs.Causes.{KeepsCounts, LacksRoomIn}
 use Rattle.run_protocol.specs.Left.{StopsAtBatch, StopsAtLine}
 use Rattle.run_protocol.specs.Load.{GivesItems, IsTaken, ReachesLimit, steps}
 use Rattle.run_protocol.specs.Said.{EndsAs, SaysFrontOf}
@@ -110,12 +111,12 @@ pub record IsOpenable (image : Image) : Type 0 where
   pub stands : StandsFor image area
   pub page : IsStorePage (page_bytes area 0)
 
--- Where damage is met: at page 0 as it is opened, or behind the opening.
+-- Where damage is met: at page 0 as it is opened, or behind the opening, by another rule than Head.
 abbrev pub IsDamagedAt : Damage → Image → Type 0
-IsDamagedAt damage image = ((damage ≡ head_damage) × HasBrokenHead image) ⊎ IsOpenable image
+IsDamagedAt damage image = ((damage ≡ head_damage) × HasBrokenHead image) ⊎ ((damage.rule ≢ Head) × IsOpenable image)
 
 -- What a store's fault says of the image: that it stands for no state; where it is called no store, that page 0 is foreign; where the
--- journal is named, that its first fault is at that byte; where a page is named, that page 0 breaks the rule Head or is opened.
+-- journal is named, that its first fault is at that byte; where a page is named, that page 0 breaks the rule Head, or is opened and the rule is another one.
 abbrev pub IsBroken : StoreFault → Image → Type 0
 IsBroken stores.NotAStore image = StandsForNone image × IsForeign image
 IsBroken (stores.BadJournal at) image = StandsForNone image × IsBad image at
@@ -144,11 +145,13 @@ IsRunEnd tells source_old source_new old new (ends.Limit fault) = IsTrue tells �
 IsRunEnd tells source_old source_new old new ends.Done = ⊥
 IsRunEnd tells source_old source_new old new ends.Words = ⊥
 
--- such an end has its cause, and no count falls
+-- Such an end has its cause, no count falls, and where one rose it ends so: by the disk, which may fail last, before the others.
 pub record HasRunEnd {T : Type 0} (tells : Bool) (source_old source_new : ℕ) (old new : World) (result : Result T Ended) : Type 0 where
   pub source : source_old ≤ source_new
   pub faults : old.faults ≤ new.faults
   pub sink : old.sink_faults ≤ new.sink_faults
+  pub reads : result ≢ Err ends.Disk → result ≢ Err ends.Source → source_new ≡ source_old
+  pub keeps : KeepsCounts old new result
   pub opened : IsTrue tells → OnOk result (IsOpenable old.seen)
   pub cause : IfErr result (IsRunEnd tells source_old source_new old new)
 
@@ -199,27 +202,18 @@ pub record IsLimitReached (fault : LimitFault) (asked : Asked) (input : List ℕ
 
 -- an end that comes only behind the opening of the store
 abbrev pub IsBehindOpening : Ended → Type 0
-IsBehindOpening ends.Done = Unit {0}
 IsBehindOpening ends.Memory = ⊥
 IsBehindOpening ends.Words = ⊥
 IsBehindOpening ends.Disk = ⊥
-IsBehindOpening ends.Source = Unit {0}
-IsBehindOpening ends.Sink = Unit {0}
-IsBehindOpening (ends.Input fault) = Unit {0}
 IsBehindOpening (ends.Store fault) = ⊥
-IsBehindOpening (ends.Limit fault) = Unit {0}
+IsBehindOpening _ = Unit {0}
 
 -- an end that no fault of source, disk or sink causes
 abbrev pub IsSettled : Ended → Type 0
-IsSettled ends.Done = Unit {0}
-IsSettled ends.Memory = Unit {0}
-IsSettled ends.Words = Unit {0}
 IsSettled ends.Disk = ⊥
 IsSettled ends.Source = ⊥
 IsSettled ends.Sink = ⊥
-IsSettled (ends.Input fault) = Unit {0}
-IsSettled (ends.Store fault) = Unit {0}
-IsSettled (ends.Limit fault) = Unit {0}
+IsSettled _ = Unit {0}
 
 -- how a run ends by its words, where no count rose and the image stands for a state
 abbrev pub IsCompleteEnd : Action → Ended → Type 0

@@ -1,5 +1,5 @@
 //! The top call.
-ghost use Rattle.std.specs.Prelude.{◌≡◌, ◌≤◌, ◌⊎◌, ℕ, List, map, string_bytes, IsTrue, Err};
+ghost use Rattle.std.specs.Prelude.{◌≡◌, ◌≢◌, ◌≤◌, ◌⊎◌, ℕ, List, map, string_bytes, IsTrue, Err};
 ghost use Rattle.disk_model.specs.World.{LeavesOnly, Rose};
 ghost use Rattle.place_map.specs.State.{Contents};
 ghost use Rattle.irtree_engine.specs.Holding.{HoldsState};
@@ -39,11 +39,14 @@ use std::alloc::Global;
 /// - `Limit(Full)` and `Limit(Worn)` in a load or a make alone, if a batch meets that limit. The whole transcript was said; the live places
 ///   or the update number of page 0, with the places of the text or those to be made added, reach the limit.
 /// - `Store` if the image at the start is no well-formed store: `NotAStore` if its page 0 is foreign; `BadJournal` with the first byte of
-///   its journal that breaks a rule; `Damaged` with the rule Head at page 0 if that breaks it, or with what is met behind the opening: in a
-///   script without updates a page and a rule that it breaks, as a query or a look at a key met it.
+///   its journal that breaks a rule; `Damaged` with the rule Head at page 0 only if that breaks it, or with another rule that is met behind
+///   the opening: in a script without updates a page and a rule that it breaks, as a query or a look at a key met it.
 ///   A store that is refused as it is opened is left alone: a bad journal as it was, the others recovered and nothing else.
 /// - `Source` if the source fails, after the replies to all lines that were read, and in a load with nothing said; never in a make.
 /// - `Disk`, `Sink` and `Memory` if one of them fails, after a prefix of the transcript's text.
+///
+/// A fault of the source, the disk or the sink is told as such, whatever else was met: no other end comes behind one but `Disk`, if the disk
+/// failed, too.
 ///
 /// All ends but `Store`, `Disk`, `Words` and `Memory` come only if page 0 of the recovered store is zeros, or begins with the magic and
 /// keeps the rule Head.
@@ -126,6 +129,10 @@ pub fn run<S: Source, T: Station>(
     ensures disk_cause { result ≡ Ended.Disk → Rose (T.world station.old).faults (T.world station.new).faults }
     ensures source_cause { result ≡ Ended.Source → Rose (S.faults source.old) (S.faults source.new) }
     ensures sink_cause { result ≡ Ended.Sink → Rose (T.world station.old).sink_faults (T.world station.new).sink_faults }
+    // And where a count rose, it ends so, whatever else was met: the disk's, which may rise last, before the others.
+    ensures disk_told { result ≢ Ended.Disk → (T.world station.new).faults ≡ (T.world station.old).faults }
+    ensures source_told { result ≢ Ended.Disk → result ≢ Ended.Source → S.faults source.new ≡ S.faults source.old }
+    ensures sink_told { result ≢ Ended.Disk → result ≢ Ended.Sink → (T.world station.new).sink_faults ≡ (T.world station.old).sink_faults }
     ensures disk_later { (T.world station.old).faults ≤ (T.world station.new).faults }
     ensures source_later { S.faults source.old ≤ S.faults source.new }
     ensures sink_later { (T.world station.old).sink_faults ≤ (T.world station.new).sink_faults }

@@ -2,6 +2,8 @@
 use Rattle.std.proofs.Common.{◌≡◌, ◌≢◌, ◌≤◌, Bool, List, sym, subst, arith, refl}
 use Rattle.std.specs.Prelude.{IsTrue, Result, Ok, Err}
 use Rattle.disk_model.specs.World.{World, Image, Rose}
+use Rattle.page_face.specs.declared.fault.Damage.{Damage}
+use Rattle.page_face.specs.declared.fault.Rule.TheVariants.{Head}
 use Rattle.page_store.specs.Store.{Rests}
 use Rattle.place_map.specs.State.{Contents}
 use Rattle.place_map.specs.declared.update.Update.{Update}
@@ -12,6 +14,7 @@ use Rattle.irtree_engine.specs.Updates.{StandsForOutcome, IsUpdateFault, IsDueTo
 use Rattle.irtree_engine.specs.declared.fault.EngineFault.{EngineFault}
 use Rattle.irtree_engine.specs.declared.fault.EngineFault.TheVariants as engine
 use Rattle.run_protocol.specs.Causes.{IsEngineEnd, HasEngineEnd, end_of_engine}
+use Rattle.run_protocol.proofs.Counts.{keeps-fault}
 use Rattle.load_run.specs.Loading.{IsUnstored}
 
 -- a call of the engine that was refused
@@ -45,18 +48,18 @@ not-stored state updates old new fault may on due rests holds = by_fault fault m
 
 -- and the cause of such an end
 pub not-stored-cause : (tells : Bool) (updates : List Update) (old new : World) (fault : EngineFault) (T : Type 0) → IsUpdateFault fault → (failed fault ≢ failed engine.Stopped) → (failed fault ≡ failed engine.Disk → Rose old.faults new.faults)
-    → (IsTrue tells → (state : Contents) → HoldsState old state → IsDueTo (state_after_all state updates) fault) → old.faults ≤ new.faults → new.sink_faults ≡ old.sink_faults
+    → (IsTrue tells → (state : Contents) → HoldsState old state → IsDueTo (state_after_all state updates) fault) → (IsTrue tells → (damage : Damage) → failed fault ≡ failed (engine.Damaged damage) → damage.rule ≢ Head) → (failed fault ≢ failed engine.Disk → new.faults ≡ old.faults) → old.faults ≤ new.faults → new.sink_faults ≡ old.sink_faults
     → HasEngineEnd {T = T} tells old new (Err (end_of_engine fault))
-not-stored-cause tells updates old new fault T may on disk due later sink = record { faults = later; sink = omega (arith, sink); stands = λ told. tt; cause = by_fault fault may on disk due }
+not-stored-cause tells updates old new fault T may on disk due no_head stays later sink = record { faults = later; sink = omega (arith, sink); keeps = keeps-fault T old new fault (λ apart. stays (λ e. apart (cc))) sink; stands = λ told. tt; cause = by_fault fault may on disk due no_head }
   where
     by_fault : (fault : EngineFault) → IsUpdateFault fault → (failed fault ≢ failed engine.Stopped) → (failed fault ≡ failed engine.Disk → Rose old.faults new.faults)
-        → (IsTrue tells → (state : Contents) → HoldsState old state → IsDueTo (state_after_all state updates) fault) → IsEngineEnd tells old new (end_of_engine fault)
-    by_fault engine.Disk may on disk due = disk refl
-    by_fault engine.Memory may on disk due = tt
-    by_fault engine.Full may on disk due = tt
-    by_fault engine.Worn may on disk due = tt
-    by_fault engine.NoRoom may on disk due = tt
-    by_fault (engine.Damaged damage) may on disk due = λ told state holds. due told state holds
-    by_fault engine.Stopped may on disk due = absurd (on refl)
-    by_fault engine.NotAStore may on disk due = absurd may
-    by_fault (engine.BadJournal at) may on disk due = absurd may
+        → (IsTrue tells → (state : Contents) → HoldsState old state → IsDueTo (state_after_all state updates) fault) → (IsTrue tells → (damage : Damage) → failed fault ≡ failed (engine.Damaged damage) → damage.rule ≢ Head) → IsEngineEnd tells old new (end_of_engine fault)
+    by_fault engine.Disk may on disk due no_head = disk refl
+    by_fault engine.Memory may on disk due no_head = tt
+    by_fault engine.Full may on disk due no_head = tt
+    by_fault engine.Worn may on disk due no_head = tt
+    by_fault engine.NoRoom may on disk due no_head = tt
+    by_fault (engine.Damaged damage) may on disk due no_head = λ told. ((λ state holds. due told state holds), no_head told damage refl)
+    by_fault engine.Stopped may on disk due no_head = absurd (on refl)
+    by_fault engine.NotAStore may on disk due no_head = absurd may
+    by_fault (engine.BadJournal at) may on disk due no_head = absurd may

@@ -7,6 +7,7 @@ use Rattle.run_protocol.specs.declared.ended.Ended.{Ended}
 use Rattle.run_protocol.specs.declared.ended.Ended.TheVariants as ends
 use Rattle.run_protocol.specs.declared.ended.StoreFault.TheVariants as stores
 use Rattle.run_protocol.specs.Causes.{StandsStill, IsEngineEnd, HasEngineEnd, IsJobEnd, HasJobEnd}
+use Rattle.run_protocol.proofs.Counts.{keeps-none, keeps-then}
 
 -- where reads give the same, the image stands for what it stood for
 pub still-same : (old new : World) → new.seen ≡ old.seen → StandsStill old new
@@ -14,11 +15,11 @@ still-same old new same state holds = (state, subst (λ (i : Image). Stands i st
 
 -- no call was made
 pub engine-none : (tells : Bool) (now : World) (T : Type 0) (done : T) → HasEngineEnd tells now now (Ok done)
-engine-none tells now T done = record { faults = omega arith; sink = omega arith; stands = λ told. still-same now now refl; cause = tt }
+engine-none tells now T done = record { faults = omega arith; sink = omega arith; keeps = keeps-none now (Ok done); stands = λ told. still-same now now refl; cause = tt }
 
 -- memory was wanted before a call was made
 pub engine-lacks : (tells : Bool) (now : World) (T : Type 0) → HasEngineEnd {T = T} tells now now (Err ends.Memory)
-engine-lacks tells now T = record { faults = omega arith; sink = omega arith; stands = λ told. tt; cause = tt }
+engine-lacks tells now T = record { faults = omega arith; sink = omega arith; keeps = keeps-none now (Err ends.Memory); stands = λ told. tt; cause = tt }
 
 module _ {tells : Bool} {u v : World} {T : Type 0} {done : T} (first : HasEngineEnd tells u v (Ok done)) where
   -- an end behind them
@@ -26,7 +27,7 @@ module _ {tells : Bool} {u v : World} {T : Type 0} {done : T} (first : HasEngine
   end-then w ends.Memory faults sink cause = tt
   end-then w ends.Disk faults sink cause = omega (arith, cause, first.faults)
   end-then w ends.Sink faults sink cause = omega (arith, cause, first.sink)
-  end-then w (ends.Store (stores.Damaged damage)) faults sink cause = λ told state holds. let mid = first.stands told state holds in cause told mid.0 mid.1
+  end-then w (ends.Store (stores.Damaged damage)) faults sink cause = λ told. ((λ state holds. let mid = first.stands told state holds in (cause told).0 mid.0 mid.1), (cause told).1)
   end-then w (ends.Limit fault) faults sink cause = tt
   end-then w _ faults sink cause = absurd cause
 
@@ -35,20 +36,22 @@ module _ {tells : Bool} {u v : World} {T : Type 0} {done : T} (first : HasEngine
   engine-then {w = w} (Ok more) next = record {
     faults = omega (arith, first.faults, next.faults);
     sink = omega (arith, first.sink, next.sink);
+    keeps = keeps-then u v w done (Ok more) first.keeps next.keeps;
     stands = λ told state holds. let mid = first.stands told state holds in next.stands told mid.0 mid.1;
     cause = tt;
   }
   engine-then {w = w} (Err end) next = record {
     faults = omega (arith, first.faults, next.faults);
     sink = omega (arith, first.sink, next.sink);
+    keeps = keeps-then u v w done (Err end) first.keeps next.keeps;
     stands = λ told. tt;
     cause = end-then w end next.faults next.sink next.cause;
   }
 
 -- a call over an engine in a job, behind the reading of its source
-pub job-of-engine : (tells : Bool) (source_old source_new : ℕ) (old new : World) {T : Type 0} (result : Result T Ended) → source_old ≤ source_new → HasEngineEnd tells old new result → HasJobEnd tells source_old source_new old new result
-job-of-engine tells source_old source_new old new (Ok done) later ended = record { source = later; faults = ended.faults; sink = ended.sink; stands = ended.stands; cause = tt }
-job-of-engine tells source_old source_new old new (Err end) later ended = record { source = later; faults = ended.faults; sink = ended.sink; stands = λ told. tt; cause = by_end end ended.cause }
+pub job-of-engine : (tells : Bool) (source_old source_new : ℕ) (old new : World) {T : Type 0} (result : Result T Ended) → source_new ≡ source_old → HasEngineEnd tells old new result → HasJobEnd tells source_old source_new old new result
+job-of-engine tells source_old source_new old new (Ok done) same ended = record { source = omega (arith, same); faults = ended.faults; sink = ended.sink; reads = λ other read. same; keeps = ended.keeps; stands = ended.stands; cause = tt }
+job-of-engine tells source_old source_new old new (Err end) same ended = record { source = omega (arith, same); faults = ended.faults; sink = ended.sink; reads = λ other read. same; keeps = ended.keeps; stands = λ told. tt; cause = by_end end ended.cause }
   where
     by_end : (end : Ended) → IsEngineEnd tells old new end → IsJobEnd tells source_old source_new old new end
     by_end ends.Memory cause = tt

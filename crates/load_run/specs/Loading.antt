@@ -1,5 +1,5 @@
 -- A load between two of its items, and how it ends.
-use Rattle.std.specs.Prelude.{◌≡◌, ◌⊎◌, ℕ, ◌+◌, ◌^◌, ◌<◌, ◌≤◌, List, [], ◌++◌, length, Option, Vec, Result, Ok, Err, OnOk, IfErr}
+use Rattle.std.specs.Prelude.{◌≡◌, ◌≢◌, ◌⊎◌, ℕ, ◌+◌, ◌^◌, ◌<◌, ◌≤◌, List, [], ◌++◌, length, Option, Vec, Result, Ok, Err, OnOk, IfErr}
 use Rattle.std.specs.List.{AllByRecursion}
 use Rattle.disk_model.specs.World.{World, Image, LeavesOnly, Rose}
 use Rattle.json_spelled.specs.declared.tree.JsonFault.TheVariants as json
@@ -226,9 +226,10 @@ IsReadEnd old new ends.Source = Rose old new
 IsReadEnd old new (ends.Input fault) = Unit {0}
 IsReadEnd old new _ = ⊥
 
--- such an end has its cause, and the count never falls
+-- Such an end has its cause, the count never falls, and where it rose it ends so.
 pub record HasReadEnd {T : Type 0} (old new : ℕ) (result : Result T Ended) : Type 0 where
   pub later : old ≤ new
+  pub stays : result ≢ Err ends.Source → new ≡ old
   pub cause : IfErr result (IsReadEnd old new)
 
 -- how a text that gives no items ends a load

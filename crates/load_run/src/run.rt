@@ -106,7 +106,7 @@ fn refusal(fault: LoadFault) -> Ended
 ///   that batch is stored, and all text before its line was said.
 /// - `Source` if the source fails. Nothing is stored or said.
 /// - `Disk`, `Sink` and `Memory` if one of them fails, after a prefix of the text.
-/// - `Store(Damaged)` if a page breaks a rule; never if the image stands for a state.
+/// - `Store(Damaged)` if a page breaks a rule other than Head; never if the image stands for a state.
 pub fn run_load<'d, S: Source, T: Station>(
     alloc: Global,
     batch: u32,

@@ -82,7 +82,7 @@ fn make_places<'d, T: Station>(
 ///   for a batch: the station has room for at most the pages counted and as many more as a batch is allowed to take. Nothing of that batch is
 ///   stored, and all text before its line was said.
 /// - `Disk`, `Sink` and `Memory` if one of them fails, after a prefix of the text.
-/// - `Store(Damaged)` if a page breaks a rule; never if the image stands for a state.
+/// - `Store(Damaged)` if a page breaks a rule other than Head; never if the image stands for a state.
 pub fn run_make<'d, T: Station>(
     alloc: Global,
     batch: u32,

@@ -1,5 +1,5 @@
 -- What opening a store does to its disk, and why it is refused.
-use Rattle.std.specs.Prelude.{◌≡◌, ◌⊎◌, ℕ, ◌+◌, ◌≤◌, List, ◌++◌, Result, IsErrOf}
+use Rattle.std.specs.Prelude.{◌≡◌, ◌≢◌, ◌⊎◌, ℕ, ◌+◌, ◌≤◌, List, ◌++◌, Result, Err, IsErrOf}
 use Rattle.std.specs.List.{AllByRecursion}
 use Rattle.disk_model.specs.World.{World, Image, Range, Rose}
 use Rattle.disk_model.specs.declared.disk.Area.TheVariants.{Pages, Journal}
@@ -41,11 +41,12 @@ pub record IsRefused (fault : HeadFault) (old new : World) : Type 0 where
 abbrev pub head_damage : Damage
 head_damage = record { page = 0; rule = Head }
 
--- Disk comes only where the disk's count rose, and no count falls
+-- Disk comes just where the disk's count rose, or stands at its last value, and no count falls
 pub record HasOpenCause {T : Type 0} (old new : World) (result : Result T OpenFault) : Type 0 where
   pub later : old.faults ≤ new.faults
   pub sink : new.sink_faults ≡ old.sink_faults
   pub rose : IsErrOf result faults.Disk → Rose old.faults new.faults
+  pub stays : result ≢ Err faults.Disk → new.faults ≡ old.faults
 
 -- The image stands for pages whose page 0 is none of a store, for this cause.
 pub record IsNoStore (fault : HeadFault) (image : Image) : Type 0 where

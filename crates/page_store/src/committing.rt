@@ -49,6 +49,7 @@ impl<'d, D: Disk> Store<'d, D> {
         ensures waiting { result ≢ Err PageFault.Disk → OnErr result ((n : ℕ) → n ≢ 0 → page_in self.new.overlay n ≡ page_in self.old.overlay n) }
         ensures causes { IfErr result (λ fault. (fault ≡ PageFault.Stopped) ⊎ (fault ≡ PageFault.Memory) ⊎ (fault ≡ PageFault.Disk)) }
         ensures cause { IsErrOf result PageFault.Disk → Rose (D.world self.old.disk.now).faults (D.world self.new.disk.now).faults }
+        ensures stays { result ≢ Err PageFault.Disk → (D.world self.new.disk.now).faults ≡ (D.world self.old.disk.now).faults }
         ensures faults { (D.world self.old.disk.now).faults ≤ (D.world self.new.disk.now).faults }
         ensures sink { (D.world self.new.disk.now).sink_faults ≡ (D.world self.old.disk.now).sink_faults }
 
@@ -101,6 +102,7 @@ impl<'d, D: Disk> Store<'d, D> {
         ensures goes_on { result ≢ Err PageFault.Disk → self.new.stopped ≡ false }
         ensures causes { IfErr result (λ fault. (fault ≡ PageFault.Memory) ⊎ (fault ≡ PageFault.Disk)) }
         ensures cause { IsErrOf result PageFault.Disk → Rose (D.world self.old.disk.now).faults (D.world self.new.disk.now).faults }
+        ensures stays { result ≢ Err PageFault.Disk → (D.world self.new.disk.now).faults ≡ (D.world self.old.disk.now).faults }
         ensures faults { (D.world self.old.disk.now).faults ≤ (D.world self.new.disk.now).faults }
         ensures sink { (D.world self.new.disk.now).sink_faults ≡ (D.world self.old.disk.now).sink_faults }
         ensures untouched { result ≢ Err PageFault.Disk → OnErr result (self.new.disk ≡ self.old.disk) }
@@ -151,6 +153,7 @@ impl<'d, D: Disk> Store<'d, D> {
         ensures goes_on { result ≢ Err PageFault.Disk → self.new.stopped ≡ self.old.stopped }
         ensures causes { IfErr result (λ fault. (fault ≡ PageFault.Stopped) ⊎ (fault ≡ PageFault.Disk)) }
         ensures cause { IsErrOf result PageFault.Disk → Rose (D.world self.old.disk.now).faults (D.world self.new.disk.now).faults }
+        ensures stays { result ≢ Err PageFault.Disk → (D.world self.new.disk.now).faults ≡ (D.world self.old.disk.now).faults }
         ensures faults { (D.world self.old.disk.now).faults ≤ (D.world self.new.disk.now).faults }
         ensures sink { (D.world self.new.disk.now).sink_faults ≡ (D.world self.old.disk.now).sink_faults }
         ensures untouched { result ≢ Err PageFault.Disk → OnErr result (self.new.disk ≡ self.old.disk) }

@@ -1,11 +1,12 @@
 //! Opening a store: the journal is recovered, and page 0 is read.
-ghost use Rattle.std.specs.Prelude.{◌≡◌, ◌≢◌, ◌<◌, IsTrue, ℕ, IfOk, IsErrOf};
+ghost use Rattle.std.specs.Prelude.{◌≡◌, ◌≢◌, IsTrue, ℕ, IfOk, IsErrOf};
 ghost use Rattle.disk_model.specs.World.{LeavesOnly, WritesNothing, ChangesNoArea, HasDiskCause, Range};
 ghost use Rattle.disk_model.specs.declared.disk.Area.TheVariants as areas;
 ghost use Rattle.page_journal.specs.Record.{StandsAlike, IsBad};
 ghost use Rattle.page_store.specs.declared.superblock.HeadFault.TheVariants as heads;
 ghost use Rattle.page_store.specs.Contents.{page_bytes};
 ghost use Rattle.page_store.specs.Opening.{SaysNothingReadsHead, IsOpened, IsRefused, head_damage, HasOpenCause};
+ghost use Rattle.page_store.specs.Superblock.{IsInRange};
 
 use crate::page::read_page;
 use crate::superblock::{HeadFault, Superblock};
@@ -37,7 +38,7 @@ pub fn recover_superblock<D: Disk>(disk: &mut D) -> Result<Superblock, OpenFault
     ensures any_moment { IsTrue D.tells → LeavesOnly (D.world disk.old) (D.world disk.new) (StandsAlike (D.world disk.old)) }
 
     ensures opened { IsTrue D.tells → IfOk result (λ block. IsOpened block (D.world disk.old) (D.world disk.new)) }
-    ensures in_range { IfOk result (λ block. block.first_free < block.counted) }
+    ensures in_range { IfOk result IsInRange }
     ensures not_a_store { IsTrue D.tells → IsErrOf result OpenFault.NotAStore → IsRefused heads.NotAStore (D.world disk.old) (D.world disk.new) }
     ensures damaged { (damage : Damage) → IsErrOf result (OpenFault.Damaged damage)
         → (damage ≡ head_damage) × (IsTrue D.tells → IsRefused heads.Broken (D.world disk.old) (D.world disk.new)) }

@@ -187,7 +187,7 @@ impl Superblock {
 
     /// What page 0 stands for.
     pub(crate) fn decode(page: &Page) -> Result<Superblock, HeadFault>
-        ensures in_range { IfOk result (λ block. block.first_free < block.counted) }
+        ensures in_range { IfOk result IsInRange }
         ensures exact { MatchResult result (λ block. IsStorePage page.now × (block ≡ superblock_in page.now)) (λ fault. IsHeadFault fault page.now) }
     {
         if is_zero(page) {

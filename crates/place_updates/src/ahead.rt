@@ -8,6 +8,7 @@ ghost use Rattle.btree_nodes.specs.Damages.{AreTold};
 ghost use Rattle.store_tables.specs.Entries.{Entries};
 ghost use Rattle.store_tables.specs.Holding.{Holds, IsApart, IsChanged};
 ghost use Rattle.store_meaning.specs.Ahead.{CanHoldAhead, HeldAhead, held_ahead};
+ghost use Rattle.store_tables.specs.Broken.{SparesHead};
 
 use indexmap::IndexMap;
 use page_face::{Damage, PageFault, Pages};
@@ -35,6 +36,8 @@ pub fn hold_words<P: Pages>(
     ensures honest { (entries : Entries) (free : List ℕ) → Holds (P.pages pages.old) tables.old entries → IsApart (view (P.pages pages.old) (P.count pages.old) (P.first pages.old) free) tables.old
         → CanHoldAhead counts.now.entries (record { entries = entries; next_word = tables.old.next_word; numbers = [] })
         → AreTold (P.pages pages.old) (P.count pages.old) → (damage : Damage) → ¬ IsErrOf result (PageFault.Damaged damage) }
+    ensures rises { OnOk result (tables.new.next_word ≤ tables.old.next_word + length counts.now.entries) }
+    ensures no_head { ((p : P) → AreTold (P.pages p) (P.count p)) → SparesHead result }
     ensures fails { FailsChanging P.Pages pages.old pages.new result }
     ensures frame { Changes P.Pages pages.old pages.new }
 {

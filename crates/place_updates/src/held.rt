@@ -1,5 +1,5 @@
 //! A place that is put whose words were held ahead.
-ghost use Rattle.std.specs.Prelude.{◌≡◌, ℕ, ◌≤◌, ◌<◌, ◌+◌, ◌^◌, ◌==◌, List, ◌∷◌, Option, length, option_map, IfSome, IfOk, IfErr, OnOk, OnErr, IsErrOf, All};
+ghost use Rattle.std.specs.Prelude.{◌≡◌, ℕ, ◌≤◌, ◌<◌, ◌+◌, ◌^◌, ◌==◌, List, ◌∷◌, Option, length, option_map, IfSome, IfOk, IfErr, OnOk, OnErr, IsErrOf, All, IsSome};
 ghost use Rattle.std.specs.List.{AllByRecursion};
 ghost use Rattle.std.specs.Map.{keys_of};
 ghost use Rattle.std.specs.Option.{option_copied};
@@ -16,6 +16,7 @@ ghost use Rattle.store_tables.specs.Words.{WordTablesAgree, holders};
 ghost use Rattle.store_meaning.specs.Ahead.{AreNamedBy, IsNamed, after_put_by, claimed, next_by, number_in, pairs_by, pairs_for, place_count};
 ghost use Rattle.store_meaning.specs.Updates.{after_held, by_number, placed, stored_with};
 ghost use Rattle.place_updates.specs.Numbers.{HasTermImpact, IsNumberMap, IsKnownIn, IsPairFault};
+ghost use Rattle.store_tables.specs.Broken.{SparesHead};
 
 use crate::pairs::{held_pairs, place_with, put_pair};
 use crate::putting::put_place;
@@ -82,6 +83,7 @@ pub fn put_held<P: Pages>(
         → (rest : ℕ → ℕ) → WordTablesAgree (λ n. holders n entries.places + (place_count (λ word. number_in numbers.now.entries word == n) words.now + rest n)) entries.texts entries.numbers tables.old.next_word
         → AllByRecursion (IsNamed numbers.now.entries entries.numbers) (keys_of words.now)
         → AreTold (P.pages pages.old) (P.count pages.old) → (damage : Damage) → ¬ IsErrOf result (PageFault.Damaged damage) }
+    ensures no_head { ((p : P) → AreTold (P.pages p) (P.count p)) → SparesHead result }
     ensures next { tables.new.next_word ≡ tables.old.next_word }
     ensures kept { OnErr result (tables.new ≡ tables.old) }
     ensures fails { FailsChanging P.Pages pages.old pages.new result }
@@ -125,6 +127,9 @@ pub fn put_in_batch<P: Pages>(
         → (name : Option Name) (left : List Update) → WordTablesAgree (λ n. claimed (option_map (λ numbers. numbers.entries) held.now) (Put name point words.now ∷ left) n (holders n entries.places)) entries.texts entries.numbers tables.old.next_word
         → AreNamedBy (option_map (λ numbers. numbers.entries) held.now) entries.numbers (Put name point words.now ∷ left)
         → AreTold (P.pages pages.old) (P.count pages.old) → (damage : Damage) → ¬ IsErrOf result (PageFault.Damaged damage) }
+    ensures rises { OnOk result (tables.new.next_word ≤ tables.old.next_word + 64) }
+    ensures none_new { IsSome held.now → tables.new.next_word ≡ tables.old.next_word }
+    ensures no_head { ((p : P) → AreTold (P.pages p) (P.count p)) → SparesHead result }
     ensures kept { OnErr result (tables.new ≡ tables.old) }
     ensures fails { FailsChanging P.Pages pages.old pages.new result }
     ensures frame { Changes P.Pages pages.old pages.new }

@@ -8,6 +8,7 @@ ghost use Rattle.store_tables.specs.Holding.{Holds, IsApart, IsChanged};
 ghost use Rattle.store_tables.specs.Words.{CanHold, next_after, number_for, with_hold};
 ghost use Rattle.store_meaning.specs.Updates.{CanNumber, has_pair as is_among, numbered, placed};
 ghost use Rattle.place_updates.specs.Numbers.{HasTermImpact, IsNumberMap};
+ghost use Rattle.store_tables.specs.Broken.{SparesHead};
 
 use crate::pairs::{has_pair, put_pair};
 use page_face::{Damage, PageFault, Pages};
@@ -33,6 +34,7 @@ fn take_hold<P: Pages>(
     ensures honest { (entries : Entries) (free : List ℕ) → Holds (P.pages pages.old) tables.old entries → IsApart (view (P.pages pages.old) (P.count pages.old) (P.first pages.old) free) tables.old
         → (is_among (number_for word.now tables.old.next_word entries.texts) old.now ≡ false → CanHold word.now tables.old.next_word entries)
         → AreTold (P.pages pages.old) (P.count pages.old) → (damage : Damage) → ¬ IsErrOf result (PageFault.Damaged damage) }
+    ensures no_head { ((p : P) → AreTold (P.pages p) (P.count p)) → SparesHead result }
     ensures rises { OnOk result (tables.new.next_word ≤ tables.old.next_word + 1) }
     ensures fails { FailsChanging P.Pages pages.old pages.new result }
     ensures frame { Changes P.Pages pages.old pages.new }
@@ -69,6 +71,8 @@ pub(crate) fn number_words<P: Pages>(
         → CanNumber old.now words.now tables.old.next_word entries
         → AreTold (P.pages pages.old) (P.count pages.old) → (damage : Damage) → ¬ IsErrOf result (PageFault.Damaged damage) }
     ensures map { OnOk result (IsNumberMap pairs.new.entries) }
+    ensures rises { OnOk result (tables.new.next_word ≤ tables.old.next_word + length words.now) }
+    ensures no_head { ((p : P) → AreTold (P.pages p) (P.count p)) → SparesHead result }
     ensures fails { FailsChanging P.Pages pages.old pages.new result }
     ensures frame { Changes P.Pages pages.old pages.new }
 {

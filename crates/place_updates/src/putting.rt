@@ -1,5 +1,5 @@
 //! A place that is put at a key.
-ghost use Rattle.std.specs.Prelude.{◌≡◌, ℕ, ◌≤◌, ◌<◌, ◌+◌, ◌^◌, List, length, IfSome, IfOk, OnErr, IsErrOf};
+ghost use Rattle.std.specs.Prelude.{◌≡◌, ℕ, ◌≤◌, ◌<◌, ◌+◌, ◌^◌, List, length, IfSome, IfOk, OnErr, IsErrOf, OnOk};
 ghost use Rattle.std.specs.Option.{option_copied};
 ghost use Rattle.page_face.specs.Calls.{FailsChanging, Changes};
 ghost use Rattle.btree_nodes.specs.Supply.{view};
@@ -9,6 +9,7 @@ ghost use Rattle.store_tables.specs.Entries.{Entries, place_of_key, without_plac
 ghost use Rattle.store_tables.specs.Holding.{Holds, IsApart, IsChanged};
 ghost use Rattle.store_tables.specs.Words.{WordsAgree};
 ghost use Rattle.store_meaning.specs.Updates.{after_put, by_number, numbered_for, stored_with};
+ghost use Rattle.store_tables.specs.Broken.{SparesHead};
 
 use crate::numbering::number_words;
 use crate::pairs::{held_pairs, place_with};
@@ -50,6 +51,8 @@ pub fn put_place<P: Pages>(
         → option_copied old.entry ≡ place_of_key key.now entries.places
         → WordsAgree entries tables.old.next_word → length (without_place key.now entries.places) + 1 < 2 ^ 32
         → AreTold (P.pages pages.old) (P.count pages.old) → (damage : Damage) → ¬ IsErrOf result (PageFault.Damaged damage) }
+    ensures rises { OnOk result (tables.new.next_word ≤ tables.old.next_word + 64) }
+    ensures no_head { ((p : P) → AreTold (P.pages p) (P.count p)) → SparesHead result }
     ensures kept { OnErr result (tables.new ≡ tables.old) }
     ensures fails { FailsChanging P.Pages pages.old pages.new result }
     ensures frame { Changes P.Pages pages.old pages.new }

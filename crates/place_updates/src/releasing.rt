@@ -6,6 +6,7 @@ ghost use Rattle.btree_nodes.specs.Damages.{AreTold};
 ghost use Rattle.store_tables.specs.Entries.{Entries};
 ghost use Rattle.store_tables.specs.Holding.{Holds, IsApart, IsChanged};
 ghost use Rattle.store_meaning.specs.Updates.{CanReleaseAll, released_all};
+ghost use Rattle.store_tables.specs.Broken.{SparesHead};
 
 use crate::pairs::has_pair;
 use page_face::{Damage, PageFault, Pages};
@@ -26,6 +27,7 @@ pub(crate) fn release_words<P: Pages>(
     ensures honest { (entries : Entries) (free : List ℕ) → Holds (P.pages pages.old) tables.old entries → IsApart (view (P.pages pages.old) (P.count pages.old) (P.first pages.old) free) tables.old
         → CanReleaseAll new.now old.now entries
         → AreTold (P.pages pages.old) (P.count pages.old) → (damage : Damage) → ¬ IsErrOf result (PageFault.Damaged damage) }
+    ensures no_head { ((p : P) → AreTold (P.pages p) (P.count p)) → SparesHead result }
     ensures next { OnOk result (tables.new.next_word ≡ tables.old.next_word) }
     ensures fails { FailsChanging P.Pages pages.old pages.new result }
     ensures frame { Changes P.Pages pages.old pages.new }

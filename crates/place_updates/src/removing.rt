@@ -9,6 +9,7 @@ ghost use Rattle.store_tables.specs.Holding.{Holds, IsApart, IsChanged};
 ghost use Rattle.store_tables.specs.Words.{WordTablesAgree, holders};
 ghost use Rattle.store_meaning.specs.Stands.{IsCounting};
 ghost use Rattle.store_meaning.specs.Updates.{after_remove};
+ghost use Rattle.store_tables.specs.Broken.{SparesHead};
 
 use crate::pairs::held_pairs;
 use crate::releasing::release_words;
@@ -38,6 +39,7 @@ pub fn remove_place<P: Pages>(
         → place_of_key key.now entries.places ≡ Some old.now
         → (claims : ℕ → ℕ → ℕ) → IsCounting claims → WordTablesAgree (λ n. claims n (holders n entries.places)) entries.texts entries.numbers tables.old.next_word
         → AreTold (P.pages pages.old) (P.count pages.old) → (damage : Damage) → ¬ IsErrOf result (PageFault.Damaged damage) }
+    ensures no_head { ((p : P) → AreTold (P.pages p) (P.count p)) → SparesHead result }
     ensures next { tables.new.next_word ≡ tables.old.next_word }
     ensures kept { OnErr result (tables.new ≡ tables.old) }
     ensures fails { FailsChanging P.Pages pages.old pages.new result }

@@ -1,3 +1,4 @@
+pub mod Counts
 pub mod Fronts
 pub mod Reading
 pub mod Rooms

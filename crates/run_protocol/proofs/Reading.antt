@@ -1,9 +1,10 @@
 -- What a call of the engine that only reads means for a run.
-use Rattle.std.proofs.Common.{◌≡◌, ◌≤◌, ◌∙◌, Bool, refl, sym, subst, arith}
+use Rattle.std.proofs.Common.{◌≡◌, ◌≢◌, ◌≤◌, ◌∙◌, Bool, refl, sym, subst, arith}
 use Rattle.std.specs.Prelude.{Ok, Err, IsTrue}
 use Rattle.disk_model.specs.World.{World, Image, Rose}
 use Rattle.disk_model.proofs.Moments.{started, then}
 use Rattle.page_face.specs.declared.fault.Damage.{Damage}
+use Rattle.page_face.specs.declared.fault.Rule.TheVariants.{Head}
 use Rattle.page_store.specs.Store.{Rests}
 use Rattle.place_map.specs.State.{Contents}
 use Rattle.store_meaning.specs.Stands.{Stands}
@@ -14,6 +15,7 @@ use Rattle.irtree_engine.specs.Faults.{IsReadFault}
 use Rattle.irtree_engine.specs.Holding.{HoldsState}
 use Rattle.run_protocol.specs.Causes.{HasEngineEnd, end_of_engine}
 use Rattle.run_protocol.specs.Reading.{IsMetIn}
+use Rattle.run_protocol.proofs.Counts.{keeps-both, keeps-fault}
 
 -- an image that is as it was stands for the same state
 pub holds-same : (old new : World) (state : Contents) → new.seen ≡ old.seen → HoldsState old state → HoldsState new state
@@ -33,10 +35,11 @@ rests-then one next = record {
 }
 
 -- a run that only read goes on
-pub read-goes_on : {T : Type 0} (tells : Bool) (old new : World) (value : T) → (IsTrue tells → Rests old new) → old.faults ≤ new.faults → new.sink_faults ≡ old.sink_faults → HasEngineEnd tells old new (Ok value)
+pub read-goes_on : {T : Type 0} (tells : Bool) (old new : World) (value : T) → (IsTrue tells → Rests old new) → new.faults ≡ old.faults → new.sink_faults ≡ old.sink_faults → HasEngineEnd tells old new (Ok value)
 read-goes_on tells old new value rests faults sink = record {
-  faults = faults;
+  faults = omega (arith, faults);
   sink = omega (arith, sink);
+  keeps = keeps-both old new (Ok value) faults sink;
   stands = λ told state holds. (state, holds-same old new state (rests told).seen holds);
   cause = tt;
 }
@@ -60,16 +63,18 @@ pub record RefusedRead (tells : Bool) (old new : World) (fault : EngineFault) : 
   pub sink : new.sink_faults ≡ old.sink_faults
   pub on : fault ≡ engine.Stopped → ⊥
   pub disk : fault ≡ engine.Disk → Rose old.faults new.faults
+  pub stays : fault ≢ engine.Disk → new.faults ≡ old.faults
   pub honest : IsTrue tells → (state : Contents) → HoldsState old state → (damage : Damage) → fault ≡ engine.Damaged damage → ⊥
+  pub no_head : IsTrue tells → (damage : Damage) → fault ≡ engine.Damaged damage → damage.rule ≢ Head
   pub rests : IsTrue tells → Rests old new
 
 -- where it ends a run, the end has its cause
 pub refused-read-cause : (tells : Bool) (old new : World) (T : Type 0) (fault : EngineFault) → RefusedRead tells old new fault → HasEngineEnd {T = T} tells old new (Err (end_of_engine fault))
-refused-read-cause tells old new T engine.Disk refused = record { faults = refused.faults; sink = omega (arith, refused.sink); stands = λ told. tt; cause = refused.disk refl }
+refused-read-cause tells old new T engine.Disk refused = record { faults = refused.faults; sink = omega (arith, refused.sink); keeps = keeps-fault T old new engine.Disk refused.stays refused.sink; stands = λ told. tt; cause = refused.disk refl }
 refused-read-cause tells old new T (engine.Damaged damage) refused =
-    record { faults = refused.faults; sink = omega (arith, refused.sink); stands = λ told. tt; cause = λ told state stands. refused.honest told state stands damage refl }
+    record { faults = refused.faults; sink = omega (arith, refused.sink); keeps = keeps-fault T old new (engine.Damaged damage) refused.stays refused.sink; stands = λ told. tt; cause = λ told. ((λ state stands. refused.honest told state stands damage refl), refused.no_head told damage refl) }
 refused-read-cause tells old new T engine.Stopped refused = absurd (refused.on refl)
-refused-read-cause tells old new T engine.Memory refused = record { faults = refused.faults; sink = omega (arith, refused.sink); stands = λ told. tt; cause = tt }
+refused-read-cause tells old new T engine.Memory refused = record { faults = refused.faults; sink = omega (arith, refused.sink); keeps = keeps-fault T old new engine.Memory refused.stays refused.sink; stands = λ told. tt; cause = tt }
 refused-read-cause tells old new T engine.Full refused = absurd refused.causes
 refused-read-cause tells old new T engine.Worn refused = absurd refused.causes
 refused-read-cause tells old new T engine.NoRoom refused = absurd refused.causes

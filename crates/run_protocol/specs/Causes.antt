@@ -1,6 +1,7 @@
 -- Why a run ends.
-use Rattle.std.specs.Prelude.{ℕ, ◌≤◌, Bool, IsTrue, Result, OnOk, IfErr}
+use Rattle.std.specs.Prelude.{ℕ, ◌≤◌, ◌≡◌, ◌≢◌, Bool, IsTrue, Result, Err, OnOk, IfErr}
 use Rattle.disk_model.specs.World.{World, Image, Rose}
+use Rattle.page_face.specs.declared.fault.Rule.TheVariants.{Head}
 use Rattle.place_map.specs.State.{Contents}
 use Rattle.irtree_engine.specs.Holding.{HoldsState, StandsForNone}
 use Rattle.irtree_engine.specs.Queries.{contents_held}
@@ -29,9 +30,10 @@ end_of_engine engine.Memory = Memory
 abbrev pub StandsStill : World → World → Type 0
 StandsStill old new = (state : Contents) → HoldsState old state → (after : Contents) × HoldsState new after
 
--- What a call over an open store may end by: damage, where the image stands for none. That it is a store was seen before.
+-- What a call over an open store may end by: damage, where the image stands for none, by another rule than Head, which was looked at as the
+-- store was opened. That it is a store was seen then, too.
 abbrev pub IsStoreEnd : Bool → World → StoreFault → Type 0
-IsStoreEnd tells old (stores.Damaged damage) = IsTrue tells → StandsForNone old.seen
+IsStoreEnd tells old (stores.Damaged damage) = IsTrue tells → StandsForNone old.seen × (damage.rule ≢ Head)
 IsStoreEnd tells old _ = ⊥
 
 -- What may end a call over an engine: want of memory, a disk or a sink whose count rose, damage, or a limit.
@@ -43,10 +45,17 @@ IsEngineEnd tells old new (Store fault) = IsStoreEnd tells old fault
 IsEngineEnd tells old new (Limit fault) = Unit {0}
 IsEngineEnd tells old new _ = ⊥
 
--- such an end has its cause, and no count falls
+-- A call that doesn't end by the disk leaves the disk's count of faults as it was, and one that ends neither by the disk nor by the sink that
+-- of the sink: behind a sink that failed the disk may fail, too, which is then told.
+pub record KeepsCounts {T : Type 0} (old new : World) (result : Result T Ended) : Type 0 where
+  pub disk : result ≢ Err Disk → new.faults ≡ old.faults
+  pub sink : result ≢ Err Disk → result ≢ Err Sink → new.sink_faults ≡ old.sink_faults
+
+-- Such an end has its cause, no count falls, and where one rose it ends so.
 pub record HasEngineEnd {T : Type 0} (tells : Bool) (old new : World) (result : Result T Ended) : Type 0 where
   pub faults : old.faults ≤ new.faults
   pub sink : old.sink_faults ≤ new.sink_faults
+  pub keeps : KeepsCounts old new result
   pub stands : IsTrue tells → OnOk result (StandsStill old new)
   pub cause : IfErr result (IsEngineEnd tells old new)
 
@@ -61,11 +70,13 @@ IsJobEnd tells source_old source_new old new (Store fault) = IsStoreEnd tells ol
 IsJobEnd tells source_old source_new old new (Limit fault) = Unit {0}
 IsJobEnd tells source_old source_new old new _ = ⊥
 
--- each end has its cause, and no count falls
+-- Each end has its cause, no count falls, and where one rose it ends so.
 pub record HasJobEnd {T : Type 0} (tells : Bool) (source_old source_new : ℕ) (old new : World) (result : Result T Ended) : Type 0 where
   pub source : source_old ≤ source_new
   pub faults : old.faults ≤ new.faults
   pub sink : old.sink_faults ≤ new.sink_faults
+  pub reads : result ≢ Err Disk → result ≢ Err Source → source_new ≡ source_old
+  pub keeps : KeepsCounts old new result
   pub stands : IsTrue tells → OnOk result (StandsStill old new)
   pub cause : IfErr result (IsJobEnd tells source_old source_new old new)
 

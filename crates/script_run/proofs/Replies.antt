@@ -1,8 +1,10 @@
 -- What the engine's answers make of a line, before its reply is said.
-use Rattle.std.proofs.Common.{◌≡◌, ◌≤◌, ◌+◌, ◌^◌, ◌==◌, ◌&&◌, nat_le, length, is_some, is_none, Bool, true, false, refl, sym, ap, subst, ◌∙◌, arith}
+use Rattle.std.proofs.Common.{◌≡◌, ◌≢◌, ◌≤◌, ◌+◌, ◌^◌, ◌==◌, ◌&&◌, nat_le, length, is_some, is_none, Bool, true, false, refl, sym, ap, subst, ◌∙◌, arith}
 use Rattle.std.specs.Prelude.{Result, Ok, Err, IsTrue, if◌then◌else◌}
 use Rattle.disk_model.specs.World.{World, LeavesOnly, Rose}
 use Rattle.disk_model.proofs.Moments.{started, rested}
+use Rattle.page_face.specs.declared.fault.Damage.{Damage}
+use Rattle.page_face.specs.declared.fault.Rule.TheVariants.{Head}
 use Rattle.page_store.specs.Store.{Rests}
 use Rattle.place_map.specs.declared.update.Applied.{Applied}
 use Rattle.place_map.specs.declared.update.Applied.TheVariants.{New, Replaced, Gone, Absent}
@@ -25,6 +27,7 @@ use Rattle.irtree_engine.specs.declared.fault.EngineFault.{EngineFault}
 use Rattle.irtree_engine.specs.declared.fault.EngineFault.TheVariants as engine
 use Rattle.irtree_engine.specs.Holding.{HoldsState}
 use Rattle.irtree_engine.specs.Updates.{LeavesOneOf, IsUpdateFault, IsDueTo}
+use Rattle.run_protocol.proofs.Counts.{keeps-both, keeps-fault}
 use Rattle.run_protocol.proofs.Reading.{RefusedRead, holds-same, rests-still}
 use Rattle.run_protocol.specs.Causes.{HasEngineEnd, end_of_engine}
 use Rattle.run_protocol.specs.Script.{state_after}
@@ -63,7 +66,7 @@ refused-stays state (Remove key) fault is =
 
 -- what is known of an update that was accepted
 pub record AcceptedUpdate (tells : Bool) (update : Update) (old new : World) (applied : Applied) : Type 0 where
-  pub faults : old.faults ≤ new.faults
+  pub faults : new.faults ≡ old.faults
   pub sink : new.sink_faults ≡ old.sink_faults
   pub said : IsTrue tells → new.said ≡ old.said
   pub stands : IsTrue tells → (state : Contents) → HoldsState old state → ((effect_of state update).answer ≡ Ok applied) × HoldsState new (effect_of state update).state
@@ -84,8 +87,9 @@ module _ (tells : Bool) (update : Update) (old new : World) (applied : Applied) 
   -- and the run goes on
   pub accepted-goes_on : HasEngineEnd tells old new (Ok reply)
   accepted-goes_on = record {
-    faults = accepted.faults;
+    faults = omega (arith, accepted.faults);
     sink = omega (arith, accepted.sink);
+    keeps = keeps-both old new (Ok reply) accepted.faults accepted.sink;
     stands = λ told state holds. ((effect_of state update).state, (accepted.stands told state holds).1);
     cause = tt;
   }
@@ -97,8 +101,10 @@ pub record RefusedUpdate (tells : Bool) (update : Update) (old new : World) (fau
   pub sink : new.sink_faults ≡ old.sink_faults
   pub on : fault ≡ engine.Stopped → ⊥
   pub disk : fault ≡ engine.Disk → Rose old.faults new.faults
+  pub stays : fault ≢ engine.Disk → new.faults ≡ old.faults
   pub said : IsTrue tells → new.said ≡ old.said
   pub due : IsTrue tells → (state : Contents) → HoldsState old state → IsDueTo (effect_of state update).answer fault
+  pub no_head : IsTrue tells → (damage : Damage) → fault ≡ engine.Damaged damage → damage.rule ≢ Head
   pub rests : IsTrue tells → (fault ≡ engine.Disk → ⊥) → Rests old new
   pub left_by : IsTrue tells → (state : Contents) → HoldsState old state → LeavesOnly old new (LeavesOneOf state (effect_of state update).state old)
 
@@ -138,6 +144,7 @@ module _ (tells : Bool) (update : Update) (old new : World) where
   limit-goes_on fault reply refused apart = record {
     faults = refused.faults;
     sink = omega (arith, refused.sink);
+    keeps = keeps-both old new (Ok reply) (refused.stays apart) refused.sink;
     stands = λ told state holds. (state, holds-same old new state (refused.rests told apart).seen holds);
     cause = tt;
   }
@@ -146,14 +153,14 @@ module _ (tells : Bool) (update : Update) (old new : World) where
   pub refused-cause : (fault : EngineFault) → RefusedUpdate tells update old new fault → HasEngineEnd tells old new (refused_by fault)
   refused-cause engine.Full refused = limit-goes_on engine.Full replies.Full refused (λ e. absurd (cc))
   refused-cause engine.Worn refused = limit-goes_on engine.Worn replies.Worn refused (λ e. absurd (cc))
-  refused-cause engine.Disk refused = record { faults = refused.faults; sink = omega (arith, refused.sink); stands = λ told. tt; cause = refused.disk refl }
+  refused-cause engine.Disk refused = record { faults = refused.faults; sink = omega (arith, refused.sink); keeps = keeps-fault Reply old new engine.Disk refused.stays refused.sink; stands = λ told. tt; cause = refused.disk refl }
   refused-cause engine.NotAStore refused = absurd refused.causes
   refused-cause (engine.BadJournal at) refused = absurd refused.causes
   refused-cause (engine.Damaged damage) refused =
-      record { faults = refused.faults; sink = omega (arith, refused.sink); stands = λ told. tt; cause = λ told state stands. refused.due told state stands }
-  refused-cause engine.NoRoom refused = record { faults = refused.faults; sink = omega (arith, refused.sink); stands = λ told. tt; cause = tt }
+      record { faults = refused.faults; sink = omega (arith, refused.sink); keeps = keeps-fault Reply old new (engine.Damaged damage) refused.stays refused.sink; stands = λ told. tt; cause = λ told. ((λ state stands. refused.due told state stands), refused.no_head told damage refl) }
+  refused-cause engine.NoRoom refused = record { faults = refused.faults; sink = omega (arith, refused.sink); keeps = keeps-fault Reply old new engine.NoRoom refused.stays refused.sink; stands = λ told. tt; cause = tt }
   refused-cause engine.Stopped refused = absurd (refused.on refl)
-  refused-cause engine.Memory refused = record { faults = refused.faults; sink = omega (arith, refused.sink); stands = λ told. tt; cause = tt }
+  refused-cause engine.Memory refused = record { faults = refused.faults; sink = omega (arith, refused.sink); keeps = keeps-fault Reply old new engine.Memory refused.stays refused.sink; stands = λ told. tt; cause = tt }
 
 -- ---- reads
 

@@ -22,6 +22,7 @@ use Rattle.run_protocol.specs.declared.ended.Ended.{Ended}
 use Rattle.run_protocol.specs.declared.ended.Ended.TheVariants as ends
 use Rattle.run_protocol.specs.declared.ended.LimitFault.TheVariants as limits
 use Rattle.script_run.specs.Lines.{StopsBeforeReply, RepliesTo, StopsAmong, RunsLines}
+use Rattle.run_protocol.proofs.Counts.{keeps-both}
 use Rattle.run_protocol.proofs.Reading.{holds-same}
 use Rattle.script_run.proofs.Asking.{reads-said}
 
@@ -30,6 +31,7 @@ pub say-goes_on : (tells : Bool) (old new : World) (bytes : List ℕ) {A T : Typ
 say-goes_on tells old new bytes value other says cause = record {
   faults = omega (arith, cause.disk);
   sink = cause.later;
+  keeps = keeps-both old new (Ok other) cause.disk cause.stays;
   stands = λ told state holds. (state, holds-same old new state (says told).seen holds);
   cause = tt;
 }

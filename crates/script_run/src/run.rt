@@ -73,7 +73,7 @@ fn take<'d, T: Station>(
 ///   station has room for at most the pages counted and as many more as an update is allowed to take.
 /// - `Source` if the source fails, after the replies to all lines whose LF was read.
 /// - `Disk`, `Sink` and `Memory` if one of them fails, after a prefix of the replies.
-/// - `Store(Damaged)` if a page breaks a rule; never if the image stands for a state. A script without updates names a page and a rule that it
+/// - `Store(Damaged)` if a page breaks a rule other than Head; never if the image stands for a state. A script without updates names a page and a rule that it
 ///   breaks, as the image at the start holds it.
 #[tactic(none)]
 pub fn run_script<'d, S: Source, T: Station>(

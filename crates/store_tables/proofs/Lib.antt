@@ -2,6 +2,7 @@ pub mod ChangeLemmas
 pub mod CodeLemmas
 pub mod EntryLemmas
 pub mod FrameLemmas
+pub mod Heads
 pub mod HoldLemmas
 pub mod KeyLemmas
 pub mod LookupLemmas

@@ -1,8 +1,10 @@
 -- Rows that aren't of their form.
-use Rattle.std.specs.Prelude.{◌≡◌, ◌≢◌, ◌⊎◌, ℕ, ◌≤◌, List, Option, Some, None, option_map, unwrap_or}
+use Rattle.std.specs.Prelude.{◌≡◌, ◌≢◌, ◌⊎◌, ℕ, ◌≤◌, List, Option, Some, None, Result, IsErrOf, option_map, unwrap_or}
 use Rattle.page_face.specs.FreeList.{PageMap}
 use Rattle.page_face.specs.declared.fault.Damage.{Damage}
-use Rattle.page_face.specs.declared.fault.Rule.TheVariants.{Value, Words}
+use Rattle.page_face.specs.declared.fault.PageFault.{PageFault}
+use Rattle.page_face.specs.declared.fault.PageFault.TheVariants.{Damaged}
+use Rattle.page_face.specs.declared.fault.Rule.TheVariants.{Head, Value, Words}
 use Rattle.btree_nodes.specs.declared.form.Form.{Form}
 use Rattle.btree_nodes.specs.Damages.{AskedSince}
 use Rattle.btree_nodes.specs.Rows.{Row, first_from, lookup}
@@ -106,3 +108,7 @@ IsReleaseDamage pages count tables number before asked damage =
     ⊎ ((damage.rule ≡ Value) × (bytes : List ℕ) × IsBrokenNumber pages tables.numbers before asked (number, bytes) damage.page)
     ⊎ (IsMapDamaged texts_form pages count tables.texts damage × AskedSince before asked damage.page)
     ⊎ ((damage ≡ words_disagree) × IsUnreleasable pages tables number)
+
+-- The damage that a call refuses for is of another rule than Head, which is page 0's own, and which the tables don't look at.
+abbrev pub SparesHead : {T : Type 0} → Result T PageFault → Type 0
+SparesHead result = (damage : Damage) → IsErrOf result (Damaged damage) → damage.rule ≢ Head

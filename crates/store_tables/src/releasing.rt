@@ -19,7 +19,7 @@ use term_impacts::Word;
 
 impl Tables {
     ghost use Rattle.store_tables.specs.Holding.{Holds, IsApart, IsChanged, numbers_form, table_uses, word_uses};
-    ghost use Rattle.store_tables.specs.Broken.{IsReleaseDamage};
+    ghost use Rattle.store_tables.specs.Broken.{SparesHead, IsReleaseDamage};
     ghost use Rattle.store_tables.specs.Rows.{IsNumberSpot};
     ghost use Rattle.store_tables.specs.Words.{CanRelease, without_hold};
 
@@ -68,6 +68,7 @@ impl Tables {
             → (damage : Damage) → IsErrOf result (PageFault.Damaged damage)
             → (IsMapDamaged numbers_form (P.pages pages.old) (P.count pages.old) self.old.numbers damage × AskedSince (P.asked pages.old) (P.asked pages.new) damage.page)
             ⊎ ((entries : Entries) (free : List ℕ) → Holds (P.pages pages.old) self.old entries → ¬ IsApart (view (P.pages pages.old) (P.count pages.old) (P.first pages.old) free) self.old) }
+        ensures no_head { ((p : P) → AreTold (P.pages p) (P.count p)) → SparesHead result }
         ensures own { (entries : Entries) (free : List ℕ) → Holds (P.pages pages.old) self.old entries → IsApart (view (P.pages pages.old) (P.count pages.old) (P.first pages.old) free) self.old
             → AreTold (P.pages pages.old) (P.count pages.old)
             → AsksOnly (word_uses (P.pages pages.old) self.old) (P.asked pages.old) (P.asked pages.new) }
@@ -108,6 +109,7 @@ impl Tables {
             → IsReleaseDamage (P.pages pages.old) (P.count pages.old) self.old number (P.asked pages.old) (P.asked pages.new) damage
             ⊎ IsRefusedTake (P.pages pages.new) (P.count pages.new) (P.first pages.new) damage
             ⊎ ((entries : Entries) (free : List ℕ) → Holds (P.pages pages.old) self.old entries → ¬ IsApart (view (P.pages pages.old) (P.count pages.old) (P.first pages.old) free) self.old) }
+        ensures no_head { ((p : P) → AreTold (P.pages p) (P.count p)) → SparesHead result }
         ensures own { (entries : Entries) (free : List ℕ) → Holds (P.pages pages.old) self.old entries → IsApart (view (P.pages pages.old) (P.count pages.old) (P.first pages.old) free) self.old
             → AreTold (P.pages pages.old) (P.count pages.old)
             → AsksOnly (word_uses (P.pages pages.old) self.old) (P.asked pages.old) (P.asked pages.new) }

@@ -59,7 +59,7 @@ fn hold_of(word: &Word, found: Option<u64>, row: Option<CountedRow>, places: u32
 
 impl Tables {
     ghost use Rattle.store_tables.specs.Holding.{Holds, IsApart, IsChanged, numbers_form, table_uses, texts_form, word_uses};
-    ghost use Rattle.store_tables.specs.Broken.{IsCountDamage, IsTextSought};
+    ghost use Rattle.store_tables.specs.Broken.{SparesHead, IsCountDamage, IsTextSought};
     ghost use Rattle.store_tables.specs.Rows.{IsNumberSpot};
     ghost use Rattle.store_tables.specs.Words.{CanHoldBy, next_after, number_for, places_of_number, with_holds};
 
@@ -83,6 +83,7 @@ impl Tables {
         ensures damaged { AreTold (P.pages pages.old) (P.count pages.old) → IsTextSought (P.pages pages.old) self.now word.now found
             → (damage : Damage) → IsErrOf result (PageFault.Damaged damage)
             → IsCountDamage places (P.pages pages.old) (P.count pages.old) self.now word.now (P.asked pages.old) (P.asked pages.new) damage }
+        ensures no_head { AreTold (P.pages pages.old) (P.count pages.old) → SparesHead result }
         ensures own { AreTold (P.pages pages.old) (P.count pages.old)
             → AsksOnly (word_uses (P.pages pages.old) self.now) (P.asked pages.old) (P.asked pages.new) }
         ensures fails { FailsReading P.Pages pages.old pages.new result }
@@ -111,6 +112,7 @@ impl Tables {
             → (IsMapDamaged numbers_form (P.pages pages.old) (P.count pages.old) self.old.numbers damage × AskedSince (P.asked pages.old) (P.asked pages.new) damage.page)
             ⊎ IsRefusedTake (P.pages pages.new) (P.count pages.new) (P.first pages.new) damage
             ⊎ ((entries : Entries) (free : List ℕ) → Holds (P.pages pages.old) self.old entries → ¬ IsApart (view (P.pages pages.old) (P.count pages.old) (P.first pages.old) free) self.old) }
+        ensures no_head { ((p : P) → AreTold (P.pages p) (P.count p)) → SparesHead result }
         ensures own { (entries : Entries) (free : List ℕ) → Holds (P.pages pages.old) self.old entries → IsApart (view (P.pages pages.old) (P.count pages.old) (P.first pages.old) free) self.old
             → AreTold (P.pages pages.old) (P.count pages.old)
             → AsksOnly (word_uses (P.pages pages.old) self.old) (P.asked pages.old) (P.asked pages.new) }
@@ -161,6 +163,7 @@ impl Tables {
             ⊎ IsRefusedTake (P.pages pages.new) (P.count pages.new) (P.first pages.new) damage
             ⊎ (IsTextSought (P.pages pages.old) self.old word.now None
             × ((entries : Entries) (free : List ℕ) → Holds (P.pages pages.old) self.old entries → ¬ IsApart (view (P.pages pages.old) (P.count pages.old) (P.first pages.old) free) self.old)) }
+        ensures no_head { ((p : P) → AreTold (P.pages p) (P.count p)) → SparesHead result }
         ensures own { (entries : Entries) (free : List ℕ) → Holds (P.pages pages.old) self.old entries → IsApart (view (P.pages pages.old) (P.count pages.old) (P.first pages.old) free) self.old
             → AreTold (P.pages pages.old) (P.count pages.old)
             → AsksOnly (word_uses (P.pages pages.old) self.old) (P.asked pages.old) (P.asked pages.new) }
@@ -217,6 +220,7 @@ impl Tables {
             ⊎ IsRefusedTake (P.pages pages.new) (P.count pages.new) (P.first pages.new) damage
             ⊎ (IsTextSought (P.pages pages.old) self.old word.now None
             × ((entries : Entries) (free : List ℕ) → Holds (P.pages pages.old) self.old entries → ¬ IsApart (view (P.pages pages.old) (P.count pages.old) (P.first pages.old) free) self.old)) }
+        ensures no_head { ((p : P) → AreTold (P.pages p) (P.count p)) → SparesHead result }
         ensures own { (entries : Entries) (free : List ℕ) → Holds (P.pages pages.old) self.old entries → IsApart (view (P.pages pages.old) (P.count pages.old) (P.first pages.old) free) self.old
             → AreTold (P.pages pages.old) (P.count pages.old)
             → AsksOnly (word_uses (P.pages pages.old) self.old) (P.asked pages.old) (P.asked pages.new) }

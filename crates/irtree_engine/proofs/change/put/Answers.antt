@@ -1,4 +1,4 @@
-use Rattle.std.proofs.Common.{◌≡◌, ℕ, ◌+◌, ◌<◌, ◌≤◌, ◌^◌, Bool, true, false, not, cond, List, ◌∷◌, Option, Some, IfSome, option_map, Ok, Err, Result, IfErr, is_none, is_some, sym, ap, subst, subst₂, ◌∙◌, true≢false, arith}
+use Rattle.std.proofs.Common.{◌≡◌, ⊎_elim, ℕ, ◌+◌, ◌<◌, ◌≤◌, ◌^◌, Bool, true, false, not, cond, List, ◌∷◌, Option, Some, IfSome, option_map, Ok, Err, Result, IfErr, is_none, is_some, refl, sym, ap, subst, subst₂, ◌∙◌, true≢false, arith}
 use Rattle.std.specs.Option.{option_copied}
 use Rattle.std.proofs.lemmas.Result.{err_from_is_err_and}
 use Rattle.page_face.specs.FreeList.{PageMap}
@@ -25,13 +25,18 @@ use Rattle.store_tables.specs.declared.tables.Tables.{Tables}
 use Rattle.store_tables.specs.Entries.{place_of_key}
 use Rattle.store_tables.specs.Holding.{Holds, IsApart, IsChanged, table_uses}
 use Rattle.store_tables.specs.Words.{WordTablesAgree, holders}
+use Rattle.store_tables.proofs.Heads.{place-spares_head}
 use Rattle.store_tables.proofs.ToldLemmas.{told-changed}
 use Rattle.irtree_engine.specs.declared.fault.EngineFault.{EngineFault}
-use Rattle.irtree_engine.specs.Changes.{block_with, tree_in}
+use Rattle.irtree_engine.specs.declared.fault.EngineFault.TheVariants.{Damaged}
+use Rattle.irtree_engine.specs.Changes.{AreNumbersAhead, block_with, head_with, tree_in}
+use Rattle.irtree_engine.specs.Faults.{fault_of_pages}
 use Rattle.irtree_engine.specs.Updates.{IsDueTo}
 use Rattle.irtree_engine.proofs.Dues.{passed-due}
 use Rattle.irtree_engine.proofs.Effects.{few-left, put-done, put-full, put-stands, put-worn, stand-same}
-use Rattle.irtree_engine.proofs.Standing.{stand-counted}
+use Rattle.irtree_engine.proofs.NoHead.{old-spares_head, tree-spares_head}
+use Rattle.irtree_engine.proofs.Numbers.{next-most, numbers-put, some-mapped}
+use Rattle.irtree_engine.proofs.Standing.{damaged-from, stand-counted}
 use Rattle.irtree_engine.proofs.Trees.{tree-has, tree-whole}
 use Rattle.irtree_engine.proofs.change.put.Goals as goal
 use Rattle.irtree_engine.proofs.change.put.Goals.{else-is_new-via-then-is_new+else-head-ge-PLACES_MAX, else-is_new-via-else-is_new, then-is_new-2, else-is_new-2}
@@ -214,7 +219,7 @@ returns-then-is_new-3-clause-updated g c = λ state name left stand later serial
     let done = put-done head (g.P.Pages.count mid) (g.P.Pages.first mid) (g.P.Pages.pages mid) state there c.args.key.now c.in_ok-old.old is_found c.args.serial place room less in (
       ap (λ (e : Effect). e.answer) done ∙ ap (λ b. Ok (cond b New Replaced)) (sym new_is ∙ c.if-is_new-3.true),
       subst (λ (h : Head). StandAhead numbers left (block_with (g.P.Pages.count last) (g.P.Pages.first last) h) (g.P.Pages.pages last) (put_at state c.args.key.now c.args.serial place).state) (sym c.head_after.ensures)
-          (put-stands numbers left head (g.P.Pages.count mid) (g.P.Pages.first mid) (g.P.Pages.pages mid) state c.args.key.now c.in_ok-old.old c.requires.range.number (g.P.Pages.pages after) (g.P.Pages.count after) (g.P.Pages.first after) (g.met.P.Pages.first_is_counted after) grows now
+          (put-stands numbers left head (g.P.Pages.count mid) (g.P.Pages.first mid) (g.P.Pages.pages mid) state c.args.key.now c.in_ok-old.old c.requires.numbers.2.number (g.P.Pages.pages after) (g.P.Pages.count after) (g.P.Pages.first after) (g.met.P.Pages.first_is_counted after) grows now
           (g.P.Pages.pages last) (g.P.Pages.count last) (g.P.Pages.first last) (g.met.P.Pages.first_is_counted last) c.put_entry.ensures.frame.count tree
           name c.args.point c.args.words.now c.args.serial c.if-is_new-2.live ahead is_found c.pairs.ensures.valid room (omega arith) less later serials above live next moves regrown),
     )
@@ -275,7 +280,64 @@ returns-else-is_new-3-clause-updated g c = λ state name left stand later serial
     let done = put-done head (g.P.Pages.count mid) (g.P.Pages.first mid) (g.P.Pages.pages mid) state there c.args.key.now c.in_ok-old.old is_found c.args.serial place room less in (
       ap (λ (e : Effect). e.answer) done ∙ ap (λ b. Ok (cond b New Replaced)) (sym new_is ∙ c.if-is_new-3.false),
       subst (λ (h : Head). StandAhead numbers left (block_with (g.P.Pages.count last) (g.P.Pages.first last) h) (g.P.Pages.pages last) (put_at state c.args.key.now c.args.serial place).state) (sym c.head_after.ensures)
-          (put-stands numbers left head (g.P.Pages.count mid) (g.P.Pages.first mid) (g.P.Pages.pages mid) state c.args.key.now c.in_ok-old.old c.requires.range.number (g.P.Pages.pages after) (g.P.Pages.count after) (g.P.Pages.first after) (g.met.P.Pages.first_is_counted after) grows now
+          (put-stands numbers left head (g.P.Pages.count mid) (g.P.Pages.first mid) (g.P.Pages.pages mid) state c.args.key.now c.in_ok-old.old c.requires.numbers.2.number (g.P.Pages.pages after) (g.P.Pages.count after) (g.P.Pages.first after) (g.met.P.Pages.first_is_counted after) grows now
           (g.P.Pages.pages last) (g.P.Pages.count last) (g.P.Pages.first last) (g.met.P.Pages.first_is_counted last) c.put_entry.ensures.frame.count tree
           name c.args.point c.args.words.now c.args.serial c.if-is_new-2.live ahead is_found c.pairs.ensures.valid room (omega arith) less later serials above live next moves regrown),
     )
+
+-- the next word number has its range
+pub put_in_batch-requires-clause-next : goal.put_in_batch-requires-clause-next
+put_in_batch-requires-clause-next g c =
+    let most = next-most _ _ c.args.head.now c.requires.numbers.2 in
+    let next = ap (λ (t : Tables). t.next_word) c.tables_of-tables.ensures in omega (arith, most, next)
+
+pub head_after-requires : goal.head_after-requires
+head_after-requires g c = c.requires.numbers.2.number
+
+pub returns-then-is_new-3-clause-numbers : goal.returns-then-is_new-3-clause-numbers
+returns-then-is_new-3-clause-numbers g c = λ name left are.
+    let head = c.args.head.now in
+    let numbers : Option (List (List ℕ × ℕ)) = option_map (λ numbers. numbers.entries) c.args.held.now in
+    let now = c.put_in_batch.new.tables in
+    let next : c.tables_of-tables.result.next_word ≡ head.next_word = ap (λ (t : Tables). t.next_word) c.tables_of-tables.ensures in
+    let rises = c.in_ok-new.ensures.rises in
+    subst (λ (h : Head). AreNumbersAhead numbers left h) (sym c.head_after.ensures)
+    (numbers-put numbers name c.args.point c.args.words.now left head (head_with head now c.put_entry.new.tree c.if-is_new-2.live c.args.serial) are (λ e. omega arith) refl c.requires.serial (omega (arith, next, rises))
+    (λ some. c.in_ok-new.ensures.none_new (some-mapped c.args.held.now _ some) ∙ next))
+
+pub returns-else-is_new-3-clause-numbers : goal.returns-else-is_new-3-clause-numbers
+returns-else-is_new-3-clause-numbers g c = λ name left are.
+    let head = c.args.head.now in
+    let numbers : Option (List (List ℕ × ℕ)) = option_map (λ numbers. numbers.entries) c.args.held.now in
+    let now = c.put_in_batch.new.tables in
+    let next : c.tables_of-tables.result.next_word ≡ head.next_word = ap (λ (t : Tables). t.next_word) c.tables_of-tables.ensures in
+    let rises = c.in_ok-new.ensures.rises in
+    subst (λ (h : Head). AreNumbersAhead numbers left h) (sym c.head_after.ensures)
+    (numbers-put numbers name c.args.point c.args.words.now left head (head_with head now c.put_entry.new.tree c.if-is_new-2.live c.args.serial) are (λ e. omega arith) refl c.requires.serial (omega (arith, next, rises))
+    (λ some. c.in_ok-new.ensures.none_new (some-mapped c.args.held.now _ some) ∙ next))
+
+pub returns-in_err-old-clause-no_head : goal.returns-in_err-old-clause-no_head
+returns-in_err-old-clause-no_head g c = λ told damage is.
+    let passed = err_from_is_err_and c.from_residual.result c.from_residual.ensures.1 in
+    let result_is = passed.1 in
+    let fault_is = passed.2 in
+    let was : fault_of_pages c.in_err-old.field-0.0 ≡ Damaged damage = cc in
+    place-spares_head _ _ _ _ _ _ damage (c.place.ensures.damaged (told c.args.pages.now) damage (c.in_err-old.was ∙ ap Err (damaged-from _ damage was)))
+
+pub returns-in_err-new-clause-no_head : goal.returns-in_err-new-clause-no_head
+returns-in_err-new-clause-no_head g c = λ told damage is.
+    let passed = err_from_is_err_and c.from_residual-in_err-new.result c.from_residual-in_err-new.ensures.1 in
+    let result_is = passed.1 in
+    let fault_is = passed.2 in
+    let was : fault_of_pages c.in_err-new.field-0.0 ≡ Damaged damage = cc in
+    c.put_in_batch.ensures.no_head told damage (c.in_err-new.was ∙ ap Err (damaged-from _ damage was))
+
+pub returns-in_err-put_entry-clause-no_head : goal.returns-in_err-put_entry-clause-no_head
+returns-in_err-put_entry-clause-no_head g c = λ told damage is.
+    let passed = err_from_is_err_and c.from_residual-in_err-put_entry.result c.from_residual-in_err-put_entry.ensures.1 in
+    let result_is = passed.1 in
+    let fault_is = passed.2 in
+    let was : fault_of_pages c.in_err-put_entry.field-0.0 ≡ Damaged damage = cc in
+    let last = c.put_entry.new.pages in
+    ⊎_elim (λ harm. tree-spares_head _ _ _ _ _ _ damage (told last) (g.met.P.Pages.first_is_counted last) harm) (λ old. old-spares_head _ _ _ _ _ _ _ damage old)
+    (c.put_entry.ensures.damaged (told c.put_in_batch.new.pages) damage (c.in_err-put_entry.was ∙ ap Err (damaged-from _ damage was)))

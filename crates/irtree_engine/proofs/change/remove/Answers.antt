@@ -1,4 +1,4 @@
-use Rattle.std.proofs.Common.{◌≡◌, ℕ, ◌-◌, ◌^◌, true, false, List, ◌∷◌, option_map, Option, Some, None, IfSome, Err, Result, IfErr, is_some, refl, sym, ap, subst, ◌∙◌, arith}
+use Rattle.std.proofs.Common.{◌≡◌, ⊎_elim, ℕ, ◌-◌, ◌^◌, true, false, List, ◌∷◌, option_map, Option, Some, None, IfSome, Err, Result, IfErr, is_some, refl, sym, ap, subst, ◌∙◌, arith}
 use Rattle.std.proofs.lemmas.Result.{err_from_is_err_and}
 use Rattle.page_face.specs.FreeList.{PageMap}
 use Rattle.page_face.specs.declared.head.Head.{Head}
@@ -23,13 +23,18 @@ use Rattle.store_tables.specs.declared.tables.Tables.{Tables}
 use Rattle.store_tables.specs.Entries.{place_of_key}
 use Rattle.store_tables.specs.Holding.{Holds, IsApart, IsChanged, table_uses}
 use Rattle.store_tables.specs.Words.{WordTablesAgree, holders}
+use Rattle.store_tables.proofs.Heads.{place-spares_head}
 use Rattle.store_tables.proofs.ToldLemmas.{told-changed}
 use Rattle.irtree_engine.specs.declared.fault.EngineFault.{EngineFault}
-use Rattle.irtree_engine.specs.Changes.{block_with, tree_in}
+use Rattle.irtree_engine.specs.declared.fault.EngineFault.TheVariants.{Damaged}
+use Rattle.irtree_engine.specs.Changes.{AreNumbersAhead, block_with, head_with, tree_in}
+use Rattle.irtree_engine.specs.Faults.{fault_of_pages}
 use Rattle.irtree_engine.specs.Updates.{IsDueTo}
 use Rattle.irtree_engine.proofs.Dues.{passed-due}
 use Rattle.irtree_engine.proofs.Effects.{remove-absent, remove-done, remove-stands, remove-worn, stand-same}
-use Rattle.irtree_engine.proofs.Standing.{stand-counted}
+use Rattle.irtree_engine.proofs.NoHead.{missing-spares_head, tree-spares_head}
+use Rattle.irtree_engine.proofs.Numbers.{numbers-absent, numbers-removed}
+use Rattle.irtree_engine.proofs.Standing.{damaged-from, stand-counted}
 use Rattle.irtree_engine.proofs.Trees.{tree-has, tree-whole}
 use Rattle.irtree_engine.proofs.change.remove.Goals as goal
 
@@ -189,7 +194,47 @@ returns-clause-updated g c = λ state left stand.
     let done = remove-done head (g.P.Pages.count mid) (g.P.Pages.first mid) (g.P.Pages.pages mid) state there c.args.key.now c.in_ok-old.field-0 is_found some less in (
       ap (λ (e : Effect). e.answer) done,
       subst (λ (h : Head). StandAhead numbers left (block_with (g.P.Pages.count last) (g.P.Pages.first last) h) (g.P.Pages.pages last) (removed_at state c.args.key.now).state) (sym c.head_after.ensures)
-          (remove-stands numbers left head (g.P.Pages.count mid) (g.P.Pages.first mid) (g.P.Pages.pages mid) state c.args.key.now c.in_ok-old.field-0 c.requires.range.number (g.P.Pages.pages after) (g.P.Pages.count after) (g.P.Pages.first after) (g.met.P.Pages.first_is_counted after) c.remove_place.ensures.frame.count now
+          (remove-stands numbers left head (g.P.Pages.count mid) (g.P.Pages.first mid) (g.P.Pages.pages mid) state c.args.key.now c.in_ok-old.field-0 c.requires.numbers.1.number (g.P.Pages.pages after) (g.P.Pages.count after) (g.P.Pages.first after) (g.met.P.Pages.first_is_counted after) c.remove_place.ensures.frame.count now
           (g.P.Pages.pages last) (g.P.Pages.count last) (g.P.Pages.first last) (g.met.P.Pages.first_is_counted last) c.take_entry.ensures.frame.count tree
           c.in-Some.old (head.live - 1) ahead is_found c.in-Some.is less (omega arith) next moves regrown),
     )
+
+pub head_after-requires : goal.head_after-requires
+head_after-requires g c = c.requires.numbers.1.number
+
+pub returns-in_default-clause-numbers : goal.returns-in_default-clause-numbers
+returns-in_default-clause-numbers g c = λ left are. numbers-absent _ c.args.key.now left c.args.head.now are
+
+pub returns-clause-numbers : goal.returns-clause-numbers
+returns-clause-numbers g c = λ left are.
+    let head = c.args.head.now in
+    let numbers : Option (List (List ℕ × ℕ)) = option_map (λ numbers. numbers.entries) c.args.held.now in
+    let now = c.remove_place.new.tables in
+    subst (λ (h : Head). AreNumbersAhead numbers left h) (sym c.head_after.ensures)
+    (numbers-removed numbers c.args.key.now left head (head_with head now c.take_entry.new.tree (head.live - 1) head.serial) are (λ e. omega arith) refl refl (c.remove_place.ensures.next ∙ ap (λ (t : Tables). t.next_word) c.tables_of-tables.ensures))
+
+pub returns-in_err-old-clause-no_head : goal.returns-in_err-old-clause-no_head
+returns-in_err-old-clause-no_head g c = λ told damage is.
+    let passed = err_from_is_err_and c.from_residual.result c.from_residual.ensures.1 in
+    let result_is = passed.1 in
+    let fault_is = passed.2 in
+    let was : fault_of_pages c.in_err-old.field-0.0 ≡ Damaged damage = cc in
+    place-spares_head _ _ _ _ _ _ damage (c.place.ensures.damaged (told c.args.pages.now) damage (c.in_err-old.was ∙ ap Err (damaged-from _ damage was)))
+
+pub returns-in_err-remove_place-clause-no_head : goal.returns-in_err-remove_place-clause-no_head
+returns-in_err-remove_place-clause-no_head g c = λ told damage is.
+    let passed = err_from_is_err_and c.from_residual-in_err-remove_place.result c.from_residual-in_err-remove_place.ensures.1 in
+    let result_is = passed.1 in
+    let fault_is = passed.2 in
+    let was : fault_of_pages c.in_err-remove_place.field-0.0 ≡ Damaged damage = cc in
+    c.remove_place.ensures.no_head told damage (c.in_err-remove_place.was ∙ ap Err (damaged-from _ damage was))
+
+pub returns-in_err-take_entry-clause-no_head : goal.returns-in_err-take_entry-clause-no_head
+returns-in_err-take_entry-clause-no_head g c = λ told damage is.
+    let passed = err_from_is_err_and c.from_residual-in_err-take_entry.result c.from_residual-in_err-take_entry.ensures.1 in
+    let result_is = passed.1 in
+    let fault_is = passed.2 in
+    let was : fault_of_pages c.in_err-take_entry.field-0.0 ≡ Damaged damage = cc in
+    let last = c.take_entry.new.pages in
+    ⊎_elim (λ harm. tree-spares_head _ _ _ _ _ _ damage (told last) (g.met.P.Pages.first_is_counted last) harm) (λ missing. missing-spares_head _ _ _ _ _ _ _ damage missing)
+    (c.take_entry.ensures.damaged (told c.remove_place.new.pages) damage (c.in_err-take_entry.was ∙ ap Err (damaged-from _ damage was)))

@@ -1,11 +1,14 @@
-use Rattle.std.proofs.Common.{◌≡◌, ◌+◌, ◌∷◌, length, Result, IfErr, sym, ap, subst, ◌∙◌, arith, rules}
+use Rattle.std.proofs.Common.{◌≡◌, ◌+◌, List, ◌∷◌, length, option_map, Err, Result, IfErr, sym, ap, subst, ◌∙◌, arith, rules}
 use Rattle.std.proofs.lemmas.Result.{err_from_is_err_and}
 use Rattle.std.specs.List.{AllByRecursion}
 use Rattle.irtree_engine.specs.declared.fault.EngineFault.{EngineFault}
-use Rattle.irtree_engine.specs.Changes.{block_with}
+use Rattle.irtree_engine.specs.declared.fault.EngineFault.TheVariants.{Damaged}
+use Rattle.irtree_engine.specs.Changes.{AreNumbersAhead, block_with}
+use Rattle.place_map.specs.declared.update.Update.{Update}
 use Rattle.place_map.specs.Update.{NamesText}
 use Rattle.irtree_engine.specs.Updates.{IsDueTo, state_after_all}
 use Rattle.irtree_engine.proofs.Batches.{updated-all, updated-due, updated-more, updated-next, updated-none}
+use Rattle.irtree_engine.proofs.Numbers.{numbers-ended}
 use Rattle.irtree_engine.proofs.change.update_all.Goals as goal
 
 -- src/change.rt:113:16
@@ -21,8 +24,9 @@ loop-next-init g c =
     let held = c.hold_ahead.ensures in
     let live = held.same.0 in
     let number = held.same.1 in record {
-      keys = c.requires;
+      keys = c.requires.texts;
       stand = λ state stand. updated-none _ state c.args.updates.now _ _ (c.in_ok-held.ensures.begun state stand);
+      ahead = c.in_ok-held.ensures.numbers;
       lives = omega (arith, live);
       numbers = omega (arith, number);
       room = held.room;
@@ -71,6 +75,7 @@ loop-next-preserved g c =
           let ahead = updated-next are c.in-Some.next.now c.in-Some.rest.now is in
           let updated = c.in_ok-update_in_batch.ensures.updated are.now c.in-Some.rest.now ahead in
           updated-more are c.in-Some.next.now c.in-Some.rest.now is (block_with (g.P.Pages.count c.update_in_batch.new.pages) (g.P.Pages.first c.update_in_batch.new.pages) c.update_in_batch.new.head) (g.P.Pages.pages c.update_in_batch.new.pages) c.in_ok-update_in_batch.field-0 updated.0 updated.1;
+      ahead = c.in_ok-update_in_batch.ensures.numbers c.in-Some.rest.now (subst (λ (us : List Update). AreNumbersAhead (option_map (λ numbers. numbers.entries) c.loop-next.held-1) us c.loop-next.head) is invariant.ahead);
       lives = omega (arith, long, more_live, lives);
       numbers = omega (arith, long, more_number, numbers);
       room = c.update_in_batch.ensures.room ∙ invariant.room;
@@ -84,3 +89,27 @@ loop-next-preserved g c =
 pub returns-clause-updated : goal.returns-clause-updated
 returns-clause-updated g c = λ state stand.
     updated-all c.loop-next.left.now (c.loop-next.invariant.stand state stand) c.in_default.ensures.cases
+
+pub update_in_batch-requires-clause-numbers : goal.update_in_batch-requires-clause-numbers
+update_in_batch-requires-clause-numbers g c =
+    let is : c.loop-next.left.now ≡ c.in-Some.next.now ∷ c.in-Some.rest.now = search rules in
+    (c.in-Some.rest.now, subst (λ (us : List Update). AreNumbersAhead (option_map (λ numbers. numbers.entries) c.loop-next.held-1) us c.loop-next.head) is c.loop-next.invariant.ahead)
+
+pub returns-clause-numbers : goal.returns-clause-numbers
+returns-clause-numbers g c = numbers-ended _ c.loop-next.left.now c.loop-next.head c.in_default.ensures.cases c.loop-next.invariant.ahead
+
+pub returns-in_err-held-clause-no_head : goal.returns-in_err-held-clause-no_head
+returns-in_err-held-clause-no_head g c = λ told damage is.
+    let passed = err_from_is_err_and c.from_residual.result c.from_residual.ensures.1 in
+    let result_is = passed.1 in
+    let fault_is = passed.2 in
+    let was : c.in_err-held.field-0.0 ≡ Damaged damage = cc in
+    c.hold_ahead.ensures.no_head told damage (c.in_err-held.was ∙ ap Err was)
+
+pub returns-in_err-update_in_batch-clause-no_head : goal.returns-in_err-update_in_batch-clause-no_head
+returns-in_err-update_in_batch-clause-no_head g c = λ told damage is.
+    let passed = err_from_is_err_and c.from_residual-in_err-update_in_batch.result c.from_residual-in_err-update_in_batch.ensures.1 in
+    let result_is = passed.1 in
+    let fault_is = passed.2 in
+    let was : c.in_err-update_in_batch.field-0.0 ≡ Damaged damage = cc in
+    c.update_in_batch.ensures.no_head told damage (c.in_err-update_in_batch.was ∙ ap Err was)

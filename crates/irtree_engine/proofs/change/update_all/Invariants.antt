@@ -2,7 +2,7 @@ use Rattle.std.proofs.Common.{◌≡◌, ◌+◌, ◌≤◌, length, option_map}
 use Rattle.std.specs.List.{AllByRecursion}
 use Rattle.place_map.specs.State.{Contents}
 use Rattle.store_meaning.specs.Stands.{PagesStand}
-use Rattle.irtree_engine.specs.Changes.{block_with}
+use Rattle.irtree_engine.specs.Changes.{AreNumbersAhead, block_with}
 use Rattle.place_map.specs.Update.{NamesText}
 use Rattle.irtree_engine.proofs.Batches.{AreUpdated}
 use Rattle.irtree_engine.proofs.change.update_all.Given as goal
@@ -12,6 +12,7 @@ invariant-loop-next g l = record {
   keys : AllByRecursion NamesText l.left;
   stand : (state : Contents) → PagesStand (block_with (g.P.Pages.count l.fn.pages) (g.P.Pages.first l.fn.pages) l.fn.head) (g.P.Pages.pages l.fn.pages) state
       → AreUpdated (option_map (λ numbers. numbers.entries) l.held) state l.fn.updates l.left (block_with (g.P.Pages.count l.pages) (g.P.Pages.first l.pages) l.head) (g.P.Pages.pages l.pages);
+  ahead : AreNumbersAhead (option_map (λ numbers. numbers.entries) l.held) l.left l.head;
   lives : l.head.live + length l.left ≤ l.fn.head.live + length l.fn.updates;
   numbers : l.head.number + length l.left ≤ l.fn.head.number + length l.fn.updates;
   room : g.P.Pages.room l.pages ≡ g.P.Pages.room l.fn.pages;

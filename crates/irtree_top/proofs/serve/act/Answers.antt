@@ -1,4 +1,4 @@
-use Rattle.std.proofs.Common.{◌≡◌, ℕ, [], List, OnOk, refl, sym, subst, ◌∙◌, arith}
+use Rattle.std.proofs.Common.{◌≡◌, ℕ, [], List, OnOk, refl, sym, subst, ◌∙◌}
 use Rattle.std.specs.Prelude.{Option, Result, Err, IfErr, option_map, string_bytes}
 use Rattle.disk_model.specs.World.{LeavesOnly}
 use Rattle.load_run.specs.Loading.{EndsLoad}
@@ -100,7 +100,7 @@ returns-in-Make-clause-any_moment g c = λ tells told state holds.
 pub returns-in-Make-clause-cause : goal.returns-in-Make-clause-cause
 returns-in-Make-clause-cause g c =
     let faults = g.S.Source.faults c.args.source.now in
-    job-of-engine g.T.Disk.tells faults faults (g.T.Disk.world c.args.engine.now.store.disk.now) (g.T.Disk.world c.run_make.new.engine.store.disk.now) c.run_make.result (omega arith) c.run_make.ensures.cause
+    job-of-engine g.T.Disk.tells faults faults (g.T.Disk.world c.args.engine.now.store.disk.now) (g.T.Disk.world c.run_make.new.engine.store.disk.now) c.run_make.result refl c.run_make.ensures.cause
 
 pub returns-in-Make-clause-input : goal.returns-in-Make-clause-input
 returns-in-Make-clause-input g c = λ tells fault is.

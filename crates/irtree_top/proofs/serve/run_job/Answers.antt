@@ -7,6 +7,7 @@ use Rattle.disk_model.proofs.Moments.{then, within}
 use Rattle.irtree_engine.specs.Holding.{HoldsState}
 use Rattle.page_store.specs.declared.superblock.Superblock.{Superblock}
 use Rattle.run_protocol.specs.Causes.{HasJobEnd}
+use Rattle.run_protocol.proofs.Counts.{keeps-fault}
 use Rattle.run_protocol.specs.declared.ended.Ended.{Ended}
 use Rattle.run_protocol.specs.declared.ended.Ended.TheVariants as ends
 use Rattle.run_protocol.specs.declared.ended.LimitFault.TheVariants as limits
@@ -72,6 +73,8 @@ returns-in-Err-clause-cause g c = record {
   source = omega arith;
   faults = c.recover_superblock.ensures.later;
   sink = omega (arith, c.recover_superblock.ensures.sink);
+  reads = λ other read. refl;
+  keeps = rw c.ended_by.ensures (keeps-fault (Unit {0}) _ _ c.in-Err.fault (λ apart. c.recover_superblock.ensures.stays (λ e. apart (cc))) c.recover_superblock.ensures.sink);
   opened = λ told. tt;
   cause = rw c.ended_by.ensures (refused-cause g.T.Disk.tells (g.S.Source.faults c.args.source.now) (g.T.Disk.world c.args.station.now) (g.T.Disk.world c.recover_superblock.new.disk) c.in-Err.fault c.in-Err.ensures.causes (refuses g (goal.at.returns-in-Err-clause-cause g c).After-ended_by));
 }
@@ -116,7 +119,7 @@ returns-clause-cause g c =
     let source = g.S.Source.faults in
     let over : c.over-engine.result.store.disk.now ≡ c.recover_superblock.new.disk = c.over-engine.ensures.disk in
     given-back (λ disk. HasRunEnd g.T.Disk.tells (source c.args.source.now) (source c.serve-end.new.source) (world c.args.station.now) (world disk) c.serve-end.result) c.serve-end.new.engine.store.disk.now _ (search rules)
-    (job-cause g.T.Disk.tells (world c.args.station.now) (world c.recover_superblock.new.disk) (world c.serve-end.new.engine.store.disk.now) c.recover_superblock.ensures.later c.recover_superblock.ensures.sink
+    (job-cause g.T.Disk.tells (world c.args.station.now) (world c.recover_superblock.new.disk) (world c.serve-end.new.engine.store.disk.now) (c.recover_superblock.ensures.stays (λ e. absurd (cc))) c.recover_superblock.ensures.sink
     (λ told. opened-image c.in-Ok.block (world c.args.station.now) (world c.recover_superblock.new.disk) (c.in-Ok.ensures.opened told))
     (λ told state holds. c.in-Ok.ensures.holds told state holds) (Unit {0})
     (source c.args.source.now) (source c.serve-end.new.source) c.serve-end.result

@@ -49,7 +49,7 @@ pub returns-in-Ok-clause-cause : goal.returns-in-Ok-clause-cause
 returns-in-Ok-clause-cause g c =
     let world = g.T.Disk.world in
     cause-settled g.T.Disk.tells (g.S.Source.faults c.args.source.now) (g.S.Source.faults c.act-end.new.source) (world c.args.engine.now.store.disk.now) (world c.act-end.new.engine.store.disk.now) (world c.settle.new.engine.store.disk.now)
-    c.settle.ensures.cause.later c.settle.ensures.cause.sink (Unit {0}) (λ told held stands. c.in-Ok.ensures.holds told held stands) c.act-end.result c.act-end.ensures.cause
+    c.in-Ok.ensures.cause.stays c.settle.ensures.cause.sink (Unit {0}) (λ told held stands. c.in-Ok.ensures.holds told held stands) c.act-end.result c.act-end.ensures.cause
 
 pub returns-in-Err-clause-told : goal.returns-in-Err-clause-told
 returns-in-Err-clause-told g c = λ tells told state holds.
@@ -68,6 +68,8 @@ returns-in-Err-clause-cause g c = record {
   source = c.act-end.ensures.cause.source;
   faults = omega (arith, c.act-end.ensures.cause.faults, c.settle.ensures.cause.later);
   sink = omega (arith, c.act-end.ensures.cause.sink, c.settle.ensures.cause.sink);
+  reads = λ other read. absurd (other refl);
+  keeps = record { disk = λ other. absurd (other refl); sink = λ other said. absurd (other refl) };
   stands = λ t. tt;
   cause = omega (arith, c.in-Err.ensures.cause.rose, c.act-end.ensures.cause.faults);
 }

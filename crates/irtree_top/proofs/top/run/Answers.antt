@@ -105,6 +105,24 @@ returns-in-Ok-clause-unread g c = λ asked wants makes.
     let same : asked_of c.in-Ok.job ≡ asked = cc (c.in-Ok.ensures.reading) in
     c.in-Err.ensures.unread (ap (λ (a : Asked). a.action) same ∙ makes)
 
+pub returns-in-Ok-run_job-clause-disk_told : goal.returns-in-Ok-run_job-clause-disk_told
+returns-in-Ok-run_job-clause-disk_told g c = λ other. c.in-Ok-run_job.ensures.cause.keeps.disk (λ e. absurd (cc))
+
+pub returns-in-Ok-clause-disk_told : goal.returns-in-Ok-clause-disk_told
+returns-in-Ok-clause-disk_told g c = λ other. c.in-Err.ensures.cause.keeps.disk (λ e. other (cc))
+
+pub returns-in-Ok-run_job-clause-source_told : goal.returns-in-Ok-run_job-clause-source_told
+returns-in-Ok-run_job-clause-source_told g c = λ other read. c.in-Ok-run_job.ensures.cause.reads (λ e. absurd (cc)) (λ e. absurd (cc))
+
+pub returns-in-Ok-clause-source_told : goal.returns-in-Ok-clause-source_told
+returns-in-Ok-clause-source_told g c = λ other read. c.in-Err.ensures.cause.reads (λ e. other (cc)) (λ e. read (cc))
+
+pub returns-in-Ok-run_job-clause-sink_told : goal.returns-in-Ok-run_job-clause-sink_told
+returns-in-Ok-run_job-clause-sink_told g c = λ other said. c.in-Ok-run_job.ensures.cause.keeps.sink (λ e. absurd (cc)) (λ e. absurd (cc))
+
+pub returns-in-Ok-clause-sink_told : goal.returns-in-Ok-clause-sink_told
+returns-in-Ok-clause-sink_told g c = λ other said. c.in-Err.ensures.cause.keeps.sink (λ e. other (cc)) (λ e. said (cc))
+
 pub returns-in-Ok-clause-complete : goal.returns-in-Ok-clause-complete
 returns-in-Ok-clause-complete g c = λ asked wants told state holds source disk sink.
     let same : asked_of c.in-Ok.job ≡ asked = cc (c.in-Ok.ensures.reading) in

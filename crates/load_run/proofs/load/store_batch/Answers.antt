@@ -1,10 +1,11 @@
-use Rattle.std.proofs.Common.{◌≡◌, ◌≢◌, length, Err, ap, sym, ◌∙◌, arith}
+use Rattle.std.proofs.Common.{◌≡◌, ◌≢◌, length, Ok, Err, ap, sym, ◌∙◌, arith}
 use Rattle.std.proofs.lemmas.Bool.{false≢true}
 use Rattle.page_store.specs.declared.superblock.Superblock.{Superblock}
 use Rattle.irtree_engine.specs.declared.fault.EngineFault.TheVariants as engine
 use Rattle.run_protocol.specs.Causes.{end_of_engine}
 use Rattle.run_protocol.specs.declared.ended.Ended.TheVariants as ends
 use Rattle.run_protocol.specs.declared.ended.LimitFault.TheVariants as limits
+use Rattle.run_protocol.proofs.Counts.{keeps-both}
 use Rattle.run_protocol.proofs.Rooms.{lacks-image}
 use Rattle.load_run.proofs.Numbers.{ended-full, limit-more, limit-of-engine}
 use Rattle.load_run.proofs.Batches.{failed, outcome-holds, not-stored, not-stored-cause}
@@ -22,6 +23,7 @@ pub returns-in-Ok-clause-cause : goal.returns-in-Ok-clause-cause
 returns-in-Ok-clause-cause g c = record {
   faults = c.in-Ok.ensures.later;
   sink = omega (arith, c.in-Ok.ensures.sink);
+  keeps = keeps-both _ _ (Ok tt) (c.in-Ok.ensures.stays (λ e. absurd (cc))) c.in-Ok.ensures.sink;
   stands = λ told state holds. let came = outcome-holds _ _ (c.in-Ok.ensures.applied told state holds) in (came.0, came.2);
   cause = tt;
 }
@@ -43,7 +45,7 @@ returns-in-Err-clause-cause g c =
     let was = c.in-Err.ensures in
     let on : failed c.in-Err.fault ≢ failed engine.Stopped = λ e. false≢true (sym c.requires.on ∙ was.stopped.0 e) in
     rw c.ended_by.ensures (not-stored-cause g.T.Disk.tells c.args.updates.now (g.T.Disk.world c.args.engine.now.store.disk.now) (g.T.Disk.world c.apply_batch.new.self.store.disk.now) c.in-Err.fault (Unit {0}) was.causes on
-    was.disk was.due was.later was.sink)
+    was.disk was.due was.no_head was.stays was.later was.sink)
 
 pub returns-in-Ok-clause-rises : goal.returns-in-Ok-clause-rises
 returns-in-Ok-clause-rises g c = record { live = omega (arith, c.in-Ok.ensures.rises.0); number = omega (arith, c.in-Ok.ensures.rises.1); limit = tt }

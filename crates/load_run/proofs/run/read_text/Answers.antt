@@ -1,4 +1,4 @@
-use Rattle.std.proofs.Common.{◌++◌, length, take, drop, sym, ap, ◌∙◌, arith}
+use Rattle.std.proofs.Common.{◌++◌, length, take, drop, refl, sym, ap, ◌∙◌, arith}
 use Rattle.load_run.proofs.Outcomes.{read-whole, read-more, read-long, take-over}
 use Rattle.load_run.proofs.run.read_text.Goals as goal
 
@@ -21,4 +21,12 @@ pieces-preserved g c = record {
       ((c.in-Ok-read.ensures.told tells).given ∙ ap (λ b. b ++ g.S.Source.left c.read.new.self) (sym (take-over c.in-Ok-read.n c.pieces.piece.len c.read.new.buf (drop (length c.read.new.buf) c.pieces.piece.items) c.in-Ok-read.ensures.count (omega (arith, c.read.auto.buf, c.deref_mut.ensures.len, c.pieces.invariant.room))) ∙ ap (take c.in-Ok-read.n) (sym c.as_slice.ensures.value) ∙ sym c.split_at.ensures.front))
       c.in-Ok-extend_from_slice.ensures.items;
   later = omega (arith, c.in-Ok-read.ensures.cause.later, c.pieces.invariant.later);
+  stays = c.in-Ok-read.ensures.cause.stays ∙ c.pieces.invariant.stays;
+}
+
+pub returns-in-Err-read-clause-cause : goal.returns-in-Err-read-clause-cause
+returns-in-Err-read-clause-cause g c = record {
+  later = omega (arith, c.in-Err-read.ensures.cause.later, c.pieces.invariant.later);
+  stays = λ other. absurd (other refl);
+  cause = omega (arith, c.in-Err-read.ensures.cause.rose, c.pieces.invariant.later);
 }

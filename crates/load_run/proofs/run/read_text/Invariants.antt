@@ -8,6 +8,7 @@ invariant-pieces g l = record {
   room : vec_len l.piece ≡ 65536;
   came : IsTrue g.S.Source.tells → g.S.Source.left l.fn.source ≡ l.text.items ++ g.S.Source.left l.source;
   later : g.S.Source.faults l.fn.source ≤ g.S.Source.faults l.source;
+  stays : g.S.Source.faults l.source ≡ g.S.Source.faults l.fn.source;
 }
 
 abbrev pub decreases-pieces : goal.decreases-pieces

@@ -31,7 +31,7 @@ returns-in-Ok-take-clause-any_moment g c = λ tells told state holds.
 
 pub returns-in-Ok-take-clause-cause : goal.returns-in-Ok-take-clause-cause
 returns-in-Ok-take-clause-cause g c = job-of-engine g.T.Disk.tells (g.S.Source.faults c.args.source.now) (g.S.Source.faults c.read_text.new.source) (g.T.Disk.world c.args.engine.now.store.disk.now) (g.T.Disk.world c.store_items.new.engine.store.disk.now) c.store_items.result
-    c.in-Ok.ensures.cause.later c.store_items.ensures.cause
+    (c.in-Ok.ensures.cause.stays (λ e. absurd (cc))) c.store_items.ensures.cause
 
 pub returns-clause-told : goal.returns-clause-told
 returns-clause-told g c = λ tells told state holds.

@@ -21,7 +21,9 @@ refused g c = record {
   sink = c.in-Err-answer.ensures.sink;
   on = λ e. false≢true (sym c.requires.on ∙ c.in-Err-answer.ensures.stopped.0 (ap Err e));
   disk = λ e. c.in-Err-answer.ensures.disk (ap Err e);
+  stays = λ apart. c.in-Err-answer.ensures.stays (λ e. apart (cc));
   honest = λ told state holds damage e. c.in-Err-answer.ensures.honest told state holds damage (ap Err e);
+  no_head = λ told damage e. c.in-Err-answer.ensures.no_head told damage (ap Err e);
   rests = c.in-Err-answer.ensures.rests;
 }
 
@@ -43,7 +45,7 @@ returns-in-Ok-answer-clause-told g c = λ told state holds.
     counts-answer state _ c.in-Ok.query c.in-Ok-answer.answer c.counted.result c.in-Ok.ensures.query (c.in-Ok-answer.ensures.answered told state holds) c.counted.ensures.counts
 
 pub returns-in-Ok-answer-clause-cause : goal.returns-in-Ok-answer-clause-cause
-returns-in-Ok-answer-clause-cause g c = read-goes_on g.T.Disk.tells (g.T.Disk.world c.args.engine.now.store.disk.now) (g.T.Disk.world c.answer.new.self.store.disk.now) c.counted.result c.in-Ok-answer.ensures.rests c.in-Ok-answer.ensures.later c.in-Ok-answer.ensures.sink
+returns-in-Ok-answer-clause-cause g c = read-goes_on g.T.Disk.tells (g.T.Disk.world c.args.engine.now.store.disk.now) (g.T.Disk.world c.answer.new.self.store.disk.now) c.counted.result c.in-Ok-answer.ensures.rests (c.in-Ok-answer.ensures.stays (λ e. absurd (cc))) c.in-Ok-answer.ensures.sink
 
 pub returns-in-Ok-answer-clause-rises : goal.returns-in-Ok-answer-clause-rises
 returns-in-Ok-answer-clause-rises g c =

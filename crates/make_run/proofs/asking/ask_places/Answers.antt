@@ -1,6 +1,7 @@
 use Rattle.std.proofs.Common.{◌≡◌, ℕ, refl, subst, ◌∙◌, arith}
 use Rattle.std.specs.Prelude.{Result, Ok, Err}
 use Rattle.run_protocol.specs.declared.ended.Ended.{Ended}
+use Rattle.run_protocol.proofs.Counts.{keeps-done}
 use Rattle.run_protocol.proofs.Reading.{holds-same, rests-still, rests-then}
 use Rattle.load_run.proofs.Causes.{engine-lacks, engine-none, engine-then}
 use Rattle.load_run.proofs.Numbers.{rises-then}
@@ -48,7 +49,7 @@ loop-number-preserved g c =
       rests = λ told. rests-then (i.rests told) (c.in-Ok-ask.ensures.rests told);
       rises = rises-then 0 0 0 c.args.engine.now.store.current.head tt 0 0 c.loop-number.engine.store.current.head c.ask.new.engine.store.current.head done i.rises
           (record { live = c.in-Ok-ask.ensures.rises.live; number = c.in-Ok-ask.ensures.rises.number; limit = tt });
-      cause = engine-then i.cause done (record { faults = asked.faults; sink = asked.sink; stands = asked.stands; cause = tt });
+      cause = engine-then i.cause done (record { faults = asked.faults; sink = asked.sink; keeps = keeps-done now _ c.in-Ok-ask.here done asked.keeps; stands = asked.stands; cause = tt });
     }
 
 -- ---- want of memory
@@ -86,7 +87,7 @@ returns-clause-told g c = λ told state holds.
 pub returns-clause-cause : goal.returns-clause-cause
 returns-clause-cause g c =
     let i = c.loop-number.invariant.cause in
-    record { faults = i.faults; sink = i.sink; stands = i.stands; cause = tt }
+    record { faults = i.faults; sink = i.sink; keeps = keeps-done _ _ tt (Ok c.loop-number.found) i.keeps; stands = i.stands; cause = tt }
 
 pub returns-clause-rises : goal.returns-clause-rises
 returns-clause-rises g c =

@@ -27,12 +27,12 @@ loop-word-preserved g c =
     let invariant = c.loop-word.invariant in
     let step : c.loop-word.word-iterator ≡ (c.in-Some.word.now, c.in-Some.places.now) ∷ c.next.new.self = c.in-Some.ensures.steps in
     let long : length c.loop-word.word-iterator ≡ length c.next.new.self + 1 = search rules in
-    let next = invariant.next in
-    let rises = c.in_ok-number.ensures.rises in
+    let rises = invariant.rises in
+    let more = c.in_ok-number.ensures.rises in
     let frame = c.hold.ensures.frame in record {
       goes = tt;
       ends = tt;
-      next = omega (arith, long, next, rises);
+      rises = omega (arith, long, rises, more);
       held = λ entries free holds apart.
           let held = invariant.held entries free holds apart in
           let h = c.in_ok-number.ensures.held held.0 held.1.free held.1.holds held.1.apart in
@@ -53,3 +53,9 @@ loop-word-preserved g c =
       goes_on = frame.goes_on ∙ invariant.goes_on;
       follows = g.met.P.Pages.goes_further _ _ _ invariant.follows frame.follows;
     }
+
+pub returns-in_err-number-clause-no_head : goal.returns-in_err-number-clause-no_head
+returns-in_err-number-clause-no_head g c told damage =
+    let p = err_from_is_err_and c.from_residual.result c.from_residual.ensures.1 in
+    λ e. (let same : c.in_err-number.field-0.0 ≡ Damaged damage = cc (p.1, p.2, e) in
+    c.in_err-number.ensures.no_head told damage (ap Err same))

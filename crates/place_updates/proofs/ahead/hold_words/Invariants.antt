@@ -1,4 +1,4 @@
-use Rattle.std.proofs.Common.{◌≡◌, ℕ, ◌+◌, ◌≤◌, ◌^◌, List, [], length, fold}
+use Rattle.std.proofs.Common.{◌≡◌, ℕ, ◌+◌, ◌≤◌, List, [], length, fold}
 use Rattle.btree_nodes.specs.Supply.{view}
 use Rattle.store_tables.specs.Entries.{Entries}
 use Rattle.store_tables.specs.Holding.{Holds, IsApart, IsChanged}
@@ -9,7 +9,7 @@ abbrev pub invariant-loop-word : goal.invariant-loop-word
 invariant-loop-word g l = record {
   goes : (goal.iterator-loop-word g).can_next l.word-iterator;
   ends : (goal.iterator-loop-word g).is_finite l.word-iterator;
-  next : l.tables.next_word + length l.word-iterator ≤ 2 ^ 63;
+  rises : l.tables.next_word + length l.word-iterator ≤ l.fn.tables.next_word + length l.fn.counts.entries;
   held : (entries : Entries) (free : List ℕ) → Holds (g.P.Pages.pages l.fn.pages) l.fn.tables entries → IsApart (view (g.P.Pages.pages l.fn.pages) (g.P.Pages.count l.fn.pages) (g.P.Pages.first l.fn.pages) free) l.fn.tables
       → (now : Entries)
       × IsChanged (view (g.P.Pages.pages l.fn.pages) (g.P.Pages.count l.fn.pages) (g.P.Pages.first l.fn.pages) free) l.fn.tables (g.P.Pages.pages l.pages) (g.P.Pages.count l.pages) (g.P.Pages.first l.pages) l.tables now

@@ -5,13 +5,14 @@ use Rattle.std.specs.Map.{keys_of}
 use Rattle.page_face.specs.declared.fault.PageFault.TheVariants.{Damaged}
 use Rattle.btree_nodes.specs.Supply.{View, view}
 use Rattle.store_tables.specs.Entries.{Entries, place_of_key}
-use Rattle.store_tables.specs.Holding.{IsChanged}
+use Rattle.store_tables.specs.Holding.{IsChanged, places_form}
 use Rattle.store_tables.proofs.FrameLemmas.{changed-further}
+use Rattle.store_tables.proofs.Heads.{put-spares_head, words-spares_head}
 use Rattle.store_tables.proofs.ToldLemmas.{told-changed}
 use Rattle.store_meaning.specs.Updates.{pairs_of}
 use Rattle.store_meaning.proofs.Held.{can-release-held}
 use Rattle.store_meaning.proofs.Maps.{ascending-holds}
-use Rattle.place_updates.specs.Numbers.{IsKnownIn}
+use Rattle.place_updates.specs.Numbers.{IsKnownIn, IsPairFault}
 use Rattle.place_updates.proofs.Heldputs.{can-release-after, held-after, held-stored, known-in}
 use Rattle.place_updates.proofs.held.put_held.Goals as goal
 
@@ -55,3 +56,22 @@ returns-clause-put g c entries free holds apart was =
           pairs c.new-pairs.ensures.empty c.pairs.ensures.pairs c.in_ok-pair_words.ensures.paired c.place_with-stored.ensures.pairs)
           (changed-further put.1 rest),
     )
+
+pub returns-in_err-pair_words-clause-no_head : goal.returns-in_err-pair_words-clause-no_head
+returns-in_err-pair_words-clause-no_head g c told damage =
+    let p = err_from_is_err_and c.from_residual.result c.from_residual.ensures.1 in
+    λ e. (let same : c.in_err-pair_words.field-0.0 ≡ Damaged damage = cc (p.1, p.2, e) in
+    words-spares_head damage (subst IsPairFault same c.in_err-pair_words.ensures.causes))
+
+pub returns-in_err-put_place-clause-no_head : goal.returns-in_err-put_place-clause-no_head
+returns-in_err-put_place-clause-no_head g c told damage =
+    let p = err_from_is_err_and c.from_residual-in_err-put_place.result c.from_residual-in_err-put_place.ensures.1 in
+    λ e. (let same : c.in_err-put_place.field-0.0 ≡ Damaged damage = cc (p.1, p.2, e) in
+    put-spares_head places_form (g.P.Pages.pages c.args.pages.now) (g.P.Pages.count c.args.pages.now) c.args.tables.now.places (g.P.Pages.pages c.put_place.new.pages) (g.P.Pages.count c.put_place.new.pages) (g.P.Pages.first c.put_place.new.pages) _ _ damage
+    (told c.put_place.new.pages) (g.met.P.Pages.first_is_counted c.put_place.new.pages) (c.in_err-put_place.ensures.damaged (told c.args.pages.now) damage (ap Err same)))
+
+pub returns-in_err-release_words-clause-no_head : goal.returns-in_err-release_words-clause-no_head
+returns-in_err-release_words-clause-no_head g c told damage =
+    let p = err_from_is_err_and c.from_residual-in_err-release_words.result c.from_residual-in_err-release_words.ensures.1 in
+    λ e. (let same : c.in_err-release_words.field-0.0 ≡ Damaged damage = cc (p.1, p.2, e) in
+    c.in_err-release_words.ensures.no_head told damage (ap Err same))

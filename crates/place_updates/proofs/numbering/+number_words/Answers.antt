@@ -1,6 +1,7 @@
-use Rattle.std.proofs.Common.{◌≡◌, ℕ, ◌+◌, ◌∷◌, List, length, All, cond, sym, ap, subst, ◌∙◌, rules}
+use Rattle.std.proofs.Common.{◌≡◌, ℕ, ◌+◌, ◌∷◌, List, length, All, Err, cond, sym, ap, subst, ◌∙◌, arith, rules}
 use Rattle.std.proofs.lemmas.List.Elements.{All-head, All-tail}
-use Rattle.std.proofs.lemmas.Result.{on_ok_weaker}
+use Rattle.std.proofs.lemmas.Result.{err_from_is_err_and, on_ok_weaker}
+use Rattle.page_face.specs.declared.fault.PageFault.TheVariants.{Damaged}
 use Rattle.btree_nodes.specs.Supply.{View, view}
 use Rattle.row_codec.specs.Pairs.{Pair}
 use Rattle.store_tables.specs.Entries.{Entries}
@@ -58,3 +59,15 @@ returns-clause-honest g t c entries free holds apart can told damage =
     let then : Entries = cond (has_pair number old) entries (with_hold term.0 next entries) in
     let left = can-number-rest old c.in-Some.rest.now term.0 term.1 next number c.take_hold.new.tables.next_word entries h.0 h.1 c.args.words.now is can in
     c.number_words.ensures.honest then h.2.free h.2.holds h.2.apart left (told-changed before c.args.tables.now _ _ _ _ _ h.2 told) damage
+
+pub returns-clause-rises : goal.returns-clause-rises
+returns-clause-rises g t c =
+    let long : length c.args.words.now ≡ length c.in-Some.rest.now + 1 = search rules in
+    let first = c.in_ok-number.ensures.rises in
+    on_ok_weaker c.number_words.result (λ rest. omega arith) c.number_words.ensures.rises
+
+pub returns-in_err-number-clause-no_head : goal.returns-in_err-number-clause-no_head
+returns-in_err-number-clause-no_head g t c told damage =
+    let p = err_from_is_err_and c.from_residual.result c.from_residual.ensures.1 in
+    λ e. (let same : c.in_err-number.field-0.0 ≡ Damaged damage = cc (p.1, p.2, e) in
+    c.in_err-number.ensures.no_head told damage (ap Err same))

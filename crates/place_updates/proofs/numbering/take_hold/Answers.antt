@@ -3,8 +3,9 @@ use Rattle.std.proofs.lemmas.Result.{err_from_is_err_and}
 use Rattle.page_face.specs.declared.fault.PageFault.TheVariants.{Damaged}
 use Rattle.btree_nodes.specs.Supply.{View, view}
 use Rattle.store_tables.specs.Entries.{number_of_word}
-use Rattle.store_tables.specs.Holding.{Holds, IsApart, IsChanged}
+use Rattle.store_tables.specs.Holding.{Holds, IsApart, IsChanged, texts_form}
 use Rattle.store_tables.specs.Words.{next_after, number_for, with_hold}
+use Rattle.store_tables.proofs.Heads.{map-spares_head}
 use Rattle.store_tables.proofs.ToldLemmas.{apart-counted}
 use Rattle.store_meaning.specs.Updates.{has_pair}
 use Rattle.btree_insert.proofs.Readings.{ok-map}
@@ -35,3 +36,9 @@ returns-clause-held g c entries free holds apart =
           (rw (sym r.frame.pages, sym r.frame.count, sym r.frame.first) h.3),
     ))
     (c.hold_numbered.ensures.held entries free held kept (c.in_ok-found.ensures.found entries holds))
+
+pub returns-in_err-found-clause-no_head : goal.returns-in_err-found-clause-no_head
+returns-in_err-found-clause-no_head g c told damage =
+    let p = err_from_is_err_and c.from_residual.result c.from_residual.ensures.1 in
+    λ e. (let same : c.in_err-found.field-0.0 ≡ Damaged damage = cc (p.1, p.2, e) in
+    map-spares_head texts_form (g.P.Pages.pages c.args.pages.now) (g.P.Pages.count c.args.pages.now) c.args.tables.now.texts damage (c.in_err-found.ensures.damaged (told c.args.pages.now) damage (ap Err same)))

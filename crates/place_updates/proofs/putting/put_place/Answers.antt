@@ -5,8 +5,9 @@ use Rattle.btree_nodes.specs.Supply.{View, view}
 use Rattle.row_codec.specs.Pairs.{Pair}
 use Rattle.store_tables.specs.declared.tables.Tables.{Tables}
 use Rattle.store_tables.specs.Entries.{Entries, place_of_key}
-use Rattle.store_tables.specs.Holding.{IsChanged}
+use Rattle.store_tables.specs.Holding.{IsChanged, places_form}
 use Rattle.store_tables.proofs.FrameLemmas.{changed-further}
+use Rattle.store_tables.proofs.Heads.{put-spares_head}
 use Rattle.store_tables.proofs.ToldLemmas.{told-changed}
 use Rattle.store_meaning.specs.Updates.{CanNumber, by_number, numbered, pairs_of, placed, stored_with}
 use Rattle.store_meaning.proofs.Chances.{can-number-put, can-release-put}
@@ -74,3 +75,31 @@ returns-clause-put g c entries free holds apart was =
       subst (λ (e : Entries). IsChanged before c.args.tables.now (g.P.Pages.pages c.release_words.new.pages) (g.P.Pages.count c.release_words.new.pages) (g.P.Pages.first c.release_words.new.pages) c.release_words.new.tables e) after
           (changed-further numbers.2 (changed-further put.1 rest)),
     )
+
+pub returns-clause-rises : goal.returns-clause-rises
+returns-clause-rises g c =
+    let few = c.pairs.ensures.valid.few in
+    let long = ap length c.pairs.ensures.pairs in
+    let numbers = c.in_ok-number_words.ensures.rises in
+    let put = ap (λ (t : Tables). t.next_word) c.put_place.ensures.others in
+    let rest = c.in_ok-release_words.ensures.next in
+    omega arith
+
+pub returns-in_err-number_words-clause-no_head : goal.returns-in_err-number_words-clause-no_head
+returns-in_err-number_words-clause-no_head g c told damage =
+    let p = err_from_is_err_and c.from_residual.result c.from_residual.ensures.1 in
+    λ e. (let same : c.in_err-number_words.field-0.0 ≡ Damaged damage = cc (p.1, p.2, e) in
+    c.in_err-number_words.ensures.no_head told damage (ap Err same))
+
+pub returns-in_err-put_place-clause-no_head : goal.returns-in_err-put_place-clause-no_head
+returns-in_err-put_place-clause-no_head g c told damage =
+    let p = err_from_is_err_and c.from_residual-in_err-put_place.result c.from_residual-in_err-put_place.ensures.1 in
+    λ e. (let same : c.in_err-put_place.field-0.0 ≡ Damaged damage = cc (p.1, p.2, e) in
+    put-spares_head places_form (g.P.Pages.pages c.number_words.new.pages) (g.P.Pages.count c.number_words.new.pages) c.number_words.new.tables.places (g.P.Pages.pages c.put_place.new.pages) (g.P.Pages.count c.put_place.new.pages) (g.P.Pages.first c.put_place.new.pages) _ _ damage
+    (told c.put_place.new.pages) (g.met.P.Pages.first_is_counted c.put_place.new.pages) (c.in_err-put_place.ensures.damaged (told c.number_words.new.pages) damage (ap Err same)))
+
+pub returns-in_err-release_words-clause-no_head : goal.returns-in_err-release_words-clause-no_head
+returns-in_err-release_words-clause-no_head g c told damage =
+    let p = err_from_is_err_and c.from_residual-in_err-release_words.result c.from_residual-in_err-release_words.ensures.1 in
+    λ e. (let same : c.in_err-release_words.field-0.0 ≡ Damaged damage = cc (p.1, p.2, e) in
+    c.in_err-release_words.ensures.no_head told damage (ap Err same))

@@ -1,5 +1,6 @@
-use Rattle.std.proofs.Common.{◌≡◌, ◌∷◌, false, sym, subst, ◌∙◌, rules}
-use Rattle.std.proofs.lemmas.Result.{on_ok_weaker}
+use Rattle.std.proofs.Common.{◌≡◌, ◌∷◌, Err, false, ap, sym, subst, ◌∙◌, rules}
+use Rattle.std.proofs.lemmas.Result.{err_from_is_err_and, on_ok_weaker}
+use Rattle.page_face.specs.declared.fault.PageFault.TheVariants.{Damaged}
 use Rattle.btree_nodes.specs.Supply.{View, view}
 use Rattle.row_codec.specs.Pairs.{Pair}
 use Rattle.store_tables.specs.Entries.{Entries}
@@ -33,3 +34,9 @@ returns-clause-honest g t c entries free holds apart can told damage =
     let first = c.in_ok-release.ensures.released entries free holds apart in
     let left = can-release-rest c.args.new.now c.args.old.now c.in-Some.rest.now pair entries is fresh can in
     c.release_words-2.ensures.honest (without_hold pair.0 entries) first.1.free first.1.holds first.1.apart left (told-changed before c.args.tables.now _ _ _ _ _ first.1 told) damage
+
+pub returns-in_err-release-clause-no_head : goal.returns-in_err-release-clause-no_head
+returns-in_err-release-clause-no_head g t c told damage =
+    let p = err_from_is_err_and c.from_residual.result c.from_residual.ensures.1 in
+    λ e. (let same : c.in_err-release.field-0.0 ≡ Damaged damage = cc (p.1, p.2, e) in
+    c.in_err-release.ensures.no_head told damage (ap Err same))

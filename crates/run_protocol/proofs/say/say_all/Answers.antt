@@ -13,6 +13,7 @@ loop-at-init g c = record {
   said = λ told. says-none c.args.bytes.now (g.T.Disk.world c.args.engine.now.store.disk.now);
   reads = λ told. refl;
   later = omega arith;
+  stays = refl;
   disk = refl;
   head = refl;
   room = refl;
@@ -44,6 +45,7 @@ loop-at-preserved g c = record {
       (c.loop-at.invariant.said told) safe (take_rest c.args.bytes.now c.loop-at.at) c.in_ok-at.field-0 (c.in_ok-at.ensures.told told);
   reads = λ told. (c.in_ok-at.ensures.told told).reads ∙ c.loop-at.invariant.reads told;
   later = omega (arith, c.in_ok-at.ensures.cause.later, c.loop-at.invariant.later);
+  stays = c.in_ok-at.ensures.cause.stays ∙ c.loop-at.invariant.stays;
   disk = c.in_ok-at.ensures.cause.disk ∙ c.loop-at.invariant.disk;
   head = c.in_ok-at.ensures.head ∙ c.loop-at.invariant.head;
   room = c.in_ok-at.ensures.room ∙ c.loop-at.invariant.room;

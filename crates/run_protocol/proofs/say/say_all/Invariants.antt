@@ -11,6 +11,7 @@ invariant-loop-at g l = record {
   said : IsTrue g.T.Disk.tells → SaysSome l.at l.bytes (g.T.Disk.world l.fn.engine.store.disk.now) (g.T.Disk.world l.engine.store.disk.now);
   reads : IsTrue g.T.Disk.tells → (g.T.Disk.world l.engine.store.disk.now).reads ≡ (g.T.Disk.world l.fn.engine.store.disk.now).reads;
   later : (g.T.Disk.world l.fn.engine.store.disk.now).sink_faults ≤ (g.T.Disk.world l.engine.store.disk.now).sink_faults;
+  stays : (g.T.Disk.world l.engine.store.disk.now).sink_faults ≡ (g.T.Disk.world l.fn.engine.store.disk.now).sink_faults;
   disk : (g.T.Disk.world l.engine.store.disk.now).faults ≡ (g.T.Disk.world l.fn.engine.store.disk.now).faults;
   head : l.engine.store.current ≡ l.fn.engine.store.current;
   room : g.T.Disk.room_of l.engine.store.disk.now ≡ g.T.Disk.room_of l.fn.engine.store.disk.now;

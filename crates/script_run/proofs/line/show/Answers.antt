@@ -38,7 +38,9 @@ returns-in-Err-clause-told g c =
       sink = c.in-Err.ensures.sink;
       on = λ e. let stopped : true ≡ false = sym (c.in-Err.ensures.stopped.0 (ap Err e)) ∙ c.requires.on in cc;
       disk = λ e. c.in-Err.ensures.disk (ap Err e);
+      stays = λ apart. c.in-Err.ensures.stays (λ e. apart (cc));
       honest = λ told state holds damage e. c.in-Err.ensures.honest told state holds damage (ap Err e);
+      no_head = λ told damage e. c.in-Err.ensures.no_head told damage (ap Err e);
       rests = c.in-Err.ensures.rests;
     } in
     λ told state holds. subst (λ (e : Ended). RepliesTo state (Ok (lines.Show c.args.key)) (g.T.Disk.world c.args.engine.now.store.disk.now) (g.T.Disk.world c.show.new.self.store.disk.now) (Err e)) (sym c.ended_by.ensures)
@@ -52,7 +54,9 @@ returns-in-Err-clause-cause g c =
       sink = c.in-Err.ensures.sink;
       on = λ e. let stopped : true ≡ false = sym (c.in-Err.ensures.stopped.0 (ap Err e)) ∙ c.requires.on in cc;
       disk = λ e. c.in-Err.ensures.disk (ap Err e);
+      stays = λ apart. c.in-Err.ensures.stays (λ e. apart (cc));
       honest = λ told state holds damage e. c.in-Err.ensures.honest told state holds damage (ap Err e);
+      no_head = λ told damage e. c.in-Err.ensures.no_head told damage (ap Err e);
       rests = c.in-Err.ensures.rests;
     } in
     subst (λ (e : Ended). HasEngineEnd {T = Reply} g.T.Disk.tells (g.T.Disk.world c.args.engine.now.store.disk.now) (g.T.Disk.world c.show.new.self.store.disk.now) (Err e)) (sym c.ended_by.ensures)

@@ -15,7 +15,7 @@ use Rattle.script_run.proofs.line.update.Goals as goal
 pub returns-in-Ok-clause-told : goal.returns-in-Ok-clause-told
 returns-in-Ok-clause-told g c =
     let accepted : AcceptedUpdate g.T.Disk.tells c.args.update.now (g.T.Disk.world c.args.engine.now.store.disk.now) (g.T.Disk.world c.apply.new.self.store.disk.now) c.in-Ok.applied = record {
-      faults = c.in-Ok.ensures.later;
+      faults = c.in-Ok.ensures.stays (λ e. absurd (cc));
       sink = c.in-Ok.ensures.sink;
       said = c.in-Ok.ensures.silent;
       stands = c.in-Ok.ensures.applied;
@@ -26,7 +26,7 @@ returns-in-Ok-clause-told g c =
 pub returns-in-Ok-clause-cause : goal.returns-in-Ok-clause-cause
 returns-in-Ok-clause-cause g c =
     let accepted : AcceptedUpdate g.T.Disk.tells c.args.update.now (g.T.Disk.world c.args.engine.now.store.disk.now) (g.T.Disk.world c.apply.new.self.store.disk.now) c.in-Ok.applied = record {
-      faults = c.in-Ok.ensures.later;
+      faults = c.in-Ok.ensures.stays (λ e. absurd (cc));
       sink = c.in-Ok.ensures.sink;
       said = c.in-Ok.ensures.silent;
       stands = c.in-Ok.ensures.applied;
@@ -42,8 +42,10 @@ returns-in-Err-clause-told g c =
       sink = c.in-Err.ensures.sink;
       on = λ e. let stopped : true ≡ false = sym (c.in-Err.ensures.stopped.0 (ap Err e)) ∙ c.requires.on in cc;
       disk = λ e. c.in-Err.ensures.disk (ap Err e);
+      stays = λ apart. c.in-Err.ensures.stays (λ e. apart (cc));
       said = c.in-Err.ensures.silent;
       due = c.in-Err.ensures.due;
+      no_head = λ told damage e. c.in-Err.ensures.no_head told damage (ap Err e);
       rests = λ told apart. c.in-Err.ensures.rests told (c.in-Err.ensures.goes_on (λ e. apart (cc)));
       left_by = c.in-Err.ensures.any_moment;
     } in
@@ -58,8 +60,10 @@ returns-in-Err-clause-cause g c =
       sink = c.in-Err.ensures.sink;
       on = λ e. let stopped : true ≡ false = sym (c.in-Err.ensures.stopped.0 (ap Err e)) ∙ c.requires.on in cc;
       disk = λ e. c.in-Err.ensures.disk (ap Err e);
+      stays = λ apart. c.in-Err.ensures.stays (λ e. apart (cc));
       said = c.in-Err.ensures.silent;
       due = c.in-Err.ensures.due;
+      no_head = λ told damage e. c.in-Err.ensures.no_head told damage (ap Err e);
       rests = λ told apart. c.in-Err.ensures.rests told (c.in-Err.ensures.goes_on (λ e. apart (cc)));
       left_by = c.in-Err.ensures.any_moment;
     } in

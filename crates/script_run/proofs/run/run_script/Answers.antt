@@ -4,6 +4,7 @@ use Rattle.disk_model.proofs.Moments.{started}
 use Rattle.run_protocol.specs.Script.{cut, script}
 use Rattle.run_protocol.specs.declared.ended.Ended.TheVariants as ends
 use Rattle.run_protocol.specs.declared.ended.LimitFault.TheVariants as limits
+use Rattle.run_protocol.proofs.Counts.{keeps-done, keeps-none}
 use Rattle.script_run.proofs.Causes.{job-still, job-by-engine, job-then, job-failed, job-valued}
 use Rattle.script_run.proofs.Ends.{left-counts, line-input, line-limit, on_ok-held, piece-input, piece-limit}
 use Rattle.script_run.proofs.Fronts.{piece-came, none-behind}
@@ -26,7 +27,7 @@ pub returns-in-Err-clause-opens_few : goal.returns-in-Err-clause-opens_few
 returns-in-Err-clause-opens_few g c = λ tells told state holds asks. tt
 
 pub returns-in-Err-clause-cause : goal.returns-in-Err-clause-cause
-returns-in-Err-clause-cause g c = record { source = omega arith; faults = omega arith; sink = omega arith; stands = λ told. tt; cause = tt }
+returns-in-Err-clause-cause g c = record { source = omega arith; faults = omega arith; sink = omega arith; reads = λ other read. refl; keeps = keeps-none _ (Err ends.Memory); stands = λ told. tt; cause = tt }
 
 pub pieces-init : goal.pieces-init
 pieces-init g c = record {
@@ -65,6 +66,8 @@ returns-in-Err-read-clause-cause g c = record {
   source = omega (arith, c.in-Err-read.ensures.cause.later, c.pieces.invariant.cause.source);
   faults = c.pieces.invariant.cause.faults;
   sink = c.pieces.invariant.cause.sink;
+  reads = λ other read. absurd (read refl);
+  keeps = keeps-done _ _ tt (Err ends.Source) c.pieces.invariant.cause.keeps;
   stands = λ told. tt;
   cause = omega (arith, c.in-Err-read.ensures.cause.rose, c.pieces.invariant.cause.source);
 }
@@ -101,8 +104,8 @@ returns-then-n-eq0-clause-opens_few g c = λ tells told state holds.
 
 pub returns-then-n-eq0-clause-cause : goal.returns-then-n-eq0-clause-cause
 returns-then-n-eq0-clause-cause g c =
-    job-then _ (g.S.Source.faults c.args.source.now) (g.S.Source.faults c.pieces.source) (g.S.Source.faults c.read.new.self) (g.T.Disk.world c.args.engine.now.store.disk.now) (g.T.Disk.world c.pieces.engine.store.disk.now) (g.T.Disk.world c.end.new.engine.store.disk.now) tt c.pieces.invariant.cause c.in-Ok-read.ensures.cause.later c.end.result
-    (job-by-engine _ 0 0 _ _ c.end.result (omega arith) c.end.ensures.cause)
+    job-then _ (g.S.Source.faults c.args.source.now) (g.S.Source.faults c.pieces.source) (g.S.Source.faults c.read.new.self) (g.T.Disk.world c.args.engine.now.store.disk.now) (g.T.Disk.world c.pieces.engine.store.disk.now) (g.T.Disk.world c.end.new.engine.store.disk.now) tt c.pieces.invariant.cause c.in-Ok-read.ensures.cause.stays c.end.result
+    (job-by-engine _ 0 0 _ _ c.end.result refl c.end.ensures.cause)
 
 pub split_at-requires : goal.split_at-requires
 split_at-requires g c = omega (arith, c.in-Ok-read.ensures.count, c.as_slice.ensures.len)
@@ -144,7 +147,7 @@ returns-in-Err-take-clause-opens_few g c = λ tells told state holds asks. tt
 pub returns-in-Err-take-clause-cause : goal.returns-in-Err-take-clause-cause
 returns-in-Err-take-clause-cause g c =
     job-failed ℕ (Unit {0}) _ _ _ _ _ c.in-Err-take.end
-    (job-then _ (g.S.Source.faults c.args.source.now) (g.S.Source.faults c.pieces.source) (g.S.Source.faults c.read.new.self) (g.T.Disk.world c.args.engine.now.store.disk.now) (g.T.Disk.world c.pieces.engine.store.disk.now) (g.T.Disk.world c.take.new.engine.store.disk.now) tt c.pieces.invariant.cause c.in-Ok-read.ensures.cause.later _ c.in-Err-take.ensures.cause)
+    (job-then _ (g.S.Source.faults c.args.source.now) (g.S.Source.faults c.pieces.source) (g.S.Source.faults c.read.new.self) (g.T.Disk.world c.args.engine.now.store.disk.now) (g.T.Disk.world c.pieces.engine.store.disk.now) (g.T.Disk.world c.take.new.engine.store.disk.now) tt c.pieces.invariant.cause c.in-Ok-read.ensures.cause.stays _ c.in-Err-take.ensures.cause)
 
 pub pieces-smaller : goal.pieces-smaller
 pieces-smaller g c = omega (arith, c.in-Ok-take.ensures.few.0, c.in-Ok-take.ensures.few.1, c.split_at.ensures.front_len, c.if-n-eq0.false)
@@ -173,7 +176,7 @@ pieces-preserved g c = record {
       untouched-fed (g.S.Source.left c.args.source.now) (g.S.Source.left c.pieces.source) (g.T.Disk.world c.args.engine.now.store.disk.now) (g.T.Disk.world c.pieces.engine.store.disk.now) c.pieces.script.line.items c.pieces.taken u c.split_at.result.0.now (g.S.Source.left c.read.new.self) (g.T.Disk.world c.take.new.engine.store.disk.now) came _ _ _
       (c.in-Ok-take.ensures.line (cut u.read).rest (rest-EndsNoLine u.read) u.keeps) c.in-Ok-take.ensures.few.0 c.in-Ok-take.ensures.few.1
       (c.in-Ok-take.ensures.kept (cut u.read).rest (rest-EndsNoLine u.read) u.keeps told);
-  cause = job-valued _ _ _ _ _ _ tt (job-then _ (g.S.Source.faults c.args.source.now) (g.S.Source.faults c.pieces.source) (g.S.Source.faults c.read.new.self) (g.T.Disk.world c.args.engine.now.store.disk.now) (g.T.Disk.world c.pieces.engine.store.disk.now) (g.T.Disk.world c.take.new.engine.store.disk.now) tt c.pieces.invariant.cause c.in-Ok-read.ensures.cause.later _ c.in-Ok-take.ensures.cause);
+  cause = job-valued _ _ _ _ _ _ tt (job-then _ (g.S.Source.faults c.args.source.now) (g.S.Source.faults c.pieces.source) (g.S.Source.faults c.read.new.self) (g.T.Disk.world c.args.engine.now.store.disk.now) (g.T.Disk.world c.pieces.engine.store.disk.now) (g.T.Disk.world c.take.new.engine.store.disk.now) tt c.pieces.invariant.cause c.in-Ok-read.ensures.cause.stays _ c.in-Ok-take.ensures.cause);
 }
 
 -- ---- whatever the image stands for

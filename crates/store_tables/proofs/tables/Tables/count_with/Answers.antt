@@ -5,6 +5,7 @@ use Rattle.page_face.specs.declared.fault.PageFault.TheVariants.{Damaged}
 use Rattle.paged_map.specs.declared.replacing.RowSpot.{RowSpot}
 use Rattle.store_tables.specs.Entries.{word_of_number}
 use Rattle.store_tables.specs.Rows.{IsNumberSpot, spot_in}
+use Rattle.store_tables.proofs.Heads.{number-spares_head, words-spares_head}
 use Rattle.store_tables.proofs.HoldLemmas.{can_hold-read, cannot_hold-read, known-read, places-read}
 use Rattle.store_tables.proofs.ToldLemmas.{asks-numbers}
 use Rattle.store_tables.proofs.tables.Tables.count_with.Goals as goal
@@ -52,3 +53,12 @@ returns-in-Some-clause-own g c told = asks-numbers (g.P.Pages.pages c.args.pages
 
 pub returns-in-None-clause-own : goal.returns-in-None-clause-own
 returns-in-None-clause-own g c told = asks-numbers (g.P.Pages.pages c.args.pages.now) c.args.self.now _ _ (c.counted_row.ensures.own told)
+
+pub returns-in_err-row-clause-no_head : goal.returns-in_err-row-clause-no_head
+returns-in_err-row-clause-no_head g c told damage =
+    let p = err_from_is_err_and c.from_residual.result c.from_residual.ensures.1 in
+    λ e. (let same : c.in_err-row.field-0.0 ≡ Damaged damage = cc (p.1, p.2, e) in
+    number-spares_head (g.P.Pages.pages c.args.pages.now) (g.P.Pages.count c.args.pages.now) c.args.self.now.numbers _ _ _ damage (c.in_err-row.ensures.damaged told damage (ap Err same)))
+
+pub returns-in-None-clause-no_head : goal.returns-in-None-clause-no_head
+returns-in-None-clause-no_head g c told damage = λ e. words-spares_head damage cc

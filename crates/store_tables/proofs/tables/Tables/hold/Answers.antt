@@ -5,7 +5,8 @@ use Rattle.btree_nodes.proofs.Harms.{asked-before, asks-further}
 use Rattle.btree_nodes.specs.Damages.{AreTold, AsksOnly}
 use Rattle.btree_nodes.specs.Supply.{View, view}
 use Rattle.store_tables.specs.Broken.{IsTextSought}
-use Rattle.store_tables.specs.Holding.{Holds, IsApart, word_uses}
+use Rattle.store_tables.specs.Holding.{Holds, IsApart, texts_form, word_uses}
+use Rattle.store_tables.proofs.Heads.{map-spares_head}
 use Rattle.store_tables.proofs.LookupLemmas.{number-broken-later}
 use Rattle.store_tables.proofs.ToldLemmas.{apart-counted, asks-texts}
 use Rattle.store_tables.proofs.tables.Tables.hold.Goals as goal
@@ -64,3 +65,9 @@ returns-clause-own g c entries free holds apart told =
     let kept : IsApart (view (g.P.Pages.pages c.number_of.new.pages) (g.P.Pages.count c.number_of.new.pages) (g.P.Pages.first c.number_of.new.pages) free) c.args.self.now = rw (f.pages, f.count, f.first) apart in
     let still : AreTold (g.P.Pages.pages c.number_of.new.pages) (g.P.Pages.count c.number_of.new.pages) = rw (f.pages, f.count) told in
     asks-further (word_uses (g.P.Pages.pages c.args.pages.now) c.args.self.now) _ _ _ (asks-texts (g.P.Pages.pages c.args.pages.now) c.args.self.now _ _ (c.number_of.ensures.own told)) (rw (sym f.pages) (c.hold_numbered.ensures.own entries free held kept still))
+
+pub returns-in_err-found-clause-no_head : goal.returns-in_err-found-clause-no_head
+returns-in_err-found-clause-no_head g c told damage =
+    let p = err_from_is_err_and c.from_residual.result c.from_residual.ensures.1 in
+    λ e. (let same : c.in_err-found.field-0.0 ≡ Damaged damage = cc (p.1, p.2, e) in
+    map-spares_head texts_form (g.P.Pages.pages c.args.pages.now) (g.P.Pages.count c.args.pages.now) c.args.self.now.texts damage (c.in_err-found.ensures.damaged (told c.args.pages.now) damage (ap Err same)))

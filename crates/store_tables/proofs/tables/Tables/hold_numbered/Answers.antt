@@ -108,3 +108,15 @@ returns-in-None-clause-own g c entries free holds apart told =
     let kept : IsApart (view (g.P.Pages.pages c.count_with.new.pages) (g.P.Pages.count c.count_with.new.pages) (g.P.Pages.first c.count_with.new.pages) free) c.args.self.now = rw (r.frame.pages, r.frame.count, r.frame.first) apart in
     let still : AreTold (g.P.Pages.pages c.count_with.new.pages) (g.P.Pages.count c.count_with.new.pages) = rw (c.count_with.ensures.frame.pages, c.count_with.ensures.frame.count) told in
     asks-further (word_uses (g.P.Pages.pages c.args.pages.now) c.args.self.now) _ _ _ (r.own told) (rw (sym r.frame.pages) (c.put_new.ensures.own entries free held kept still))
+
+pub returns-in_err-hold-clause-no_head : goal.returns-in_err-hold-clause-no_head
+returns-in_err-hold-clause-no_head g c told damage =
+    let p = err_from_is_err_and c.from_residual.result c.from_residual.ensures.1 in
+    λ e. (let same : c.in_err-hold.field-0.0 ≡ Damaged damage = cc (p.1, p.2, e) in
+    c.in_err-hold.ensures.no_head (told c.args.pages.now) damage (ap Err same))
+
+pub returns-in_err-replace_number-in-Some-clause-no_head : goal.returns-in_err-replace_number-in-Some-clause-no_head
+returns-in_err-replace_number-in-Some-clause-no_head g c told damage =
+    let p = err_from_is_err_and c.from_residual-in_err-replace_number-in-Some.result c.from_residual-in_err-replace_number-in-Some.ensures.1 in
+    λ e. (let same : c.in_err-replace_number-in-Some.field-0.0 ≡ Damaged damage = cc (p.1, p.2, e) in
+    absurd (c.in_err-replace_number-in-Some.ensures.honest damage (ap Err same)))

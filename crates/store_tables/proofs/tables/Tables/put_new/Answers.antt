@@ -5,8 +5,9 @@ use Rattle.btree_nodes.specs.Supply.{View, view}
 use Rattle.btree_nodes.specs.Damages.{AsksOnly}
 use Rattle.btree_nodes.specs.Tree.{map_uses}
 use Rattle.store_tables.specs.declared.tables.Tables.{Tables}
-use Rattle.store_tables.specs.Holding.{texts_form}
+use Rattle.store_tables.specs.Holding.{numbers_form, texts_form}
 use Rattle.store_tables.proofs.FrameLemmas.{changed-further}
+use Rattle.store_tables.proofs.Heads.{put-spares_head}
 use Rattle.store_tables.proofs.HoldLemmas.{changed-next}
 use Rattle.store_tables.proofs.ToldLemmas.{asks-both, asks-numbers, told-changed}
 use Rattle.store_tables.proofs.tables.Tables.put_new.Goals as goal
@@ -62,3 +63,17 @@ returns-in_err-put_text-clause-own g c entries free holds apart told =
     asks-both (g.P.Pages.pages c.args.pages.now) (g.P.Pages.pages c.put_number.new.pages) c.args.self.now _ _ _ (c.in_ok-put_number.ensures.texts entries free holds apart)
     (c.put_number.ensures.own told) (subst (λ (t : Tables). AsksOnly (map_uses texts_form (g.P.Pages.pages c.put_number.new.pages) t.texts) (g.P.Pages.asked c.put_number.new.pages) (g.P.Pages.asked c.put_text.new.pages)) c.put_number.ensures.others
     (c.put_text.ensures.own (told-changed before c.args.self.now _ _ _ _ _ first.1 told)))
+
+pub returns-in_err-put_number-clause-no_head : goal.returns-in_err-put_number-clause-no_head
+returns-in_err-put_number-clause-no_head g c told damage =
+    let p = err_from_is_err_and c.from_residual.result c.from_residual.ensures.1 in
+    λ e. (let same : c.in_err-put_number.field-0.0 ≡ Damaged damage = cc (p.1, p.2, e) in
+    put-spares_head numbers_form (g.P.Pages.pages c.args.pages.now) (g.P.Pages.count c.args.pages.now) c.args.self.now.numbers (g.P.Pages.pages c.put_number.new.pages) (g.P.Pages.count c.put_number.new.pages) (g.P.Pages.first c.put_number.new.pages) _ _ damage
+    (told c.put_number.new.pages) (g.met.P.Pages.first_is_counted c.put_number.new.pages) (c.in_err-put_number.ensures.damaged (told c.args.pages.now) damage (ap Err same)))
+
+pub returns-in_err-put_text-clause-no_head : goal.returns-in_err-put_text-clause-no_head
+returns-in_err-put_text-clause-no_head g c told damage =
+    let p = err_from_is_err_and c.from_residual-in_err-put_text.result c.from_residual-in_err-put_text.ensures.1 in
+    λ e. (let same : c.in_err-put_text.field-0.0 ≡ Damaged damage = cc (p.1, p.2, e) in
+    put-spares_head texts_form (g.P.Pages.pages c.put_number.new.pages) (g.P.Pages.count c.put_number.new.pages) c.put_number.new.self.texts (g.P.Pages.pages c.put_text.new.pages) (g.P.Pages.count c.put_text.new.pages) (g.P.Pages.first c.put_text.new.pages) _ _ damage
+    (told c.put_text.new.pages) (g.met.P.Pages.first_is_counted c.put_text.new.pages) (c.in_err-put_text.ensures.damaged (told c.put_number.new.pages) damage (ap Err same)))

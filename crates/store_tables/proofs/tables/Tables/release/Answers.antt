@@ -5,6 +5,7 @@ use Rattle.btree_nodes.proofs.Harms.{asked-before}
 use Rattle.btree_nodes.specs.Damages.{AreTold, AsksOnly}
 use Rattle.btree_nodes.specs.Supply.{View, view}
 use Rattle.store_tables.specs.Holding.{word_uses}
+use Rattle.store_tables.proofs.Heads.{release-spares_head}
 use Rattle.store_tables.proofs.ToldLemmas.{apart-counted}
 use Rattle.store_tables.proofs.tables.Tables.release.Goals as goal
 
@@ -43,3 +44,15 @@ returns-in_err-replace_number-clause-own g c entries free holds apart told =
 pub returns-clause-own : goal.returns-clause-own
 returns-clause-own g c entries free holds apart told =
     subst (AsksOnly (word_uses (g.P.Pages.pages c.args.pages.now) c.args.self.now) (g.P.Pages.asked c.args.pages.now)) (sym c.replace_number.ensures.asked) (c.releasable.ensures.own told)
+
+pub returns-in_err-row-clause-no_head : goal.returns-in_err-row-clause-no_head
+returns-in_err-row-clause-no_head g c told damage =
+    let p = err_from_is_err_and c.from_residual.result c.from_residual.ensures.1 in
+    λ e. (let same : c.in_err-row.field-0.0 ≡ Damaged damage = cc (p.1, p.2, e) in
+    release-spares_head (g.P.Pages.pages c.args.pages.now) (g.P.Pages.count c.args.pages.now) c.args.self.now c.args.number _ _ damage (c.in_err-row.ensures.damaged (told c.args.pages.now) damage (ap Err same)))
+
+pub returns-in_err-replace_number-clause-no_head : goal.returns-in_err-replace_number-clause-no_head
+returns-in_err-replace_number-clause-no_head g c told damage =
+    let p = err_from_is_err_and c.from_residual-in_err-replace_number.result c.from_residual-in_err-replace_number.ensures.1 in
+    λ e. (let same : c.in_err-replace_number.field-0.0 ≡ Damaged damage = cc (p.1, p.2, e) in
+    absurd (c.in_err-replace_number.ensures.honest damage (ap Err same)))

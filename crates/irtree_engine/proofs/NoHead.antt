@@ -1,0 +1,61 @@
+-- Damage that a change or a look finds is of another rule than Head, which is page 0's own.
+use Rattle.std.proofs.Common.{◌≢◌, ⊎_elim, ℕ, ◌<◌, List, Option, Some, None, ap}
+use Rattle.std.specs.Prelude.{MatchOption}
+use Rattle.page_face.specs.FreeList.{PageMap}
+use Rattle.page_face.specs.declared.fault.Damage.{Damage}
+use Rattle.page_face.specs.declared.fault.Rule.TheVariants.{Head}
+use Rattle.btree_nodes.specs.Damages.{AreTold}
+use Rattle.node_rows.specs.declared.roots.Tree.{Tree}
+use Rattle.rtree_shape.specs.Stock.{rows_form}
+use Rattle.irtree_shape.specs.Damages.{IsTreeHarm}
+use Rattle.spatial_base.specs.Key.{Name}
+use Rattle.spatial_base.specs.Point.{Position}
+use Rattle.row_codec.specs.declared.stored.Stored.{Stored}
+use Rattle.store_tables.specs.declared.tables.Tables.{Tables}
+use Rattle.store_tables.specs.Holding.{texts_form}
+use Rattle.store_tables.proofs.Heads.{map-spares_head, number-spares_head, place-spares_head, take-spares_head, words-spares_head}
+use Rattle.tree_updates.specs.Regrown.{IsMissing}
+use Rattle.tree_answers.specs.Damages.{IsAnswerHarm}
+use Rattle.irtree_engine.specs.Damages.{IsShownDamage}
+
+-- that of a change of a tree, where the counted pages are told
+pub tree-spares_head : (pages : PageMap) (count first rows : ℕ) (before after : List ℕ) (damage : Damage) → AreTold pages count → first < count → IsTreeHarm pages count first rows before after damage → damage.rule ≢ Head
+tree-spares_head pages count first rows before after damage told counted harm e =
+    ⊎_elim
+    (λ node. ⊎_elim (λ alone. (rw e at alone)) (λ below. (let is = below.0 in cc)) node.breaks)
+    (λ change. ⊎_elim (λ map. map-spares_head rows_form pages count rows damage map.0 e) (λ take. take-spares_head pages count first damage told counted take e) change)
+    harm
+
+-- that of an entry that is missing
+pub missing-spares_head : (pages : PageMap) (rows count first root : ℕ) (key : Name) (point : Position) (damage : Damage) → IsMissing pages rows count first root key point damage → damage.rule ≢ Head
+missing-spares_head pages rows count first root key point damage missing e = let is = ap (λ (d : Damage). d.rule) missing.named in cc
+
+-- and where an old place's is
+pub old-spares_head : (old : Option Stored) (pages : PageMap) (rows count first root : ℕ) (key : Name) (damage : Damage) → MatchOption old ⊥ (λ stored. IsMissing pages rows count first root key stored.point damage) → damage.rule ≢ Head
+old-spares_head None pages rows count first root key damage missing = absurd missing
+old-spares_head (Some stored) pages rows count first root key damage missing = missing-spares_head pages rows count first root key stored.point damage missing
+
+-- that of an answer by the tree
+pub answer-spares_head : (pages : PageMap) (count : ℕ) (tables : Tables) (tree : Tree) (before after : List ℕ) (damage : Damage) → IsAnswerHarm pages count tables tree before after damage → damage.rule ≢ Head
+answer-spares_head pages count tables tree before after damage harm e =
+    ⊎_elim
+    (λ text. map-spares_head texts_form pages count tables.texts damage text.0 e)
+    (λ behind. ⊎_elim
+    (λ query. ⊎_elim
+    (λ node. ⊎_elim (λ alone. (rw e at alone)) (λ wrong. (let is = wrong.0 in cc)) node.breaks)
+    (λ map. map-spares_head rows_form pages count tree.rows damage map.0 e)
+    query)
+    (λ ranked. ⊎_elim
+    (λ node. ⊎_elim (λ alone. (rw e at alone)) (λ below. (let is = below.0 in cc)) node)
+    (λ map. map-spares_head rows_form pages count tree.rows damage map e)
+    ranked.1)
+    behind.2)
+    harm
+
+-- that of a look at a key
+pub shown-spares_head : (pages : PageMap) (count : ℕ) (tables : Tables) (key : Name) (before after : List ℕ) (damage : Damage) → IsShownDamage pages count tables key before after damage → damage.rule ≢ Head
+shown-spares_head pages count tables key before after damage shown e =
+    ⊎_elim
+    (λ place. place-spares_head pages count tables.places key before after damage place e)
+    (λ held. ⊎_elim (λ number. number-spares_head pages count tables.numbers held.words.1.0 before after damage number e) (λ words. words-spares_head damage words.0 e) held.words.4)
+    shown

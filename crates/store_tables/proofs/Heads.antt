@@ -1,0 +1,78 @@
+-- Damage of the tables is of another rule than Head.
+use Rattle.std.proofs.Common.{◌≡◌, ◌≢◌, ◌⊎◌, ℕ, zero, suc, ◌<◌, ◌∷◌, [], List, ⊎_elim, ap, subst}
+use Rattle.page_face.specs.FreeList.{PageMap, BreaksFree}
+use Rattle.page_face.specs.declared.fault.Damage.{Damage}
+use Rattle.page_face.specs.declared.fault.Rule.{Rule}
+use Rattle.page_face.specs.declared.fault.Rule.TheVariants.{Head}
+use Rattle.btree_nodes.specs.declared.form.Form.{Form}
+use Rattle.btree_nodes.specs.Damages.{AreTold, AskedSince, Breaks, IsDamaged, IsRefusedTake, SomeChild}
+use Rattle.btree_nodes.specs.Nodes.{Entry, entries_in, half_of, least_of_root}
+use Rattle.btree_nodes.specs.Tree.{level_of, next_key, with_low}
+use Rattle.paged_map.specs.Maps.{IsMapDamaged}
+use Rattle.spatial_base.specs.Key.{Name}
+use Rattle.store_tables.specs.declared.tables.Tables.{Tables}
+use Rattle.store_tables.specs.Broken.{IsCountDamage, IsNextDamage, IsNumberDamage, IsPlaceDamage, IsReleaseDamage, words_disagree}
+use Rattle.store_tables.specs.Holding.{numbers_form, places_form, texts_form}
+
+breaks-spares_head : (number kind level width least : ℕ) (order : Type 0) (page : List ℕ) (rule : Rule) → Breaks rule number kind level width least order page → rule ≢ Head
+breaks-spares_head number kind level width least order page rule h e = subst (λ (r : Rule). Breaks r number kind level width least order page) e h
+
+of-some_child : (D : ℕ → ℕ → ℕ → Type 0) (C : Type 0) → ((c a b : ℕ) → D c a b → C) → (high : ℕ) (es : List Entry) → SomeChild D high es → C
+of-some_child D C each high [] d = absurd d
+of-some_child D C each high (e ∷ es) d = ⊎_elim (λ here. each e.1 e.0 (next_key high es) here) (λ there. of-some_child D C each high es there) d
+
+-- that of a page of a tree
+tree-spares_head : (form : Form) (pages : PageMap) (count : ℕ) (damage : Damage) (least level page low high : ℕ) → IsDamaged form pages count damage least level page low high → damage.rule ≢ Head
+tree-spares_head form pages count damage least zero page low high d e =
+    ⊎_elim (λ link. (let is = link.0 in cc)) (λ b. breaks-spares_head _ _ _ _ _ _ _ damage.rule b e) d.1
+tree-spares_head form pages count damage least (suc level) page low high d e =
+    ⊎_elim
+    (λ here. ⊎_elim (λ link. (let is = link.0 in cc)) (λ b. breaks-spares_head _ _ _ _ _ _ _ damage.rule b e) here.1)
+    (λ there. of-some_child (IsDamaged form pages count damage (half_of form level) level) (damage.rule ≢ Head) (λ c a b. tree-spares_head form pages count damage (half_of form level) level c a b)
+    high (with_low low (entries_in form (pages page))) there e)
+    d
+
+-- that of a page of a map
+pub map-spares_head : (form : Form) (pages : PageMap) (count root : ℕ) (damage : Damage) → IsMapDamaged form pages count root damage → damage.rule ≢ Head
+map-spares_head form pages count zero damage d e = d
+map-spares_head form pages count (suc n) damage d e = tree-spares_head form pages count damage (least_of_root (level_of (pages (suc n)))) (level_of (pages (suc n))) (suc n) 0 _ d e
+
+-- that which a take of a page was refused for, where the counted pages are told
+pub take-spares_head : (pages : PageMap) (count first : ℕ) (damage : Damage) → AreTold pages count → first < count → IsRefusedTake pages count first damage → damage.rule ≢ Head
+take-spares_head pages count first damage told counted r e =
+    ⊎_elim (λ form. subst (λ (rule : Rule). BreaksFree rule (pages first)) e form.1) (λ link. (let is = link.0 in cc)) (r.1 (told first r.0 counted))
+
+-- that of a row that was put
+pub put-spares_head : (form : Form) (old : PageMap) (few root : ℕ) (pages : PageMap) (count first : ℕ) (before asked : List ℕ) (damage : Damage) → AreTold pages count → first < count
+    → (IsMapDamaged form old few root damage × AskedSince before asked damage.page) ⊎ IsRefusedTake pages count first damage → damage.rule ≢ Head
+put-spares_head form old few root pages count first before asked damage told counted d e = ⊎_elim (λ map. map-spares_head form old few root damage map.0 e) (λ take. take-spares_head pages count first damage told counted take e) d
+
+-- that of a look-up of a place
+pub place-spares_head : (pages : PageMap) (count root : ℕ) (key : Name) (before asked : List ℕ) (damage : Damage) → IsPlaceDamage pages count root key before asked damage → damage.rule ≢ Head
+place-spares_head pages count root key before asked damage d e = ⊎_elim (λ map. map-spares_head places_form pages count root damage map.0 e) (λ row. (let is = row.0 in cc)) d
+
+-- that of a look-up of a number
+pub number-spares_head : (pages : PageMap) (count root number : ℕ) (before asked : List ℕ) (damage : Damage) → IsNumberDamage pages count root number before asked damage → damage.rule ≢ Head
+number-spares_head pages count root number before asked damage d e = ⊎_elim (λ map. map-spares_head numbers_form pages count root damage map.0 e) (λ row. (let is = row.0 in cc)) d
+
+-- that of a look-up of the first place from a key's number on
+pub next-spares_head : (pages : PageMap) (count root from : ℕ) (before asked : List ℕ) (damage : Damage) → IsNextDamage pages count root from before asked damage → damage.rule ≢ Head
+next-spares_head pages count root from before asked damage d e = ⊎_elim (λ map. map-spares_head places_form pages count root damage map.0 e) (λ row. (let is = row.0 in cc)) d
+
+-- that of tables of words that disagree
+pub words-spares_head : (damage : Damage) → damage ≡ words_disagree → damage.rule ≢ Head
+words-spares_head damage is e = let rule = ap (λ (d : Damage). d.rule) is in cc
+
+-- that of a word's count
+pub count-spares_head : (places : ℕ) (pages : PageMap) (count : ℕ) (tables : Tables) (word before asked : List ℕ) (damage : Damage) → IsCountDamage places pages count tables word before asked damage → damage.rule ≢ Head
+count-spares_head places pages count tables word before asked damage d e =
+    ⊎_elim (λ map. map-spares_head texts_form pages count tables.texts damage map.0 e)
+    (λ rest. ⊎_elim (λ map. map-spares_head numbers_form pages count tables.numbers damage map.0 e)
+    (λ more. ⊎_elim (λ row. (let is = row.0 in cc)) (λ words. words-spares_head damage words.0 e) more) rest) d
+
+-- that of a release
+pub release-spares_head : (pages : PageMap) (count : ℕ) (tables : Tables) (number : ℕ) (before asked : List ℕ) (damage : Damage) → IsReleaseDamage pages count tables number before asked damage → damage.rule ≢ Head
+release-spares_head pages count tables number before asked damage d e =
+    ⊎_elim (λ map. map-spares_head numbers_form pages count tables.numbers damage map.0 e)
+    (λ rest. ⊎_elim (λ row. (let is = row.0 in cc))
+    (λ more. ⊎_elim (λ map. map-spares_head texts_form pages count tables.texts damage map.0 e) (λ words. words-spares_head damage words.0 e) more) rest) d
