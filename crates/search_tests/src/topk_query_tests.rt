@@ -254,6 +254,29 @@ fn words_and_distance_rank_places(rt: HostRuntime) -> Result<(), Fail> {
     Ok(())
 }
 
+// Why the nearest three places aren't found.
+fn refused(alloc: Global, pages: &mut MemoryPages, tree: &Tree) -> Result<Option<PageFault>, Fail> {
+    let at = Point::new(0, 0).ok_or("off the map")?;
+    let ids = known(alloc)?;
+    let mut ranking = Ranking::nearest(tree, &ids, &at, None);
+    Ok(first_k(alloc, pages, &mut ranking, 3).err())
+}
+
+#[test]
+fn a_node_as_high_as_its_parent_is_named(rt: HostRuntime) -> Result<(), Fail> {
+    let mut pages = MemoryPages::new(rt.alloc(), 99);
+    let tree = small_tree(&mut pages)?;
+    let root = pages.read(tree.root).map_err(|_| "not read")?;
+    pages.write(2, &root).map_err(|_| "not written")?;
+    let damage = Damage {
+        page: 2,
+        rule: Rule::Level,
+    };
+    let named = refused(rt.alloc(), &mut pages, &tree)?;
+    assert_eq!(rt; named, Some(PageFault::Damaged(damage)));
+    Ok(())
+}
+
 #[test]
 fn a_node_is_opened_only_where_needed(rt: HostRuntime) -> Result<(), Fail> {
     let alloc = rt.alloc();
@@ -265,15 +288,14 @@ fn a_node_is_opened_only_where_needed(rt: HostRuntime) -> Result<(), Fail> {
     let cafe = has(alloc, "café")?;
     let both = nearest(alloc, &mut pages, &tree, 9, Some(&cafe))?;
     assert_eq!(rt; both.as_str(), "a 5, b 10, ");
-    let at = Point::new(0, 0).ok_or("off the map")?;
-    let ids = known(alloc)?;
-    let mut ranking = Ranking::nearest(&tree, &ids, &at, None);
-    let all = first_k(alloc, &mut pages, &mut ranking, 3);
     let damage = Damage {
         page: 2,
         rule: Rule::Fill,
     };
-    assert_eq!(rt; all.err(), Some(PageFault::Damaged(damage)));
+    assert_eq!(rt;
+        refused(alloc, &mut pages, &tree)?,
+        Some(PageFault::Damaged(damage))
+    );
     let empty = Tree { root: 0, rows: 0 };
     let none = nearest(alloc, &mut pages, &empty, 9, None)?;
     assert_eq!(rt; none.as_str(), "");
