@@ -8,8 +8,7 @@ use Rattle.paged_map.specs.Maps.{IsMapDamaged}
 use Rattle.node_rows.specs.declared.roots.Tree.{Tree}
 use Rattle.store_tables.specs.Holding.{texts_form}
 use Rattle.store_tables.specs.declared.tables.Tables.{Tables}
-use Rattle.boolean_queries.specs.Harms.{IsQueryHarm}
-use Rattle.tree_ranking.specs.Harms.{IsHarm}
+use Rattle.collective_query.specs.Searches.{IsSearchHarm}
 
 -- a page of the words by text that was asked for breaks a rule
 abbrev pub IsTextHarm : PageMap → ℕ → Tables → List ℕ → List ℕ → Damage → Type 0
@@ -19,13 +18,8 @@ IsTextHarm pages count tables before after damage = IsMapDamaged texts_form page
 abbrev pub BehindWords : PageMap → Tables → List ℕ → (List ℕ → Type 0) → Type 0
 BehindWords pages tables before So = (between : List ℕ) × AsksOnly (map_uses texts_form pages tables.texts) before between × So between
 
--- a page of the tree or of its rows of words that was asked for breaks a rule, as a walk says it or as a ranked search does
-abbrev pub IsTreeHarm : PageMap → ℕ → Tree → List ℕ → List ℕ → Damage → Type 0
-IsTreeHarm pages count tree before after damage =
-    IsQueryHarm pages count tree.rows tree.root before after damage ⊎ IsHarm pages count tree.rows before after damage
-
 -- A page that was asked for breaks a rule: one of the words by text, or behind these one of the tree or of its rows of words.
 abbrev pub IsAnswerHarm : PageMap → ℕ → Tables → Tree → List ℕ → List ℕ → Damage → Type 0
 IsAnswerHarm pages count tables tree before after damage =
     IsTextHarm pages count tables before after damage
-    ⊎ BehindWords pages tables before (λ between. IsTreeHarm pages count tree between after damage)
+    ⊎ BehindWords pages tables before (λ between. IsSearchHarm pages count tree between after damage)

@@ -11,8 +11,9 @@ ghost use Rattle.rtree_nodes.specs.Pages.{node_of};
 ghost use Rattle.irtree_shape.specs.Made.{nodes_in};
 ghost use Rattle.irtree_shape.specs.Whole.{IsWhole};
 ghost use Rattle.tree_entries.specs.Entries.{tree_places};
+ghost use Rattle.collective_query.specs.Searches.{IsSearchHarm};
 ghost use Rattle.tree_answers.specs.Answers.{cut_by, hits_by, IsAnswer};
-ghost use Rattle.tree_answers.specs.Damages.{IsAnswerHarm, IsTreeHarm};
+ghost use Rattle.tree_answers.specs.Damages.{IsAnswerHarm};
 ghost use Rattle.tree_answers.specs.Opened.{AreFewOpened, FewOpened, IsRowsPage};
 ghost use Rattle.tree_answers.specs.Standing.{RootsStand};
 
@@ -40,7 +41,7 @@ fn tree_hits<P: Pages>(
     ensures opened { (free : List ℕ) → IsWhole node_of (view (P.pages pages.old) tree.now.rows (P.count pages.old) (P.first pages.old) free) tree.now.root → AreTold (P.pages pages.old) (P.count pages.old)
         → IfOk result (λ found. FewOpened (IsRowsPage (P.pages pages.old) tree.now) (P.pages pages.old) tree.now ids.now query.now (P.asked pages.old) (P.asked pages.new) found.items) }
     ensures damaged { AreTold (P.pages pages.old) (P.count pages.old) → (damage : Damage) → IsErrOf result (PageFault.Damaged damage)
-        → IsTreeHarm (P.pages pages.old) (P.count pages.old) tree.now (P.asked pages.old) (P.asked pages.new) damage }
+        → IsSearchHarm (P.pages pages.old) (P.count pages.old) tree.now (P.asked pages.old) (P.asked pages.new) damage }
     ensures honest { (free : List ℕ) → IsWhole node_of (view (P.pages pages.old) tree.now.rows (P.count pages.old) (P.first pages.old) free) tree.now.root → AreTold (P.pages pages.old) (P.count pages.old)
         → (damage : Damage) → result ≢ Err (PageFault.Damaged damage) }
     ensures fails { FailsReading P.Pages pages.old pages.new result }

@@ -14,7 +14,7 @@ use Rattle.tree_entries.specs.Entries.{tree_places}
 use Rattle.boolean_queries.specs.Opens.{Fits}
 use Rattle.opened_nodes.proofs.Behinds.{few-behind}
 use Rattle.tree_answers.specs.Opened.{AreFewOpened, FewOpened, IsRowsPage, IsTextsPage}
-use Rattle.tree_answers.specs.Damages.{IsTreeHarm}
+use Rattle.collective_query.specs.Searches.{IsSearchHarm}
 use Rattle.tree_answers.specs.Answers.{cut_by, hits_by, IsAnswer}
 use Rattle.tree_answers.proofs.Kept.{roots-kept}
 use Rattle.tree_answers.proofs.Members.{kept-answer}
@@ -52,8 +52,8 @@ returns-clause-damaged g c = λ told damage is.
     inr (
       between,
       c.ids_of.ensures.own told,
-      subst (λ (count : ℕ). IsTreeHarm old count tree between after damage) f.count
-          (subst (λ (pages : PageMap). IsTreeHarm pages (P.count c.ids_of.new.pages) tree between after damage) f.pages harm),
+      subst (λ (count : ℕ). IsSearchHarm old count tree between after damage) f.count
+          (subst (λ (pages : PageMap). IsSearchHarm pages (P.count c.ids_of.new.pages) tree between after damage) f.pages harm),
     )
 
 pub returns-in-Err-clause-honest : goal.returns-in-Err-clause-honest

@@ -12,7 +12,7 @@ use Rattle.boolean_queries.specs.Opens.{Fits}
 use Rattle.opened_nodes.proofs.Words.{few-behind-words}
 use Rattle.collective_query.specs.Opened.{given_to, picks_in}
 use Rattle.collective_query.specs.TreePicks.{tree_choices}
-use Rattle.tree_answers.specs.Damages.{IsTreeHarm}
+use Rattle.collective_query.specs.Searches.{IsSearchHarm}
 use Rattle.tree_answers.specs.Opened.{AreFewOpenedForGroup, FewOpenedForGroup, IsRowsPage, IsTextsPage}
 use Rattle.tree_answers.proofs.Choices.{kept-least}
 use Rattle.tree_answers.proofs.Kept.{roots-kept}
@@ -51,8 +51,8 @@ returns-clause-damaged g c = λ told damage is.
     inr (
       between,
       c.ids_of_words.ensures.own told,
-      subst (λ (count : ℕ). IsTreeHarm old count tree between after damage) f.count
-          (subst (λ (pages : PageMap). IsTreeHarm pages (P.count c.ids_of_words.new.pages) tree between after damage) f.pages harm),
+      subst (λ (count : ℕ). IsSearchHarm old count tree between after damage) f.count
+          (subst (λ (pages : PageMap). IsSearchHarm pages (P.count c.ids_of_words.new.pages) tree between after damage) f.pages harm),
     )
 
 pub returns-in-Err-clause-honest : goal.returns-in-Err-clause-honest
