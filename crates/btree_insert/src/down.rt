@@ -69,6 +69,7 @@ fn step_from<P: Pages>(
     ensures top { 0 < bounds.new.top → bounds.new.top ≡ form.key }
     ensures asked { P.asked pages.new ≡ P.asked pages.old }
     ensures frame { Reads P.Pages pages.old pages.new }
+    ensures faults { P.faults pages.new ≡ P.faults pages.old }
 {
     match inner_count(
         pages,

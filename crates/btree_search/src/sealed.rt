@@ -34,6 +34,7 @@ pub fn leaf_count<P: Pages>(
     ensures looked { P.looked pages.new ≡ P.looked pages.old }
     ensures asked { P.asked pages.new ≡ P.asked pages.old }
     ensures frame { Reads P.Pages pages.old pages.new }
+    ensures faults { P.faults pages.new ≡ P.faults pages.old }
 {
     let seal = seal_of(form, 0);
     if pages.is_sealed(seal) {
@@ -68,6 +69,7 @@ pub fn inner_count<P: Pages>(
     ensures looked { P.looked pages.new ≡ P.looked pages.old }
     ensures asked { P.asked pages.new ≡ P.asked pages.old }
     ensures frame { Reads P.Pages pages.old pages.new }
+    ensures faults { P.faults pages.new ≡ P.faults pages.old }
 {
     let seal = seal_of(form, level);
     if pages.is_sealed(seal) {
@@ -188,6 +190,7 @@ pub fn step_down<P: Pages>(
     ensures top { 0 < bounds.new.top → bounds.new.top ≡ form.key }
     ensures asked { P.asked pages.new ≡ P.asked pages.old }
     ensures frame { Reads P.Pages pages.old pages.new }
+    ensures faults { P.faults pages.new ≡ P.faults pages.old }
 {
     match inner_count(
         pages,

@@ -1,9 +1,9 @@
 -- Several searches of a tree, one after another.
-use Rattle.std.proofs.Common.{◌≡◌, ℕ, List, [], ◌++◌, ◌∙◌, append_assoc, append-nil, ap, subst, sym, Result, Ok, Err, arith, inl, inr, ⊎_elim}
+use Rattle.std.proofs.Common.{◌≡◌, ℕ, List, [], ◌++◌, ◌∙◌, append_assoc, append-nil, ap, subst, sym, refl, Result, Ok, Err, arith, inl, inr, ⊎_elim}
 use Rattle.std.specs.Prelude.{IsErrOf, IfOk, OnOk}
 use Rattle.page_face.specs.FreeList.{PageMap}
 use Rattle.page_face.specs.Calls.{FailsReading}
-use Rattle.page_face.specs.Causes.{Rose}
+use Rattle.page_face.specs.Causes.{Rose, HidesNoFault}
 use Rattle.page_face.specs.declared.fault.Damage.{Damage}
 use Rattle.page_face.specs.declared.fault.PageFault.{PageFault}
 use Rattle.page_face.specs.declared.fault.PageFault.TheVariants.{Damaged, Memory}
@@ -30,8 +30,8 @@ goes-then : (old mid new : List ℕ) → GoesOn old mid → GoesOn mid new → G
 goes-then old mid new a b = record { more = a.more ++ b.more; is = b.is ∙ ap (λ l. l ++ b.more) a.is ∙ append_assoc old a.more b.more }
 
 -- a call that isn't refused
-fails-ok : {P X : Type 0} (g : Ghosts P) (a b : P) (x : X) → FailsReading g a b (Ok x)
-fails-ok g a b x = record { disk = λ e. absurd (cc); room_left = λ e. absurd (cc); stopped = λ e. absurd (cc) }
+fails-ok : {P X : Type 0} (g : Ghosts P) (a b : P) (x : X) → g.faults b ≡ g.faults a → FailsReading g a b (Ok x)
+fails-ok g a b x same = record { disk = λ e. absurd (cc); hides_none = same; room_left = λ e. absurd (cc); stopped = λ e. absurd (cc) }
 
 -- no search
 pub searches-none : {P X : Type 0} (g : Ghosts P) (tree : Tree) (a : P) (x : X) → g.only_reads a a → g.follows_from a a → Searches g tree a a (Ok x)
@@ -39,7 +39,7 @@ searches-none g tree a x r f = record {
   honest = λ fits damage e. absurd (cc);
   damaged = λ told damage e. absurd (cc);
   log = λ told. record { more = []; is = sym (append-nil (g.asked a)) };
-  fails = fails-ok g a a x;
+  fails = fails-ok g a a x refl;
   frame = reads-none g a r f;
 }
 
@@ -49,7 +49,7 @@ searches-ok g tree a b x y s = record {
   honest = λ fits damage e. absurd (cc);
   damaged = λ told damage e. absurd (cc);
   log = s.log;
-  fails = fails-ok g a b y;
+  fails = fails-ok g a b y s.fails.hides_none;
   frame = s.frame;
 }
 
@@ -63,7 +63,7 @@ searches-memory g tree a b x s = record {
   honest = λ fits damage e. absurd (cc);
   damaged = λ told damage e. absurd (cc);
   log = λ told. tt;
-  fails = record { disk = λ e. absurd (cc); room_left = λ e. absurd (cc); stopped = λ e. absurd (cc) };
+  fails = record { disk = λ e. absurd (cc); hides_none = λ other. s.fails.hides_none; room_left = λ e. absurd (cc); stopped = λ e. absurd (cc) };
   frame = s.frame;
 }
 
@@ -77,7 +77,7 @@ searches-refused {P} {X} {Y} g tree a b r fault is s =
       honest = λ fits damage e. s.honest fits damage (same (Damaged damage) e);
       damaged = λ told damage e. s.damaged told damage (same (Damaged damage) e);
       log = λ told. tt;
-      fails = record { disk = λ e. f.disk (same _ e); room_left = λ e. f.room_left (same _ e); stopped = λ e. f.stopped (same _ e) };
+      fails = record { disk = λ e. f.disk (same _ e); hides_none = refused.fails.hides_none; room_left = λ e. f.room_left (same _ e); stopped = λ e. f.stopped (same _ e) };
       frame = s.frame;
     }
 
@@ -95,6 +95,7 @@ searches-then {Y = Y} g further more tree a b c x r s k =
       log = λ told. logs r (s.log told) (k.log (still told));
       fails = record {
         disk = λ e n. (let d : Rose (g.faults b) (g.faults c) = l.disk e in let m = f.faults in grind (arith, d));
+        hides_none = subst (λ (n : ℕ). HidesNoFault r n (g.faults c)) s.fails.hides_none l.hides_none;
         room_left = l.room_left;
         stopped = λ e. rw (sym f.goes_on) (l.stopped e);
       };

@@ -5,6 +5,7 @@ pub mod Dues
 pub mod EachRead
 pub mod Effects
 pub mod Heads
+pub mod Hiding
 pub mod Logs
 pub mod Named
 pub mod NoHead

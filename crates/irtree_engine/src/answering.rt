@@ -70,10 +70,6 @@ impl<'d, D: Station> Engine<'d, D> {
             return Err(EngineFault::Stopped);
         }
         let head = self.store.head();
-        let answer = answer_in(self.alloc, &mut self.store, &head, query);
-        if self.store.has_failed() {
-            return Err(EngineFault::Disk);
-        }
-        Ok(answer?)
+        Ok(answer_in(self.alloc, &mut self.store, &head, query)?)
     }
 }

@@ -1,5 +1,5 @@
 //! One update, or a batch of them, of the tables, the tree and page 0's fields, over any pages.
-ghost use Rattle.std.specs.Prelude.{◌≡◌, ℕ, ◌≤◌, ◌<◌, ◌+◌, ◌^◌, ◌↔◌, List, ◌∷◌, Option, Ok, IsTrue, IfOk, IfErr, OnOk, IsErrOf, length, option_map, ◌≢◌};
+ghost use Rattle.std.specs.Prelude.{◌≡◌, ℕ, ◌≤◌, ◌<◌, ◌+◌, ◌^◌, ◌↔◌, List, ◌∷◌, Option, Ok, Err, IsTrue, IfOk, IfErr, OnOk, IsErrOf, length, option_map, ◌≢◌};
 ghost use Rattle.std.specs.List.{AllByRecursion};
 ghost use Rattle.page_face.specs.Causes.{Rose};
 ghost use Rattle.btree_nodes.specs.Damages.{AreTold};
@@ -52,6 +52,7 @@ pub(crate) fn update<P: Pages>(
     ensures causes { IfErr result IsUpdateFault }
     ensures one_more { (head.new.live ≤ head.old.live + 1) × (head.new.number ≤ head.old.number + 1) }
     ensures disk { IsErrOf result EngineFault.Disk → Rose (P.faults pages.old) (P.faults pages.new) }
+    ensures stays { result ≢ Err EngineFault.Disk → P.faults pages.new ≡ P.faults pages.old }
     ensures no_room { IsErrOf result EngineFault.NoRoom → Rose (P.refused pages.old) (P.refused pages.new) }
     ensures stopped { IsErrOf result EngineFault.Stopped → IsTrue (P.is_stopped pages.old) }
 
@@ -89,6 +90,7 @@ pub(crate) fn update_all<P: Pages>(
     ensures causes { IfErr result IsUpdateFault }
     ensures one_more_each { (head.new.live ≤ head.old.live + length updates.now) × (head.new.number ≤ head.old.number + length updates.now) }
     ensures disk { IsErrOf result EngineFault.Disk → Rose (P.faults pages.old) (P.faults pages.new) }
+    ensures stays { result ≢ Err EngineFault.Disk → P.faults pages.new ≡ P.faults pages.old }
     ensures no_room { IsErrOf result EngineFault.NoRoom → Rose (P.refused pages.old) (P.refused pages.new) }
     ensures stopped { IsErrOf result EngineFault.Stopped → IsTrue (P.is_stopped pages.old) }
 
@@ -130,6 +132,7 @@ fn update_in_batch<P: Pages>(
     ensures causes { IfErr result IsUpdateFault }
     ensures one_more { (head.new.live ≤ head.old.live + 1) × (head.new.number ≤ head.old.number + 1) }
     ensures disk { IsErrOf result EngineFault.Disk → Rose (P.faults pages.old) (P.faults pages.new) }
+    ensures stays { result ≢ Err EngineFault.Disk → P.faults pages.new ≡ P.faults pages.old }
     ensures no_room { IsErrOf result EngineFault.NoRoom → Rose (P.refused pages.old) (P.refused pages.new) }
     ensures stopped { IsErrOf result EngineFault.Stopped → IsTrue (P.is_stopped pages.old) }
 
@@ -177,6 +180,7 @@ fn hold_ahead<P: Pages>(
     ensures causes { IfErr result IsUpdateFault }
     ensures same { (head.new.live ≡ head.old.live) × (head.new.number ≡ head.old.number) }
     ensures disk { IsErrOf result EngineFault.Disk → Rose (P.faults pages.old) (P.faults pages.new) }
+    ensures stays { result ≢ Err EngineFault.Disk → P.faults pages.new ≡ P.faults pages.old }
     ensures no_room { IsErrOf result EngineFault.NoRoom → Rose (P.refused pages.old) (P.refused pages.new) }
     ensures stopped { IsErrOf result EngineFault.Stopped → IsTrue (P.is_stopped pages.old) }
 
@@ -288,6 +292,7 @@ fn put<P: Pages>(
     ensures causes { IfErr result IsUpdateFault }
     ensures one_more { (head.new.live ≤ head.old.live + 1) × (head.new.number ≤ head.old.number + 1) }
     ensures disk { IsErrOf result EngineFault.Disk → Rose (P.faults pages.old) (P.faults pages.new) }
+    ensures stays { result ≢ Err EngineFault.Disk → P.faults pages.new ≡ P.faults pages.old }
     ensures no_room { IsErrOf result EngineFault.NoRoom → Rose (P.refused pages.old) (P.refused pages.new) }
     ensures stopped { IsErrOf result EngineFault.Stopped → IsTrue (P.is_stopped pages.old) }
 
@@ -350,6 +355,7 @@ fn remove<P: Pages>(
     ensures causes { IfErr result IsUpdateFault }
     ensures one_more { (head.new.live ≤ head.old.live + 1) × (head.new.number ≤ head.old.number + 1) }
     ensures disk { IsErrOf result EngineFault.Disk → Rose (P.faults pages.old) (P.faults pages.new) }
+    ensures stays { result ≢ Err EngineFault.Disk → P.faults pages.new ≡ P.faults pages.old }
     ensures no_room { IsErrOf result EngineFault.NoRoom → Rose (P.refused pages.old) (P.refused pages.new) }
     ensures stopped { IsErrOf result EngineFault.Stopped → IsTrue (P.is_stopped pages.old) }
 

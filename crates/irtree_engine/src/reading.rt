@@ -58,10 +58,6 @@ impl<'d, D: Station> Engine<'d, D> {
             return Err(EngineFault::Stopped);
         }
         let tables = tables_of(&self.store.head());
-        let shown = place_at(self.alloc, &mut self.store, &tables, key);
-        if self.store.has_failed() {
-            return Err(EngineFault::Disk);
-        }
-        Ok(shown?)
+        Ok(place_at(self.alloc, &mut self.store, &tables, key)?)
     }
 }

@@ -79,18 +79,13 @@ impl<'d, D: Station> Engine<'d, D> {
             Err(fault) => return Err(fault),
         }
         let mut head = self.store.head();
-        let changed = change::update(
+        let applied = match change::update(
             self.alloc,
             &mut self.store,
             &mut head,
             &mut *self.policy,
             update,
-        );
-        if self.store.has_failed() {
-            self.store.abandon();
-            return Err(EngineFault::Disk);
-        }
-        let applied = match changed {
+        ) {
             Ok(applied) => applied,
             Err(fault) => {
                 self.store.abandon();
@@ -148,18 +143,13 @@ impl<'d, D: Station> Engine<'d, D> {
             Err(fault) => return Err(fault),
         }
         let mut head = self.store.head();
-        let changed = change::update_all(
+        if let Err(fault) = change::update_all(
             self.alloc,
             &mut self.store,
             &mut head,
             &mut *self.policy,
             updates,
-        );
-        if self.store.has_failed() {
-            self.store.abandon();
-            return Err(EngineFault::Disk);
-        }
-        if let Err(fault) = changed {
+        ) {
             self.store.abandon();
             return Err(fault);
         }
@@ -189,7 +179,6 @@ fn begin<'d, D: Station>(
     ensures takes { OnOk result (store.new.takes_left ≡ most_takes updates store.old.current.counted) }
     ensures counts { OnOk result (store.old.refused < 2 ^ 64 - 1) }
     ensures log { store.new.asked.items ≡ [] }
-    ensures unfailed { store.new.failed ≡ false }
     ensures current { store.new.current ≡ store.old.current }
     ensures last { store.new.last ≡ store.old.last }
     ensures overlay { store.new.overlay ≡ store.old.overlay }

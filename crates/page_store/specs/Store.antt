@@ -1,12 +1,12 @@
 -- How the calls of a store leave its disk.
-use Rattle.std.specs.Prelude.{◌≡◌, ◌⊎◌, ℕ, ◌*◌, ◌≤◌, Bool, true, false, IsTrue, List, [], ◌∷◌, ◌++◌, Contains}
-use Rattle.std.proofs.Common.{refl, inl, inr, sym, subst, ap, ◌∙◌, arith, append_assoc}
+use Rattle.std.specs.Prelude.{◌≡◌, ◌⊎◌, ℕ, ◌*◌, ◌≤◌, Bool, IsTrue, List, [], ◌∷◌, ◌++◌, Contains}
+use Rattle.std.proofs.Common.{refl, sym, subst, ap, ◌∙◌, arith, append_assoc}
 use Rattle.std.proofs.lemmas.List.{append-nil}
 use Rattle.std.proofs.lemmas.List.Elements.{Contains-append_left, Contains-append_right}
 use Rattle.std.specs.List.{AllByRecursion}
 use Rattle.disk_model.proofs.Moments.{started, then}
 use Rattle.std.specs.Borrow.{MutBor}
-use Rattle.disk_model.specs.World.{World, Image, Range, LeavesOnly, Nothing, Rose}
+use Rattle.disk_model.specs.World.{World, Image, Range, LeavesOnly, Nothing}
 use Rattle.disk_model.specs.declared.disk.Area.TheVariants.{Pages}
 use Rattle.page_face.specs.declared.head.Head.{Head}
 use Rattle.page_store.specs.Contents.{Overlay}
@@ -34,13 +34,7 @@ pub record Kept : Type 0 where
 abbrev pub kept_of : Superblock → Superblock → Kept
 kept_of current last = record { head = current.head; last = last }
 
--- From old to new a failure is noted just where the disk's count of faults rose, or stands at its last value.
-pub record NotesFailures (faults_old faults_new : ℕ) (failed_old failed_new : Bool) : Type 0 where
-  pub none : failed_new ≡ false → (failed_old ≡ false) × (faults_new ≡ faults_old)
-  pub some : failed_new ≡ true → (failed_old ≡ true) ⊎ Rose faults_old faults_new
-
--- The head stands as it did; the same loan, whose disk changed no area and said nothing; no count fell, and none outran the takes left; and
--- each failure was noted.
+-- The head stands as it did; the same loan, whose disk changed no area and said nothing; no count fell, and none outran the takes left.
 pub record GoesOn {D : Type 0} (tells : Bool) (world : D → World) (room_of : D → ℕ) (kept_old kept_new : Kept) (counts_old counts_new : Counts) (old new : MutBor D) : Type 0 where
   pub kept : kept_new ≡ kept_old
   pub loan : new.ghost_name ≡ old.ghost_name
@@ -49,7 +43,6 @@ pub record GoesOn {D : Type 0} (tells : Bool) (world : D → World) (room_of : D
   pub sink : (world new.now).sink_faults ≡ (world old.now).sink_faults
   pub rests : IsTrue tells → Rests (world old.now) (world new.now)
   pub takes : Takes (room_of old.now) counts_old counts_new
-  pub failures : NotesFailures (world old.now).faults (world new.now).faults counts_old.failed counts_new.failed
 
 -- one run of calls after another
 pub rests_then : {a b c : World} → Rests a b → Rests b c → Rests a c
@@ -58,22 +51,6 @@ rests_then ab bc = record {
   crash = λ image may. ab.crash image (bc.crash image may);
   adds = then ab.adds bc.adds;
   said = bc.said ∙ ab.said;
-}
-
--- a count that rose before rose in all, and so did one that rises behind
-some_further : (a b c : ℕ) (failed_a failed_b failed_c : Bool) → a ≤ b → b ≤ c → ((failed_b ≡ true) → (failed_a ≡ true) ⊎ Rose a b) → (failed_b ≡ true) ⊎ Rose b c → (failed_a ≡ true) ⊎ Rose a c
-some_further a b c failed_a failed_b failed_c ab bc first (inr rose) = inr (omega (arith, rose, ab))
-some_further a b c failed_a failed_b failed_c ab bc first (inl failed) = was (first failed)
-  where
-    was : (failed_a ≡ true) ⊎ Rose a b → (failed_a ≡ true) ⊎ Rose a c
-    was (inl before) = inl before
-    was (inr rose) = inr (omega (arith, rose, bc))
-
--- and one run of notes after another
-notes_further : {a b c : ℕ} {failed_a failed_b failed_c : Bool} → a ≤ b → b ≤ c → NotesFailures a b failed_a failed_b → NotesFailures b c failed_b failed_c → NotesFailures a c failed_a failed_c
-notes_further {a} {b} {c} {failed_a} {failed_b} {failed_c} ab bc f g = record {
-  none = λ unfailed. let late = g.none unfailed in let early = f.none late.0 in (early.0, late.1 ∙ early.1);
-  some = λ failed. some_further a b c failed_a failed_b failed_c ab bc f.some (g.some failed);
 }
 
 module _ {D : Type 0} (tells : Bool) (world : D → World) (room_of : D → ℕ) where
@@ -87,7 +64,6 @@ module _ {D : Type 0} (tells : Bool) (world : D → World) (room_of : D → ℕ)
     sink = refl;
     rests = λ t. record { seen = refl; crash = λ image may. may; adds = started (world a.now); said = refl };
     takes = takes_nothing (room_of a.now) counts;
-    failures = record { none = λ unfailed. (unfailed, refl); some = λ failed. inl failed };
   }
 
   -- one thing after another
@@ -102,7 +78,6 @@ module _ {D : Type 0} (tells : Bool) (world : D → World) (room_of : D → ℕ)
     sink = g.sink ∙ f.sink;
     rests = λ t. rests_then (f.rests t) (g.rests t);
     takes = takes_further (room_of a.now) counts_a counts_b counts_c f.takes (subst (λ (room : ℕ). Takes room counts_b counts_c) f.room g.takes);
-    failures = notes_further f.faults g.faults f.failures g.failures;
   }
 
 -- the read is of one of these pages, whole

@@ -1,17 +1,16 @@
 -- What a store counts as pages are taken.
-use Rattle.std.specs.Prelude.{◌≡◌, ◌⊎◌, ℕ, ◌+◌, ◌≤◌, Bool}
+use Rattle.std.specs.Prelude.{◌≡◌, ◌⊎◌, ℕ, ◌+◌, ◌≤◌}
 use Rattle.std.proofs.Common.{refl, ◌∙◌, inl, inr, arith}
 
--- the pages counted, the takes left of those allowed, the takes refused for want of room, and whether a read of the disk failed
+-- the pages counted, the takes left of those allowed, and the takes refused for want of room
 pub record Counts : Type 0 where
   pub counted : ℕ
   pub takes_left : ℕ
   pub refused : ℕ
-  pub failed : Bool
 
--- all four
-abbrev pub counts_of : ℕ → ℕ → ℕ → Bool → Counts
-counts_of counted takes_left refused failed = record { counted = counted; takes_left = takes_left; refused = refused; failed = failed }
+-- all three
+abbrev pub counts_of : ℕ → ℕ → ℕ → Counts
+counts_of counted takes_left refused = record { counted = counted; takes_left = takes_left; refused = refused }
 
 -- From old to new each page newly counted used up a take that was left. Where a take was refused, the pages counted fill the room.
 pub record Takes (room : ℕ) (old new : Counts) : Type 0 where

@@ -1,5 +1,5 @@
 //! Looking at a page, from memory or from the disk.
-ghost use Rattle.std.specs.Prelude.{◌≡◌, ◌<◌, ℕ, None, Some, IsTrue, IsSome, false, true, is_some, OnOk, OnErr, length};
+ghost use Rattle.std.specs.Prelude.{◌≡◌, ◌<◌, ℕ, None, Some, IsTrue, IsSome, false, is_some, OnOk, length};
 ghost use Rattle.disk_model.specs.World.{HasDiskCause};
 ghost use Rattle.disk_model.specs.declared.disk.Area.TheVariants as areas;
 ghost use Rattle.page_journal.specs.Record.{applied};
@@ -22,8 +22,6 @@ impl<'d, D: Disk> Store<'d, D> {
         ensures same_loan { self.new.disk.ghost_name ≡ self.old.disk.ghost_name }
         ensures reads { IsTrue D.tells → ReadsPage page (D.world self.old.disk.now) (D.world self.new.disk.now) }
         ensures cause { HasDiskCause (D.world self.old.disk.now) (D.world self.new.disk.now) result }
-        ensures noted { OnErr result (self.new.failed ≡ true) }
-        ensures unfailed { OnOk result (self.new.failed ≡ self.old.failed) }
         ensures room { D.room_of self.new.disk.now ≡ D.room_of self.old.disk.now }
         ensures overlay { self.new.overlay ≡ self.old.overlay }
         ensures current { self.new.current ≡ self.old.current }
@@ -45,7 +43,6 @@ impl<'d, D: Disk> Store<'d, D> {
         ensures gives { IsTrue result → held_page self.old.overlay self.old.journal self.old.cache page
             ≡ Some (looked_page self.new.place self.new.overlay self.new.journal self.new.cache self.new.spare) }
         ensures none { result ≡ false → held_page self.new.overlay self.new.journal self.new.cache page ≡ None }
-        ensures failed { self.new.failed ≡ self.old.failed }
         ensures disk { self.new.disk ≡ self.old.disk }
         ensures overlay { self.new.overlay ≡ self.old.overlay }
         ensures current { self.new.current ≡ self.old.current }
@@ -74,8 +71,6 @@ impl<'d, D: Disk> Store<'d, D> {
         ensures same_loan { self.new.disk.ghost_name ≡ self.old.disk.ghost_name }
         ensures reads { IsTrue D.tells → ReadsPage page (D.world self.old.disk.now) (D.world self.new.disk.now) }
         ensures cause { HasDiskCause (D.world self.old.disk.now) (D.world self.new.disk.now) result }
-        ensures noted { OnErr result (self.new.failed ≡ true) }
-        ensures unfailed { OnOk result (self.new.failed ≡ self.old.failed) }
         ensures room { D.room_of self.new.disk.now ≡ D.room_of self.old.disk.now }
         ensures overlay { self.new.overlay ≡ self.old.overlay }
         ensures current { self.new.current ≡ self.old.current }
@@ -93,10 +88,7 @@ impl<'d, D: Disk> Store<'d, D> {
                 self.place = held_pages::keep(&mut self.cache, page, &self.spare);
                 Ok(())
             }
-            Err(failed) => {
-                self.failed = true;
-                Err(failed)
-            }
+            Err(failed) => Err(failed),
         }
     }
 }

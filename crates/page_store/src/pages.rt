@@ -50,16 +50,16 @@ impl<'d, D: Disk> Pages for Store<'d, D> {
     ghost is_stopped = { λ s. s.stopped };
 
     ghost follows_from = { λ a b. GoesOn D.tells D.world D.room_of (kept_of a.current a.last) (kept_of b.current b.last)
-        (counts_of a.current.counted a.takes_left a.refused a.failed) (counts_of b.current.counted b.takes_left b.refused b.failed) a.disk b.disk };
+        (counts_of a.current.counted a.takes_left a.refused) (counts_of b.current.counted b.takes_left b.refused) a.disk b.disk };
 
     ghost only_reads = { λ a b. OnlyReads D.tells D.world a.overlay b.overlay a.asked.items b.asked.items a.disk.now b.disk.now };
 
     ghost first_is_counted = { λ s. s.current_first };
 
-    ghost stays = { λ s. goes_nowhere D.tells D.world D.room_of (kept_of s.current s.last) (counts_of s.current.counted s.takes_left s.refused s.failed) s.disk };
+    ghost stays = { λ s. goes_nowhere D.tells D.world D.room_of (kept_of s.current s.last) (counts_of s.current.counted s.takes_left s.refused) s.disk };
 
     ghost goes_further = { λ a b c f g. goes_further D.tells D.world D.room_of (kept_of a.current a.last) (kept_of b.current b.last) (kept_of c.current c.last)
-        (counts_of a.current.counted a.takes_left a.refused a.failed) (counts_of b.current.counted b.takes_left b.refused b.failed) (counts_of c.current.counted c.takes_left c.refused c.failed)
+        (counts_of a.current.counted a.takes_left a.refused) (counts_of b.current.counted b.takes_left b.refused) (counts_of c.current.counted c.takes_left c.refused)
         a.disk b.disk c.disk f g };
 
     ghost reads_nothing = { λ s. reads_nothing D.tells D.world s.overlay s.asked.items s.disk.now };
@@ -209,7 +209,6 @@ impl<'d, D: Disk> Store<'d, D> {
         ensures refused_more { IsErrOf result PageFault.NoRoom → Rose self.old.refused self.new.refused }
         ensures refused { result ≢ Err PageFault.NoRoom → self.new.refused ≡ self.old.refused }
         ensures refused_later { self.old.refused ≤ self.new.refused }
-        ensures failed { self.new.failed ≡ self.old.failed }
         ensures first { self.new.current.first_free ≡ 0 }
         ensures head { kept_of self.new.current self.new.last ≡ kept_of self.old.current self.old.last }
         ensures disk { self.new.disk ≡ self.old.disk }

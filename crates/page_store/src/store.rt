@@ -59,8 +59,6 @@ pub struct Store<'d, D: Disk> {
     // how many pages may still be taken
     pub(crate) takes_left: u64,
     pub(crate) stopped: bool,
-    // a read of the disk failed since the log was emptied
-    pub(crate) failed: bool,
     // committed pages, the one used last first
     pub(crate) cache: Cache,
     pub(crate) seals: Seals,
@@ -151,7 +149,6 @@ impl<'d, D: Disk> Store<'d, D> {
             refused: 0,
             takes_left: u64::MAX,
             stopped: false,
-            failed: false,
             cache: cache_of(alloc, cache),
             seals: Seals::new(alloc),
             hints: Hints::new(alloc),
@@ -179,7 +176,6 @@ impl<'d, D: Disk> Store<'d, D> {
             refused: _,
             takes_left: _,
             stopped: _,
-            failed: _,
             cache: _,
             seals: _,
             hints: _,
@@ -218,17 +214,9 @@ impl<'d, D: Disk> Store<'d, D> {
         &self.asked
     }
 
-    /// Whether a read of the disk failed since the log of reads was emptied.
-    pub fn has_failed(&self) -> bool
-        ensures { result ≡ self.now.failed }
-    {
-        self.failed
-    }
-
-    /// Empties the log of reads, and forgets that one failed.
+    /// Empties the log of reads.
     pub fn clear_log(&mut self)
         ensures log { self.new.asked.items ≡ [] }
-        ensures failed { self.new.failed ≡ false }
         ensures current { self.new.current ≡ self.old.current }
         ensures last { self.new.last ≡ self.old.last }
         ensures overlay { self.new.overlay ≡ self.old.overlay }
@@ -239,7 +227,6 @@ impl<'d, D: Disk> Store<'d, D> {
         ensures stopped { self.new.stopped ≡ self.old.stopped }
     {
         self.asked.clear();
-        self.failed = false;
     }
 
     /// Allows so many takes from now on, in place of what was left of the takes allowed before. A new store allows 2^64 - 1.
@@ -254,7 +241,6 @@ impl<'d, D: Disk> Store<'d, D> {
         ensures counts { OnOk result (self.old.refused < 2 ^ 64 - 1) }
         ensures worn { IfErr result (λ fault. (fault ≡ PageFault.Memory) × (self.old.refused ≡ 2 ^ 64 - 1) × (self.new.takes_left ≡ self.old.takes_left)) }
         ensures log { self.new.asked.items ≡ self.old.asked.items }
-        ensures failed { self.new.failed ≡ self.old.failed }
         ensures current { self.new.current ≡ self.old.current }
         ensures last { self.new.last ≡ self.old.last }
         ensures overlay { self.new.overlay ≡ self.old.overlay }

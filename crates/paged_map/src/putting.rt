@@ -1,7 +1,7 @@
 //! A row that is put into a map by its root.
 ghost use Rattle.std.specs.Prelude.{◌≡◌, ◌≢◌, ◌⊎◌, ℕ, ◌<◌, ◌≤◌, List, length, IfOk, OnOk, IsErrOf, IsTrue, is_some};
 ghost use Rattle.page_face.specs.Calls.{Changes, FailsChanging};
-ghost use Rattle.page_face.specs.Causes.{Rose};
+ghost use Rattle.page_face.specs.Causes.{Rose, HidesNoFault};
 ghost use Rattle.page_face.specs.Number.{number};
 ghost use Rattle.btree_nodes.specs.Supply.{view};
 ghost use Rattle.btree_nodes.specs.Rows.{lookup, put};
@@ -60,6 +60,7 @@ pub fn put_below<P: Pages>(
         ⊎ IsRefusedTake (P.pages pages.new) (P.count pages.new) (P.first pages.new) damage }
     ensures own { AreTold (P.pages pages.old) (P.count pages.old) → AsksOnly (map_uses form (P.pages pages.old) root) (P.asked pages.old) (P.asked pages.new) }
     ensures disk { IsErrOf result PageFault.Disk → Rose (P.faults pages.old) (P.faults pages.new) }
+    ensures hides_none { HidesNoFault result (P.faults pages.old) (P.faults pages.new) }
     ensures refused_more { IsErrOf result PageFault.NoRoom → Rose (P.refused pages.old) (P.refused pages.new) }
     ensures stopped { IsErrOf result PageFault.Stopped → IsTrue (P.is_stopped pages.old) }
 

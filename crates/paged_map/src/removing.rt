@@ -1,7 +1,7 @@
 //! A row that is taken out of a map by its root.
 ghost use Rattle.std.specs.Prelude.{◌≡◌, ◌≢◌, ℕ, ◌^◌, ◌<◌, ◌≤◌, List, length, IfOk, OnOk, IsErrOf, IsTrue, is_some};
 ghost use Rattle.page_face.specs.Calls.{Changes, FailsReading};
-ghost use Rattle.page_face.specs.Causes.{Rose, IsUncounted};
+ghost use Rattle.page_face.specs.Causes.{Rose, HidesNoFault, IsUncounted};
 ghost use Rattle.page_face.specs.Number.{number};
 ghost use Rattle.btree_nodes.specs.Supply.{View, view};
 ghost use Rattle.btree_nodes.specs.Rows.{Row, lookup, without};
@@ -81,6 +81,7 @@ pub fn remove_below<P: Pages>(
     ensures stays { (damage : Damage) → IsErrOf result (PageFault.Damaged damage) → P.pages pages.new ≡ P.pages pages.old }
     ensures own { AreTold (P.pages pages.old) (P.count pages.old) → AsksOnly (map_uses form (P.pages pages.old) root) (P.asked pages.old) (P.asked pages.new) }
     ensures disk { IsErrOf result PageFault.Disk → Rose (P.faults pages.old) (P.faults pages.new) }
+    ensures hides_none { HidesNoFault result (P.faults pages.old) (P.faults pages.new) }
     ensures room_left { result ≢ Err PageFault.NoRoom }
     ensures stopped { IsErrOf result PageFault.Stopped → IsTrue (P.is_stopped pages.old) }
 

@@ -1,4 +1,4 @@
-use Rattle.std.proofs.Common.{◌∙◌, ap, ◌≡◌, ◌++◌, ℕ, List, Err, sym, subst, ⊎_elim, Vec, Global}
+use Rattle.std.proofs.Common.{◌∙◌, ap, ◌≡◌, ◌++◌, ℕ, List, Err, sym, subst, ⊎_elim, Vec, Global, rules}
 use Rattle.std.specs.BinaryHeap.{heap_items}
 use Rattle.std.specs.List.{AllByRecursion}
 use Rattle.std.proofs.lemmas.Result.{err_from_is_err_and}
@@ -35,6 +35,7 @@ search-init g c =
       fits = c.start.ensures.fits;
       harms = c.start.ensures.same_harms;
       frame = c.start.ensures.frame;
+      faults = search rules;
       ranked = kept_ranked c.args.k (c.new-found.result.items ++ places_of items) _ sorted.found;
       short = kept_short c.args.k (c.new-found.result.items ++ places_of items) _ sorted.found;
       search = λ f. started opens (g.R.Ranked.starts c.args.ranked.now c.args.pages.now) items c.args.k _ _ c.new-found.result.items _ c.new-queue.ensures c.new-found.ensures.items (value ∙ given.gives f) sorted.queue sorted.found (g.met.R.Ranked.starts_bounded c.args.ranked.now c.args.pages.now f);
@@ -75,6 +76,7 @@ search-preserved g c =
       fits = λ f. c.open.ensures.fits (kept.fits f);
       harms = λ old new damage h. kept.harms old new damage (c.open.ensures.same_harms old new damage h);
       frame = reads_then g.P.Pages g.met.P.Pages.goes_further g.met.P.Pages.reads_further _ _ _ kept.frame c.open.ensures.frame;
+      faults = search rules;
       ranked = kept_ranked c.args.k (c.search.found.items ++ places_of items) _ sorted.found;
       short = kept_short c.args.k (c.search.found.items ++ places_of items) _ sorted.found;
       search = λ f. node_next opens _ c.args.k node.page node.level node.bound items _ _ _ c.search.found.items _ (kept.search f) c.in-Some.ensures.some (gives f) (rw value given.children) sorted.queue sorted.found;

@@ -25,6 +25,7 @@ invariant-search g l = record {
   fits : g.R.Ranked.fits l.fn.ranked l.fn.pages → g.R.Ranked.fits l.ranked l.pages;
   harms : (old new : List ℕ) (damage : Damage) → g.R.Ranked.harms l.ranked l.pages old new damage → g.R.Ranked.harms l.fn.ranked l.fn.pages old new damage;
   frame : Reads g.P.Pages l.fn.pages l.pages;
+  faults : g.P.Pages.faults l.pages ≡ g.P.Pages.faults l.fn.pages;
   ranked : IsRanked comes_before l.found.items;
   short : length l.found.items ≤ l.k;
   search : g.R.Ranked.fits l.fn.ranked l.fn.pages → Searching (g.R.Ranked.opens l.fn.ranked l.fn.pages) (leads (g.R.Ranked.opens l.fn.ranked l.fn.pages) (g.R.Ranked.starts l.fn.ranked l.fn.pages)) l.k l.found.items (waiting (heap_items l.queue.heap));

@@ -49,6 +49,7 @@ walk-init g c =
     let alone = root-alone root level c.new-waiting.result.items c.push.new.self.items c.new-waiting.ensures.items c.in-Ok.ensures.items in
     record {
       frame = search rules;
+      faults = search rules;
       search = λ good. walk-begun opens (Node root level 0 ∷ []) (waits c.push.new.self.items) c.new-found.result.items c.new-found.ensures.items alone;
       sound = λ good. rw alone ((good.node, good.counted), tt);
       history = λ told. begun c.args.query.now.region old (map_uses rows_form old rows) (IsGood old rows (p.count c.args.pages.now) level root) opens root level (waits c.push.new.self.items) c.new-found.result.items (p.asked c.args.pages.now) c.new-found.ensures.items alone;
@@ -103,6 +104,7 @@ walk-preserved g c =
     let here = λ (good : IsGood old rows count c.args.level root). sound-last nodes count page level node.bound queue rest q (kept_so.sound good) in
     record {
       frame = reads_then p g.met.P.Pages.goes_further g.met.P.Pages.reads_further _ _ _ f c.open.ensures.frame;
+      faults = search rules;
       search = λ good. walk-node opens (leads opens (Node root c.args.level 0 ∷ [])) now found page level node.bound items queue rest new q (gives good.map (here good).0) c.in-Ok-open.ensures.children n h (kept_so.search good);
       sound = λ good. sound-next nodes count page level node.bound region ids filter items queue rest new q n (gives good.map (here good).0) (kept_so.sound good);
       history = λ told.

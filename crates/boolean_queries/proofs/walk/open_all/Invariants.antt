@@ -1,4 +1,4 @@
-use Rattle.std.proofs.Common.{◌∷◌, []}
+use Rattle.std.proofs.Common.{◌≡◌, ◌∷◌, []}
 use Rattle.std.specs.List.{AllByRecursion}
 use Rattle.page_face.specs.Calls.{Reads}
 use Rattle.btree_nodes.specs.Damages.{AreTold}
@@ -28,6 +28,7 @@ invariant-walk g l =
     let good = IsGood (p.pages l.fn.pages) l.tree.rows (p.count l.fn.pages) l.level l.tree.root in
     record {
       frame : Reads p l.fn.pages l.pages;
+      faults : p.faults l.pages ≡ p.faults l.fn.pages;
       search : good → Walking opens (leads opens (Node l.tree.root l.level 0 ∷ [])) l.found.items (waits l.waiting.items);
       sound : good → AllByRecursion (IsSound nodes (p.count l.fn.pages)) (waits l.waiting.items);
       history : AreTold (p.pages l.fn.pages) (p.count l.fn.pages) → Underway l.query.region (p.pages l.fn.pages) (map_uses rows_form (p.pages l.fn.pages) l.tree.rows) good opens l.tree.root l.level (p.asked l.fn.pages) (p.asked l.pages) l.found.items (waits l.waiting.items);

@@ -600,6 +600,7 @@ returns-in_err-entries-clause-fails g t c =
     let passed = err_from_is_err_and c.from_residual-in_err-entries.result c.from_residual-in_err-entries.ensures.1 in
     rw (passed.1, passed.2) (record {
       disk = λ e. absurd (s.disk (c.in_err-entries.was ∙ ap Err (same-fault {T = Option ℕ} _ _ e)));
+      hides_none = λ other. c.settle_if_low.ensures.frame.faults ∙ c.in_ok-removed.ensures.fails.hides_none ∙ c.in_ok-beside.ensures.fails.hides_none ∙ c.in_ok-below.ensures.hides_none;
       room_left = λ e. s.room_left (c.in_err-entries.was ∙ ap Err (same-fault {T = Option ℕ} _ _ e));
       stopped = λ e. subst (λ (b : Bool). IsTrue b) before.goes_on (s.stopped (c.in_err-entries.was ∙ ap Err (same-fault {T = Option ℕ} _ _ e)));
     })

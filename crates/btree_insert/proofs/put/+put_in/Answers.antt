@@ -345,3 +345,11 @@ returns-in_err-more-clause-frame g t c =
 pub returns-clause-frame : goal.returns-clause-frame
 returns-clause-frame g t c =
     changes_then g.P.Pages g.met.P.Pages.goes_further _ _ _ (changes_then g.P.Pages g.met.P.Pages.goes_further _ _ _ (reads_change g.P.Pages _ _ c.in_ok-step.ensures.frame) c.put_in.ensures.frame) c.relink.ensures.frame
+
+pub returns-clause-fails : goal.returns-clause-fails
+returns-clause-fails g t c = record {
+  disk = λ e. absurd (cc);
+  hides_none = c.in_ok-more.ensures.fails.hides_none ∙ c.in_ok-grown.ensures.fails.hides_none ∙ c.in_ok-step.ensures.fails.hides_none;
+  full = λ e. absurd (cc);
+  stopped = λ e. absurd (cc);
+}

@@ -26,6 +26,7 @@ down-init g c = record {
     only_reads = g.met.P.Pages.reads_nothing c.args.pages.now;
     follows = g.met.P.Pages.stays c.args.pages.now;
   };
+  faults = refl;
 }
 
 pub returns-in-Err-look-clause-damaged : goal.returns-in-Err-look-clause-damaged
@@ -65,6 +66,7 @@ down-preserved g c =
       top = c.step_down.ensures.top;
       frame = reads_then g.P.Pages further more _ _ _ m (let f = c.look.ensures in
           record { pages = f.pages; count = f.count; first = f.first; room = f.room; faults = f.faults; refused = f.refused; goes_on = f.goes_on; only_reads = f.only_reads; follows = f.follows });
+      faults = c.in-Ok-look.ensures.hides_none ∙ c.in-Ok.ensures.faults ∙ c.down.invariant.faults;
     }
 
 pub returns-in-Ok-leaf_count-clause-located : goal.returns-in-Ok-leaf_count-clause-located

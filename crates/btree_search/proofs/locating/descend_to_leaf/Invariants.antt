@@ -17,4 +17,5 @@ invariant-down g l =
           (p.looked l.fn.pages) (p.asked l.fn.pages) l.fill l.height l.here (low_of l.form l.bounds) (high_of l.form l.bounds) (p.looked l.pages) (p.asked l.pages);
       top : 0 < l.bounds.top → l.bounds.top ≡ l.form.key;
       frame : Reads p l.fn.pages l.pages;
+      faults : p.faults l.pages ≡ p.faults l.fn.pages;
     }

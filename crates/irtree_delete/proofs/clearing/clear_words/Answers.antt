@@ -1,4 +1,4 @@
-use Rattle.std.proofs.Common.{◌≡◌, ℕ, ◌+◌, ◌<◌, ◌∙◌, ap, sym, take, get_or, List, arith, length, refl, Err}
+use Rattle.std.proofs.Common.{◌≡◌, ℕ, ◌+◌, ◌<◌, ◌∙◌, ap, sym, take, get_or, List, arith, length, refl, Err, rules}
 use Rattle.std.proofs.lemmas.List.{take_more}
 use Rattle.std.proofs.lemmas.Result.{err_from_is_err_and}
 use Rattle.page_face.specs.declared.fault.PageFault.TheVariants.{Damaged}
@@ -23,6 +23,7 @@ loop-pair-init g c = record {
   told = λ t. t;
   more = λ t. asks-nothing (λ _. 1) (g.P.Pages.asked c.args.pages.now) (g.P.Pages.asked c.args.pages.now) refl;
   frame = changes-none g.P.Pages c.args.pages.now (g.met.P.Pages.stays c.args.pages.now);
+  faults = search rules;
 }
 
 pub loop-pair-preserved : goal.loop-pair-preserved
@@ -48,6 +49,7 @@ loop-pair-preserved g c = record {
   told = λ t. c.in_ok-set_impact.ensures.told (c.loop-pair.invariant.told t);
   more = λ t. asks-further (λ _. 1) _ _ _ (c.loop-pair.invariant.more t) (c.set_impact.ensures.more (c.loop-pair.invariant.told t));
   frame = changes_then g.P.Pages g.met.P.Pages.goes_further _ _ _ c.loop-pair.invariant.frame c.set_impact.ensures.frame;
+  faults = search rules;
 }
 
 pub returns-in_err-set_impact-clause-honest : goal.returns-in_err-set_impact-clause-honest

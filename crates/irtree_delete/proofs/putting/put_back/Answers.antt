@@ -30,6 +30,7 @@ popped before now level root xs rest o words mine sums is same h =
 pub loop-orphan-init : goal.loop-orphan-init
 loop-orphan-init g c = record {
   frame = changes-none g.P.Pages c.args.pages.now (g.met.P.Pages.stays c.args.pages.now);
+  faults = search rules;
   told = λ t. t;
   more = λ t. asks-nothing (λ _. 1) (g.P.Pages.asked c.args.pages.now) (g.P.Pages.asked c.args.pages.now) refl;
   standing = λ before free level mine sums start st. record { free = free; level = level; standing = st };
@@ -38,6 +39,7 @@ loop-orphan-init g c = record {
 pub loop-orphan-preserved : goal.loop-orphan-preserved
 loop-orphan-preserved g c = record {
   frame = changes_then g.P.Pages g.met.P.Pages.goes_further _ _ _ c.loop-orphan.invariant.frame c.in-Ok.ensures.frame;
+  faults = search rules;
   told = λ t. c.in-Ok.ensures.told (c.loop-orphan.invariant.told t);
   more = λ t. asks-further (λ _. 1) _ _ _ (c.loop-orphan.invariant.more t) (c.in-Ok.ensures.more (c.loop-orphan.invariant.told t));
   standing = λ before free level mine sums start st.

@@ -1,4 +1,4 @@
-use Rattle.std.proofs.Common.{ℕ, List, vec_len}
+use Rattle.std.proofs.Common.{◌≡◌, ℕ, List, vec_len}
 use Rattle.page_face.specs.Calls.{Changes}
 use Rattle.btree_nodes.specs.Damages.{AreTold, AsksOnly}
 use Rattle.rtree_shape.specs.Slots.{Item}
@@ -13,6 +13,7 @@ use Rattle.irtree_delete.proofs.putting.put_back.Given as goal
 abbrev pub invariant-loop-orphan : goal.invariant-loop-orphan
 invariant-loop-orphan g l = record {
   frame : Changes g.P.Pages l.initial.pages l.pages;
+  faults : g.P.Pages.faults l.pages ≡ g.P.Pages.faults l.initial.pages;
   told : AreTold (g.P.Pages.pages l.initial.pages) (g.P.Pages.count l.initial.pages) → AreTold (g.P.Pages.pages l.pages) (g.P.Pages.count l.pages);
   more : AreTold (g.P.Pages.pages l.initial.pages) (g.P.Pages.count l.initial.pages) → AsksOnly (λ _. 1) (g.P.Pages.asked l.initial.pages) (g.P.Pages.asked l.pages);
   standing : (before : View) (free : List ℕ) (level : ℕ) (mine : ℕ → ℕ) (sums : (Item → ℕ) → ℕ) → IsSupplied before

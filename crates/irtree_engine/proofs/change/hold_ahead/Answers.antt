@@ -14,6 +14,7 @@ use Rattle.irtree_engine.specs.Faults.{fault_of_pages}
 use Rattle.irtree_engine.specs.Updates.{IsDueTo, state_after_all}
 use Rattle.irtree_engine.proofs.Ahead.{begun-stands, can-begin, few-words}
 use Rattle.irtree_engine.proofs.Dues.{passed-due}
+use Rattle.irtree_engine.proofs.Hiding.{other-fault}
 use Rattle.irtree_engine.proofs.Numbers.{numbers-begun, numbers-plain}
 use Rattle.irtree_engine.proofs.Standing.{damaged-from}
 use Rattle.irtree_engine.proofs.change.hold_ahead.Goals as goal
@@ -99,3 +100,8 @@ returns-in_err-numbers-clause-no_head g c = λ told damage is.
     let fault_is = passed.2 in
     let was : fault_of_pages c.in_err-numbers.field-0.0 ≡ Damaged damage = cc in
     c.hold_words.ensures.no_head told damage (c.in_err-numbers.was ∙ ap Err (damaged-from _ damage was))
+
+pub returns-in_err-numbers-clause-stays : goal.returns-in_err-numbers-clause-stays
+returns-in_err-numbers-clause-stays g c = λ other.
+    let passed = err_from_is_err_and c.from_residual-in_err-numbers.result c.from_residual-in_err-numbers.ensures.1 in
+    c.in_err-numbers.ensures.fails.hides_none (other-fault c.in_err-numbers.field-0.0 passed.0 c.from_residual-in_err-numbers.result passed.2 passed.1 other)

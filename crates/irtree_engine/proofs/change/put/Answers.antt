@@ -34,6 +34,7 @@ use Rattle.irtree_engine.specs.Faults.{fault_of_pages}
 use Rattle.irtree_engine.specs.Updates.{IsDueTo}
 use Rattle.irtree_engine.proofs.Dues.{passed-due}
 use Rattle.irtree_engine.proofs.Effects.{few-left, put-done, put-full, put-stands, put-worn, stand-same}
+use Rattle.irtree_engine.proofs.Hiding.{other-fault}
 use Rattle.irtree_engine.proofs.NoHead.{old-spares_head, tree-spares_head}
 use Rattle.irtree_engine.proofs.Numbers.{next-most, numbers-put, some-mapped}
 use Rattle.irtree_engine.proofs.Standing.{damaged-from, stand-counted}
@@ -341,3 +342,24 @@ returns-in_err-put_entry-clause-no_head g c = λ told damage is.
     let last = c.put_entry.new.pages in
     ⊎_elim (λ harm. tree-spares_head _ _ _ _ _ _ damage (told last) (g.met.P.Pages.first_is_counted last) harm) (λ old. old-spares_head _ _ _ _ _ _ _ damage old)
     (c.put_entry.ensures.damaged (told c.put_in_batch.new.pages) damage (c.in_err-put_entry.was ∙ ap Err (damaged-from _ damage was)))
+
+pub returns-in_err-old-clause-stays : goal.returns-in_err-old-clause-stays
+returns-in_err-old-clause-stays g c = λ other.
+    let passed = err_from_is_err_and c.from_residual.result c.from_residual.ensures.1 in
+    c.in_err-old.ensures.fails.hides_none (other-fault c.in_err-old.field-0.0 passed.0 c.from_residual.result passed.2 passed.1 other)
+
+pub returns-in_err-new-clause-stays : goal.returns-in_err-new-clause-stays
+returns-in_err-new-clause-stays g c = λ other.
+    let passed = err_from_is_err_and c.from_residual-in_err-new.result c.from_residual-in_err-new.ensures.1 in
+    c.in_err-new.ensures.fails.hides_none (other-fault c.in_err-new.field-0.0 passed.0 c.from_residual-in_err-new.result passed.2 passed.1 other) ∙ c.in_ok-old.ensures.fails.hides_none
+
+pub returns-in_err-put_entry-clause-stays : goal.returns-in_err-put_entry-clause-stays
+returns-in_err-put_entry-clause-stays g c = λ other.
+    let passed = err_from_is_err_and c.from_residual-in_err-put_entry.result c.from_residual-in_err-put_entry.ensures.1 in
+    c.in_err-put_entry.ensures.fails.hides_none (other-fault c.in_err-put_entry.field-0.0 passed.0 c.from_residual-in_err-put_entry.result passed.2 passed.1 other) ∙ c.in_ok-new.ensures.fails.hides_none ∙ c.in_ok-old.ensures.fails.hides_none
+
+pub returns-then-is_new-3-clause-stays : goal.returns-then-is_new-3-clause-stays
+returns-then-is_new-3-clause-stays g c = λ other. c.in_ok-put_entry.ensures.fails.hides_none ∙ c.in_ok-new.ensures.fails.hides_none ∙ c.in_ok-old.ensures.fails.hides_none
+
+pub returns-else-is_new-3-clause-stays : goal.returns-else-is_new-3-clause-stays
+returns-else-is_new-3-clause-stays g c = λ other. c.in_ok-put_entry.ensures.fails.hides_none ∙ c.in_ok-new.ensures.fails.hides_none ∙ c.in_ok-old.ensures.fails.hides_none

@@ -32,6 +32,7 @@ use Rattle.irtree_engine.specs.Faults.{fault_of_pages}
 use Rattle.irtree_engine.specs.Updates.{IsDueTo}
 use Rattle.irtree_engine.proofs.Dues.{passed-due}
 use Rattle.irtree_engine.proofs.Effects.{remove-absent, remove-done, remove-stands, remove-worn, stand-same}
+use Rattle.irtree_engine.proofs.Hiding.{other-fault}
 use Rattle.irtree_engine.proofs.NoHead.{missing-spares_head, tree-spares_head}
 use Rattle.irtree_engine.proofs.Numbers.{numbers-absent, numbers-removed}
 use Rattle.irtree_engine.proofs.Standing.{damaged-from, stand-counted}
@@ -238,3 +239,21 @@ returns-in_err-take_entry-clause-no_head g c = λ told damage is.
     let last = c.take_entry.new.pages in
     ⊎_elim (λ harm. tree-spares_head _ _ _ _ _ _ damage (told last) (g.met.P.Pages.first_is_counted last) harm) (λ missing. missing-spares_head _ _ _ _ _ _ _ damage missing)
     (c.take_entry.ensures.damaged (told c.remove_place.new.pages) damage (c.in_err-take_entry.was ∙ ap Err (damaged-from _ damage was)))
+
+pub returns-in_err-old-clause-stays : goal.returns-in_err-old-clause-stays
+returns-in_err-old-clause-stays g c = λ other.
+    let passed = err_from_is_err_and c.from_residual.result c.from_residual.ensures.1 in
+    c.in_err-old.ensures.fails.hides_none (other-fault c.in_err-old.field-0.0 passed.0 c.from_residual.result passed.2 passed.1 other)
+
+pub returns-in_err-remove_place-clause-stays : goal.returns-in_err-remove_place-clause-stays
+returns-in_err-remove_place-clause-stays g c = λ other.
+    let passed = err_from_is_err_and c.from_residual-in_err-remove_place.result c.from_residual-in_err-remove_place.ensures.1 in
+    c.in_err-remove_place.ensures.fails.hides_none (other-fault c.in_err-remove_place.field-0.0 passed.0 c.from_residual-in_err-remove_place.result passed.2 passed.1 other) ∙ c.in_ok-old.ensures.fails.hides_none
+
+pub returns-in_err-take_entry-clause-stays : goal.returns-in_err-take_entry-clause-stays
+returns-in_err-take_entry-clause-stays g c = λ other.
+    let passed = err_from_is_err_and c.from_residual-in_err-take_entry.result c.from_residual-in_err-take_entry.ensures.1 in
+    c.in_err-take_entry.ensures.fails.hides_none (other-fault c.in_err-take_entry.field-0.0 passed.0 c.from_residual-in_err-take_entry.result passed.2 passed.1 other) ∙ c.in_ok-remove_place.ensures.fails.hides_none ∙ c.in_ok-old.ensures.fails.hides_none
+
+pub returns-clause-stays : goal.returns-clause-stays
+returns-clause-stays g c = λ other. c.in_ok-take_entry.ensures.fails.hides_none ∙ c.in_ok-remove_place.ensures.fails.hides_none ∙ c.in_ok-old.ensures.fails.hides_none

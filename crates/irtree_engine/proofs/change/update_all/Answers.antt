@@ -2,7 +2,7 @@ use Rattle.std.proofs.Common.{◌≡◌, ◌+◌, List, ◌∷◌, length, optio
 use Rattle.std.proofs.lemmas.Result.{err_from_is_err_and}
 use Rattle.std.specs.List.{AllByRecursion}
 use Rattle.irtree_engine.specs.declared.fault.EngineFault.{EngineFault}
-use Rattle.irtree_engine.specs.declared.fault.EngineFault.TheVariants.{Damaged}
+use Rattle.irtree_engine.specs.declared.fault.EngineFault.TheVariants.{Damaged, Disk}
 use Rattle.irtree_engine.specs.Changes.{AreNumbersAhead, block_with}
 use Rattle.place_map.specs.declared.update.Update.{Update}
 use Rattle.place_map.specs.Update.{NamesText}
@@ -30,7 +30,7 @@ loop-next-init g c =
       lives = omega (arith, live);
       numbers = omega (arith, number);
       room = held.room;
-      faults = held.faults;
+      faults = c.in_ok-held.ensures.stays (λ e. absurd (cc));
       refused = held.refused;
       goes_on = held.goes_on;
       follows = held.follows;
@@ -79,7 +79,7 @@ loop-next-preserved g c =
       lives = omega (arith, long, more_live, lives);
       numbers = omega (arith, long, more_number, numbers);
       room = c.update_in_batch.ensures.room ∙ invariant.room;
-      faults = omega (arith, c.update_in_batch.ensures.faults, invariant.faults);
+      faults = c.in_ok-update_in_batch.ensures.stays (λ e. absurd (cc)) ∙ invariant.faults;
       refused = omega (arith, c.update_in_batch.ensures.refused, invariant.refused);
       goes_on = c.update_in_batch.ensures.goes_on ∙ invariant.goes_on;
       follows = g.met.P.Pages.goes_further _ _ _ invariant.follows c.update_in_batch.ensures.follows;
@@ -113,3 +113,13 @@ returns-in_err-update_in_batch-clause-no_head g c = λ told damage is.
     let fault_is = passed.2 in
     let was : c.in_err-update_in_batch.field-0.0 ≡ Damaged damage = cc in
     c.update_in_batch.ensures.no_head told damage (c.in_err-update_in_batch.was ∙ ap Err was)
+
+pub returns-in_err-held-clause-stays : goal.returns-in_err-held-clause-stays
+returns-in_err-held-clause-stays g c = λ other.
+    let passed = err_from_is_err_and c.from_residual.result c.from_residual.ensures.1 in
+    c.in_err-held.ensures.stays (λ e. (let same : c.in_err-held.field-0.0 ≡ Disk = cc e in other (passed.1 ∙ ap Err (passed.2 ∙ same))))
+
+pub returns-in_err-update_in_batch-clause-stays : goal.returns-in_err-update_in_batch-clause-stays
+returns-in_err-update_in_batch-clause-stays g c = λ other.
+    let passed = err_from_is_err_and c.from_residual-in_err-update_in_batch.result c.from_residual-in_err-update_in_batch.ensures.1 in
+    c.in_err-update_in_batch.ensures.stays (λ e. (let same : c.in_err-update_in_batch.field-0.0 ≡ Disk = cc e in other (passed.1 ∙ ap Err (passed.2 ∙ same)))) ∙ c.loop-next.invariant.faults

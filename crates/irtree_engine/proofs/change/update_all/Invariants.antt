@@ -16,7 +16,7 @@ invariant-loop-next g l = record {
   lives : l.head.live + length l.left ≤ l.fn.head.live + length l.fn.updates;
   numbers : l.head.number + length l.left ≤ l.fn.head.number + length l.fn.updates;
   room : g.P.Pages.room l.pages ≡ g.P.Pages.room l.fn.pages;
-  faults : g.P.Pages.faults l.fn.pages ≤ g.P.Pages.faults l.pages;
+  faults : g.P.Pages.faults l.pages ≡ g.P.Pages.faults l.fn.pages;
   refused : g.P.Pages.refused l.fn.pages ≤ g.P.Pages.refused l.pages;
   goes_on : g.P.Pages.is_stopped l.pages ≡ g.P.Pages.is_stopped l.fn.pages;
   follows : g.P.Pages.follows_from l.fn.pages l.pages;

@@ -1,4 +1,4 @@
-use Rattle.std.proofs.Common.{◌≡◌, ◌∙◌, ap, sym, subst, Err}
+use Rattle.std.proofs.Common.{◌≡◌, ◌∙◌, ap, sym, subst, Err, rules}
 use Rattle.std.proofs.Math.Path.{fun_ext}
 use Rattle.std.proofs.lemmas.Result.{err_from_is_err_and}
 use Rattle.page_face.specs.declared.fault.PageFault.TheVariants.{Damaged}
@@ -30,6 +30,7 @@ loop-number-preserved g c = record {
   told = λ t. c.in_ok-left.ensures.told (c.loop-number.invariant.told t);
   more = λ t. asks-further (λ _. 1) _ _ _ (c.loop-number.invariant.more t) (c.edit_leaf.ensures.more (c.loop-number.invariant.told t));
   frame = changes_then g.P.Pages g.met.P.Pages.goes_further _ _ _ c.loop-number.invariant.frame c.edit_leaf.ensures.frame;
+  faults = search rules;
 }
 
 pub returns-in_err-left-clause-honest : goal.returns-in_err-left-clause-honest

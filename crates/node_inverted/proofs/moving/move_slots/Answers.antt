@@ -37,6 +37,7 @@ loop-from-init g c =
       told = λ t. t;
       more = λ t. asks-nothing (λ _. 1) (g.P.Pages.asked c.args.pages.now) (g.P.Pages.asked c.args.pages.now) refl;
       frame = changes-none g.P.Pages c.args.pages.now (g.met.P.Pages.stays c.args.pages.now);
+      faults = search rules;
     }
 
 pub loop-from-preserved : goal.loop-from-preserved
@@ -55,6 +56,7 @@ loop-from-preserved g c = record {
   told = λ t. c.in_ok-from.ensures.told (c.loop-from.invariant.told t);
   more = λ t. asks-further (λ _. 1) _ _ _ (c.loop-from.invariant.more t) (c.move_next.ensures.more (c.loop-from.invariant.told t));
   frame = changes_then g.P.Pages g.met.P.Pages.goes_further _ _ _ c.loop-from.invariant.frame c.move_next.ensures.frame;
+  faults = search rules;
 }
 
 pub returns-clause-turns : goal.returns-clause-turns

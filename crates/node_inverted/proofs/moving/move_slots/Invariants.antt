@@ -25,6 +25,7 @@ invariant-loop-from g l =
       told : AreTold (p.pages l.fn.pages) (p.count l.fn.pages) → AreTold (p.pages l.pages) (p.count l.pages);
       more : AreTold (p.pages l.fn.pages) (p.count l.fn.pages) → AsksOnly (λ _. 1) (p.asked l.fn.pages) (p.asked l.pages);
       frame : Changes p l.fn.pages l.pages;
+      faults : p.faults l.pages ≡ p.faults l.fn.pages;
     }
 
 -- the words ascend

@@ -1,4 +1,4 @@
-use Rattle.std.proofs.Common.{◌≡◌, ◌≤◌, ℕ, ◌∙◌, refl, sym, ap, subst, arith, None, Some, Err}
+use Rattle.std.proofs.Common.{◌≡◌, ◌≤◌, ℕ, ◌∙◌, refl, sym, ap, subst, arith, None, Some, Err, rules}
 use Rattle.std.proofs.lemmas.Result.{err_from_is_err_and}
 use Rattle.page_face.specs.FreeList.{PageMap}
 use Rattle.page_face.specs.declared.fault.PageFault.TheVariants.{Damaged}
@@ -34,6 +34,7 @@ loop-number-init g c =
           (asks-more (map_uses rows_form (p.pages c.args.pages.now) c.args.tree.now.rows) (λ _. 1) (p.asked c.args.pages.now) (p.asked c.next_in.new.pages) (λ n h. omega arith) (c.next_in.ensures.own told))
           (asks-more (map_uses rows_form (p.pages c.next_in.new.pages) c.args.tree.now.rows) (λ _. 1) (p.asked c.next_in.new.pages) (p.asked c.next_in-2.new.pages) (λ n h. omega arith) (c.next_in-2.ensures.own (rw (one.pages, one.count) told)));
       frame = changes-none p c.next_in-2.new.pages (g.met.P.Pages.stays c.next_in-2.new.pages);
+      faults = search rules;
     }
 
 pub loop-number-preserved : goal.loop-number-preserved
@@ -46,6 +47,7 @@ loop-number-preserved g c = record {
   told = λ t. c.in_ok-refresh_word.ensures.told (c.loop-number.invariant.told t);
   more = λ t. asks-further (λ _. 1) _ _ _ (c.loop-number.invariant.more t) (c.refresh_word.ensures.more (c.loop-number.invariant.told t));
   frame = changes_then g.P.Pages g.met.P.Pages.goes_further _ _ _ c.loop-number.invariant.frame c.refresh_word.ensures.frame;
+  faults = search rules;
 }
 
 pub returns-clause-turns : goal.returns-clause-turns

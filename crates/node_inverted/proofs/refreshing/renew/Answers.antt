@@ -33,6 +33,7 @@ loop-pair-init g c =
       told = λ t. t;
       more = λ t. asks-nothing (λ _. 1) (g.P.Pages.asked c.args.pages.now) (g.P.Pages.asked c.args.pages.now) refl;
       frame = changes-none g.P.Pages c.args.pages.now (g.met.P.Pages.stays c.args.pages.now);
+      faults = search rules;
     }
 
 pub loop-pair-preserved : goal.loop-pair-preserved
@@ -50,6 +51,7 @@ loop-pair-preserved g c = record {
   told = λ t. c.in_ok-renew_one.ensures.told (c.loop-pair.invariant.told t);
   more = λ t. asks-further (λ _. 1) _ _ _ (c.loop-pair.invariant.more t) (c.renew_one.ensures.more (c.loop-pair.invariant.told t));
   frame = changes_then g.P.Pages g.met.P.Pages.goes_further _ _ _ c.loop-pair.invariant.frame c.renew_one.ensures.frame;
+  faults = search rules;
 }
 
 pub returns-clause-turns : goal.returns-clause-turns

@@ -29,6 +29,7 @@ loop-from-init g c =
       ordered = subst (AreOrdered 0 0) (sym empty) (omega arith);
       own = λ t. asks-nothing (map_uses rows_form (g.P.Pages.pages c.args.pages.now) c.args.tree.now.rows) (g.P.Pages.asked c.args.pages.now) (g.P.Pages.asked c.args.pages.now) refl;
       frame = reads-none g.P.Pages c.args.pages.now (g.met.P.Pages.reads_nothing c.args.pages.now) (g.met.P.Pages.stays c.args.pages.now);
+      faults = search rules;
     }
 
 pub loop-from-preserved : goal.loop-from-preserved
@@ -51,6 +52,7 @@ loop-from-preserved g c =
           (subst (λ (x : PageMap). AsksOnly (map_uses rows_form x c.args.tree.now.rows) (g.P.Pages.asked c.loop-from.pages) (g.P.Pages.asked c.list_next.new.pages)) c.loop-from.invariant.frame.pages
           (c.list_next.ensures.own (rw (c.loop-from.invariant.frame.pages, c.loop-from.invariant.frame.count) told)));
       frame = reads_then g.P.Pages g.met.P.Pages.goes_further g.met.P.Pages.reads_further _ _ _ f c.list_next.ensures.frame;
+      faults = search rules;
     }
 
 pub returns-clause-listed : goal.returns-clause-listed

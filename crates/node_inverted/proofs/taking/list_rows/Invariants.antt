@@ -20,6 +20,7 @@ invariant-loop-from g l =
       ordered : AreOrdered 0 (reached l.from) l.rows.items;
       own : AreTold (p.pages l.fn.pages) (p.count l.fn.pages) → AsksOnly (map_uses rows_form (p.pages l.fn.pages) l.tree.rows) (p.asked l.fn.pages) (p.asked l.pages);
       frame : Reads p l.fn.pages l.pages;
+      faults : p.faults l.pages ≡ p.faults l.fn.pages;
     }
 
 -- the words ascend

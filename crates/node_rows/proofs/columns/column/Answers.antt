@@ -28,6 +28,7 @@ loop-from-init g c =
       ordered = subst (AreWords 0 0) (sym empty) (omega arith);
       own = λ told. asks-nothing (map_uses rows_form (g.P.Pages.pages c.args.pages.now) c.args.tree.now.rows) (g.P.Pages.asked c.args.pages.now) (g.P.Pages.asked c.args.pages.now) refl;
       frame = reads-none g.P.Pages c.args.pages.now (g.met.P.Pages.reads_nothing c.args.pages.now) (g.met.P.Pages.stays c.args.pages.now);
+      faults = search rules;
     }
 
 pub loop-from-preserved : goal.loop-from-preserved
@@ -51,6 +52,7 @@ loop-from-preserved g c =
           asks-further (map_uses rows_form old root) (g.P.Pages.asked c.args.pages.now) (g.P.Pages.asked c.loop-from.pages) (g.P.Pages.asked c.column_next.new.pages) (h.own told)
           (subst (λ (p : PageMap). AsksOnly (map_uses rows_form p root) (g.P.Pages.asked c.loop-from.pages) (g.P.Pages.asked c.column_next.new.pages)) f.pages (c.column_next.ensures.own still));
       frame = reads_then g.P.Pages g.met.P.Pages.goes_further g.met.P.Pages.reads_further _ _ _ f c.column_next.ensures.frame;
+      faults = search rules;
     }
 
 pub returns-clause-words : goal.returns-clause-words

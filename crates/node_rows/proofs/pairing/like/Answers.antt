@@ -1,4 +1,4 @@
-use Rattle.std.proofs.Common.{◌≡◌, ℕ, ◌∙◌, min, ap, subst, sym, refl, Option, Err}
+use Rattle.std.proofs.Common.{◌≡◌, ℕ, ◌∙◌, min, ap, subst, sym, refl, Option, Err, rules}
 use Rattle.std.proofs.lemmas.Result.{err_from_is_err_and}
 use Rattle.page_face.specs.FreeList.{PageMap}
 use Rattle.page_face.specs.declared.fault.PageFault.TheVariants.{Damaged}
@@ -24,6 +24,7 @@ loop-from-init g c =
       counted = λ map i j li lj h. c.clear_table-table.ensures i j ∙ ap (λ (k : ℕ). min k most) (sym (alike-none (bytes_in (g.P.Pages.pages c.args.pages.now) c.args.tree.now.rows) c.args.node c.args.words.now i j));
       own = λ told. asks-nothing (map_uses rows_form (g.P.Pages.pages c.args.pages.now) c.args.tree.now.rows) (g.P.Pages.asked c.args.pages.now) (g.P.Pages.asked c.args.pages.now) refl;
       frame = reads-none g.P.Pages c.args.pages.now (g.met.P.Pages.reads_nothing c.args.pages.now) (g.met.P.Pages.stays c.args.pages.now);
+      faults = search rules;
     }
 
 pub loop-from-preserved : goal.loop-from-preserved
@@ -44,6 +45,7 @@ loop-from-preserved g c =
           asks-further (map_uses rows_form old root) (g.P.Pages.asked c.args.pages.now) (g.P.Pages.asked c.loop-from.pages) (g.P.Pages.asked c.like_next.new.pages) (h.own told)
           (subst (λ (p : PageMap). AsksOnly (map_uses rows_form p root) (g.P.Pages.asked c.loop-from.pages) (g.P.Pages.asked c.like_next.new.pages)) f.pages (c.like_next.ensures.own still));
       frame = reads_then g.P.Pages g.met.P.Pages.goes_further g.met.P.Pages.reads_further _ _ _ f c.like_next.ensures.frame;
+      faults = search rules;
     }
 
 pub returns-clause-like : goal.returns-clause-like

@@ -1,3 +1,4 @@
+use Rattle.std.proofs.Common.{◌≡◌}
 use Rattle.page_face.specs.Calls.{Reads}
 use Rattle.btree_nodes.specs.Damages.{AreTold, AsksOnly}
 use Rattle.btree_nodes.specs.Tree.{IsMap, map_uses}
@@ -17,6 +18,7 @@ invariant-loop-from g l =
       counted : IsMap rows_form (p.pages l.fn.pages) l.tree.rows → IsCounted (bytes_in (p.pages l.fn.pages) l.tree.rows) l.node l.words (reached l.from) l.table;
       own : AreTold (p.pages l.fn.pages) (p.count l.fn.pages) → AsksOnly (map_uses rows_form (p.pages l.fn.pages) l.tree.rows) (p.asked l.fn.pages) (p.asked l.pages);
       frame : Reads p l.fn.pages l.pages;
+      faults : p.faults l.pages ≡ p.faults l.fn.pages;
     }
 
 -- the words ascend

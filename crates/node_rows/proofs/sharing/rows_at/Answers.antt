@@ -1,4 +1,4 @@
-use Rattle.std.proofs.Common.{◌≡◌, ◌+◌, ℕ, ◌<◌, ap, sym, subst, arith, take, get_or, length, List, [], ◌∷◌, ◌++◌, Err}
+use Rattle.std.proofs.Common.{◌≡◌, ◌+◌, ℕ, ◌<◌, ap, sym, subst, arith, take, get_or, length, List, [], ◌∷◌, ◌++◌, Err, rules}
 use Rattle.std.proofs.lemmas.List.{take_more}
 use Rattle.std.proofs.lemmas.Result.{err_from_is_err_and}
 use Rattle.page_face.specs.FreeList.{PageMap}
@@ -35,6 +35,7 @@ loop-pair-preserved g c =
           asks-further (map_uses rows_form old root) (g.P.Pages.asked c.args.pages.now) (g.P.Pages.asked c.loop-pair.pages) (g.P.Pages.asked c.row.new.pages) (h.own told)
           (subst (λ (p : PageMap). AsksOnly (map_uses rows_form p root) (g.P.Pages.asked c.loop-pair.pages) (g.P.Pages.asked c.row.new.pages)) f.pages (c.row.ensures.own still));
       frame = reads_then g.P.Pages g.met.P.Pages.goes_further g.met.P.Pages.reads_further _ _ _ f c.row.ensures.frame;
+      faults = search rules;
     }
 
 pub returns-in_err-there-clause-damaged : goal.returns-in_err-there-clause-damaged

@@ -1,4 +1,4 @@
-use Rattle.std.proofs.Common.{take}
+use Rattle.std.proofs.Common.{◌≡◌, take}
 use Rattle.page_face.specs.Calls.{Reads}
 use Rattle.btree_nodes.specs.Damages.{AreTold, AsksOnly}
 use Rattle.btree_nodes.specs.Tree.{IsMap, map_uses}
@@ -15,4 +15,5 @@ invariant-loop-pair g l =
       listed : IsMap rows_form (p.pages l.fn.pages) l.tree.rows → AreRowsAt (bytes_in (p.pages l.fn.pages) l.tree.rows) l.node (take l.pair-index l.words) l.rows.items;
       own : AreTold (p.pages l.fn.pages) (p.count l.fn.pages) → AsksOnly (map_uses rows_form (p.pages l.fn.pages) l.tree.rows) (p.asked l.fn.pages) (p.asked l.pages);
       frame : Reads p l.fn.pages l.pages;
+      faults : p.faults l.pages ≡ p.faults l.fn.pages;
     }

@@ -30,6 +30,7 @@ leaves-init g c =
       found = c.requires.found;
       value = c.requires.value;
       frame = search rules;
+      faults = search rules;
     }
 
 pub returns-in-Ok-Some-clause-own : goal.returns-in-Ok-Some-clause-own
@@ -78,6 +79,7 @@ leaves-preserved g c =
       found = search rules;
       value = search rules;
       frame = search rules;
+      faults = search rules;
     }
 
 pub returns-in-Ok-Some-clause-read : goal.returns-in-Ok-Some-clause-read

@@ -23,4 +23,5 @@ invariant-leaves g l =
       found : length l.found ≡ l.form.key;
       value : length l.value ≡ l.form.value;
       frame : Reads p l.fn.pages l.pages;
+      faults : p.faults l.pages ≡ p.faults l.fn.pages;
     }

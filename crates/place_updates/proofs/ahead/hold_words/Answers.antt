@@ -48,7 +48,7 @@ loop-word-preserved g c =
           );
       count = omega (arith, frame.count, invariant.count);
       room = frame.room ∙ invariant.room;
-      faults = omega (arith, frame.faults, invariant.faults);
+      faults = c.in_ok-number.ensures.fails.hides_none ∙ invariant.faults;
       refused = omega (arith, frame.refused, invariant.refused);
       goes_on = frame.goes_on ∙ invariant.goes_on;
       follows = g.met.P.Pages.goes_further _ _ _ invariant.follows frame.follows;

@@ -17,7 +17,7 @@ invariant-loop-word g l = record {
       × (CanHoldAhead l.counts.entries (record { entries = entries; next_word = l.fn.tables.next_word; numbers = [] }) → CanHoldAhead l.word-iterator (record { entries = now; next_word = l.tables.next_word; numbers = l.numbers.entries }));
   count : g.P.Pages.count l.fn.pages ≤ g.P.Pages.count l.pages;
   room : g.P.Pages.room l.pages ≡ g.P.Pages.room l.fn.pages;
-  faults : g.P.Pages.faults l.fn.pages ≤ g.P.Pages.faults l.pages;
+  faults : g.P.Pages.faults l.pages ≡ g.P.Pages.faults l.fn.pages;
   refused : g.P.Pages.refused l.fn.pages ≤ g.P.Pages.refused l.pages;
   goes_on : g.P.Pages.is_stopped l.pages ≡ g.P.Pages.is_stopped l.fn.pages;
   follows : g.P.Pages.follows_from l.fn.pages l.pages;

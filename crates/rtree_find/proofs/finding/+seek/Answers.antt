@@ -192,6 +192,8 @@ loop-at-preserved g t c =
           record {
             frame = subst (λ (x : g.row.P.Denot). Reads g.P.Pages c.args.pages.now x) (sym w.pages-is)
                 (reads_then g.P.Pages further more _ _ _ (reads_then g.P.Pages further more _ _ _ m f) w.seek.ensures.frame);
+            faults = subst (λ (x : g.row.P.Denot). g.P.Pages.faults x ≡ g.P.Pages.faults c.args.pages.now) (sym w.pages-is)
+                (w.in-Ok-false.ensures.fails.hides_none ∙ w.in-Ok-enter_child.ensures.fails.hides_none ∙ c.loop-at.invariant.faults);
             keeps = λ before n a. subst (λ (x : g.row.P.Denot). AskedSince before (g.P.Pages.asked x) n) (sym w.pages-is)
                 (w.seek.ensures.keeps before n (w.enter_child.ensures.keeps before n (c.loop-at.invariant.keeps before n a)));
             more = subst (λ (x : g.row.P.Denot). AsksOnly (λ _. 1) (g.P.Pages.asked c.args.pages.now) (g.P.Pages.asked x)) (sym w.pages-is)
@@ -208,6 +210,7 @@ loop-at-preserved g t c =
       | in_default w ↦
           record {
             frame = subst (λ (x : g.row.P.Denot). Reads g.P.Pages c.args.pages.now x) (sym w.pages-is) m;
+            faults = subst (λ (x : g.row.P.Denot). g.P.Pages.faults x ≡ g.P.Pages.faults c.args.pages.now) (sym w.pages-is) c.loop-at.invariant.faults;
             keeps = λ before n a. subst (λ (x : g.row.P.Denot). AskedSince before (g.P.Pages.asked x) n) (sym w.pages-is) (c.loop-at.invariant.keeps before n a);
             more = subst (λ (x : g.row.P.Denot). AsksOnly (λ _. 1) (g.P.Pages.asked c.args.pages.now) (g.P.Pages.asked x)) (sym w.pages-is) c.loop-at.invariant.more;
             passed = λ is node. below_more (λ i. got (λ y. below nodes (is_entry point key) level y) ((nodes page).slots i) ≡ 0) at (c.loop-at.invariant.passed is node)

@@ -19,6 +19,7 @@ invariant-loop-at g l =
     let p = g.P.Pages in
     record {
       frame : Reads p l.fn.pages l.pages;
+      faults : p.faults l.pages ≡ p.faults l.fn.pages;
       keeps : KeepsAsked (p.asked l.fn.pages) (p.asked l.pages);
       more : AsksOnly (λ _. 1) (p.asked l.fn.pages) (p.asked l.pages);
       passed : p.looked l.fn.pages ≡ p.pages l.fn.pages l.page → IsNodeAt (nodes_in node_of (p.pages l.fn.pages)) l.level l.page → (i : ℕ) → i < l.at

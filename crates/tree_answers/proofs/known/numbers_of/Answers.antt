@@ -1,4 +1,4 @@
-use Rattle.std.proofs.Common.{◌≡◌, ◌+◌, ◌++◌, ℕ, ◌<◌, ◌∙◌, ap, sym, subst, arith, take, length, append-nil, List, [], ◌∷◌, Err}
+use Rattle.std.proofs.Common.{◌≡◌, ◌+◌, ◌++◌, ℕ, ◌<◌, ◌∙◌, ap, sym, subst, arith, take, length, append-nil, List, [], ◌∷◌, Err, rules}
 use Rattle.std.proofs.lemmas.List.{take_more}
 use Rattle.std.proofs.lemmas.List.Concat.{flat_map-append}
 use Rattle.std.proofs.lemmas.Result.{err_from_is_err_and}
@@ -43,6 +43,7 @@ loop-word-preserved g c =
           asks-further (map_uses texts_form old tables.texts) (g.P.Pages.asked c.args.pages.now) (g.P.Pages.asked c.loop-word.pages) (g.P.Pages.asked c.add_number.new.pages) (h.own told)
           (subst (λ (p : PageMap). AsksOnly (map_uses texts_form p tables.texts) (g.P.Pages.asked c.loop-word.pages) (g.P.Pages.asked c.add_number.new.pages)) f.pages (c.add_number.ensures.own still));
       frame = reads_then g.P.Pages g.met.P.Pages.goes_further g.met.P.Pages.reads_further _ _ _ f c.add_number.ensures.frame;
+      faults = search rules;
     }
 
 pub returns-in_err-add_number-clause-honest : goal.returns-in_err-add_number-clause-honest

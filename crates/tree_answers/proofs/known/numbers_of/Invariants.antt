@@ -18,4 +18,5 @@ invariant-loop-word g l =
       texts : AllByRecursion IsWordText (take l.word-index l.words);
       own : AreTold (p.pages l.fn.pages) (p.count l.fn.pages) → AsksOnly (map_uses texts_form (p.pages l.fn.pages) l.tables.texts) (p.asked l.fn.pages) (p.asked l.pages);
       frame : Reads p l.fn.pages l.pages;
+      faults : p.faults l.pages ≡ p.faults l.fn.pages;
     }

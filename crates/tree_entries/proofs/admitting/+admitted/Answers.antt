@@ -1,4 +1,4 @@
-use Rattle.std.proofs.Common.{◌≡◌, ℕ, ◌-◌, ◌∙◌, Bool, not, ◌&&◌, ◌||◌, ap, sym, subst, List, bit_and}
+use Rattle.std.proofs.Common.{◌≡◌, ℕ, ◌-◌, ◌∙◌, Bool, not, ◌&&◌, ◌||◌, ap, sym, subst, List, bit_and, rules}
 use Rattle.page_face.specs.FreeList.{PageMap}
 use Rattle.btree_nodes.specs.Tree.{IsMap}
 use Rattle.place_map.specs.declared.query.Expr.{Expr}
@@ -20,7 +20,7 @@ returns-in-Ok-clause-slots g t c = λ map i l.
     ∙ ap (λ (b : Bool). has_slot c.args.used i && b) (sym (admits-not c.args.level (F i) c.args.filter.now one c.if-level-gt0.false case))
 
 pub returns-else-left-eq0-clause-rows : goal.returns-else-left-eq0-clause-rows
-returns-else-left-eq0-clause-rows g t c = rows-then g.P.Pages g.met.P.Pages.goes_further g.met.P.Pages.reads_further _ _ _ _ _ _ c.admitted-in-And.ensures.rows c.admitted-in-And-2.ensures.rows
+returns-else-left-eq0-clause-rows g t c = rows-then g.P.Pages g.met.P.Pages.goes_further g.met.P.Pages.reads_further _ _ _ _ _ _ (search rules) c.admitted-in-And.ensures.rows c.admitted-in-And-2.ensures.rows
 
 pub returns-in-Ok-admitted-3-clause-slots : goal.returns-in-Ok-admitted-3-clause-slots
 returns-in-Ok-admitted-3-clause-slots g t c = λ map i l.
@@ -45,10 +45,10 @@ returns-in-Ok-admitted-3-clause-slots g t c = λ map i l.
 
 pub returns-in-Ok-admitted-3-clause-rows : goal.returns-in-Ok-admitted-3-clause-rows
 returns-in-Ok-admitted-3-clause-rows g t c =
-    rows-ok g.P.Pages c.args.tree.now.rows _ _ _ _
-    (rows-then g.P.Pages g.met.P.Pages.goes_further g.met.P.Pages.reads_further _ _ _ _ _ _ c.admitted-in-Or.ensures.rows c.admitted-in-Or-2.ensures.rows)
+    rows-ok g.P.Pages c.args.tree.now.rows _ _ _ _ (c.in-Ok-admitted-3.ensures.rows.fails.hides_none ∙ c.in-Ok-admitted-2.ensures.rows.fails.hides_none)
+    (rows-then g.P.Pages g.met.P.Pages.goes_further g.met.P.Pages.reads_further _ _ _ _ _ _ c.in-Ok-admitted-2.ensures.rows.fails.hides_none c.admitted-in-Or.ensures.rows c.admitted-in-Or-2.ensures.rows)
 
 pub returns-in-Err-admitted-3-clause-rows : goal.returns-in-Err-admitted-3-clause-rows
 returns-in-Err-admitted-3-clause-rows g t c =
-    rows-then g.P.Pages g.met.P.Pages.goes_further g.met.P.Pages.reads_further _ _ _ _ _ _ c.admitted-in-Or.ensures.rows
+    rows-then g.P.Pages g.met.P.Pages.goes_further g.met.P.Pages.reads_further _ _ _ _ _ _ c.in-Ok-admitted-2.ensures.rows.fails.hides_none c.admitted-in-Or.ensures.rows
     (rows-refused g.P.Pages c.args.tree.now.rows _ _ _ _ c.in-Err-admitted-3.is c.admitted-in-Or-2.ensures.rows)

@@ -41,12 +41,12 @@ loop-word-preserved g c =
           let next = relevance-more (F old i) c.args.words.now n term within c.loop-word-item.is in
           omega arith;
       small = λ i. let s = h.small i in let m = c.add_word.ensures.small i in omega arith;
-      rows = rows-ok g.P.Pages root _ _ _ _ (rows-then g.P.Pages g.met.P.Pages.goes_further g.met.P.Pages.reads_further root _ _ _ _ _ h.rows c.add_word.ensures.rows);
+      rows = rows-ok g.P.Pages root _ _ _ _ (c.in-Ok.ensures.rows.fails.hides_none ∙ h.rows.fails.hides_none) (rows-then g.P.Pages g.met.P.Pages.goes_further g.met.P.Pages.reads_further root _ _ _ _ _ h.rows.fails.hides_none h.rows c.add_word.ensures.rows);
     }
 
 pub returns-in-Err-clause-rows : goal.returns-in-Err-clause-rows
 returns-in-Err-clause-rows g c =
-    rows-then g.P.Pages g.met.P.Pages.goes_further g.met.P.Pages.reads_further _ _ _ _ _ _ c.loop-word.invariant.rows
+    rows-then g.P.Pages g.met.P.Pages.goes_further g.met.P.Pages.reads_further _ _ _ _ _ _ c.loop-word.invariant.rows.fails.hides_none c.loop-word.invariant.rows
     (rows-refused g.P.Pages c.args.tree.now.rows _ _ _ _ c.in-Err.is c.add_word.ensures.rows)
 
 pub returns-clause-slots : goal.returns-clause-slots
@@ -60,4 +60,4 @@ returns-clause-texts g c = λ map i l.
     ∙ ap (relevance_by (byte_of c.args.ids.now (bytes_in (g.P.Pages.pages c.args.pages.now) c.args.tree.now.rows c.args.node) i)) (take_all c.loop-word.word-index c.args.words.now (omega (arith, c.loop-word-test.false)))
 
 pub returns-clause-rows : goal.returns-clause-rows
-returns-clause-rows g c = rows-ok g.P.Pages c.args.tree.now.rows _ _ _ _ c.loop-word.invariant.rows
+returns-clause-rows g c = rows-ok g.P.Pages c.args.tree.now.rows _ _ _ _ c.loop-word.invariant.rows.fails.hides_none c.loop-word.invariant.rows

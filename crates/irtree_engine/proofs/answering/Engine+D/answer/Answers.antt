@@ -31,7 +31,7 @@ returns-clause-answered g c = λ t state holds.
     let stand : PagesStand (block_with store.current.counted store.current.first_free c.head-head.result) held state =
     subst (λ (h : Head). PagesStand (block_with store.current.counted store.current.first_free h) held state) (sym c.head-head.ensures) committed in
     let told = store-told g.D.Disk.tells (applied (g.D.Disk.world store.disk.now).seen) store.overlay store.current.counted t store.sized in
-    c.in_ok-answer.ensures.answered state stand told
+    c.in_ok-answer_in.ensures.answered state stand told
 
 pub returns-clause-opened : goal.returns-clause-opened
 returns-clause-opened g c = λ t state holds.
@@ -46,13 +46,13 @@ returns-clause-opened g c = λ t state holds.
     subst (λ (h : Head). PagesStand (block_with store.current.counted store.current.first_free h) held state) (sym c.head-head.ensures) committed in
     let told = store-told g.D.Disk.tells (applied (g.D.Disk.world store.disk.now).seen) store.overlay store.current.counted t store.sized in
     let query = c.args.query.now in
-    let log = c.answer_in-answer.new.pages.asked.items in
-    let found = c.in_ok-answer.ensures.opened state stand told in
+    let log = c.answer_in.new.pages.asked.items in
+    let found = c.in_ok-answer_in.ensures.opened state stand told in
     let same : ◌≡◌ {A = stores.Contents} (record { block = store.current; pages = held }) (record { block = c.args.self.now.store.current; pages = counted_pages c.args.self.now.store.current.counted (shown g.D.Disk.tells (applied (g.D.Disk.world c.args.self.now.store.disk.now).seen) c.args.self.now.store.overlay) }) =
     λ i. record { block = c.clear_log.ensures.current i; pages = counted_pages (c.clear_log.ensures.current i).counted (shown g.D.Disk.tells (applied (g.D.Disk.world (c.clear_log.ensures.disk i).now).seen) (c.clear_log.ensures.overlay i)) } in
-    subst (λ (s : stores.Contents). IsFoundByFew s.pages s.block query [] log c.in_ok-answer.field-0) same
-    (subst (λ (before : List ℕ). IsFoundByFew held store.current query before log c.in_ok-answer.field-0) c.clear_log.ensures.log
-    (subst (λ (h : Head). IsFoundByFew held (block_with store.current.counted store.current.first_free h) query store.asked.items log c.in_ok-answer.field-0) c.head-head.ensures found))
+    subst (λ (s : stores.Contents). IsFoundByFew s.pages s.block query [] log c.in_ok-answer_in.field-0) same
+    (subst (λ (before : List ℕ). IsFoundByFew held store.current query before log c.in_ok-answer_in.field-0) c.clear_log.ensures.log
+    (subst (λ (h : Head). IsFoundByFew held (block_with store.current.counted store.current.first_free h) query store.asked.items log c.in_ok-answer_in.field-0) c.head-head.ensures found))
 
 pub returns-clause-opens_few : goal.returns-clause-opens_few
 returns-clause-opens_few g c = λ t state holds.
@@ -68,8 +68,8 @@ returns-clause-opens_few g c = λ t state holds.
     subst (λ (h : Head). PagesStand (block_with store.current.counted store.current.first_free h) pages state) (sym c.head-head.ensures) committed in
     let told = store-told g.D.Disk.tells (applied (world store.disk.now).seen) store.overlay store.current.counted t store.sized in
     let query = c.args.query.now in
-    let log = c.answer_in-answer.new.pages.asked.items in
-    let answer = c.in_ok-answer.field-0 in
+    let log = c.answer_in.new.pages.asked.items in
+    let answer = c.in_ok-answer_in.field-0 in
     let held = contents_held (world c.args.self.now.store.disk.now).seen in
     let same : ◌≡◌ {A = stores.Contents} (record { block = store.current; pages = pages }) held =
     committed-held g.D.Disk.tells (world store.disk.now) store.overlay store.current store.last store.end t clean settled (store.ready t on)
@@ -77,13 +77,13 @@ returns-clause-opens_few g c = λ t state holds.
     let few : IsFoundByFew held.pages held.block query [] log answer =
     subst (λ (s : stores.Contents). IsFoundByFew s.pages s.block query [] log answer) same
     (subst (λ (before : List ℕ). IsFoundByFew pages store.current query before log answer) c.clear_log.ensures.log
-    (subst (λ (h : Head). IsFoundByFew pages (block_with store.current.counted store.current.first_free h) query store.asked.items log answer) c.head-head.ensures (c.in_ok-answer.ensures.opened state stand told))) in
-    reads-logged held state query log (world c.args.self.now.store.disk.now) (world c.answer_in-answer.new.pages.disk.now)
-    (subst (λ (a : Answer). IsFoundByFew held.pages held.block query [] log a) (c.in_ok-answer.ensures.answered state stand told) few)
-    (logged g.D.Disk.tells world c.clear_log.ensures.disk c.clear_log.ensures.log c.answer_in-answer.ensures.frame.only_reads t)
+    (subst (λ (h : Head). IsFoundByFew pages (block_with store.current.counted store.current.first_free h) query store.asked.items log answer) c.head-head.ensures (c.in_ok-answer_in.ensures.opened state stand told))) in
+    reads-logged held state query log (world c.args.self.now.store.disk.now) (world c.answer_in.new.pages.disk.now)
+    (subst (λ (a : Answer). IsFoundByFew held.pages held.block query [] log a) (c.in_ok-answer_in.ensures.answered state stand told) few)
+    (logged g.D.Disk.tells world c.clear_log.ensures.disk c.clear_log.ensures.log c.answer_in.ensures.frame.only_reads t)
 
-pub returns-in_err-answer-clause-honest : goal.returns-in_err-answer-clause-honest
-returns-in_err-answer-clause-honest g c = λ t state holds damage is.
+pub returns-in_err-answer_in-clause-honest : goal.returns-in_err-answer_in-clause-honest
+returns-in_err-answer_in-clause-honest g c = λ t state holds damage is.
     let on = c.clear_log.ensures.stopped ∙ sym c.args.self.now.stops ∙ c.if-self.false in
     let clean = ap (λ (o : Overlay). o.entries) c.clear_log.ensures.overlay ∙ c.args.self.now.clean in
     let settled = c.clear_log.ensures.current ∙ c.args.self.now.settled ∙ sym c.clear_log.ensures.last in
@@ -97,29 +97,29 @@ returns-in_err-answer-clause-honest g c = λ t state holds damage is.
     let passed = err_from_is_err_and c.from_residual.result c.from_residual.ensures.1 in
     let result_is = passed.1 in
     let fault_is = passed.2 in
-    let was : fault_of_pages c.in_err-answer.field-0.0 ≡ Damaged damage = cc in
-    c.answer_in-answer.ensures.honest state stand told damage (c.in_err-answer.was ∙ ap Err (damaged-from _ damage was))
+    let was : fault_of_pages c.in_err-answer_in.field-0.0 ≡ Damaged damage = cc in
+    c.answer_in.ensures.honest state stand told damage (c.in_err-answer_in.was ∙ ap Err (damaged-from _ damage was))
 
-pub returns-in_err-answer-clause-damaged : goal.returns-in_err-answer-clause-damaged
-returns-in_err-answer-clause-damaged g c = λ t damage is.
+pub returns-in_err-answer_in-clause-damaged : goal.returns-in_err-answer_in-clause-damaged
+returns-in_err-answer_in-clause-damaged g c = λ t damage is.
     let store = c.clear_log.new.self in
     let passed = err_from_is_err_and c.from_residual.result c.from_residual.ensures.1 in
     let result_is = passed.1 in
     let fault_is = passed.2 in
-    let was : fault_of_pages c.in_err-answer.field-0.0 ≡ Damaged damage = cc in
+    let was : fault_of_pages c.in_err-answer_in.field-0.0 ≡ Damaged damage = cc in
     let told = store-told g.D.Disk.tells (applied (g.D.Disk.world store.disk.now).seen) store.overlay store.current.counted t store.sized in
     let held : PageMap = counted_pages store.current.counted (shown g.D.Disk.tells (applied (g.D.Disk.world store.disk.now).seen) store.overlay) in
     let query = c.args.query.now in
-    let log = c.answer_in-answer.new.pages.asked.items in
-    let found = c.answer_in-answer.ensures.damaged told damage (c.in_err-answer.was ∙ ap Err (damaged-from _ damage was)) in
+    let log = c.answer_in.new.pages.asked.items in
+    let found = c.answer_in.ensures.damaged told damage (c.in_err-answer_in.was ∙ ap Err (damaged-from _ damage was)) in
     let same : ◌≡◌ {A = stores.Contents} (record { block = store.current; pages = held }) (record { block = c.args.self.now.store.current; pages = counted_pages c.args.self.now.store.current.counted (shown g.D.Disk.tells (applied (g.D.Disk.world c.args.self.now.store.disk.now).seen) c.args.self.now.store.overlay) }) =
     λ i. record { block = c.clear_log.ensures.current i; pages = counted_pages (c.clear_log.ensures.current i).counted (shown g.D.Disk.tells (applied (g.D.Disk.world (c.clear_log.ensures.disk i).now).seen) (c.clear_log.ensures.overlay i)) } in
     subst (λ (s : stores.Contents). IsQueryDamage s.pages s.block [] log damage) same
     (subst (λ (before : List ℕ). IsQueryDamage held store.current before log damage) c.clear_log.ensures.log
     (subst (λ (h : Head). IsQueryDamage held (block_with store.current.counted store.current.first_free h) store.asked.items log damage) c.head-head.ensures found))
 
-pub returns-in_err-answer-clause-broken : goal.returns-in_err-answer-clause-broken
-returns-in_err-answer-clause-broken g c = λ t damage is.
+pub returns-in_err-answer_in-clause-broken : goal.returns-in_err-answer_in-clause-broken
+returns-in_err-answer_in-clause-broken g c = λ t damage is.
     let world = g.D.Disk.world in
     let on = c.clear_log.ensures.stopped ∙ sym c.args.self.now.stops ∙ c.if-self.false in
     let clean = ap (λ (o : Overlay). o.entries) c.clear_log.ensures.overlay ∙ c.args.self.now.clean in
@@ -128,11 +128,11 @@ returns-in_err-answer-clause-broken g c = λ t damage is.
     let passed = err_from_is_err_and c.from_residual.result c.from_residual.ensures.1 in
     let result_is = passed.1 in
     let fault_is = passed.2 in
-    let was : fault_of_pages c.in_err-answer.field-0.0 ≡ Damaged damage = cc in
+    let was : fault_of_pages c.in_err-answer_in.field-0.0 ≡ Damaged damage = cc in
     let told = store-told g.D.Disk.tells (applied (world store.disk.now).seen) store.overlay store.current.counted t store.sized in
     let pages : PageMap = counted_pages store.current.counted (shown g.D.Disk.tells (applied (world store.disk.now).seen) store.overlay) in
-    let log = c.answer_in-answer.new.pages.asked.items in
-    let found = c.answer_in-answer.ensures.damaged told damage (c.in_err-answer.was ∙ ap Err (damaged-from _ damage was)) in
+    let log = c.answer_in.new.pages.asked.items in
+    let found = c.answer_in.ensures.damaged told damage (c.in_err-answer_in.was ∙ ap Err (damaged-from _ damage was)) in
     let held = contents_held (world c.args.self.now.store.disk.now).seen in
     let same : ◌≡◌ {A = stores.Contents} (record { block = store.current; pages = pages }) held =
     committed-held g.D.Disk.tells (world store.disk.now) store.overlay store.current store.last store.end t clean settled (store.ready t on)
@@ -144,21 +144,21 @@ returns-in_err-answer-clause-broken g c = λ t damage is.
           (subst (λ (h : Head). IsQueryDamage pages (block_with store.current.counted store.current.first_free h) store.asked.items log damage) c.head-head.ensures found));
     }
 
-pub returns-in_err-answer-clause-no_head : goal.returns-in_err-answer-clause-no_head
-returns-in_err-answer-clause-no_head g c = λ t damage is.
+pub returns-in_err-answer_in-clause-no_head : goal.returns-in_err-answer_in-clause-no_head
+returns-in_err-answer_in-clause-no_head g c = λ t damage is.
     let store = c.clear_log.new.self in
     let passed = err_from_is_err_and c.from_residual.result c.from_residual.ensures.1 in
     let result_is = passed.1 in
     let fault_is = passed.2 in
-    let was : fault_of_pages c.in_err-answer.field-0.0 ≡ Damaged damage = cc in
+    let was : fault_of_pages c.in_err-answer_in.field-0.0 ≡ Damaged damage = cc in
     let told = store-told g.D.Disk.tells (applied (g.D.Disk.world store.disk.now).seen) store.overlay store.current.counted t store.sized in
-    answer-spares_head _ _ (tables_in c.head-head.result) (tree_in c.head-head.result) _ _ damage (c.answer_in-answer.ensures.damaged told damage (c.in_err-answer.was ∙ ap Err (damaged-from _ damage was)))
+    answer-spares_head _ _ (tables_in c.head-head.result) (tree_in c.head-head.result) _ _ damage (c.answer_in.ensures.damaged told damage (c.in_err-answer_in.was ∙ ap Err (damaged-from _ damage was)))
 
 pub returns-then-self-clause-log : goal.returns-then-self-clause-log
 returns-then-self-clause-log g c = logged-none g.D.Disk.tells g.D.Disk.world c.clear_log.ensures.disk c.clear_log.ensures.log c.clear_log.new.self.overlay
 
-pub returns-in_err-answer-clause-log : goal.returns-in_err-answer-clause-log
-returns-in_err-answer-clause-log g c = logged g.D.Disk.tells g.D.Disk.world c.clear_log.ensures.disk c.clear_log.ensures.log c.answer_in-answer.ensures.frame.only_reads
+pub returns-in_err-answer_in-clause-log : goal.returns-in_err-answer_in-clause-log
+returns-in_err-answer_in-clause-log g c = logged g.D.Disk.tells g.D.Disk.world c.clear_log.ensures.disk c.clear_log.ensures.log c.answer_in.ensures.frame.only_reads
 
 pub returns-clause-log : goal.returns-clause-log
-returns-clause-log g c = logged g.D.Disk.tells g.D.Disk.world c.clear_log.ensures.disk c.clear_log.ensures.log c.answer_in-answer.ensures.frame.only_reads
+returns-clause-log g c = logged g.D.Disk.tells g.D.Disk.world c.clear_log.ensures.disk c.clear_log.ensures.log c.answer_in.ensures.frame.only_reads

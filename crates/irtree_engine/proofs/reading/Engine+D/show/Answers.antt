@@ -20,8 +20,8 @@ use Rattle.irtree_engine.proofs.NoHead.{shown-spares_head}
 use Rattle.irtree_engine.proofs.Standing.{committed-held, committed-stand, damaged-from, stand-counted, stand-known, store-told}
 use Rattle.irtree_engine.proofs.reading.Engine+D.show.Goals as goal
 
-pub returns-in_err-shown-clause-honest : goal.returns-in_err-shown-clause-honest
-returns-in_err-shown-clause-honest g c = λ t state holds damage is.
+pub returns-in_err-place_at-clause-honest : goal.returns-in_err-place_at-clause-honest
+returns-in_err-place_at-clause-honest g c = λ t state holds damage is.
     let on = c.clear_log.ensures.stopped ∙ sym c.args.self.now.stops ∙ c.if-self.false in
     let clean = ap (λ (o : Overlay). o.entries) c.clear_log.ensures.overlay ∙ c.args.self.now.clean in
     let settled = c.clear_log.ensures.current ∙ c.args.self.now.settled ∙ sym c.clear_log.ensures.last in
@@ -34,9 +34,9 @@ returns-in_err-shown-clause-honest g c = λ t state holds damage is.
     let passed = err_from_is_err_and c.from_residual.result c.from_residual.ensures.1 in
     let result_is = passed.1 in
     let fault_is = passed.2 in
-    let was : fault_of_pages c.in_err-shown.field-0.0 ≡ Damaged damage = cc in
+    let was : fault_of_pages c.in_err-place_at.field-0.0 ≡ Damaged damage = cc in
     let counted : AreCounted (table_uses held c.tables_of-tables.result) store.current.counted = subst (λ (tables : Tables). AreCounted (table_uses held tables) store.current.counted) (sym tables_are) (stand-counted stand) in
-    c.place_at-shown.ensures.honest stand.entries has (stand-known stand) (store-told g.D.Disk.tells (applied (g.D.Disk.world store.disk.now).seen) store.overlay store.current.counted t store.sized) counted damage (c.in_err-shown.was ∙ ap Err (damaged-from _ damage was))
+    c.place_at.ensures.honest stand.entries has (stand-known stand) (store-told g.D.Disk.tells (applied (g.D.Disk.world store.disk.now).seen) store.overlay store.current.counted t store.sized) counted damage (c.in_err-place_at.was ∙ ap Err (damaged-from _ damage was))
 
 pub returns-clause-shown : goal.returns-clause-shown
 returns-clause-shown g c = λ t state holds.
@@ -49,37 +49,37 @@ returns-clause-shown g c = λ t state holds.
     let held : PageMap = counted_pages store.current.counted (shown g.D.Disk.tells (applied (g.D.Disk.world store.disk.now).seen) store.overlay) in
     let stand = committed-stand g.D.Disk.tells (g.D.Disk.world store.disk.now) store.overlay store.current store.last store.end state t clean settled (store.ready t on) here in
     let has : Holds held c.tables_of-tables.result stand.entries = subst (λ (tables : Tables). Holds held tables stand.entries) (sym tables_are) stand.tables.holds in
-    c.in_ok-shown.ensures.found stand.entries has ∙ sym (place-at c.args.key.now stand.entries) ∙ ap (λ (s : Contents). place_at c.args.key.now s.places) (sym stand.is)
+    c.in_ok-place_at.ensures.found stand.entries has ∙ sym (place-at c.args.key.now stand.entries) ∙ ap (λ (s : Contents). place_at c.args.key.now s.places) (sym stand.is)
 
 pub returns-then-self-clause-log : goal.returns-then-self-clause-log
 returns-then-self-clause-log g c = logged-none g.D.Disk.tells g.D.Disk.world c.clear_log.ensures.disk c.clear_log.ensures.log c.clear_log.new.self.overlay
 
-pub returns-in_err-shown-clause-log : goal.returns-in_err-shown-clause-log
-returns-in_err-shown-clause-log g c = logged g.D.Disk.tells g.D.Disk.world c.clear_log.ensures.disk c.clear_log.ensures.log c.place_at-shown.ensures.frame.only_reads
+pub returns-in_err-place_at-clause-log : goal.returns-in_err-place_at-clause-log
+returns-in_err-place_at-clause-log g c = logged g.D.Disk.tells g.D.Disk.world c.clear_log.ensures.disk c.clear_log.ensures.log c.place_at.ensures.frame.only_reads
 
 pub returns-clause-log : goal.returns-clause-log
-returns-clause-log g c = logged g.D.Disk.tells g.D.Disk.world c.clear_log.ensures.disk c.clear_log.ensures.log c.place_at-shown.ensures.frame.only_reads
+returns-clause-log g c = logged g.D.Disk.tells g.D.Disk.world c.clear_log.ensures.disk c.clear_log.ensures.log c.place_at.ensures.frame.only_reads
 
-pub returns-in_err-shown-clause-damaged : goal.returns-in_err-shown-clause-damaged
-returns-in_err-shown-clause-damaged g c = λ t damage is.
+pub returns-in_err-place_at-clause-damaged : goal.returns-in_err-place_at-clause-damaged
+returns-in_err-place_at-clause-damaged g c = λ t damage is.
     let store = c.clear_log.new.self in
     let passed = err_from_is_err_and c.from_residual.result c.from_residual.ensures.1 in
     let result_is = passed.1 in
     let fault_is = passed.2 in
-    let was : fault_of_pages c.in_err-shown.field-0.0 ≡ Damaged damage = cc in
+    let was : fault_of_pages c.in_err-place_at.field-0.0 ≡ Damaged damage = cc in
     let tables_are : c.tables_of-tables.result ≡ tables_in store.current.head = c.tables_of-tables.ensures ∙ ap tables_in c.head.ensures in
     let told = store-told g.D.Disk.tells (applied (g.D.Disk.world store.disk.now).seen) store.overlay store.current.counted t store.sized in
     let held : PageMap = counted_pages store.current.counted (shown g.D.Disk.tells (applied (g.D.Disk.world store.disk.now).seen) store.overlay) in
-    let log = c.place_at-shown.new.pages.asked.items in
-    let found = c.place_at-shown.ensures.damaged told damage (c.in_err-shown.was ∙ ap Err (damaged-from _ damage was)) in
+    let log = c.place_at.new.pages.asked.items in
+    let found = c.place_at.ensures.damaged told damage (c.in_err-place_at.was ∙ ap Err (damaged-from _ damage was)) in
     let same : ◌≡◌ {A = stores.Contents} (record { block = store.current; pages = held }) (record { block = c.args.self.now.store.current; pages = counted_pages c.args.self.now.store.current.counted (shown g.D.Disk.tells (applied (g.D.Disk.world c.args.self.now.store.disk.now).seen) c.args.self.now.store.overlay) }) =
     λ i. record { block = c.clear_log.ensures.current i; pages = counted_pages (c.clear_log.ensures.current i).counted (shown g.D.Disk.tells (applied (g.D.Disk.world (c.clear_log.ensures.disk i).now).seen) (c.clear_log.ensures.overlay i)) } in
     subst (λ (s : stores.Contents). IsShownDamage s.pages s.block.counted (tables_in s.block.head) c.args.key.now [] log damage) same
     (subst (λ (before : List ℕ). IsShownDamage held store.current.counted (tables_in store.current.head) c.args.key.now before log damage) c.clear_log.ensures.log
     (subst (λ (tables : Tables). IsShownDamage held store.current.counted tables c.args.key.now store.asked.items log damage) tables_are found))
 
-pub returns-in_err-shown-clause-broken : goal.returns-in_err-shown-clause-broken
-returns-in_err-shown-clause-broken g c = λ t damage is.
+pub returns-in_err-place_at-clause-broken : goal.returns-in_err-place_at-clause-broken
+returns-in_err-place_at-clause-broken g c = λ t damage is.
     let world = g.D.Disk.world in
     let on = c.clear_log.ensures.stopped ∙ sym c.args.self.now.stops ∙ c.if-self.false in
     let clean = ap (λ (o : Overlay). o.entries) c.clear_log.ensures.overlay ∙ c.args.self.now.clean in
@@ -88,13 +88,13 @@ returns-in_err-shown-clause-broken g c = λ t damage is.
     let passed = err_from_is_err_and c.from_residual.result c.from_residual.ensures.1 in
     let result_is = passed.1 in
     let fault_is = passed.2 in
-    let was : fault_of_pages c.in_err-shown.field-0.0 ≡ Damaged damage = cc in
+    let was : fault_of_pages c.in_err-place_at.field-0.0 ≡ Damaged damage = cc in
     let tables_are : c.tables_of-tables.result ≡ tables_in store.current.head = c.tables_of-tables.ensures ∙ ap tables_in c.head.ensures in
     let told = store-told g.D.Disk.tells (applied (world store.disk.now).seen) store.overlay store.current.counted t store.sized in
     let pages : PageMap = counted_pages store.current.counted (shown g.D.Disk.tells (applied (world store.disk.now).seen) store.overlay) in
     let key = c.args.key.now in
-    let log = c.place_at-shown.new.pages.asked.items in
-    let found = c.place_at-shown.ensures.damaged told damage (c.in_err-shown.was ∙ ap Err (damaged-from _ damage was)) in
+    let log = c.place_at.new.pages.asked.items in
+    let found = c.place_at.ensures.damaged told damage (c.in_err-place_at.was ∙ ap Err (damaged-from _ damage was)) in
     let held = contents_held (world c.args.self.now.store.disk.now).seen in
     let same : ◌≡◌ {A = stores.Contents} (record { block = store.current; pages = pages }) held =
     committed-held g.D.Disk.tells (world store.disk.now) store.overlay store.current store.last store.end t clean settled (store.ready t on)
@@ -107,12 +107,12 @@ returns-in_err-shown-clause-broken g c = λ t damage is.
           (subst (λ (tables : Tables). IsShownDamage pages store.current.counted tables key store.asked.items log damage) tables_are found));
     }
 
-pub returns-in_err-shown-clause-no_head : goal.returns-in_err-shown-clause-no_head
-returns-in_err-shown-clause-no_head g c = λ t damage is.
+pub returns-in_err-place_at-clause-no_head : goal.returns-in_err-place_at-clause-no_head
+returns-in_err-place_at-clause-no_head g c = λ t damage is.
     let store = c.clear_log.new.self in
     let passed = err_from_is_err_and c.from_residual.result c.from_residual.ensures.1 in
     let result_is = passed.1 in
     let fault_is = passed.2 in
-    let was : fault_of_pages c.in_err-shown.field-0.0 ≡ Damaged damage = cc in
+    let was : fault_of_pages c.in_err-place_at.field-0.0 ≡ Damaged damage = cc in
     let told = store-told g.D.Disk.tells (applied (g.D.Disk.world store.disk.now).seen) store.overlay store.current.counted t store.sized in
-    shown-spares_head _ _ _ _ _ _ damage (c.place_at-shown.ensures.damaged told damage (c.in_err-shown.was ∙ ap Err (damaged-from _ damage was)))
+    shown-spares_head _ _ _ _ _ _ damage (c.place_at.ensures.damaged told damage (c.in_err-place_at.was ∙ ap Err (damaged-from _ damage was)))

@@ -19,8 +19,8 @@ use Rattle.irtree_engine.proofs.Standing.{committed-stand, store-told}
 use Rattle.irtree_engine.proofs.Takes.{room-left}
 use Rattle.irtree_engine.proofs.updating.Engine+D.apply.Goals as goal
 
-pub returns-in-Err-changed-clause-due : goal.returns-in-Err-changed-clause-due
-returns-in-Err-changed-clause-due g c = λ t state holds.
+pub returns-in-Err-update-clause-due : goal.returns-in-Err-update-clause-due
+returns-in-Err-update-clause-due g c = λ t state holds.
     let on = c.begin.ensures.as_before ∙ sym c.args.self.now.stops ∙ c.in-Ok.ensures.on in
     let clean = ap (λ (o : Overlay). o.entries) c.begin.ensures.overlay ∙ c.args.self.now.clean in
     let settled = c.begin.ensures.current ∙ c.args.self.now.settled ∙ sym c.begin.ensures.last in
@@ -30,7 +30,7 @@ returns-in-Err-changed-clause-due g c = λ t state holds.
     let committed = committed-stand g.D.Disk.tells (g.D.Disk.world store.disk.now) store.overlay store.current store.last store.end state t clean settled (store.ready t on) here in
     let stand : PagesStand (block_with store.current.counted store.current.first_free c.head-head.result) held state =
     subst (λ (h : Head). PagesStand (block_with store.current.counted store.current.first_free h) held state) (sym c.head-head.ensures) committed in
-    c.in-Err-changed.ensures.due state stand (store-told g.D.Disk.tells (applied (g.D.Disk.world store.disk.now).seen) store.overlay store.current.counted t store.sized)
+    c.in-Err-update.ensures.due state stand (store-told g.D.Disk.tells (applied (g.D.Disk.world store.disk.now).seen) store.overlay store.current.counted t store.sized)
 
 pub returns-in-Ok-commit-clause-applied : goal.returns-in-Ok-commit-clause-applied
 returns-in-Ok-commit-clause-applied g c = λ t state holds.
@@ -43,10 +43,10 @@ returns-in-Ok-commit-clause-applied g c = λ t state holds.
     let committed = committed-stand g.D.Disk.tells (g.D.Disk.world store.disk.now) store.overlay store.current store.last store.end state t clean settled (store.ready t on) here in
     let stand : PagesStand (block_with store.current.counted store.current.first_free c.head-head.result) held state =
     subst (λ (h : Head). PagesStand (block_with store.current.counted store.current.first_free h) held state) (sym c.head-head.ensures) committed in
-    let mid = c.update-changed.new.pages in
-    let rests = c.update-changed.ensures.follows.rests t in
+    let mid = c.update.new.pages in
+    let rests = c.update.ensures.follows.rests t in
     let holds_mid = rest-stands (g.D.Disk.world store.disk.now) (g.D.Disk.world mid.disk.now) state rests here in
-    let updated = c.in-Ok-changed.ensures.updated state stand in
+    let updated = c.in-Ok-update.ensures.updated state stand in
     (updated.0, c.in-Ok-commit.ensures.stored t state (effect_of state c.args.update.now).state holds_mid updated.1 (effect-rises state c.args.update.now).same)
 
 pub returns-in-Ok-commit-clause-any_moment : goal.returns-in-Ok-commit-clause-any_moment
@@ -60,10 +60,10 @@ returns-in-Ok-commit-clause-any_moment g c = λ t state holds.
     let committed = committed-stand g.D.Disk.tells (g.D.Disk.world store.disk.now) store.overlay store.current store.last store.end state t clean settled (store.ready t on) here in
     let stand : PagesStand (block_with store.current.counted store.current.first_free c.head-head.result) held state =
     subst (λ (h : Head). PagesStand (block_with store.current.counted store.current.first_free h) held state) (sym c.head-head.ensures) committed in
-    let mid = c.update-changed.new.pages in
-    let rests = c.update-changed.ensures.follows.rests t in
+    let mid = c.update.new.pages in
+    let rests = c.update.ensures.follows.rests t in
     let holds_mid = rest-stands (g.D.Disk.world store.disk.now) (g.D.Disk.world mid.disk.now) state rests here in
-    let updated = c.in-Ok-changed.ensures.updated state stand in
+    let updated = c.in-Ok-update.ensures.updated state stand in
     subst (λ disk. LeavesOnly (g.D.Disk.world disk) (g.D.Disk.world c.commit.new.store.disk.now) (LeavesOneOf state (effect_of state c.args.update.now).state (g.D.Disk.world disk))) (λ i. (c.begin.ensures.disk i).now)
     (rest-leaves (g.D.Disk.world store.disk.now) (g.D.Disk.world mid.disk.now) (g.D.Disk.world c.commit.new.store.disk.now) state (effect_of state c.args.update.now).state rests
     (c.commit.ensures.any_moment t state (effect_of state c.args.update.now).state holds_mid updated.1))
@@ -79,10 +79,10 @@ returns-in-Err-commit-clause-any_moment g c = λ t state holds.
     let committed = committed-stand g.D.Disk.tells (g.D.Disk.world store.disk.now) store.overlay store.current store.last store.end state t clean settled (store.ready t on) here in
     let stand : PagesStand (block_with store.current.counted store.current.first_free c.head-head.result) held state =
     subst (λ (h : Head). PagesStand (block_with store.current.counted store.current.first_free h) held state) (sym c.head-head.ensures) committed in
-    let mid = c.update-changed.new.pages in
-    let rests = c.update-changed.ensures.follows.rests t in
+    let mid = c.update.new.pages in
+    let rests = c.update.ensures.follows.rests t in
     let holds_mid = rest-stands (g.D.Disk.world store.disk.now) (g.D.Disk.world mid.disk.now) state rests here in
-    let updated = c.in-Ok-changed.ensures.updated state stand in
+    let updated = c.in-Ok-update.ensures.updated state stand in
     subst (λ disk. LeavesOnly (g.D.Disk.world disk) (g.D.Disk.world c.commit.new.store.disk.now) (LeavesOneOf state (effect_of state c.args.update.now).state (g.D.Disk.world disk))) (λ i. (c.begin.ensures.disk i).now)
     (rest-leaves (g.D.Disk.world store.disk.now) (g.D.Disk.world mid.disk.now) (g.D.Disk.world c.commit.new.store.disk.now) state (effect_of state c.args.update.now).state rests
     (c.commit.ensures.any_moment t state (effect_of state c.args.update.now).state holds_mid updated.1))
@@ -90,44 +90,44 @@ returns-in-Err-commit-clause-any_moment g c = λ t state holds.
 pub returns-in-Err-clause-rises : goal.returns-in-Err-clause-rises
 returns-in-Err-clause-rises g c = head-stays 1 _ _ (ap (λ (b : Superblock). b.head) c.begin.ensures.current)
 
-pub returns-in-Err-changed-clause-rises : goal.returns-in-Err-changed-clause-rises
-returns-in-Err-changed-clause-rises g c =
-    let last = ap (λ (k : Kept). k.last) c.update-changed.ensures.follows.kept ∙ c.begin.ensures.last ∙ sym c.args.self.now.settled in
-    head-stays 1 _ _ (ap (λ (b : Superblock). b.head) (c.abandon-in-Err-changed.ensures.current ∙ last))
+pub returns-in-Err-update-clause-rises : goal.returns-in-Err-update-clause-rises
+returns-in-Err-update-clause-rises g c =
+    let last = ap (λ (k : Kept). k.last) c.update.ensures.follows.kept ∙ c.begin.ensures.last ∙ sym c.args.self.now.settled in
+    head-stays 1 _ _ (ap (λ (b : Superblock). b.head) (c.abandon.ensures.current ∙ last))
 
 pub returns-in-Ok-commit-clause-rises : goal.returns-in-Ok-commit-clause-rises
 returns-in-Ok-commit-clause-rises g c =
-    let last = ap (λ (k : Kept). k.last) c.update-changed.ensures.follows.kept ∙ c.begin.ensures.last ∙ sym c.args.self.now.settled in
+    let last = ap (λ (k : Kept). k.last) c.update.ensures.follows.kept ∙ c.begin.ensures.last ∙ sym c.args.self.now.settled in
     let from = c.head-head.ensures ∙ ap (λ (b : Superblock). b.head) c.begin.ensures.current in
     let old = c.args.self.now.store.current.head in
-    let within = made-from 1 old c.head-head.result c.update-changed.new.head from c.update-changed.ensures.one_more in
-    head-rises 1 old c.update-changed.new.pages.last.head c.update-changed.new.head c.commit.new.store.current.head (ap (λ (b : Superblock). b.head) last) within c.commit.ensures.new_head
+    let within = made-from 1 old c.head-head.result c.update.new.head from c.update.ensures.one_more in
+    head-rises 1 old c.update.new.pages.last.head c.update.new.head c.commit.new.store.current.head (ap (λ (b : Superblock). b.head) last) within c.commit.ensures.new_head
 
 pub returns-in-Err-commit-clause-rises : goal.returns-in-Err-commit-clause-rises
 returns-in-Err-commit-clause-rises g c =
-    let last = ap (λ (k : Kept). k.last) c.update-changed.ensures.follows.kept ∙ c.begin.ensures.last ∙ sym c.args.self.now.settled in
+    let last = ap (λ (k : Kept). k.last) c.update.ensures.follows.kept ∙ c.begin.ensures.last ∙ sym c.args.self.now.settled in
     let from = c.head-head.ensures ∙ ap (λ (b : Superblock). b.head) c.begin.ensures.current in
     let old = c.args.self.now.store.current.head in
-    let within = made-from 1 old c.head-head.result c.update-changed.new.head from c.update-changed.ensures.one_more in
-    head-rises 1 old c.update-changed.new.pages.last.head c.update-changed.new.head c.commit.new.store.current.head (ap (λ (b : Superblock). b.head) last) within c.commit.ensures.new_head
+    let within = made-from 1 old c.head-head.result c.update.new.head from c.update.ensures.one_more in
+    head-rises 1 old c.update.new.pages.last.head c.update.new.head c.commit.new.store.current.head (ap (λ (b : Superblock). b.head) last) within c.commit.ensures.new_head
 
-pub returns-in-Err-changed-clause-room_left : goal.returns-in-Err-changed-clause-room_left
-returns-in-Err-changed-clause-room_left g c = λ is.
+pub returns-in-Err-update-clause-room_left : goal.returns-in-Err-update-clause-room_left
+returns-in-Err-update-clause-room_left g c = λ is.
     let old = c.args.self.now.store in
     let allowed = c.begin.new.store in
-    let mid = c.update-changed.new.pages in
+    let mid = c.update.new.pages in
     room-left (g.D.Disk.room_of old.disk.now) old.current.counted old.refused (most_takes 1 old.current.counted) (g.D.Disk.room_of allowed.disk.now)
-    (counts_of allowed.current.counted allowed.takes_left allowed.refused allowed.failed) (counts_of mid.current.counted mid.takes_left mid.refused mid.failed)
+    (counts_of allowed.current.counted allowed.takes_left allowed.refused) (counts_of mid.current.counted mid.takes_left mid.refused)
     (λ i. g.D.Disk.room_of (c.begin.ensures.disk i).now) (λ i. (c.begin.ensures.current i).counted) c.begin.ensures.refused c.in-Ok.ensures.takes
-    c.update-changed.ensures.follows.takes c.in-Ok.ensures.counts (c.in-Err-changed.ensures.no_room is)
+    c.update.ensures.follows.takes c.in-Ok.ensures.counts (c.in-Err-update.ensures.no_room is)
 
-pub returns-in-Err-changed-clause-as_before : goal.returns-in-Err-changed-clause-as_before
-returns-in-Err-changed-clause-as_before g c = λ is.
-    c.abandon-in-Err-changed.ensures.current ∙ ap (λ (k : Kept). k.last) c.update-changed.ensures.follows.kept ∙ c.begin.ensures.last ∙ sym c.args.self.now.settled
+pub returns-in-Err-update-clause-as_before : goal.returns-in-Err-update-clause-as_before
+returns-in-Err-update-clause-as_before g c = λ is.
+    c.abandon.ensures.current ∙ ap (λ (k : Kept). k.last) c.update.ensures.follows.kept ∙ c.begin.ensures.last ∙ sym c.args.self.now.settled
 
-pub update-changed-requires-clause-numbers : goal.update-changed-requires-clause-numbers
-update-changed-requires-clause-numbers g c = subst AreHeadNumbers (sym (c.head-head.ensures ∙ ap (λ (b : Superblock). b.head) c.begin.ensures.current)) c.args.self.now.numbers
+pub update-requires-clause-numbers : goal.update-requires-clause-numbers
+update-requires-clause-numbers g c = subst AreHeadNumbers (sym (c.head-head.ensures ∙ ap (λ (b : Superblock). b.head) c.begin.ensures.current)) c.args.self.now.numbers
 
-pub returns-in-Err-changed-clause-no_head : goal.returns-in-Err-changed-clause-no_head
-returns-in-Err-changed-clause-no_head g c = λ t damage is.
-    c.in-Err-changed.ensures.no_head (λ p. store-told g.D.Disk.tells (applied (g.D.Disk.world p.disk.now).seen) p.overlay p.current.counted t p.sized) damage is
+pub returns-in-Err-update-clause-no_head : goal.returns-in-Err-update-clause-no_head
+returns-in-Err-update-clause-no_head g c = λ t damage is.
+    c.in-Err-update.ensures.no_head (λ p. store-told g.D.Disk.tells (applied (g.D.Disk.world p.disk.now).seen) p.overlay p.current.counted t p.sized) damage is

@@ -19,8 +19,8 @@ use Rattle.irtree_engine.proofs.Standing.{committed-stand, store-told}
 use Rattle.irtree_engine.proofs.Takes.{room-left}
 use Rattle.irtree_engine.proofs.updating.Engine+D.apply_batch.Goals as goal
 
-pub returns-in-Err-changed-clause-due : goal.returns-in-Err-changed-clause-due
-returns-in-Err-changed-clause-due g c = λ t state holds.
+pub returns-in-Err-update_all-clause-due : goal.returns-in-Err-update_all-clause-due
+returns-in-Err-update_all-clause-due g c = λ t state holds.
     let on = c.begin.ensures.as_before ∙ sym c.args.self.now.stops ∙ c.in-Ok.ensures.on in
     let clean = ap (λ (o : Overlay). o.entries) c.begin.ensures.overlay ∙ c.args.self.now.clean in
     let settled = c.begin.ensures.current ∙ c.args.self.now.settled ∙ sym c.begin.ensures.last in
@@ -30,7 +30,7 @@ returns-in-Err-changed-clause-due g c = λ t state holds.
     let committed = committed-stand g.D.Disk.tells (g.D.Disk.world store.disk.now) store.overlay store.current store.last store.end state t clean settled (store.ready t on) here in
     let stand : PagesStand (block_with store.current.counted store.current.first_free c.head-head.result) held state =
     subst (λ (h : Head). PagesStand (block_with store.current.counted store.current.first_free h) held state) (sym c.head-head.ensures) committed in
-    c.in-Err-changed.ensures.due state stand (λ p. store-told g.D.Disk.tells (applied (g.D.Disk.world p.disk.now).seen) p.overlay p.current.counted t p.sized)
+    c.in-Err-update_all.ensures.due state stand (λ p. store-told g.D.Disk.tells (applied (g.D.Disk.world p.disk.now).seen) p.overlay p.current.counted t p.sized)
 
 pub returns-clause-applied : goal.returns-clause-applied
 returns-clause-applied g c = λ t state holds.
@@ -43,10 +43,10 @@ returns-clause-applied g c = λ t state holds.
     let committed = committed-stand g.D.Disk.tells (g.D.Disk.world store.disk.now) store.overlay store.current store.last store.end state t clean settled (store.ready t on) here in
     let stand : PagesStand (block_with store.current.counted store.current.first_free c.head-head.result) held state =
     subst (λ (h : Head). PagesStand (block_with store.current.counted store.current.first_free h) held state) (sym c.head-head.ensures) committed in
-    let mid = c.update_all-changed.new.pages in
-    let rests = c.update_all-changed.ensures.follows.rests t in
+    let mid = c.update_all.new.pages in
+    let rests = c.update_all.ensures.follows.rests t in
     let holds_mid = rest-stands (g.D.Disk.world store.disk.now) (g.D.Disk.world mid.disk.now) state rests here in
-    let outcome = outcome-is (state_after_all state c.args.updates.now) (block_with mid.current.counted mid.current.first_free c.update_all-changed.new.head) (counted_pages mid.current.counted (shown g.D.Disk.tells (applied (g.D.Disk.world mid.disk.now).seen) mid.overlay)) (c.in_default.ensures.updated state stand) in
+    let outcome = outcome-is (state_after_all state c.args.updates.now) (block_with mid.current.counted mid.current.first_free c.update_all.new.head) (counted_pages mid.current.counted (shown g.D.Disk.tells (applied (g.D.Disk.world mid.disk.now).seen) mid.overlay)) (c.in_default.ensures.updated state stand) in
     on_ok_weaker c.commit.result (outcome-stands (state_after_all state c.args.updates.now) outcome.0 (g.D.Disk.world c.commit.new.store.disk.now).seen outcome.1)
     (c.commit.ensures.stored t state outcome.0 holds_mid outcome.2 (all-rise state c.args.updates.now outcome.0 outcome.1).same)
 
@@ -61,10 +61,10 @@ returns-clause-any_moment g c = λ t state holds.
     let committed = committed-stand g.D.Disk.tells (g.D.Disk.world store.disk.now) store.overlay store.current store.last store.end state t clean settled (store.ready t on) here in
     let stand : PagesStand (block_with store.current.counted store.current.first_free c.head-head.result) held state =
     subst (λ (h : Head). PagesStand (block_with store.current.counted store.current.first_free h) held state) (sym c.head-head.ensures) committed in
-    let mid = c.update_all-changed.new.pages in
-    let rests = c.update_all-changed.ensures.follows.rests t in
+    let mid = c.update_all.new.pages in
+    let rests = c.update_all.ensures.follows.rests t in
     let holds_mid = rest-stands (g.D.Disk.world store.disk.now) (g.D.Disk.world mid.disk.now) state rests here in
-    let outcome = outcome-is (state_after_all state c.args.updates.now) (block_with mid.current.counted mid.current.first_free c.update_all-changed.new.head) (counted_pages mid.current.counted (shown g.D.Disk.tells (applied (g.D.Disk.world mid.disk.now).seen) mid.overlay)) (c.in_default.ensures.updated state stand) in
+    let outcome = outcome-is (state_after_all state c.args.updates.now) (block_with mid.current.counted mid.current.first_free c.update_all.new.head) (counted_pages mid.current.counted (shown g.D.Disk.tells (applied (g.D.Disk.world mid.disk.now).seen) mid.overlay)) (c.in_default.ensures.updated state stand) in
     subst (λ disk. LeavesOnly (g.D.Disk.world disk) (g.D.Disk.world c.commit.new.store.disk.now) (LeavesAllOrNone state c.args.updates.now (g.D.Disk.world disk))) (λ i. (c.begin.ensures.disk i).now)
     (leaves-all (g.D.Disk.world store.disk.now) (g.D.Disk.world c.commit.new.store.disk.now) state c.args.updates.now outcome.0 outcome.1
     (rest-leaves (g.D.Disk.world store.disk.now) (g.D.Disk.world mid.disk.now) (g.D.Disk.world c.commit.new.store.disk.now) state outcome.0 rests
@@ -73,36 +73,36 @@ returns-clause-any_moment g c = λ t state holds.
 pub returns-in-Err-clause-rises : goal.returns-in-Err-clause-rises
 returns-in-Err-clause-rises g c = head-stays (length c.args.updates.now) _ _ (ap (λ (b : Superblock). b.head) c.begin.ensures.current)
 
-pub returns-in-Err-changed-clause-rises : goal.returns-in-Err-changed-clause-rises
-returns-in-Err-changed-clause-rises g c =
-    let last = ap (λ (k : Kept). k.last) c.update_all-changed.ensures.follows.kept ∙ c.begin.ensures.last ∙ sym c.args.self.now.settled in
-    head-stays (length c.args.updates.now) _ _ (ap (λ (b : Superblock). b.head) (c.abandon-in-Err-changed.ensures.current ∙ last))
+pub returns-in-Err-update_all-clause-rises : goal.returns-in-Err-update_all-clause-rises
+returns-in-Err-update_all-clause-rises g c =
+    let last = ap (λ (k : Kept). k.last) c.update_all.ensures.follows.kept ∙ c.begin.ensures.last ∙ sym c.args.self.now.settled in
+    head-stays (length c.args.updates.now) _ _ (ap (λ (b : Superblock). b.head) (c.abandon.ensures.current ∙ last))
 
 pub returns-clause-rises : goal.returns-clause-rises
 returns-clause-rises g c =
-    let last = ap (λ (k : Kept). k.last) c.update_all-changed.ensures.follows.kept ∙ c.begin.ensures.last ∙ sym c.args.self.now.settled in
+    let last = ap (λ (k : Kept). k.last) c.update_all.ensures.follows.kept ∙ c.begin.ensures.last ∙ sym c.args.self.now.settled in
     let from = c.head-head.ensures ∙ ap (λ (b : Superblock). b.head) c.begin.ensures.current in
     let old = c.args.self.now.store.current.head in
-    let within = made-from (length c.args.updates.now) old c.head-head.result c.update_all-changed.new.head from c.update_all-changed.ensures.one_more_each in
-    head-rises (length c.args.updates.now) old c.update_all-changed.new.pages.last.head c.update_all-changed.new.head c.commit.new.store.current.head (ap (λ (b : Superblock). b.head) last) within c.commit.ensures.new_head
+    let within = made-from (length c.args.updates.now) old c.head-head.result c.update_all.new.head from c.update_all.ensures.one_more_each in
+    head-rises (length c.args.updates.now) old c.update_all.new.pages.last.head c.update_all.new.head c.commit.new.store.current.head (ap (λ (b : Superblock). b.head) last) within c.commit.ensures.new_head
 
-pub returns-in-Err-changed-clause-room_left : goal.returns-in-Err-changed-clause-room_left
-returns-in-Err-changed-clause-room_left g c = λ is.
+pub returns-in-Err-update_all-clause-room_left : goal.returns-in-Err-update_all-clause-room_left
+returns-in-Err-update_all-clause-room_left g c = λ is.
     let old = c.args.self.now.store in
     let allowed = c.begin.new.store in
-    let mid = c.update_all-changed.new.pages in
+    let mid = c.update_all.new.pages in
     room-left (g.D.Disk.room_of old.disk.now) old.current.counted old.refused (most_takes (length c.args.updates.now) old.current.counted) (g.D.Disk.room_of allowed.disk.now)
-    (counts_of allowed.current.counted allowed.takes_left allowed.refused allowed.failed) (counts_of mid.current.counted mid.takes_left mid.refused mid.failed)
+    (counts_of allowed.current.counted allowed.takes_left allowed.refused) (counts_of mid.current.counted mid.takes_left mid.refused)
     (λ i. g.D.Disk.room_of (c.begin.ensures.disk i).now) (λ i. (c.begin.ensures.current i).counted) c.begin.ensures.refused c.in-Ok.ensures.takes
-    c.update_all-changed.ensures.follows.takes c.in-Ok.ensures.counts (c.in-Err-changed.ensures.no_room is)
+    c.update_all.ensures.follows.takes c.in-Ok.ensures.counts (c.in-Err-update_all.ensures.no_room is)
 
-pub returns-in-Err-changed-clause-as_before : goal.returns-in-Err-changed-clause-as_before
-returns-in-Err-changed-clause-as_before g c = λ is.
-    c.abandon-in-Err-changed.ensures.current ∙ ap (λ (k : Kept). k.last) c.update_all-changed.ensures.follows.kept ∙ c.begin.ensures.last ∙ sym c.args.self.now.settled
+pub returns-in-Err-update_all-clause-as_before : goal.returns-in-Err-update_all-clause-as_before
+returns-in-Err-update_all-clause-as_before g c = λ is.
+    c.abandon.ensures.current ∙ ap (λ (k : Kept). k.last) c.update_all.ensures.follows.kept ∙ c.begin.ensures.last ∙ sym c.args.self.now.settled
 
-pub update_all-changed-requires-clause-numbers : goal.update_all-changed-requires-clause-numbers
-update_all-changed-requires-clause-numbers g c = subst AreHeadNumbers (sym (c.head-head.ensures ∙ ap (λ (b : Superblock). b.head) c.begin.ensures.current)) c.args.self.now.numbers
+pub update_all-requires-clause-numbers : goal.update_all-requires-clause-numbers
+update_all-requires-clause-numbers g c = subst AreHeadNumbers (sym (c.head-head.ensures ∙ ap (λ (b : Superblock). b.head) c.begin.ensures.current)) c.args.self.now.numbers
 
-pub returns-in-Err-changed-clause-no_head : goal.returns-in-Err-changed-clause-no_head
-returns-in-Err-changed-clause-no_head g c = λ t damage is.
-    c.in-Err-changed.ensures.no_head (λ p. store-told g.D.Disk.tells (applied (g.D.Disk.world p.disk.now).seen) p.overlay p.current.counted t p.sized) damage is
+pub returns-in-Err-update_all-clause-no_head : goal.returns-in-Err-update_all-clause-no_head
+returns-in-Err-update_all-clause-no_head g c = λ t damage is.
+    c.in-Err-update_all.ensures.no_head (λ p. store-told g.D.Disk.tells (applied (g.D.Disk.world p.disk.now).seen) p.overlay p.current.counted t p.sized) damage is
