@@ -6,14 +6,16 @@ use Rattle.page_face.specs.declared.fault.Damage.{Damage}
 use Rattle.page_face.specs.declared.fault.PageFault.{PageFault}
 use Rattle.page_face.specs.declared.fault.PageFault.TheVariants.{Damaged}
 use Rattle.btree_nodes.specs.declared.form.Form.{Form}
-use Rattle.btree_nodes.specs.Nodes.{half_of, least_of_root}
+use Rattle.btree_nodes.specs.Nodes.{IsInner, IsLeaf, half_of, least_of_root, rows_in}
+use Rattle.btree_nodes.specs.Rows.{IsWithin}
 use Rattle.btree_nodes.specs.Tree.{IsTree, uses}
-use Rattle.btree_nodes.specs.Damages.{IsDamaged, AreTold, AskedSince, AsksOnly}
+use Rattle.btree_nodes.specs.Damages.{IsDamaged, IsOrdered, AreTold, AskedSince, AsksOnly}
 use Rattle.btree_nodes.proofs.Trees.{tree-size}
 use Rattle.btree_nodes.proofs.Harms.{asks-here, asks-further}
 use Rattle.btree_nodes.proofs.Walks.{told-read, uses-self, asks-read, damage-link, uses-below, damage-below}
 use Rattle.btree_search.specs.Steps.{StepsTo}
 use Rattle.btree_search.specs.Below.{LiesBelow}
+use Rattle.btree_search.specs.Ways.{IsWay}
 use Rattle.btree_search.proofs.Places.{lies-itself, lies-below, lies-further}
 
 -- what a page below has, the page above has
@@ -30,6 +32,7 @@ pub record Descends (form : Form) (pages : PageMap) (count key least level page 
   pub below : bytes ≡ pages page → IsTree form least pages level page low high ⊎ AreTold pages count → (looked ≡ pages here) × Below form pages count least level page low high fill height here lo hi
   pub ends : (before : List ℕ) → asked ≡ before ++ page ∷ [] → (front : List ℕ) × (since ≡ before ++ (front ++ here ∷ []))
   pub own : (before : List ℕ) → asked ≡ before ++ page ∷ [] → bytes ≡ pages page → AreTold pages count → AsksOnly (uses form pages level page) before since
+  pub way : bytes ≡ pages page → AreTold pages count → (leaf from to : ℕ) → IsWay form pages count key fill height here lo hi leaf from to → IsWay form pages count key least level page low high leaf from to
   pub counted : IsUncounted count here → ⊥
   pub fills : least_of_root height ≤ fill
   pub from : lo ≤ key
@@ -41,6 +44,7 @@ descends-start form pages count key least level page low high bytes asked f u a 
   below = λ is t. (is, below-start form pages count least level page low high (omega arith));
   ends = λ before e. ([], e);
   own = λ before e is told. asks-here (uses form pages level page) before asked page (uses-self form pages level page) e;
+  way = λ is told leaf from to w. w;
   counted = u;
   fills = f;
   from = a;
@@ -61,9 +65,24 @@ module _ {form : Form} {pages : PageMap} {count key least level page low high : 
       damage = λ m h. b.damage m (damage-below form pages looked height l here s.at up is s.within count m fill fill' lo hi lo' hi' child f s.from s.to s.is h);
     }
 
-    pub descends-step : (fill' : ℕ) (looked' since' : List ℕ) → fill' ≡ half_of form l → least_of_root l ≤ fill' → (0 < length (pages child) → looked' ≡ pages child) → (IsUncounted count child → ⊥) → since' ≡ since ++ child ∷ []
+    -- a way from the child goes on from the page
+    way-step : (inner : IsInner form fill height looked) → IsOrdered form lo hi looked → (IsUncounted count child → ⊥) → looked ≡ pages here → (leaf from to : ℕ) → IsWay form pages count key (half_of form l) l child lo' hi' leaf from to
+        → IsWay form pages count key fill height here lo hi leaf from to
+    way-step inner ordered counted is leaf from to w =
+        subst (λ (k : ℕ). IsWay form pages count key fill k here lo hi leaf from to) (sym up) (
+          subst (λ (x : List ℕ). IsInner form fill (suc l) x) is (subst (λ (k : ℕ). IsInner form fill k looked) up inner),
+          subst (IsOrdered form lo hi) is ordered,
+          child,
+          lo',
+          hi',
+          subst (λ (x : List ℕ). StepsTo form x key lo hi child lo' hi') is s,
+          counted,
+          w,
+        )
+
+    pub descends-step : (fill' : ℕ) (looked' since' : List ℕ) → IsInner form fill height looked → IsOrdered form lo hi looked → fill' ≡ half_of form l → least_of_root l ≤ fill' → (0 < length (pages child) → looked' ≡ pages child) → (IsUncounted count child → ⊥) → since' ≡ since ++ child ∷ []
         → Descends form pages count key least level page low high bytes asked fill' l child lo' hi' looked' since'
-    descends-step fill' looked' since' f some gives counted e = record {
+    descends-step fill' looked' since' inner ordered f some gives counted e = record {
       below = λ is t.
           let was = d.below is t in
           let b = below-step fill' f was.0 was.1 in
@@ -76,6 +95,9 @@ module _ {form : Form} {pages : PageMap} {count key least level page low high : 
           let b = below-step fill' f was.0 was.1 in
           let mine : ℕ → ℕ = uses form pages level page in
           asks-further mine before since since' (d.own before a is told) (asks-here mine since since' child (b.owns child (uses-self form pages l child)) e);
+      way = λ is told leaf from to w.
+          let was = d.below is (inr told) in
+          d.way is told leaf from to (way-step inner ordered counted was.0 leaf from to (subst (λ (k : ℕ). IsWay form pages count key k l child lo' hi' leaf from to) f w));
       counted = counted;
       fills = some;
       from = s.over d.from;
@@ -116,3 +138,10 @@ module _ {form : Form} {pages : PageMap} {count key least level page low high : 
   leaf-read before a is told =
       let was = d.ends before a in
       (record { front = was.0; back = []; is = was.1 }, (d.below is (inr told)).0)
+
+  -- the way ends at the leaf that keeps its rules
+  pub leaf-way : height ≡ 0 → bytes ≡ pages page → AreTold pages count → IsLeaf form fill looked → IsWithin lo hi (rows_in form looked) → IsWay form pages count key least level page low high here lo hi
+  leaf-way down is told leaf within =
+      let was = d.below is (inr told) in
+      d.way is told here lo hi (subst (λ (k : ℕ). IsWay form pages count key fill k here lo hi here lo hi) (sym down)
+      (refl, refl, refl, subst (IsLeaf form fill) was.0 leaf, subst (λ (x : List ℕ). IsWithin lo hi (rows_in form x)) was.0 within))

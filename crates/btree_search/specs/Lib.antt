@@ -1,3 +1,4 @@
 pub mod Steps
 pub mod Below
 pub mod Leaves
+pub mod Ways

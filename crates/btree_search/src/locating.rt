@@ -9,6 +9,7 @@ ghost use Rattle.btree_nodes.specs.Damages.{IsDamaged, AreTold, AskedSince, Asks
 ghost use Rattle.btree_search.specs.Steps.{low_of, high_of};
 ghost use Rattle.btree_search.specs.Below.{LiesBelow};
 ghost use Rattle.btree_search.specs.Leaves.{IsLeafOf, IsShown};
+ghost use Rattle.btree_search.specs.Ways.{IsWay, IsWayOf};
 
 use crate::bounds::Bounds;
 use crate::sealed::{leaf_count, step_down};
@@ -60,6 +61,8 @@ fn descend_to_leaf<P: Pages>(
     ensures read { (before : List ℕ) → P.asked pages.old ≡ before ++ page ∷ []
         → AreTold (P.pages pages.old) (P.count pages.old) → P.looked pages.old ≡ P.pages pages.old page
         → IfOk result (λ leaf. AskedSince before (P.asked pages.new) leaf.page × (P.looked pages.new ≡ P.pages pages.old leaf.page)) }
+    ensures way { AreTold (P.pages pages.old) (P.count pages.old) → P.looked pages.old ≡ P.pages pages.old page
+        → IfOk result (λ leaf. IsWay form (P.pages pages.old) (P.count pages.old) (number key.now) least level page (low_of form bounds.old) (high_of form bounds.old) leaf.page (low_of form bounds.new) (high_of form bounds.new)) }
     ensures own { (before : List ℕ) → P.asked pages.old ≡ before ++ page ∷ []
         → AreTold (P.pages pages.old) (P.count pages.old) → P.looked pages.old ≡ P.pages pages.old page
         → AsksOnly (uses form (P.pages pages.old) level page) before (P.asked pages.new) }
@@ -120,6 +123,10 @@ pub fn locate<P: Pages>(
         → (damage : Damage) → IsErrOf result (PageFault.Damaged damage) → AskedSince (P.asked pages.old) (P.asked pages.new) damage.page }
     ensures read { AreTold (P.pages pages.old) (P.count pages.old)
         → IfOk result (λ leaf. AskedSince (P.asked pages.old) (P.asked pages.new) leaf.page × (P.looked pages.new ≡ P.pages pages.old leaf.page)) }
+
+    // On any pages that tell their bytes, each page on the way to the leaf keeps the rules in its place.
+    ensures way { AreTold (P.pages pages.old) (P.count pages.old)
+        → IfOk result (λ leaf. IsWayOf form (P.pages pages.old) (P.count pages.old) root (number key.now) leaf.page (low_of form bounds.new) (high_of form bounds.new)) }
     ensures own { AreTold (P.pages pages.old) (P.count pages.old)
         → AsksOnly (map_uses form (P.pages pages.old) root) (P.asked pages.old) (P.asked pages.new) }
     ensures fails { FailsReading P.Pages pages.old pages.new result }

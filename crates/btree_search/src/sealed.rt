@@ -1,11 +1,11 @@
 //! The page that was looked at last, in its place in a tree.
-ghost use Rattle.std.specs.Prelude.{◌≡◌, ℕ, ◌+◌, ◌*◌, ◌<◌, ◌≤◌, length, take, drop, IfOk, IfErr, Some, None, if◌then◌else◌};
+ghost use Rattle.std.specs.Prelude.{◌≡◌, ◌+◌, ◌*◌, ◌<◌, ◌≤◌, length, take, drop, IfOk, IfErr, Some, None, if◌then◌else◌};
 ghost use Rattle.page_face.specs.Number.{number};
 ghost use Rattle.btree_nodes.specs.Rows.{IsWithin, lookup};
 ghost use Rattle.page_face.specs.Nodes.{count_of};
 ghost use Rattle.btree_nodes.specs.Nodes.{IsLeaf, IsInner, rows_in, entries_in};
 ghost use Rattle.btree_nodes.specs.Tree.{IsPlaceFor};
-ghost use Rattle.btree_nodes.specs.Bounds.{upper_of, low_at, high_at, child_of};
+ghost use Rattle.btree_nodes.specs.Bounds.{upper_of};
 ghost use Rattle.btree_nodes.specs.Damages.{BreaksLeaf, BreaksInner, IsOrdered};
 ghost use Rattle.page_face.specs.Calls.{Reads};
 ghost use Rattle.btree_search.specs.Steps.{StepsTo};
@@ -185,6 +185,8 @@ pub fn step_down<P: Pages>(
     ensures steps { IfOk result (λ child. StepsTo form (P.looked pages.old) (number key.now)
         (number (take form.key bounds.old.low)) (upper_of form.key (take bounds.old.top bounds.old.high)) child
         (number (take form.key bounds.new.low)) (upper_of form.key (take bounds.new.top bounds.new.high))) }
+    ensures sound { IfOk result (λ child. IsInner form least level (P.looked pages.old)) }
+    ensures order { IfOk result (λ child. IsOrdered form (number (take form.key bounds.old.low)) (upper_of form.key (take bounds.old.top bounds.old.high)) (P.looked pages.old)) }
     ensures breaks { IfErr result (λ rule. BreaksInner rule form least level
         (number (take form.key bounds.old.low)) (upper_of form.key (take bounds.old.top bounds.old.high)) (P.looked pages.old)) }
     ensures top { 0 < bounds.new.top → bounds.new.top ≡ form.key }

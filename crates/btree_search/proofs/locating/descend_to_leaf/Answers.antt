@@ -3,11 +3,14 @@ use Rattle.page_face.specs.FreeList.{PageMap}
 use Rattle.page_face.specs.Causes.{IsUncounted, asked_after}
 use Rattle.page_face.specs.Number.{number}
 use Rattle.page_face.proofs.Frames.{reads_then}
+use Rattle.btree_nodes.specs.Bounds.{upper_of}
 use Rattle.btree_nodes.specs.Damages.{AskedSince}
+use Rattle.btree_nodes.specs.Nodes.{rows_in}
+use Rattle.btree_nodes.specs.Rows.{IsWithin}
 use Rattle.btree_nodes.proofs.Walks.{same-fault}
 use Rattle.btree_search.specs.Steps.{low_of, high_of}
 use Rattle.btree_search.specs.declared.locating.Leaf.{Leaf}
-use Rattle.btree_search.proofs.Descents.{descends-start, descends-step, damaged-link, named-link, own-link, leaf-lies, leaf-read}
+use Rattle.btree_search.proofs.Descents.{descends-start, descends-step, damaged-link, named-link, own-link, leaf-lies, leaf-read, leaf-way}
 use Rattle.btree_search.proofs.locating.descend_to_leaf.Goals as goal
 
 pub down-init : goal.down-init
@@ -59,7 +62,7 @@ down-preserved g c =
     let more = g.met.P.Pages.reads_further in
     let m = reads_then g.P.Pages further more _ _ _ c.down.invariant.frame c.in-Ok.ensures.frame in
     record {
-      descends = descends-step c.down.invariant.descends (c.down.height - 1) (omega arith) c.in-Ok.ensures.steps c.least_at-fill.result _ _ c.least_at-fill.ensures.is c.least_at-fill.ensures.some
+      descends = descends-step c.down.invariant.descends (c.down.height - 1) (omega arith) c.in-Ok.ensures.steps c.least_at-fill.result _ _ c.in-Ok.ensures.sound c.in-Ok.ensures.order c.least_at-fill.ensures.is c.least_at-fill.ensures.some
           (subst (λ (x : PageMap). 0 < length (x c.in-Ok.child) → g.P.Pages.looked c.look.new.self ≡ x c.in-Ok.child) m.pages c.in-Ok-look.ensures.gives)
           (λ u. let f = c.in-Ok-look.ensures.uncounted (subst (λ (n : ℕ). IsUncounted n c.in-Ok.child) (sym m.count) u) in cc)
           (c.in-Ok-look.ensures.asked ∙ ap (λ (x : List ℕ). x ++ c.in-Ok.child ∷ []) c.in-Ok.ensures.asked);
@@ -78,3 +81,10 @@ pub returns-in-Ok-leaf_count-clause-read : goal.returns-in-Ok-leaf_count-clause-
 returns-in-Ok-leaf_count-clause-read g c = λ before asked told is.
     let l = leaf-read c.down.invariant.descends before asked is told in
     (subst (λ (x : List ℕ). AskedSince before x c.down.here) (sym c.leaf_count.ensures.asked) l.0, c.leaf_count.ensures.looked ∙ l.1)
+
+pub returns-in-Ok-leaf_count-clause-way : goal.returns-in-Ok-leaf_count-clause-way
+returns-in-Ok-leaf_count-clause-way g c = λ told is.
+    let rows = rows_in c.args.form (g.P.Pages.looked c.down.pages) in
+    leaf-way c.down.invariant.descends (omega arith) is told c.in-Ok-leaf_count.ensures.sound
+    (subst (λ (x : List ℕ). IsWithin (number x) (high_of c.args.form c.down.bounds) rows) c.low.ensures.is
+    (subst (λ (x : List ℕ). IsWithin (number c.low.result.now) (upper_of c.args.form.key x) rows) c.high.ensures.is c.in-Ok-leaf_count.ensures.order))

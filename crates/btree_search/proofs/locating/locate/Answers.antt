@@ -2,6 +2,7 @@ use Rattle.std.proofs.Common.{arith, ◌≡◌, ◌^◌, ◌<◌, ℕ, ◌∙◌
 use Rattle.std.specs.Result.{IfOk}
 use Rattle.std.proofs.lemmas.Result.{IfOk-weaker}
 use Rattle.page_face.specs.FreeList.{PageMap}
+use Rattle.page_face.specs.Causes.{IsUncounted}
 use Rattle.page_face.specs.Number.{number}
 use Rattle.page_face.specs.declared.fault.Damage.{Damage}
 use Rattle.btree_nodes.proofs.Numbers.{number_below}
@@ -15,6 +16,7 @@ use Rattle.btree_nodes.proofs.Walks.{same-fault, told-read, uses-self, asks-read
 use Rattle.btree_search.specs.Steps.{low_of, high_of}
 use Rattle.btree_search.specs.Below.{LiesBelow}
 use Rattle.btree_search.specs.Leaves.{IsLeafOf}
+use Rattle.btree_search.specs.Ways.{IsWay, IsWayOf}
 use Rattle.btree_search.specs.declared.locating.Leaf.{Leaf}
 use Rattle.btree_search.proofs.Roots.{named-first, enter, map-tree, map-uses, leaf-of}
 use Rattle.btree_search.proofs.locating.locate.Goals as goal
@@ -89,3 +91,19 @@ returns-in-Ok-clause-read g c = λ told.
     old (g.P.Pages.pages c.look.new.self) (g.P.Pages.count c.args.pages.now) (g.P.Pages.count c.look.new.self) 0 0 0 0 0 0 0 0
     c.in-Ok.ensures.pages c.in-Ok.ensures.count refl refl refl refl (c.descend_to_leaf.ensures.read asked c.in-Ok.ensures.asked) in
     claim told bytes
+
+pub returns-in-Ok-clause-way : goal.returns-in-Ok-clause-way
+returns-in-Ok-clause-way g c = λ told.
+    let form : Form = c.args.form in
+    let old : PageMap = g.P.Pages.pages c.args.pages.now in
+    let count : ℕ = g.P.Pages.count c.args.pages.now in
+    let root : ℕ = c.args.root in
+    let key : ℕ = number c.args.key.now in
+    let top : ℕ = level_of (old root) in
+    let counted : ¬ IsUncounted count root = λ u. (let f = c.in-Ok.ensures.uncounted u in cc) in
+    let bytes = c.in-Ok.ensures.gives (told-read old count root told counted) in
+    let level = c.level-level.ensures ∙ ap level_of c.looked.ensures ∙ ap level_of bytes in
+    let claim = enter (λ p k v w a b. AreTold p k → g.P.Pages.looked c.look.new.self ≡ p root → IfOk c.descend_to_leaf.result (λ leaf. IsWay form p k key w v root a b leaf.page (low_of form c.descend_to_leaf.new.bounds) (high_of form c.descend_to_leaf.new.bounds)))
+    old (g.P.Pages.pages c.look.new.self) count (g.P.Pages.count c.look.new.self) top c.level-level.result (least_of_root top) c.root_least-least.result 0 (low_of form c.all.result) (256 ^ form.key) (high_of form c.all.result)
+    c.in-Ok.ensures.pages c.in-Ok.ensures.count level (c.root_least-least.ensures ∙ ap least_of_root level) (c.all.ensures.low form.key) (c.all.ensures.high form.key) c.descend_to_leaf.ensures.way in
+    IfOk-weaker c.descend_to_leaf.result _ (λ leaf. IsWayOf form old count root key leaf.page (low_of form c.descend_to_leaf.new.bounds) (high_of form c.descend_to_leaf.new.bounds)) (λ leaf h. (counted, h)) (claim told bytes)
