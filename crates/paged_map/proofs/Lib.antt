@@ -7,3 +7,4 @@ pub mod Maps
 pub mod Removes
 pub mod Spots
 pub mod Drafts
+pub mod Lookups

@@ -8,6 +8,7 @@ use Rattle.btree_nodes.specs.Nodes.{IsLeaf, rows_in}
 use Rattle.btree_nodes.specs.Rows.{Row, IsWithin}
 use Rattle.btree_search.specs.Leaves.{IsLeafOf}
 use Rattle.btree_search.specs.Steps.{low_of, high_of}
+use Rattle.btree_search.specs.Ways.{IsWayOf}
 use Rattle.paged_map.specs.declared.draft.LeafDraft.{LeafDraft}
 
 -- the key belongs to the leaf
@@ -31,3 +32,8 @@ pub record IsDrafted (form : Form) (pages : PageMap) (root least page low high :
 abbrev pub Drafts : PageMap → ℕ → List Row → LeafDraft → Type 0
 Drafts pages root rows draft =
     IsDrafted draft.form pages root draft.least draft.page (low_of draft.form draft.bounds) (high_of draft.form draft.bounds) draft.bytes rows
+
+-- the draft is a copy of the leaf at the end of a key's way, on which each page keeps the rules in its place
+abbrev pub IsDraftedAt : PageMap → ℕ → ℕ → ℕ → LeafDraft → Type 0
+IsDraftedAt pages count root key draft =
+    IsWayOf draft.form pages count root key draft.page (low_of draft.form draft.bounds) (high_of draft.form draft.bounds) × (draft.bytes ≡ pages draft.page)

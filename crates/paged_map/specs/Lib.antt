@@ -3,3 +3,4 @@ pub mod Maps
 pub mod Edits
 pub mod Spots
 pub mod Drafts
+pub mod Lookups

@@ -1,5 +1,5 @@
 //! A leaf whose rows are changed in memory, and which is then written once.
-ghost use Rattle.std.specs.Prelude.{◌≡◌, ◌≢◌, ◌↔◌, ℕ, ◌+◌, ◌-◌, ◌*◌, ◌<◌, ◌≤◌, List, length, IfOk, IsTrue, IsErrOf, OnOk, Some, None, false, if◌then◌else◌};
+ghost use Rattle.std.specs.Prelude.{◌≡◌, ◌≢◌, ◌↔◌, ℕ, ◌+◌, ◌-◌, ◌*◌, ◌<◌, ◌≤◌, List, length, IsTrue, IsErrOf, OnOk, Some, None, false, if◌then◌else◌};
 ghost use Rattle.page_face.specs.Calls.{Changes, Reads, FailsReading};
 ghost use Rattle.page_face.specs.FreeList.{PageMap};
 ghost use Rattle.page_face.specs.Number.{number};
@@ -9,7 +9,7 @@ ghost use Rattle.btree_nodes.specs.Damages.{AreTold, AskedSince, AsksOnly};
 ghost use Rattle.btree_nodes.specs.Rows.{Row, lookup, put, without};
 ghost use Rattle.btree_nodes.specs.Supply.{view};
 ghost use Rattle.btree_nodes.specs.Tree.{IsMap, map_rows, map_uses};
-ghost use Rattle.paged_map.specs.Drafts.{Drafts, IsKeyOf, IsLeafDraft};
+ghost use Rattle.paged_map.specs.Drafts.{Drafts, IsDraftedAt, IsKeyOf, IsLeafDraft};
 ghost use Rattle.paged_map.specs.Edits.{edited};
 ghost use Rattle.paged_map.specs.Maps.{HasBecome, IsKept, IsMapDamaged};
 
@@ -64,6 +64,8 @@ impl LeafDraft {
         ensures holds { OnOk result (IsKeyOf self.new (number key.now)) }
         ensures drafts { IsMap self.old.form (P.pages pages.old) root
             → OnOk result (Drafts (P.pages pages.old) root (map_rows self.old.form (P.pages pages.old) root) self.new) }
+        ensures kept { AreTold (P.pages pages.old) (P.count pages.old)
+            → OnOk result (IsDraftedAt (P.pages pages.old) (P.count pages.old) root (number key.now) self.new) }
         ensures damaged { AreTold (P.pages pages.old) (P.count pages.old)
             → (damage : Damage) → IsErrOf result (PageFault.Damaged damage) → IsMapDamaged self.old.form (P.pages pages.old) (P.count pages.old) root damage }
         ensures named { AreTold (P.pages pages.old) (P.count pages.old)

@@ -11,6 +11,7 @@ ghost use Rattle.btree_nodes.specs.Damages.{AreTold, AskedSince, AsksOnly};
 ghost use Rattle.btree_search.specs.Leaves.{IsShown};
 ghost use Rattle.btree_search.specs.Steps.{high_of};
 ghost use Rattle.paged_map.specs.Answers.{HasRead, HoldsRow, Locates, LocatesOr};
+ghost use Rattle.paged_map.specs.Lookups.{IsFirstPast, IsFirstThere, IsLookedUp};
 ghost use Rattle.paged_map.specs.Maps.{IsMapDamaged};
 ghost use Rattle.paged_map.specs.Spots.{IsRowAt, IsSpot, leaf_of};
 
@@ -65,6 +66,8 @@ pub fn find_below<P: Pages>(
     ensures spot { IfOk result (λ found. IfSome found (IsSpot form (P.pages pages.new) (P.count pages.new) root (P.looked pages.new) (number key.now))) }
     ensures read { AreTold (P.pages pages.old) (P.count pages.old)
         → IfOk result (λ found. IfSome (leaf_of found) (HasRead form (P.pages pages.old) (P.asked pages.old) (P.asked pages.new) (number key.now, value.new))) }
+    ensures kept { AreTold (P.pages pages.old) (P.count pages.old)
+        → IfOk result (λ found. IsLookedUp form (P.pages pages.old) (P.count pages.old) root (number key.now) (if is_some found then Some value.new else None)) }
     ensures damaged { AreTold (P.pages pages.old) (P.count pages.old)
         → (damage : Damage) → IsErrOf result (PageFault.Damaged damage) → IsMapDamaged form (P.pages pages.old) (P.count pages.old) root damage }
     ensures named { AreTold (P.pages pages.old) (P.count pages.old)
@@ -156,6 +159,8 @@ fn first_at<P: Pages>(
     ensures on { IfOk result (λ leaf. IfSome leaf (λ page. number key.now ≤ number found.new)) }
     ensures read { AreTold (P.pages pages.old) (P.count pages.old)
         → IfOk result (λ leaf. IfSome leaf (HasRead form (P.pages pages.old) (P.asked pages.old) (P.asked pages.new) (number found.new, value.new))) }
+    ensures way { AreTold (P.pages pages.old) (P.count pages.old)
+        → IfOk result (λ leaf. IsFirstThere form (P.pages pages.old) (P.count pages.old) root (number key.now) (high_of form bounds.new) (if is_some leaf then Some (number found.new, value.new) else None)) }
     ensures past { IfOk result (λ leaf. number key.now < high_of form bounds.new) }
     ensures top { IfOk result (λ leaf. 0 < bounds.new.top → bounds.new.top ≡ form.key) }
     ensures damaged { AreTold (P.pages pages.old) (P.count pages.old)
@@ -209,6 +214,8 @@ pub fn first_below<P: Pages>(
     ensures on { IfOk result (λ leaf. IfSome leaf (λ page. number key.now ≤ number found.new)) }
     ensures read { AreTold (P.pages pages.old) (P.count pages.old)
         → IfOk result (λ leaf. IfSome leaf (HasRead form (P.pages pages.old) (P.asked pages.old) (P.asked pages.new) (number found.new, value.new))) }
+    ensures kept { AreTold (P.pages pages.old) (P.count pages.old)
+        → IfOk result (λ leaf. (keys : List ℕ) × IsFirstPast form (P.pages pages.old) (P.count pages.old) root keys (number key.now) (if is_some leaf then Some (number found.new, value.new) else None)) }
     ensures damaged { AreTold (P.pages pages.old) (P.count pages.old)
         → (damage : Damage) → IsErrOf result (PageFault.Damaged damage) → IsMapDamaged form (P.pages pages.old) (P.count pages.old) root damage }
     ensures named { AreTold (P.pages pages.old) (P.count pages.old)

@@ -1,14 +1,14 @@
 //! A map by its root.
-ghost use Rattle.std.specs.Prelude.{◌≡◌, ◌≢◌, ◌⊎◌, ◌↔◌, ℕ, ◌<◌, ◌≤◌, List, length, IfOk, IfSome, IsTrue, IsErrOf, OnOk, OnErr, is_some};
+ghost use Rattle.std.specs.Prelude.{◌≡◌, ◌≢◌, ◌⊎◌, ◌↔◌, ℕ, ◌<◌, ◌≤◌, List, length, IfOk, IfSome, IsTrue, IsErrOf, OnOk, OnErr, is_some, if◌then◌else◌, Some, None, false};
 ghost use Rattle.page_face.specs.Calls.{Reads, Changes, FailsReading, FailsChanging};
-ghost use Rattle.page_face.specs.Causes.{Rose};
 ghost use Rattle.page_face.specs.Number.{number};
 ghost use Rattle.btree_nodes.specs.Supply.{view};
 ghost use Rattle.btree_nodes.specs.Rows.{lookup, first_from, put, without};
 ghost use Rattle.btree_nodes.specs.Tree.{IsMap, map_rows, map_uses};
 ghost use Rattle.btree_nodes.specs.Damages.{AreTold, AskedSince, AsksOnly, IsRefusedTake};
 ghost use Rattle.paged_map.specs.Answers.{HasRead, HoldsRow, Locates};
-ghost use Rattle.paged_map.specs.Drafts.{Drafts, IsKeyOf, IsLeafDraft};
+ghost use Rattle.paged_map.specs.Drafts.{Drafts, IsDraftedAt, IsKeyOf, IsLeafDraft};
+ghost use Rattle.paged_map.specs.Lookups.{IsFirstFound, IsLookedUp};
 ghost use Rattle.paged_map.specs.Maps.{AreCounted, IsMapDamaged, IsKept, HasBecome};
 ghost use Rattle.paged_map.specs.Spots.{IsSpot, leaf_of};
 
@@ -74,6 +74,10 @@ impl<L: Layout> PagedMap<L> {
         ensures read { AreTold (P.pages pages.old) (P.count pages.old)
             → IfOk result (λ leaf. IfSome leaf (HasRead L.form (P.pages pages.old) (P.asked pages.old) (P.asked pages.new) (number key.now, value.new))) }
 
+        // Each page on the way kept the rules in its place, and its leaf has the row or, if none is found, no row at the key.
+        ensures kept { AreTold (P.pages pages.old) (P.count pages.old)
+            → IfOk result (λ leaf. IsLookedUp L.form (P.pages pages.old) (P.count pages.old) self.now.root (number key.now) (if is_some leaf then Some value.new else None)) }
+
         // On a well-formed map whose pages are counted no page is damaged.
         ensures honest { IsMap L.form (P.pages pages.old) self.now.root → AreCounted (map_uses L.form (P.pages pages.old) self.now.root) (P.count pages.old)
             → AreTold (P.pages pages.old) (P.count pages.old) → (damage : Damage) → result ≢ Err (PageFault.Damaged damage) }
@@ -114,6 +118,10 @@ impl<L: Layout> PagedMap<L> {
         // On any pages that tell their bytes, the leaf was asked for and has the row.
         ensures read { AreTold (P.pages pages.old) (P.count pages.old)
             → IfOk result (λ found. IfSome (leaf_of found) (HasRead L.form (P.pages pages.old) (P.asked pages.old) (P.asked pages.new) (number key.now, value.new))) }
+
+        // Each page on the way kept the rules in its place, and its leaf has the row or, if none is found, no row at the key.
+        ensures kept { AreTold (P.pages pages.old) (P.count pages.old)
+            → IfOk result (λ found. IsLookedUp L.form (P.pages pages.old) (P.count pages.old) self.now.root (number key.now) (if is_some found then Some value.new else None)) }
 
         // On a well-formed map whose pages are counted no page is damaged.
         ensures honest { IsMap L.form (P.pages pages.old) self.now.root → AreCounted (map_uses L.form (P.pages pages.old) self.now.root) (P.count pages.old)
@@ -159,6 +167,10 @@ impl<L: Layout> PagedMap<L> {
         ensures read { AreTold (P.pages pages.old) (P.count pages.old)
             → IfOk result (λ leaf. IfSome leaf (HasRead L.form (P.pages pages.old) (P.asked pages.old) (P.asked pages.new) (number found.new, value.new))) }
 
+        // Each page on the ways kept the rules in its place, and the leaves that have no such row follow one another.
+        ensures kept { AreTold (P.pages pages.old) (P.count pages.old)
+            → IfOk result (λ leaf. IsFirstFound L.form (P.pages pages.old) (P.count pages.old) self.now.root (number key.now) (if is_some leaf then Some (number found.new, value.new) else None)) }
+
         // On a well-formed map whose pages are counted no page is damaged.
         ensures honest { IsMap L.form (P.pages pages.old) self.now.root → AreCounted (map_uses L.form (P.pages pages.old) self.now.root) (P.count pages.old)
             → AreTold (P.pages pages.old) (P.count pages.old) → (damage : Damage) → result ≢ Err (PageFault.Damaged damage) }
@@ -195,6 +207,10 @@ impl<L: Layout> PagedMap<L> {
         ensures holds { IfOk result (λ some. IsTrue some → IsKeyOf draft.new (number key.now)) }
         ensures drafts { IsMap L.form (P.pages pages.old) self.now.root
             → IfOk result (λ some. IsTrue some → Drafts (P.pages pages.old) self.now.root (map_rows L.form (P.pages pages.old) self.now.root) draft.new) }
+
+        // Each page on the way kept the rules in its place.
+        ensures kept { AreTold (P.pages pages.old) (P.count pages.old)
+            → IfOk result (λ some. IsTrue some → IsDraftedAt (P.pages pages.old) (P.count pages.old) self.now.root (number key.now) draft.new) }
 
         // On a well-formed map whose pages are counted no page is damaged.
         ensures honest { IsMap L.form (P.pages pages.old) self.now.root → AreCounted (map_uses L.form (P.pages pages.old) self.now.root) (P.count pages.old)
@@ -316,6 +332,7 @@ impl<L: Layout> PagedMap<L> {
             → IfOk result (λ was. (was ≡ is_some (lookup (number key.now) (map_rows L.form (P.pages pages.old) self.old.root)))
             × HasBecome L.form (view (P.pages pages.old) (P.count pages.old) (P.first pages.old) free) (P.pages pages.new) (P.count pages.new) (P.first pages.new) self.old.root self.new.root
             (without (number key.now) (map_rows L.form (P.pages pages.old) self.old.root))) }
+        ensures absent { IfOk result (λ was. was ≡ false → P.pages pages.new ≡ P.pages pages.old) }
         ensures kept { OnErr result (self.new ≡ self.old) }
         ensures told { AreTold (P.pages pages.old) (P.count pages.old) → OnOk result (AreTold (P.pages pages.new) (P.count pages.new)) }
 

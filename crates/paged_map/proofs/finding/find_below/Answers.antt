@@ -1,14 +1,15 @@
-use Rattle.std.proofs.Common.{◌∙◌, ℕ, List, is_some, sym, subst}
+use Rattle.std.proofs.Common.{◌∙◌, ℕ, List, is_some, sym, ap, subst}
 use Rattle.std.specs.Prelude.{IfSome}
 use Rattle.page_face.specs.Causes.{IsUncounted}
 use Rattle.page_face.specs.Number.{number}
 use Rattle.btree_nodes.specs.declared.form.Form.{Form}
 use Rattle.btree_nodes.specs.Nodes.{IsLeaf, rows_in}
-use Rattle.btree_nodes.specs.Rows.{IsWithin}
+use Rattle.btree_nodes.specs.Rows.{IsWithin, lookup}
 use Rattle.btree_search.specs.Leaves.{IsShown}
 use Rattle.btree_search.specs.Steps.{low_of, high_of}
 use Rattle.paged_map.specs.Spots.{IsRowAt, leaf_of}
 use Rattle.paged_map.proofs.Leaves.{found-leaf}
+use Rattle.paged_map.proofs.Lookups.{looked-up}
 use Rattle.paged_map.proofs.Readings.{hit-there, leaf-read}
 use Rattle.paged_map.proofs.Spots.{leaf-found, spots}
 use Rattle.paged_map.proofs.finding.find_below.Goals as goal
@@ -48,3 +49,14 @@ returns-in-Ok-clause-read g c = λ told.
     leaf-read form (g.P.Pages.pages c.args.pages.now) (g.P.Pages.asked c.args.pages.now) (g.P.Pages.asked c.locate.new.pages) c.looked.result.now c.row_at.new.value c.in-Ok.leaf.least (number c.args.key.now) c.in-Ok.leaf.page
     (is_some c.row_at.result) (leaf_of c.row_at.result) l.0 (c.looked.ensures ∙ l.1) (subst (IsLeaf form c.in-Ok.leaf.least) (sym c.looked.ensures) s.sound)
     (hit-there (is_some c.row_at.result) c.row_at.new.value _ (c.row_at.ensures.found low high within s.from s.to)) (leaf-found c.row_at.result c.in-Ok.leaf.page c.row_at.ensures.page)
+
+pub returns-in-Ok-clause-kept : goal.returns-in-Ok-clause-kept
+returns-in-Ok-clause-kept g c = λ told.
+    let l = c.in-Ok.ensures.read told in
+    let s = c.in-Ok.ensures.shown in
+    let form : Form = c.args.form in
+    let low : ℕ = low_of form c.locate.new.bounds in
+    let high : ℕ = high_of form c.locate.new.bounds in
+    let within : IsWithin low high (rows_in form c.looked.result.now) = subst (λ (x : List ℕ). IsWithin low high (rows_in form x)) (sym c.looked.ensures) s.within in
+    looked-up form (g.P.Pages.pages c.args.pages.now) (g.P.Pages.count c.args.pages.now) c.args.root (number c.args.key.now) _ c.in-Ok.leaf.page low high c.requires.root (c.in-Ok.ensures.way told)
+    (sym (c.row_at.ensures.found low high within s.from s.to) ∙ ap (λ (x : List ℕ). lookup (number c.args.key.now) (rows_in form x)) (c.looked.ensures ∙ l.1))
