@@ -7,3 +7,4 @@ pub mod Words
 pub mod Counts
 pub mod Copies
 pub mod Known
+pub mod Lookups

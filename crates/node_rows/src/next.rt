@@ -1,5 +1,5 @@
 //! The next row of a node.
-ghost use Rattle.std.specs.Prelude.{◌≡◌, ◌≤◌, IfOk, IfSome, IsErrOf};
+ghost use Rattle.std.specs.Prelude.{◌≤◌, IfOk, IfSome, IsErrOf};
 ghost use Rattle.page_face.specs.Calls.{Reads, FailsReading};
 ghost use Rattle.btree_nodes.specs.Damages.{AreTold, AsksOnly};
 ghost use Rattle.btree_nodes.specs.Tree.{IsMap, map_uses};
@@ -8,6 +8,7 @@ ghost use Rattle.rtree_shape.specs.Stock.{rows_form};
 ghost use Rattle.node_rows.specs.Rows.{bytes_in};
 ghost use Rattle.node_rows.specs.Turns.{Next};
 ghost use Rattle.node_rows.specs.Damages.{IsRowsDamage};
+ghost use Rattle.node_rows.specs.Lookups.{IsNextFound};
 
 use crate::Tree;
 use crate::key::RowKey;
@@ -31,6 +32,10 @@ pub fn next_row<P: Pages>(
     ensures next { IsMap rows_form (P.pages pages.old) tree.now.rows
         → IfOk result (Next (bytes_in (P.pages pages.old) tree.now.rows) node from) }
     ensures onto { IfOk result (λ next. IfSome next (λ found. from ≤ found.0)) }
+
+    // Each page on the ways kept the rules in its place: on any pages that tell their bytes the row is what their leaves have.
+    ensures kept { AreTold (P.pages pages.old) (P.count pages.old)
+        → IfOk result (IsNextFound (P.pages pages.old) (P.count pages.old) tree.now.rows node from) }
 
     // On a well-formed map whose pages are counted no page is damaged.
     ensures honest { IsMap rows_form (P.pages pages.old) tree.now.rows → AreCounted (map_uses rows_form (P.pages pages.old) tree.now.rows) (P.count pages.old)

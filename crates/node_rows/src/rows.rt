@@ -9,6 +9,7 @@ ghost use Rattle.paged_map.specs.Maps.{AreCounted, HasBecome, IsKept, IsMapDamag
 ghost use Rattle.paged_map.specs.Spots.{IsSpot};
 ghost use Rattle.rtree_shape.specs.Stock.{rows_form};
 ghost use Rattle.node_rows.specs.Damages.{IsRowsHarm};
+ghost use Rattle.node_rows.specs.Lookups.{IsRowFound};
 ghost use Rattle.node_rows.specs.Rows.{HasBytes, IsRows, bytes_in, key_of};
 ghost use Rattle.node_rows.specs.Turns.{Turns, with_row};
 
@@ -33,6 +34,10 @@ pub fn row<P: Pages>(
 ) -> Result<[u8; 32], PageFault>
     ensures row { IsMap rows_form (P.pages pages.old) tree.now.rows
         → IfOk result (λ row. HasBytes row (bytes_in (P.pages pages.old) tree.now.rows node number)) }
+
+    // Each page on the way kept the rules in its place: on any pages that tell their bytes the row is what its leaf has.
+    ensures kept { AreTold (P.pages pages.old) (P.count pages.old)
+        → IfOk result (IsRowFound (P.pages pages.old) (P.count pages.old) tree.now.rows node number) }
 
     // On a well-formed map whose pages are counted no page is damaged.
     ensures honest { IsMap rows_form (P.pages pages.old) tree.now.rows → AreCounted (map_uses rows_form (P.pages pages.old) tree.now.rows) (P.count pages.old)
@@ -66,6 +71,8 @@ pub fn find_row<P: Pages>(
     ensures row { IsMap rows_form (P.pages pages.old) tree.now.rows
         → OnOk result (HasBytes row.new (bytes_in (P.pages pages.old) tree.now.rows node number)) }
     ensures spot { IfOk result (λ found. IfSome found (IsSpot rows_form (P.pages pages.new) (P.count pages.new) tree.now.rows (P.looked pages.new) (key_of node number))) }
+    ensures kept { AreTold (P.pages pages.old) (P.count pages.old)
+        → OnOk result (IsRowFound (P.pages pages.old) (P.count pages.old) tree.now.rows node number row.new) }
     ensures honest { IsMap rows_form (P.pages pages.old) tree.now.rows → AreCounted (map_uses rows_form (P.pages pages.old) tree.now.rows) (P.count pages.old)
         → AreTold (P.pages pages.old) (P.count pages.old) → (damage : Damage) → ¬ IsErrOf result (PageFault.Damaged damage) }
     ensures damaged { AreTold (P.pages pages.old) (P.count pages.old) → (damage : Damage) → IsErrOf result (PageFault.Damaged damage)

@@ -1,5 +1,5 @@
 //! Keys and rows of the place table.
-ghost use Rattle.std.specs.Prelude.{◌≡◌, ◌≢◌, ℕ, ◌+◌, List, IfSome, IfNone};
+ghost use Rattle.std.specs.Prelude.{◌≡◌, ◌+◌, IfSome};
 ghost use Rattle.std.specs.Option.{option_copied};
 ghost use Rattle.page_face.specs.Number.{number};
 ghost use Rattle.spatial_base.specs.Key.{Name, IsName};

@@ -1,5 +1,5 @@
 //! The calls of a map, by its root.
-ghost use Rattle.std.specs.Prelude.{◌≡◌, ◌⊎◌, ℕ, ◌≤◌, List, length, IfOk, IfSome, OnOk, IsErrOf, is_some};
+ghost use Rattle.std.specs.Prelude.{◌≡◌, ◌⊎◌, ℕ, ◌≤◌, List, length, IfOk, IfSome, OnOk, IsErrOf, is_some, Some, None, if◌then◌else◌};
 ghost use Rattle.page_face.specs.Calls.{FailsReading, FailsChanging, Reads, TakesNone, Changes};
 ghost use Rattle.page_face.specs.Number.{number};
 ghost use Rattle.btree_nodes.specs.Rows.{lookup, first_from, put, without};
@@ -7,6 +7,7 @@ ghost use Rattle.btree_nodes.specs.Supply.{view};
 ghost use Rattle.btree_nodes.specs.Tree.{IsMap, map_rows, map_uses};
 ghost use Rattle.btree_nodes.specs.Damages.{AreTold, AskedSince, AsksOnly, IsRefusedTake};
 ghost use Rattle.paged_map.specs.Answers.{HasRead, HoldsRow, Locates};
+ghost use Rattle.paged_map.specs.Lookups.{IsFirstFound, IsLookedUp};
 ghost use Rattle.paged_map.specs.Maps.{AreCounted, HasBecome, IsKept, IsMapDamaged};
 ghost use Rattle.paged_map.specs.Spots.{IsSpot, leaf_of};
 
@@ -34,6 +35,8 @@ pub(crate) fn get_row<L: Layout, P: Pages>(
         (HoldsRow L.form (P.pages pages.old) (map_uses L.form (P.pages pages.old) root) (number key.now, value.new))) }
     ensures read { AreTold (P.pages pages.old) (P.count pages.old)
         → IfOk result (λ leaf. IfSome leaf (HasRead L.form (P.pages pages.old) (P.asked pages.old) (P.asked pages.new) (number key.now, value.new))) }
+    ensures kept { AreTold (P.pages pages.old) (P.count pages.old)
+        → IfOk result (λ leaf. IsLookedUp L.form (P.pages pages.old) (P.count pages.old) root (number key.now) (if is_some leaf then Some value.new else None)) }
     ensures honest { IsMap L.form (P.pages pages.old) root → AreTold (P.pages pages.old) (P.count pages.old)
         → AreCounted (map_uses L.form (P.pages pages.old) root) (P.count pages.old)
         → (damage : Damage) → ¬ IsErrOf result (PageFault.Damaged damage) }
@@ -65,6 +68,8 @@ pub(crate) fn find_row<L: Layout, P: Pages>(
     ensures read { AreTold (P.pages pages.old) (P.count pages.old)
         → IfOk result (λ found. IfSome (leaf_of found) (HasRead L.form (P.pages pages.old) (P.asked pages.old) (P.asked pages.new) (number key.now, value.new))) }
     ensures spot { IfOk result (λ found. IfSome found (IsSpot L.form (P.pages pages.new) (P.count pages.new) root (P.looked pages.new) (number key.now))) }
+    ensures kept { AreTold (P.pages pages.old) (P.count pages.old)
+        → IfOk result (λ found. IsLookedUp L.form (P.pages pages.old) (P.count pages.old) root (number key.now) (if is_some found then Some value.new else None)) }
     ensures honest { IsMap L.form (P.pages pages.old) root → AreTold (P.pages pages.old) (P.count pages.old)
         → AreCounted (map_uses L.form (P.pages pages.old) root) (P.count pages.old)
         → (damage : Damage) → ¬ IsErrOf result (PageFault.Damaged damage) }
@@ -98,6 +103,8 @@ pub(crate) fn first_row<L: Layout, P: Pages>(
     ensures on { IfOk result (λ leaf. IfSome leaf (λ page. number key.now ≤ number found.new)) }
     ensures read { AreTold (P.pages pages.old) (P.count pages.old)
         → IfOk result (λ leaf. IfSome leaf (HasRead L.form (P.pages pages.old) (P.asked pages.old) (P.asked pages.new) (number found.new, value.new))) }
+    ensures kept { AreTold (P.pages pages.old) (P.count pages.old)
+        → IfOk result (λ leaf. IsFirstFound L.form (P.pages pages.old) (P.count pages.old) root (number key.now) (if is_some leaf then Some (number found.new, value.new) else None)) }
     ensures honest { IsMap L.form (P.pages pages.old) root → AreTold (P.pages pages.old) (P.count pages.old)
         → AreCounted (map_uses L.form (P.pages pages.old) root) (P.count pages.old)
         → (damage : Damage) → ¬ IsErrOf result (PageFault.Damaged damage) }

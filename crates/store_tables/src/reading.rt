@@ -6,6 +6,7 @@ ghost use Rattle.page_face.specs.Number.{number as number_of_bytes};
 ghost use Rattle.btree_nodes.specs.Rows.{lookup, first_from};
 ghost use Rattle.btree_nodes.specs.Tree.{IsMap, map_rows, map_uses};
 ghost use Rattle.btree_nodes.specs.Damages.{AreTold, AskedSince, AsksOnly};
+ghost use Rattle.paged_map.specs.Lookups.{IsFirstFound, IsLookedUp};
 ghost use Rattle.paged_map.specs.Maps.{AreCounted, IsMapDamaged};
 ghost use Rattle.row_codec.specs.Counted.{IsCounted, counted_value, number_bytes as bytes_of_number};
 ghost use Rattle.row_codec.specs.Stored.{place_value};
@@ -63,6 +64,9 @@ impl Tables {
         // On any pages that are told the place's row was read at the key.
         ensures read { AreTold (P.pages pages.old) (P.count pages.old)
             → IfOk result (λ found. IfSome found (IsPlaceRead (P.pages pages.old) key.now (P.asked pages.old) (P.asked pages.new))) }
+        // Each page on the way kept the rules in its place: on any pages that are told what is answered is what the leaf has there.
+        ensures kept { AreTold (P.pages pages.old) (P.count pages.old)
+            → IfOk result (λ found. IsLookedUp places_form (P.pages pages.old) (P.count pages.old) self.now.places (key_code key.now) (option_map place_value found)) }
         ensures honest { (entries : Entries) → Holds (P.pages pages.old) self.now entries
             → AreTold (P.pages pages.old) (P.count pages.old) → AreCounted (table_uses (P.pages pages.old) self.now) (P.count pages.old)
             → (damage : Damage) → ¬ IsErrOf result (PageFault.Damaged damage) }
@@ -92,6 +96,9 @@ impl Tables {
             → IfOk result (λ found. found ≡ number_of_word word.now entries.texts) }
         ensures formed { IsMap texts_form (P.pages pages.old) self.now.texts
             → IfOk result (λ found. lookup (word_code word.now) (map_rows texts_form (P.pages pages.old) self.now.texts) ≡ option_map bytes_of_number found) }
+        // Each page on the way kept the rules in its place: on any pages that are told what is answered is what the leaf has there.
+        ensures kept { AreTold (P.pages pages.old) (P.count pages.old)
+            → IfOk result (λ found. IsLookedUp texts_form (P.pages pages.old) (P.count pages.old) self.now.texts (word_code word.now) (option_map bytes_of_number found)) }
         ensures honest { (entries : Entries) → Holds (P.pages pages.old) self.now entries
             → AreTold (P.pages pages.old) (P.count pages.old) → AreCounted (table_uses (P.pages pages.old) self.now) (P.count pages.old)
             → (damage : Damage) → ¬ IsErrOf result (PageFault.Damaged damage) }
@@ -126,6 +133,9 @@ impl Tables {
             → IfOk result (λ found. (lookup number (map_rows numbers_form (P.pages pages.old) self.now.numbers) ≡ option_map counted_value (counted_in found))
             × IfSome (counted_in found) IsCounted) }
         ensures spot { IfOk result (λ found. IfSome (spot_in found) (IsNumberSpot (P.pages pages.new) (P.count pages.new) self.now.numbers (P.looked pages.new) number)) }
+        // Each page on the way kept the rules in its place: on any pages that are told what is answered is what the leaf has there.
+        ensures kept { AreTold (P.pages pages.old) (P.count pages.old)
+            → IfOk result (λ found. IsLookedUp numbers_form (P.pages pages.old) (P.count pages.old) self.now.numbers number (option_map counted_value (counted_in found))) }
         ensures honest { (entries : Entries) → Holds (P.pages pages.old) self.now entries
             → AreTold (P.pages pages.old) (P.count pages.old) → AreCounted (table_uses (P.pages pages.old) self.now) (P.count pages.old)
             → (damage : Damage) → ¬ IsErrOf result (PageFault.Damaged damage) }
@@ -159,6 +169,9 @@ impl Tables {
         ensures formed { IsMap numbers_form (P.pages pages.old) self.now.numbers
             → IfOk result (λ found. (lookup number (map_rows numbers_form (P.pages pages.old) self.now.numbers) ≡ option_map counted_value found)
             × IfSome found IsCounted) }
+        // Each page on the way kept the rules in its place: on any pages that are told what is answered is what the leaf has there.
+        ensures kept { AreTold (P.pages pages.old) (P.count pages.old)
+            → IfOk result (λ found. IsLookedUp numbers_form (P.pages pages.old) (P.count pages.old) self.now.numbers number (option_map counted_value found)) }
         ensures honest { (entries : Entries) → Holds (P.pages pages.old) self.now entries
             → AreTold (P.pages pages.old) (P.count pages.old) → AreCounted (table_uses (P.pages pages.old) self.now) (P.count pages.old)
             → (damage : Damage) → ¬ IsErrOf result (PageFault.Damaged damage) }
@@ -186,6 +199,9 @@ impl Tables {
         ensures formed { IsMap numbers_form (P.pages pages.old) self.now.numbers
             → IfOk result (λ found. (row : Option Counted) × (lookup number (map_rows numbers_form (P.pages pages.old) self.now.numbers) ≡ option_map counted_value row)
             × IfSome row IsCounted × (found ≡ word_in row)) }
+        // Each page on the way kept the rules in its place: on any pages that are told what is answered is what the leaf has there.
+        ensures kept { AreTold (P.pages pages.old) (P.count pages.old)
+            → IfOk result (λ found. (row : Option Counted) × IsLookedUp numbers_form (P.pages pages.old) (P.count pages.old) self.now.numbers number (option_map counted_value row) × (found ≡ word_in row)) }
         ensures honest { (entries : Entries) → Holds (P.pages pages.old) self.now entries
             → AreTold (P.pages pages.old) (P.count pages.old) → AreCounted (table_uses (P.pages pages.old) self.now) (P.count pages.old)
             → (damage : Damage) → ¬ IsErrOf result (PageFault.Damaged damage) }
@@ -218,6 +234,9 @@ impl Tables {
             → IfOk result (λ found. (first_from (next_code (option_copied after.entry)) (map_rows places_form (P.pages pages.old) self.now.places) ≡ option_map place_row found)
             × IfSome found IsPlaceEntry) }
         ensures of_form { IfOk result (λ found. IfSome found IsPlaceEntry) }
+        // Each page on the ways kept the rules in its place: on any pages that are told what is answered is the first row from there on.
+        ensures kept { AreTold (P.pages pages.old) (P.count pages.old)
+            → IfOk result (λ found. IsFirstFound places_form (P.pages pages.old) (P.count pages.old) self.now.places (next_code (option_copied after.entry)) (option_map place_row found)) }
         ensures honest { (entries : Entries) → Holds (P.pages pages.old) self.now entries
             → AreTold (P.pages pages.old) (P.count pages.old) → AreCounted (table_uses (P.pages pages.old) self.now) (P.count pages.old)
             → (damage : Damage) → ¬ IsErrOf result (PageFault.Damaged damage) }

@@ -58,7 +58,7 @@ fn hold_of(word: &Word, found: Option<u64>, row: Option<CountedRow>, places: u32
 }
 
 impl Tables {
-    ghost use Rattle.store_tables.specs.Holding.{Holds, IsApart, IsChanged, numbers_form, table_uses, texts_form, word_uses};
+    ghost use Rattle.store_tables.specs.Holding.{Holds, IsApart, IsChanged, numbers_form, table_uses, word_uses};
     ghost use Rattle.store_tables.specs.Broken.{SparesHead, IsCountDamage, IsTextSought};
     ghost use Rattle.store_tables.specs.Rows.{IsNumberSpot};
     ghost use Rattle.store_tables.specs.Words.{CanHoldBy, next_after, number_for, places_of_number, with_holds};

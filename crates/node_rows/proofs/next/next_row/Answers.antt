@@ -1,11 +1,14 @@
-use Rattle.std.proofs.Common.{ℕ, ◌^◌, ◌<◌, None, sym, subst, rules}
+use Rattle.std.proofs.Common.{ℕ, ◌^◌, ◌<◌, Some, None, refl, ap, ◌∙◌, sym, subst, rules}
 use Rattle.page_face.specs.FreeList.{PageMap}
 use Rattle.page_face.specs.Number.{number}
 use Rattle.btree_nodes.specs.Damages.{AsksOnly}
 use Rattle.btree_nodes.specs.Rows.{Row}
 use Rattle.btree_nodes.specs.Tree.{IsMap, map_uses}
+use Rattle.paged_map.specs.Lookups.{IsFirstFound}
+use Rattle.paged_map.proofs.Lookups.{kept-none, kept-some}
 use Rattle.rtree_shape.specs.Stock.{rows_form}
-use Rattle.node_rows.specs.Rows.{bytes_in}
+use Rattle.node_rows.specs.Lookups.{IsNextFound}
+use Rattle.node_rows.specs.Rows.{bytes_in, key_of}
 use Rattle.node_rows.specs.Turns.{IsNext, Next}
 use Rattle.node_rows.proofs.Found.{next-found, next-lost, next-on, next-passed}
 use Rattle.node_rows.proofs.next.next_row.Goals as goal
@@ -57,3 +60,37 @@ pub returns-clause-onto : goal.returns-clause-onto
 returns-clause-onto g c =
     next-on c.in_ok-_leaf.field-0 c.in-Some._leaf (number c.bytes-key.result) (number c.first_from.new.found) c.args.node c.args.from c.of_bytes-next.result.node c.of_bytes-next.result.number c.in-Some.is
     c.in_ok-_leaf.ensures.on c.bytes-key.ensures c.of_bytes-next.ensures c.if-next-node.false
+
+pub returns-in_default-clause-kept : goal.returns-in_default-clause-kept
+returns-in_default-clause-kept g c = λ told.
+    let old : PageMap = g.P.Pages.pages c.args.pages.now in
+    let count : ℕ = g.P.Pages.count c.args.pages.now in
+    let row : Row = (number c.first_from.new.found, c.first_from.new.value) in
+    subst (λ (r : ℕ). IsNextFound old count r c.args.node c.args.from None) c.at-map.ensures (
+      None,
+      kept-none (IsFirstFound rows_form old count c.at-map.result.root) _ (key_of c.args.node c.args.from) row _ c.bytes-key.ensures c.in_default.is (c.in_ok-_leaf.ensures.kept told),
+      tt,
+    )
+
+pub returns-then-next-node-clause-kept : goal.returns-then-next-node-clause-kept
+returns-then-next-node-clause-kept g c = λ told.
+    let old : PageMap = g.P.Pages.pages c.args.pages.now in
+    let count : ℕ = g.P.Pages.count c.args.pages.now in
+    let row : Row = (number c.first_from.new.found, c.first_from.new.value) in
+    let fits : c.of_bytes-next.result.number < 2 ^ 64 = search rules in
+    subst (λ (r : ℕ). IsNextFound old count r c.args.node c.args.from None) c.at-map.ensures (
+      Some row,
+      kept-some (IsFirstFound rows_form old count c.at-map.result.root) _ (key_of c.args.node c.args.from) row row _ c.in-Some._leaf c.bytes-key.ensures c.in-Some.is refl (c.in_ok-_leaf.ensures.kept told),
+      (c.of_bytes-next.result.node, c.of_bytes-next.result.number, c.if-next-node.true, fits, c.of_bytes-next.ensures),
+    )
+
+pub returns-clause-kept : goal.returns-clause-kept
+returns-clause-kept g c = λ told.
+    let old : PageMap = g.P.Pages.pages c.args.pages.now in
+    let count : ℕ = g.P.Pages.count c.args.pages.now in
+    let row : Row = (number c.first_from.new.found, c.first_from.new.value) in
+    subst (λ (r : ℕ). IsNextFound old count r c.args.node c.args.from (Some (c.of_bytes-next.result.number, c.first_from.new.value))) c.at-map.ensures (
+      Some row,
+      kept-some (IsFirstFound rows_form old count c.at-map.result.root) _ (key_of c.args.node c.args.from) row row _ c.in-Some._leaf c.bytes-key.ensures c.in-Some.is refl (c.in_ok-_leaf.ensures.kept told),
+      ap (λ (k : ℕ). Some (k, c.first_from.new.value)) (c.of_bytes-next.ensures ∙ ap (λ (n : ℕ). key_of n c.of_bytes-next.result.number) c.if-next-node.false),
+    )

@@ -1,10 +1,13 @@
-use Rattle.std.proofs.Common.{◌≡◌, ℕ, ◌∙◌, sym, subst}
+use Rattle.std.proofs.Common.{◌≡◌, ℕ, Some, None, refl, ◌∙◌, sym, subst}
 use Rattle.page_face.specs.FreeList.{PageMap}
 use Rattle.page_face.specs.Number.{number}
 use Rattle.btree_nodes.specs.Damages.{AsksOnly}
 use Rattle.btree_nodes.specs.Tree.{IsMap, map_uses}
+use Rattle.paged_map.specs.Lookups.{IsLookedUp}
+use Rattle.paged_map.proofs.Lookups.{kept-none, kept-some}
 use Rattle.rtree_shape.specs.Stock.{rows_form}
-use Rattle.node_rows.specs.Rows.{HasBytes, bytes_in}
+use Rattle.node_rows.specs.Lookups.{IsRowFound}
+use Rattle.node_rows.specs.Rows.{HasBytes, bytes_in, key_of}
 use Rattle.node_rows.proofs.Found.{row-none, row-some}
 use Rattle.node_rows.proofs.rows.row.Goals as goal
 
@@ -32,3 +35,23 @@ returns-in-Some-clause-own g c = λ told.
 pub returns-in-None-clause-own : goal.returns-in-None-clause-own
 returns-in-None-clause-own g c = λ told.
     subst (λ (r : ℕ). AsksOnly (map_uses rows_form (g.P.Pages.pages c.args.pages.now) r) (g.P.Pages.asked c.args.pages.now) (g.P.Pages.asked c.get.new.pages)) c.at.ensures (c.get.ensures.own told)
+
+pub returns-in-Some-clause-kept : goal.returns-in-Some-clause-kept
+returns-in-Some-clause-kept g c = λ told.
+    let old : PageMap = g.P.Pages.pages c.args.pages.now in
+    let count : ℕ = g.P.Pages.count c.args.pages.now in
+    subst (λ (r : ℕ). IsRowFound old count r c.args.node c.args.number c.get.new.value) c.at.ensures (
+      Some c.get.new.value,
+      kept-some (IsLookedUp rows_form old count c.at.result.root) _ (key_of c.args.node c.args.number) c.get.new.value c.get.new.value _ c.in-Some.field-0 c.bytes-key.ensures c.in-Some.is refl (c.in_ok-get.ensures.kept told),
+      λ slot. refl,
+    )
+
+pub returns-in-None-clause-kept : goal.returns-in-None-clause-kept
+returns-in-None-clause-kept g c = λ told.
+    let old : PageMap = g.P.Pages.pages c.args.pages.now in
+    let count : ℕ = g.P.Pages.count c.args.pages.now in
+    subst (λ (r : ℕ). IsRowFound old count r c.args.node c.args.number c.clear_row.result) c.at.ensures (
+      None,
+      kept-none (IsLookedUp rows_form old count c.at.result.root) _ (key_of c.args.node c.args.number) c.get.new.value _ c.bytes-key.ensures c.in-None.is (c.in_ok-get.ensures.kept told),
+      c.clear_row.ensures.none,
+    )

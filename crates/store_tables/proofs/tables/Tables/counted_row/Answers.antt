@@ -3,6 +3,8 @@ use Rattle.std.proofs.lemmas.Result.{err_from_is_err_and}
 use Rattle.page_face.specs.FreeList.{PageMap}
 use Rattle.page_face.specs.Number.{number}
 use Rattle.page_face.specs.declared.fault.PageFault.TheVariants.{Damaged}
+use Rattle.paged_map.specs.Lookups.{IsLookedUp}
+use Rattle.paged_map.proofs.Lookups.{kept-none, kept-some}
 use Rattle.paged_map.specs.Spots.{leaf_of}
 use Rattle.store_tables.specs.Broken.{IsBrokenNumber}
 use Rattle.store_tables.specs.Rows.{IsNumberSpot}
@@ -86,3 +88,13 @@ returns-in-Some-decode-clause-spot g c =
     let found = subst (λ (x : Option RowSpot). IfSome x (IsNumberSpot (g.P.Pages.pages c.find_row.new.pages) (g.P.Pages.count c.find_row.new.pages) c.args.self.now.numbers (g.P.Pages.looked c.find_row.new.pages) (number c.number_bytes-key.result))) c.in-Some.is c.in_ok-spot.ensures.spot in
     subst (λ (n : ℕ). IsNumberSpot (g.P.Pages.pages c.find_row.new.pages) (g.P.Pages.count c.find_row.new.pages) c.args.self.now.numbers (g.P.Pages.looked c.find_row.new.pages) n c.in-Some.spot)
     (number-of_number c.number_bytes-key.result c.args.number (search rules) c.number_bytes-key.ensures) found
+
+pub returns-in_default-clause-kept : goal.returns-in_default-clause-kept
+returns-in_default-clause-kept g c told =
+    kept-none (IsLookedUp numbers_form (g.P.Pages.pages c.args.pages.now) (g.P.Pages.count c.args.pages.now) c.args.self.now.numbers) _ c.args.number c.find_row.new.value _
+    (number-of_number c.number_bytes-key.result c.args.number (search rules) c.number_bytes-key.ensures) c.in_default.is (c.in_ok-spot.ensures.kept told)
+
+pub returns-in-Some-decode-clause-kept : goal.returns-in-Some-decode-clause-kept
+returns-in-Some-decode-clause-kept g c told =
+    kept-some (IsLookedUp numbers_form (g.P.Pages.pages c.args.pages.now) (g.P.Pages.count c.args.pages.now) c.args.self.now.numbers) _ c.args.number c.find_row.new.value _ _ c.in-Some.spot
+    (number-of_number c.number_bytes-key.result c.args.number (search rules) c.number_bytes-key.ensures) c.in-Some.is (let form = c.in-Some-decode.ensures.form in form.1) (c.in_ok-spot.ensures.kept told)

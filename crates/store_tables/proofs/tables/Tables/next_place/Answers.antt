@@ -7,6 +7,8 @@ use Rattle.page_face.specs.FreeList.{PageMap}
 use Rattle.page_face.specs.declared.fault.PageFault.TheVariants.{Damaged}
 use Rattle.btree_nodes.specs.Tree.{IsMap}
 use Rattle.paged_map.specs.Answers.{HasRead}
+use Rattle.paged_map.specs.Lookups.{IsFirstFound}
+use Rattle.paged_map.proofs.Lookups.{kept-none, kept-some}
 use Rattle.store_tables.specs.Broken.{IsBrokenPlace}
 use Rattle.store_tables.specs.Coded.{next_code}
 use Rattle.store_tables.specs.Holding.{places_form}
@@ -86,3 +88,16 @@ returns-in-None-clause-damaged g c told damage e =
           (λ entry is key value. let no = c.in-None.ensures.every entry is key value in cc no)),
       λ tree. (some tree).0,
     )
+
+pub returns-in_default-clause-kept : goal.returns-in_default-clause-kept
+returns-in_default-clause-kept g c told =
+    let row : Row = (number c.first_row.new.found, c.first_row.new.value) in
+    kept-none (IsFirstFound places_form (g.P.Pages.pages c.args.pages.now) (g.P.Pages.count c.args.pages.now) c.args.self.now.places) _ (next_code (option_copied c.args.after)) row _
+    c.first_behind-from.ensures.number c.in_default.is (c.in_ok-leaf.ensures.kept told)
+
+pub returns-in-Some-entry_of_bytes-clause-kept : goal.returns-in-Some-entry_of_bytes-clause-kept
+returns-in-Some-entry_of_bytes-clause-kept g c told =
+    let form = c.in-Some-entry_of_bytes.ensures.form in
+    let row : Row = (number c.first_row.new.found, c.first_row.new.value) in
+    kept-some (IsFirstFound places_form (g.P.Pages.pages c.args.pages.now) (g.P.Pages.count c.args.pages.now) c.args.self.now.places) _ (next_code (option_copied c.args.after)) row _ _ c.in-Some.leaf
+    c.first_behind-from.ensures.number c.in-Some.is (λ i. (form.1 i, form.2 i)) (c.in_ok-leaf.ensures.kept told)

@@ -3,6 +3,8 @@ use Rattle.std.proofs.lemmas.Result.{err_from_is_err_and}
 use Rattle.page_face.specs.FreeList.{PageMap}
 use Rattle.page_face.specs.declared.fault.PageFault.TheVariants.{Damaged}
 use Rattle.paged_map.specs.Answers.{HasRead}
+use Rattle.paged_map.specs.Lookups.{IsLookedUp}
+use Rattle.paged_map.proofs.Lookups.{kept-none, kept-some}
 use Rattle.store_tables.specs.Broken.{IsBrokenPlace}
 use Rattle.store_tables.specs.Coded.{key_code}
 use Rattle.store_tables.specs.Holding.{places_form}
@@ -89,3 +91,11 @@ returns-in-Some-decode-clause-read g c told =
       subst (λ (bytes : List ℕ). HasRead places_form pages before asked (code, bytes) c.in-Some.leaf) c.in-Some-decode.ensures.form.2
           (read-some places_form pages before asked _ code c.get_row.new.value _ c.in-Some.leaf (number-key c.bytes.result c.args.key.now c.bytes.ensures.form) c.in-Some.is (c.in_ok-leaf.ensures.read told)),
     )
+
+pub returns-in_default-clause-kept : goal.returns-in_default-clause-kept
+returns-in_default-clause-kept g c told =
+    kept-none (IsLookedUp places_form (g.P.Pages.pages c.args.pages.now) (g.P.Pages.count c.args.pages.now) c.args.self.now.places) _ (key_code c.args.key.now) c.get_row.new.value _ (number-key c.bytes.result c.args.key.now c.bytes.ensures.form) c.in_default.is (c.in_ok-leaf.ensures.kept told)
+
+pub returns-in-Some-decode-clause-kept : goal.returns-in-Some-decode-clause-kept
+returns-in-Some-decode-clause-kept g c told =
+    kept-some (IsLookedUp places_form (g.P.Pages.pages c.args.pages.now) (g.P.Pages.count c.args.pages.now) c.args.self.now.places) _ (key_code c.args.key.now) c.get_row.new.value _ _ c.in-Some.leaf (number-key c.bytes.result c.args.key.now c.bytes.ensures.form) c.in-Some.is (let form = c.in-Some-decode.ensures.form in form.2) (c.in_ok-leaf.ensures.kept told)
