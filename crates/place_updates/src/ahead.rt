@@ -7,7 +7,7 @@ ghost use Rattle.btree_nodes.specs.Supply.{view};
 ghost use Rattle.btree_nodes.specs.Damages.{AreTold};
 ghost use Rattle.store_tables.specs.Entries.{Entries};
 ghost use Rattle.store_tables.specs.Holding.{Holds, IsApart, IsChanged};
-ghost use Rattle.store_meaning.specs.Ahead.{CanHoldAhead, HeldAhead, held_ahead};
+ghost use Rattle.store_meaning.specs.Ahead.{CanHoldAhead, held_ahead};
 ghost use Rattle.store_tables.specs.Broken.{SparesHead};
 
 use indexmap::IndexMap;

@@ -8,6 +8,7 @@ ghost use Rattle.store_tables.specs.Holding.{Holds, table_uses};
 ghost use Rattle.store_tables.specs.Broken.{IsPlaceDamage};
 ghost use Rattle.store_meaning.specs.Stands.{place_in};
 ghost use Rattle.place_updates.specs.Known.{AreAllKnown, IsHeldDamage};
+ghost use Rattle.place_updates.specs.Shown.{IsPlaceFound};
 
 use crate::words::words_of;
 use page_face::{Damage, PageFault, Pages};
@@ -27,6 +28,10 @@ pub fn place_at<P: Pages>(
 ) -> Result<Option<Place>, PageFault>
     ensures found { (entries : Entries) → Holds (P.pages pages.old) tables.now entries
         → IfOk result (λ found. found ≡ option_map (place_in entries.numbers) (place_of_key key.now entries.places)) }
+
+    // Each page on the ways kept the rules in its place: on any pages that tell their bytes the place is what the tables' rows there say.
+    ensures kept { AreTold (P.pages pages.old) (P.count pages.old)
+        → IfOk result (IsPlaceFound (P.pages pages.old) (P.count pages.old) tables.now key.now) }
     ensures honest { (entries : Entries) → Holds (P.pages pages.old) tables.now entries → AreAllKnown entries.numbers entries.places
         → AreTold (P.pages pages.old) (P.count pages.old) → AreCounted (table_uses (P.pages pages.old) tables.now) (P.count pages.old)
         → (damage : Damage) → ¬ IsErrOf result (PageFault.Damaged damage) }

@@ -13,6 +13,7 @@ ghost use Rattle.store_tables.specs.Words.{words_of_pairs, words_of_place};
 ghost use Rattle.store_tables.specs.Broken.{words_disagree};
 ghost use Rattle.term_impacts.specs.Pairs.{IsWordMap};
 ghost use Rattle.place_updates.specs.Known.{AreKnown, IsWordsDamage};
+ghost use Rattle.place_updates.specs.Shown.{AreWordsFound};
 
 use page_face::{Damage, PageFault, Pages, Rule};
 use std::alloc::Global;
@@ -44,6 +45,10 @@ pub fn words_of<P: Pages>(
     ensures found { (entries : Entries) → Holds (P.pages pages.old) tables.now entries
         → IfOk result (λ words. words ≡ words_of_place entries.numbers stored.now) }
     ensures known { (entries : Entries) → Holds (P.pages pages.old) tables.now entries → OnOk result (AreKnown entries.numbers (held_pairs stored.now)) }
+
+    // Each page on the ways kept the rules in its place: on any pages that tell their bytes each word is that of its number's row there.
+    ensures kept { AreTold (P.pages pages.old) (P.count pages.old)
+        → IfOk result (AreWordsFound (P.pages pages.old) (P.count pages.old) tables.now.numbers (held_pairs stored.now)) }
     ensures honest { (entries : Entries) → Holds (P.pages pages.old) tables.now entries → AreKnown entries.numbers (held_pairs stored.now)
         → AreTold (P.pages pages.old) (P.count pages.old) → AreCounted (table_uses (P.pages pages.old) tables.now) (P.count pages.old)
         → (damage : Damage) → ¬ IsErrOf result (PageFault.Damaged damage) }
@@ -74,6 +79,8 @@ fn words_of_pairs<P: Pages>(
     ensures found { (entries : Entries) → Holds (P.pages pages.old) tables.now entries
         → IfOk result (λ words. words.entries ≡ words_of_pairs entries.numbers pairs.now) }
     ensures known { (entries : Entries) → Holds (P.pages pages.old) tables.now entries → OnOk result (AreKnown entries.numbers pairs.now) }
+    ensures kept { AreTold (P.pages pages.old) (P.count pages.old)
+        → IfOk result (λ words. AreWordsFound (P.pages pages.old) (P.count pages.old) tables.now.numbers pairs.now words.entries) }
     ensures map { IfOk result (λ words. IsWordMap words.entries) }
     ensures few { IfOk result (λ words. length words.entries ≤ length pairs.now) }
     ensures honest { (entries : Entries) → Holds (P.pages pages.old) tables.now entries → AreKnown entries.numbers pairs.now

@@ -1,15 +1,20 @@
-use Rattle.std.proofs.Common.{◌≡◌, IsErrOf, IfSome, inr, Option, Some, option_map, ap, sym, subst, ◌∙◌, rules}
+use Rattle.std.proofs.Common.{◌≡◌, ℕ, refl, IsErrOf, IfSome, inr, Option, Some, option_map, ap, sym, subst, ◌∙◌, rules}
 use Rattle.std.proofs.lemmas.Result.{err_from_is_err_and}
 use Rattle.page_face.specs.declared.fault.PageFault.TheVariants.{Damaged}
 use Rattle.row_codec.specs.declared.stored.Stored.{Stored}
 use Rattle.row_codec.specs.Stored.{held_pairs, place_value}
+use Rattle.page_face.specs.FreeList.{PageMap}
+use Rattle.btree_nodes.specs.Damages.{AreTold}
 use Rattle.btree_nodes.specs.Tree.{map_uses}
+use Rattle.paged_map.specs.Lookups.{IsLookedUp}
+use Rattle.store_tables.specs.Coded.{key_code}
 use Rattle.store_tables.specs.Entries.{place_of_key}
 use Rattle.store_tables.specs.Broken.{IsPlaceRead}
 use Rattle.store_tables.specs.Holding.{numbers_form, places_form}
 use Rattle.store_tables.proofs.LookupLemmas.{place-read-keeps}
 use Rattle.place_updates.specs.Known.{AreKnown}
 use Rattle.place_updates.proofs.Known.{known-at, same-damage, words-later}
+use Rattle.place_updates.proofs.Shown.{same-words}
 use Rattle.place_updates.proofs.place.place_at.Goals as goal
 
 -- src/place.rt:54:17
@@ -42,3 +47,15 @@ returns-in_err-words-clause-damaged g c = λ told damage is.
       words = words-later (map_uses places_form (g.P.Pages.pages c.args.pages.now) c.args.tables.now.places) _ _ c.args.tables.now _ _ _ _ damage (place.own told)
           (same-damage _ _ _ _ c.args.tables.now _ _ _ damage place.frame.pages place.frame.count found);
     })
+
+pub returns-clause-kept : goal.returns-clause-kept
+returns-clause-kept g c = λ told.
+    let pages : PageMap = g.P.Pages.pages c.args.pages.now in
+    let count : ℕ = g.P.Pages.count c.args.pages.now in
+    let place = c.in_ok-stored.ensures in
+    let still : AreTold (g.P.Pages.pages c.place.new.pages) (g.P.Pages.count c.place.new.pages) = rw place.frame.pages (rw place.frame.count told) in (
+      c.in-Some.stored,
+      subst (λ (o : Option Stored). IsLookedUp places_form pages count c.args.tables.now.places (key_code c.args.key.now) (option_map place_value o)) c.in-Some.is (place.kept told),
+      refl,
+      same-words _ _ _ _ c.args.tables.now.numbers _ _ place.frame.pages place.frame.count (c.in_ok-words.ensures.kept still),
+    )

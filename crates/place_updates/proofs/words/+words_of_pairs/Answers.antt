@@ -1,14 +1,17 @@
-use Rattle.std.proofs.Common.{IsErrOf, None, inl, inr, rules, sym, subst}
+use Rattle.std.proofs.Common.{◌≡◌, ◌∷◌, ℕ, All, IsErrOf, None, inl, inr, rules, sym, subst}
 use Rattle.std.proofs.lemmas.Result.{err_from_is_err_and}
+use Rattle.std.proofs.lemmas.List.Elements.{All-head}
 use Rattle.page_face.specs.FreeList.{PageMap}
 use Rattle.page_face.specs.declared.fault.PageFault.TheVariants.{Damaged}
 use Rattle.page_face.proofs.Frames.{reads_then}
 use Rattle.btree_nodes.specs.Damages.{AreTold}
 use Rattle.btree_nodes.proofs.Harms.{asks-further}
 use Rattle.btree_nodes.specs.Tree.{map_uses}
+use Rattle.row_codec.specs.Pairs.{HasImpact}
 use Rattle.store_tables.specs.Broken.{IsRowSought}
 use Rattle.store_tables.specs.Holding.{numbers_form}
 use Rattle.place_updates.proofs.Known.{known-rest, number-later, same-number, without-row, words-behind, words-here}
+use Rattle.place_updates.proofs.Shown.{same-word, words-one}
 use Rattle.place_updates.proofs.words.+words_of_pairs.Goals as goal
 
 -- src/words.rt:108:21
@@ -88,3 +91,16 @@ returns-in_default-2-clause-damaged g t c = λ told damage is.
     let none = without-row (g.P.Pages.pages c.words_of_pairs.new.pages) c.args.tables.now c.in-Some.field-0-0.now.0 _ c.in_ok-word.ensures.formed c.in_default-2.is in
     words-here _ _ c.args.tables.now c.args.pairs.now c.in-Some.rest.now c.in-Some.field-0-0.now _ _ damage (search rules)
     (inr (cc, subst (λ (pages : PageMap). IsRowSought pages c.args.tables.now c.in-Some.field-0-0.now.0 None) rest.frame.pages none))
+
+pub returns-clause-kept : goal.returns-clause-kept
+returns-clause-kept g t c told =
+    let rest = c.words_of_pairs.ensures in
+    let root : ℕ = c.args.tables.now.numbers in
+    let still : AreTold (g.P.Pages.pages c.words_of_pairs.new.pages) (g.P.Pages.count c.words_of_pairs.new.pages) = rw rest.frame.pages (rw rest.frame.count told) in
+    words-one (g.P.Pages.pages c.args.pages.now) (g.P.Pages.count c.args.pages.now) root c.args.pairs.now c.in-Some.rest.now c.in-Some.field-0-0.now _ _ c.in-Some-2.word _ (search rules) (c.in_ok-words.ensures.kept told)
+    (same-word _ _ _ _ root c.in-Some.field-0-0.now.0 _ rest.frame.pages rest.frame.count (c.in_ok-word.ensures.kept still)) c.in-Some-2.is c.in_ok-put_word.ensures.put
+
+pub put_word-requires-clause-impact : goal.put_word-requires-clause-impact
+put_word-requires-clause-impact g t c =
+    let is : c.args.pairs.now ≡ c.in-Some.field-0-0.now ∷ c.in-Some.rest.now = search rules in
+    All-head HasImpact c.in-Some.field-0-0.now c.in-Some.rest.now (subst (All HasImpact) is c.requires.impacts)
