@@ -149,7 +149,3 @@ marks-more mask new at test some e here others so_far within i l = ⊎_elim
   where
     before : (i at : ℕ) → (i ≡ at → ⊥) → nat_lt i at ≡ nat_lt i (at + 1)
     before i at other = grind (arith, nat_tests)
-
--- all slots
-pub marks-done : (mask : ℕ) (test : ℕ → Bool) → ((i : ℕ) → i < 32 → has_slot mask i ≡ (nat_lt i 32 && test i)) → Marks mask test
-marks-done mask test h i l = h i l ∙ ap (λ (b : Bool). b && test i) (lt-ltb i 32 l)

@@ -54,10 +54,6 @@ module _ (opens : ℕ → ℕ → List Item) where
             omega arith;
       }
 
-  -- nothing waits any more
-  pub walk-done : (total found : List Hit) (queue : List Item) → queue ≡ [] → Walking total found queue → SameMembers total found
-  walk-done total found queue e w = λ f. ap (sum_by f) (sym (append-nil found) ∙ ap (λ (q : List Item). found ++ leads opens q) (sym e)) ∙ w.all f
-
 node-is : (level : ℕ) → node_weight level ≡ 1 + 32 * child_weight level
 node-is zero = refl
 node-is (suc l) = refl

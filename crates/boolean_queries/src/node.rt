@@ -1,5 +1,5 @@
 //! A node is opened: what its slots give to a query.
-ghost use Rattle.std.specs.Prelude.{◌≡◌, ◌≢◌, ◌⊎◌, ◌<◌, ◌≤◌, ◌&&◌, ◌∷◌, [], ℕ, length, Err, IfOk, OnOk, IsErrOf};
+ghost use Rattle.std.specs.Prelude.{◌≡◌, ◌≢◌, ◌<◌, ◌≤◌, ◌&&◌, ◌∷◌, [], length, Err, IfOk, OnOk, IsErrOf};
 ghost use Rattle.std.specs.List.{AllByRecursion};
 ghost use Rattle.page_face.specs.Calls.{Reads, FailsReading};
 ghost use Rattle.page_face.specs.Causes.{IsUncounted};

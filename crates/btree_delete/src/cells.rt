@@ -1,5 +1,5 @@
 //! The cells of a page, gathered with a neighbour's, without one of them, or with another key.
-ghost use Rattle.std.specs.Prelude.{◌≡◌, ◌+◌, ◌-◌, ◌*◌, ◌<◌, ◌≤◌, ◌++◌, length, take, drop};
+ghost use Rattle.std.specs.Prelude.{◌≡◌, ◌+◌, ◌-◌, ◌*◌, ◌<◌, ◌≤◌, ◌++◌, length, drop};
 ghost use Rattle.btree_nodes.specs.Build.{image};
 ghost use Rattle.btree_delete.specs.Body.{headed, cells_in, without_cell, with_key};
 

@@ -3,10 +3,8 @@ ghost use Rattle.std.specs.Prelude.{◌≡◌, ◌↔◌, ◌+◌, ◌*◌, ◌<
 ghost use Rattle.page_face.specs.Number.{number};
 ghost use Rattle.page_face.specs.Cells.{key_at};
 ghost use Rattle.page_face.specs.Nodes.{count_of};
-ghost use Rattle.btree_nodes.specs.Nodes.{IsInner, entries_in, width_of};
-ghost use Rattle.btree_nodes.specs.Tree.{IsPlaceFor};
+ghost use Rattle.btree_nodes.specs.Nodes.{width_of};
 ghost use Rattle.btree_nodes.specs.Bounds.{upper_of};
-ghost use Rattle.btree_nodes.specs.Damages.{BreaksInner};
 ghost use Rattle.btree_delete.specs.Removal.{BreaksAt};
 
 use btree_nodes::{Form, check_inner, check_leaf, compare, key_of, place};

@@ -1,5 +1,5 @@
 //! An entry that is put into an inner page, for a page that was split off below it.
-ghost use Rattle.std.specs.Prelude.{◌≡◌, ◌≢◌, ◌⊎◌, ℕ, suc, ◌<◌, ◌≤◌, ◌+◌, ◌-◌, ◌*◌, List, ◌++◌, length, take, drop, map, IfOk, IfSome, IsErrOf, None};
+ghost use Rattle.std.specs.Prelude.{◌≡◌, ◌≢◌, ℕ, suc, ◌<◌, ◌≤◌, ◌+◌, ◌-◌, ◌*◌, List, length, take, drop, map, IfOk, IfSome, IsErrOf, None};
 ghost use Rattle.page_face.specs.Calls.{FailsChanging, Changes};
 ghost use Rattle.page_face.specs.Causes.{IsUncounted};
 ghost use Rattle.page_face.specs.Number.{number};

@@ -1,5 +1,5 @@
 //! The order of a page's keys.
-ghost use Rattle.std.specs.Prelude.{◌≡◌, ◌↔◌, ℕ, ◌<◌, ◌≤◌, ◌+◌, ◌*◌, IsTrue};
+ghost use Rattle.std.specs.Prelude.{◌↔◌, ◌<◌, ◌≤◌, ◌+◌, ◌*◌, IsTrue};
 ghost use Rattle.page_face.specs.Cells.{key_at, IsAscending};
 
 use crate::key::{compare, key_of};

@@ -1,7 +1,7 @@
 //! Keys of eight to sixteen bytes as two numbers of eight bytes, which overlap: their order, and whether a page's keys ascend.
-ghost use Rattle.std.specs.Prelude.{◌≡◌, ◌↔◌, ◌⊎◌, ℕ, ◌<◌, ◌≤◌, ◌+◌, ◌-◌, ◌*◌, length, take, drop, IsTrue};
+ghost use Rattle.std.specs.Prelude.{◌≡◌, ◌↔◌, ◌⊎◌, ◌<◌, ◌≤◌, ◌+◌, ◌-◌, ◌*◌, take, drop, IsTrue};
 ghost use Rattle.page_face.specs.Number.{number};
-ghost use Rattle.page_face.specs.Cells.{key_at, IsAscending};
+ghost use Rattle.page_face.specs.Cells.{IsAscending};
 ghost use Rattle.btree_nodes.specs.Pairs.{pair_at};
 
 use page_face::Page;

@@ -34,10 +34,6 @@ pub wide-pushed : (new old front : List Pick) (pick : Pick) (wide reach wider : 
 wide-pushed new old front pick wide reach wider is same was reaches now =
     now ∙ (λ i. max (was i) ((reaches ∙ ap (farthest pick.point) same) i)) ∙ sym (diameter-push front pick) ∙ ap diameter (sym is)
 
--- a pick is no farther than the farthest
-pub farthest-last : (point : Position) (front : List Pick) (pick : Pick) → distance point pick.point ≤ farthest point (front ++ pick ∷ [])
-farthest-last point front pick = omega (arith, farthest-push point front pick)
-
 -- a front costs as much as its two greatest distances
 pub front-cost : (at : Position) (front : List Pick) (far wide : ℕ) → far ≡ farthest at front → wide ≡ diameter front → far + wide ≡ choice_cost at front
 front-cost at front far wide is also = λ i. is i + also i

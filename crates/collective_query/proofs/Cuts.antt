@@ -17,10 +17,6 @@ use Rattle.collective_query.proofs.Members.{all-among, contains-none, contains-c
 pub cut-wider : (counts others : Pick → Type 0) (all cut : List Pick) → ((pick : Pick) → others pick → counts pick) → IsCut counts all cut → IsCut others all cut
 cut-wider counts others all cut wider is = record { among = is.among; whole = λ pick c other. is.whole pick c (wider pick other) }
 
--- a list is cut to itself
-pub cut-itself : (counts : Pick → Type 0) (all : List Pick) → IsCut counts all all
-cut-itself counts all = record { among = λ pick c. c; whole = λ pick c counted. c }
-
 module _ (counts : Pick → Type 0) where
   -- a choice of the cut lists is one of the lists
   pub cut-choice : (lists cuts : List (List Pick)) (choice : List Pick) → AreCut counts lists cuts → IsChoice cuts choice → IsChoice lists choice

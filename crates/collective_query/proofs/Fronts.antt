@@ -100,13 +100,6 @@ pub met-choice : {X : Type 0} (lists others : List (List X)) (choice : List X) �
     → (other : List X) × IsChoice others other × ((x : X) → Contains other x → Contains choice x)
 met-choice lists others choice is own = met-lists others choice (λ list c. choice-meets lists choice list is (own list c))
 
--- so a front that the first lists complete is completed by others among them
-pub completes-others : (at : Position) (lists others : List (List Pick)) (most : ℕ) (front : List Pick) → ((list : List Pick) → Contains others list → Contains lists list)
-    → Completes at lists most front → Completes at others most front
-completes-others at lists others most front own done =
-    let other = met-choice lists others done.0 done.1 own in
-    (other.0, other.1, (let less = behind-cost at front other.0 done.0 other.2 in let cheap = done.2 in omega arith))
-
 -- nor is it dearer where more may be spent
 pub completes-more : (at : Position) (lists : List (List Pick)) (least most : ℕ) (front : List Pick) → least ≤ most → Completes at lists least front → Completes at lists most front
 completes-more at lists least most front more done = (done.0, done.1, (let cheap = done.2 in omega arith))

@@ -72,9 +72,5 @@ module _ {X : Type 0} {before : X → X → Bool} (o : IsLinear before) where
   ranked-all P [] all = all
   ranked-all P (x ∷ xs) all = let parts = placed-all P x (ranked before xs) all in (parts.0, ranked-all P xs parts.1)
 
-  -- a list in order has the list's members
-  pub ranked-among : (xs : List X) (x : X) → Contains (ranked before xs) x → Contains xs x
-  ranked-among xs x c = all-among (Contains xs) (ranked before xs) x (all-ranked (Contains xs) xs (all_in xs)) c
-
   pub among-ranked : (xs : List X) (x : X) → Contains xs x → Contains (ranked before xs) x
   among-ranked xs x c = all-among (Contains (ranked before xs)) xs x (ranked-all (Contains (ranked before xs)) xs (all_in (ranked before xs))) c

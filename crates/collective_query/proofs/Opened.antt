@@ -37,7 +37,7 @@ use Rattle.opened_nodes.specs.Logs.{OpensFew}
 use Rattle.opened_nodes.proofs.Searches.{nearest-few}
 use Rattle.opened_nodes.proofs.Walks.{range-few}
 use Rattle.best_first.proofs.Lists.{all_in}
-use Rattle.opened_nodes.proofs.Words.{few-none, few-fewer, few-then, few-made, nearest-calls, range-calls}
+use Rattle.opened_nodes.proofs.Words.{few-fewer, few-then, few-made, nearest-calls, range-calls}
 use Rattle.collective_query.specs.Choices.{IsChoice}
 use Rattle.collective_query.specs.Opened.{FindsPicks, given_to}
 use Rattle.collective_query.specs.Picks.{picks_of}
@@ -95,10 +95,6 @@ module _ (pages : PageMap) (tree : Tree) (ids : Numbers) (at : Position) (words 
 
   abbrev beside : ℕ → Type 0
   beside page = 0 < map_uses rows_form pages tree.rows page
-
-  -- no page was asked for
-  pub finds-none : (log : List ℕ) → Finds log log []
-  finds-none log = few-none ids words (nodes_at pages tree) tree.root beside (given_to ids at) log
 
   -- fewer picks
   pub finds-fewer : (old new : List ℕ) (found some : List Pick) → ((pick : Pick) → Contains some pick → Contains found pick) → Finds old new found → Finds old new some

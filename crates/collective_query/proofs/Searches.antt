@@ -33,16 +33,6 @@ goes-then old mid new a b = record { more = a.more ++ b.more; is = b.is ∙ ap (
 fails-ok : {P X : Type 0} (g : Ghosts P) (a b : P) (x : X) → g.faults b ≡ g.faults a → FailsReading g a b (Ok x)
 fails-ok g a b x same = record { disk = λ e. absurd (cc); hides_none = same; room_left = λ e. absurd (cc); stopped = λ e. absurd (cc) }
 
--- no search
-pub searches-none : {P X : Type 0} (g : Ghosts P) (tree : Tree) (a : P) (x : X) → g.only_reads a a → g.follows_from a a → Searches g tree a a (Ok x)
-searches-none g tree a x r f = record {
-  honest = λ fits damage e. absurd (cc);
-  damaged = λ told damage e. absurd (cc);
-  log = λ told. record { more = []; is = sym (append-nil (g.asked a)) };
-  fails = fails-ok g a a x refl;
-  frame = reads-none g a r f;
-}
-
 -- the same searches, and another answer
 pub searches-ok : {P X Y : Type 0} (g : Ghosts P) (tree : Tree) (a b : P) (x : X) (y : Y) → Searches g tree a b (Ok x) → Searches g tree a b (Ok y)
 searches-ok g tree a b x y s = record {
@@ -56,16 +46,6 @@ searches-ok g tree a b x y s = record {
 -- so it is with a result that is known
 pub searches-give : {P X Y : Type 0} (g : Ghosts P) (tree : Tree) (a b : P) (r : Result X PageFault) (x : X) (y : Y) → r ≡ Ok x → Searches g tree a b r → Searches g tree a b (Ok y)
 searches-give g tree a b r x y is s = searches-ok g tree a b x y (subst (Searches g tree a b) is s)
-
--- the same searches, and a refusal other than of damage, disk or pages
-pub searches-memory : {P X Y : Type 0} (g : Ghosts P) (tree : Tree) (a b : P) (x : X) → Searches g tree a b (Ok x) → Searches {X = Y} g tree a b (Err Memory)
-searches-memory g tree a b x s = record {
-  honest = λ fits damage e. absurd (cc);
-  damaged = λ told damage e. absurd (cc);
-  log = λ told. tt;
-  fails = record { disk = λ e. absurd (cc); hides_none = λ other. s.fails.hides_none; room_left = λ e. absurd (cc); stopped = λ e. absurd (cc) };
-  frame = s.frame;
-}
 
 -- the same searches, and the same refusal
 pub searches-refused : {P X Y : Type 0} (g : Ghosts P) (tree : Tree) (a b : P) (r : Result X PageFault) (fault : PageFault) → r ≡ Err fault → Searches g tree a b r → Searches {X = Y} g tree a b (Err fault)
@@ -105,8 +85,3 @@ searches-then {Y = Y} g further more tree a b c x r s k =
     logs : (r : Result Y PageFault) → GoesOn (g.asked a) (g.asked b) → OnOk r (GoesOn (g.asked b) (g.asked c)) → OnOk r (GoesOn (g.asked a) (g.asked c))
     logs (Ok y) on h = goes-then (g.asked a) (g.asked b) (g.asked c) on h
     logs (Err e) on h = tt
-
--- what follows from a value that is there
-pub on-ok : {A B : Type 0} (r : Result A B) (P : A → Type 0) (Q : Type 0) → ((a : A) → P a → Q) → IfOk r P → OnOk r Q
-on-ok (Ok a) P Q f h = f a h
-on-ok (Err e) P Q f h = tt

@@ -1,13 +1,13 @@
 //! The choices of a pick for each word, and the search among them for the one that costs least.
-ghost use Rattle.std.specs.Prelude.{◌≡◌, ◌++◌, ◌∷◌, [], ◌≤◌, max, ℕ, List, Vec, Some, OnOk};
+ghost use Rattle.std.specs.Prelude.{◌≡◌, ◌++◌, ◌∷◌, [], ◌≤◌, max, List, Vec, Some, OnOk};
 ghost use Rattle.std.specs.List.{AllByRecursion};
 ghost use Rattle.std.specs.Cmp.Lexicographic.{slice_cmp};
 ghost use Rattle.std.specs.Ordering.{nat_cmp, ordering_then};
 ghost use Rattle.std.specs.declared.alloc.Global.{Global};
 ghost use Rattle.spatial_base.specs.Point.{Position};
 ghost use Rattle.place_map.specs.declared.query.Pick.{Pick};
-ghost use Rattle.place_map.specs.Group.{product, farthest, diameter, choice_cost, pick_cmp, least_of};
-ghost use Rattle.place_map.specs.Search.{lists_in, fronted};
+ghost use Rattle.place_map.specs.Group.{product, diameter, choice_cost, pick_cmp, least_of};
+ghost use Rattle.place_map.specs.Search.{lists_in};
 ghost use Rattle.collective_query.specs.Picks.{AreNear, AreMeasured};
 
 use crate::costing::{farthest_of, least_cost};

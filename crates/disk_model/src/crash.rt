@@ -1,5 +1,5 @@
 //! What a crash leaves of a station in memory.
-ghost use Rattle.std.specs.Prelude.{◌≡◌, ◌≤◌, ◌+◌, OnOk, IfOk, cond, length};
+ghost use Rattle.std.specs.Prelude.{◌≡◌, OnOk, IfOk, cond, length};
 ghost use Rattle.disk_model.specs.Crash.{left_by, torn_by, torn_over};
 ghost use Rattle.disk_model.specs.Replay.{State, MayLeave, step, overwritten, range_of};
 ghost use Rattle.disk_model.specs.Stored.{image_of};

@@ -1,5 +1,5 @@
 //! Which calls of a station in memory fail, and how many of each kind have been made.
-ghost use Rattle.std.specs.Prelude.{◌≡◌, ◌++◌, [], OnOk, OnErr, Some, None};
+ghost use Rattle.std.specs.Prelude.{◌≡◌, [], Some, None};
 ghost use Rattle.disk_model.specs.Plan.{is_due, counted, count_of, calls_of, is_listed as is_listed_in, is_past as is_past_stop};
 
 use crate::{CallKind, Fail};

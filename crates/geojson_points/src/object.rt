@@ -1,5 +1,5 @@
 //! What an object's members are, where names may be repeated: the last member of a name counts.
-ghost use Rattle.std.specs.Prelude.{◌≡◌, ◌++◌, map, reverse, find, option_map, option_copied, string_bytes, bytes_eq};
+ghost use Rattle.std.specs.Prelude.{◌≡◌, reverse, find, option_map, option_copied, string_bytes, bytes_eq};
 ghost use Rattle.json_spelled.specs.Json.{no_members, members_onto};
 ghost use Rattle.json_spelled.specs.View.{json_of, jsons_of, entries_of};
 ghost use Rattle.geojson_points.specs.Object.{last_of, member_of, string_of, spelling_of, array_of, has_type};

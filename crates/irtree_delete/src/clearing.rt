@@ -1,5 +1,5 @@
 //! Words that go from a slot.
-ghost use Rattle.std.specs.Prelude.{◌≡◌, ◌<◌, ℕ, List, OnOk, OnErr, IsErrOf};
+ghost use Rattle.std.specs.Prelude.{◌≡◌, ◌<◌, ℕ, List, OnOk, IsErrOf};
 ghost use Rattle.page_face.specs.Calls.{Changes, FailsChanging};
 ghost use Rattle.page_face.specs.declared.fault.Damage.{Damage};
 ghost use Rattle.btree_nodes.specs.Damages.{AreTold, AsksOnly};

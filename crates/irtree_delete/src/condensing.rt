@@ -1,5 +1,5 @@
 //! What is left of a node from which something was taken out.
-ghost use Rattle.std.specs.Prelude.{◌≡◌, ◌≢◌, ◌<◌, ◌≤◌, ◌+◌, ℕ, List, ◌∷◌, ◌++◌, [], max, Option, None, true, false, option_map, length, IfOk, OnOk, OnErr, IfErr, IfSome, IsSome, IsErrOf};
+ghost use Rattle.std.specs.Prelude.{◌≡◌, ◌≢◌, ◌<◌, ◌≤◌, ◌+◌, ℕ, List, ◌∷◌, ◌++◌, [], max, Option, None, true, false, option_map, length, IfOk, OnOk, IfErr, IfSome, IsSome, IsErrOf};
 ghost use Rattle.page_face.specs.Calls.{FailsWriting, FailsChanging, Writes, Changes};
 ghost use Rattle.page_face.specs.Causes.{IsUncounted};
 ghost use Rattle.page_face.specs.FreeList.{with_page};

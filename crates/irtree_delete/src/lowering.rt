@@ -1,5 +1,5 @@
 //! A root that has one child left.
-ghost use Rattle.std.specs.Prelude.{◌≡◌, ◌≢◌, ◌<◌, ◌≤◌, ◌+◌, ℕ, List, [], Option, true, IfOk, OnOk, OnErr, IfErr, IsErrOf, MatchOption};
+ghost use Rattle.std.specs.Prelude.{◌≡◌, ◌≢◌, ◌<◌, ◌≤◌, ◌+◌, ℕ, List, [], Option, IfOk, OnOk, IfErr, IsErrOf, MatchOption};
 ghost use Rattle.std.specs.Int.{bit_at};
 ghost use Rattle.page_face.specs.Calls.{FailsChanging, Changes};
 ghost use Rattle.page_face.specs.declared.fault.Damage.{Damage};
@@ -7,7 +7,7 @@ ghost use Rattle.btree_nodes.specs.Damages.{AreTold, AsksOnly};
 ghost use Rattle.rtree_shape.specs.Slots.{Item, filled};
 ghost use Rattle.rtree_shape.specs.Trees.{root_least};
 ghost use Rattle.rtree_shape.specs.Stock.{View, view};
-ghost use Rattle.rtree_nodes.specs.Pages.{level_in, mask_of, is_form, slots_in, node_of};
+ghost use Rattle.rtree_nodes.specs.Pages.{level_in, slots_in, node_of};
 ghost use Rattle.irtree_shape.specs.Stock.{IsSupplied};
 ghost use Rattle.irtree_shape.specs.Made.{nodes_in};
 ghost use Rattle.irtree_shape.specs.Loose.{IsStanding};

@@ -1,5 +1,5 @@
 //! Orphans that are put back.
-ghost use Rattle.std.specs.Prelude.{◌≡◌, ◌≢◌, ◌≤◌, ℕ, List, [], OnOk, IsErrOf};
+ghost use Rattle.std.specs.Prelude.{◌≢◌, ℕ, List, [], OnOk, IsErrOf};
 ghost use Rattle.page_face.specs.Calls.{FailsChanging, Changes};
 ghost use Rattle.page_face.specs.declared.fault.Damage.{Damage};
 ghost use Rattle.btree_nodes.specs.Damages.{AreTold, AsksOnly};

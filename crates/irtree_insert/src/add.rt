@@ -1,5 +1,5 @@
 //! An item that is added to a node, with its words.
-ghost use Rattle.std.specs.Prelude.{◌≡◌, ◌≢◌, ◌+◌, ◌<◌, ◌≤◌, ℕ, Bool, List, Option, Some, option_map, if◌then◌else◌, IfOk, OnOk, IsErrOf};
+ghost use Rattle.std.specs.Prelude.{◌≡◌, ◌≢◌, ◌+◌, ◌<◌, ℕ, List, Some, option_map, if◌then◌else◌, IfOk, OnOk, IsErrOf};
 ghost use Rattle.page_face.specs.Calls.{FailsChanging, Changes};
 ghost use Rattle.page_face.specs.Causes.{IsUncounted};
 ghost use Rattle.btree_nodes.specs.Damages.{AreTold, AsksOnly};

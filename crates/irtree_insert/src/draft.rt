@@ -1,6 +1,6 @@
 //! A node that is being changed.
-ghost use Rattle.std.specs.Prelude.{◌≡◌, ◌⊎◌, ◌==◌, ◌<◌, ℕ, true, OnOk, IfOk, IfErr, IsOk};
-ghost use Rattle.rtree_shape.specs.Slots.{filled, tops, IsFull, IsFree};
+ghost use Rattle.std.specs.Prelude.{◌≡◌, ◌⊎◌, ◌<◌, ℕ, true, OnOk, IfOk, IfErr, IsOk};
+ghost use Rattle.rtree_shape.specs.Slots.{filled, tops};
 ghost use Rattle.rtree_shape.specs.Trees.{with_slot};
 ghost use Rattle.rtree_shape.specs.Masks.{kept_of, moved_of};
 ghost use Rattle.rtree_nodes.specs.Reach.{item_of, reach_of};

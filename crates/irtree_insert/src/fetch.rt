@@ -1,5 +1,5 @@
 //! Nodes that are read and checked.
-ghost use Rattle.std.specs.Prelude.{◌≡◌, ◌≢◌, ◌⊎◌, ◌<◌, ℕ, true, length, OnOk, IfOk, IsErrOf};
+ghost use Rattle.std.specs.Prelude.{◌≡◌, ◌≢◌, ◌⊎◌, ◌<◌, true, length, OnOk, IfOk, IsErrOf};
 ghost use Rattle.page_face.specs.Calls.{Looks};
 ghost use Rattle.page_face.specs.Causes.{IsUncounted};
 ghost use Rattle.page_face.specs.declared.fault.Rule.TheVariants.{Level as WrongLevel};

@@ -1,5 +1,5 @@
 //! A full node that is parted in two.
-ghost use Rattle.std.specs.Prelude.{◌≡◌, ◌≢◌, ◌==◌, ◌<◌, ◌++◌, ◌∷◌, [], ℕ, List, IfOk, OnOk, IsErrOf};
+ghost use Rattle.std.specs.Prelude.{◌≡◌, ◌≢◌, ◌<◌, ◌++◌, ◌∷◌, [], ℕ, IfOk, OnOk, IsErrOf};
 ghost use Rattle.std.specs.Int.{bit_at};
 ghost use Rattle.page_face.specs.Calls.{Looks};
 ghost use Rattle.btree_nodes.specs.Damages.{AreTold, AsksOnly};

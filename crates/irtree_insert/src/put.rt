@@ -1,5 +1,5 @@
 //! An item that is put in below a page, with its words.
-ghost use Rattle.std.specs.Prelude.{◌≡◌, ◌≢◌, ◌<◌, ◌≤◌, ℕ, suc, max, List, Option, Some, None, option_map, IfOk, OnOk, IsErrOf};
+ghost use Rattle.std.specs.Prelude.{◌≡◌, ◌≢◌, ◌<◌, ℕ, suc, max, List, Option, Some, None, option_map, IfOk, OnOk, IsErrOf};
 ghost use Rattle.page_face.specs.Calls.{FailsReading, FailsWriting, FailsChanging, Reads, Writes, Changes};
 ghost use Rattle.page_face.specs.Causes.{IsUncounted};
 ghost use Rattle.btree_nodes.specs.Damages.{AreTold, AskedSince, AsksOnly};

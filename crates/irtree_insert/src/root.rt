@@ -1,5 +1,5 @@
 //! Roots: the first leaf of a tree, and a root above two nodes.
-ghost use Rattle.std.specs.Prelude.{◌≡◌, ◌≢◌, ◌<◌, ◌≤◌, ℕ, suc, List, Some, None, false, true, IfOk, OnOk, IsErrOf};
+ghost use Rattle.std.specs.Prelude.{◌≡◌, ◌≢◌, ◌<◌, ℕ, suc, List, Some, None, true, IfOk, OnOk, IsErrOf};
 ghost use Rattle.page_face.specs.Calls.{FailsChanging, Changes};
 ghost use Rattle.btree_nodes.specs.Damages.{AreTold, AsksOnly};
 ghost use Rattle.rtree_shape.specs.Slots.{Item};

@@ -1,12 +1,10 @@
 //! Nodes that are written, one or two of them.
-ghost use Rattle.std.specs.Prelude.{◌≡◌, ◌≢◌, ◌+◌, ◌<◌, ◌≤◌, ℕ, List, IfOk, OnOk, IsErrOf};
+ghost use Rattle.std.specs.Prelude.{◌≡◌, ◌≢◌, ◌<◌, ℕ, List, IfOk, OnOk, IsErrOf};
 ghost use Rattle.page_face.specs.Calls.{FailsWriting, FailsChanging, Writes, Changes};
 ghost use Rattle.page_face.specs.FreeList.{with_page};
 ghost use Rattle.page_face.specs.Causes.{IsUncounted};
 ghost use Rattle.btree_nodes.specs.Damages.{AreTold, IsRefusedTake};
-ghost use Rattle.btree_nodes.specs.Supply.{one_at};
 ghost use Rattle.rtree_shape.specs.Stock.{view, spare_in};
-ghost use Rattle.node_rows.specs.Rows.{bytes_in};
 ghost use Rattle.irtree_shape.specs.Stock.{IsSupplied};
 ghost use Rattle.irtree_shape.specs.Steps.{IsPaired, Takes};
 

@@ -1,4 +1,4 @@
-ghost use Rattle.std.specs.Prelude.{◌≡◌, ◌≢◌, ◌<◌, ◌≤◌, length, IfOk, IfErr, OnOk, MatchResult, option_map};
+ghost use Rattle.std.specs.Prelude.{◌≡◌, ◌≢◌, ◌<◌, IfOk, IfErr, OnOk, MatchResult, option_map};
 ghost use Rattle.std.specs.Str.{IsUtf8};
 ghost use Rattle.json_spelled.specs.Grammar.{IsText};
 ghost use Rattle.json_spelled.specs.Json.{Json};

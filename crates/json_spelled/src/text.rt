@@ -1,7 +1,7 @@
 ghost use Rattle.std.specs.Prelude.{◌≡◌, ◌++◌, ◌∷◌, [], None, MatchResult};
 ghost use Rattle.std.specs.Str.{IsUtf8};
 ghost use Rattle.json_spelled.specs.Grammar as grammar;
-ghost use Rattle.json_spelled.specs.Grammar.{said, said_behind, waiting_after, alone};
+ghost use Rattle.json_spelled.specs.Grammar.{said, said_behind, alone};
 ghost use Rattle.json_spelled.specs.Machine.{Hex1, Hex2, Hex3, Hex4, text_step, escape_step, in_text, unit_step, close, InText, InBytes};
 ghost use Rattle.json_spelled.specs.Reader.{state_of, around, use_of, Tries, Makes};
 

@@ -1,9 +1,9 @@
 //! The first token of a text.
-ghost use Rattle.std.specs.Prelude.{◌≡◌, ◌∷◌, ◌≤◌, ◌<◌, length, take, drop, slice_index, option_map, IfOk, IfSome, IfNone};
+ghost use Rattle.std.specs.Prelude.{◌≡◌, ◌<◌, length, drop, slice_index, option_map, IfOk, IfSome, IfNone};
 ghost use Rattle.std.specs.List.{prefix_len};
 ghost use Rattle.line_tokens.specs.Literal.{is_plain, literal_of};
 ghost use Rattle.line_tokens.specs.Token as tokens;
-ghost use Rattle.line_tokens.specs.Token.{is_blank, is_bare, token_of, token_at, quoted_at};
+ghost use Rattle.line_tokens.specs.Token.{is_blank, is_bare, token_of, quoted_at};
 ghost use Rattle.line_tokens.specs.Seen.{seen};
 
 use crate::literal::{decoded, literal_len};

@@ -1,5 +1,5 @@
 // The last line of a make.
-ghost use Rattle.std.specs.Prelude.{◌≡◌, ◌++◌, decimal};
+ghost use Rattle.std.specs.Prelude.{◌++◌, decimal};
 ghost use Rattle.run_protocol.specs.Written.{Adds};
 ghost use Rattle.make_run.specs.Making.{made_line};
 

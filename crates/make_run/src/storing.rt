@@ -1,5 +1,5 @@
 // Places made from a seed, stored batch by batch.
-ghost use Rattle.std.specs.Prelude.{◌≡◌, ◌≤◌, [], length, false, IsTrue, OnOk, IsErrOf};
+ghost use Rattle.std.specs.Prelude.{◌≡◌, ◌≤◌, [], false, IsTrue, OnOk, IsErrOf};
 ghost use Rattle.made_places.specs.Makers.{place_in};
 ghost use Rattle.place_map.specs.State.{Contents};
 ghost use Rattle.geojson_points.specs.Takes.{place_of};

@@ -1,5 +1,5 @@
 //! Slots of a node that move to another one, as in a split.
-ghost use Rattle.std.specs.Prelude.{◌≡◌, ◌<◌, ℕ, List, [], IfErr, IfOk, IfSome, OnOk, OnErr, IsErrOf};
+ghost use Rattle.std.specs.Prelude.{◌≡◌, ◌<◌, ℕ, List, [], IfErr, IfOk, IfSome, OnOk, IsErrOf};
 ghost use Rattle.page_face.specs.Calls.{Changes, FailsChanging, FailsReading, Reads};
 ghost use Rattle.btree_nodes.specs.Damages.{AreTold, AsksOnly};
 ghost use Rattle.btree_nodes.specs.Supply.{View, view};

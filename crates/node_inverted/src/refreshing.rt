@@ -1,5 +1,5 @@
 //! A slot whose child has changed.
-ghost use Rattle.std.specs.Prelude.{◌≡◌, ◌+◌, ◌<◌, ◌++◌, ◌∷◌, [], ℕ, List, Some, IfErr, OnOk, OnErr, IsErrOf};
+ghost use Rattle.std.specs.Prelude.{◌≡◌, ◌+◌, ◌<◌, ◌++◌, ◌∷◌, [], ℕ, List, Some, IfErr, OnOk, IsErrOf};
 ghost use Rattle.page_face.specs.Calls.{Changes, FailsChanging, FailsReading, Reads};
 ghost use Rattle.btree_nodes.specs.Damages.{AreTold, AsksOnly};
 ghost use Rattle.btree_nodes.specs.Supply.{View, view};

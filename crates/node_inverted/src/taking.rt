@@ -1,5 +1,5 @@
 //! Rows that are taken from a node into memory.
-ghost use Rattle.std.specs.Prelude.{◌≡◌, ◌+◌, ◌<◌, ◌≤◌, ◌^◌, ◌++◌, ◌∷◌, [], ℕ, List, max, IfErr, IfOk, IfSome, IsErrOf, OnErr, OnOk};
+ghost use Rattle.std.specs.Prelude.{◌≡◌, ◌+◌, ◌<◌, ◌≤◌, ◌^◌, ◌++◌, ◌∷◌, [], ℕ, List, max, IfErr, IfOk, IfSome, IsErrOf, OnOk};
 ghost use Rattle.page_face.specs.Calls.{Changes, FailsChanging, FailsReading, Reads};
 ghost use Rattle.btree_nodes.specs.Damages.{AreTold, AsksOnly};
 ghost use Rattle.btree_nodes.specs.Supply.{view};

@@ -36,10 +36,6 @@ module _ (ids : Numbers) (words : List (List ℕ)) (nodes : NodeMap) (root : ℕ
     abbrev Few : List ℕ → List ℕ → List X → Type 0
     Few old new found = OpensFewForWords beside gives ids words nodes root old new found
 
-    -- no page was asked for
-    pub few-none : (log : List ℕ) → Few log log []
-    few-none log = record { asked = []; log = sym (append-nil log); each = tt; from = tt }
-
     -- for fewer values, or some of them twice
     pub few-fewer : (old new : List ℕ) (found some : List X) → ((value : X) → Contains some value → Contains found value) → Few old new found → AllByRecursion (Contains some) some → Few old new some
     few-fewer old new found some among few all = record {

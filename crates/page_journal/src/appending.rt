@@ -1,5 +1,5 @@
 //! Putting a record behind those of the journal.
-ghost use Rattle.std.specs.Prelude.{◌≡◌, ◌≤◌, ◌<◌, ◌+◌, ◌*◌, ◌^◌, IsTrue, ℕ, List, length, IfOk, IfErr, OnOk};
+ghost use Rattle.std.specs.Prelude.{◌≡◌, ◌<◌, ◌+◌, ◌^◌, IsTrue, ℕ, List, length, IfOk, IfErr, OnOk};
 ghost use Rattle.disk_model.specs.World.{LeavesOnly, LeavesOnlySeen, Keeps, Written, HasDiskCause};
 ghost use Rattle.disk_model.specs.declared.disk.Area.TheVariants as areas;
 ghost use Rattle.page_journal.specs.declared.fault.JournalFault.TheVariants as faults;

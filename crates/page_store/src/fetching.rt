@@ -1,5 +1,5 @@
 //! Looking at a page, from memory or from the disk.
-ghost use Rattle.std.specs.Prelude.{◌≡◌, ◌<◌, ℕ, None, Some, IsTrue, IsSome, false, is_some, OnOk, length};
+ghost use Rattle.std.specs.Prelude.{◌≡◌, ◌<◌, None, Some, IsTrue, IsSome, false, is_some, OnOk, length};
 ghost use Rattle.disk_model.specs.World.{HasDiskCause};
 ghost use Rattle.disk_model.specs.declared.disk.Area.TheVariants as areas;
 ghost use Rattle.page_journal.specs.Record.{applied};

@@ -1,10 +1,9 @@
 //! Opening a store: the journal is recovered, and page 0 is read.
 ghost use Rattle.std.specs.Prelude.{◌≡◌, ◌≢◌, IsTrue, ℕ, IfOk, IsErrOf};
-ghost use Rattle.disk_model.specs.World.{LeavesOnly, WritesNothing, ChangesNoArea, HasDiskCause, Range};
+ghost use Rattle.disk_model.specs.World.{LeavesOnly, WritesNothing};
 ghost use Rattle.disk_model.specs.declared.disk.Area.TheVariants as areas;
 ghost use Rattle.page_journal.specs.Record.{StandsAlike, IsBad};
 ghost use Rattle.page_store.specs.declared.superblock.HeadFault.TheVariants as heads;
-ghost use Rattle.page_store.specs.Contents.{page_bytes};
 ghost use Rattle.page_store.specs.Opening.{SaysNothingReadsHead, IsOpened, IsRefused, head_damage, HasOpenCause};
 ghost use Rattle.page_store.specs.Superblock.{IsInRange};
 

@@ -1,6 +1,6 @@
 //! A page of the area Pages.
-ghost use Rattle.std.specs.Prelude.{◌≡◌, ◌*◌, ◌++◌, ◌∷◌, [], ◌⊎◌, IsTrue, IfOk, OnOk, OnErr};
-ghost use Rattle.disk_model.specs.World.{ChangesNoArea, HasDiskCause};
+ghost use Rattle.std.specs.Prelude.{◌≡◌, ◌*◌, IsTrue, OnOk};
+ghost use Rattle.disk_model.specs.World.{HasDiskCause};
 ghost use Rattle.disk_model.specs.declared.disk.Area.TheVariants as areas;
 ghost use Rattle.page_store.specs.Contents.{page_bytes};
 ghost use Rattle.page_store.specs.Store.{ReadsPage};

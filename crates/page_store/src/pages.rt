@@ -1,5 +1,5 @@
 //! The pages of a store.
-ghost use Rattle.std.specs.Prelude.{◌≡◌, ◌≢◌, ◌↔◌, ◌≤◌, ◌+◌, ◌⊎◌, ℕ, IsTrue, IfOk, IfErr, OnOk, OnErr, IsErrOf};
+ghost use Rattle.std.specs.Prelude.{◌≡◌, ◌≢◌, ◌↔◌, ◌≤◌, ◌+◌, ◌⊎◌, IsTrue, IfOk, IfErr, OnOk, OnErr, IsErrOf};
 ghost use Rattle.page_face.specs.Causes.{IsUncounted, Rose, unlinked as link};
 ghost use Rattle.page_store.specs.Store.{kept_of};
 
@@ -24,7 +24,7 @@ fn is_uncounted(counted: u32, page: u32) -> bool
 }
 
 impl<'d, D: Disk> Pages for Store<'d, D> {
-    ghost use Rattle.std.specs.Prelude.{◌≡◌, ◌≤◌, refl};
+    ghost use Rattle.std.specs.Prelude.{◌≡◌, ◌≤◌};
     ghost use Rattle.page_journal.specs.Record.{applied};
     ghost use Rattle.page_store.specs.Contents.{shown, counted_pages};
     ghost use Rattle.held_pages.specs.Places.{looked_page};

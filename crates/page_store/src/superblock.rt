@@ -13,9 +13,9 @@
 //! | 64 to 4095 | spare, zero |
 //!
 //! All numbers are big-endian. The first free page and the roots are below the pages counted. A page of zeros is the empty store.
-ghost use Rattle.std.specs.Prelude.{◌≡◌, ◌≤◌, ◌<◌, ◌+◌, ◌^◌, ◌++◌, ◌↔◌, true, IsTrue, length, take, drop, IfOk, MatchResult};
+ghost use Rattle.std.specs.Prelude.{◌≡◌, ◌≤◌, ◌<◌, ◌+◌, ◌^◌, ◌++◌, ◌↔◌, true, IsTrue, take, drop, IfOk, MatchResult};
 ghost use Rattle.std.specs.Int.{to_be_bytes, w32, w64};
-ghost use Rattle.page_store.specs.Superblock.{IsInRange, HasMagic, KeepsHead, IsStorePage, IsHeadFault, empty_store, superblock_in, fields_of, header_of, magic, word_at as number_at, long_at as long_number_at, is_zero as are_zero, has_clear_spare};
+ghost use Rattle.page_store.specs.Superblock.{IsInRange, HasMagic, IsStorePage, IsHeadFault, empty_store, superblock_in, fields_of, header_of, magic, word_at as number_at, long_at as long_number_at, is_zero as are_zero, has_clear_spare};
 
 use page_face::{Head, Page};
 

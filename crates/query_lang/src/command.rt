@@ -1,8 +1,7 @@
 //! Commands.
 ghost use Rattle.std.specs.Prelude.{◌≡◌};
 ghost use Rattle.line_tokens.specs.Seen.{seen};
-ghost use Rattle.query_lang.specs.Line.{command_named, command_of, asks, line_of};
-ghost use Rattle.query_lang.specs.Reply.{reply_of};
+ghost use Rattle.query_lang.specs.Line.{command_named, command_of, asks};
 
 use line_tokens::Token;
 use query_replies::LineFault;

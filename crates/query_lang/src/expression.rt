@@ -1,5 +1,5 @@
 //! Expressions.
-ghost use Rattle.std.specs.Prelude.{◌≡◌, ◌≢◌, ◌+◌, ℕ, codes, Some, None, option_map, IfOk, IfErr};
+ghost use Rattle.std.specs.Prelude.{◌≡◌, codes, Some, None, option_map, IfOk, IfErr};
 ghost use Rattle.place_map.specs.Limits.{IsFilter};
 ghost use Rattle.line_tokens.specs.Seen.{seen};
 ghost use Rattle.line_tokens.specs.Token.{token_of};

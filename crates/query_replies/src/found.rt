@@ -1,7 +1,7 @@
 //! Answers, appended to bytes.
 ghost use Rattle.std.specs.Prelude.{◌≡◌, ◌*◌};
 ghost use Rattle.place_map.specs.Top.{weight_sum};
-ghost use Rattle.query_replies.specs.Found.{column_of, number_text, score_text, reason_text, hit_text, pick_text, hits_text, group_text, column_hits, query_group, found_text};
+ghost use Rattle.query_replies.specs.Found.{column_of, number_text, score_text, reason_text, hit_text, pick_text, hits_text, group_text, found_text};
 ghost use Rattle.query_replies.specs.Written.{Adds};
 
 use crate::lines::{write_hits, write_picks};

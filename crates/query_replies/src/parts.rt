@@ -1,5 +1,5 @@
 //! The parts of replies, appended to bytes.
-ghost use Rattle.std.specs.Prelude.{◌≡◌, ◌++◌, length, decimal, IfOk};
+ghost use Rattle.std.specs.Prelude.{◌≡◌, decimal, IfOk};
 ghost use Rattle.json.specs.Print.{quoted};
 ghost use Rattle.fixed_coords.specs.Degrees.{fixed_text};
 ghost use Rattle.query_replies.specs.Parts.{key_text, units_text, point_text, at_text};

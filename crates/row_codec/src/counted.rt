@@ -1,6 +1,5 @@
 //! A word and how many places hold it.
-ghost use Rattle.std.specs.Prelude.{◌≡◌, ℕ, List, ◌<◌, ◌+◌, ◌++◌, length, take, drop, Some, IfSome};
-ghost use Rattle.std.specs.Int.{from_be_bytes, w32};
+ghost use Rattle.std.specs.Prelude.{◌≡◌, ℕ, List, ◌<◌, length, Some, IfSome};
 ghost use Rattle.term_impacts.specs.Form.{IsWordText, word_form};
 ghost use Rattle.row_codec.specs.Counted.{counted_value, IsCounted};
 

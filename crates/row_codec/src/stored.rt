@@ -1,6 +1,5 @@
 //! A place as the place table keeps it.
-ghost use Rattle.std.specs.Prelude.{◌≡◌, ◌↔◌, ℕ, ◌<◌, ◌≤◌, ◌+◌, ◌*◌, ◌++◌, length, take, drop, IsTrue, Some, IfSome};
-ghost use Rattle.std.specs.Int.{from_be_bytes, w32, w64};
+ghost use Rattle.std.specs.Prelude.{◌≡◌, ◌↔◌, ◌<◌, length, IsTrue, Some, IfSome};
 ghost use Rattle.spatial_base.specs.Point.{Position, IsOnMap};
 ghost use Rattle.row_codec.specs.Stored.{point_bytes};
 

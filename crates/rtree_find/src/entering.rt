@@ -1,5 +1,5 @@
 //! A page of the tree is looked at, and its level checked.
-ghost use Rattle.std.specs.Prelude.{◌≡◌, ◌≢◌, ℕ, ◌<◌, ◌≤◌, ◌^◌, List, length, IfOk, OnOk, IsErrOf};
+ghost use Rattle.std.specs.Prelude.{◌≡◌, ◌≢◌, ◌<◌, ◌≤◌, ◌^◌, length, IfOk, OnOk, IsErrOf};
 ghost use Rattle.page_face.specs.Calls.{Reads, FailsReading};
 ghost use Rattle.page_face.specs.declared.fault.Rule.TheVariants.{Level as WrongLevel};
 ghost use Rattle.btree_nodes.specs.Damages.{AreTold, AskedSince, AsksOnly, KeepsAsked};

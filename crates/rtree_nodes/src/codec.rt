@@ -1,5 +1,5 @@
 //! Nodes as pages, and back.
-ghost use Rattle.std.specs.Prelude.{◌≡◌, ◌<◌, ◌^◌, ◌==◌, ◌&&◌, ◌↔◌, ℕ, true, false, not, IsTrue, IsErr, IfOk, IfErr, slice_index, slice_index_or, if◌then◌else◌, Some, None, Option};
+ghost use Rattle.std.specs.Prelude.{◌≡◌, ◌<◌, ◌^◌, ◌==◌, ◌&&◌, ◌↔◌, true, false, not, IsTrue, IsErr, IfOk, IfErr, if◌then◌else◌, Some, Option};
 ghost use Rattle.std.specs.Int.{bit_at};
 ghost use Rattle.spatial_base.specs.Key.{Auto, form_of};
 ghost use Rattle.rtree_shape.specs.Trees.{with_slot};

@@ -1,6 +1,5 @@
 //! A node that is parted in two.
-ghost use Rattle.std.specs.Prelude.{◌≡◌, ◌<◌, ◌==◌, true, if◌then◌else◌};
-ghost use Rattle.std.specs.Int.{bit_at};
+ghost use Rattle.std.specs.Prelude.{◌≡◌, ◌<◌, true, if◌then◌else◌};
 ghost use Rattle.rtree_shape.specs.Slots.{without_slot};
 ghost use Rattle.rtree_shape.specs.Masks.{kept_of, moved_of};
 ghost use Rattle.rtree_nodes.specs.Pages.{level_in, is_form, slots_in};

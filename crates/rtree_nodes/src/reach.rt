@@ -1,8 +1,6 @@
 //! The rectangles of a node's slots, and the least one round them.
-ghost use Rattle.std.specs.Prelude.{◌≡◌, ◌<◌, ◌+◌, ◌&&◌, ◌↔◌, ℕ, true, false, not, max, IsTrue, IsErr, IsOk, IfOk, IfErr, IfSome, IsSome, slice_index_or, if◌then◌else◌, Option, Some, None};
-ghost use Rattle.spatial_base.specs.Rect.{Bounds};
-ghost use Rattle.rtree_shape.specs.Slots.{Item, filled, tops, got, Held};
-ghost use Rattle.rtree_shape.specs.Trees.{reach_of as reach_at};
+ghost use Rattle.std.specs.Prelude.{◌≡◌, ◌<◌, ◌+◌, ◌&&◌, ◌↔◌, ℕ, true, false, not, IsTrue, IsErr, IsOk, IfOk, IfErr, IfSome, IsSome, slice_index_or, if◌then◌else◌, Option, Some, None};
+ghost use Rattle.rtree_shape.specs.Slots.{filled, tops, Held};
 ghost use Rattle.rtree_nodes.specs.Reach.{reach_of, origin as zero_point, origin_rect as zero_rect, joined_both};
 ghost use Rattle.rtree_nodes.specs.Cells.{has_rect};
 ghost use Rattle.rtree_nodes.specs.Pages.{level_in, mask_of as mask_in, is_used, cell_at, rect_of_slot, has_rects, stored_in, is_form, slots_in};

@@ -1,5 +1,5 @@
 //! What stands in one slot of a page.
-ghost use Rattle.std.specs.Prelude.{◌≡◌, ◌<◌, ◌≤◌, ◌+◌, ◌*◌, ◌==◌, ◌&&◌, ◌↔◌, true, false, not, take, drop, Option, IsTrue, IsSome, IfSome, IfOk, IfErr, IsOk, IsErr, option_map, if◌then◌else◌, Some, None};
+ghost use Rattle.std.specs.Prelude.{◌≡◌, ◌<◌, ◌≤◌, ◌+◌, ◌*◌, ◌==◌, ◌&&◌, ◌↔◌, true, false, not, take, drop, Option, IsTrue, IsSome, IfSome, IfOk, IfErr, IsOk, IsErr, option_map, Some, None};
 ghost use Rattle.rtree_shape.specs.Slots.{IsUsed, IsChildAt};
 ghost use Rattle.rtree_nodes.specs.Numbers.{number_at, int_at};
 ghost use Rattle.rtree_nodes.specs.Reach.{item_of, place_item, child_item, is_place};

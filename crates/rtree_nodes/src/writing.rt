@@ -1,5 +1,5 @@
 //! Slots that are written and cleared where they lie.
-ghost use Rattle.std.specs.Prelude.{◌≡◌, ◌≢◌, ℕ, ◌<◌, ◌+◌, ◌^◌, ◌∷◌, ◌++◌, ◌==◌, true, length, replicate};
+ghost use Rattle.std.specs.Prelude.{◌≡◌, ◌≢◌, ℕ, ◌<◌, ◌+◌, ◌^◌, ◌∷◌, ◌==◌, true, replicate};
 ghost use Rattle.std.specs.Int.{w32, to_be_bytes, bit_at};
 ghost use Rattle.spatial_base.specs.Key.{IsName};
 ghost use Rattle.spatial_base.specs.Point.{IsOnMap};

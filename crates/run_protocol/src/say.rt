@@ -1,5 +1,5 @@
 //! Bytes said whole.
-ghost use Rattle.std.specs.Prelude.{◌≡◌, ◌≤◌, false, IsTrue};
+ghost use Rattle.std.specs.Prelude.{◌≡◌, false, IsTrue};
 ghost use Rattle.disk_model.specs.World.{HasSinkCause};
 ghost use Rattle.run_protocol.specs.Said.{SaysAll};
 

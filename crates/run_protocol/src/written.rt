@@ -1,5 +1,5 @@
 // Text, appended to bytes.
-ghost use Rattle.std.specs.Prelude.{◌≡◌, decimal};
+ghost use Rattle.std.specs.Prelude.{decimal};
 ghost use Rattle.run_protocol.specs.Written.{Adds};
 
 use itoa::Buffer;

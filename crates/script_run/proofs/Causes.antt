@@ -30,10 +30,6 @@ damage-then tells old now _ stands cause = absurd cause
 pub engine-still : {T : Type 0} (tells : Bool) (now : World) (value : T) → HasEngineEnd tells now now (Ok value)
 engine-still tells now value = record { faults = omega arith; sink = omega arith; keeps = keeps-none now (Ok value); stands = λ told state holds. (state, holds); cause = tt }
 
--- memory is wanting
-pub engine-lost : (T : Type 0) (tells : Bool) (now : World) → HasEngineEnd {T = T} tells now now (Err ends.Memory)
-engine-lost T tells now = record { faults = omega arith; sink = omega arith; keeps = keeps-none now (Err ends.Memory); stands = λ told. tt; cause = tt }
-
 -- an end that comes later
 engine-later : (tells : Bool) (old now new : World) (end : Ended) → old.faults ≤ now.faults → old.sink_faults ≤ now.sink_faults → (IsTrue tells → StandsStill old now) → IsEngineEnd tells now new end → IsEngineEnd tells old new end
 engine-later tells old now new ends.Memory faults sink stands cause = tt

@@ -244,7 +244,3 @@ pub bad-replies : (state : Contents) (read : Result Line LineFault) (now : World
 unfolding reply_of
 bad-replies state read now fault is holds =
     read-replies state read now now (replies.Bad fault) (rests-still now) holds (ap (state_after state) is) (ap (λ (r : Result Line LineFault). text_of_reply (reply_of state r)) (sym is))
-
--- nothing was done, for want of memory
-pub replies-lost : (state : Contents) (read : Result Line LineFault) (now : World) → RepliesTo state read now now (Err ends.Memory)
-replies-lost state read now = record { reply = tt; holds = tt; stops = tt; said = refl; left_by = started now }

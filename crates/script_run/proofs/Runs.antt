@@ -98,10 +98,6 @@ runs-lost T state lines old now value runs =
 pub runs-valued : {A B : Type 0} (state : Contents) (lines : List (List ℕ)) (old now : World) (value : A) (other : B) → RunsLines state lines old now (Ok value) → RunsLines state lines old now (Ok other)
 runs-valued state lines old now value other runs = record { said = runs.said; holds = runs.holds; stops = tt; left_by = runs.left_by; reads = runs.reads }
 
--- another kind of value would have been answered
-pub runs-failed : (A B : Type 0) (state : Contents) (lines : List (List ℕ)) (old now : World) (end : Ended) → RunsLines {T = A} state lines old now (Err end) → RunsLines {T = B} state lines old now (Err end)
-runs-failed A B state lines old now end runs = record { said = tt; holds = tt; stops = runs.stops; left_by = runs.left_by; reads = λ asks. tt }
-
 -- a run that stopped stops so where more lines are behind
 pub runs-goes_on : {T : Type 0} (state : Contents) (lines more : List (List ℕ)) (old new : World) (end : Ended) → RunsLines {T = T} state lines old new (Err end) → RunsLines {T = T} state (lines ++ more) old new (Err end)
 runs-goes_on state lines more old new end runs = record {

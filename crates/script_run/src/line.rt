@@ -1,5 +1,5 @@
 // One line of a script, acted on, and its reply.
-ghost use Rattle.std.specs.Prelude.{◌≡◌, ◌++◌, ◌∷◌, [], false, IsTrue, IfErr, IfOk, IsErrOf, OnOk, Ok};
+ghost use Rattle.std.specs.Prelude.{◌≡◌, ◌∷◌, [], false, IsTrue, IfErr, IfOk, IsErrOf, OnOk, Ok};
 ghost use Rattle.place_map.specs.State.{Contents};
 ghost use Rattle.query_lang.specs.Line.{line_of};
 ghost use Rattle.query_lang.specs.Plain.{IsSound, plain_line};

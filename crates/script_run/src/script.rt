@@ -1,5 +1,5 @@
 // A script, read piece by piece.
-ghost use Rattle.std.specs.Prelude.{◌≡◌, ◌≤◌, ◌<◌, ◌++◌, ◌∷◌, [], ℕ, List, false, length, take, slice_index, IsTrue, IfOk, OnOk, IfNone, IfSome, IfErr, IsErrOf};
+ghost use Rattle.std.specs.Prelude.{◌≡◌, ◌≤◌, ◌<◌, ◌++◌, ◌∷◌, [], ℕ, List, false, length, take, slice_index, IsTrue, OnOk, IfNone, IfSome, IfErr, IsErrOf};
 ghost use Rattle.place_map.specs.State.{Contents};
 ghost use Rattle.irtree_engine.specs.Holding.{HoldsState};
 ghost use Rattle.run_protocol.specs.Causes.{HasEngineEnd, LacksRoomIn};

@@ -62,7 +62,7 @@ fn given(alloc: Global, rows: &[(u32, Item)], page: u32, level: u8) -> Result<Ve
 }
 
 impl<P: Pages> Ranked<P> for Table {
-    ghost use Rattle.std.specs.Prelude.{List, []};
+    ghost use Rattle.std.specs.Prelude.{[]};
     ghost use Rattle.best_first.specs.declared.item.Item.{Item};
 
     ghost fits = { λ s p. ⊥ };

@@ -1,5 +1,5 @@
 //! An entry that is taken out of a tree.
-ghost use Rattle.std.specs.Prelude.{◌≡◌, ◌≢◌, ◌≤◌, ℕ, List, Ok, true, false, OnOk, OnErr, IsErrOf};
+ghost use Rattle.std.specs.Prelude.{◌≡◌, ◌≢◌, ◌≤◌, ℕ, List, Ok, true, false, OnOk, IsErrOf};
 ghost use Rattle.page_face.specs.Calls.{Changes, FailsChanging};
 ghost use Rattle.btree_nodes.specs.Damages.{AreTold, AsksOnly};
 ghost use Rattle.rtree_shape.specs.Stock.{view};

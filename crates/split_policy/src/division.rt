@@ -1,5 +1,5 @@
 //! A quadratic split part way.
-ghost use Rattle.std.specs.Prelude.{◌≡◌, ◌≢◌, ◌<◌, ◌≤◌, ◌+◌, ◌↔◌, IsTrue};
+ghost use Rattle.std.specs.Prelude.{◌≡◌, ◌≢◌, ◌<◌, ◌+◌, ◌↔◌, IsTrue};
 ghost use Rattle.split_policy.specs.Areas.{rect_area};
 ghost use Rattle.split_policy.specs.Divided.{IsDivided};
 ghost use Rattle.split_policy.specs.Masks.{IsAmong, IsMask};

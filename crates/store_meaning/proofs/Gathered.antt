@@ -270,11 +270,6 @@ all-among numbers table (Put key point words ∷ left) all = (
 )
 all-among numbers table (Remove key ∷ left) all = (tt, all-among numbers table left all)
 
--- the words of one update more
-pub count-update : (has : List ℕ → Bool) (update : Update) (left : List Update) → word_count has (update ∷ left) ≡ place_count has (words_put update) + word_count has left
-count-update has (Put key point words) left = refl
-count-update has (Remove key) left = (let none : place_count has [] ≡ 0 = refl in omega (arith, none))
-
 -- as many counted words as they were counted, or fewer
 pub few-counted : (counts : List (List ℕ × ℕ)) → AllByRecursion (λ (c : List ℕ × ℕ). 1 ≤ c.1) counts → length counts ≤ times_counted (λ w. true) counts
 few-counted [] some = omega arith

@@ -135,36 +135,6 @@ has_pair-by_number n pairs = has_pair_placed n [] pairs ∙ or_false (has_pair n
     or_false true = refl
     or_false false = refl
 
--- pairs that were put ascend
-sorted_placed : (done pairs : List Pair) → IsStrictlySortedBy nat_cmp (keys_of done) → IsStrictlySortedBy nat_cmp (keys_of (placed done pairs))
-sorted_placed done [] sorted = sorted
-sorted_placed done (p ∷ pairs) sorted = sorted_placed (insert_entry nat_cmp done p.0 p.1) pairs (sorted-insert nat_cmp_total p.0 p.1 done sorted)
-
--- their numbers ascend
-pub sorted-by_number : (pairs : List Pair) → IsStrictlySortedBy nat_cmp (keys_of (by_number pairs))
-unfolding IsStrictlySortedBy
-sorted-by_number pairs = sorted_placed [] pairs tt
-
--- and are no more than those that were there and those that came
-length_placed : (done pairs : List Pair) → length (placed done pairs) ≤ length done + length pairs
-length_placed done [] = omega arith
-length_placed done (p ∷ pairs) = let rest = length_placed (insert_entry nat_cmp done p.0 p.1) pairs in omega (arith, length-insert nat_cmp p.0 p.1 done)
-
--- there are no more of them
-pub length-by_number : (pairs : List Pair) → length (by_number pairs) ≤ length pairs
-length-by_number pairs = let all = length_placed [] pairs in omega arith
-
--- what holds of each pair holds of those that were put
-each_placed : (P Q : ℕ → Type 0) (done pairs : List Pair) → All (IsEntryOf P Q) done → All (IsEntryOf P Q) pairs → All (IsEntryOf P Q) (placed done pairs)
-each_placed P Q done [] all each = all
-each_placed P Q done (p ∷ pairs) all each =
-    let here = All-head (IsEntryOf P Q) p pairs each in
-    each_placed P Q (insert_entry nat_cmp done p.0 p.1) pairs (insert-each nat_cmp P Q p.0 p.1 done here.0 here.1 all) (All-tail (IsEntryOf P Q) p pairs each)
-
--- what holds of each pair holds of each in order
-pub each-by_number : (P Q : ℕ → Type 0) (pairs : List Pair) → All (IsEntryOf P Q) pairs → All (IsEntryOf P Q) (by_number pairs)
-each-by_number P Q pairs each = each_placed P Q [] pairs (All-nil (IsEntryOf P Q)) each
-
 -- ---- words
 
 -- the impact at a word's number, where it has one
@@ -278,24 +248,4 @@ stored-ascending point pairs few sorted impacts =
       ascending = subst (λ (ps : List Pair). IsStrictlyIncreasing (keys_of ps)) (sym held) (IsStrictlyIncreasing-from_sorted (keys_of pairs) sorted);
       impacts = subst (All HasImpact) (sym held) impacts;
       spare = subst (All IsSpare) (sym (drop_at pairs (replicate (64 - length pairs) (0, 0)) (length pairs) refl)) (All-replicate IsSpare (64 - length pairs) (0, 0) (refl, refl));
-    }
-
--- so do pairs in the order of their numbers
-pub stored-by_number : (point : Position) (pairs : List Pair) → length pairs ≤ 64 → All (IsEntryOf IsNumber IsImpact) pairs → IsStored (stored_with point (by_number pairs))
-stored-by_number point pairs few each =
-    let fewer = length-by_number pairs in
-    stored-ascending point (by_number pairs) (omega arith) (sorted-by_number pairs)
-    (All-weaker (IsEntryOf IsNumber IsImpact) HasImpact (λ p is. is.1.0) (by_number pairs) (each-by_number IsNumber IsImpact pairs each))
-
--- and one of its types
-pub value-by_number : (point : Position) (pairs : List Pair) → IsOnMap point.x point.y → length pairs ≤ 64 → All (IsEntryOf IsNumber IsImpact) pairs → IsValue (stored_with point (by_number pairs))
-value-by_number point pairs on few each =
-    let placed = by_number pairs in
-    let fewer = length-by_number pairs in
-    let rest : List Pair = replicate (64 - length placed) (0, 0) in
-    record {
-      point = on;
-      size = omega (arith, length-append placed rest, length-replicate {A = Pair} (64 - length placed) (0, 0));
-      pairs = All-append IsPair placed rest (All-weaker (IsEntryOf IsNumber IsImpact) IsPair (λ p is. (is.0, (let small = is.1.1 in omega arith))) placed (each-by_number IsNumber IsImpact pairs each))
-          (All-replicate IsPair (64 - length placed) (0, 0) (omega arith, omega arith));
     }

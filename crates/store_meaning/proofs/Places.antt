@@ -161,25 +161,3 @@ numbered-same old new (t ∷ words) (p ∷ pairs) same named = (
 -- a word with an impact from 1 to 255
 abbrev HasTermImpact : List ℕ × ℕ → Type 0
 HasTermImpact term = (1 ≤ term.1) × (term.1 ≤ 255)
-
--- the numbers of the words are below the next one, and their impacts are the words'
-pub each-numbered : (claims : ℕ → ℕ) (texts : List (List ℕ × ℕ)) (numbers : List (ℕ × Counted)) (next_word : ℕ) → WordTablesAgree claims texts numbers next_word → next_word ≤ 2 ^ 64
-    → (words : List (List ℕ × ℕ)) (pairs : List Pair) → AreNumbered numbers words pairs → All HasTermImpact words → All (IsEntryOf IsNumber IsImpact) pairs
-each-numbered claims texts numbers next_word agree small [] [] named impacts = All-nil (IsEntryOf IsNumber IsImpact)
-each-numbered claims texts numbers next_word agree small [] (p ∷ pairs) named impacts = absurd named
-each-numbered claims texts numbers next_word agree small (t ∷ words) [] named impacts = absurd named
-each-numbered claims texts numbers next_word agree small (t ∷ words) (p ∷ pairs) named impacts =
-    let impact = All-head HasTermImpact t words impacts in
-    let below = below_next claims texts numbers next_word p.0 t.0 agree named.0 in
-    let some = impact.0 in
-    let most = impact.1 in
-    let same = named.1 in
-    All-cons (IsEntryOf IsNumber IsImpact) p pairs (omega (arith, below, small), (omega (arith, some, same), omega (arith, most, same)))
-    (each-numbered claims texts numbers next_word agree small words pairs named.2 (All-tail HasTermImpact t words impacts))
-
--- as many pairs as words
-pub length-numbered : (numbers : List (ℕ × Counted)) (words : List (List ℕ × ℕ)) (pairs : List Pair) → AreNumbered numbers words pairs → length pairs ≡ length words
-length-numbered numbers [] [] named = refl
-length-numbered numbers [] (p ∷ pairs) named = absurd named
-length-numbered numbers (t ∷ words) [] named = absurd named
-length-numbered numbers (t ∷ words) (p ∷ pairs) named = let rest = length-numbered numbers words pairs named.2 in omega (arith, rest)

@@ -25,8 +25,8 @@ use Rattle.store_meaning.proofs.Steps.{word_at, KeepsWords, claimed_beside, AreA
 use Rattle.store_meaning.specs.Updates.{Numbered, after_put, by_number, has_pair, numbered_for, pairs_of, stored_with}
 use Rattle.store_meaning.proofs.Numbers.{agree-claims, numbering-all}
 use Rattle.store_meaning.proofs.Ordered.{same_from_lookups, sorted-insert}
-use Rattle.store_meaning.proofs.Pairs.{IsImpact, IsNumber, apart-numbered, has_pair-by_number, held-stored_with, stored-by_number, value-by_number, words-by_number, words-numbered}
-use Rattle.store_meaning.proofs.Places.{apart-old, each-numbered, each_paired, held-claimed, known-old, length-numbered, named-claimed, numbered-same, held_by, room-put, agree-released, place-at, place-same, same-released}
+use Rattle.store_meaning.proofs.Pairs.{IsImpact, IsNumber, apart-numbered, has_pair-by_number, held-stored_with, words-by_number, words-numbered}
+use Rattle.store_meaning.proofs.Places.{apart-old, each_paired, held-claimed, known-old, named-claimed, numbered-same, held_by, room-put, agree-released, place-at, place-same, same-released}
 use Rattle.store_meaning.proofs.Releases.{releasing-all}
 
 -- a key below a serial is below those behind it
@@ -160,28 +160,6 @@ module _ (key : Name) (point : Position) (words : List (List ℕ × ℕ)) (entri
   -- the next number rises by at most the words
   pub put-next : (next_word ≤ now.next_word) × (now.next_word ≤ next_word + length words)
   put-next = (put-numbered.rises, put-numbered.few)
-
-  -- no two words have one number
-  pub put-apart : AreApart now.pairs
-  put-apart = apart-numbered now.entries.numbers words now.pairs put-numbered.named map_of_words.ascending
-
-  -- the pairs are a word's number and its impact each
-  pub put-pairs : All (IsEntryOf IsNumber IsImpact) now.pairs
-  put-pairs =
-      let few = put-numbered.few in
-      each-numbered (claimed_beside now.pairs old claims) now.entries.texts now.entries.numbers now.next_word put-numbered.agree (omega (arith, few, numbers_left)) words now.pairs put-numbered.named map_of_words.impacts
-
-  -- there are at most 64 of them
-  put-few : length now.pairs ≤ 64
-  put-few = let few = map_of_words.few in omega (arith, few, length-numbered now.entries.numbers words now.pairs put-numbered.named)
-
-  -- the place is of its form
-  pub put-stored : IsStored stored
-  put-stored = stored-by_number point now.pairs put-few put-pairs
-
-  -- and of its types
-  pub put-value : IsOnMap point.x point.y → IsValue stored
-  put-value on = value-by_number point now.pairs on put-few put-pairs
 
   -- it holds the numbers of the words
   pub put-holds : (n : ℕ) → has_number n stored ≡ has_pair n now.pairs

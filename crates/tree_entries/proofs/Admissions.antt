@@ -7,21 +7,9 @@ use Rattle.tree_entries.specs.Masks.{has_slot, Marks}
 use Rattle.tree_entries.specs.Filters.{admits, meets, may_meet}
 use Rattle.tree_entries.proofs.Marking.{slot-and, slot-or, slot-not, slot-none}
 
-and-both : (u a : Bool) → (u && (u && a)) ≡ (u && a)
-and-both true a = refl
-and-both false a = refl
-
 -- a row's slots among those of a mask
 pub marks-row : (used row : ℕ) (bytes : ℕ → ℕ) (zero_above : ℕ → ℕ) → Marks row (λ i. nat_lt 0 (bytes i)) → ((i : ℕ) → bytes i ≡ zero_above i) → Marks (bit_and used row) (λ i. has_slot used i && nat_lt 0 (zero_above i))
 marks-row used row bytes bytes' h e i l = slot-and used row i ∙ ap (λ (b : Bool). has_slot used i && b) (h i l ∙ ap (λ (n : ℕ). nat_lt 0 n) (e i))
-
-none-of : (u : Bool) → false ≡ (u && false)
-none-of true = refl
-none-of false = refl
-
--- no slot has a word that the store doesn't know
-pub marks-none : (used : ℕ) (byte : ℕ → ℕ) → ((i : ℕ) → byte i ≡ 0) → Marks 0 (λ i. has_slot used i && nat_lt 0 (byte i))
-marks-none used byte e i l = slot-none i ∙ none-of (has_slot used i) ∙ ap (λ (n : ℕ). has_slot used i && nat_lt 0 n) (sym (e i))
 
 less : (u a : Bool) → (u && not (u && a)) ≡ (u && not a)
 less true a = refl
@@ -36,23 +24,9 @@ any : (u : Bool) → u ≡ (u && true)
 any true = refl
 any false = refl
 
--- all slots
-pub marks-all : (used : ℕ) (test : ℕ → Bool) → ((i : ℕ) → test i ≡ true) → Marks used (λ i. has_slot used i && test i)
-marks-all used test e i l = any (has_slot used i) ∙ ap (λ (b : Bool). has_slot used i && b) (sym (e i))
-
 both : (u a b : Bool) → ((u && a) && b) ≡ (u && (a && b))
 both true a b = refl
 both false a b = refl
-
--- the slots of both sides
-pub marks-and : (used left right : ℕ) (a b : ℕ → Bool) → Marks left (λ i. has_slot used i && a i) → Marks right (λ i. has_slot left i && b i) → Marks right (λ i. has_slot used i && (a i && b i))
-marks-and used left right a b h k i l = k i l ∙ ap (λ (x : Bool). x && b i) (h i l) ∙ both (has_slot used i) (a i) (b i)
-
--- the left side has none
-pub marks-and-none : (used left : ℕ) (a b : ℕ → Bool) → left ≡ 0 → Marks left (λ i. has_slot used i && a i) → Marks 0 (λ i. has_slot used i && (a i && b i))
-marks-and-none used left a b e h i l =
-    let none : (has_slot used i && a i) ≡ false = sym (h i l) ∙ ap (λ (m : ℕ). has_slot m i) e ∙ slot-none i in
-    slot-none i ∙ ap (λ (x : Bool). x && b i) (sym none) ∙ both (has_slot used i) (a i) (b i)
 
 either : (u a b : Bool) → ((u && a) || ((u && not (u && a)) && b)) ≡ (u && (a || b))
 either true true b = refl
@@ -73,15 +47,6 @@ full : (u a b : Bool) → u ≡ (u && a) → u ≡ (u && (a || b))
 full true true b e = refl
 full true false b e = absurd (cc)
 full false a b e = refl
-
--- the left side has all
-pub marks-or-all : (used left : ℕ) (a b : ℕ → Bool) → left ≡ used → Marks left (λ i. has_slot used i && a i) → Marks used (λ i. has_slot used i && (a i || b i))
-marks-or-all used left a b e h i l = full (has_slot used i) (a i) (b i) (ap (λ (m : ℕ). has_slot m i) (sym e) ∙ h i l)
-
--- what a level admits, case by case
-pub admits-has : (level : ℕ) (f : List ℕ → ℕ) (word : List ℕ) → admits level f (Has word) ≡ nat_lt 0 (f word)
-admits-has zero f word = refl
-admits-has (suc level) f word = refl
 
 pub admits-not : (level : ℕ) (f : List ℕ → ℕ) (filter one : Expr) → level ≤ 0 → meets f filter ≡ not (meets f one) → admits level f filter ≡ not (admits level f one)
 admits-not zero f filter one l e = e

@@ -1,5 +1,5 @@
 //! The slots of a node that a filter admits.
-ghost use Rattle.std.specs.Prelude.{◌≡◌, ◌<◌, ◌^◌, ℕ, ◌&&◌, nat_lt, IfOk};
+ghost use Rattle.std.specs.Prelude.{◌<◌, ◌^◌, ◌&&◌, nat_lt, IfOk};
 ghost use Rattle.btree_nodes.specs.Tree.{IsMap};
 ghost use Rattle.rtree_shape.specs.Stock.{rows_form};
 ghost use Rattle.node_rows.specs.Rows.{bytes_in};

@@ -94,10 +94,3 @@ sound-alone rule pages count node level s b = alone-fine rule pages count node l
 pub sound-fine : (rule : Rule) (pages : PageMap) (count node level : ℕ) → IsSoundNode pages count node level → BreaksPlace rule pages count node (λ found. found ≡ level → ⊥) → ⊥
 sound-fine rule pages count node level s b =
     ⊎_elim (λ alone. alone-fine rule pages count node level s alone) (λ at_level. at_level.1 (form-told (pages node) s.form) (sym s.level_is)) b
-
--- what was gathered from the page of a sound node wasn't damaged
-pub sound-form : (bytes : List ℕ) (node : ℕ) (r : Result (Vec Item Global) PageFault) (damage : Damage) → is_form bytes ≡ true → IfErr r (IsGathered bytes node) → IsErrOf r (Damaged damage) → ⊥
-sound-form bytes node (Ok x) damage form cause e = cc
-sound-form bytes node (Err fault) damage form cause e =
-    let same : fault ≡ Damaged damage = same-fault {T = Vec Item Global} fault (Damaged damage) e in
-    ⊎_elim (λ (m : fault ≡ Memory). let k : Damaged damage ≡ Memory = sym same ∙ m in cc) (λ d. let f : is_form bytes ≡ false = d.2 in cc) cause

@@ -18,10 +18,6 @@ pub few-more : (n : ℕ) (front : List Item) (o : Option Item) → length front 
 few-more n front None l = let a = length-append front [] in omega arith
 few-more n front (Some item) l = let a = length-append front (listed_item (Some item)) in omega arith
 
-pub not-form : (b : Bool) → (b ≡ true → ⊥) → b ≡ false
-not-form true h = absurd (h refl)
-not-form false h = refl
-
 pub all-listed : (P : Item → Type 0) (o : Option Item) → IfSome o P → AllByRecursion P (listed_item o)
 all-listed P None h = tt
 all-listed P (Some item) h = (h, tt)

@@ -1,5 +1,4 @@
 //! A ranked search as an opener of nodes.
-ghost use Rattle.std.specs.Prelude.{◌≡◌, ◌≤◌, None};
 ghost use Rattle.std.proofs.Props.{props};
 ghost use Rattle.spatial_base.specs.Point.{IsOnMap};
 

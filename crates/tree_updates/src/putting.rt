@@ -1,5 +1,5 @@
 //! The entry of a place that is put.
-ghost use Rattle.std.specs.Prelude.{◌≡◌, ◌≢◌, ◌⊎◌, ℕ, List, Some, IfSome, OnOk, OnErr, IsErrOf, MatchOption, option_map};
+ghost use Rattle.std.specs.Prelude.{◌≢◌, ◌⊎◌, ℕ, List, Some, IfSome, OnOk, IsErrOf, MatchOption, option_map};
 ghost use Rattle.std.specs.Option.{option_copied};
 ghost use Rattle.page_face.specs.Calls.{Changes, FailsChanging};
 ghost use Rattle.btree_nodes.specs.Damages.{AreTold, AsksOnly};
