@@ -17,10 +17,6 @@ pub some-mapped : {T U : Type 0} (o : Option T) (f : T → U) → IsSome (option
 some-mapped None f none = none
 some-mapped (Some x) f some = refl
 
--- page 0 in its range has them so
-pub range-numbers : (block : Superblock) → IsInRange block → AreHeadNumbers block.head
-range-numbers block range = record { number = range.number; serial = range.serials; words = range.words; last = tt }
-
 -- where no words are held ahead it doesn't matter which updates are left
 pub numbers-plain : (left left' : List Update) (head : Head) → AreNumbersAhead None left head → AreNumbersAhead None left' head
 numbers-plain left left' head are = record { number = are.number; serial = are.serial; words = are.words; last = tt }
@@ -82,7 +78,3 @@ pub numbers-ended : (held : Option (List (List ℕ × ℕ))) (left : List Update
 numbers-ended None left head none are = numbers-plain left [] head are
 numbers-ended (Some numbers) [] head none are = let words = are.words in record { number = are.number; serial = are.serial; words = omega (arith, words); last = tt }
 numbers-ended (Some numbers) (update ∷ left) head none are = absurd (omega (arith, none))
-
--- the head that was made, or the one before it
-pub numbers-new : (old made new : Head) → AreHeadNumbers old → AreHeadNumbers made → (new ≡ made) ⊎ (new ≡ old) → AreHeadNumbers new
-numbers-new old made new before after = ⊎_elim (λ (is : new ≡ made). subst AreHeadNumbers (sym is) after) (λ (is : new ≡ old). subst AreHeadNumbers (sym is) before)

@@ -4,4 +4,5 @@ pub mod Faults
 pub mod Holding
 pub mod Opening
 pub mod Queries
+pub mod Shown
 pub mod Updates

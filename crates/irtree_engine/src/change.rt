@@ -1,5 +1,5 @@
 //! One update, or a batch of them, of the tables, the tree and page 0's fields, over any pages.
-ghost use Rattle.std.specs.Prelude.{◌≡◌, ℕ, ◌≤◌, ◌<◌, ◌+◌, ◌^◌, ◌↔◌, List, ◌∷◌, Option, Ok, Err, IsTrue, IfOk, IfErr, OnOk, IsErrOf, length, option_map, ◌≢◌};
+ghost use Rattle.std.specs.Prelude.{◌≡◌, ◌≤◌, ◌<◌, ◌+◌, ◌^◌, ◌↔◌, List, ◌∷◌, Option, Ok, Err, IsTrue, IfOk, IfErr, OnOk, IsErrOf, length, option_map, ◌≢◌};
 ghost use Rattle.std.specs.List.{AllByRecursion};
 ghost use Rattle.page_face.specs.Causes.{Rose};
 ghost use Rattle.btree_nodes.specs.Damages.{AreTold};

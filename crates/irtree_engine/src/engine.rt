@@ -1,5 +1,5 @@
 //! The engine, its count, and what it says.
-ghost use Rattle.std.specs.Prelude.{◌≡◌, ◌≢◌, ◌≤◌, ◌<◌, ◌+◌, true, false, IsTrue, IfOk, IfErr, OnOk, OnErr, IsErrOf, ◌↔◌, ℕ, [], length};
+ghost use Rattle.std.specs.Prelude.{◌≡◌, ◌≢◌, ◌≤◌, ◌<◌, true, false, IsTrue, IfOk, IfErr, OnOk, OnErr, IsErrOf, ◌↔◌, ℕ, [], length};
 ghost use Rattle.disk_model.specs.World.{LeavesOnly, HasSaid, HasSinkCause, ReadsJournalOnly, Rose};
 ghost use Rattle.page_journal.specs.Record.{IsBad};
 ghost use Rattle.page_store.specs.Contents.{IsCommitted};

@@ -2,7 +2,7 @@
 ghost use Rattle.std.specs.Prelude.{◌≡◌, ◌≢◌, ◌≤◌, IsTrue, IfOk, IfErr, IsErrOf, ℕ};
 ghost use Rattle.disk_model.specs.World.{LeavesOnly, Rose};
 ghost use Rattle.page_journal.specs.Record.{StandsAlike, IsBad};
-ghost use Rattle.page_store.specs.Opening.{IsOpened, SaysNothingReadsHead, HasOpenCause, head_damage};
+ghost use Rattle.page_store.specs.Opening.{IsOpened, SaysNothingReadsHead, head_damage};
 ghost use Rattle.place_map.specs.State.{Contents};
 ghost use Rattle.irtree_engine.specs.Holding.{HasBrokenHead, HoldsState, IsForeign, LeavesState, StandsForNone};
 ghost use Rattle.irtree_engine.specs.Faults.{IsOpenFault};

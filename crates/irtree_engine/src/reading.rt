@@ -8,6 +8,7 @@ ghost use Rattle.irtree_engine.specs.Damages.{IsShownDamage, IsShownDamageIn};
 ghost use Rattle.irtree_engine.specs.Holding.{HoldsState};
 ghost use Rattle.irtree_engine.specs.Faults.{IsReadFault};
 ghost use Rattle.irtree_engine.specs.Queries.{contents_held};
+ghost use Rattle.irtree_engine.specs.Shown.{IsShownBy};
 
 use crate::change::tables_of;
 use crate::{Engine, EngineFault};
@@ -27,6 +28,8 @@ impl<'d, D: Station> Engine<'d, D> {
         ensures same_loan { self.new.store.disk.ghost_name ≡ self.old.store.disk.ghost_name }
         ensures shown { IsTrue D.tells → (state : Contents) → HoldsState (D.world self.old.store.disk.now) state
             → IfOk result (λ shown. shown ≡ place_at key.now state.places) }
+        // Whatever the image stands for, each page on the ways kept the rules in its place, and the place, or none, is what the rows there say.
+        ensures kept { IsTrue D.tells → IfOk result (IsShownBy (contents_held (D.world self.old.store.disk.now).seen) key.now) }
         ensures honest { IsTrue D.tells → (state : Contents) → HoldsState (D.world self.old.store.disk.now) state
             → (damage : Damage) → ¬ IsErrOf result (EngineFault.Damaged damage) }
 

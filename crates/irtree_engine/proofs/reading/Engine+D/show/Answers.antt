@@ -15,6 +15,8 @@ use Rattle.irtree_engine.specs.Damages.{IsShownDamage}
 use Rattle.irtree_engine.specs.Holding.{HoldsState}
 use Rattle.irtree_engine.specs.Faults.{fault_of_pages}
 use Rattle.irtree_engine.specs.Queries.{contents_held}
+use Rattle.irtree_engine.specs.Shown.{IsShownBy}
+use Rattle.place_updates.specs.Shown.{IsPlaceFound}
 use Rattle.irtree_engine.proofs.Logs.{logged, logged-none}
 use Rattle.irtree_engine.proofs.NoHead.{shown-spares_head}
 use Rattle.irtree_engine.proofs.Standing.{committed-held, committed-stand, damaged-from, stand-counted, stand-known, store-told}
@@ -116,3 +118,20 @@ returns-in_err-place_at-clause-no_head g c = λ t damage is.
     let was : fault_of_pages c.in_err-place_at.field-0.0 ≡ Damaged damage = cc in
     let told = store-told g.D.Disk.tells (applied (g.D.Disk.world store.disk.now).seen) store.overlay store.current.counted t store.sized in
     shown-spares_head _ _ _ _ _ _ damage (c.place_at.ensures.damaged told damage (c.in_err-place_at.was ∙ ap Err (damaged-from _ damage was)))
+
+pub returns-clause-kept : goal.returns-clause-kept
+returns-clause-kept g c = λ t.
+    let world = g.D.Disk.world in
+    let on = c.clear_log.ensures.stopped ∙ sym c.args.self.now.stops ∙ c.if-self.false in
+    let clean = ap (λ (o : Overlay). o.entries) c.clear_log.ensures.overlay ∙ c.args.self.now.clean in
+    let settled = c.clear_log.ensures.current ∙ c.args.self.now.settled ∙ sym c.clear_log.ensures.last in
+    let store = c.clear_log.new.self in
+    let tables_are : c.tables_of-tables.result ≡ tables_in store.current.head = c.tables_of-tables.ensures ∙ ap tables_in c.head.ensures in
+    let told = store-told g.D.Disk.tells (applied (world store.disk.now).seen) store.overlay store.current.counted t store.sized in
+    let pages : PageMap = counted_pages store.current.counted (shown g.D.Disk.tells (applied (world store.disk.now).seen) store.overlay) in
+    let held = contents_held (world c.args.self.now.store.disk.now).seen in
+    let same : ◌≡◌ {A = stores.Contents} (record { block = store.current; pages = pages }) held =
+    committed-held g.D.Disk.tells (world store.disk.now) store.overlay store.current store.last store.end t clean settled (store.ready t on)
+    ∙ (λ i. contents_held (world (c.clear_log.ensures.disk i).now).seen) in
+    subst (λ (s : stores.Contents). IsShownBy s c.args.key.now c.in_ok-place_at.field-0) same
+    (subst (λ (tables : Tables). IsPlaceFound pages store.current.counted tables c.args.key.now c.in_ok-place_at.field-0) tables_are (c.in_ok-place_at.ensures.kept told))
