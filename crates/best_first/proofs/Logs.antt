@@ -65,7 +65,3 @@ asks_looked is_node page (Err NoRoom) old new e = rw e (asks_one is_node page ol
 asks_looked is_node page (Err Stopped) old new e = rw e (asks_none is_node (page ∷ []) old)
 asks_looked is_node page (Err (Damaged damage)) old new e = rw e (asks_one is_node page old)
 asks_looked is_node page (Err Memory) old new e = rw e (asks_none is_node (page ∷ []) old)
-
--- a look that wasn't refused has asked for its page
-pub since_looked : (page : ℕ) (old new : List ℕ) → new ≡ old ++ page ∷ [] → AskedSince old new page
-since_looked page old new e = record { front = []; back = []; is = e }

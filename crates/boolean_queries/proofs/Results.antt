@@ -7,11 +7,6 @@ pub ok-always : {A B : Type 0} (r : Result A B) (P : A → Type 0) → ((a : A) 
 ok-always (Ok a) P h = h a
 ok-always (Err e) P h = tt
 
--- what follows from it
-pub ok-then : {A B : Type 0} (r : Result A B) (P Q : A → Type 0) → ((a : A) → P a → Q a) → IfOk r P → IfOk r Q
-ok-then (Ok a) P Q f h = f a h
-ok-then (Err e) P Q f h = tt
-
 -- what holds at any rate
 pub on-always : {A B : Type 0} (r : Result A B) (P : Type 0) → P → OnOk r P
 on-always (Ok a) P h = h

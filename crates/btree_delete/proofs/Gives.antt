@@ -1,15 +1,9 @@
 -- Pages that are given back.
 use Rattle.std.proofs.Common.{◌≡◌, ℕ, ◌<◌, ◌≤◌, List, ◌∷◌, arith, refl, sym, ap, subst, inl, inr}
-use Rattle.std.proofs.lemmas.Bool.Decides.{nat_tests}
 use Rattle.page_face.specs.FreeList.{PageMap, IsFreeList, IsFreePage, next_free}
 use Rattle.page_face.specs.Causes.{IsUncounted}
-use Rattle.btree_nodes.specs.Supply.{one_at, times, spare, uncounted, view, IsSupplied, Moves}
+use Rattle.btree_nodes.specs.Supply.{one_at, times, spare, view, IsSupplied, Moves}
 use Rattle.btree_nodes.proofs.Supplies.{one_at-same, chain-frame, none}
-
--- a page that isn't spare is counted
-pub counted-page : (count page : ℕ) → uncounted count page ≡ 0 → page < count
-unfolding uncounted
-counted-page count page h = grind (arith, nat_tests)
 
 -- a page that isn't 0 or uncounted
 pub page-some : (count page : ℕ) → (IsUncounted count page → ⊥) → 0 < page × page < count

@@ -59,12 +59,6 @@ half-shared width n big =
     (λ g. let a = mul-le-mul_left {m = n} {n = 4080 / width} width g in
     let b : width * (4080 / width) ≤ 4080 = mul-div-le 4080 width in absurd (omega arith)) (cases_lt (4080 / width) n)
 
--- neither half is more than the more of two pages
-pub half-fits : (width m n : ℕ) → width * m ≤ 4080 → width * n ≤ 4080 → width * (m + n - (m + n) / 2) ≤ 4080
-half-fits width m n h k =
-    ⊎_elim (λ l. let a = mul-le-mul_left {m = m + n - (m + n) / 2} {n = n} width (omega arith) in omega arith)
-    (λ g. let a = mul-le-mul_left {m = m + n - (m + n) / 2} {n = m} width (omega arith) in omega arith) (cases_lt m n)
-
 pub halved-becomes : (form : Form) (before : View) (new : PageMap) (count' first' level left right low high half rest : ℕ) (bytes : List ℕ)
     → IsBody form before.pages level low high (half + suc rest) bytes
     → ((k : ℕ) → one_at left k + one_at right k + body_uses form before.pages level (half + suc rest) bytes k + spare_in before k ≤ 1)

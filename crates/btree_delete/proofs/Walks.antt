@@ -41,14 +41,6 @@ damage-rule form pages count damage least (suc level) page low high bytes rule f
     let same : record { page = page; rule = rule } ≡ damage = cc in
     subst (λ (d : Damage). IsDamaged form pages count d least (suc level) page low high) same (inl (refl, inr (subst (λ (b : List ℕ). BreaksInner rule form least (suc level) low high b) is h)))
 
--- a page that is asked for now
-pub asked-now : (mine : ℕ → ℕ) (before middle after : List ℕ) (page : ℕ) → AsksOnly mine before middle → after ≡ middle ++ page ∷ [] → AskedSince before after page
-asked-now mine before middle after page m e = record {
-  front = m.more;
-  back = [];
-  is = e ∙ ap (λ (x : List ℕ). x ++ page ∷ []) m.is ∙ append_assoc before m.more (page ∷ []);
-}
-
 -- a page asked for before the first of these, where that one was itself asked for later than this
 pub asked-from : (before middle after : List ℕ) (first page : ℕ) → AskedSince before middle first → AskedSince middle after page → AskedSince before after page
 asked-from before middle after first page a b = record {

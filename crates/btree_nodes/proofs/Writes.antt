@@ -22,9 +22,6 @@ spliced cells first second a b d e at until order within long p q r s =
     ∙ ap (λ (x : List ℕ). x ++ drop until cells) (append_assoc (take at cells) first second)
     ∙ append_assoc (take at cells) (first ++ second) (drop until cells)
 
-pub drop-behind : (n m : ℕ) (xs : List ℕ) → drop n xs ≡ replicate (4096 - n) 0 → n + m ≤ 4096 → drop (n + m) xs ≡ replicate (4096 - n - m) 0
-drop-behind n m xs h k = sym (drop-drop m n xs) ∙ ap (drop m) h ∙ drop-replicate m (4096 - n) 0
-
 pub built : (number kind level count : ℕ) (be cells a b : List ℕ) → be ≡ to_be_bytes w16 count
     → a ≡ kind ∷ (number ∷ (get_or be 0 0 ∷ (get_or be 1 0 ∷ (level ∷ replicate 4091 0))))
     → b ≡ take 16 a ++ (cells ++ drop (16 + length cells) a) → b ≡ image number kind level count cells

@@ -51,9 +51,6 @@ reads_read {result = Err e} h = ⊎_elim reads_same (λ is. record { more = _; a
 
 -- ---- runs that write nothing
 
-pub rested_start : (w : World) → WritesNothing w w
-rested_start w = record { seen = refl; crash = λ image may. may; adds = started w; said = refl; reads = reads_same refl }
-
 pub rested_then : {a b c : World} → WritesNothing a b → WritesNothing b c → WritesNothing a c
 rested_then ab bc = record {
   seen = bc.seen ∙ ab.seen;
@@ -98,24 +95,6 @@ module _ {K : Area → ℕ → Type 0} where
         said = bc.said ∙ ab.said;
         reads = reads_then ab.reads (reads_same bc.reads);
       }
-
-  pub keeps_at_sync : {T : Type 0} {a b c : World} {area : Area} {result : Result T Failed} → Keeps K a b → HasSynced area b c result → Keeps K a c
-  keeps_at_sync {a = a} {b = b} {c = c} ab bc = record {
-    seen = λ r i k. ap (λ (m : Image). m r i) bc.rests.seen ∙ ab.seen r i k;
-    may = λ image may. ab.may image (bc.rests.crash image may);
-    adds = then ab.adds (rested bc.rests.time.adds);
-    said = bc.said ∙ ab.said;
-    reads = reads_then ab.reads (reads_same bc.reads);
-  }
-
-  pub keeps_at_rested : {a b c : World} → Keeps K a b → WritesNothing b c → Keeps K a c
-  keeps_at_rested {a = a} {b = b} {c = c} ab bc = record {
-    seen = λ r i k. ap (λ (m : Image). m r i) bc.seen ∙ ab.seen r i k;
-    may = λ image may. ab.may image (bc.crash image may);
-    adds = then ab.adds (rested bc.adds);
-    said = bc.said ∙ ab.said;
-    reads = reads_then ab.reads bc.reads;
-  }
 
   -- a phase that comes after calls that write nothing
   pub keeps_at_later : {a b c : World} → WritesNothing a b → Keeps K b c → Keeps K a c

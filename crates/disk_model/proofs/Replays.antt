@@ -10,7 +10,7 @@ use Rattle.disk_model.specs.declared.disk.Failed.{Failed}
 use Rattle.disk_model.specs.declared.call.Call.{Call}
 use Rattle.disk_model.specs.declared.call.Call.TheVariants as calls
 use Rattle.disk_model.specs.World.{Image, Range, Torn, TornFrom, Written, Reads, Elapses, Nothing, HasRead, HasWritten, HasSynced, HasSaid}
-use Rattle.disk_model.specs.Stored.{stored, Put}
+use Rattle.disk_model.specs.Stored.{Put}
 use Rattle.disk_model.specs.Replay.{same_area, covers, IsFree, State, MayLeave, overwritten, others, range_of, step, replay, During, Since, reads_in, world_of, counts_now}
 
 pub replay-more : (st : State) (made : List Call) (call : Call) → replay st (made ++ call ∷ []) ≡ step (replay st made) call
@@ -375,16 +375,6 @@ put_at area at i bytes old new p =
     (λ (g : at + length bytes ≤ i). p.above i g ∙ sym (cond-false _ _ _ (out (inr g))))
     (cases_lt i (at + length bytes)))
     (cases_lt i at)
-
-pub put_pages : (pages journal new bytes : List ℕ) (area : Area) (at : ℕ) → area ≡ Pages → Put at bytes pages new → stored new journal ≡ overwritten (range_of area at (length bytes)) bytes (stored pages journal)
-put_pages pages journal new bytes area at is p =
-    let each : (a : Area) (i : ℕ) → stored new journal a i ≡ overwritten (range_of Pages at (length bytes)) bytes (stored pages journal) a i = elim [ Pages ↦ λ i. put_at Pages at i bytes pages new p | Journal ↦ λ i. refl ] in
-    fun_ext (λ a. fun_ext (each a)) ∙ ap (λ (r : Area). overwritten (range_of r at (length bytes)) bytes (stored pages journal)) (sym is)
-
-pub put_journal : (pages journal new bytes : List ℕ) (area : Area) (at : ℕ) → area ≡ Journal → Put at bytes journal new → stored pages new ≡ overwritten (range_of area at (length bytes)) bytes (stored pages journal)
-put_journal pages journal new bytes area at is p =
-    let each : (a : Area) (i : ℕ) → stored pages new a i ≡ overwritten (range_of Journal at (length bytes)) bytes (stored pages journal) a i = elim [ Pages ↦ λ i. refl | Journal ↦ λ i. put_at Journal at i bytes journal new p ] in
-    fun_ext (λ a. fun_ext (each a)) ∙ ap (λ (r : Area). overwritten (range_of r at (length bytes)) bytes (stored pages journal)) (sym is)
 
 -- ---- a station that was just made
 

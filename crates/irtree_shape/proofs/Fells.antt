@@ -3,14 +3,14 @@ use Rattle.std.proofs.Common.{◌≡◌, ℕ, zero, suc, ◌+◌, ◌<◌, ◌�
 use Rattle.page_face.specs.FreeList.{PageMap}
 use Rattle.btree_nodes.specs.Supply.{one_at}
 use Rattle.btree_nodes.proofs.Supplies.{one_at-same, one_at-other, none}
-use Rattle.rtree_shape.specs.Slots.{Item, NodeMap, one, amount, filled, Held}
+use Rattle.rtree_shape.specs.Slots.{Item, NodeMap, amount, filled, Held}
 use Rattle.rtree_shape.specs.Trees.{below, uses, IsItem, IsNode, IsTree, node_below, node_uses, root_least}
 use Rattle.rtree_shape.specs.Stock.{View, view, spare_in}
 use Rattle.rtree_shape.specs.Made.{Reads}
 use Rattle.rtree_shape.specs.Loose.{Loose, AllLoose, Leads, IsAt, out_below}
-use Rattle.rtree_shape.proofs.Amounts.{amount-same, same_or}
+use Rattle.rtree_shape.proofs.Amounts.{same_or}
 use Rattle.rtree_shape.proofs.Frames.{item-frame}
-use Rattle.rtree_shape.proofs.Fells.{least-between, amount-single, loose-none}
+use Rattle.rtree_shape.proofs.Fells.{least-between, amount-single}
 use Rattle.irtree_shape.specs.Stock.{Moves}
 use Rattle.irtree_shape.specs.Made.{nodes_in, IsBlank}
 use Rattle.irtree_shape.specs.Loose.{IsTaking, TakesOut, IsStanding}
@@ -66,14 +66,6 @@ whole_taking reads v root path x some whole leads =
       away = let a = whole.away in let u = uses_are 0 in omega arith;
       blank = whole.blank;
     }
-
--- a leaf with one slot of which nothing is left has let nothing go
-pub leaf-nothing : (reads : Reads) (v : View) (pages : PageMap) (rows count first root : ℕ) (x : Item) (loose : Loose)
-    → TakesOut reads v pages rows count first 1 0 root x None [] loose → filled (nodes_in reads v.pages v.rows root).slots ≤ 1 → loose ≡ []
-leaf-nothing reads v pages rows count first root x loose out few =
-    let s = out.sum_is one in
-    let a = amount-same (λ y. below (nodes_in reads v.pages v.rows) one zero y) one (nodes_in reads v.pages v.rows root).slots (nodes_in reads v.pages v.rows root).slots (λ i l. refl) in
-    loose-none (nodes_in reads pages rows) loose out.items (omega arith)
 
 -- what a root and the loose items have together, when the item is out and none has been put back
 abbrev pub left_sums : NodeMap → ℕ → ℕ → Loose → (Item → ℕ) → ℕ

@@ -6,7 +6,7 @@ use Rattle.std.proofs.Math.Seq.{take-suc, take-length}
 use Rattle.json_spelled.specs.Grammar.{Begins}
 use Rattle.json_spelled.specs.Kind.{kind}
 use Rattle.json_spelled.specs.Machine.{State, step, start}
-use Rattle.json_spelled.specs.Reader.{state_of, state_by, use_of, frames_of, Goes, Fails, ReadyIn, Finishes}
+use Rattle.json_spelled.specs.Reader.{state_of, state_by, use_of, frames_of, Goes, Fails, ReadyIn}
 use Rattle.json_spelled.specs.Reading.{KeepsText, ReadsSo, StopsAt, refusal_of}
 use Rattle.json_spelled.specs.Refusals.{level_limit, BeginsSome}
 use Rattle.json_spelled.specs.declared.fault.StepFault.{StepFault}
@@ -76,10 +76,6 @@ ready_by _ reader bytes more byte k of whole h = tt
 pub ready : (reader : Reader) (text : List ℕ) (i : ℕ) → i < length text → IsUtf8 text → ReadsSo (take i text) (state_of reader) → ReadyIn reader.lexeme (kind (get_or text i 0)) reader.token.items
 ready reader text i short utf8 r = ready_by reader.lexeme reader (take i text) (drop (suc i) text) (get_or text i 0) (kind (get_or text i 0)) (kind_is (get_or text i 0))
     (subst IsUtf8 (sym (cut_at text i short)) utf8) r.keeps
-
--- what the end ends is whole characters
-pub finishes : (reader : Reader) (text : List ℕ) → ReadsSo text (state_of reader) → Finishes reader.lexeme reader.token.items
-finishes reader text r part e = (subst (λ (l : Lexeme). KeepsText text (state_by l reader)) e r.keeps).1
 
 -- all was read
 pub reads_all : (text : List ℕ) (state : State) → ReadsSo (take (length text) text) state → ReadsSo text state

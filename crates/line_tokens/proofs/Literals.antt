@@ -92,12 +92,6 @@ module _ (bytes : List ℕ) (at : ℕ) (inside : at < length bytes) where
   pub at_mark : get_or bytes at 0 ≡ 34 → behind (drop at bytes) ≡ Some (drop (suc at) bytes)
   at_mark is = rw here (behind_mark (get_or bytes at 0) (drop (suc at) bytes) is)
 
-  pub at_control : get_or bytes at 0 < 32 → behind (drop at bytes) ≡ None
-  at_control small =
-      let a : nat_eq (get_or bytes at 0) 92 ≡ false = grind (arith, nat_tests) in
-      let b : nat_le 32 (get_or bytes at 0) ≡ false = grind (arith, nat_tests) in
-      rw here (behind_no_piece (get_or bytes at 0) (drop (suc at) bytes) (λ e. absurd (omega arith)) (rw (a, b) refl))
-
   pub at_plain : get_or bytes at 0 ≢ 34 → get_or bytes at 0 ≢ 92 → 32 ≤ get_or bytes at 0 → behind (drop at bytes) ≡ behind (drop (suc at) bytes)
   at_plain mark slash big =
       let a : nat_eq (get_or bytes at 0) 34 ≡ false = grind (arith, nat_tests) in

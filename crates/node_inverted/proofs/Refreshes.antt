@@ -1,12 +1,12 @@
 -- A slot that is refreshed, word by word.
-use Rattle.std.proofs.Common.{◌≡◌, ℕ, suc, ◌+◌, ◌-◌, ◌^◌, ◌<◌, ◌≤◌, inl, inr, arith, refl, sym, ap, ◌∙◌, Option, Some, None, List, [], ◌∷◌, ◌++◌, if◌then◌else◌, ◌==◌, true, false, Bool, nat_lt, slice_index}
+use Rattle.std.proofs.Common.{◌≡◌, ℕ, ◌+◌, ◌^◌, ◌<◌, ◌≤◌, inl, inr, arith, refl, sym, ap, ◌∙◌, Option, Some, None, List, [], ◌∷◌, ◌++◌, if◌then◌else◌, ◌==◌, true, false, Bool, nat_lt, slice_index}
 use Rattle.std.proofs.lemmas.Bool.Decides.{nat_tests}
 use Rattle.page_face.specs.FreeList.{PageMap}
 use Rattle.btree_nodes.specs.Supply.{View}
 use Rattle.rtree_shape.proofs.Amounts.{same_or}
 use Rattle.node_rows.specs.Rows.{Bytes, IsRows, bytes_in}
 use Rattle.node_rows.specs.Turns.{Turns, Next}
-use Rattle.node_rows.specs.Ascents.{until, left_from}
+use Rattle.node_rows.specs.Ascents.{until}
 use Rattle.node_rows.specs.Impacts.{with_byte, refreshed, top_at}
 use Rattle.node_inverted.specs.Refreshing.{IsFrom, word_of, lesser_of, byte_ahead, IsRefreshing, IsBounded, is_named, on_words}
 use Rattle.node_rows.proofs.Lookups.{less_or}
@@ -125,13 +125,6 @@ refreshed-all before root pages count first rows node slot child b None None bou
 refreshed-all before root pages count first rows node slot child b None (Some p) bounded e h = cc
 refreshed-all before root pages count first rows node slot child b (Some o) None bounded e h = cc
 refreshed-all before root pages count first rows node slot child b (Some o) (Some p) bounded e h = cc
-
--- each row ahead is behind this word
-pub less-left : (below above : Option (ℕ × List ℕ)) (word : ℕ) → word < 2 ^ 64 → IsFrom (word + 1) below → IsFrom (word + 1) above → left_from (lesser_of (word_of below) (word_of above)) < suc (2 ^ 64 - word)
-less-left None None word s a b = omega arith
-less-left None (Some p) word s a b = omega arith
-less-left (Some o) None word s a b = omega arith
-less-left (Some o) (Some p) word s a b = elim (nat_lt p.0 o.0) as (λ x. suc (2 ^ 64 - (if x then p.0 else o.0)) < suc (2 ^ 64 - word)) [ true ↦ omega arith | false ↦ omega arith ]
 
 -- another word isn't named by one more
 pub named-push : (ps : List (ℕ × ℕ)) (p : ℕ × ℕ) (w : ℕ) → (p.0 ≡ w → ⊥) → is_named (ps ++ p ∷ []) w ≡ is_named ps w

@@ -181,12 +181,6 @@ pairs-found n es = ap is_some (pairs-lookup (nat_eq n) es) ∙ some-value (looku
 pub pairs-none : (n : ℕ) (es : Boxes) → lookup (nat_eq n) es ≡ None → bytes_at n (pairs_in es) ≡ None
 pairs-none n es none = pairs-lookup (nat_eq n) es ∙ ap (λ (o : Option (Box (List ℕ) Global)). option_map (λ (b : Box (List ℕ) Global). b.value) o) none
 
-pub none_from_false : (n : ℕ) (pairs : Pairs) → is_some (bytes_at n pairs) ≡ false → bytes_at n pairs ≡ None
-none_from_false n pairs f = (elim (bytes_at n pairs) as (λ o. is_some o ≡ false → o ≡ None) [
-  | None ↦ λ h. refl
-  | Some b ↦ λ h. absurd (false≢true (sym h))
-]) f
-
 -- the page used goes first
 pub pairs-promoted : (n : ℕ) (es : Boxes) → pairs_in (promoted (nat_eq n) es) ≡ to_front n (pairs_in es)
 pairs-promoted n es = by (lookup_entry (nat_eq n) es) ∙ sym (ap (λ (o : Option (ℕ × List ℕ)). option_map_or (λ e. e ∷ remove_entry (nat_eq n) (pairs_in es)) o (pairs_in es)) (pairs-entry (nat_eq n) es))
@@ -201,9 +195,6 @@ bytes-to_front n k pairs = lookup-promoted n k pairs
 
 pub first-to_front : (n : ℕ) (pairs : Pairs) → is_some (bytes_at n pairs) ≡ true → first_bytes (to_front n pairs) ≡ bytes_at n pairs
 first-to_front n pairs there = first-promoted n pairs there
-
-pub to_front-none : (n : ℕ) (pairs : Pairs) → bytes_at n pairs ≡ None → to_front n pairs ≡ pairs
-to_front-none n pairs none = promoted_none n pairs none
 
 -- a page that is put goes first
 pub pairs-put : (es : Boxes) (room n : ℕ) (held : Box (List ℕ) Global) → length es ≤ room → 0 < room → pairs_in (put_entries nat_eq (lru_cache es room) n held) ≡ with_first room n held.value (pairs_in es)

@@ -1,11 +1,10 @@
 -- Pages with a batch written.
-use Rattle.std.proofs.Common.{◌≡◌, ◌≢◌, ◌⊎◌, inl, inr, ⊎_elim, ℕ, zero, suc, ◌+◌, ◌*◌, ◌/◌, ◌%◌, ◌<◌, ◌≤◌, ◌==◌, if◌then◌else◌, List, [], ◌∷◌, length, slice_index, drop, get_or, Box, eq-eqb, add-one, Result, Ok, Err, OnOk, refl, sym, ◌∙◌, ap, ap₂, subst, arith}
+use Rattle.std.proofs.Common.{◌≡◌, ◌≢◌, ◌⊎◌, inl, inr, ⊎_elim, ℕ, zero, suc, ◌+◌, ◌*◌, ◌/◌, ◌%◌, ◌<◌, ◌≤◌, ◌==◌, if◌then◌else◌, List, [], ◌∷◌, length, slice_index, get_or, Box, eq-eqb, add-one, Result, Ok, Err, OnOk, refl, sym, ◌∙◌, ap, ap₂, subst, arith}
 use Rattle.std.specs.Map.{keys_of}
 use Rattle.std.specs.List.Sorted.{IsStrictlySortedBy}
 use Rattle.std.specs.Ordering.{nat_cmp}
 use Rattle.std.proofs.lemmas.Map.Keys.{below_from_sorted}
 use mathlib.Core.Path.{fun_ext}
-use Rattle.std.proofs.lemmas.List.{drop_more}
 use Rattle.std.proofs.lemmas.Bool.{cases_lt, cases_eq, ne_eqb, cond-true, cond-false}
 use Rattle.std.specs.declared.alloc.Global.{Global}
 use Rattle.disk_model.specs.World.{Image, Written}
@@ -19,10 +18,6 @@ length_given (e ∷ entries) = ap (λ (n : ℕ). suc n) (length_given entries)
 pub on_ok_from : {T E P : Type 0} (r : Result T E) → P → OnOk r P
 on_ok_from (Ok x) p = p
 on_ok_from (Err e) p = tt
-
--- the entry at a place, and those after it
-pub next_entry : (entries rest : List (ℕ × List ℕ)) (e : ℕ × List ℕ) (k : ℕ) → e ∷ rest ≡ drop k entries → k < length entries → (get_or entries k (0, []) ≡ e) × (rest ≡ drop (k + 1) entries)
-next_entry entries rest e k is lt = let d = drop_more entries k (0, []) lt in (cc, cc)
 
 -- ---- pages with a batch written
 

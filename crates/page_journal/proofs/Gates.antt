@@ -4,7 +4,7 @@ use mathlib.Core.Path.{fun_ext}
 use Rattle.std.proofs.lemmas.Bool.{cases_lt, cases_eq, ne_eqb, cond-true, cond-false}
 use Rattle.disk_model.specs.World.{World, Image}
 use Rattle.disk_model.specs.declared.disk.Area.TheVariants.{Pages, Journal}
-use Rattle.page_journal.specs.Record.{Batch, word, batch_at, next_gate, written_up_to, with_batch, IsRecordAt, gate_of, with_records, first_closed, record_count, journal_end, IsJournal, HasRecords, applied, StandsFor, IsReady, IsFirstFault, IsBad}
+use Rattle.page_journal.specs.Record.{Batch, word, batch_at, next_gate, written_up_to, with_batch, IsRecordAt, gate_of, with_records, first_closed, record_count, journal_end, IsJournal, HasRecords, applied, StandsFor, IsReady}
 use Rattle.page_journal.proofs.Batches.{same_up_to, untouched}
 
 -- ---- gates
@@ -271,14 +271,6 @@ stands_closed image closed =
     let has = none_at_closed (image Journal) closed in
     (is_journal (image Journal) 0 has, sym (applied_is image 0 has ∙ records_none (image Journal) (image Pages)))
 
--- an image stands for the pages of one kind alone
-pub stands_one : (image : Image) (p q : ℕ → ℕ) → StandsFor image p → StandsFor image q → p ≡ q
-stands_one image p q a b = a.1 ∙ sym b.1
-
--- a ready disk's image stands for its pages with the journal applied
-pub ready_stands : (at : ℕ) (world : World) → IsReady at world → StandsFor world.seen (applied world.seen)
-ready_stands at world ready = (ready.journal, refl)
-
 -- where the journal is empty, the pages are those in the area
 pub ready_0 : (world : World) → IsReady 0 world → applied world.seen ≡ world.seen Pages
 ready_0 world ready =
@@ -287,22 +279,3 @@ ready_0 world ready =
     let none : record_count journal ≡ 0 = omega (arith, ready.end) in
     let has : HasRecords journal 0 = subst (HasRecords journal) none (has_records journal ready.journal) in
     applied_is world.seen 0 has ∙ records_none journal (world.seen Pages)
-
--- a bad journal stands for no pages
-pub bad_none : (image : Image) (at : ℕ) (pages : ℕ → ℕ) → IsBad image at → StandsFor image pages → ⊥
-bad_none image at pages bad stands =
-    let journal = image Journal in
-    let count = record_count journal in
-    ⊎_elim
-    (λ (l : bad.count < count). no_fault journal (gate_of journal bad.count) at (stands.0.records bad.count l) bad.first)
-    (λ (g : count ≤ bad.count). ⊎_elim
-    (λ (l : count < bad.count). (bad.records count l).open_gate stands.0.closed)
-    (λ (h : bad.count ≤ count). let is : bad.count ≡ count = omega arith in bad.open_gate (ap (λ (x : ℕ). journal (gate_of journal x)) is ∙ stands.0.closed))
-    (cases_lt count bad.count))
-    (cases_lt bad.count count)
-  where
-    no_fault : (journal : ℕ → ℕ) (at fault : ℕ) → IsRecordAt journal at → IsFirstFault journal at fault → ⊥
-    no_fault journal at fault r first = ⊎_elim
-        (λ count. ⊎_elim (λ none. let s = r.some in omega (arith, none)) (λ far. let f = r.fits in omega (arith, far)) count.1)
-        (λ order. let a = r.ascending order.0 order.1 in let b = order.5 in omega arith)
-        first

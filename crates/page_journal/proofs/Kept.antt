@@ -9,7 +9,7 @@ use Rattle.std.specs.Cmp.{nat_cmp_is}
 use Rattle.std.specs.declared.alloc.Global.{Global}
 use Rattle.std.proofs.lemmas.Map.Keys.{below_from_sorted}
 use Rattle.std.proofs.lemmas.Bool.{cases_lt, cases_eq, cond-true, cond-false}
-use Rattle.page_journal.specs.Record.{IsAscending, batch_of, kept, written_up_to, with_batch}
+use Rattle.page_journal.specs.Record.{batch_of, kept, written_up_to, with_batch}
 use Rattle.page_journal.proofs.Batches.{page_here, page_elsewhere, with_first, with_empty, untouched}
 
 -- each key is above those before it
@@ -43,12 +43,6 @@ ascends [] keys k lt = absurd (omega arith)
 ascends ((m, Some page) ∷ entries) keys zero lt = kept_above entries m (head_below m (Some page) entries keys) 0 (omega arith)
 ascends ((m, Some page) ∷ entries) keys (suc k) lt = ascends entries (tail_ascends (m, Some page) entries keys) k (omega arith)
 ascends ((m, None) ∷ entries) keys k lt = ascends entries (tail_ascends (m, None) entries keys) k lt
-
--- each page that is there is numbered above the one before it
-pub ascending_kept : (entries : List (ℕ × Option (Box (List ℕ) Global))) → IsStrictlySortedBy nat_cmp (keys_of entries) → IsAscending (batch_of (kept entries))
-ascending_kept entries sorted k lt =
-    let o = ascends entries (keys_ascend entries sorted) k (omega arith) in
-    subst (λ (x : ℕ). (batch_of (kept entries)).number k < (batch_of (kept entries)).number x) (omega arith) o
 
 same_key : (n k : ℕ) → n ≡ k → is_at (nat_cmp n) k ≡ true
 same_key n k e = ap is_eq (sym (nat_cmp_is n k Equal e))

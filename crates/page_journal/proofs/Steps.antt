@@ -7,7 +7,7 @@ use Rattle.disk_model.specs.declared.disk.Area.{Area}
 use Rattle.disk_model.specs.declared.disk.Failed.{Failed}
 use Rattle.disk_model.specs.declared.disk.Area.TheVariants.{Pages, Journal}
 use Rattle.disk_model.proofs.Moments.{started, then, within, reads_same, reads_then, rested as no_pair, keeps_at_later}
-use Rattle.page_journal.specs.Record.{Batch, IsAscending, batch_of, batch_at, next_gate, written_up_to, with_batch, IsRecordAt, gate_of, with_records, record_count, journal_end, IsJournal, HasRecords, applied, StandsFor, LeavesPages, IsBeforeOrAfter, StandsAlike, IsReady, IsOverwritten, OverwritesAlso, AreLastImages, IsRecordOf, SaysNothing, AllBehindGate, AllButGate, AllButPages, AllButRecords, Spares}
+use Rattle.page_journal.specs.Record.{Batch, IsAscending, batch_of, batch_at, next_gate, written_up_to, with_batch, IsRecordAt, gate_of, with_records, record_count, journal_end, IsJournal, HasRecords, applied, StandsFor, LeavesPages, IsBeforeOrAfter, StandsAlike, IsReady, IsOverwritten, OverwritesAlso, AreLastImages, IsRecordOf, AllBehindGate, AllButGate, AllButPages, AllButRecords, Spares}
 use Rattle.page_journal.proofs.Batches.{same_up_to}
 use Rattle.page_journal.proofs.Bytes.{HoldsRecord, holds_record, record_size}
 use Rattle.page_journal.proofs.Gates.{gate_next, gate_first, count_le, count_is, is_journal, has_records, end_is, applied_is, records_none, records_more, none_at_closed, pointwise, batch_either, again, covers, gates_same, records_same, record_same, has_same, has_more, stands_with, stands_closed}
@@ -71,10 +71,6 @@ records_sub j j1 n m at same place lt r i k = λ e.
 -- calls that write nothing leave nothing pending
 pub still_safe : {a b : World} → LeavesOnlySeen a → WritesNothing a b → LeavesOnlySeen b
 still_safe safe ab = λ image may. safe image (ab.crash image may) ∙ sym ab.seen
-
--- two phases say nothing
-pub says_nothing_2 : {K L : Area → ℕ → Type 0} {a b c : World} → Keeps K a b → Keeps L b c → SaysNothing a c
-says_nothing_2 ab bc = record { said = bc.said ∙ ab.said; reads = reads_then ab.reads bc.reads }
 
 -- ---- images that stand for what the start does
 
@@ -311,10 +307,6 @@ module _ (w0 w1 : World) (batch : Batch) (journal : IsJournal (w0.seen Journal))
 module _ (w0 wa w1 : World) (n : ℕ) (ra : WritesNothing w0 wa) (rested : WritesNothing w0 w1) (has_a : HasRecords (wa.seen Journal) n) where
   has_start : HasRecords (w0.seen Journal) n
   has_start = subst (λ (m : Image). HasRecords (m Journal) n) ra.seen has_a
-
-  -- the journal's records as the pages' helper is called
-  pub has_1 : HasRecords (w1.seen Journal) n
-  has_1 = subst (λ (m : Image). HasRecords (m Journal) n) (sym rested.seen) has_start
 
   module _ (none : n ≡ 0) where
     has_none : HasRecords (w0.seen Journal) 0

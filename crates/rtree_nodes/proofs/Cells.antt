@@ -116,9 +116,3 @@ rect-test b w s e n west south east north p q r t h =
     let same : given ≡ made = λ i. record { west = p i; south = q i; east = r i; north = t i } in
     let k : (b ≡ true) ↔ IsRect west south east north = subst (λ (x : Bounds). (b ≡ true) ↔ IsRect x.west x.south x.east x.north) same h in
     (λ yes. rect-to made (k.0 yes), λ yes. k.1 (rect-from made yes))
-
--- and of a point from its two
-pub map-test : (b : Bool) (x y east north : ℤ) → x ≡ east → y ≡ north → ((b ≡ true) ↔ IsOnMap x y) → (b ≡ true) ↔ (is_on_map east north ≡ true)
-map-test b x y east north p q h =
-    let k : (b ≡ true) ↔ IsOnMap east north = subst (λ (z : ℤ). (b ≡ true) ↔ IsOnMap east z) q (subst (λ (z : ℤ). (b ≡ true) ↔ IsOnMap z y) p h) in
-    (λ yes. map-to east north (k.0 yes), λ yes. k.1 (map-from east north yes))

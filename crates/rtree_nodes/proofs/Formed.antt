@@ -125,10 +125,6 @@ pub stored-past : (page : List ℕ) (i : ℕ) → 32 ≤ i → stored_in page i 
 unfolding stored_in
 stored-past page i l = rw (le-ltb i 32 l) refl
 
--- a bit is 0 or 1, and a slot used or not
-pub used-bit : (page : List ℕ) (i : ℕ) → bit_at (mask_of page) i ≡ 1 → is_used page i ≡ true
-used-bit page i e = eq-eqb (bit_at (mask_of page) i) 1 e
-
 pub unused-bit : (page : List ℕ) (i : ℕ) → bit_at (mask_of page) i ≡ 0 → is_used page i ≡ false
 unused-bit page i e = ne_eqb (bit_at (mask_of page) i) 1 (λ k. omega arith)
 

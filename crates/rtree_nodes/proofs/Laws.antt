@@ -28,9 +28,6 @@ item-form page at x e = ⊎_elim
 pub form-bytes : (page : List ℕ) → is_form page ≡ true → 0 < length page
 form-bytes page form = let long = (form-parts page form).long in omega arith
 
-pub item-bytes : (page : List ℕ) (at : ℕ) (x : Item) → slots_in page at ≡ Some x → 0 < length page
-item-bytes page at x e = form-bytes page (item-form page at x e)
-
 -- an item that is put where it stands changes nothing
 pub with-same : (slots : Slots) (at : ℕ) (x : Item) → slots at ≡ Some x → with_slot at x slots ≡ slots
 with-same slots at x e = fun_ext (λ i. ⊎_elim

@@ -3,7 +3,7 @@ use Rattle.std.proofs.Common.{◌≡◌, ℕ, ℤ, zero, suc, ◌<◌, ◌≤◌
 use Rattle.std.specs.Prelude.{◌≤ℤ◌}
 use Rattle.std.specs.Int.{int_max, int_min}
 use Rattle.std.proofs.lemmas.Int.{ints, clamps}
-use Rattle.spatial_base.specs.Point.{Position, IsOnMap}
+use Rattle.spatial_base.specs.Point.{Position}
 use Rattle.spatial_base.specs.Rect.{Bounds, IsRect, Holds, rect_of, joined}
 use Rattle.rtree_nodes.specs.Reach.{below_top, above_bottom, reach_of}
 
@@ -57,11 +57,3 @@ holds-reach r p h (suc zero) = below-le r.south p.y h.south
 holds-reach r p h (suc (suc zero)) = above-le p.x r.east h.east
 holds-reach r p h (suc (suc (suc zero))) = above-le p.y r.north h.north
 holds-reach r p h (suc (suc (suc (suc d)))) = omega arith
-
-pub reach-holds : (r : Bounds) (p : Position) → IsOnMap p.x p.y → ((d : ℕ) → d < 4 → reach_of (rect_of p) d ≤ reach_of r d) → Holds r p
-reach-holds r p on h = record {
-  west = le-below r.west p.x (omega (arith, on.0)) (h 0 (omega arith));
-  east = le-above p.x r.east (omega (arith, on.0)) (h 2 (omega arith));
-  south = le-below r.south p.y (omega (arith, on.1)) (h 1 (omega arith));
-  north = le-above p.y r.north (omega (arith, on.1)) (h 3 (omega arith));
-}

@@ -1,12 +1,6 @@
 -- How large gaps and their squares are.
-use Rattle.std.proofs.Common.{ℕ, ℤ, ◌+◌, ◌*◌, ◌≤◌, unsigned_abs, arith}
+use Rattle.std.proofs.Common.{ℕ, ◌+◌, ◌*◌, ◌≤◌, arith}
 use Rattle.std.proofs.lemmas.Nat.{mul-le}
-use Rattle.std.proofs.lemmas.Int.{ints}
-use Rattle.spatial_base.specs.Point.{gap}
-
--- two numbers are no further apart than both are from 0
-pub gap-le : (a b : ℤ) (m n : ℕ) → unsigned_abs a ≤ m → unsigned_abs b ≤ n → gap a b ≤ m + n
-gap-le a b m n h k = omega (arith, ints)
 
 -- the squared gaps of two points on the map
 pub squares-le : (x y : ℕ) → x ≤ 3600000000 → y ≤ 1800000000 → x * x + y * y ≤ 16200000000000000000

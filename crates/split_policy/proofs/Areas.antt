@@ -12,11 +12,6 @@ pub area-join : (r add : Bounds) → r.west ≤ℤ r.east → r.south ≤ℤ r.n
 unfolding rect_area
 area-join r add across along = mul-le _ _ _ _ (omega (arith, ints, clamps)) (omega (arith, ints, clamps))
 
--- nor than the second
-pub area-join_second : (r add : Bounds) → add.west ≤ℤ add.east → add.south ≤ℤ add.north → rect_area add ≤ rect_area (joined r add)
-unfolding rect_area
-area-join_second r add across along = mul-le _ _ _ _ (omega (arith, ints, clamps)) (omega (arith, ints, clamps))
-
 -- a rectangle that is read is the one of its number
 pub read-rect : (rects : List Bounds) (at n : ℕ) (d : Bounds) → length rects ≡ n → at < n → get_or rects at d ≡ rect_at rects at
 read-rect rects at n d long within = get_or_default rects at d _ (omega arith)

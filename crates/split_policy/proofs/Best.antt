@@ -1,5 +1,5 @@
 -- The best of the numbers up to n of which P holds.
-use Rattle.std.proofs.Common.{◌≡◌, ℕ, ◌+◌, ◌<◌, ◌≤◌, arith, ap, subst, ◌⊎◌, inl, inr}
+use Rattle.std.proofs.Common.{◌≡◌, ℕ, ◌+◌, ◌<◌, ◌≤◌, arith, ap, ◌⊎◌, inl, inr}
 use Rattle.split_policy.proofs.Sums.{at_end}
 
 -- the number at which f is least, of equals g, of equals again the number itself
@@ -9,26 +9,6 @@ pub record LeastBelow (n : ℕ) (P : ℕ → Type 0) (f g : ℕ → ℕ) (at : �
   pub first : (i : ℕ) → i < n → P i → f at ≤ f i
   pub second : (i : ℕ) → i < n → P i → f i ≡ f at → g at ≤ g i
   pub number : (i : ℕ) → i < n → P i → f i ≡ f at → g i ≡ g at → at ≤ i
-
--- the next number isn't better
-pub least-kept : (n : ℕ) (P : ℕ → Type 0) (f g : ℕ → ℕ) (at : ℕ) → LeastBelow n P f g at
-    → (P n → f at ≤ f n) → (P n → f n ≡ f at → g at ≤ g n) → LeastBelow (n + 1) P f g at
-least-kept n P f g at best first second = record {
-  here = best.here;
-  before = let b = best.before in omega arith;
-  first = λ i l p. elim (at_end n i l) [
-    | inl e ↦ let a = ap f e in let b = first (subst P e p) in omega arith
-    | inr k ↦ best.first i k p
-  ];
-  second = λ i l p q. elim (at_end n i l) [
-    | inl e ↦ let a = ap f e in let b = ap g e in let c = second (subst P e p) (omega arith) in omega arith
-    | inr k ↦ best.second i k p q
-  ];
-  number = λ i l p q r. elim (at_end n i l) [
-    | inl e ↦ let b = best.before in omega arith
-    | inr k ↦ best.number i k p q r
-  ];
-}
 
 -- the next number is better
 pub least-next : (n : ℕ) (P : ℕ → Type 0) (f g : ℕ → ℕ) (at : ℕ) → LeastBelow n P f g at
@@ -62,22 +42,6 @@ pub record GreatestBelow (n : ℕ) (P : ℕ → Type 0) (f : ℕ → ℕ) (at : 
   pub before : at < n
   pub first : (i : ℕ) → i < n → P i → f i ≤ f at
   pub number : (i : ℕ) → i < n → P i → f i ≡ f at → at ≤ i
-
--- the next number isn't better
-pub greatest-kept : (n : ℕ) (P : ℕ → Type 0) (f : ℕ → ℕ) (at : ℕ) → GreatestBelow n P f at
-    → (P n → f n ≤ f at) → GreatestBelow (n + 1) P f at
-greatest-kept n P f at best first = record {
-  here = best.here;
-  before = let b = best.before in omega arith;
-  first = λ i l p. elim (at_end n i l) [
-    | inl e ↦ let a = ap f e in let b = first (subst P e p) in omega arith
-    | inr k ↦ best.first i k p
-  ];
-  number = λ i l p q. elim (at_end n i l) [
-    | inl e ↦ let b = best.before in omega arith
-    | inr k ↦ best.number i k p q
-  ];
-}
 
 -- the next number is better
 pub greatest-next : (n : ℕ) (P : ℕ → Type 0) (f : ℕ → ℕ) (at : ℕ) → GreatestBelow n P f at

@@ -19,38 +19,6 @@ pub record PartnerBelow (n : ℕ) (rects : List Bounds) (i j : ℕ) : Type 0 whe
   pub waste : (l : ℕ) → i < l → l < n → pair_waste rects i l ≤ℤ pair_waste rects i j
   pub number : (l : ℕ) → i < l → l < n → pair_waste rects i l ≡ pair_waste rects i j → j ≤ l
 
--- the next entry would waste no more
-pub partner-kept : (n : ℕ) (rects : List Bounds) (i j : ℕ) → PartnerBelow n rects i j
-    → pair_waste rects i n ≤ℤ pair_waste rects i j → PartnerBelow (n + 1) rects i j
-partner-kept n rects i j best no_more = record {
-  order = best.order;
-  before = let b = best.before in omega arith;
-  waste = λ l h k. elim (at_end n l k) [
-    | inl e ↦ let a = ap (pair_waste rects i) e in omega (arith, ints)
-    | inr m ↦ best.waste l h m
-  ];
-  number = λ l h k q. elim (at_end n l k) [
-    | inl e ↦ let b = best.before in omega arith
-    | inr m ↦ best.number l h m q
-  ];
-}
-
--- the next entry would waste more
-pub partner-next : (n : ℕ) (rects : List Bounds) (i j : ℕ) → PartnerBelow n rects i j
-    → i < n → pair_waste rects i j <ℤ pair_waste rects i n → PartnerBelow (n + 1) rects i n
-partner-next n rects i j best order more = record {
-  order = order;
-  before = omega arith;
-  waste = λ l h k. elim (at_end n l k) [
-    | inl e ↦ let a = ap (pair_waste rects i) e in omega (arith, ints)
-    | inr m ↦ let a = best.waste l h m in omega (arith, ints)
-  ];
-  number = λ l h k q. elim (at_end n l k) [
-    | inl e ↦ omega arith
-    | inr m ↦ let a = best.waste l h m in absurd (omega (arith, ints))
-  ];
-}
-
 -- the seeds among the pairs whose first entry is below n
 pub record SeedsBelow (n : ℕ) (rects : List Bounds) (i j : ℕ) : Type 0 where
   pub partner : IsPartner rects i j

@@ -1,4 +1,5 @@
 use Rattle.std.proofs.Common.{Err, ℕ, ◌&&◌, List, [], ◌∷◌, refl, sym, ap, subst, ◌∙◌, inr}
+use Rattle.std.proofs.lemmas.Result.{IfOk-weaker}
 use Rattle.btree_nodes.proofs.Walks.{same-fault}
 use Rattle.std.specs.Prelude.{IfOk, ◌≢◌}
 use Rattle.page_face.specs.FreeList.{PageMap}
@@ -14,7 +15,7 @@ use Rattle.tree_entries.specs.Filters.{admits_by}
 use Rattle.boolean_queries.specs.Opens.{filter_in}
 use Rattle.boolean_queries.specs.Walked.{AsksFor}
 use Rattle.node_rows.specs.Damages.{IsRowsDamage}
-use Rattle.boolean_queries.proofs.Results.{ok-always, ok-then, on-always}
+use Rattle.boolean_queries.proofs.Results.{ok-always, on-always}
 use Rattle.boolean_queries.proofs.Logs.{contains-none, asks-then, asks-wider, asks-page}
 use Rattle.boolean_queries.proofs.Opened.{gives-node, gives-none, kept-children, kept-stand, kept-few, joined-read}
 use Rattle.boolean_queries.proofs.Fine.{joined-fine}
@@ -50,7 +51,7 @@ returns-clause-gives g c = λ map node.
     let slots : ℕ = c.in-Ok-gather.slots in
     let r = joined-read old rows level page node in
     let marks = subst (λ (x : PageMap). IsMap rows_form x rows → IfOk c.admit.result (λ mask. Marks mask (λ i. has_slot slots i && admits_by level (byte_of ids (bytes_in x rows page) i) filter))) c.enter_at.ensures.frame.pages c.admit.ensures.slots map in
-    ok-then c.admit.result _ _ (λ mask m. gives-node c.args.query.now.region ids filter old rows page level c.looked.result.now c.gather.new.near.items mask slots
+    IfOk-weaker c.admit.result _ _ (λ mask m. gives-node c.args.query.now.region ids filter old rows page level c.looked.result.now c.gather.new.near.items mask slots
     (c.looked.ensures ∙ c.in-Ok.ensures.gives r.told) node c.in-Ok-gather.ensures.near c.in-Ok-gather.ensures.slots m) marks
 
 pub returns-clause-few : goal.returns-clause-few
