@@ -55,9 +55,6 @@ module _ (form : Form) (least : ℕ) (old : PageMap) (count first level page low
       let d = with_low-total (λ (c : ℕ). uses form old level c n) low (entries_in form (old page)) in
       omega arith
 
-  pub child-once : (n : ℕ) → uses form old level child n + spare free count n ≤ 1
-  child-once n = let o = once n in let u = child-uses n in omega arith
-
   module _ (new : PageMap) (count' first' right middle : ℕ)
       (grew : IsGrown form (half_of form level) (view old count first free) (uses form old level child) new count' first' level child
       (low_at form (old page) low at) (high_at form (old page) high at) (put key value (rows_at form old level child)) right middle) where

@@ -1,6 +1,6 @@
 //! A row that is put into a tree.
 ghost use Rattle.std.specs.Prelude.{◌≡◌, ◌⊎◌, ℕ, ◌<◌, ◌≤◌, ◌+◌, List, ◌∷◌, [], ◌++◌, length, IfOk, IsErrOf, is_some};
-ghost use Rattle.page_face.specs.Calls.{FailsChanging, Changes};
+ghost use Rattle.page_face.specs.Calls.{FailsChanging, Changes, TakesAtMost};
 ghost use Rattle.page_face.specs.Causes.{IsUncounted};
 ghost use Rattle.page_face.specs.Number.{number};
 ghost use Rattle.btree_nodes.specs.Supply.{IsSupplied, view, spare};
@@ -84,6 +84,7 @@ pub fn put_in<P: Pages>(
     ensures own { (before : List ℕ) → P.asked pages.old ≡ before ++ page ∷ []
         → AreTold (P.pages pages.old) (P.count pages.old) → P.looked pages.old ≡ P.pages pages.old page
         → AsksOnly (uses form (P.pages pages.old) level page) before (P.asked pages.new) }
+    ensures takes { TakesAtMost P.Pages (level + 1) pages.old pages.new result }
     ensures fails { FailsChanging P.Pages pages.old pages.new result }
     ensures frame { Changes P.Pages pages.old pages.new }
 {

@@ -1,7 +1,7 @@
 //! Roots: the first leaf of a map, and a root above two pages.
 ghost use Rattle.std.specs.Prelude.{◌≡◌, ◌≢◌, ℕ, suc, ◌<◌, ◌≤◌, ◌+◌, ◌^◌, List, ◌∷◌, ◌++◌, [], length, replicate, IfOk, OnOk, IsErrOf};
 ghost use Rattle.std.specs.Int.{to_be_bytes, w32};
-ghost use Rattle.page_face.specs.Calls.{FailsWriting, FailsChanging, Writes, Changes};
+ghost use Rattle.page_face.specs.Calls.{FailsWriting, FailsChanging, Writes, Changes, TakesAtMost};
 ghost use Rattle.page_face.specs.FreeList.{with_page};
 ghost use Rattle.page_face.specs.Causes.{IsUncounted};
 ghost use Rattle.page_face.specs.Number.{number};
@@ -86,6 +86,7 @@ pub fn grow_root<P: Pages>(
 
     ensures honest { (free : List ℕ) → IsSupplied (view (P.pages pages.old) (P.count pages.old) (P.first pages.old) free) → (damage : Damage) → result ≢ Err (PageFault.Damaged damage) }
     ensures damaged { (damage : Damage) → IsErrOf result (PageFault.Damaged damage) → IsRefusedTake (P.pages pages.new) (P.count pages.new) (P.first pages.new) damage }
+    ensures takes { TakesAtMost P.Pages 1 pages.old pages.new result }
     ensures fails { FailsChanging P.Pages pages.old pages.new result }
     ensures frame { Changes P.Pages pages.old pages.new }
     ensures asked { P.asked pages.new ≡ P.asked pages.old }
@@ -156,6 +157,7 @@ pub fn first_leaf<P: Pages>(
 
     ensures honest { (free : List ℕ) → IsSupplied (view (P.pages pages.old) (P.count pages.old) (P.first pages.old) free) → (damage : Damage) → result ≢ Err (PageFault.Damaged damage) }
     ensures damaged { (damage : Damage) → IsErrOf result (PageFault.Damaged damage) → IsRefusedTake (P.pages pages.new) (P.count pages.new) (P.first pages.new) damage }
+    ensures takes { TakesAtMost P.Pages 1 pages.old pages.new result }
     ensures fails { FailsChanging P.Pages pages.old pages.new result }
     ensures frame { Changes P.Pages pages.old pages.new }
     ensures asked { P.asked pages.new ≡ P.asked pages.old }

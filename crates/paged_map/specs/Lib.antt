@@ -4,3 +4,4 @@ pub mod Edits
 pub mod Spots
 pub mod Drafts
 pub mod Lookups
+pub mod Heights

@@ -1,11 +1,12 @@
 //! A map by its root.
-ghost use Rattle.std.specs.Prelude.{◌≡◌, ◌≢◌, ◌⊎◌, ◌↔◌, ℕ, ◌<◌, ◌≤◌, List, length, IfOk, IfSome, IsTrue, IsErrOf, OnOk, OnErr, is_some, if◌then◌else◌, Some, None, false};
-ghost use Rattle.page_face.specs.Calls.{Reads, Changes, FailsReading, FailsChanging};
+ghost use Rattle.std.specs.Prelude.{◌≡◌, ◌≢◌, ◌⊎◌, ◌↔◌, ℕ, ◌+◌, ◌<◌, ◌≤◌, List, length, IfOk, IfSome, IsTrue, IsErrOf, OnOk, OnErr, is_some, if◌then◌else◌, Some, None, false};
+ghost use Rattle.page_face.specs.Calls.{Reads, Changes, FailsReading, FailsChanging, TakesAtMost};
 ghost use Rattle.page_face.specs.Number.{number};
 ghost use Rattle.btree_nodes.specs.Supply.{view};
 ghost use Rattle.btree_nodes.specs.Rows.{lookup, first_from, put, without};
 ghost use Rattle.btree_nodes.specs.Tree.{IsMap, map_rows, map_uses};
 ghost use Rattle.btree_nodes.specs.Damages.{AreTold, AskedSince, AsksOnly, IsRefusedTake};
+ghost use Rattle.paged_map.specs.Heights.{height_of};
 ghost use Rattle.paged_map.specs.Answers.{HasRead, HoldsRow, Locates};
 ghost use Rattle.paged_map.specs.Drafts.{Drafts, IsDraftedAt, IsKeyOf, IsLeafDraft};
 ghost use Rattle.paged_map.specs.Lookups.{IsFirstFound, IsLookedUp};
@@ -268,6 +269,10 @@ impl<L: Layout> PagedMap<L> {
             ⊎ IsRefusedTake (P.pages pages.new) (P.count pages.new) (P.first pages.new) damage }
         ensures own { AreTold (P.pages pages.old) (P.count pages.old)
             → AsksOnly (map_uses L.form (P.pages pages.old) self.old.root) (P.asked pages.old) (P.asked pages.new) }
+
+        // It takes one page for each level at most, and one for a new root. A page says its level in one byte.
+        ensures takes { AreTold (P.pages pages.old) (P.count pages.old) → TakesAtMost P.Pages (height_of (P.pages pages.old) self.old.root + 1) pages.old pages.new result }
+        ensures at_most { TakesAtMost P.Pages 257 pages.old pages.new result }
         ensures fails { FailsChanging P.Pages pages.old pages.new result }
         ensures frame { Changes P.Pages pages.old pages.new }
     {
@@ -332,7 +337,7 @@ impl<L: Layout> PagedMap<L> {
             → IfOk result (λ was. (was ≡ is_some (lookup (number key.now) (map_rows L.form (P.pages pages.old) self.old.root)))
             × HasBecome L.form (view (P.pages pages.old) (P.count pages.old) (P.first pages.old) free) (P.pages pages.new) (P.count pages.new) (P.first pages.new) self.old.root self.new.root
             (without (number key.now) (map_rows L.form (P.pages pages.old) self.old.root))) }
-        ensures absent { IfOk result (λ was. was ≡ false → P.pages pages.new ≡ P.pages pages.old) }
+        ensures absent { IfOk result (λ was. was ≡ false → (self.new.root ≡ self.old.root) × (P.pages pages.new ≡ P.pages pages.old) × (P.first pages.new ≡ P.first pages.old)) }
         ensures kept { OnErr result (self.new ≡ self.old) }
         ensures told { AreTold (P.pages pages.old) (P.count pages.old) → OnOk result (AreTold (P.pages pages.new) (P.count pages.new)) }
 

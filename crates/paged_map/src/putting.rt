@@ -1,12 +1,13 @@
 //! A row that is put into a map by its root.
-ghost use Rattle.std.specs.Prelude.{◌≡◌, ◌≢◌, ◌⊎◌, ℕ, ◌<◌, ◌≤◌, List, length, IfOk, OnOk, IsErrOf, IsTrue, is_some};
-ghost use Rattle.page_face.specs.Calls.{Changes, FailsChanging};
+ghost use Rattle.std.specs.Prelude.{◌≡◌, ◌≢◌, ◌⊎◌, ℕ, ◌+◌, ◌<◌, ◌≤◌, List, length, IfOk, OnOk, IsErrOf, IsTrue, is_some};
+ghost use Rattle.page_face.specs.Calls.{Changes, FailsChanging, TakesAtMost};
 ghost use Rattle.page_face.specs.Causes.{Rose, HidesNoFault};
 ghost use Rattle.page_face.specs.Number.{number};
 ghost use Rattle.btree_nodes.specs.Supply.{view};
 ghost use Rattle.btree_nodes.specs.Rows.{lookup, put};
 ghost use Rattle.btree_nodes.specs.Tree.{IsMap, map_rows, map_uses};
 ghost use Rattle.btree_nodes.specs.Damages.{IsRefusedTake, AreTold, AskedSince, AsksOnly};
+ghost use Rattle.paged_map.specs.Heights.{height_of};
 ghost use Rattle.paged_map.specs.Maps.{IsKept, HasBecome, IsMapDamaged};
 
 use crate::editing::{cut_of, has_room, spot_of, write_leaf};
@@ -59,6 +60,8 @@ pub fn put_below<P: Pages>(
         → ((P.pages pages.new ≡ P.pages pages.old) × (P.count pages.new ≡ P.count pages.old))
         ⊎ IsRefusedTake (P.pages pages.new) (P.count pages.new) (P.first pages.new) damage }
     ensures own { AreTold (P.pages pages.old) (P.count pages.old) → AsksOnly (map_uses form (P.pages pages.old) root) (P.asked pages.old) (P.asked pages.new) }
+    ensures takes { AreTold (P.pages pages.old) (P.count pages.old) → TakesAtMost P.Pages (height_of (P.pages pages.old) root + 1) pages.old pages.new result }
+    ensures at_most { TakesAtMost P.Pages 257 pages.old pages.new result }
     ensures disk { IsErrOf result PageFault.Disk → Rose (P.faults pages.old) (P.faults pages.new) }
     ensures hides_none { HidesNoFault result (P.faults pages.old) (P.faults pages.new) }
     ensures refused_more { IsErrOf result PageFault.NoRoom → Rose (P.refused pages.old) (P.refused pages.new) }
@@ -134,6 +137,8 @@ pub fn put_row<P: Pages>(
         → ((P.pages pages.new ≡ P.pages pages.old) × (P.count pages.new ≡ P.count pages.old))
         ⊎ IsRefusedTake (P.pages pages.new) (P.count pages.new) (P.first pages.new) damage }
     ensures own { AreTold (P.pages pages.old) (P.count pages.old) → AsksOnly (map_uses form (P.pages pages.old) root) (P.asked pages.old) (P.asked pages.new) }
+    ensures takes { AreTold (P.pages pages.old) (P.count pages.old) → TakesAtMost P.Pages (height_of (P.pages pages.old) root + 1) pages.old pages.new result }
+    ensures at_most { TakesAtMost P.Pages 257 pages.old pages.new result }
     ensures fails { FailsChanging P.Pages pages.old pages.new result }
     ensures frame { Changes P.Pages pages.old pages.new }
 {

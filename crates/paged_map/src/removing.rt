@@ -73,7 +73,7 @@ pub fn remove_below<P: Pages>(
     ensures removed { (free : List ℕ) → IsKept form (view (P.pages pages.old) (P.count pages.old) (P.first pages.old) free) root
         → IfOk result (λ rooted. (rooted.had ≡ is_some (lookup (number key.now) (map_rows form (P.pages pages.old) root)))
         × HasBecome form (view (P.pages pages.old) (P.count pages.old) (P.first pages.old) free) (P.pages pages.new) (P.count pages.new) (P.first pages.new) root rooted.root (without (number key.now) (map_rows form (P.pages pages.old) root))) }
-    ensures absent { IfOk result (λ rooted. rooted.had ≡ false → P.pages pages.new ≡ P.pages pages.old) }
+    ensures absent { IfOk result (λ rooted. rooted.had ≡ false → (rooted.root ≡ root) × (P.pages pages.new ≡ P.pages pages.old) × (P.first pages.new ≡ P.first pages.old)) }
     ensures told { AreTold (P.pages pages.old) (P.count pages.old) → OnOk result (AreTold (P.pages pages.new) (P.count pages.new)) }
 
     ensures honest { (free : List ℕ) → IsKept form (view (P.pages pages.old) (P.count pages.old) (P.first pages.old) free) root → (damage : Damage) → result ≢ Err (PageFault.Damaged damage) }
@@ -133,7 +133,7 @@ pub fn remove_row<P: Pages>(
     ensures removed { (free : List ℕ) → IsKept form (view (P.pages pages.old) (P.count pages.old) (P.first pages.old) free) root
         → IfOk result (λ rooted. (rooted.had ≡ is_some (lookup (number key.now) (map_rows form (P.pages pages.old) root)))
         × HasBecome form (view (P.pages pages.old) (P.count pages.old) (P.first pages.old) free) (P.pages pages.new) (P.count pages.new) (P.first pages.new) root rooted.root (without (number key.now) (map_rows form (P.pages pages.old) root))) }
-    ensures absent { IfOk result (λ rooted. rooted.had ≡ false → P.pages pages.new ≡ P.pages pages.old) }
+    ensures absent { IfOk result (λ rooted. rooted.had ≡ false → (rooted.root ≡ root) × (P.pages pages.new ≡ P.pages pages.old) × (P.first pages.new ≡ P.first pages.old)) }
     ensures told { AreTold (P.pages pages.old) (P.count pages.old) → OnOk result (AreTold (P.pages pages.new) (P.count pages.new)) }
 
     ensures honest { (free : List ℕ) → IsKept form (view (P.pages pages.old) (P.count pages.old) (P.first pages.old) free) root → (damage : Damage) → result ≢ Err (PageFault.Damaged damage) }
