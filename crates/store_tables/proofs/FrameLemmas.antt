@@ -22,7 +22,7 @@ uses-root form pages (suc level) page = let one = one_at-same page in omega arit
 
 -- a map of which each page stayed is the same map
 pub map-frame : (form : Form) (old new : PageMap) (root : ℕ) → IsMap form old root → ((n : ℕ) → 0 < map_uses form old root n → new n ≡ old n) → IsSameMap form old new root
-map-frame form old new zero tree same = record { tree = tt; rows = refl; uses = λ n. refl }
+map-frame form old new zero tree same = record { tree = tt; rows = refl; uses = λ n. refl; height = refl }
 map-frame form old new (suc m) tree same =
     let level : ℕ = level_of (old (suc m)) in
     let here : new (suc m) ≡ old (suc m) = same (suc m) (uses-root form old level (suc m)) in
@@ -32,6 +32,7 @@ map-frame form old new (suc m) tree same =
       tree = subst (λ l. IsTree form (least_of_root l) new l (suc m) 0 (256 ^ form.key)) (sym level_is) r.tree;
       rows = ap (λ l. rows_at form new l (suc m)) level_is ∙ r.rows;
       uses = λ n. ap (λ l. uses form new l (suc m) n) level_is ∙ r.uses n;
+      height = ap (λ (l : ℕ). l + 1) level_is;
     }
 
 -- and holds the same entries

@@ -11,7 +11,7 @@ use Rattle.btree_nodes.specs.Tree.{level_of, next_key, with_low}
 use Rattle.paged_map.specs.Maps.{IsMapDamaged}
 use Rattle.spatial_base.specs.Key.{Name}
 use Rattle.store_tables.specs.declared.tables.Tables.{Tables}
-use Rattle.store_tables.specs.Broken.{IsCountDamage, IsNextDamage, IsNumberDamage, IsPlaceDamage, IsReleaseDamage, words_disagree}
+use Rattle.store_tables.specs.Broken.{IsNumberDamage, IsPlaceDamage, IsReleaseDamage, words_disagree}
 use Rattle.store_tables.specs.Holding.{numbers_form, places_form, texts_form}
 
 breaks-spares_head : (number kind level width least : ℕ) (order : Type 0) (page : List ℕ) (rule : Rule) → Breaks rule number kind level width least order page → rule ≢ Head
@@ -55,20 +55,9 @@ place-spares_head pages count root key before asked damage d e = ⊎_elim (λ ma
 pub number-spares_head : (pages : PageMap) (count root number : ℕ) (before asked : List ℕ) (damage : Damage) → IsNumberDamage pages count root number before asked damage → damage.rule ≢ Head
 number-spares_head pages count root number before asked damage d e = ⊎_elim (λ map. map-spares_head numbers_form pages count root damage map.0 e) (λ row. (let is = row.0 in cc)) d
 
--- that of a look-up of the first place from a key's number on
-pub next-spares_head : (pages : PageMap) (count root from : ℕ) (before asked : List ℕ) (damage : Damage) → IsNextDamage pages count root from before asked damage → damage.rule ≢ Head
-next-spares_head pages count root from before asked damage d e = ⊎_elim (λ map. map-spares_head places_form pages count root damage map.0 e) (λ row. (let is = row.0 in cc)) d
-
 -- that of tables of words that disagree
 pub words-spares_head : (damage : Damage) → damage ≡ words_disagree → damage.rule ≢ Head
 words-spares_head damage is e = let rule = ap (λ (d : Damage). d.rule) is in cc
-
--- that of a word's count
-pub count-spares_head : (places : ℕ) (pages : PageMap) (count : ℕ) (tables : Tables) (word before asked : List ℕ) (damage : Damage) → IsCountDamage places pages count tables word before asked damage → damage.rule ≢ Head
-count-spares_head places pages count tables word before asked damage d e =
-    ⊎_elim (λ map. map-spares_head texts_form pages count tables.texts damage map.0 e)
-    (λ rest. ⊎_elim (λ map. map-spares_head numbers_form pages count tables.numbers damage map.0 e)
-    (λ more. ⊎_elim (λ row. (let is = row.0 in cc)) (λ words. words-spares_head damage words.0 e) more) rest) d
 
 -- that of a release
 pub release-spares_head : (pages : PageMap) (count : ℕ) (tables : Tables) (number : ℕ) (before asked : List ℕ) (damage : Damage) → IsReleaseDamage pages count tables number before asked damage → damage.rule ≢ Head

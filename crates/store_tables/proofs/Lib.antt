@@ -7,5 +7,6 @@ pub mod HoldLemmas
 pub mod KeyLemmas
 pub mod LookupLemmas
 pub mod MapLemmas
+pub mod TakeLemmas
 pub mod ToldLemmas
 pub mod WordLemmas

@@ -1,5 +1,5 @@
 -- What holding and releasing words does to the word tables.
-use Rattle.std.proofs.Common.{◌≡◌, ◌↔◌, ℕ, ◌+◌, ◌-◌, ◌<◌, ◌≤◌, ◌^◌, ◌==◌, eq-eqb, ⊎_elim, Bool, true, false, cond, nat_le, List, [], ◌∷◌, All, Option, Some, None, IsSome, IsSomeAnd, IfSome, option_map, unwrap_or, refl, sym, ap, subst, ◌∙◌, true≢false, arith}
+use Rattle.std.proofs.Common.{◌≡◌, ◌↔◌, ℕ, ◌+◌, ◌-◌, ◌<◌, ◌≤◌, ◌==◌, eq-eqb, ⊎_elim, Bool, true, false, cond, nat_le, List, [], ◌∷◌, All, Option, Some, None, IsSome, IsSomeAnd, IfSome, option_map, unwrap_or, refl, sym, ap, subst, ◌∙◌, true≢false, arith}
 use Rattle.std.proofs.lemmas.Bool.{cases_eq, leb-false, leb-true, ne_eqb}
 use Rattle.std.proofs.lemmas.List.Elements.{All-head, All-tail}
 use Rattle.std.proofs.lemmas.Map.Entries.{sum_by-insert_entry, sum_by-remove_entry}
@@ -134,18 +134,6 @@ agree-with_holds places one claims entries next_word word agree can = split (num
 pub agree-with_hold : (claims : ℕ → ℕ) (entries : Entries) (next_word : ℕ) (word : List ℕ) → WordTablesAgree claims entries.texts entries.numbers next_word → CanHold word next_word entries
     → WordTablesAgree (claimed_more (number_for word next_word entries.texts) claims) (with_hold word next_word entries).texts (with_hold word next_word entries).numbers (next_after (number_of_word word entries.texts) next_word)
 agree-with_hold = agree-with_holds 1 (omega arith)
-
--- where the tables agree and no count is at its end, each word can be held
-pub can_hold-agree : (claims : ℕ → ℕ) (entries : Entries) (next_word : ℕ) (word : List ℕ) → WordTablesAgree claims entries.texts entries.numbers next_word → ((n : ℕ) → claims n + 1 < 2 ^ 32) → CanHold word next_word entries
-can_hold-agree claims entries next_word word agree room = holdable (number_of_word word entries.texts) refl
-  where
-    none_at : (found : Option Counted) → word_of_number next_word entries.numbers ≡ found → found ≡ None
-    none_at None e = refl
-    none_at (Some c) e = let lt = agree.below next_word (subst IsSome (sym e) refl) in absurd (omega arith)
-
-    holdable : (found : Option ℕ) → number_of_word word entries.texts ≡ found → IsHoldable 1 word next_word entries.numbers found
-    holdable None e = none_at (word_of_number next_word entries.numbers) refl
-    holdable (Some number) e = ((agree.inverse word number).0 e, (let few = room number in let count = agree.counts number in omega arith))
 
 -- where the tables agree, each number that has a word can be released
 pub can_release-agree : (claims : ℕ → ℕ) (entries : Entries) (next_word number : ℕ) → WordTablesAgree claims entries.texts entries.numbers next_word → IsSome (word_of_number number entries.numbers) → CanRelease number entries

@@ -5,6 +5,7 @@ use Rattle.page_face.specs.FreeList.{PageMap}
 use Rattle.btree_nodes.specs.declared.form.Form.{Form}
 use Rattle.btree_nodes.specs.Supply.{View, view, Moves, IsSupplied, spare_in}
 use Rattle.btree_nodes.specs.Tree.{IsMap, map_rows, map_uses}
+use Rattle.paged_map.specs.Heights.{height_of}
 use Rattle.spatial_base.specs.Key.{Name, IsName}
 use Rattle.term_impacts.specs.Form.{IsWordText}
 use Rattle.row_codec.specs.declared.counted.Counted.{Counted}
@@ -51,11 +52,12 @@ pub record Holds (pages : PageMap) (tables : Tables) (entries : Entries) : Type 
   pub texts : HoldsTexts pages tables.texts entries.texts
   pub numbers : HoldsNumbers pages tables.numbers entries.numbers
 
--- A map of which each page stayed is the same map: as well formed, of the same rows, on the same pages.
+-- A map of which each page stayed is the same map: as well formed, of the same rows, on the same pages, and as high.
 pub record IsSameMap (form : Form) (old new : PageMap) (root : ℕ) : Type 0 where
   pub tree : IsMap form new root
   pub rows : map_rows form new root ≡ map_rows form old root
   pub uses : (n : ℕ) → map_uses form new root n ≡ map_uses form old root n
+  pub height : height_of new root ≡ height_of old root
 
 -- how often the tables use a page
 abbrev pub table_uses : PageMap → Tables → ℕ → ℕ

@@ -1,11 +1,12 @@
 //! The calls of a map, by its root.
-ghost use Rattle.std.specs.Prelude.{◌≡◌, ◌⊎◌, ℕ, ◌≤◌, List, length, IfOk, IfSome, OnOk, IsErrOf, is_some, Some, None, if◌then◌else◌};
-ghost use Rattle.page_face.specs.Calls.{FailsReading, FailsChanging, Reads, TakesNone, Changes};
+ghost use Rattle.std.specs.Prelude.{◌≡◌, ◌⊎◌, ℕ, ◌+◌, ◌≤◌, List, length, IfOk, IfSome, OnOk, IsErrOf, is_some, Some, None, if◌then◌else◌};
+ghost use Rattle.page_face.specs.Calls.{FailsReading, FailsChanging, Reads, TakesNone, Changes, TakesAtMost};
 ghost use Rattle.page_face.specs.Number.{number};
 ghost use Rattle.btree_nodes.specs.Rows.{lookup, first_from, put, without};
 ghost use Rattle.btree_nodes.specs.Supply.{view};
 ghost use Rattle.btree_nodes.specs.Tree.{IsMap, map_rows, map_uses};
 ghost use Rattle.btree_nodes.specs.Damages.{AreTold, AskedSince, AsksOnly, IsRefusedTake};
+ghost use Rattle.paged_map.specs.Heights.{height_of};
 ghost use Rattle.paged_map.specs.Answers.{HasRead, HoldsRow, Locates};
 ghost use Rattle.paged_map.specs.Lookups.{IsFirstFound, IsLookedUp};
 ghost use Rattle.paged_map.specs.Maps.{AreCounted, HasBecome, IsKept, IsMapDamaged};
@@ -142,6 +143,8 @@ pub(crate) fn put_row<L: Layout, P: Pages>(
         ⊎ IsRefusedTake (P.pages pages.new) (P.count pages.new) (P.first pages.new) damage }
     ensures own { AreTold (P.pages pages.old) (P.count pages.old)
         → AsksOnly (map_uses L.form (P.pages pages.old) root) (P.asked pages.old) (P.asked pages.new) }
+    ensures takes { AreTold (P.pages pages.old) (P.count pages.old) → TakesAtMost P.Pages (height_of (P.pages pages.old) root + 1) pages.old pages.new result }
+    ensures at_most { TakesAtMost P.Pages 257 pages.old pages.new result }
     ensures fails { FailsChanging P.Pages pages.old pages.new result }
     ensures frame { Changes P.Pages pages.old pages.new }
 {

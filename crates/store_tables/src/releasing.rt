@@ -3,7 +3,7 @@ ghost use Rattle.std.specs.Prelude.{◌≡◌, ◌⊎◌, ◌<◌, ℕ, List, So
 ghost use Rattle.std.specs.BTreeMap.{is_at};
 ghost use Rattle.std.specs.Map.{remove_entry};
 ghost use Rattle.std.specs.Ordering.{nat_cmp};
-ghost use Rattle.page_face.specs.Calls.{FailsReading, FailsChanging, Reads, TakesNone, Changes};
+ghost use Rattle.page_face.specs.Calls.{FailsReading, Reads, TakesNone};
 ghost use Rattle.btree_nodes.specs.Supply.{view};
 ghost use Rattle.btree_nodes.specs.Damages.{AreTold, AskedSince, AsksOnly, IsRefusedTake};
 ghost use Rattle.paged_map.specs.Maps.{AreCounted, IsMapDamaged};
@@ -93,7 +93,7 @@ impl Tables {
     /// refusal the tables are as before, and pages may have changed.
     ///
     /// Looks at one page a level of the words by number. If more places hold the word, writes the leaf of its row alone. Else
-    /// looks the word up by text, and takes a row out of each of the two tables, with one more way down in each.
+    /// looks the word up by text, and takes a row out of each of the two tables, with one more way down in each. Takes no page.
     pub fn release<P: Pages>(&mut self, pages: &mut P, number: u64) -> Result<(), PageFault>
         ensures released { (entries : Entries) (free : List ℕ) → Holds (P.pages pages.old) self.old entries → IsApart (view (P.pages pages.old) (P.count pages.old) (P.first pages.old) free) self.old
             → OnOk result (CanRelease number entries
@@ -115,8 +115,8 @@ impl Tables {
             → AsksOnly (word_uses (P.pages pages.old) self.old) (P.asked pages.old) (P.asked pages.new) }
         ensures others { (self.new.places ≡ self.old.places) × (self.new.next_word ≡ self.old.next_word) }
         ensures kept { OnErr result (self.new ≡ self.old) }
-        ensures fails { FailsChanging P.Pages pages.old pages.new result }
-        ensures frame { Changes P.Pages pages.old pages.new }
+        ensures fails { FailsReading P.Pages pages.old pages.new result }
+        ensures frame { TakesNone P.Pages pages.old pages.new }
     {
         let row = self.releasable(pages, number)?;
         let counted = row.counted;

@@ -2,9 +2,10 @@
 ghost use Rattle.std.specs.Prelude.{◌≡◌, ◌⊎◌, ℕ, ◌≤◌, ◌<◌, ◌+◌, ◌^◌, List, None, IfOk, IfSome, IfNone, OnOk, OnErr, IsErrOf, is_some, unwrap_or};
 ghost use Rattle.std.specs.BTreeMap.{insert_entry};
 ghost use Rattle.std.specs.Ordering.{nat_cmp};
-ghost use Rattle.page_face.specs.Calls.{FailsReading, FailsChanging, Reads, Changes};
+ghost use Rattle.page_face.specs.Calls.{FailsReading, FailsChanging, Reads, Changes, TakesAtMost};
 ghost use Rattle.btree_nodes.specs.Supply.{view};
 ghost use Rattle.btree_nodes.specs.Damages.{AreTold, AskedSince, AsksOnly, IsRefusedTake};
+ghost use Rattle.paged_map.specs.Heights.{height_of};
 ghost use Rattle.paged_map.specs.Maps.{AreCounted, IsMapDamaged};
 ghost use Rattle.store_tables.specs.Entries.{Entries, number_of_word, word_cmp};
 ghost use Rattle.store_tables.specs.Broken.{words_disagree};
@@ -96,7 +97,7 @@ impl Tables {
         }
     }
 
-    // Puts a word that is new into both tables, at the next number.
+    // Puts a word that is new into both tables, at the next number. Takes at most one page a level of the two, and two for new roots.
     fn put_new<P: Pages>(&mut self, pages: &mut P, counted: &Counted) -> Result<u64, PageFault>
         requires next { self.old.next_word < 2 ^ 63 }
         ensures put { (entries : Entries) (free : List ℕ) → Holds (P.pages pages.old) self.old entries → IsApart (view (P.pages pages.old) (P.count pages.old) (P.first pages.old) free) self.old
@@ -118,6 +119,10 @@ impl Tables {
             → AsksOnly (word_uses (P.pages pages.old) self.old) (P.asked pages.old) (P.asked pages.new) }
         ensures others { self.new.places ≡ self.old.places }
         ensures kept { OnErr result (self.new ≡ self.old) }
+        ensures takes { (entries : Entries) (free : List ℕ) → Holds (P.pages pages.old) self.old entries → IsApart (view (P.pages pages.old) (P.count pages.old) (P.first pages.old) free) self.old
+            → AreTold (P.pages pages.old) (P.count pages.old)
+            → TakesAtMost P.Pages (height_of (P.pages pages.old) self.old.numbers + 1 + height_of (P.pages pages.old) self.old.texts + 1) pages.old pages.new result }
+        ensures at_most { TakesAtMost P.Pages 514 pages.old pages.new result }
         ensures fails { FailsChanging P.Pages pages.old pages.new result }
         ensures frame { Changes P.Pages pages.old pages.new }
     {
@@ -136,7 +141,8 @@ impl Tables {
     /// Refuses as [`Tables::hold`]. After a refusal the tables are as before, and pages may have changed.
     ///
     /// However many places there are, looks at one page a level of the words by number. If the word has a number, writes the leaf of
-    /// its row alone. Else puts a row into each of the two tables, with one more way down in each.
+    /// its row alone. Else puts a row into each of the two tables, with one more way down in each, and takes at most one page a level of
+    /// the two, and two for new roots.
     pub fn hold_numbered<P: Pages>(
         &mut self,
         pages: &mut P,
@@ -170,6 +176,10 @@ impl Tables {
         ensures rises { OnOk result (self.new.next_word ≤ self.old.next_word + 1) }
         ensures others { self.new.places ≡ self.old.places }
         ensures kept { OnErr result (self.new ≡ self.old) }
+        ensures takes { (entries : Entries) (free : List ℕ) → Holds (P.pages pages.old) self.old entries → IsApart (view (P.pages pages.old) (P.count pages.old) (P.first pages.old) free) self.old
+            → AreTold (P.pages pages.old) (P.count pages.old)
+            → TakesAtMost P.Pages (height_of (P.pages pages.old) self.old.numbers + 1 + height_of (P.pages pages.old) self.old.texts + 1) pages.old pages.new result }
+        ensures at_most { TakesAtMost P.Pages 514 pages.old pages.new result }
         ensures fails { FailsChanging P.Pages pages.old pages.new result }
         ensures frame { Changes P.Pages pages.old pages.new }
     {
@@ -227,6 +237,10 @@ impl Tables {
         ensures rises { OnOk result (self.new.next_word ≤ self.old.next_word + 1) }
         ensures others { self.new.places ≡ self.old.places }
         ensures kept { OnErr result (self.new ≡ self.old) }
+        ensures takes { (entries : Entries) (free : List ℕ) → Holds (P.pages pages.old) self.old entries → IsApart (view (P.pages pages.old) (P.count pages.old) (P.first pages.old) free) self.old
+            → AreTold (P.pages pages.old) (P.count pages.old)
+            → TakesAtMost P.Pages (height_of (P.pages pages.old) self.old.numbers + 1 + height_of (P.pages pages.old) self.old.texts + 1) pages.old pages.new result }
+        ensures at_most { TakesAtMost P.Pages 514 pages.old pages.new result }
         ensures fails { FailsChanging P.Pages pages.old pages.new result }
         ensures frame { Changes P.Pages pages.old pages.new }
     {

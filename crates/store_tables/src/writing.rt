@@ -1,11 +1,12 @@
 //! Rows that are put into one of the tables.
-ghost use Rattle.std.specs.Prelude.{◌≡◌, ◌⊎◌, ℕ, List, IfOk, OnOk, OnErr, IsErrOf, is_some};
+ghost use Rattle.std.specs.Prelude.{◌≡◌, ◌⊎◌, ℕ, ◌+◌, List, IfOk, OnOk, OnErr, IsErrOf, is_some};
 ghost use Rattle.std.specs.BTreeMap.{insert_entry};
 ghost use Rattle.std.specs.Ordering.{nat_cmp};
-ghost use Rattle.page_face.specs.Calls.{FailsReading, FailsChanging, TakesNone, Changes};
+ghost use Rattle.page_face.specs.Calls.{FailsReading, FailsChanging, TakesNone, Changes, TakesAtMost};
 ghost use Rattle.btree_nodes.specs.Supply.{view};
 ghost use Rattle.btree_nodes.specs.Tree.{map_uses};
 ghost use Rattle.btree_nodes.specs.Damages.{AreTold, AskedSince, AsksOnly, IsRefusedTake};
+ghost use Rattle.paged_map.specs.Heights.{height_of};
 ghost use Rattle.paged_map.specs.Maps.{IsMapDamaged};
 ghost use Rattle.row_codec.specs.Stored.{IsStored};
 ghost use Rattle.store_tables.specs.Entries.{Entries, number_of_word, place_of_key, with_place, word_cmp, word_of_number};
@@ -48,6 +49,8 @@ impl Tables {
             → AsksOnly (map_uses places_form (P.pages pages.old) self.old.places) (P.asked pages.old) (P.asked pages.new) }
         ensures others { self.new ≡ record self.old { places = self.new.places } }
         ensures kept { OnErr result (self.new ≡ self.old) }
+        ensures takes { AreTold (P.pages pages.old) (P.count pages.old) → TakesAtMost P.Pages (height_of (P.pages pages.old) self.old.places + 1) pages.old pages.new result }
+        ensures at_most { TakesAtMost P.Pages 257 pages.old pages.new result }
         ensures fails { FailsChanging P.Pages pages.old pages.new result }
         ensures frame { Changes P.Pages pages.old pages.new }
     {
@@ -77,6 +80,8 @@ impl Tables {
             → AsksOnly (map_uses texts_form (P.pages pages.old) self.old.texts) (P.asked pages.old) (P.asked pages.new) }
         ensures others { self.new ≡ record self.old { texts = self.new.texts } }
         ensures kept { OnErr result (self.new ≡ self.old) }
+        ensures takes { AreTold (P.pages pages.old) (P.count pages.old) → TakesAtMost P.Pages (height_of (P.pages pages.old) self.old.texts + 1) pages.old pages.new result }
+        ensures at_most { TakesAtMost P.Pages 257 pages.old pages.new result }
         ensures fails { FailsChanging P.Pages pages.old pages.new result }
         ensures frame { Changes P.Pages pages.old pages.new }
     {
@@ -108,6 +113,8 @@ impl Tables {
             → AsksOnly (map_uses numbers_form (P.pages pages.old) self.old.numbers) (P.asked pages.old) (P.asked pages.new) }
         ensures others { self.new ≡ record self.old { numbers = self.new.numbers } }
         ensures kept { OnErr result (self.new ≡ self.old) }
+        ensures takes { AreTold (P.pages pages.old) (P.count pages.old) → TakesAtMost P.Pages (height_of (P.pages pages.old) self.old.numbers + 1) pages.old pages.new result }
+        ensures at_most { TakesAtMost P.Pages 257 pages.old pages.new result }
         ensures fails { FailsChanging P.Pages pages.old pages.new result }
         ensures frame { Changes P.Pages pages.old pages.new }
     {

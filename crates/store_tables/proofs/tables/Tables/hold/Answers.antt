@@ -8,6 +8,7 @@ use Rattle.store_tables.specs.Broken.{IsTextSought}
 use Rattle.store_tables.specs.Holding.{Holds, IsApart, texts_form, word_uses}
 use Rattle.store_tables.proofs.Heads.{map-spares_head}
 use Rattle.store_tables.proofs.LookupLemmas.{number-broken-later}
+use Rattle.store_tables.proofs.TakeLemmas.{takes-read}
 use Rattle.store_tables.proofs.ToldLemmas.{apart-counted, asks-texts}
 use Rattle.store_tables.proofs.tables.Tables.hold.Goals as goal
 
@@ -71,3 +72,11 @@ returns-in_err-found-clause-no_head g c told damage =
     let p = err_from_is_err_and c.from_residual.result c.from_residual.ensures.1 in
     λ e. (let same : c.in_err-found.field-0.0 ≡ Damaged damage = cc (p.1, p.2, e) in
     map-spares_head texts_form (g.P.Pages.pages c.args.pages.now) (g.P.Pages.count c.args.pages.now) c.args.self.now.texts damage (c.in_err-found.ensures.damaged (told c.args.pages.now) damage (ap Err same)))
+
+pub returns-clause-takes : goal.returns-clause-takes
+returns-clause-takes g c entries free holds apart told =
+    let f = c.number_of.ensures.frame in
+    let held : Holds (g.P.Pages.pages c.number_of.new.pages) c.args.self.now entries = rw f.pages holds in
+    let kept : IsApart (view (g.P.Pages.pages c.number_of.new.pages) (g.P.Pages.count c.number_of.new.pages) (g.P.Pages.first c.number_of.new.pages) free) c.args.self.now = rw (f.pages, f.count, f.first) apart in
+    let still : AreTold (g.P.Pages.pages c.number_of.new.pages) (g.P.Pages.count c.number_of.new.pages) = rw (f.pages, f.count) told in
+    takes-read g.P.Pages _ c.args.pages.now c.number_of.new.pages c.hold_numbered.new.pages f (rw (sym f.pages) (c.hold_numbered.ensures.takes entries free held kept still))

@@ -11,6 +11,7 @@ use Rattle.store_tables.specs.Entries.{Entries}
 use Rattle.store_tables.specs.Holding.{Holds, IsApart, IsChanged, word_uses}
 use Rattle.store_tables.specs.Words.{next_after}
 use Rattle.store_tables.proofs.HoldLemmas.{if_ok, none-found, with_holds-found, with_holds-new}
+use Rattle.store_tables.proofs.TakeLemmas.{takes-read}
 use Rattle.store_tables.proofs.ToldLemmas.{apart-counted}
 use Rattle.store_tables.proofs.tables.Tables.hold_numbered.Goals as goal
 
@@ -120,3 +121,11 @@ returns-in_err-replace_number-in-Some-clause-no_head g c told damage =
     let p = err_from_is_err_and c.from_residual-in_err-replace_number-in-Some.result c.from_residual-in_err-replace_number-in-Some.ensures.1 in
     λ e. (let same : c.in_err-replace_number-in-Some.field-0.0 ≡ Damaged damage = cc (p.1, p.2, e) in
     absurd (c.in_err-replace_number-in-Some.ensures.honest damage (ap Err same)))
+
+pub returns-in-None-clause-takes : goal.returns-in-None-clause-takes
+returns-in-None-clause-takes g c entries free holds apart told =
+    let r = c.count_with.ensures in
+    let held : Holds (g.P.Pages.pages c.count_with.new.pages) c.args.self.now entries = rw r.frame.pages holds in
+    let kept : IsApart (view (g.P.Pages.pages c.count_with.new.pages) (g.P.Pages.count c.count_with.new.pages) (g.P.Pages.first c.count_with.new.pages) free) c.args.self.now = rw (r.frame.pages, r.frame.count, r.frame.first) apart in
+    let still : AreTold (g.P.Pages.pages c.count_with.new.pages) (g.P.Pages.count c.count_with.new.pages) = rw (r.frame.pages, r.frame.count) told in
+    takes-read g.P.Pages _ c.args.pages.now c.count_with.new.pages c.put_new.new.pages r.frame (rw (sym r.frame.pages) (c.put_new.ensures.takes entries free held kept still))
