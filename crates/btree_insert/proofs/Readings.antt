@@ -40,11 +40,6 @@ pub ok-both : {X E : Type 0} (P Q R : X → Type 0) (result : Result X E) → ((
 ok-both P Q R (Ok x) f h k = f x h k
 ok-both P Q R (Err e) f h k = tt
 
--- what holds of an answer holds of it otherwise
-pub ok-map : {X : Type 0} {E : Type 0} (P Q : X → Type 0) (result : Result X E) → ((x : X) → P x → Q x) → IfOk result P → IfOk result Q
-ok-map P Q (Ok x) f h = f x h
-ok-map P Q (Err e) f h = tt
-
 -- what `store_inner` ensures, by the entries
 abbrev pub StoreClaim : Form → ℕ → PageMap → ℕ → ℕ → List ℕ → ℕ → ℕ → ℕ → ℕ → PageMap → ℕ → ℕ → ℕ → Result ℕ PageFault → List Entry → Type 0
 StoreClaim form least new count first free level page low high last c'' f'' key result es =

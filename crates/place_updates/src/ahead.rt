@@ -1,8 +1,8 @@
 //! Words that are held before the places that hold them are put.
-ghost use Rattle.std.specs.Prelude.{◌≡◌, ℕ, ◌≤◌, ◌+◌, ◌^◌, List, [], length, OnOk, OnErr, IfOk, IsErrOf};
+ghost use Rattle.std.specs.Prelude.{◌≡◌, ℕ, ◌≤◌, ◌+◌, ◌*◌, ◌^◌, List, [], length, OnOk, OnErr, IfOk, IsErrOf};
 ghost use Rattle.std.specs.Str.{bytes_eq};
 ghost use Rattle.indexmap.specs.IndexMap.{insert_entry};
-ghost use Rattle.page_face.specs.Calls.{FailsChanging, Changes};
+ghost use Rattle.page_face.specs.Calls.{FailsChanging, Changes, TakesAtMost};
 ghost use Rattle.btree_nodes.specs.Supply.{view};
 ghost use Rattle.btree_nodes.specs.Damages.{AreTold};
 ghost use Rattle.store_tables.specs.Entries.{Entries};
@@ -38,6 +38,7 @@ pub fn hold_words<P: Pages>(
         → AreTold (P.pages pages.old) (P.count pages.old) → (damage : Damage) → ¬ IsErrOf result (PageFault.Damaged damage) }
     ensures rises { OnOk result (tables.new.next_word ≤ tables.old.next_word + length counts.now.entries) }
     ensures no_head { ((p : P) → AreTold (P.pages p) (P.count p)) → SparesHead result }
+    ensures at_most { TakesAtMost P.Pages (514 * length counts.now.entries) pages.old pages.new result }
     ensures fails { FailsChanging P.Pages pages.old pages.new result }
     ensures frame { Changes P.Pages pages.old pages.new }
 {

@@ -1,9 +1,9 @@
 //! A place that is put whose words were held ahead.
-ghost use Rattle.std.specs.Prelude.{◌≡◌, ℕ, ◌≤◌, ◌<◌, ◌+◌, ◌^◌, ◌==◌, List, ◌∷◌, Option, length, option_map, IfSome, IfOk, IfErr, OnOk, OnErr, IsErrOf, All, IsSome};
+ghost use Rattle.std.specs.Prelude.{◌≡◌, ℕ, ◌≤◌, ◌<◌, ◌+◌, ◌*◌, ◌^◌, ◌==◌, List, ◌∷◌, Option, length, option_map, IfSome, IfOk, IfErr, OnOk, OnErr, IsErrOf, All, IsSome};
 ghost use Rattle.std.specs.List.{AllByRecursion};
 ghost use Rattle.std.specs.Map.{keys_of};
 ghost use Rattle.std.specs.Option.{option_copied};
-ghost use Rattle.page_face.specs.Calls.{FailsChanging, Changes};
+ghost use Rattle.page_face.specs.Calls.{FailsChanging, Changes, TakesAtMost};
 ghost use Rattle.btree_nodes.specs.Supply.{view};
 ghost use Rattle.btree_nodes.specs.Damages.{AreTold};
 ghost use Rattle.spatial_base.specs.Key.{Name};
@@ -86,6 +86,7 @@ pub fn put_held<P: Pages>(
     ensures no_head { ((p : P) → AreTold (P.pages p) (P.count p)) → SparesHead result }
     ensures next { tables.new.next_word ≡ tables.old.next_word }
     ensures kept { OnErr result (tables.new ≡ tables.old) }
+    ensures at_most { TakesAtMost P.Pages 257 pages.old pages.new result }
     ensures fails { FailsChanging P.Pages pages.old pages.new result }
     ensures frame { Changes P.Pages pages.old pages.new }
 {
@@ -131,6 +132,8 @@ pub fn put_in_batch<P: Pages>(
     ensures none_new { IsSome held.now → tables.new.next_word ≡ tables.old.next_word }
     ensures no_head { ((p : P) → AreTold (P.pages p) (P.count p)) → SparesHead result }
     ensures kept { OnErr result (tables.new ≡ tables.old) }
+    ensures at_most { TakesAtMost P.Pages (257 + 514 * length words.now) pages.old pages.new result }
+    ensures at_most_held { IsSome held.now → TakesAtMost P.Pages 257 pages.old pages.new result }
     ensures fails { FailsChanging P.Pages pages.old pages.new result }
     ensures frame { Changes P.Pages pages.old pages.new }
 {

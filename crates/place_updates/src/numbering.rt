@@ -1,6 +1,6 @@
 //! The numbers of a place's words.
-ghost use Rattle.std.specs.Prelude.{◌≡◌, ℕ, ◌≤◌, ◌<◌, ◌+◌, ◌^◌, false, if◌then◌else◌, List, length, IfOk, OnOk, IsErrOf, All};
-ghost use Rattle.page_face.specs.Calls.{FailsChanging, Changes};
+ghost use Rattle.std.specs.Prelude.{◌≡◌, ℕ, ◌≤◌, ◌<◌, ◌+◌, ◌*◌, ◌^◌, false, if◌then◌else◌, List, length, IfOk, OnOk, IsErrOf, All};
+ghost use Rattle.page_face.specs.Calls.{FailsChanging, Changes, TakesAtMost};
 ghost use Rattle.btree_nodes.specs.Supply.{view};
 ghost use Rattle.btree_nodes.specs.Damages.{AreTold};
 ghost use Rattle.store_tables.specs.Entries.{Entries, number_of_word};
@@ -36,6 +36,7 @@ fn take_hold<P: Pages>(
         → AreTold (P.pages pages.old) (P.count pages.old) → (damage : Damage) → ¬ IsErrOf result (PageFault.Damaged damage) }
     ensures no_head { ((p : P) → AreTold (P.pages p) (P.count p)) → SparesHead result }
     ensures rises { OnOk result (tables.new.next_word ≤ tables.old.next_word + 1) }
+    ensures at_most { TakesAtMost P.Pages 514 pages.old pages.new result }
     ensures fails { FailsChanging P.Pages pages.old pages.new result }
     ensures frame { Changes P.Pages pages.old pages.new }
 {
@@ -50,7 +51,8 @@ fn take_hold<P: Pages>(
 /// Numbers the words in their order, and maps each number to the word's impact. One place more holds each word whose number
 /// isn't among the old pairs.
 ///
-/// Refuses as the pages do, as [`Tables::hold`] does, and `Memory`. After a refusal pages and the tables may have changed.
+/// Refuses as the pages do, as [`Tables::hold`] does, and `Memory`. After a refusal pages and the tables may have changed. Takes at most
+/// 514 pages a word.
 pub(crate) fn number_words<P: Pages>(
     pages: &mut P,
     tables: &mut Tables,
@@ -73,6 +75,7 @@ pub(crate) fn number_words<P: Pages>(
     ensures map { OnOk result (IsNumberMap pairs.new.entries) }
     ensures rises { OnOk result (tables.new.next_word ≤ tables.old.next_word + length words.now) }
     ensures no_head { ((p : P) → AreTold (P.pages p) (P.count p)) → SparesHead result }
+    ensures at_most { TakesAtMost P.Pages (514 * length words.now) pages.old pages.new result }
     ensures fails { FailsChanging P.Pages pages.old pages.new result }
     ensures frame { Changes P.Pages pages.old pages.new }
 {

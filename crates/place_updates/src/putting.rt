@@ -1,7 +1,7 @@
 //! A place that is put at a key.
-ghost use Rattle.std.specs.Prelude.{◌≡◌, ℕ, ◌≤◌, ◌<◌, ◌+◌, ◌^◌, List, length, IfSome, IfOk, OnErr, IsErrOf, OnOk};
+ghost use Rattle.std.specs.Prelude.{◌≡◌, ℕ, ◌≤◌, ◌<◌, ◌+◌, ◌*◌, ◌^◌, List, length, IfSome, IfOk, OnErr, IsErrOf, OnOk};
 ghost use Rattle.std.specs.Option.{option_copied};
-ghost use Rattle.page_face.specs.Calls.{FailsChanging, Changes};
+ghost use Rattle.page_face.specs.Calls.{FailsChanging, Changes, TakesAtMost};
 ghost use Rattle.btree_nodes.specs.Supply.{view};
 ghost use Rattle.btree_nodes.specs.Damages.{AreTold};
 ghost use Rattle.row_codec.specs.Stored.{IsStored};
@@ -54,6 +54,9 @@ pub fn put_place<P: Pages>(
     ensures rises { OnOk result (tables.new.next_word ≤ tables.old.next_word + 64) }
     ensures no_head { ((p : P) → AreTold (P.pages p) (P.count p)) → SparesHead result }
     ensures kept { OnErr result (tables.new ≡ tables.old) }
+
+    // A put into one of the tables takes at most a page for each level, and one for a new root: 257, since a page says its level in one byte.
+    ensures at_most { TakesAtMost P.Pages (257 + 514 * length words.now) pages.old pages.new result }
     ensures fails { FailsChanging P.Pages pages.old pages.new result }
     ensures frame { Changes P.Pages pages.old pages.new }
 {

@@ -1,6 +1,6 @@
 //! The words that a place held before.
 ghost use Rattle.std.specs.Prelude.{◌≡◌, ℕ, List, OnOk, IsErrOf};
-ghost use Rattle.page_face.specs.Calls.{FailsChanging, Changes};
+ghost use Rattle.page_face.specs.Calls.{FailsReading, TakesNone};
 ghost use Rattle.btree_nodes.specs.Supply.{view};
 ghost use Rattle.btree_nodes.specs.Damages.{AreTold};
 ghost use Rattle.store_tables.specs.Entries.{Entries};
@@ -29,8 +29,8 @@ pub(crate) fn release_words<P: Pages>(
         → AreTold (P.pages pages.old) (P.count pages.old) → (damage : Damage) → ¬ IsErrOf result (PageFault.Damaged damage) }
     ensures no_head { ((p : P) → AreTold (P.pages p) (P.count p)) → SparesHead result }
     ensures next { OnOk result (tables.new.next_word ≡ tables.old.next_word) }
-    ensures fails { FailsChanging P.Pages pages.old pages.new result }
-    ensures frame { Changes P.Pages pages.old pages.new }
+    ensures fails { FailsReading P.Pages pages.old pages.new result }
+    ensures frame { TakesNone P.Pages pages.old pages.new }
 {
     let Some(((number, _), rest)) = old.split_first() else {
         return Ok(());

@@ -1,6 +1,6 @@
 //! A place that is taken out.
 ghost use Rattle.std.specs.Prelude.{◌≡◌, ℕ, List, Some, OnOk, OnErr, IsErrOf};
-ghost use Rattle.page_face.specs.Calls.{FailsChanging, Changes};
+ghost use Rattle.page_face.specs.Calls.{FailsReading, TakesNone};
 ghost use Rattle.btree_nodes.specs.Supply.{view};
 ghost use Rattle.btree_nodes.specs.Damages.{AreTold};
 ghost use Rattle.row_codec.specs.Stored.{IsStored};
@@ -42,8 +42,8 @@ pub fn remove_place<P: Pages>(
     ensures no_head { ((p : P) → AreTold (P.pages p) (P.count p)) → SparesHead result }
     ensures next { tables.new.next_word ≡ tables.old.next_word }
     ensures kept { OnErr result (tables.new ≡ tables.old) }
-    ensures fails { FailsChanging P.Pages pages.old pages.new result }
-    ensures frame { Changes P.Pages pages.old pages.new }
+    ensures fails { FailsReading P.Pages pages.old pages.new result }
+    ensures frame { TakesNone P.Pages pages.old pages.new }
 {
     let mut next = *tables;
     next.remove_place(pages, key)?;

@@ -1,8 +1,8 @@
-use Rattle.std.proofs.Common.{◌≡◌, ℕ, ◌+◌, ◌∷◌, List, length, fold, Err, sym, ap, subst, ◌∙◌, arith, rules}
+use Rattle.std.proofs.Common.{◌≡◌, ℕ, ◌+◌, ◌*◌, ◌≤◌, ◌∷◌, IsErrOf, List, length, fold, Err, sym, ap, subst, ◌∙◌, arith, rules}
 use Rattle.std.proofs.lemmas.Result.{err_from_is_err_and}
 use Rattle.std.specs.Str.{bytes_eq}
 use Rattle.indexmap.specs.IndexMap.{insert_entry}
-use Rattle.page_face.specs.declared.fault.PageFault.TheVariants.{Damaged}
+use Rattle.page_face.specs.declared.fault.PageFault.TheVariants.{Damaged, NoRoom}
 use Rattle.btree_nodes.specs.Supply.{View, view}
 use Rattle.store_tables.specs.Entries.{Entries}
 use Rattle.store_tables.specs.Words.{with_holds}
@@ -46,6 +46,7 @@ loop-word-preserved g c =
             ap (λ (s : HeldAhead). fold with_counted s c.next.new.self) same ∙ ap (fold with_counted now) (sym step) ∙ held.2,
             λ can. subst (λ (s : HeldAhead). CanHoldAhead c.next.new.self s) (sym same) (subst (λ (left : List (List ℕ × ℕ)). CanHoldAhead left now) step (held.3 can)).1,
           );
+      taken = let more = c.hold.ensures.at_most.count in let taken = invariant.taken in omega (arith, long, taken, more);
       count = omega (arith, frame.count, invariant.count);
       room = frame.room ∙ invariant.room;
       faults = c.in_ok-number.ensures.fails.hides_none ∙ invariant.faults;
@@ -59,3 +60,17 @@ returns-in_err-number-clause-no_head g c told damage =
     let p = err_from_is_err_and c.from_residual.result c.from_residual.ensures.1 in
     λ e. (let same : c.in_err-number.field-0.0 ≡ Damaged damage = cc (p.1, p.2, e) in
     c.in_err-number.ensures.no_head told damage (ap Err same))
+
+pub returns-in_err-number-clause-at_most : goal.returns-in_err-number-clause-at_most
+returns-in_err-number-clause-at_most g c =
+    let invariant = c.loop-word.invariant in
+    let step : c.loop-word.word-iterator ≡ (c.in-Some.word.now, c.in-Some.places.now) ∷ c.next.new.self = c.in-Some.ensures.steps in
+    let long : length c.loop-word.word-iterator ≡ length c.next.new.self + 1 = search rules in
+    let taken = invariant.taken in
+    let p = err_from_is_err_and c.from_residual.result c.from_residual.ensures.1 in
+    let same : IsErrOf c.from_residual.result NoRoom → c.in_err-number.field-0.0 ≡ NoRoom = λ e. cc (p.1, p.2, e) in
+    let put = c.in_err-number.ensures.at_most in record {
+      count = let more = put.count in omega (arith, long, taken, more);
+      full = λ e. let full = put.full (ap Err (same e)) in omega (arith, full, invariant.room);
+      none = λ e. put.none (ap Err (same e));
+    }

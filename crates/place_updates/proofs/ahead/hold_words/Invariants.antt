@@ -1,4 +1,4 @@
-use Rattle.std.proofs.Common.{◌≡◌, ℕ, ◌+◌, ◌≤◌, List, [], length, fold}
+use Rattle.std.proofs.Common.{◌≡◌, ℕ, ◌+◌, ◌*◌, ◌≤◌, List, [], length, fold}
 use Rattle.btree_nodes.specs.Supply.{view}
 use Rattle.store_tables.specs.Entries.{Entries}
 use Rattle.store_tables.specs.Holding.{Holds, IsApart, IsChanged}
@@ -15,6 +15,7 @@ invariant-loop-word g l = record {
       × IsChanged (view (g.P.Pages.pages l.fn.pages) (g.P.Pages.count l.fn.pages) (g.P.Pages.first l.fn.pages) free) l.fn.tables (g.P.Pages.pages l.pages) (g.P.Pages.count l.pages) (g.P.Pages.first l.pages) l.tables now
       × (fold with_counted (record { entries = now; next_word = l.tables.next_word; numbers = l.numbers.entries }) l.word-iterator ≡ held_ahead l.counts.entries l.fn.tables.next_word entries)
       × (CanHoldAhead l.counts.entries (record { entries = entries; next_word = l.fn.tables.next_word; numbers = [] }) → CanHoldAhead l.word-iterator (record { entries = now; next_word = l.tables.next_word; numbers = l.numbers.entries }));
+  taken : g.P.Pages.count l.pages + 514 * length l.word-iterator ≤ g.P.Pages.count l.fn.pages + 514 * length l.fn.counts.entries;
   count : g.P.Pages.count l.fn.pages ≤ g.P.Pages.count l.pages;
   room : g.P.Pages.room l.pages ≡ g.P.Pages.room l.fn.pages;
   faults : g.P.Pages.faults l.pages ≡ g.P.Pages.faults l.fn.pages;

@@ -1,13 +1,13 @@
 use Rattle.std.proofs.Common.{ℕ, ◌∷◌, List, Option, option_map, ap, subst}
+use Rattle.std.proofs.lemmas.Result.{IfOk-weaker}
 use Rattle.place_map.specs.declared.update.Update.TheVariants.{Put}
-use Rattle.btree_insert.proofs.Readings.{ok-map}
 use Rattle.store_tables.specs.Words.{WordTablesAgree, holders}
 use Rattle.store_meaning.specs.Ahead.{AreNamedBy, ahead, claimed}
 use Rattle.place_updates.proofs.held.put_in_batch.Goals as goal
 
 pub returns-in-Some-clause-put : goal.returns-in-Some-clause-put
 returns-in-Some-clause-put g c entries free holds apart was =
-    rw c.in-Some.is (ok-map _ _ c.put_held.result (λ stored h. (h.0, c.put_held.ensures.next, h.1)) (c.put_held.ensures.put entries free holds apart was))
+    rw c.in-Some.is (IfOk-weaker c.put_held.result _ _ (λ stored h. (h.0, c.put_held.ensures.next, h.1)) (c.put_held.ensures.put entries free holds apart was))
 
 pub returns-in-Some-clause-honest : goal.returns-in-Some-clause-honest
 returns-in-Some-clause-honest g c entries free holds apart was few name left agree named told damage =

@@ -1,5 +1,5 @@
 use Rattle.std.proofs.Common.{◌≡◌, ℕ, Err, Option, false, cond, unwrap_or, ap, sym, subst, ◌∙◌}
-use Rattle.std.proofs.lemmas.Result.{err_from_is_err_and}
+use Rattle.std.proofs.lemmas.Result.{IfOk-weaker, err_from_is_err_and}
 use Rattle.page_face.specs.declared.fault.PageFault.TheVariants.{Damaged}
 use Rattle.btree_nodes.specs.Supply.{View, view}
 use Rattle.store_tables.specs.Entries.{number_of_word}
@@ -8,7 +8,6 @@ use Rattle.store_tables.specs.Words.{next_after, number_for, with_hold}
 use Rattle.store_tables.proofs.Heads.{map-spares_head}
 use Rattle.store_tables.proofs.ToldLemmas.{apart-counted}
 use Rattle.store_meaning.specs.Updates.{has_pair}
-use Rattle.btree_insert.proofs.Readings.{ok-map}
 use Rattle.place_updates.proofs.numbering.take_hold.Goals as goal
 
 pub returns-in_err-found-clause-honest : goal.returns-in_err-found-clause-honest
@@ -27,7 +26,7 @@ returns-clause-held g c entries free holds apart =
     let kept : IsApart (view (g.P.Pages.pages c.number_of.new.pages) (g.P.Pages.count c.number_of.new.pages) (g.P.Pages.first c.number_of.new.pages) free) c.args.tables.now = rw (r.frame.pages, r.frame.count, r.frame.first) apart in
     let number_is : c.unwrap_or-number.result ≡ number_for c.args.word.now next entries.texts = c.unwrap_or-number.ensures ∙ ap (λ (f : Option ℕ). unwrap_or f next) (c.in_ok-found.ensures.found entries holds) in
     let fresh : has_pair c.unwrap_or-number.result c.args.old.now ≡ false = sym c.has_pair.ensures ∙ c.if-has_pair.false in
-    ok-map _ _ c.hold_numbered.result
+    IfOk-weaker c.hold_numbered.result _ _
     (λ number h.
     let other : has_pair number c.args.old.now ≡ false = ap (λ (n : ℕ). has_pair n c.args.old.now) (h.1 ∙ sym number_is) ∙ fresh in (
       h.1,
