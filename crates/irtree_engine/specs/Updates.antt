@@ -77,12 +77,21 @@ IsAtLimit live number Full = 200000 ≤ live
 IsAtLimit live number Worn = 2 ^ 40 ≤ number
 IsAtLimit live number _ = Unit {0}
 
--- How many takes so many updates in one commit are allowed, over so many pages counted: a fuse that no change in order comes near. An
+-- How many pages so many updates take in the tables at most: each makes 129 puts, of a place and of 64 words by text and by number, and a put
+-- takes one page for each level of its map, of which there are 256 at most, and one for a new root.
+abbrev pub table_takes : ℕ → ℕ
+table_takes updates = 33153 * updates
+
+-- How many takes are allowed to the tree for so many updates, over so many pages counted: a fuse that no change in order comes near. An
 -- update that splits or dissolves a node sets rows for each word of its entries, at most 2,048 of 32 with 64 words each, and in a few
--- nodes; a row takes a page or two where leaves split. The work for one more update is left for the words that a batch holds ahead. Much of
--- what a change takes it gave back before, and the larger the store, the more there is to give back: hence the pages counted.
+-- nodes; a row takes a page or two where leaves split. Much of what a change takes it gave back before, and the larger the store, the more
+-- there is to give back: hence the pages counted.
+abbrev pub tree_takes : ℕ → ℕ → ℕ
+tree_takes updates counted = 32383 * updates + 256 * counted
+
+-- how many takes so many updates in one commit are allowed, over so many pages counted
 abbrev pub most_takes : ℕ → ℕ → ℕ
-most_takes updates counted = 65536 * (updates + 1) + 256 * counted
+most_takes updates counted = table_takes updates + tree_takes updates counted
 
 -- the room is no more than the pages counted and as many as so many updates are allowed to take
 abbrev pub LacksRoom : ℕ → ℕ → ℕ → Type 0

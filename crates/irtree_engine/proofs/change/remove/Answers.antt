@@ -195,7 +195,7 @@ returns-clause-updated g c = λ state left stand.
     let done = remove-done head (g.P.Pages.count mid) (g.P.Pages.first mid) (g.P.Pages.pages mid) state there c.args.key.now c.in_ok-old.field-0 is_found some less in (
       ap (λ (e : Effect). e.answer) done,
       subst (λ (h : Head). StandAhead numbers left (block_with (g.P.Pages.count last) (g.P.Pages.first last) h) (g.P.Pages.pages last) (removed_at state c.args.key.now).state) (sym c.head_after.ensures)
-          (remove-stands numbers left head (g.P.Pages.count mid) (g.P.Pages.first mid) (g.P.Pages.pages mid) state c.args.key.now c.in_ok-old.field-0 c.requires.numbers.1.number (g.P.Pages.pages after) (g.P.Pages.count after) (g.P.Pages.first after) (g.met.P.Pages.first_is_counted after) c.remove_place.ensures.frame.count now
+          (remove-stands numbers left head (g.P.Pages.count mid) (g.P.Pages.first mid) (g.P.Pages.pages mid) state c.args.key.now c.in_ok-old.field-0 c.requires.numbers.1.number (g.P.Pages.pages after) (g.P.Pages.count after) (g.P.Pages.first after) (g.met.P.Pages.first_is_counted after) (omega (arith, c.remove_place.ensures.frame.count)) now
           (g.P.Pages.pages last) (g.P.Pages.count last) (g.P.Pages.first last) (g.met.P.Pages.first_is_counted last) c.take_entry.ensures.frame.count tree
           c.in-Some.old (head.live - 1) ahead is_found c.in-Some.is less (omega arith) next moves regrown),
     )
