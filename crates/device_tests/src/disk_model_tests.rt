@@ -12,18 +12,30 @@ fn left(station: &MemoryStation, tear: Tear) -> Result<[u8; 4], Failure> {
     Ok(bytes)
 }
 
+// What is left with the pages kept, lost or filled with 7s.
+fn left_so(station: &MemoryStation) -> Result<[[u8; 4]; 3], Failure> {
+    Ok([
+        left(station, Tear::Kept)?,
+        left(station, Tear::Lost)?,
+        left(station, Tear::Filled(7))?,
+    ])
+}
+
 #[test]
 fn a_crash_keeps_loses_or_fills_what_is_not_synced(rt: HostRuntime) -> Result<(), Failure> {
     let mut station = MemoryStation::with_image(rt.alloc(), b"abc", b"", 3)?;
     station.write(Area::Pages, 1, b"XYZ")?;
-    assert_eq!(rt; left(&station, Tear::Kept)?, *b"aXYZ");
-    assert_eq!(rt; left(&station, Tear::Lost)?, *b"abc\0");
-    assert_eq!(rt; left(&station, Tear::Filled(7))?, [b'a', 7, 7, 7]);
-    station.sync(Area::Journal)?;
-    assert_eq!(rt; left(&station, Tear::Lost)?, *b"abc\0");
-    station.sync(Area::Pages)?;
-    assert_eq!(rt; left(&station, Tear::Lost)?, *b"aXYZ");
-    assert_eq!(rt; left(&station, Tear::Filled(7))?, *b"aXYZ");
+    let unsynced = [*b"aXYZ", *b"abc\0", [b'a', 7, 7, 7]];
+    for (area, after) in [
+        (None, unsynced),
+        (Some(Area::Journal), unsynced),
+        (Some(Area::Pages), [*b"aXYZ"; 3]),
+    ] {
+        if let Some(area) = area {
+            station.sync(area)?;
+        }
+        assert_eq!(rt; left_so(&station)?, after);
+    }
     Ok(())
 }
 
@@ -40,19 +52,32 @@ fn a_call_fails_where_it_is_listed_or_past_the_stop(rt: HostRuntime) -> Result<(
             nth: 2,
         },
     ])?;
-    assert_eq!(rt; station.sync(Area::Pages), Err(Failed));
-    assert_eq!(rt; station.sync(Area::Pages), Ok(()));
-    assert_eq!(rt; station.say(b"hi"), Ok(2));
-    assert_eq!(rt; station.say(b"ho"), Err(Failed));
+    let synced = [station.sync(Area::Pages), station.sync(Area::Pages)];
+    let said = [station.say(b"hi"), station.say(b"ho")];
     station.stop_after(5);
-    assert_eq!(rt; station.read(Area::Journal, 8, &mut [0; 1]), Ok(()));
-    assert_eq!(rt; station.read(Area::Journal, 8, &mut [0; 1]), Err(Failed));
+    let mut byte = [0];
+    let read = [
+        station.read(Area::Journal, 8, &mut byte),
+        station.read(Area::Journal, 8, &mut byte),
+    ];
+    assert_eq!(rt;
+        (synced, said, read),
+        (
+            [Err(Failed), Ok(())],
+            [Ok(2), Err(Failed)],
+            [Ok(()), Err(Failed)]
+        )
+    );
     assert_eq!(rt; station.said(), b"hi".as_slice());
     assert_eq!(rt;
-        (station.calls(), station.reads(), station.lacks()),
-        (6, 2, 0)
+        (
+            station.calls(),
+            station.reads(),
+            station.lacks(),
+            station.faults()
+        ),
+        (6, 2, 0, (2, 1))
     );
-    assert_eq!(rt; station.faults(), (2, 1));
     Ok(())
 }
 
@@ -60,13 +85,15 @@ fn a_call_fails_where_it_is_listed_or_past_the_stop(rt: HostRuntime) -> Result<(
 fn bytes_come_in_pieces_until_none_is_left(rt: HostRuntime) -> Result<(), Failure> {
     let mut source = MemorySource::new(rt.alloc(), b"abcde", 2, &[2])?;
     let mut buf = [0; 8];
-    assert!(rt; source.read(&mut buf) == Ok(2));
-    assert!(rt; buf[..2].starts_with(b"ab"));
-    assert!(rt; source.read(&mut buf).is_err());
-    assert!(rt; source.read(&mut buf) == Ok(2));
-    assert!(rt; buf[..2].starts_with(b"cd"));
-    assert!(rt; source.read(&mut buf) == Ok(1));
-    assert!(rt; buf[..1].starts_with(b"e"));
-    assert!(rt; source.read(&mut buf) == Ok(0));
+    let pieces: [(Result<usize, Failed>, &[u8]); 5] = [
+        (Ok(2), b"ab"),
+        (Err(Failed), b""),
+        (Ok(2), b"cd"),
+        (Ok(1), b"e"),
+        (Ok(0), b""),
+    ];
+    for (read, piece) in pieces {
+        assert!(rt; source.read(&mut buf) == read && buf.starts_with(piece));
+    }
     Ok(())
 }

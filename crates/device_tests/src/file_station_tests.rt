@@ -134,34 +134,26 @@ fn links_lead_to_one_store(rt: HostRuntime) -> Result<(), Fail> {
 fn what_is_no_file_is_refused(rt: HostRuntime) -> Result<(), Fail> {
     let store = store_path(&rt)?;
     let inside = format!(in rt.alloc(); "{}/none", store.as_str())?;
-    assert!(rt;
-        opens_so(
-            &rt,
-            &inside,
-            "/none: No such file or directory (os error 2); make its folder, or name another store"
-        )?
-    );
-    assert!(rt;
-        opens_so(
-            &rt,
+    for (path, words) in [
+        (
+            inside.as_str(),
+            "/none: No such file or directory (os error 2); make its folder, or name another store",
+        ),
+        (
             "/tmp",
-            "/tmp: Is a directory (os error 21); name a file in a folder"
-        )?
-    );
-    assert!(rt;
-        opens_so(
-            &rt,
+            "/tmp: Is a directory (os error 21); name a file in a folder",
+        ),
+        (
             "/dev/null",
-            "/dev/null: it is a device, a pipe or a folder; name a file"
-        )?
-    );
-    assert!(rt;
-        opens_so(
-            &rt,
+            "/dev/null: it is a device, a pipe or a folder; name a file",
+        ),
+        (
             "/no\nne/a",
-            "/no?ne/a: No such file or directory (os error 2); make its folder, or name another store"
-        )?
-    );
+            "/no?ne/a: No such file or directory (os error 2); make its folder, or name another store",
+        ),
+    ] {
+        assert!(rt; opens_so(&rt, path, words)?);
+    }
     Ok(())
 }
 

@@ -69,54 +69,77 @@ fn write_all(
     pages.write(3, root)
 }
 
+// Takes the pages 1, 2 and 3.
+fn take_three(pages: &mut MemoryPages) -> Result<(), PageFault> {
+    for _ in 0..3 {
+        pages.take()?;
+    }
+    Ok(())
+}
+
+// A map at page 3 of four rows, in the leaves 1 and 2.
+fn write_four(pages: &mut MemoryPages) -> Result<(), PageFault> {
+    take_three(pages)?;
+    write_all(pages, &leaf(2, 4), &leaf(6, 8), &inner(1, 1, 6, 2))
+}
+
+// The leaf that has a key, and the first byte of its value.
+fn look_up(pages: &mut MemoryPages, root: u32, last: u8) -> Result<Option<(u32, u8)>, PageFault> {
+    let map: PagedMap<Wide> = PagedMap::at(root);
+    let mut value = [0; 765];
+    Ok(match map.get(pages, &key(last), &mut value)? {
+        Some(leaf) => Some((leaf, value[0])),
+        None => None,
+    })
+}
+
+// The leaf, the last byte of the key and the first one of the value of the first row from a key on.
+fn first_row(
+    pages: &mut MemoryPages,
+    root: u32,
+    last: u8,
+) -> Result<Option<(u32, u8, u8)>, PageFault> {
+    let map: PagedMap<Wide> = PagedMap::at(root);
+    let mut found = [0; 255];
+    let mut value = [0; 765];
+    Ok(
+        match map.first_from(pages, &key(last), &mut found, &mut value)? {
+            Some(leaf) => Some((leaf, found[254], value[0])),
+            None => None,
+        },
+    )
+}
+
 #[test]
 fn rows_are_found_by_key_and_in_order(rt: HostRuntime) -> Result<(), Fail> {
     let mut pages = MemoryPages::new(rt.alloc(), 8);
-    assert_eq!(rt; pages.take(), Ok(1));
-    assert_eq!(rt; pages.take(), Ok(2));
-    assert_eq!(rt; pages.take(), Ok(3));
-    assert_eq!(rt;
-        write_all(&mut pages, &leaf(2, 4), &leaf(6, 8), &inner(1, 1, 6, 2)),
-        Ok(())
-    );
-    let map: PagedMap<Wide> = PagedMap::at(3);
-    let mut found = [0; 255];
-    let mut value = [0; 765];
-    assert_eq!(rt; map.root(), 3);
-    assert_eq!(rt; map.get(&mut pages, &key(4), &mut value), Ok(Some(1)));
-    assert_eq!(rt; value[0], 4);
-    assert_eq!(rt; map.get(&mut pages, &key(6), &mut value), Ok(Some(2)));
-    assert_eq!(rt; map.get(&mut pages, &key(5), &mut value), Ok(None));
-    assert_eq!(rt;
-        map.first_from(&mut pages, &key(0), &mut found, &mut value),
-        Ok(Some(1))
-    );
-    assert_eq!(rt; found[254], 2);
-    assert_eq!(rt;
-        map.first_from(&mut pages, &key(5), &mut found, &mut value),
-        Ok(Some(2))
-    );
-    assert_eq!(rt; found[254], 6);
-    assert_eq!(rt; value[0], 6);
-    assert_eq!(rt;
-        map.first_from(&mut pages, &key(9), &mut found, &mut value),
-        Ok(None)
-    );
-    let none: PagedMap<Wide> = PagedMap::at(0);
-    assert_eq!(rt; none.get(&mut pages, &key(4), &mut value), Ok(None));
-    assert_eq!(rt;
-        none.first_from(&mut pages, &key(0), &mut found, &mut value),
-        Ok(None)
-    );
+    assert_eq!(rt; write_four(&mut pages), Ok(()));
+    for (root, last, row) in [
+        (3, 4, Some((1, 4))),
+        (3, 6, Some((2, 6))),
+        (3, 5, None),
+        (0, 4, None),
+    ] {
+        assert_eq!(rt; look_up(&mut pages, root, last), Ok(row));
+    }
+    for (root, last, row) in [
+        (3, 0, Some((1, 2, 2))),
+        (3, 3, Some((1, 4, 4))),
+        (3, 4, Some((1, 4, 4))),
+        (3, 5, Some((2, 6, 6))),
+        (3, 7, Some((2, 8, 8))),
+        (3, 9, None),
+        (0, 0, None),
+    ] {
+        assert_eq!(rt; first_row(&mut pages, root, last), Ok(row));
+    }
     Ok(())
 }
 
 #[test]
 fn a_broken_page_is_named_with_its_rule(rt: HostRuntime) -> Result<(), Fail> {
     let mut pages = MemoryPages::new(rt.alloc(), 8);
-    assert_eq!(rt; pages.take(), Ok(1));
-    assert_eq!(rt; pages.take(), Ok(2));
-    assert_eq!(rt; pages.take(), Ok(3));
+    assert_eq!(rt; take_three(&mut pages), Ok(()));
     let cases = [
         (leaf(2, 4), inner(255, 3, 6, 2), 3, Rule::Level),
         (leaf(2, 4), inner(1, 7, 6, 2), 7, Rule::Link),
@@ -304,97 +327,53 @@ fn a_key_that_is_not_there_is_not_removed(rt: HostRuntime) -> Result<(), Fail> {
     Ok(())
 }
 
-// How many rows the page has, and how many pages are counted.
-fn rows_in(pages: &mut MemoryPages, page: u32) -> Result<(u8, u32), PageFault> {
-    let bytes = pages.read(page)?;
-    Ok((bytes[3], pages.counted()))
+// How many rows leaf 1 has, and how many pages are counted, where the root and leaf 2 are as they were written.
+fn left_leaf(pages: &mut MemoryPages) -> Result<Option<(u8, u32)>, PageFault> {
+    let rows = pages.read(1)?[3];
+    let same = pages.read(2)? == leaf(6, 8) && pages.read(3)? == inner(1, 1, 6, 2);
+    Ok(if same {
+        Some((rows, pages.counted()))
+    } else {
+        None
+    })
 }
 
 #[test]
 fn a_row_is_put_into_its_leaf_until_that_is_full(rt: HostRuntime) -> Result<(), Fail> {
     let mut pages = MemoryPages::new(rt.alloc(), 8);
-    assert_eq!(rt; pages.take(), Ok(1));
-    assert_eq!(rt; pages.take(), Ok(2));
-    assert_eq!(rt; pages.take(), Ok(3));
-    let root = inner(1, 1, 6, 2);
-    assert_eq!(rt;
-        write_all(&mut pages, &leaf(2, 4), &leaf(6, 8), &root),
-        Ok(())
-    );
+    assert_eq!(rt; write_four(&mut pages), Ok(()));
     let mut map: PagedMap<Wide> = PagedMap::at(3);
-    let mut value = [7; 765];
-    // the key, whether it was there, the rows of the left leaf then, and the pages counted
-    let cases = [
-        (4, true, 2, 4),
-        (3, false, 3, 4),
-        (5, false, 4, 4),
-        (2, true, 4, 4),
-    ];
-    for (last, had, rows, counted) in &cases {
-        assert_eq!(rt; map.put(&mut pages, &key(*last), &value), Ok(*had));
-        assert_eq!(rt; rows_in(&mut pages, 1), Ok((*rows, *counted)));
-        assert_eq!(rt; pages.read(2), Ok(leaf(6, 8)));
-        assert_eq!(rt; pages.read(3), Ok(root));
-        value[0] = 0;
-        assert_eq!(rt; map.get(&mut pages, &key(*last), &mut value), Ok(Some(1)));
-        assert_eq!(rt; value[0], 7);
+    // the key, whether it was there, and the rows of leaf 1 and the pages counted then
+    for (last, had, left) in [
+        (4, true, Some((2, 4))),
+        (3, false, Some((3, 4))),
+        (5, false, Some((4, 4))),
+        (2, true, Some((4, 4))),
+        (1, false, None),
+    ] {
+        assert_eq!(rt; map.put(&mut pages, &key(last), &[7; 765]), Ok(had));
+        assert_eq!(rt; look_up(&mut pages, 3, last), Ok(Some((1, 7))));
+        assert_eq!(rt; left_leaf(&mut pages), Ok(left));
     }
-    assert_eq!(rt; map.put(&mut pages, &key(1), &value), Ok(false));
-    assert_eq!(rt; rows_in(&mut pages, 1), Ok((2, 5)));
+    assert_eq!(rt; pages.counted(), 5);
     Ok(())
 }
 
 #[test]
 fn a_row_is_taken_out_of_its_leaf_down_to_the_least_count(rt: HostRuntime) -> Result<(), Fail> {
     let mut pages = MemoryPages::new(rt.alloc(), 8);
-    assert_eq!(rt; pages.take(), Ok(1));
-    assert_eq!(rt; pages.take(), Ok(2));
-    assert_eq!(rt; pages.take(), Ok(3));
-    let root = inner(1, 1, 6, 2);
-    assert_eq!(rt;
-        write_all(&mut pages, &leaf(2, 4), &leaf(6, 8), &root),
-        Ok(())
-    );
+    assert_eq!(rt; write_four(&mut pages), Ok(()));
     let mut map: PagedMap<Wide> = PagedMap::at(3);
     assert_eq!(rt; map.put(&mut pages, &key(3), &[7; 765]), Ok(false));
-    assert_eq!(rt; map.remove(&mut pages, &key(5)), Ok(false));
-    assert_eq!(rt; rows_in(&mut pages, 1), Ok((3, 4)));
-    assert_eq!(rt; map.remove(&mut pages, &key(3)), Ok(true));
-    assert_eq!(rt; pages.read(1), Ok(leaf(2, 4)));
-    assert_eq!(rt; pages.read(3), Ok(root));
-    assert_eq!(rt; map.root(), 3);
-    assert_eq!(rt; map.remove(&mut pages, &key(4)), Ok(true));
-    assert_eq!(rt; rows_in(&mut pages, map.root()), Ok((3, 4)));
-    assert_eq!(rt; pages.first_free() > 0, true);
-    Ok(())
-}
-
-#[test]
-fn the_first_row_past_a_leaf_is_that_of_the_next(rt: HostRuntime) -> Result<(), Fail> {
-    let mut pages = MemoryPages::new(rt.alloc(), 8);
-    assert_eq!(rt; pages.take(), Ok(1));
-    assert_eq!(rt; pages.take(), Ok(2));
-    assert_eq!(rt; pages.take(), Ok(3));
-    assert_eq!(rt;
-        write_all(&mut pages, &leaf(2, 4), &leaf(7, 9), &inner(1, 1, 6, 2)),
-        Ok(())
-    );
-    let map: PagedMap<Wide> = PagedMap::at(3);
-    let mut found = [0; 255];
-    let mut value = [0; 765];
-    let cases = [
-        (0, Some(1), 2),
-        (3, Some(1), 4),
-        (4, Some(1), 4),
-        (5, Some(2), 7),
-        (6, Some(2), 7),
-        (8, Some(2), 9),
-        (10, None, 9),
-    ];
-    for (last, leaf, first) in &cases {
-        let answer = map.first_from(&mut pages, &key(*last), &mut found, &mut value);
-        assert_eq!(rt; answer, Ok(*leaf));
-        assert_eq!(rt; found[254], *first);
+    for (last, had, left) in [
+        (5, false, Some((3, 4))),
+        (3, true, Some((2, 4))),
+        (4, true, None),
+    ] {
+        assert_eq!(rt; map.remove(&mut pages, &key(last)), Ok(had));
+        assert_eq!(rt; left_leaf(&mut pages), Ok(left));
     }
+    assert_eq!(rt; pages.read(map.root()).map(|page| page[3]), Ok(3));
+    assert!(rt; pages.first_free() > 0);
     Ok(())
 }

@@ -122,33 +122,47 @@ fn fill_leaves(pages: &mut MemoryPages, tree: &mut Tree) -> Result<(), PageFault
     Ok(())
 }
 
+// Sets a row of one byte, and one of zeros in its place.
+fn set_and_clear(pages: &mut MemoryPages, tree: &mut Tree) -> Result<(), PageFault> {
+    set_row(pages, tree, 7, 1, &single(0, 9))?;
+    set_row(pages, tree, 7, 1, &[0; 32])
+}
+
+// Raises slot 2 of node 7 by two words, and moves its slots 0 and 1 to node 11.
+fn raise_and_move(
+    alloc: Global,
+    pages: &mut MemoryPages,
+    tree: &mut Tree,
+) -> Result<(), PageFault> {
+    raise(pages, tree, 7, 2, &[(1, 3), (5, 6)])?;
+    move_slots(alloc, pages, tree, 7, 3, 11)
+}
+
+// Gives slot 4 of node 9 the words of node 7, sets and renews one of them, and drops node 7.
+fn renew_and_drop(
+    alloc: Global,
+    pages: &mut MemoryPages,
+    tree: &mut Tree,
+) -> Result<(), PageFault> {
+    refresh(pages, tree, 9, 4, 7)?;
+    set_impact(pages, tree, 9, 4, 5, 1)?;
+    renew(alloc, pages, tree, 9, 4, 7, &[(5, 0)])?;
+    drop_node(alloc, pages, tree, 7)
+}
+
 #[test]
 fn rows_are_found_in_order_and_move_and_are_dropped(rt: HostRuntime) -> Result<(), Fail> {
     let mut pages = MemoryPages::new(rt.alloc(), 8);
     let mut tree = Tree { root: 5, rows: 0 };
     // A row of zeros is removed, and its page is free.
-    assert_eq!(rt; set_row(&mut pages, &mut tree, 7, 1, &single(0, 9)), Ok(()));
-    assert_eq!(rt; set_row(&mut pages, &mut tree, 7, 1, &[0; 32]), Ok(()));
+    assert_eq!(rt; set_and_clear(&mut pages, &mut tree), Ok(()));
     assert_eq!(rt; (tree, pages.first_free()), (Tree { root: 5, rows: 0 }, 1));
     assert_eq!(rt; fill(&mut pages, &mut tree), Ok(()));
     assert_eq!(rt; are_there(&mut pages, &tree, &READ), Ok(true));
     assert_eq!(rt; are_in_order(&mut pages, &tree), Ok(true));
-    assert_eq!(rt;
-        raise(&mut pages, &mut tree, 7, 2, &[(1, 3), (5, 6)]),
-        Ok(())
-    );
-    assert_eq!(rt;
-        move_slots(rt.alloc(), &mut pages, &mut tree, 7, 3, 11),
-        Ok(())
-    );
+    assert_eq!(rt; raise_and_move(rt.alloc(), &mut pages, &mut tree), Ok(()));
     assert_eq!(rt; are_there(&mut pages, &tree, &MOVED), Ok(true));
-    assert_eq!(rt; refresh(&mut pages, &mut tree, 9, 4, 7), Ok(()));
-    assert_eq!(rt; set_impact(&mut pages, &mut tree, 9, 4, 5, 1), Ok(()));
-    assert_eq!(rt;
-        renew(rt.alloc(), &mut pages, &mut tree, 9, 4, 7, &[(5, 0)]),
-        Ok(())
-    );
-    assert_eq!(rt; drop_node(rt.alloc(), &mut pages, &mut tree, 7), Ok(()));
+    assert_eq!(rt; renew_and_drop(rt.alloc(), &mut pages, &mut tree), Ok(()));
     assert_eq!(rt; are_there(&mut pages, &tree, &DROPPED), Ok(true));
     Ok(())
 }

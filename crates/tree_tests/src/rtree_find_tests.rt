@@ -31,6 +31,14 @@ fn put_child(page: &mut Page, at: usize, east: i32, north: i32, child: u32)
     }
 }
 
+// Takes the pages 1, 2 and 3.
+fn take_three(pages: &mut MemoryPages) -> Result<(), PageFault> {
+    for _ in 0..3 {
+        pages.take()?;
+    }
+    Ok(())
+}
+
 // Looks for a place, and gives the root's level and the slots at level 1 and 0.
 fn look_for(
     pages: &mut MemoryPages,
@@ -40,15 +48,11 @@ fn look_for(
     serial: u64,
 ) -> Result<Option<(u8, u8, u8)>, PageFault> {
     let mut path = [0; 10];
-    let point = match Point::new(x, y) {
-        Some(point) => point,
-        None => return Ok(None),
+    let Some(point) = Point::new(x, y) else {
+        return Ok(None);
     };
-    match find(pages, root, &point, &Key::auto(serial), &mut path) {
-        Ok(Some(level)) => Ok(Some((level, path[1], path[0]))),
-        Ok(None) => Ok(None),
-        Err(fault) => Err(fault),
-    }
+    let level = find(pages, root, &point, &Key::auto(serial), &mut path)?;
+    Ok(level.map(|level| (level, path[1], path[0])))
 }
 
 // Leaves at pages 1 and 2, whose rectangles overlap, below a root at page 3.
@@ -62,6 +66,7 @@ fn write_tree(pages: &mut MemoryPages) -> Result<(), PageFault> {
     let mut root = new_node(1);
     put_child(&mut root, 2, 9, 9, 1);
     put_child(&mut root, 31, 8, 5, 2);
+    take_three(pages)?;
     pages.write(1, &first)?;
     pages.write(2, &second)?;
     pages.write(3, &root)
@@ -70,24 +75,25 @@ fn write_tree(pages: &mut MemoryPages) -> Result<(), PageFault> {
 #[test]
 fn an_entry_is_found_by_its_point_and_its_key(rt: HostRuntime) -> Result<(), Fail> {
     let mut pages = MemoryPages::new(rt.alloc(), 9);
-    assert_eq!(rt; pages.take(), Ok(1));
-    assert_eq!(rt; pages.take(), Ok(2));
-    assert_eq!(rt; pages.take(), Ok(3));
     assert_eq!(rt; write_tree(&mut pages), Ok(()));
-    assert_eq!(rt; look_for(&mut pages, 3, 5, 5, 1), Ok(Some((1, 2, 0))));
-    assert_eq!(rt; look_for(&mut pages, 3, 9, 9, 2), Ok(Some((1, 2, 31))));
-    assert_eq!(rt; look_for(&mut pages, 3, 5, 5, 3), Ok(Some((1, 31, 4))));
-    assert_eq!(rt; look_for(&mut pages, 3, 8, 0, 4), Ok(Some((1, 31, 6))));
-    assert_eq!(rt; look_for(&mut pages, 3, 5, 5, 4), Ok(None));
-    assert_eq!(rt; look_for(&mut pages, 3, 8, 1, 4), Ok(None));
-    assert_eq!(rt; look_for(&mut pages, 3, -1, 5, 1), Ok(None));
-    assert_eq!(rt; look_for(&mut pages, 2, 5, 5, 3), Ok(Some((0, 0, 4))));
-    assert_eq!(rt; look_for(&mut pages, 0, 5, 5, 1), Ok(None));
+    for (root, x, y, serial, found) in [
+        (3, 5, 5, 1, Some((1, 2, 0))),
+        (3, 9, 9, 2, Some((1, 2, 31))),
+        (3, 5, 5, 3, Some((1, 31, 4))),
+        (3, 8, 0, 4, Some((1, 31, 6))),
+        (3, 5, 5, 4, None),
+        (3, 8, 1, 4, None),
+        (3, -1, 5, 1, None),
+        (2, 5, 5, 3, Some((0, 0, 4))),
+        (0, 5, 5, 1, None),
+    ] {
+        assert_eq!(rt; look_for(&mut pages, root, x, y, serial), Ok(found));
+    }
     Ok(())
 }
 
-// What a tree is refused for whose root at page 3 has one child, at page 1.
-fn refused(
+// What a place is looked for in, whose root at page 3 has one child, at page 1.
+fn look_in(
     pages: &mut MemoryPages,
     root: &Page,
     leaf: &Page,
@@ -97,39 +103,39 @@ fn refused(
     look_for(pages, 3, 5, 5, 1)
 }
 
-fn damage(page: u32, rule: Rule) -> Result<Option<(u8, u8, u8)>, PageFault> {
-    Err(PageFault::Damaged(Damage { page, rule }))
+// A page with another byte at a place.
+fn with_byte(page: &Page, at: usize, byte: u8) -> Page
+    requires { at < 4096 }
+{
+    let mut page = *page;
+    page[at] = byte;
+    page
 }
 
 #[test]
 fn a_broken_page_is_named_with_its_rule(rt: HostRuntime) -> Result<(), Fail> {
     let mut pages = MemoryPages::new(rt.alloc(), 9);
-    assert_eq!(rt; pages.take(), Ok(1));
-    assert_eq!(rt; pages.take(), Ok(2));
-    assert_eq!(rt; pages.take(), Ok(3));
+    assert_eq!(rt; take_three(&mut pages), Ok(()));
     let mut leaf = new_node(0);
     put_place(&mut leaf, 0, 5, 5, 1);
     let mut root = new_node(1);
     put_child(&mut root, 0, 9, 9, 1);
-    assert_eq!(rt; refused(&mut pages, &root, &leaf), Ok(Some((1, 0, 0))));
-    let mut broken = leaf;
-    broken[0] = 4;
-    assert_eq!(rt; refused(&mut pages, &root, &broken), damage(1, Rule::Kind));
-    assert_eq!(rt;
-        refused(&mut pages, &root, &new_node(0)),
-        damage(1, Rule::Fill)
-    );
-    assert_eq!(rt; refused(&mut pages, &root, &root), damage(1, Rule::Level));
-    let mut high = root;
-    high[1] = 10;
-    assert_eq!(rt; refused(&mut pages, &high, &leaf), damage(3, Rule::Level));
-    let mut turned = root;
-    turned[27] = 255;
-    assert_eq!(rt; refused(&mut pages, &turned, &leaf), Ok(Some((1, 0, 0))));
-    turned[24] = 255;
-    assert_eq!(rt; refused(&mut pages, &turned, &leaf), damage(3, Rule::Value));
-    let mut astray = root;
-    astray[35] = 4;
-    assert_eq!(rt; refused(&mut pages, &astray, &leaf), damage(4, Rule::Link));
+    let wider = with_byte(&root, 27, 255);
+    for (root, leaf, broken) in [
+        (root, leaf, None),
+        (wider, leaf, None),
+        (root, with_byte(&leaf, 0, 4), Some((1, Rule::Kind))),
+        (root, new_node(0), Some((1, Rule::Fill))),
+        (root, root, Some((1, Rule::Level))),
+        (with_byte(&root, 1, 10), leaf, Some((3, Rule::Level))),
+        (with_byte(&wider, 24, 255), leaf, Some((3, Rule::Value))),
+        (with_byte(&root, 35, 4), leaf, Some((4, Rule::Link))),
+    ] {
+        let answer = match broken {
+            Some((page, rule)) => Err(PageFault::Damaged(Damage { page, rule })),
+            None => Ok(Some((1, 0, 0))),
+        };
+        assert_eq!(rt; look_in(&mut pages, &root, &leaf), answer);
+    }
     Ok(())
 }
