@@ -1,13 +1,9 @@
 -- Logs of several calls.
-use Rattle.std.proofs.Common.{◌≡◌, ℕ, List, [], ◌∷◌, ◌++◌, sym, ap, ◌∙◌, append_assoc, Result, Ok, Err, refl}
+use Rattle.std.proofs.Common.{◌≡◌, ℕ, List, [], ◌∷◌, ◌++◌, sym, ap, ◌∙◌, append_assoc}
 use Rattle.std.specs.List.{Contains}
-use Rattle.std.proofs.lemmas.List.{append-nil}
-use Rattle.page_face.specs.Causes.{asked_after}
-use Rattle.page_face.specs.declared.fault.PageFault.{PageFault}
-use Rattle.page_face.specs.declared.fault.PageFault.TheVariants.{Disk, NoRoom, Stopped, Damaged, Memory}
 use Rattle.btree_nodes.specs.Damages.{AskedSince}
 use Rattle.best_first.specs.Openings.{AsksNodes}
-use Rattle.best_first.proofs.Lists.{all_weaker, all_append, all_in}
+use Rattle.best_first.proofs.Lists.{all_weaker, all_append}
 
 -- asked for in the last call: asked for in all of them
 pub asked_sooner : (old more new : List ℕ) (page : ℕ) → AskedSince (old ++ more) new page → AskedSince old new page
@@ -48,20 +44,3 @@ asks_then is_node ns old mid new a b = record {
   log = b.log ∙ ap (λ l. l ++ b.more) a.log ∙ append_assoc old a.more b.more;
   alone = all_append (λ page. is_node page → Contains ns page) a.more b.more a.alone b.alone;
 }
-
--- no page was asked for
-pub asks_none : (is_node : ℕ → Type 0) (ns old : List ℕ) → AsksNodes is_node ns old old
-asks_none is_node ns old = record { more = []; log = sym (append-nil old); alone = tt }
-
--- one page was asked for
-pub asks_one : (is_node : ℕ → Type 0) (page : ℕ) (old : List ℕ) → AsksNodes is_node (page ∷ []) old (old ++ page ∷ [])
-asks_one is_node page old = record { more = page ∷ []; log = refl; alone = ((λ t. (all_in (page ∷ [])).0), tt) }
-
--- a look at a page
-pub asks_looked : {T : Type 0} (is_node : ℕ → Type 0) (page : ℕ) (result : Result T PageFault) (old new : List ℕ) → new ≡ asked_after result page old → AsksNodes is_node (page ∷ []) old new
-asks_looked is_node page (Ok t) old new e = rw e (asks_one is_node page old)
-asks_looked is_node page (Err Disk) old new e = rw e (asks_one is_node page old)
-asks_looked is_node page (Err NoRoom) old new e = rw e (asks_one is_node page old)
-asks_looked is_node page (Err Stopped) old new e = rw e (asks_none is_node (page ∷ []) old)
-asks_looked is_node page (Err (Damaged damage)) old new e = rw e (asks_one is_node page old)
-asks_looked is_node page (Err Memory) old new e = rw e (asks_none is_node (page ∷ []) old)

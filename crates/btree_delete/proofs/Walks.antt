@@ -2,7 +2,7 @@
 use Rattle.std.proofs.Common.{append_assoc, ◌≡◌, ℕ, zero, suc, ◌<◌, ◌≤◌, inl, inr, List, [], ◌∷◌, ◌++◌, length, arith, refl, sym, ap, ◌∙◌, subst, Result, Err, Option, Some, None}
 use Rattle.page_face.specs.FreeList.{PageMap}
 use Rattle.page_face.specs.Calls.{Reads, TakesNone}
-use Rattle.page_face.specs.Causes.{IsUncounted, asked_after}
+use Rattle.page_face.specs.Causes.{asked_after}
 use Rattle.page_face.specs.declared.fault.Rule.{Rule}
 use Rattle.page_face.specs.declared.fault.Damage.{Damage}
 use Rattle.page_face.specs.declared.fault.PageFault.{PageFault}
@@ -59,18 +59,6 @@ named-refused {T = T} asked new child result damage n e same =
 -- the page asked for, and then its child
 pub asked-child : (before asked new : List ℕ) (page child : ℕ) → AskedSince before asked page → new ≡ asked ++ child ∷ [] → AskedSince before new child
 asked-child before asked new page child a e = asked-from before asked new page child a (asked-here asked new child e)
-
--- what was looked at stays so with more cells
-pub looked-more : (form : Form) (counted counted' below : ℕ) (bytes : List ℕ) (at count cells cells' : ℕ) (o : Option Beside) → counted' ≡ counted → cells ≤ cells'
-    → HasLooked form counted below bytes at count cells o → HasLooked form counted' below bytes at count cells' o
-looked-more form counted counted' below bytes at count cells cells' None e h l = omega arith
-looked-more form counted counted' below bytes at count cells cells' (Some b) e h l = record {
-  place = l.place;
-  is_counted = λ u. l.is_counted (subst (λ (k : ℕ). IsUncounted k (child_of form bytes b.at)) e u);
-  count_is = l.count_is;
-  half = l.half;
-  fits = l.fits;
-}
 
 -- the neighbour's bytes are those of its page, where that is told and stays
 pub beside-is : (form : Form) (pages old mid : PageMap) (counted below : ℕ) (bytes : List ℕ) (at count cells : ℕ) (o : Option Beside) → pages ≡ old → HasLooked form counted below bytes at count cells o → TellsBeside form pages bytes o

@@ -125,9 +125,6 @@ module _ (form : Form) (rest : ℕ) (b : List ℕ) (long : (form.key + 4) * suc 
   zeroed : List ℕ
   zeroed = replicate form.key 0 ++ drop form.key b
 
-  key-less : form.key + 4 ≤ length b
-  key-less = omega (arith, mul-le-mul_left {m = 1} {n = suc rest} (form.key + 4) (omega arith))
-
   child-same : drop form.key (take (form.key + 4) zeroed) ≡ drop form.key (take (form.key + 4) b)
   unfolding zeroed
   child-same = drop-take form.key 4 zeroed ∙ ap (take 4) (drop_at (replicate form.key 0) (drop form.key b) form.key (length-replicate form.key 0)) ∙ sym (drop-take form.key 4 b)

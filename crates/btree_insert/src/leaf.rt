@@ -70,16 +70,17 @@ fn store_leaf<P: Pages>(
         return Ok(0);
     }
     let half = count / 2;
+    let cut = width * half;
     let right = split_page(
         pages,
         shape,
         page,
         half as u16,
-        &cells[..width * half],
+        &cells[..cut],
         (count - half) as u16,
-        &cells[width * half..],
+        &cells[cut..],
     )?;
-    middle.copy_from_slice(&cells[width * half..width * half + form.key]);
+    middle.copy_from_slice(&cells[cut..cut + form.key]);
     Ok(right)
 }
 

@@ -164,24 +164,10 @@ module _ (form : Form) (page : List ℕ) (low high count : ℕ) (is : count ≡ 
         subst (λ (k : ℕ). (get_or (with_low low (entries_in form page)) k no_entry).0 < high) same b)),
   )
 
--- a cell of an inner page
-pub width-inner : (form : Form) (level : ℕ) → (level ≡ 0 → ⊥) → width_of form level ≡ form.key + 4
-width-inner form zero h = absurd (h refl)
-width-inner form (suc level) h = refl
-
 -- a leaf's cell
 pub width-leaf : (form : Form) (level : ℕ) → level ≡ 0 → width_of form level ≡ form.key + form.value
 width-leaf form zero h = refl
 width-leaf form (suc level) h = absurd (omega arith)
-
--- the least number of cells of a root
-pub least-inner : (level : ℕ) → (level ≡ 0 → ⊥) → least_of_root level ≡ 2
-least-inner zero h = absurd (h refl)
-least-inner (suc level) h = refl
-
-pub least-leaf : (level : ℕ) → level ≡ 0 → least_of_root level ≡ 1
-least-leaf zero h = refl
-least-leaf (suc level) h = absurd (omega arith)
 
 pub least-some : (level : ℕ) → 1 ≤ least_of_root level
 least-some zero = omega arith

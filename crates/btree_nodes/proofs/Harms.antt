@@ -16,23 +16,6 @@ use Rattle.btree_nodes.proofs.Frames.{with_low-total}
 use Rattle.btree_nodes.proofs.Supplies.{one_at-same}
 use Rattle.std.specs.List.{AllByRecursion}
 
--- a page whose order wasn't looked at breaks the same rule
-pub breaks-ordered : (rule : Rule) (number kind level width least : ℕ) (order : Type 0) (page : List ℕ) → Breaks rule number kind level width least (Unit {0}) page → Breaks rule number kind level width least order page
-breaks-ordered Kind number kind level width least order page h = h
-breaks-ordered Level number kind level width least order page h = h
-breaks-ordered Fill number kind level width least order page h = h
-breaks-ordered Spare number kind level width least order page h = h
-breaks-ordered Order number kind level width least order page h = absurd (h tt)
-breaks-ordered Head number kind level width least order page h = h
-breaks-ordered Link number kind level width least order page h = h
-breaks-ordered Value number kind level width least order page h = h
-breaks-ordered Shared number kind level width least order page h = h
-breaks-ordered Rect number kind level width least order page h = h
-breaks-ordered Row number kind level width least order page h = h
-breaks-ordered Entry number kind level width least order page h = h
-breaks-ordered Words number kind level width least order page h = h
-breaks-ordered Counts number kind level width least order page h = h
-
 spare-breaks : (a b : Bool) → a ≡ true → b ≡ true → (a && b) ≡ false → ⊥
 spare-breaks true true p q h = cc
 spare-breaks true false p q h = cc

@@ -4,7 +4,7 @@ use Rattle.page_face.specs.FreeList.{PageMap}
 use Rattle.page_face.specs.declared.fault.Damage.{Damage}
 use Rattle.btree_nodes.specs.declared.form.Form.{Form}
 use Rattle.btree_nodes.specs.Rows.{Row, IsWithin, lookup}
-use Rattle.btree_nodes.specs.Nodes.{Entry, entries_in, IsInner, half_of}
+use Rattle.btree_nodes.specs.Nodes.{Entry, entries_in, half_of}
 use Rattle.btree_nodes.specs.Tree.{next_key, IsTree, IsPlaceFor, rows_at, uses, with_low}
 use Rattle.btree_nodes.specs.Bounds.{low_at, high_at, child_of}
 use Rattle.btree_nodes.specs.Damages.{SomeChild, IsDamaged}
@@ -80,8 +80,3 @@ place-lookup form least pages level page low high key at tree from to place =
 pub tree-size : (form : Form) (least : ℕ) (pages : PageMap) (level page low high : ℕ) → IsTree form least pages level page low high → 0 < length (pages page)
 tree-size form least pages zero page low high h = let s = h.0.size in omega arith
 tree-size form least pages (suc level) page low high h = let s = h.0.node.size in omega arith
-
--- a page of a higher level is an inner one
-pub tree-inner : (form : Form) (least : ℕ) (pages : PageMap) (level page low high : ℕ) → 0 < level → IsTree form least pages level page low high → IsInner form least level (pages page)
-tree-inner form least pages zero page low high k h = absurd (omega arith)
-tree-inner form least pages (suc level) page low high k h = h.0

@@ -40,7 +40,3 @@ inner-sound form least (suc level) low high page up two inner order =
       first = λ z. inner.first;
       order = entries-ascend form page low high (count_of page) refl (omega arith) order;
     }
-
-pub inner-again : (form : Form) (least level : ℕ) (page : List ℕ) → 0 < level → least ≤ count_of page → IsSound (record { map = form.map; key = form.key; value = form.value; level = level }) page → IsInner form least level page
-inner-again form least zero page up f sound = absurd (omega arith)
-inner-again form least (suc level) page up f sound = record { node = node-least form.map 2 (suc level) (form.key + 4) 2 least page f sound.node; first = sound.first (omega arith) }

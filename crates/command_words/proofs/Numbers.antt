@@ -42,28 +42,6 @@ number_read E G absent (Some t) p None same none value only fits =
     let spelled : IsUnsignedIn 0 18446744073709551615 t = rw (← same) at fits in
     absurd (only t (Err read.0) read.1 (spelled.0, omega arith))
 
--- a number of each option fits
-pub fits_batch : (o : Option Text) → IfSome o (IsUnsignedIn 1 10000) → IfSome o (IsUnsignedIn 0 18446744073709551615)
-fits_batch None h = tt
-fits_batch (Some t) h = (h.0, omega arith, omega arith, omega arith)
-
-pub fits_cache : (o : Option Text) → IfSome o (IsUnsignedIn 0 65536) → IfSome o (IsUnsignedIn 0 18446744073709551615)
-fits_cache None h = tt
-fits_cache (Some t) h = (h.0, omega arith, omega arith, omega arith)
-
-pub fits_count : (o : Option Text) → IfSome o (IsUnsignedIn 1 100000) → IfSome o (IsUnsignedIn 0 18446744073709551615)
-fits_count None h = tt
-fits_count (Some t) h = (h.0, omega arith, omega arith, omega arith)
-
--- such a number, and the one for an absent option, lie in the range
-pub batch_in : (o : Option Text) → IfSome o (IsUnsignedIn 1 10000) → (1 ≤ number_or 1000 o) × (number_or 1000 o ≤ 10000)
-batch_in None h = (omega arith, omega arith)
-batch_in (Some t) h = (h.2, h.3)
-
-pub cache_in : (o : Option Text) → IfSome o (IsUnsignedIn 0 65536) → number_or 1024 o ≤ 65536
-cache_in None h = omega arith
-cache_in (Some t) h = h.3
-
 pub from_in : (o : Option Text) → IfSome o (IsUnsignedIn 0 18446744073709551615) → number_or 0 o ≤ 18446744073709551615
 from_in None h = omega arith
 from_in (Some t) h = h.3

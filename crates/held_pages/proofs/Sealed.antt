@@ -125,14 +125,6 @@ kept_lies place number overlay journal old new bytes none in_cache some held =
     ∙ (some held).0
     ∙ sym (ap (λ (p : Place). Some (looked_page p overlay journal new bytes)) (in_cache held) ∙ ap (λ (o : Option (List ℕ)). Some (first_of o bytes)) (some held).1)
 
--- and it is lent, from there or from where it was read
-pub kept_looked : (place : Place) (number : ℕ) (overlay : PageTable) (journal : PageTable) (new : Cache) (bytes : List ℕ) → (place ≢ places.Spare → place ≡ places.Cache)
-    → (place ≢ places.Spare → (bytes_at number (pairs_of new) ≡ Some bytes) × (first_bytes (pairs_of new) ≡ Some bytes)) → looked_page place overlay journal new bytes ≡ bytes
-kept_looked places.Spare number overlay journal new bytes in_cache some = refl
-kept_looked places.Cache number overlay journal new bytes in_cache some = ap (λ (o : Option (List ℕ)). first_of o bytes) (some (λ e. cc)).1
-kept_looked (places.Overlay index) number overlay journal new bytes in_cache some = let e = in_cache (λ e. cc) in cc
-kept_looked (places.Journal index) number overlay journal new bytes in_cache some = let e = in_cache (λ e. cc) in cc
-
 -- ---- the journal's pages move into their rooms and into the cache
 
 -- a page or none

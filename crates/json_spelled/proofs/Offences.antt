@@ -1,7 +1,6 @@
 -- Which offence is the first.
 use Rattle.std.proofs.Common.{◌≡◌, ◌≢◌, ◌<◌, ◌≤◌, ℕ, zero, suc, ◌+◌, List, [], ◌∷◌, ◌++◌, length, take, drop, Option, Some, None, refl, sym, ap, ◌∙◌, subst, arith, append_assoc, append-nil, length-take}
 use Rattle.std.specs.Str.{IsUtf8, IsValidUpTo}
-use Rattle.std.proofs.lemmas.Str.{utf8_valid_len-IsValidUpTo}
 use Rattle.std.proofs.lemmas.List.{take-append-drop}
 use Rattle.std.proofs.Math.Seq.{take-length}
 use Rattle.json_spelled.specs.Json.{Json}
@@ -46,10 +45,6 @@ no_earlier bytes at within b utf8 (Syntax i) o =
 no_earlier bytes at within b utf8 (TooDeep i) o =
     let no : i < at → ⊥ = λ less. o.3 (begins_take 64 (suc i) at bytes (omega arith) b) in omega arith
 no_earlier bytes at within b utf8 Memory o = absurd o
-
--- where ill-formed bytes begin is one place
-one_ill : (bytes : List ℕ) (i j : ℕ) → IsValidUpTo bytes i → IsValidUpTo bytes j → i ≡ j
-one_ill bytes i j h k = sym (utf8_valid_len-IsValidUpTo bytes i h) ∙ utf8_valid_len-IsValidUpTo bytes j k
 
 -- whole characters have no ill-formed bytes
 no_ill : (bytes : List ℕ) (ill : ℕ) → IsUtf8 bytes → IsValidUpTo bytes ill → ⊥

@@ -99,9 +99,6 @@ module _ (bytes : List ℕ) (at : ℕ) (inside : at < length bytes) where
       let c : nat_le 32 (get_or bytes at 0) ≡ true = grind (arith, nat_tests) in
       rw here (behind_piece (get_or bytes at 0) (drop (suc at) bytes) (Byte (get_or bytes at 0), drop (suc at) bytes) mark (rw (a, b, c) refl))
 
-  at_slash : get_or bytes at 0 ≡ 92 → piece_at (drop at bytes) ≡ escape_at (drop (suc at) bytes)
-  at_slash is = rw (here, is) refl
-
   -- what follows an escape of so many bytes, or none
   pub at_escape : (len : ℕ) → get_or bytes at 0 ≡ 92 → option_map {U = List ℕ} (λ f. f.1) (escape_at (drop (suc at) bytes)) ≡ Some (drop len (drop (suc at) bytes)) → behind (drop at bytes) ≡ behind (drop len (drop (suc at) bytes))
   at_escape len is ends = by (escape_at (drop (suc at) bytes)) refl ends

@@ -1,5 +1,5 @@
 -- Literals as the grammar of JSON has them.
-use Rattle.std.proofs.Common.{◌≡◌, ◌≢◌, ◌<◌, ◌≤◌, ℕ, zero, suc, ◌+◌, ◌*◌, Bool, true, false, cond, List, [], ◌∷◌, ◌++◌, length, Option, Some, None, option_map, refl, ap, ◌∙◌, sym, subst, arith, nat_le, nat_eq}
+use Rattle.std.proofs.Common.{◌≡◌, ◌<◌, ◌≤◌, ℕ, zero, suc, ◌+◌, ◌*◌, Bool, true, false, cond, List, [], ◌∷◌, ◌++◌, length, Option, Some, None, option_map, refl, ap, ◌∙◌, sym, subst, arith, nat_le, nat_eq}
 use Rattle.std.specs.Prelude.{option_and_then}
 use Rattle.std.proofs.lemmas.Bool.Decides.{nat_tests}
 use Rattle.json_spelled.specs.Grammar.{Piece, Byte, Code, IsPlain, Pieces, closed, plain, escape, unit, hex_digit, escaped}
@@ -45,9 +45,6 @@ ended byte bytes pieces rest is found =
 -- what a test of a byte says
 is_byte : (a b : ℕ) → nat_eq a b ≡ true → a ≡ b
 is_byte a b h = grind (arith, nat_tests)
-
-no_byte : (a b : ℕ) → nat_eq a b ≡ false → a ≢ b
-no_byte a b h e = grind (arith, nat_tests)
 
 plain_byte : (byte : ℕ) → is_plain byte ≡ true → IsPlain byte
 plain_byte byte h = (grind (arith, nat_tests), λ e. absurd (grind (arith, nat_tests)), λ e. absurd (grind (arith, nat_tests)))

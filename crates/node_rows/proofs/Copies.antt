@@ -1,6 +1,5 @@
 -- What a copy of a leaf of the rows' map says of a node.
-use Rattle.std.proofs.Common.{◌≡◌, ℕ, ◌^◌, ◌<◌, ◌≤◌, inl, inr, arith, refl, sym, ap, ◌∙◌, subst, Option, Some, None, Result, Ok, Err, List, [], ◌∷◌, length}
-use Rattle.std.specs.Result.{OnOk}
+use Rattle.std.proofs.Common.{◌≡◌, ℕ, ◌^◌, ◌<◌, ◌≤◌, inl, inr, arith, refl, sym, ap, ◌∙◌, subst, Option, Some, None, List, [], ◌∷◌, length}
 use Rattle.page_face.specs.FreeList.{PageMap}
 use Rattle.page_face.specs.Number.{number}
 use Rattle.btree_nodes.specs.Bounds.{upper_of}
@@ -115,11 +114,6 @@ next-on b d node from at (Some found) le same quiet next =
         | inr k ↦ sym (same w i k) ∙ next.none w i k m
       ];
     }
-
--- what holds anyway
-pub on_ok_given : {T E P : Type 0} (result : Result T E) → P → OnOk result P
-on_ok_given (Ok x) p = p
-on_ok_given (Err e) p = tt
 
 -- an empty map has no bytes
 pub bytes-empty : (pages : PageMap) (root n w i : ℕ) → root ≡ 0 → bytes_in pages root n w i ≡ 0

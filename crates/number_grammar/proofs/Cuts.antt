@@ -39,14 +39,6 @@ AreDigits-first_digits (byte ∷ rest) = elim (digit_tells byte) [
   | inr other ↦ rw (other.0) (search rules)
 ]
 
--- what follows the digits doesn't begin with one
-pub NoDigitFirst-after_digits : (bytes : List ℕ) → NoDigitFirst (after_digits bytes)
-NoDigitFirst-after_digits [] = search rules
-NoDigitFirst-after_digits (byte ∷ rest) = elim (digit_tells byte) [
-  | inl digit ↦ rw (digit.0) (NoDigitFirst-after_digits rest)
-  | inr other ↦ rw (other.0) (other.0)
-]
-
 -- where no digit stands first, none is taken
 pub first_digits-none : (bytes : List ℕ) → NoDigitFirst bytes → first_digits bytes ≡ []
 first_digits-none [] h = refl

@@ -47,16 +47,6 @@ module _ {V : Type 0} where
     | false ↦ λ is. ap (λ (l : List (ℕ × V)). e ∷ l) (none_removed test es is)
   ]) none
 
-  -- a page that isn't there doesn't move
-  none_moves : (n : ℕ) (es : List (ℕ × V)) → lookup (nat_eq n) es ≡ None → lookup_entry (nat_eq n) es ≡ None
-  none_moves n es none = (elim (lookup_entry (nat_eq n) es) as (λ o. lookup_entry (nat_eq n) es ≡ o → o ≡ None) [
-    | None ↦ λ h. refl
-    | Some e ↦ λ h. absurd (false≢true (ap is_some (sym none ∙ by_entry (nat_eq n) es ∙ ap (λ (o : Option (ℕ × V)). option_map (λ f. f.1) o) h)))
-  ]) refl
-
-  promoted_none : (n : ℕ) (es : List (ℕ × V)) → lookup (nat_eq n) es ≡ None → promoted (nat_eq n) es ≡ es
-  promoted_none n es none = ap (λ (o : Option (ℕ × V)). option_map_or (λ e. e ∷ remove_entry (nat_eq n) es) o es) (none_moves n es none)
-
   -- each page has the value that it had
   lookup-promoted : (n k : ℕ) (es : List (ℕ × V)) → lookup (nat_eq k) (promoted (nat_eq n) es) ≡ lookup (nat_eq k) es
   lookup-promoted n k es = by (lookup_entry (nat_eq n) es) refl
@@ -163,11 +153,6 @@ pairs-take : (n : ℕ) (es : Boxes) → pairs_in (take n es) ≡ take n (pairs_i
 pairs-take zero es = refl
 pairs-take (suc n) [] = refl
 pairs-take (suc n) (e ∷ es) = ap (λ (l : Pairs). (e.0, e.1.value) ∷ l) (pairs-take n es)
-
--- the bytes of the first page
-pub pairs-first : (es : Boxes) → first_bytes (pairs_in es) ≡ option_map (λ (e : ℕ × Box (List ℕ) Global). e.1.value) (slice_get es 0)
-pairs-first [] = refl
-pairs-first (e ∷ es) = refl
 
 some-value : (o : Option (Box (List ℕ) Global)) → is_some (option_map (λ (b : Box (List ℕ) Global). b.value) o) ≡ is_some o
 some-value None = refl

@@ -1,13 +1,11 @@
 -- The pages of a map's entries that may lack one.
-use Rattle.std.proofs.Common.{◌≡◌, ◌≢◌, ⊎_elim, ℕ, zero, suc, ◌+◌, ◌*◌, ◌/◌, ◌<◌, ◌≤◌, true, false, List, [], ◌∷◌, length, slice_index, get_or, Option, Some, None, Box, refl, sym, ◌∙◌, ap, subst, arith}
+use Rattle.std.proofs.Common.{◌≡◌, ◌≢◌, ⊎_elim, ℕ, zero, suc, ◌+◌, ◌*◌, ◌/◌, ◌<◌, ◌≤◌, true, false, List, [], ◌∷◌, length, slice_index, get_or, Option, Some, None, Box, sym, ◌∙◌, ap, subst, arith}
 use Rattle.std.specs.Map.{keys_of, lookup}
 use Rattle.std.specs.BTreeMap.{is_at}
-use Rattle.std.specs.List.Sorted.{IsStrictlySortedBy}
 use Rattle.std.specs.Ordering.{nat_cmp, is_eq}
 use Rattle.std.specs.declared.cmp.Ordering.TheVariants.{Less, Equal, Greater}
 use Rattle.std.specs.Cmp.{nat_cmp_is}
 use Rattle.std.specs.declared.alloc.Global.{Global}
-use Rattle.std.proofs.lemmas.Map.Keys.{below_from_sorted}
 use Rattle.std.proofs.lemmas.Bool.{cases_lt, cases_eq, cond-true, cond-false}
 use Rattle.page_journal.specs.Record.{batch_of, kept, written_up_to, with_batch}
 use Rattle.page_journal.proofs.Batches.{page_here, page_elsewhere, with_first, with_empty, untouched}
@@ -15,14 +13,6 @@ use Rattle.page_journal.proofs.Batches.{page_here, page_elsewhere, with_first, w
 -- each key is above those before it
 abbrev pub KeysAscend : List (ℕ × Option (Box (List ℕ) Global)) → Type 0
 KeysAscend entries = (k m : ℕ) → k < m → m < length entries → get_or (keys_of entries) k 0 < get_or (keys_of entries) m 0
-
--- the entries of a map
-pub keys_ascend : (entries : List (ℕ × Option (Box (List ℕ) Global))) → IsStrictlySortedBy nat_cmp (keys_of entries) → KeysAscend entries
-keys_ascend entries sorted k m lt within = below_from_sorted (keys_of entries) k m 0 sorted lt (omega (arith, length_keys entries))
-  where
-    length_keys : (entries : List (ℕ × Option (Box (List ℕ) Global))) → length (keys_of entries) ≡ length entries
-    length_keys [] = refl
-    length_keys (e ∷ entries) = ap (λ (n : ℕ). suc n) (length_keys entries)
 
 tail_ascends : (e : ℕ × Option (Box (List ℕ) Global)) (entries : List (ℕ × Option (Box (List ℕ) Global))) → KeysAscend (e ∷ entries) → KeysAscend entries
 tail_ascends e entries keys k m lt within = keys (suc k) (suc m) (omega arith) (omega arith)

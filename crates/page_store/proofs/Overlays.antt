@@ -1,5 +1,5 @@
 -- What a commit of an overlay leaves.
-use Rattle.std.proofs.Common.{cond, ◌≤◌, ◌≡◌, Result, Ok, Err, OnOk, ◌≢◌, ◌⊎◌, inl, inr, ⊎_elim, ℕ, zero, suc, ◌+◌, ◌*◌, ◌<◌, Bool, true, List, [], ◌∷◌, length, get_or, slice_index, nat_eq, nat_lt, ◌==◌, if◌then◌else◌, Option, Some, None, is_some, option_map, Box, refl, sym, ◌∙◌, ap, subst, arith}
+use Rattle.std.proofs.Common.{cond, ◌≤◌, ◌≡◌, Result, Ok, Err, OnOk, ◌≢◌, ◌⊎◌, inl, inr, ⊎_elim, ℕ, zero, suc, ◌+◌, ◌*◌, ◌<◌, Bool, true, List, [], ◌∷◌, length, get_or, slice_index, nat_eq, nat_lt, ◌==◌, if◌then◌else◌, Option, Some, None, option_map, Box, refl, sym, ◌∙◌, ap, subst, arith}
 use Rattle.std.specs.Map.{keys_of, lookup}
 use Rattle.std.specs.BTreeMap.{is_at, IsOrdered}
 use Rattle.std.specs.List.Sorted.{IsStrictlySortedBy}
@@ -7,7 +7,7 @@ use Rattle.std.specs.Ordering.{nat_cmp}
 use Rattle.std.specs.declared.alloc.Global.{Global}
 use Rattle.std.proofs.lemmas.Map.Keys.{below_from_sorted}
 use Rattle.std.proofs.lemmas.Bool.Decides.{nat_tests}
-use Rattle.std.proofs.lemmas.Bool.{cases_eq, cond-true, cond-false, false≢true}
+use Rattle.std.proofs.lemmas.Bool.{cases_eq, cond-true, cond-false}
 use mathlib.Core.Path.{fun_ext}
 use Rattle.disk_model.specs.World.{World, LeavesOnly}
 use Rattle.disk_model.proofs.Moments.{then, within}
@@ -125,11 +125,6 @@ whole_of overlay written head bytes sized at_0 others r = record {
   at_0 = r.same 0 ∙ at_0;
   others = λ n ne. r.same n ∙ others n ne;
 }
-
--- a map that has a page has an entry
-pub has_entries : (entries : List (ℕ × Box (List ℕ) Global)) (n : ℕ) (page : List ℕ) → option_map (λ (p : Box (List ℕ) Global). p.value) (lookup (is_at (nat_cmp n)) entries) ≡ Some page → 0 < length entries
-has_entries [] n page is = absurd (false≢true (ap is_some is))
-has_entries (e ∷ entries) n page is = omega arith
 
 -- a commit of an overlay with page 0 leaves the contents that the overlay and page 0's fields hold
 pub committed_contents : (overlay : Overlay) (whole : Ordered) (area : ℕ → ℕ) (block : Superblock) (head : List ℕ) → IsOrdered nat_cmp whole → AreSized whole → ordered_page whole 0 ≡ Some head → superblock_in head ≡ block

@@ -92,12 +92,5 @@ unfolding factor
 factor_end zero words text fault (is, e) = rw (e, is) refl
 factor_end (suc levels) words text fault (is, e) = rw (e, is) refl
 
--- a level is left
-pub next_some : (levels : ℕ) → (levels ≡ 0 → ⊥) → next_level levels ≡ Some (factor (levels - 1))
-next_some zero some = absurd (some refl)
-next_some (suc levels) some =
-    let same : suc levels - 1 ≡ levels = omega arith in
-    ap (λ (n : ℕ). Some (factor n)) (sym same)
-
 pub next_none : (levels : ℕ) → levels ≡ 0 → next_level levels ≡ None
 next_none levels is = rw is refl

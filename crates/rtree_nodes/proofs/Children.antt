@@ -1,5 +1,5 @@
 -- What is read of one slot where it lies.
-use Rattle.std.proofs.Common.{◌≡◌, ℕ, zero, suc, ◌+◌, ◌*◌, ◌<◌, ◌≤◌, true, false, ◌&&◌, List, take, drop, arith, refl, ap, ◌∙◌, sym, ⊎_elim}
+use Rattle.std.proofs.Common.{◌≡◌, ℕ, zero, suc, ◌+◌, ◌*◌, ◌<◌, ◌≤◌, true, false, ◌&&◌, List, take, drop, arith, ap, ◌∙◌, sym, ⊎_elim}
 use Rattle.std.proofs.lemmas.Bool.{cases_Bool}
 use Rattle.std.specs.Int.{w32, cast_signed}
 use Rattle.spatial_base.specs.Point.{Position}
@@ -107,11 +107,6 @@ inner-rect-is page at h = inner-rect-at (level_in page) page at h
 pub inner-item : (page : List ℕ) (at : ℕ) → 0 < level_in page → item_at page at ≡ child_item (rect_from page (16 + 20 * at)) (number_at (16 + 20 * at + 16) page)
 unfolding cell_at
 inner-item page at h = inner-item-at (level_in page) page at h
-
--- a level above 0
-pub some-level : (level : ℕ) → 0 < level → (n : ℕ) × (level ≡ suc n)
-some-level zero h = absurd (omega arith)
-some-level (suc n) h = (n, refl)
 
 -- the number of a child's page
 cell-child : (level at : ℕ) (page : List ℕ) → 0 < level → (item_in level (take (cell_width level) (drop (cell_start level at) page))).to ≡ number_at (16 + 20 * at + 16) page

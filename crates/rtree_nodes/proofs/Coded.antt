@@ -7,8 +7,7 @@ use Rattle.std.proofs.Math.Path.{fun_ext}
 use Rattle.std.proofs.lemmas.Bool.{cases_eq, cases_lt, cases_Bool, eq-eqb, ne_eqb, lt-ltb, le-ltb, false≢true}
 use Rattle.std.proofs.lemmas.List.{get_or-set_same, get_or-set_other}
 use Rattle.std.proofs.lemmas.Nat.Bits.{same_from_bits_below, bit_at-lt}
-use Rattle.page_face.specs.declared.fault.Rule.{Rule}
-use Rattle.page_face.specs.declared.fault.Rule.TheVariants.{Kind, Fill}
+use Rattle.page_face.specs.declared.fault.Rule.TheVariants.{Kind}
 use Rattle.spatial_base.specs.Key.{Name, Auto, form_of}
 use Rattle.spatial_base.specs.Point.{Position}
 use Rattle.spatial_base.specs.Rect.{Bounds}
@@ -18,21 +17,15 @@ use Rattle.rtree_nodes.specs.declared.held.Slots.{Slots}
 use Rattle.rtree_nodes.specs.declared.held.Slots.TheVariants.{Leaf, Inner}
 use Rattle.rtree_nodes.specs.declared.content.Slot.{Slot}
 use Rattle.rtree_nodes.specs.declared.content.Slot.TheVariants.{Place, Child}
-use Rattle.rtree_nodes.specs.Kinds.{is_leaf}
 use Rattle.rtree_nodes.specs.Reach.{item_of, is_place, place_item, child_item, origin, origin_rect}
 use Rattle.rtree_nodes.specs.Pages.{level_in, mask_of, is_used, cell_at, item_at, has_clear_spares, has_values, is_form, stored_in, node_of, slots_in}
-use Rattle.rtree_nodes.specs.Breaks.{Keeps, BreaksFirst, BreaksHeader}
+use Rattle.rtree_nodes.specs.Breaks.{Keeps}
 use Rattle.rtree_nodes.specs.Nodes.{slot_of, HoldsAt, HoldsAll, IsLeafSlot, IsInnerSlot}
 use Rattle.rtree_nodes.specs.Numbers.{all_below}
 use Rattle.rtree_nodes.specs.Cells.{has_form}
 use Rattle.rtree_nodes.proofs.AllBelow.{used-more, used-false}
 use Rattle.rtree_nodes.proofs.Masks.{slot-bit}
 use Rattle.rtree_nodes.proofs.Formed.{clear-parts, values-at, parts-form, form-node, form-slots, stored-used, stored-unused, stored-past}
-
--- what a leaf's arrays hold are places
-pub kind-slot : (slots : Slots) (i : ℕ) → is_place (slot_of slots i) ≡ is_leaf slots
-kind-slot (Leaf points keys) i = refl
-kind-slot (Inner rects children) i = refl
 
 -- the items of the slots below n that are used
 abbrev pub items_to : ℕ → ℕ → Slots → SlotItems
@@ -134,12 +127,6 @@ kept-form page long kind clear values = parts-form page record {
   clear = clear-parts page clear;
   values = values-at page values;
 }
-
--- a rule that the first bytes break is the first one that is broken
-pub header-first : (rule : Rule) (page : List ℕ) → BreaksHeader rule page → BreaksFirst rule page
-header-first Kind page h = h
-header-first Fill page h = h
-header-first rule page h = absurd h
 
 -- ---- what a slot that was read holds
 

@@ -1,10 +1,8 @@
 -- How far rectangles go to each side.
 use Rattle.std.proofs.Common.{◌≡◌, ℕ, ℤ, zero, suc, ◌<◌, ◌≤◌, max, arith, refl, unsigned_abs}
-use Rattle.std.specs.Prelude.{◌≤ℤ◌}
 use Rattle.std.specs.Int.{int_max, int_min}
 use Rattle.std.proofs.lemmas.Int.{ints, clamps}
-use Rattle.spatial_base.specs.Point.{Position}
-use Rattle.spatial_base.specs.Rect.{Bounds, IsRect, Holds, rect_of, joined}
+use Rattle.spatial_base.specs.Rect.{Bounds, IsRect, joined}
 use Rattle.rtree_nodes.specs.Reach.{below_top, above_bottom, reach_of}
 
 -- the lesser of two is as far below as the further one
@@ -37,23 +35,3 @@ same-rect a b h k e =
     let east = above-same a.east b.east (omega (arith, h.1.0)) (omega (arith, k.1.0)) (e 2 (omega arith)) in
     let north = above-same a.north b.north (omega (arith, h.1.1)) (omega (arith, k.1.1)) (e 3 (omega arith)) in
     λ i. record { west = west i; south = south i; east = east i; north = north i }
-
-below-le : (a b : ℤ) → a ≤ℤ b → below_top b ≤ below_top a
-below-le a b h = omega (arith, ints, clamps)
-
-above-le : (a b : ℤ) → a ≤ℤ b → above_bottom a ≤ above_bottom b
-above-le a b h = omega (arith, ints, clamps)
-
-le-below : (a b : ℤ) → unsigned_abs b ≤ 2147483647 → below_top b ≤ below_top a → a ≤ℤ b
-le-below a b h k = omega (arith, ints, clamps)
-
-le-above : (a b : ℤ) → unsigned_abs a ≤ 2147483647 → above_bottom a ≤ above_bottom b → a ≤ℤ b
-le-above a b h k = omega (arith, ints, clamps)
-
--- a rectangle holds a point exactly where it reaches at least as far as the point on each side
-pub holds-reach : (r : Bounds) (p : Position) → Holds r p → (d : ℕ) → reach_of (rect_of p) d ≤ reach_of r d
-holds-reach r p h zero = below-le r.west p.x h.west
-holds-reach r p h (suc zero) = below-le r.south p.y h.south
-holds-reach r p h (suc (suc zero)) = above-le p.x r.east h.east
-holds-reach r p h (suc (suc (suc zero))) = above-le p.y r.north h.north
-holds-reach r p h (suc (suc (suc (suc d)))) = omega arith

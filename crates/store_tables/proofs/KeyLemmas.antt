@@ -1,11 +1,11 @@
 -- Keys from bytes, and the bytes that follow a key's.
-use Rattle.std.proofs.Common.{◌≡◌, ℕ, zero, suc, ◌+◌, ◌-◌, ◌*◌, ◌≤◌, ◌^◌, List, [], ◌∷◌, length, get_or, set, replicate, sym, ap, ◌∙◌, arith}
-use Rattle.std.proofs.lemmas.List.{get_or_at, length-append, length-replicate, length-set}
+use Rattle.std.proofs.Common.{◌≡◌, ℕ, zero, suc, ◌+◌, ◌*◌, ◌^◌, List, [], ◌∷◌, length, get_or, set, sym, ap, ◌∙◌, arith}
+use Rattle.std.proofs.lemmas.List.{length-set}
 use Rattle.std.specs.Cmp.{nat_cmp_is}
 use Rattle.std.specs.FinMap.{nat_cmp-IsAntisymmetric, slice_cmp-IsAntisymmetric}
 use Rattle.std.specs.Ordering.{nat_cmp}
 use Rattle.std.specs.declared.cmp.Ordering.TheVariants.{Equal}
-use Rattle.spatial_base.specs.Key.{Name, Text, Auto, IsName, key_cmp_same, form_of, padded}
+use Rattle.spatial_base.specs.Key.{Name, IsName, key_cmp_same, form_of}
 use Rattle.page_face.specs.Number.{number}
 use Rattle.btree_nodes.proofs.Numbers.{AreBytes, compare_numbers}
 use Rattle.store_tables.specs.Coded.{key_code}
@@ -28,15 +28,6 @@ form_from_number bytes key long small is same = number-same bytes (form_of key) 
 pub form-same : (a b : Name) → IsName a → IsName b → form_of a ≡ form_of b → a ≡ b
 unfolding key_code
 form-same a b is also same = key_cmp_same a b (key-order a b is also ∙ level (number (form_of a)) (number (form_of b)) (ap number same))
-
--- a form's last byte is a length
-pub last-form : (key : Name) → IsName key → get_or (form_of key) 65 0 ≤ 64
-last-form (Text bytes) is =
-    let few : length bytes ≤ 64 = is.1 in
-    let front : length (0 ∷ padded 64 bytes) ≡ 65 = omega (arith, length-append bytes (replicate (64 - length bytes) 0), length-replicate {A = ℕ} (64 - length bytes) 0) in
-    let last : get_or (form_of (Text bytes)) 65 0 ≡ length bytes = get_or_at (0 ∷ padded 64 bytes) (length bytes) [] 0 65 front in
-    omega arith
-last-form (Auto serial) is = omega arith
 
 -- a last byte that is one more makes the number one more
 pub number-behind : (xs : List ℕ) (i : ℕ) → suc i ≡ length xs → number (set xs i (get_or xs i 0 + 1)) ≡ number xs + 1

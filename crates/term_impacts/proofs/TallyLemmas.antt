@@ -152,10 +152,6 @@ rows_rise words word (k ∷ ks) (suc at) n d keys lt same value =
 
 -- ---- one more word
 
--- before the first
-pub IsTally-nil : IsTally [] [] 0
-IsTally-nil = record { counts = refl; total = refl }
-
 -- the number of a word is at most the number of all words
 pub count_le : (words : List (List ℕ)) (entries : List (List ℕ × ℕ)) (total at n : ℕ) → IsTally words entries total → slice_get (values_of entries) at ≡ Some n → n ≤ length words
 count_le words entries total at n is value = by (first_words words) at (ap (λ es. slice_get (values_of es) at) (sym is.counts) ∙ value)
