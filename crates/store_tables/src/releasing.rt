@@ -5,7 +5,7 @@ ghost use Rattle.std.specs.Map.{remove_entry};
 ghost use Rattle.std.specs.Ordering.{nat_cmp};
 ghost use Rattle.page_face.specs.Calls.{FailsReading, Reads, TakesNone};
 ghost use Rattle.btree_nodes.specs.Supply.{view};
-ghost use Rattle.btree_nodes.specs.Damages.{AreTold, AskedSince, AsksOnly, IsRefusedTake};
+ghost use Rattle.btree_nodes.specs.Damages.{AreTold, AskedSince, AsksOnly};
 ghost use Rattle.paged_map.specs.Maps.{AreCounted, IsMapDamaged};
 ghost use Rattle.store_tables.specs.Entries.{Entries, word_cmp, word_of_number};
 ghost use Rattle.store_tables.specs.Broken.{words_disagree};
@@ -88,9 +88,9 @@ impl Tables {
     /// is never given again.
     ///
     /// Refuses as the pages do, and `Damaged` by a rule that a page of the tables of words breaks, or with `Value` at the leaf
-    /// whose row is no word's, or as a take of a page refuses, or with `Words` at page 0 where the number has no word, or where
-    /// its word goes and the words by text have another number of it, or none; that is found before anything is written. After a
-    /// refusal the tables are as before, and pages may have changed.
+    /// whose row is no word's, or with `Words` at page 0 where the number has no word, or where its word goes and the words by text have
+    /// another number of it, or none; that is found before anything is written. After a refusal the tables are as before, and pages may
+    /// have changed.
     ///
     /// Looks at one page a level of the words by number. If more places hold the word, writes the leaf of its row alone. Else
     /// looks the word up by text, and takes a row out of each of the two tables, with one more way down in each. Takes no page.
@@ -107,7 +107,6 @@ impl Tables {
         ensures damaged { AreTold (P.pages pages.old) (P.count pages.old)
             → (damage : Damage) → IsErrOf result (PageFault.Damaged damage)
             → IsReleaseDamage (P.pages pages.old) (P.count pages.old) self.old number (P.asked pages.old) (P.asked pages.new) damage
-            ⊎ IsRefusedTake (P.pages pages.new) (P.count pages.new) (P.first pages.new) damage
             ⊎ ((entries : Entries) (free : List ℕ) → Holds (P.pages pages.old) self.old entries → ¬ IsApart (view (P.pages pages.old) (P.count pages.old) (P.first pages.old) free) self.old) }
         ensures no_head { ((p : P) → AreTold (P.pages p) (P.count p)) → SparesHead result }
         ensures own { (entries : Entries) (free : List ℕ) → Holds (P.pages pages.old) self.old entries → IsApart (view (P.pages pages.old) (P.count pages.old) (P.first pages.old) free) self.old

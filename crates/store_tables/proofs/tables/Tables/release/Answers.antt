@@ -28,7 +28,7 @@ returns-then-counted-le1-clause-damaged g c told damage =
     let still : AreTold (g.P.Pages.pages c.releasable.new.pages) (g.P.Pages.count c.releasable.new.pages) = rw (r.frame.pages, r.frame.count) told in
     λ e. ⊎_elim
     (λ map. inl (inl (rw (sym r.frame.pages, sym r.frame.count) map.0, asked-before (word_uses (g.P.Pages.pages c.args.pages.now) c.args.self.now) _ _ _ damage.page (r.own told) map.1)))
-    (λ none. inr (inr (λ entries free holds apart. none entries free (rw r.frame.pages holds) (rw (r.frame.pages, r.frame.count, r.frame.first) apart))))
+    (λ none. inr (λ entries free holds apart. none entries free (rw r.frame.pages holds) (rw (r.frame.pages, r.frame.count, r.frame.first) apart)))
     (c.remove_word.ensures.damaged still damage e)
 
 pub returns-in_err-replace_number-clause-damaged : goal.returns-in_err-replace_number-clause-damaged
