@@ -1,5 +1,6 @@
 pub mod Ahead
 pub mod Batches
+pub mod Chains
 pub mod Commits
 pub mod Dues
 pub mod EachRead

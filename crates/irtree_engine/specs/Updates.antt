@@ -1,7 +1,7 @@
 -- What updates do to the state that an image stands for, and why they are refused.
-use Rattle.std.specs.Prelude.{◌≡◌, ◌⊎◌, ℕ, ◌+◌, ◌*◌, ◌≤◌, ◌^◌, List, [], ◌∷◌, Result, Ok, Err}
+use Rattle.std.specs.Prelude.{◌≡◌, ◌⊎◌, ℕ, ◌+◌, ◌*◌, ◌≤◌, ◌^◌, List, [], ◌∷◌, length, Result, Ok, Err}
 use Rattle.disk_model.specs.World.{World, Image}
-use Rattle.page_face.specs.FreeList.{PageMap}
+use Rattle.page_face.specs.FreeList.{PageMap, IsFreeList}
 use Rattle.page_store.specs.declared.superblock.Superblock.{Superblock}
 use Rattle.place_map.specs.State.{Contents}
 use Rattle.place_map.specs.Update.{effect_of}
@@ -96,3 +96,8 @@ most_takes updates counted = table_takes updates + tree_takes updates counted
 -- the room is no more than the pages counted and as many as so many updates are allowed to take
 abbrev pub LacksRoom : ℕ → ℕ → ℕ → Type 0
 LacksRoom updates room counted = room ≤ counted + most_takes updates counted
+
+-- The pages of the free list, and those that there is room for beside the pages counted, are together no more than so many updates are
+-- allowed to take.
+abbrev pub LacksPages : ℕ → ℕ → PageMap → ℕ → ℕ → Type 0
+LacksPages updates room pages counted first = (free : List ℕ) → IsFreeList pages counted first free → room + length free ≤ counted + most_takes updates counted

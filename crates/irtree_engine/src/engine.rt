@@ -1,7 +1,7 @@
 //! The engine, its count, and what it says.
 ghost use Rattle.std.specs.Prelude.{◌≡◌, ◌≢◌, ◌≤◌, ◌<◌, true, false, IsTrue, IfOk, IfErr, OnOk, OnErr, IsErrOf, ◌↔◌, ℕ, [], length};
 ghost use Rattle.disk_model.specs.World.{LeavesOnly, HasSaid, HasSinkCause, ReadsJournalOnly, Rose};
-ghost use Rattle.page_journal.specs.Record.{IsBad};
+ghost use Rattle.page_journal.specs.Record.{IsBad, applied};
 ghost use Rattle.page_store.specs.Contents.{IsCommitted};
 ghost use Rattle.page_store.specs.Opening.{SaysNothingReadsHead, head_damage};
 ghost use Rattle.place_map.specs.State.{Contents};
@@ -170,6 +170,7 @@ impl<'d, D: Station> Engine<'d, D> {
         ensures holds { IsTrue D.tells → (state : Contents) → HoldsState (D.world self.old.store.disk.now) state → OnOk result (HoldsState (D.world self.new.store.disk.now) state) }
         ensures any_moment { IsTrue D.tells → (state : Contents) → HoldsState (D.world self.old.store.disk.now) state
             → LeavesOnly (D.world self.old.store.disk.now) (D.world self.new.store.disk.now) (LeavesState state (D.world self.old.store.disk.now)) }
+        ensures same { IsTrue D.tells → OnOk result (applied (D.world self.new.store.disk.now).seen ≡ applied (D.world self.old.store.disk.now).seen) }
         ensures front { OnOk result (self.new.store.end ≡ 0) }
         ensures at_rest { self.old.store.end ≡ 0 → self.new.store.disk ≡ self.old.store.disk }
         ensures reads { IsTrue D.tells → ReadsJournalOnly (D.world self.old.store.disk.now) (D.world self.new.store.disk.now) }

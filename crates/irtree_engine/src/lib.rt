@@ -25,6 +25,7 @@ mod fault;
 mod opening;
 mod queries;
 mod reading;
+mod room;
 mod updating;
 
 pub use engine::Engine;

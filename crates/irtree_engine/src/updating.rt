@@ -1,17 +1,19 @@
 //! Updates, each in one commit.
-ghost use Rattle.std.specs.Prelude.{◌≡◌, ◌≢◌, ◌⊎◌, ◌↔◌, ◌<◌, ◌≤◌, ◌+◌, ◌-◌, ◌^◌, Ok, IsTrue, true, false, [], IfOk, IfErr, OnOk, OnErr, IsErrOf, length};
+ghost use Rattle.std.specs.Prelude.{◌≡◌, ◌≢◌, ◌⊎◌, ◌↔◌, ◌<◌, ◌≤◌, ◌+◌, ◌-◌, ◌^◌, ℕ, List, Ok, IsTrue, true, false, [], IfOk, IfErr, OnOk, OnErr, IsErrOf, length};
 ghost use Rattle.std.specs.List.{AllByRecursion};
 ghost use Rattle.disk_model.specs.World.{LeavesOnly};
 ghost use Rattle.disk_model.specs.World as worlds;
 ghost use Rattle.page_face.specs.Causes.{Rose};
+ghost use Rattle.page_face.specs.FreeList.{IsFreeList};
 ghost use Rattle.page_store.specs.Store.{Rests};
 ghost use Rattle.place_map.specs.State.{Contents};
 ghost use Rattle.place_map.specs.Update.{NamesText, effect_of};
 ghost use Rattle.store_meaning.specs.Stands.{PagesStand};
 ghost use Rattle.irtree_engine.specs.Changes.{block_with};
 ghost use Rattle.irtree_engine.specs.Holding.{HoldsState};
-ghost use Rattle.irtree_engine.specs.Updates.{LeavesOneOf, LeavesAllOrNone, StandsForOutcome, IsUpdateFault, IsCommitFault, IsDueTo, IsAtLimit, IsLater, LacksRoom, most_takes, state_after_all};
+ghost use Rattle.irtree_engine.specs.Updates.{LeavesOneOf, LeavesAllOrNone, StandsForOutcome, IsUpdateFault, IsCommitFault, IsDueTo, IsAtLimit, IsLater, LacksPages, LacksRoom, most_takes, state_after_all};
 
+use crate::room::ends_within;
 use crate::{Engine, EngineFault, change};
 use disk_model::Station;
 use page_face::{Damage, Head, PageFault, Pages, Rule};
@@ -32,12 +34,12 @@ impl<'d, D: Station> Engine<'d, D> {
     ///
     /// Refuses `Stopped` exactly where an earlier commit of this engine failed, before all else; `Full` exactly where 200,000 or
     /// more places live and a Put's key is new; `Worn` exactly where the update number is 2^40 and the update would change the
-    /// map; `NoRoom`, where no page is left for it: then the disk has room for at most the pages counted and as many more as an update is
-    /// allowed to take; `Disk`; `Damaged`, never where the image stands for a state or with the rule Head; `Memory`, which also stops an update that would take
-    /// more pages than it is allowed. After `Disk` in the commit the engine is stopped, and the store is to be opened again. After every
-    /// other refusal the map is as before.
+    /// map; `NoRoom`, where no page is left for it: then the free pages, and those that the disk has room for beside the pages counted, are
+    /// together no more than an update is allowed to take; `Disk`; `Damaged`, never where the image stands for a state or with the rule Head;
+    /// `Memory`, which also stops an update that would take more pages than it is allowed. After `Disk` in the commit the engine is stopped,
+    /// and the store is to be opened again. After every other refusal the map is as before.
     ///
-    /// Costs a look-up of the key, a put or a removal in the place table, for each word that the update changes a look-up and a
+    /// Where no page is left, each page of the free list is looked at, and no more of them than an update is allowed to take. Else it costs a look-up of the key, a put or a removal in the place table, for each word that the update changes a look-up and a
     /// put in the tables of words, and one commit of the pages that changed: two writes and two syncs. From time to time a checkpoint comes
     /// first, which writes each page of the journal to its place, with two syncs more.
     ///
@@ -64,6 +66,7 @@ impl<'d, D: Station> Engine<'d, D> {
         ensures stays { result ≢ Err EngineFault.Disk → (D.world self.new.store.disk.now).faults ≡ (D.world self.old.store.disk.now).faults }
         ensures no_room { IsErrOf result EngineFault.NoRoom → Rose self.old.store.refused self.new.store.refused }
         ensures room_left { IsErrOf result EngineFault.NoRoom → LacksRoom 1 (D.room_of self.old.store.disk.now) self.old.store.current.counted }
+        ensures free_left { IsErrOf result EngineFault.NoRoom → LacksPages 1 (D.room_of self.old.store.disk.now) (⟦<Store<'d, D> as Pages>⟧.pages self.new.store) self.old.store.current.counted self.old.store.current.first_free }
         ensures as_before { IsErrOf result EngineFault.NoRoom → self.new.store.current ≡ self.old.store.current }
 
         // After a refusal that doesn't stop the engine the image is as before.
@@ -81,6 +84,7 @@ impl<'d, D: Station> Engine<'d, D> {
             Ok(()) => {}
             Err(fault) => return Err(fault),
         }
+        let counted = self.store.counted();
         let mut head = self.store.head();
         let applied = match change::update(
             self.alloc,
@@ -90,6 +94,7 @@ impl<'d, D: Station> Engine<'d, D> {
             update,
         ) {
             Ok(applied) => applied,
+            Err(EngineFault::NoRoom) => return Err(want_room(&mut self.store, counted, 1)),
             Err(fault) => {
                 self.store.abandon();
                 return Err(fault);
@@ -128,6 +133,7 @@ impl<'d, D: Station> Engine<'d, D> {
         ensures stays { result ≢ Err EngineFault.Disk → (D.world self.new.store.disk.now).faults ≡ (D.world self.old.store.disk.now).faults }
         ensures no_room { IsErrOf result EngineFault.NoRoom → Rose self.old.store.refused self.new.store.refused }
         ensures room_left { IsErrOf result EngineFault.NoRoom → LacksRoom (length updates.now) (D.room_of self.old.store.disk.now) self.old.store.current.counted }
+        ensures free_left { IsErrOf result EngineFault.NoRoom → LacksPages (length updates.now) (D.room_of self.old.store.disk.now) (⟦<Store<'d, D> as Pages>⟧.pages self.new.store) self.old.store.current.counted self.old.store.current.first_free }
         ensures as_before { IsErrOf result EngineFault.NoRoom → self.new.store.current ≡ self.old.store.current }
 
         // After a refusal that doesn't stop the engine the image is as before.
@@ -145,16 +151,23 @@ impl<'d, D: Station> Engine<'d, D> {
             Ok(()) => {}
             Err(fault) => return Err(fault),
         }
+        let counted = self.store.counted();
         let mut head = self.store.head();
-        if let Err(fault) = change::update_all(
+        match change::update_all(
             self.alloc,
             &mut self.store,
             &mut head,
             &mut *self.policy,
             updates,
         ) {
-            self.store.abandon();
-            return Err(fault);
+            Ok(()) => {}
+            Err(EngineFault::NoRoom) => {
+                return Err(want_room(&mut self.store, counted, updates.len()));
+            }
+            Err(fault) => {
+                self.store.abandon();
+                return Err(fault);
+            }
         }
         commit(&mut self.store, &mut self.stopped, &head)
     }
@@ -197,6 +210,39 @@ fn begin<'d, D: Station>(
     match store.allow(takes) {
         Ok(()) => Ok(()),
         Err(_) => Err(EngineFault::Memory),
+    }
+}
+
+// Why a change stops for which a take found no page, and before which so many pages were counted: `NoRoom` only where the free list ends within
+// the pages that the change was still allowed to take, and else `Memory` or `Disk`. Drops the change.
+fn want_room<'d, D: Station>(store: &mut Store<'d, D>, counted: u32, updates: usize) -> EngineFault
+    requires few { updates ≤ 10000 }
+    requires more { counted ≤ store.old.current.counted }
+    requires within { store.old.current.counted ≤ counted + most_takes updates counted }
+    ensures same_loan { store.new.disk.ghost_name ≡ store.old.disk.ghost_name }
+    ensures current { store.new.current ≡ store.old.last }
+    ensures last { store.new.last ≡ store.old.last }
+    ensures clean { store.new.overlay.entries ≡ [] }
+    ensures cause { (result ≡ EngineFault.NoRoom) ⊎ (result ≡ EngineFault.Memory) ⊎ (result ≡ EngineFault.Disk) }
+    ensures disk { result ≡ EngineFault.Disk → worlds.Rose (D.world store.old.disk.now).faults (D.world store.new.disk.now).faults }
+    ensures stays { result ≢ EngineFault.Disk → (D.world store.new.disk.now).faults ≡ (D.world store.old.disk.now).faults }
+    ensures free_left { result ≡ EngineFault.NoRoom → (free : List ℕ)
+        → IsFreeList (⟦<Store<'d, D> as Pages>⟧.pages store.new) store.new.current.counted store.new.current.first_free free
+        → store.old.current.counted + length free ≤ counted + most_takes updates counted }
+    ensures rests { IsTrue D.tells → Rests (D.world store.old.disk.now) (D.world store.new.disk.now) }
+    ensures silent { IsTrue D.tells → (D.world store.new.disk.now).said ≡ (D.world store.old.disk.now).said }
+    ensures later { (D.world store.old.disk.now).faults ≤ (D.world store.new.disk.now).faults }
+    ensures sink { (D.world store.new.disk.now).sink_faults ≡ (D.world store.old.disk.now).sink_faults }
+    ensures refused { store.new.refused ≡ store.old.refused }
+    ensures room { D.room_of store.new.disk.now ≡ D.room_of store.old.disk.now }
+    ensures stopped { store.new.stopped ≡ store.old.stopped }
+{
+    let more = store.counted() - counted;
+    store.abandon();
+    match ends_within(store, takes_for(updates, counted) - more as u64) {
+        Ok(true) => EngineFault::NoRoom,
+        Err(PageFault::Disk) => EngineFault::Disk,
+        _ => EngineFault::Memory,
     }
 }
 

@@ -130,6 +130,22 @@ fn where_no_page_is_left_the_run_ends(rt: HostRuntime) -> Result<(), Fail> {
 }
 
 #[test]
+fn pages_that_a_removal_gave_back_are_taken_again(rt: HostRuntime) -> Result<(), Fail> {
+    // Page 0, a leaf of each of the four maps and one of the tree fill the room of six.
+    let script = b"add a 0 0 x\nremove a\nadd b 1 1 y\nremove b\nadd c 2 2 z\ncount\n";
+    for (room, end, replies) in [
+        (5, Ended::Limit(LimitFault::NoRoom), b"".as_slice()),
+        (6, Ended::Done, b"ok\nok\nok\nok\nok\ncount 1\n".as_slice()),
+    ] {
+        let mut station = MemoryStation::new(rt.alloc(), room);
+        let ended = run_on(rt.alloc(), &RUN, script, 100, &mut station)?;
+        assert!(rt; ended == end);
+        assert!(rt; station.said() == replies);
+    }
+    Ok(())
+}
+
+#[test]
 fn an_update_number_that_is_worn_takes_no_change(rt: HostRuntime) -> Result<(), Fail> {
     let mut page =
         b"IRTREE01\0\0\0\x01\0\0\0\0\0\0\0\0\0\0\0\0\0\0\0\0\0\0\0\0\0\0\0\0\0\0\0\0\0\0\0\0\0\0\0\x01\0\0\x01\0\0\0\0\0\0\0\0\0\0\0\0\x01".to_vec(

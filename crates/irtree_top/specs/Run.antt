@@ -181,7 +181,7 @@ most_updates Run = 1
 most_updates Load = 10000
 most_updates Make = 10000
 
--- the disk has room for no more pages than the image counts, and as many as a commit of the action is allowed to take
+-- of the image's free pages, and of those that the disk has room for beside the pages counted, there are no more than a commit of the action is allowed to take
 abbrev pub LacksRoomFor : Action → ℕ → Image → Type 0
 LacksRoomFor action room image = LacksRoomIn (most_updates action) room image
 

@@ -87,7 +87,7 @@ fn settle<'d, T: Station>(engine: &mut Engine<'d, T>) -> Result<(), Failed>
     ensures reads { IsTrue T.tells → ReadsJournalOnly (T.world engine.old.store.disk.now) (T.world engine.new.store.disk.now) }
     ensures cause { HasDiskCause (T.world engine.old.store.disk.now) (T.world engine.new.store.disk.now) result }
     ensures room { T.room_of engine.new.store.disk.now ≡ T.room_of engine.old.store.disk.now }
-    ensures alike { IsTrue T.tells → OnOk result ((contents_held (T.world engine.new.store.disk.now).seen).block ≡ (contents_held (T.world engine.old.store.disk.now).seen).block) }
+    ensures alike { IsTrue T.tells → OnOk result (contents_held (T.world engine.new.store.disk.now).seen ≡ contents_held (T.world engine.old.store.disk.now).seen) }
 {
     match engine.settle() {
         Ok(()) => Ok(()),

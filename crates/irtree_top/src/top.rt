@@ -35,7 +35,8 @@ use std::alloc::Global;
 /// - `Input` if a script is too long, or a text gives no items, for its first offence. The whole transcript was said: of a script the
 ///   replies to the lines that are whole within the bytes it may have, of a load nothing.
 /// - `Limit(NoRoom)` if no page is left for an update or a batch. All that comes before its reply was said, and the image stands for the
-///   state before it. The disk then has room for no more pages than that image counts and as many as a commit is allowed to take.
+///   state before it. The free pages of that image, and those that the disk has room for beside the pages counted, are then together no
+///   more than a commit is allowed to take.
 /// - `Limit(Full)` and `Limit(Worn)` in a load or a make alone, if a batch meets that limit. The whole transcript was said; the live places
 ///   or the update number of page 0, with the places of the text or those to be made added, reach the limit.
 /// - `Store` if the image at the start is no well-formed store: `NotAStore` if its page 0 is foreign; `BadJournal` with the first byte of
@@ -114,7 +115,7 @@ pub fn run<S: Source, T: Station>(
     ensures limits { (asked : Asked) → AskFor (map string_bytes words.now) asked → (fault : LimitFault) → result ≡ Ended.Limit fault → IsLimitOf asked.action fault }
     ensures reached { (asked : Asked) → AskFor (map string_bytes words.now) asked → IsTrue S.tells → IsTrue T.tells → (fault : LimitFault) → result ≡ Ended.Limit fault
         → IsLimitReached fault asked (S.left source.old) (T.world station.old).seen }
-    // No page is left for an update only where the disk has room for little more than the image holds at the end.
+    // No page is left for an update only where the image has few free pages at the end, and the disk has room for few more.
     ensures lacks { (asked : Asked) → AskFor (map string_bytes words.now) asked → IsTrue T.tells → result ≡ Ended.Limit LimitFault.NoRoom
         → LacksRoomFor asked.action (T.room_of station.new) (T.world station.new).seen }
     // A make reads nothing, and ends by no input.

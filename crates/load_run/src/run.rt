@@ -102,8 +102,8 @@ fn refusal(fault: LoadFault) -> Ended
 ///
 /// - `Input` if the text is refused, for its first offence, or is longer than 67,108,864 bytes. Nothing is stored or said.
 /// - `Limit(Full)` or `Limit(Worn)` if a batch meets that limit; then the text has enough places to reach it. `Limit(NoRoom)` if no
-///   page is left for a batch: the station has room for at most the pages counted and as many more as a batch is allowed to take. Nothing of
-///   that batch is stored, and all text before its line was said.
+///   page is left for a batch: the free pages, and those that the station has room for beside the pages counted, are together no more than
+///   a batch is allowed to take. Nothing of that batch is stored, and all text before its line was said.
 /// - `Source` if the source fails. Nothing is stored or said.
 /// - `Disk`, `Sink` and `Memory` if one of them fails, after a prefix of the text.
 /// - `Store(Damaged)` if a page breaks a rule other than Head; never if the image stands for a state.

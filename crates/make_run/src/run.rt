@@ -79,8 +79,8 @@ fn make_places<'d, T: Station>(
 /// Returns `Ok` if all of that was done and said. Errors:
 ///
 /// - `Limit(Full)` or `Limit(Worn)` if a batch meets that limit; then the places are enough to reach it. `Limit(NoRoom)` if no page is left
-///   for a batch: the station has room for at most the pages counted and as many more as a batch is allowed to take. Nothing of that batch is
-///   stored, and all text before its line was said.
+///   for a batch: the free pages, and those that the station has room for beside the pages counted, are together no more than a batch is
+///   allowed to take. Nothing of that batch is stored, and all text before its line was said.
 /// - `Disk`, `Sink` and `Memory` if one of them fails, after a prefix of the text.
 /// - `Store(Damaged)` if a page breaks a rule other than Head; never if the image stands for a state.
 pub fn run_make<'d, T: Station>(

@@ -1,15 +1,31 @@
 -- Room that is wanting, by what the image holds.
-use Rattle.std.proofs.Common.{◌≡◌, ℕ, ◌≤◌, ap, sym, ◌∙◌, arith}
+use Rattle.std.proofs.Common.{◌≡◌, ℕ, ◌≤◌, Bool, IsTrue, [], sym, subst, arith}
 use Rattle.disk_model.specs.World.{World}
-use Rattle.page_store.specs.Contents.{IsCommitted}
+use Rattle.page_face.specs.FreeList.{PageMap}
+use Rattle.page_journal.specs.Record.{applied}
+use Rattle.page_store.specs.Contents.{Contents, IsCommitted, Overlay, counted_pages, shown}
 use Rattle.page_store.specs.declared.superblock.Superblock.{Superblock}
-use Rattle.irtree_engine.specs.Queries.{contents_held}
-use Rattle.irtree_engine.specs.Updates.{LacksRoom}
+use Rattle.irtree_engine.specs.Updates.{LacksPages, LacksRoom}
+use Rattle.irtree_engine.proofs.Standing.{committed-held}
 use Rattle.run_protocol.specs.Causes.{LacksRoomIn}
 
--- What lacked room for some updates lacks it for more, where the image holds the pages counted then, and nothing waits to be committed.
-pub lacks-image : (n more room_old room counted_old : ℕ) (world : World) (current last : Superblock) (end : ℕ) → n ≤ more → room ≡ room_old → current.counted ≡ counted_old → current ≡ last → IsCommitted last end world
-    → LacksRoom n room_old counted_old → LacksRoomIn more room world.seen
-lacks-image n more room_old room counted_old world current last end few rooms counts settled committed lacks =
-    let held : (contents_held world.seen).block.counted ≡ counted_old = ap (λ (b : Superblock). b.counted) (committed.head ∙ sym settled) ∙ counts in
-    omega (arith, few, rooms, held, lacks)
+-- what lacked room for some updates, by these contents
+abbrev Lacked : ℕ → ℕ → Contents → Type 0
+Lacked n room held = LacksRoom n room held.block.counted × LacksPages n room held.pages held.block.counted held.block.first_free
+
+-- lacks it for more
+more-lack : (n more room : ℕ) (held : Contents) → n ≤ more → Lacked n room held → Lacked more room held
+more-lack n more room held few lacks = (let h = lacks.0 in omega (arith, few, h), λ free list. let l = lacks.1 free list in omega (arith, few, l))
+
+-- What lacked room for some updates lacks it for more by what the image holds, where page 0's fields are as they were and nothing waits to be
+-- committed.
+pub lacks-image : (n more room_old room : ℕ) (was : Superblock) (tells : Bool) (world : World) (current last : Superblock) (overlay : Overlay) (end : ℕ)
+    → IsTrue tells → n ≤ more → room ≡ room_old → current ≡ was → overlay.entries ≡ [] → current ≡ last → IsCommitted last end world
+    → LacksRoom n room_old was.counted → LacksPages n room_old (counted_pages current.counted (shown tells (applied world.seen) overlay)) was.counted was.first_free
+    → LacksRoomIn more room world.seen
+lacks-image n more room_old room was tells world current last overlay end told few rooms same clean settled committed lacks free_lacks =
+    let shows : PageMap = counted_pages current.counted (shown tells (applied world.seen) overlay) in
+    let here = subst (λ (b : Superblock). LacksRoom n room_old b.counted × LacksPages n room_old shows b.counted b.first_free) (sym same) (lacks, free_lacks) in
+    let now = subst (λ (r : ℕ). LacksRoom n r current.counted × LacksPages n r shows current.counted current.first_free) (sym rooms) here in
+    subst (λ (h : Contents). Lacked more room h) (committed-held tells world overlay current last end told clean settled committed)
+    (more-lack n more room (record { block = current; pages = shows }) few now)

@@ -5,7 +5,7 @@ use Rattle.page_face.specs.declared.fault.Rule.TheVariants.{Head}
 use Rattle.place_map.specs.State.{Contents}
 use Rattle.irtree_engine.specs.Holding.{HoldsState, StandsForNone}
 use Rattle.irtree_engine.specs.Queries.{contents_held}
-use Rattle.irtree_engine.specs.Updates.{LacksRoom}
+use Rattle.irtree_engine.specs.Updates.{LacksPages, LacksRoom}
 use Rattle.irtree_engine.specs.declared.fault.EngineFault.{EngineFault}
 use Rattle.irtree_engine.specs.declared.fault.EngineFault.TheVariants as engine
 use Rattle.run_protocol.specs.declared.ended.Ended.{Ended}
@@ -80,6 +80,9 @@ pub record HasJobEnd {T : Type 0} (tells : Bool) (source_old source_new : ℕ) (
   pub stands : IsTrue tells → OnOk result (StandsStill old new)
   pub cause : IfErr result (IsJobEnd tells source_old source_new old new)
 
--- the room is no more than the pages that page 0 of the image counts, and as many as so many updates in one commit are allowed to take
+-- The room is no more than the pages that page 0 of the image counts, and as many as so many updates in one commit are allowed to take. Nor is
+-- it more with the free pages of the image added.
 abbrev pub LacksRoomIn : ℕ → ℕ → Image → Type 0
-LacksRoomIn updates room image = LacksRoom updates room (contents_held image).block.counted
+LacksRoomIn updates room image =
+    let held = contents_held image in
+    LacksRoom updates room held.block.counted × LacksPages updates room held.pages held.block.counted held.block.first_free

@@ -70,7 +70,7 @@ fn take<'d, T: Station>(
 ///
 /// - `Input(Long)` if the script has more bytes, after the replies to the lines whose LF is among the first 268,435,456.
 /// - `Limit(NoRoom)` if no page is left for an update, after the replies to the lines before it. The state is the one before it, and the
-///   station has room for at most the pages counted and as many more as an update is allowed to take.
+///   free pages, and those that the station has room for beside the pages counted, are together no more than an update is allowed to take.
 /// - `Source` if the source fails, after the replies to all lines whose LF was read.
 /// - `Disk`, `Sink` and `Memory` if one of them fails, after a prefix of the replies.
 /// - `Store(Damaged)` if a page breaks a rule other than Head; never if the image stands for a state. A script without updates names a page and a rule that it

@@ -46,7 +46,7 @@ returns-clause-applied g c = λ t state holds.
     let mid = c.update_all.new.pages in
     let rests = c.update_all.ensures.follows.rests t in
     let holds_mid = rest-stands (g.D.Disk.world store.disk.now) (g.D.Disk.world mid.disk.now) state rests here in
-    let outcome = outcome-is (state_after_all state c.args.updates.now) (block_with mid.current.counted mid.current.first_free c.update_all.new.head) (counted_pages mid.current.counted (shown g.D.Disk.tells (applied (g.D.Disk.world mid.disk.now).seen) mid.overlay)) (c.in_default.ensures.updated state stand) in
+    let outcome = outcome-is (state_after_all state c.args.updates.now) (block_with mid.current.counted mid.current.first_free c.update_all.new.head) (counted_pages mid.current.counted (shown g.D.Disk.tells (applied (g.D.Disk.world mid.disk.now).seen) mid.overlay)) (c.in-Ok-update_all.ensures.updated state stand) in
     on_ok_weaker c.commit.result (outcome-stands (state_after_all state c.args.updates.now) outcome.0 (g.D.Disk.world c.commit.new.store.disk.now).seen outcome.1)
     (c.commit.ensures.stored t state outcome.0 holds_mid outcome.2 (all-rise state c.args.updates.now outcome.0 outcome.1).same)
 
@@ -64,7 +64,7 @@ returns-clause-any_moment g c = λ t state holds.
     let mid = c.update_all.new.pages in
     let rests = c.update_all.ensures.follows.rests t in
     let holds_mid = rest-stands (g.D.Disk.world store.disk.now) (g.D.Disk.world mid.disk.now) state rests here in
-    let outcome = outcome-is (state_after_all state c.args.updates.now) (block_with mid.current.counted mid.current.first_free c.update_all.new.head) (counted_pages mid.current.counted (shown g.D.Disk.tells (applied (g.D.Disk.world mid.disk.now).seen) mid.overlay)) (c.in_default.ensures.updated state stand) in
+    let outcome = outcome-is (state_after_all state c.args.updates.now) (block_with mid.current.counted mid.current.first_free c.update_all.new.head) (counted_pages mid.current.counted (shown g.D.Disk.tells (applied (g.D.Disk.world mid.disk.now).seen) mid.overlay)) (c.in-Ok-update_all.ensures.updated state stand) in
     subst (λ disk. LeavesOnly (g.D.Disk.world disk) (g.D.Disk.world c.commit.new.store.disk.now) (LeavesAllOrNone state c.args.updates.now (g.D.Disk.world disk))) (λ i. (c.begin.ensures.disk i).now)
     (leaves-all (g.D.Disk.world store.disk.now) (g.D.Disk.world c.commit.new.store.disk.now) state c.args.updates.now outcome.0 outcome.1
     (rest-leaves (g.D.Disk.world store.disk.now) (g.D.Disk.world mid.disk.now) (g.D.Disk.world c.commit.new.store.disk.now) state outcome.0 rests
