@@ -63,29 +63,34 @@ fn remove(rt: &HostRuntime, store: &str) -> Result<(), Fail> {
     Ok(())
 }
 
+// Whether a store that is filled can't be opened by anyone else meanwhile.
+fn fills_alone(rt: &HostRuntime, store: &str, journal: &str) -> Result<bool, Fail> {
+    let mut station = FileStation::new(rt.alloc(), rt, store, Vec::new(rt.alloc()))?;
+    let behind = six(&mut station, Area::Pages, 8192)?;
+    let filled = fill(&mut station)?;
+    Ok(
+        behind == [0; 6]
+            && filled == *b"bcde\0\0"
+            && station.say(b"said") == Ok(4)
+            && opens_so(rt, store, TAKEN)?
+            && opens_so(rt, journal, TAKEN)?,
+    )
+}
+
+const TAKEN: &str = ": another process has the store open; wait for it to end";
+
+const JOURNAL_TAKEN: &str = ".journal: another process has the store open; wait for it to end";
+
 #[test]
 fn a_file_station_keeps_its_bytes_in_two_files(rt: HostRuntime) -> Result<(), Fail> {
     let alloc = rt.alloc();
     let store = store_path(&rt)?;
     let journal = journal_of(alloc, &store)?;
-    {
-        let mut station = FileStation::new(alloc, &rt, &store, Vec::new(alloc))?;
-        assert_eq!(rt; six(&mut station, Area::Pages, 8192)?, [0; 6]);
-        assert_eq!(rt; fill(&mut station)?, *b"bcde\0\0");
-        assert_eq!(rt; station.say(b"said"), Ok(4));
-        assert!(rt; opens_so(&rt, &store, "has the store open; wait for it to end")?);
-        assert!(rt; opens_so(&rt, &journal, "has the store open; wait for it to end")?);
-    }
+    assert!(rt; fills_alone(&rt, &store, &journal)?);
     {
         let mut other = FileStation::new(alloc, &rt, &journal, Vec::new(alloc))?;
         assert_eq!(rt; six(&mut other, Area::Pages, 0)?, *b"jk\0\0\0\0");
-        assert!(rt;
-            opens_so(
-                &rt,
-                &store,
-                ".journal: another process has the store open; wait for it to end"
-            )?
-        );
+        assert!(rt; opens_so(&rt, &store, JOURNAL_TAKEN)?);
     }
     let mut again = FileStation::new(alloc, &rt, &store, Vec::new(alloc))?;
     assert_eq!(rt; six(&mut again, Area::Pages, 2)?, *b"\0abcde");
@@ -93,40 +98,47 @@ fn a_file_station_keeps_its_bytes_in_two_files(rt: HostRuntime) -> Result<(), Fa
     remove(&rt, &store)
 }
 
+// Whether a store that is filled through a link has its journal beside itself, and not beside the link.
+fn fills_through(rt: &HostRuntime, link: &str, journal: &str, other: &str) -> Result<bool, Fail> {
+    let filled = {
+        let mut station = FileStation::new(rt.alloc(), rt, link, Vec::new(rt.alloc()))?;
+        fill(&mut station)?
+    };
+    Ok(
+        filled == *b"bcde\0\0"
+            && fs::read(rt, journal)?.starts_with(b"jk")
+            && !fs::exists(rt, other)?,
+    )
+}
+
+const LINKED: &str = ".journal: it is a symbolic link; put the journal itself beside its store";
+
+const NAMED: &str = ".link: it has more than one hard link; leave it one name, or copy it";
+
 #[test]
 fn links_lead_to_one_store(rt: HostRuntime) -> Result<(), Fail> {
-    let alloc = rt.alloc();
     let store = store_path(&rt)?;
-    let link = format!(in alloc; "{}.link", store.as_str())?;
-    let journal = journal_of(alloc, &store)?;
+    let link = format!(in rt.alloc(); "{}.link", store.as_str())?;
+    let journal = journal_of(rt.alloc(), &store)?;
+    let moved = journal_of(rt.alloc(), &link)?;
     symlink(&rt, store.as_str(), link.as_str())?;
-    {
-        let mut station = FileStation::new(alloc, &rt, &link, Vec::new(alloc))?;
-        assert_eq!(rt; fill(&mut station)?, *b"bcde\0\0");
-    }
-    assert!(rt; fs::read(&rt, journal.as_str())?.starts_with(b"jk"));
-    let through_link = journal_of(alloc, &link)?;
-    assert!(rt; !fs::exists(&rt, through_link.as_str())?);
-    fs::rename(&rt, journal.as_str(), through_link.as_str())?;
-    symlink(&rt, through_link.as_str(), journal.as_str())?;
-    assert!(rt;
-        opens_so(
-            &rt,
-            &link,
-            ".journal: it is a symbolic link; put the journal itself beside its store"
-        )?
-    );
+    assert!(rt; fills_through(&rt, &link, &journal, &moved)?);
+    fs::rename(&rt, journal.as_str(), moved.as_str())?;
+    symlink(&rt, moved.as_str(), journal.as_str())?;
+    assert!(rt; opens_so(&rt, &link, LINKED)?);
+    fs::remove_file(&rt, moved.as_str())?;
     fs::remove_file(&rt, link.as_str())?;
+    remove(&rt, &store)
+}
+
+#[test]
+fn a_store_with_two_names_is_refused(rt: HostRuntime) -> Result<(), Fail> {
+    let store = store_path(&rt)?;
+    let link = format!(in rt.alloc(); "{}.link", store.as_str())?;
+    assert!(rt; opens_so(&rt, &store, "")?);
     fs::hard_link(&rt, store.as_str(), link.as_str())?;
-    assert!(rt;
-        opens_so(
-            &rt,
-            &link,
-            ".link: it has more than one hard link; leave it one name, or copy it"
-        )?
-    );
+    assert!(rt; opens_so(&rt, &link, NAMED)?);
     fs::remove_file(&rt, link.as_str())?;
-    fs::remove_file(&rt, through_link.as_str())?;
     remove(&rt, &store)
 }
 
@@ -168,30 +180,37 @@ const CUT: &str =
 const MOVED: &str =
     ": it was removed, or another file took its name; put the store and its journal back, and run again";
 
+// Whether a read of pages fails where they were cut short meanwhile.
+fn misses_pages(rt: &HostRuntime, store: &str) -> Result<bool, Fail> {
+    let mut station = FileStation::new(rt.alloc(), rt, store, Vec::new(rt.alloc()))?;
+    fill(&mut station)?;
+    cut(rt, store, 5)?;
+    Ok(six(&mut station, Area::Pages, 2) == Err(Failed) && says(rt, &station, CUT)?)
+}
+
+// Whether a write to the journal fails where it was cut short meanwhile.
+fn misses_journal(rt: &HostRuntime, store: &str, journal: &str) -> Result<bool, Fail> {
+    let mut station = FileStation::new(rt.alloc(), rt, store, Vec::new(rt.alloc()))?;
+    fill(&mut station)?;
+    cut(rt, journal, 1)?;
+    Ok(station.write(Area::Journal, 0, b"jkl") == Err(Failed) && says(rt, &station, CUT)?)
+}
+
+// Whether a sync fails where both files were removed meanwhile.
+fn misses_both(rt: &HostRuntime, store: &str) -> Result<bool, Fail> {
+    let mut station = FileStation::new(rt.alloc(), rt, store, Vec::new(rt.alloc()))?;
+    fill(&mut station)?;
+    remove(rt, store)?;
+    Ok(station.sync(Area::Pages) == Err(Failed) && says(rt, &station, MOVED)?)
+}
+
 #[test]
 fn a_file_that_is_cut_or_removed_is_a_fault(rt: HostRuntime) -> Result<(), Fail> {
-    let alloc = rt.alloc();
     let store = store_path(&rt)?;
-    let journal = journal_of(alloc, &store)?;
-    {
-        let mut station = FileStation::new(alloc, &rt, &store, Vec::new(alloc))?;
-        fill(&mut station)?;
-        cut(&rt, &store, 5)?;
-        assert_eq!(rt; six(&mut station, Area::Pages, 2), Err(Failed));
-        assert!(rt; says(&rt, &station, CUT)?);
-    }
-    {
-        let mut station = FileStation::new(alloc, &rt, &store, Vec::new(alloc))?;
-        fill(&mut station)?;
-        cut(&rt, &journal, 1)?;
-        assert_eq!(rt; station.write(Area::Journal, 0, b"jkl"), Err(Failed));
-        assert!(rt; says(&rt, &station, CUT)?);
-    }
-    let mut station = FileStation::new(alloc, &rt, &store, Vec::new(alloc))?;
-    fill(&mut station)?;
-    remove(&rt, &store)?;
-    assert_eq!(rt; station.sync(Area::Pages), Err(Failed));
-    assert!(rt; says(&rt, &station, MOVED)?);
+    let journal = journal_of(rt.alloc(), &store)?;
+    assert!(rt; misses_pages(&rt, &store)?);
+    assert!(rt; misses_journal(&rt, &store, &journal)?);
+    assert!(rt; misses_both(&rt, &store)?);
     Ok(())
 }
 

@@ -145,7 +145,50 @@ fn write_ranking(line: &mut String, dice: &mut Dice) -> Result<(), AllocError> {
     )
 }
 
-// A query of each kind in turn; a group query, whose cost is that of many choices, comes seldom.
+// Writes a query for a group that has two words, one even and one odd.
+fn write_group(line: &mut String, dice: &mut Dice, at: (u32, u32)) -> Result<(), AllocError> {
+    line.push_str("group")?;
+    write_point(line, at)?;
+    let (even, odd) = (2 * dice.below(20), 2 * dice.below(20) + 1);
+    write!(line, " words w{even:02} w{odd:02}")
+}
+
+// Writes a query of each kind in turn; a group query, whose cost is that of many choices, comes seldom.
+fn write_query(
+    line: &mut String,
+    dice: &mut Dice,
+    turn: u32,
+    at: (u32, u32),
+    corner: (u32, u32),
+) -> Result<(), AllocError> {
+    match turn % 17 {
+        0 => write_group(line, dice, at),
+        1..=4 => {
+            line.push_str("range")?;
+            write_point(line, at)?;
+            write!(line, " {}", RADII[dice.below(5) as usize])?;
+            write_filter(line, dice)
+        }
+        5..=8 => {
+            line.push_str("box")?;
+            write_box(line, at, corner)?;
+            write_filter(line, dice)
+        }
+        9..=12 => {
+            line.push_str("nearest")?;
+            write_point(line, at)?;
+            write!(line, " {}", COUNTS[dice.below(8) as usize])?;
+            write_filter(line, dice)
+        }
+        _ => {
+            line.push_str("top")?;
+            write_point(line, at)?;
+            write_ranking(line, dice)
+        }
+    }
+}
+
+// The query of a turn.
 pub(crate) fn query_line(
     alloc: Global,
     dice: &mut Dice,
@@ -153,40 +196,7 @@ pub(crate) fn query_line(
     ground: Ground,
 ) -> Result<String, AllocError> {
     let mut line = String::new(alloc);
-    let (first, second) = (dice.asked(ground), dice.asked(ground));
-    match turn % 17 {
-        0 => {
-            line.push_str("group")?;
-            write_point(&mut line, first)?;
-            write!(
-                line,
-                " words w{:02} w{:02}",
-                2 * dice.below(20),
-                2 * dice.below(20) + 1
-            )?;
-        }
-        1..=4 => {
-            line.push_str("range")?;
-            write_point(&mut line, first)?;
-            write!(line, " {}", RADII[dice.below(5) as usize])?;
-            write_filter(&mut line, dice)?;
-        }
-        5..=8 => {
-            line.push_str("box")?;
-            write_box(&mut line, first, second)?;
-            write_filter(&mut line, dice)?;
-        }
-        9..=12 => {
-            line.push_str("nearest")?;
-            write_point(&mut line, first)?;
-            write!(line, " {}", COUNTS[dice.below(8) as usize])?;
-            write_filter(&mut line, dice)?;
-        }
-        _ => {
-            line.push_str("top")?;
-            write_point(&mut line, first)?;
-            write_ranking(&mut line, dice)?;
-        }
-    }
+    let (at, corner) = (dice.asked(ground), dice.asked(ground));
+    write_query(&mut line, dice, turn, at, corner)?;
     Ok(line)
 }

@@ -91,25 +91,37 @@ fn a_tie_goes_to_the_lesser_keys(rt: HostRuntime) -> Result<(), Fail> {
     Ok(())
 }
 
+// The line that puts a place so many degrees east, below a hundred.
+fn push_add(script: &mut Vec<u8>, n: u8) -> Result<(), Fail> {
+    script.extend_from_slice(b"add t")?;
+    push_digits(script, n)?;
+    script.push(b' ')?;
+    if n >= 10 {
+        script.push(b'0' + n / 10 % 10)?;
+    }
+    script.push(b'0' + n % 10)?;
+    script.extend_from_slice(b" 0\n")?;
+    Ok(())
+}
+
+// The line that takes it out.
+fn push_remove(script: &mut Vec<u8>, n: u8) -> Result<(), Fail> {
+    script.extend_from_slice(b"remove t")?;
+    push_digits(script, n)?;
+    script.push(b'\n')?;
+    Ok(())
+}
+
 #[test]
 fn what_is_left_is_found_after_many_are_taken_out(rt: HostRuntime) -> Result<(), Fail> {
     let mut script = Vec::new(rt.alloc());
     let mut replies = Vec::new(rt.alloc());
     for n in 0..33 {
-        script.extend_from_slice(b"add t")?;
-        push_digits(&mut script, n)?;
-        script.push(b' ')?;
-        if n >= 10 {
-            script.push(b'0' + n / 10 % 10)?;
-        }
-        script.push(b'0' + n % 10)?;
-        script.extend_from_slice(b" 0\n")?;
+        push_add(&mut script, n)?;
         replies.extend_from_slice(b"ok\n")?;
     }
     for n in 0..22 {
-        script.extend_from_slice(b"remove t")?;
-        push_digits(&mut script, n)?;
-        script.push(b'\n')?;
+        push_remove(&mut script, n)?;
         replies.extend_from_slice(b"ok\n")?;
     }
     script.extend_from_slice(b"count\nnearest 0 0 3\n")?;

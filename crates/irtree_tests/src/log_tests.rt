@@ -251,6 +251,26 @@ fn look_at_all(
     Ok(())
 }
 
+// Writes the feature of a place that a load reads.
+fn write_feature(
+    feature: &mut String,
+    number: u32,
+    degrees: &str,
+    words: &str,
+) -> Result<(), Fail> {
+    feature.push_str("{\"type\":\"Feature\",\"id\":\"p")?;
+    write!(feature, "{number:04}\",\"geometry\":")?;
+    feature.push_str("{\"type\":\"Point\",\"coordinates\":[")?;
+    for (n, part) in degrees.split_whitespace().enumerate() {
+        feature.push_str(if n == 0 { "" } else { "," })?;
+        feature.push_str(part)?;
+    }
+    feature.push_str("]},\"properties\":{\"t\":\"")?;
+    feature.push_str(words)?;
+    feature.push_str("\"}}")?;
+    Ok(())
+}
+
 // A place in two spellings: the feature that a load reads, and the line that puts it.
 fn write_place(
     alloc: Global,
@@ -260,25 +280,13 @@ fn write_place(
     feature: &mut String,
     line: &mut String,
 ) -> Result<(), Fail> {
-    let mut words = String::new(alloc);
     let point = dice.point_on(ground);
-    write_words(&mut words, dice)?;
-    write!(line, "add p{number:04}")?;
-    write_point(line, point)?;
-    line.push_str(words.as_str())?;
-    feature.push_str("{\"type\":\"Feature\",\"id\":\"p")?;
-    write!(feature, "{number:04}\",\"geometry\":")?;
-    feature.push_str("{\"type\":\"Point\",\"coordinates\":[")?;
     let mut degrees = String::new(alloc);
     write_point(&mut degrees, point)?;
-    for (n, part) in degrees.as_str().split_whitespace().enumerate() {
-        feature.push_str(if n == 0 { "" } else { "," })?;
-        feature.push_str(part)?;
-    }
-    feature.push_str("]},\"properties\":{\"t\":\"")?;
-    feature.push_str(words.as_str())?;
-    feature.push_str("\"}}")?;
-    Ok(())
+    let mut words = String::new(alloc);
+    write_words(&mut words, dice)?;
+    write!(line, "add p{number:04}{degrees}{words}")?;
+    write_feature(feature, number, degrees.as_str(), words.as_str())
 }
 
 // Does what a line says to a state.

@@ -122,22 +122,28 @@ fn counts_of(
 }
 
 #[test]
-fn each_policy_is_let_go_once(rt: HostRuntime) -> Result<(), Fail> {
+fn a_policy_is_let_go_by_an_opening_that_is_refused(rt: HostRuntime) -> Result<(), Fail> {
     let token = Rc::new(rt.alloc(), 0)?;
-
-    // By an opening that is refused.
     let mut foreign = MemoryStation::with_image(rt.alloc(), &[120; 4096], &[0, 7], ROOM)?;
     let policy = Box::new(rt.alloc(), policy_with(&token)?)?;
     assert_eq!(rt; Rc::strong_count(&token), 2);
     assert!(rt; is_refused(rt.alloc(), &mut foreign, policy));
     assert_eq!(rt; Rc::strong_count(&token), 1);
+    Ok(())
+}
 
-    // By another one in its place, and by a close.
+#[test]
+fn a_policy_is_let_go_by_another_in_its_place_and_by_a_close(rt: HostRuntime) -> Result<(), Fail> {
+    let token = Rc::new(rt.alloc(), 0)?;
     let first = Box::new(rt.alloc(), policy_with(&token)?)?;
     let second = Box::new(rt.alloc(), policy_with(&token)?)?;
     assert_eq!(rt; counts_of(rt.alloc(), &token, first, second)?, [3, 2, 1]);
+    Ok(())
+}
 
-    // By a run.
+#[test]
+fn a_policy_is_let_go_by_a_run(rt: HostRuntime) -> Result<(), Fail> {
+    let token = Rc::new(rt.alloc(), 0)?;
     let mut empty = MemorySource::new(rt.alloc(), b"", 1, &[]).map_err(|_| "memory")?;
     let policy = Box::new(rt.alloc(), policy_with(&token)?)?;
     let (ended, _) = run_by(rt.alloc(), &RUN, &mut empty, policy)?;

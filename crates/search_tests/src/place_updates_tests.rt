@@ -35,44 +35,54 @@ fn put(
     Ok(())
 }
 
-// The words of the place at a key, as `word impact` after one another. Empty where none lives there.
-fn told(
+// Whether the place at a key has these words, as `word impact` after one another; at "" whether none lives there.
+fn tells(
     alloc: Global,
     pages: &mut MemoryPages,
     tables: &Tables,
     key: &Key,
-) -> Result<String, Fail> {
+    wanted: &str,
+) -> Result<bool, Fail> {
     let mut out = String::new(alloc);
     if let Some(place) = place_at(alloc, pages, tables, key)? {
         for (word, impact) in place.words.pairs() {
             write!(out, "{} {impact} ", word.text())?;
         }
     }
-    Ok(out)
+    Ok(out.as_str() == wanted)
+}
+
+// Whether no word has this number.
+fn is_free(pages: &mut MemoryPages, tables: &Tables, number: u64) -> Result<bool, Fail> {
+    Ok(tables.word_of(pages, number)?.is_none())
+}
+
+// Takes out the place at a key.
+fn take_out(pages: &mut MemoryPages, tables: &mut Tables, key: &Key) -> Result<(), Fail> {
+    let stored = tables.place(pages, key)?.ok_or("no place")?;
+    remove_place(pages, tables, key, &stored)?;
+    Ok(())
 }
 
 #[test]
 fn a_word_goes_with_the_last_place_that_holds_it(rt: HostRuntime) -> Result<(), Fail> {
     let mut pages = MemoryPages::new(rt.alloc(), 100);
     let mut tables = NO_TABLES;
-    let key = Key::of_text("ab").map_err(|_| "no key")?;
+    let key = key_of("ab")?;
     put(rt.alloc(), &mut pages, &mut tables, &key, "tea cake")?;
-    let first = told(rt.alloc(), &mut pages, &tables, &key)?;
-    assert_eq!(rt; first.as_str(), "cake 128 tea 128 ");
+    assert!(rt; tells(rt.alloc(), &mut pages, &tables, &key, "cake 128 tea 128 ")?);
 
     // Cake had number 1 and goes; tea keeps number 2, and art is given 3.
     put(rt.alloc(), &mut pages, &mut tables, &key, "art tea art")?;
-    let second = told(rt.alloc(), &mut pages, &tables, &key)?;
-    assert_eq!(rt; second.as_str(), "art 170 tea 85 ");
-    assert!(rt; tables.word_of(&mut pages, 1)?.is_none());
+    assert!(rt; tells(rt.alloc(), &mut pages, &tables, &key, "art 170 tea 85 ")?);
+    assert!(rt; is_free(&mut pages, &tables, 1)?);
     assert_eq!(rt; tables.next_word, 4);
 
-    let stored = tables.place(&mut pages, &key)?.ok_or("no place")?;
-    remove_place(&mut pages, &mut tables, &key, &stored)?;
-    let none = told(rt.alloc(), &mut pages, &tables, &key)?;
-    assert_eq!(rt; none.as_str(), "");
-    assert!(rt; tables.word_of(&mut pages, 2)?.is_none());
-    assert!(rt; tables.word_of(&mut pages, 3)?.is_none());
+    take_out(&mut pages, &mut tables, &key)?;
+    assert!(rt; tells(rt.alloc(), &mut pages, &tables, &key, "")?);
+    for number in [2, 3] {
+        assert!(rt; is_free(&mut pages, &tables, number)?);
+    }
     Ok(())
 }
 
@@ -153,17 +163,16 @@ fn a_word_of_a_batch_is_held_by_as_many_places_as_keep_it(rt: HostRuntime) -> Re
     let mut tables = NO_TABLES;
     put_batch(rt.alloc(), &mut pages, &mut tables)?;
     let (a, b) = (key_of("a")?, key_of("b")?);
-    let words = told(rt.alloc(), &mut pages, &tables, &a)?;
-    assert_eq!(rt; words.as_str(), "art 128 tea 128 ");
+    assert!(rt; tells(rt.alloc(), &mut pages, &tables, &a, "art 128 tea 128 ")?);
 
     // Cake went with the first place, and tea goes with the last one.
-    assert!(rt; tables.word_of(&mut pages, 1)?.is_none());
+    assert!(rt; is_free(&mut pages, &tables, 1)?);
     for key in [a, b] {
-        assert!(rt; tables.word_of(&mut pages, 2)?.is_some());
-        let stored = tables.place(&mut pages, &key)?.ok_or("no place")?;
-        remove_place(&mut pages, &mut tables, &key, &stored)?;
+        assert!(rt; !is_free(&mut pages, &tables, 2)?);
+        take_out(&mut pages, &mut tables, &key)?;
     }
-    assert!(rt; tables.word_of(&mut pages, 3)?.is_none());
-    assert!(rt; tables.word_of(&mut pages, 2)?.is_none());
+    for number in [2, 3] {
+        assert!(rt; is_free(&mut pages, &tables, number)?);
+    }
     Ok(())
 }
