@@ -1,5 +1,5 @@
 -- Logs of several calls.
-use Rattle.std.proofs.Common.{◌≡◌, ℕ, List, [], ◌∷◌, ◌++◌, sym, ap, ◌∙◌, append_assoc}
+use Rattle.std.proofs.Common.{◌≡◌, ℕ, List, ◌∷◌, ◌++◌, sym, ap, ◌∙◌, append_assoc}
 use Rattle.std.specs.List.{Contains}
 use Rattle.btree_nodes.specs.Damages.{AskedSince}
 use Rattle.best_first.specs.Openings.{AsksNodes}

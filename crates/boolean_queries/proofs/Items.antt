@@ -20,7 +20,7 @@ use Rattle.rtree_nodes.proofs.Formed.{stored-used}
 use Rattle.rtree_nodes.proofs.Children.{leaf-item, point_from}
 use Rattle.best_first.specs.declared.item.Item as best
 use Rattle.best_first.specs.declared.item.Item.TheVariants.{Node, Place}
-use Rattle.tree_entries.specs.Masks.{has_slot, Marks}
+use Rattle.tree_entries.specs.Masks.{has_slot}
 use Rattle.tree_entries.proofs.Marking.{slot-none}
 use Rattle.tree_entries.specs.Entries.{point_of, rect_of_item, name_of}
 use Rattle.boolean_queries.specs.declared.region.Region.{Region}

@@ -6,7 +6,7 @@ use Rattle.best_first.proofs.Lists.{all_in, all_weaker}
 use Rattle.spatial_base.specs.Point.{Position}
 use Rattle.place_map.specs.declared.query.Pick.{Pick}
 use Rattle.place_map.specs.declared.query.Chosen.{Chosen}
-use Rattle.place_map.specs.Group.{choice_cost, is_cheaper, least_of}
+use Rattle.place_map.specs.Group.{is_cheaper, least_of}
 use Rattle.place_map.specs.GroupLaws.{choices_linear, least_cost}
 use Rattle.collective_query.specs.Choices.{IsChoice, IsCut, AreCut}
 use Rattle.collective_query.proofs.Least.{costed, least-among, least-first, least-some, least-is}

@@ -1,18 +1,17 @@
 -- Several searches of a tree, one after another.
-use Rattle.std.proofs.Common.{◌≡◌, ℕ, List, [], ◌++◌, ◌∙◌, append_assoc, append-nil, ap, subst, sym, refl, Result, Ok, Err, arith, inl, inr, ⊎_elim}
-use Rattle.std.specs.Prelude.{IsErrOf, IfOk, OnOk}
+use Rattle.std.proofs.Common.{◌≡◌, ℕ, List, ◌++◌, ◌∙◌, append_assoc, ap, subst, sym, Result, Ok, Err, arith, inl, inr, ⊎_elim}
+use Rattle.std.specs.Prelude.{IsErrOf, OnOk}
 use Rattle.page_face.specs.FreeList.{PageMap}
 use Rattle.page_face.specs.Calls.{FailsReading}
 use Rattle.page_face.specs.Causes.{Rose, HidesNoFault}
 use Rattle.page_face.specs.declared.fault.Damage.{Damage}
 use Rattle.page_face.specs.declared.fault.PageFault.{PageFault}
-use Rattle.page_face.specs.declared.fault.PageFault.TheVariants.{Damaged, Memory}
+use Rattle.page_face.specs.declared.fault.PageFault.TheVariants.{Damaged}
 use Rattle.page_face.specs.declared.pages.Pages.{Ghosts}
 use Rattle.page_face.proofs.Frames.{reads_then}
 use Rattle.btree_nodes.specs.Damages.{AreTold}
 use Rattle.btree_nodes.proofs.Walks.{same-fault}
 use Rattle.node_rows.specs.declared.roots.Tree.{Tree}
-use Rattle.node_rows.proofs.Faults.{reads-none}
 use Rattle.tree_ranking.specs.Harms.{IsHarm}
 use Rattle.tree_ranking.specs.Laws.{harm-sooner as ranked-sooner}
 use Rattle.boolean_queries.specs.Harms.{IsQueryHarm}

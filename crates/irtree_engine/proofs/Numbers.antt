@@ -1,11 +1,9 @@
 -- The numbers of page 0 keep their ranges, update by update.
-use Rattle.std.proofs.Common.{◌≡◌, ◌≢◌, ◌⊎◌, ⊎_elim, ℕ, ◌+◌, ◌*◌, ◌≤◌, ◌^◌, List, [], ◌∷◌, length, Option, Some, None, option_map, refl, sym, subst, arith}
+use Rattle.std.proofs.Common.{◌≡◌, ◌≢◌, ℕ, ◌+◌, ◌*◌, ◌≤◌, ◌^◌, List, [], ◌∷◌, length, Option, Some, None, option_map, refl, arith}
 use Rattle.std.specs.Option.{IsSome}
 use Rattle.spatial_base.specs.Key.{Name}
 use Rattle.spatial_base.specs.Point.{Position}
 use Rattle.page_face.specs.declared.head.Head.{Head}
-use Rattle.page_store.specs.Superblock.{IsInRange}
-use Rattle.page_store.specs.declared.superblock.Superblock.{Superblock}
 use Rattle.place_map.specs.declared.update.Update.{Update}
 use Rattle.place_map.specs.declared.update.Update.TheVariants.{Put, Remove}
 use Rattle.store_meaning.specs.Ahead.{last_number, puts_in}

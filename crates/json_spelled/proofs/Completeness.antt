@@ -7,7 +7,7 @@ use Rattle.json_spelled.specs.Json.{Json, spelled, list, object, Items, no_items
 use Rattle.json_spelled.specs.Grammar.{Spaces, none, space, IsPlain, escaped, Piece, Pieces, closed, plain, escape, unit, said_by, alone, said_behind, waiting_after, Quoted, Value, of_null, of_true, of_false, of_number, of_string, of_no_items, of_items, of_no_members, of_members, ItemsAt, first, MoreItems, no_more, more, MembersAt, first_member, MoreMembers, no_more_members, more_members}
 use Rattle.json_spelled.specs.Kind.{kind}
 use Rattle.json_spelled.specs.Machine as machine
-use Rattle.json_spelled.specs.Machine.{Frame, InList, InObject, Place, Start, Mark1, Mark2, FirstItem, BehindItem, FirstName, Name, BehindName, BehindMember, Ended, Use, AsValue, AsName, InBytes, InEscape, Hex1, Hex2, Hex3, Hex4, State, Between, InWord, InNumber, InText, deliver, finish, finish_delivered, may_end, goes_on, number_step, step_delivered, between, text_step, escape_step, unit_step, close, step_by, step, answer}
+use Rattle.json_spelled.specs.Machine.{Frame, InList, InObject, Place, Start, Mark1, Mark2, FirstItem, BehindItem, FirstName, Name, BehindName, BehindMember, Use, AsValue, AsName, InBytes, InEscape, Hex1, Hex2, Hex3, Hex4, State, Between, InWord, InNumber, InText, deliver, finish, finish_delivered, may_end, goes_on, number_step, step_delivered, between, text_step, unit_step, close, step_by, step, answer}
 use Rattle.json_spelled.specs.declared.kind.Kind.{Kind}
 use Rattle.json_spelled.specs.declared.kind.Kind.TheVariants as kinds
 use Rattle.json_spelled.specs.declared.lexeme.Part.{Part}

@@ -4,7 +4,7 @@ use Rattle.std.specs.Prelude.{⊤}
 use Rattle.json_spelled.specs.Json.{Json, spelled}
 use Rattle.json_spelled.specs.Kind.{kind}
 use Rattle.json_spelled.specs.Machine as machine
-use Rattle.json_spelled.specs.Machine.{Frame, InList, InObject, Place, Start, Mark1, Mark2, FirstItem, BehindItem, FirstName, Name, BehindName, BehindMember, Ended, State, Between, InWord, InNumber, InText, deliver, may_end, goes_on, number_step, step_delivered, between, begin, first_item, step_by, step}
+use Rattle.json_spelled.specs.Machine.{Frame, InList, InObject, Place, Start, Mark1, FirstItem, State, Between, InNumber, deliver, may_end, goes_on, number_step, step_delivered, between, begin, first_item, step_by, step}
 use Rattle.json_spelled.specs.declared.kind.Kind.{Kind}
 use Rattle.json_spelled.specs.declared.kind.Kind.TheVariants as kinds
 use Rattle.json_spelled.specs.declared.lexeme.Part.{Part}

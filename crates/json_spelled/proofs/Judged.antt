@@ -11,7 +11,7 @@ use Rattle.json_spelled.specs.Json.{Json}
 use Rattle.json_spelled.specs.Grammar.{IsText}
 use Rattle.json_spelled.specs.Kind.{kind}
 use Rattle.json_spelled.specs.Machine as machine
-use Rattle.json_spelled.specs.Machine.{Frame, InList, Place, Start, Mark1, FirstItem, FirstName, State, Between, InWord, InNumber, InText, finish, goes_on, open_at, begin, first_item, between, step_by, step, start}
+use Rattle.json_spelled.specs.Machine.{Frame, InList, Place, Start, Mark1, FirstItem, FirstName, State, Between, InWord, InNumber, InText, finish, goes_on, open_at, begin, first_item, between, step_by, start}
 use Rattle.json_spelled.specs.Reader.{Goes, Fails}
 use Rattle.json_spelled.specs.Reading.{ReadsSo, StopsAt, Gives, IsValidLength}
 use Rattle.json_spelled.specs.Refusals.{level_limit, IsFirstOffence}

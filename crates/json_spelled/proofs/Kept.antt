@@ -10,7 +10,7 @@ use Rattle.json_spelled.specs.Json.{Json, null, truth, spelled, text, list, obje
 use Rattle.json_spelled.specs.Grammar.{escaped, hex_digit, alone, said, said_behind, waiting_after, is_high, is_low, paired}
 use Rattle.json_spelled.specs.Kind.{kind}
 use Rattle.json_spelled.specs.Machine as machine
-use Rattle.json_spelled.specs.Machine.{Frame, InList, InObject, Place, Start, Mark1, Mark2, FirstItem, BehindItem, FirstName, Name, BehindName, BehindMember, Ended, Use, AsValue, AsName, Spot, InBytes, InEscape, Hex1, Hex2, Hex3, Hex4, State, Between, InWord, InNumber, InText, deliver, may_end, goes_on, number_step, step_delivered, between, begin, open_at, first_item, behind_item, first_name, name_step, behind_name, behind_member, ended_step, text_step, escape_step, in_text, unit_step, close, awaited, behind_awaited, step_by, step}
+use Rattle.json_spelled.specs.Machine.{Frame, InList, InObject, Place, Start, Mark1, Mark2, FirstItem, BehindItem, FirstName, Name, BehindName, BehindMember, Ended, Use, AsValue, AsName, Spot, InBytes, InEscape, Hex1, Hex2, Hex3, Hex4, State, Between, InWord, InNumber, InText, deliver, may_end, goes_on, number_step, step_delivered, between, begin, first_item, behind_item, first_name, name_step, behind_name, behind_member, ended_step, text_step, in_text, unit_step, close, awaited, behind_awaited, step}
 use Rattle.json_spelled.specs.Reading.{KeepsText}
 use Rattle.json_spelled.specs.declared.kind.Kind.{Kind}
 use Rattle.json_spelled.specs.declared.kind.Kind.TheVariants as kinds

@@ -6,7 +6,7 @@ use Rattle.json_spelled.specs.Json.{Json, null, truth, spelled, text, list, obje
 use Rattle.json_spelled.specs.Grammar.{IsSpace, Spaces, none, space, IsPlain, escaped, hex_digit, Piece, Byte, Code, Pieces, closed, plain, escape, unit, said_by, alone, said_behind, waiting_after, Value, of_null, of_true, of_false, of_number, of_string, of_no_items, of_items, of_no_members, of_members, ItemsAt, first, MoreItems, no_more, more, MembersAt, first_member, MoreMembers, no_more_members, more_members}
 use Rattle.json_spelled.specs.Kind.{kind}
 use Rattle.json_spelled.specs.Machine as machine
-use Rattle.json_spelled.specs.Machine.{Frame, InList, InObject, Place, Start, Mark1, Mark2, FirstItem, BehindItem, FirstName, Name, BehindName, BehindMember, Ended, Use, AsValue, AsName, Spot, InBytes, InEscape, Hex1, Hex2, Hex3, Hex4, State, Between, InWord, InNumber, InText, deliver, finish, finish_place, finish_delivered, may_end, goes_on, number_step, step_delivered, between, begin, open_at, first_item, behind_item, first_name, name_step, behind_name, behind_member, ended_step, text_step, escape_step, in_text, unit_step, close, awaited, behind_awaited, step_by, step, answer}
+use Rattle.json_spelled.specs.Machine.{Frame, InList, InObject, Place, Start, Mark1, Mark2, FirstItem, BehindItem, FirstName, Name, BehindName, BehindMember, Ended, Use, AsValue, AsName, Spot, InBytes, InEscape, Hex1, Hex2, Hex3, Hex4, State, Between, InWord, InNumber, InText, deliver, finish, finish_place, finish_delivered, may_end, goes_on, number_step, step_delivered, between, begin, open_at, first_item, behind_item, first_name, name_step, behind_name, behind_member, ended_step, text_step, in_text, unit_step, close, awaited, behind_awaited, step, answer}
 use Rattle.json_spelled.specs.declared.kind.Kind.{Kind}
 use Rattle.json_spelled.specs.declared.kind.Kind.TheVariants as kinds
 use Rattle.json_spelled.specs.declared.lexeme.Part.{Part}

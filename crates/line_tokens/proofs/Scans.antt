@@ -1,9 +1,8 @@
 -- The first token of a text.
-use Rattle.std.proofs.Common.{◌≡◌, ◌≢◌, ◌<◌, ◌≤◌, ℕ, Bool, true, false, List, [], ◌∷◌, length, get_or, drop, take, Option, Some, None, refl, ap, sym, ◌∙◌, arith, nat_eq}
-use Rattle.std.specs.List.{prefix_len}
+use Rattle.std.proofs.Common.{◌≡◌, ◌≢◌, ◌<◌, ℕ, true, false, List, [], ◌∷◌, length, get_or, drop, Some, None, refl, arith, nat_eq}
 use Rattle.std.proofs.lemmas.Bool.Decides.{nat_tests}
 use Rattle.line_tokens.specs.Literal.{literal_of}
-use Rattle.line_tokens.specs.Token.{Token, Open, Close, Broken, Quoted, bare_at, quoted_at, token_at, token_of, after_blanks}
+use Rattle.line_tokens.specs.Token.{Open, Close, bare_at, quoted_at, token_of, after_blanks}
 
 -- nothing is left
 pub at_end : (text rest : List ℕ) → rest ≡ after_blanks text → length rest ≡ 0 → token_of text ≡ None

@@ -1,5 +1,5 @@
 -- The places that a seed makes.
-use Rattle.std.specs.Prelude.{ℕ, ℤ, zero, suc, ◌+◌, ◌/◌, ◌%◌, ◌^◌, ◌-ℤ◌, List, ◌++◌, codes, decimal, pos}
+use Rattle.std.specs.Prelude.{ℕ, zero, suc, ◌+◌, ◌/◌, ◌%◌, ◌^◌, ◌-ℤ◌, List, ◌++◌, codes, decimal, pos}
 use Rattle.rand_core.specs.Stream.{Stream, next_u64}
 use Rattle.rand_core.specs.Steps.{stream_of}
 use Rattle.rand_xoshiro.specs.SplitMix64.{splitmix_steps}

@@ -1,10 +1,10 @@
 -- How expressions are read, step by step.
-use Rattle.std.proofs.Common.{◌≡◌, ◌≢◌, ◌-◌, ℕ, zero, suc, List, Option, Some, None, Result, Ok, Err, Bor, codes, refl, sym, ap, ◌∙◌, subst, arith}
+use Rattle.std.proofs.Common.{◌≡◌, ◌-◌, ℕ, zero, suc, List, Some, None, Result, Ok, Err, Bor, codes, refl, sym, ap, subst, arith}
 use Rattle.line_tokens.specs.Token.{Token, token_of}
 use Rattle.query_replies.specs.declared.fault.LineFault.{LineFault}
 use Rattle.query_replies.specs.declared.fault.LineFault.TheVariants.{Missing}
 use Rattle.query_lang.specs.declared.clause.Clause.{Clause}
-use Rattle.query_lang.specs.Reader.{Reader, Answers, ◌>>=◌}
+use Rattle.query_lang.specs.Reader.{Reader, Answers}
 use Rattle.query_lang.specs.Expression.{kind_of, behind_kind, next_level, behind_word, more_joined, join_next, conjunction, expression, both, either, negated, denied, closed, enclosed, factor, plain_clause}
 
 -- what is read is this

@@ -1,8 +1,6 @@
 -- How filters are read.
-use Rattle.std.proofs.Common.{◌≡◌, ℕ, List, Option, Some, None, Result, Ok, Err, codes, true, false, refl}
-use Rattle.place_map.specs.declared.query.Expr.{Expr}
+use Rattle.std.proofs.Common.{◌≡◌, ℕ, List, Some, None, Ok, Err, codes, true, false, refl}
 use Rattle.line_tokens.specs.Token.{Token, token_of}
-use Rattle.query_replies.specs.declared.fault.LineFault.{LineFault}
 use Rattle.query_replies.specs.declared.fault.LineFault.TheVariants.{Extra}
 use Rattle.query_lang.specs.Reader.{is_word}
 use Rattle.query_lang.specs.Expression.{condition, filter_of}

@@ -4,7 +4,7 @@ use Rattle.std.specs.Prelude.{ℤ, pos, neg_ℤ, nat_le, ◌&&◌, ◌==◌}
 use Rattle.std.specs.Str.{IsUtf8, is_utf8}
 use Rattle.std.proofs.lemmas.Bool.{le-ltb, false_from_ne_true, false≢true}
 use Rattle.std.proofs.lemmas.Str.{IsUtf8-from_is_utf8, is_utf8-from_IsUtf8}
-use Rattle.spatial_base.specs.Key.{Name, Text, Auto}
+use Rattle.spatial_base.specs.Key.{Name, Text}
 use Rattle.spatial_base.specs.Point.{Position}
 use Rattle.spatial_base.specs.Rect.{Bounds}
 use Rattle.place_map.specs.declared.update.Update.TheVariants as updates
@@ -12,7 +12,7 @@ use Rattle.line_tokens.specs.Token.{Token, Bare, Quoted, Open, Close, Broken}
 use Rattle.query_replies.specs.declared.fault.LineFault.{LineFault}
 use Rattle.query_replies.specs.declared.fault.LineFault.TheVariants as faults
 use Rattle.query_lang.specs.declared.line.Line.TheVariants as lines
-use Rattle.query_lang.specs.Key.{text_key, bare_key, key_of}
+use Rattle.query_lang.specs.Key.{text_key, key_of}
 use Rattle.query_lang.specs.Line.{line_of, line_of_text, without_cr, rect_part}
 use Rattle.query_lang.specs.Reader.{part}
 use Rattle.query_lang.specs.Degrees.{degrees_of}

@@ -1,11 +1,9 @@
 -- Words one by one.
-use Rattle.std.proofs.Common.{◌≡◌, ◌-◌, ℕ, zero, suc, List, [], ◌∷◌, ◌++◌, Option, Some, None, Result, Ok, Err, Vec, refl, ap, sym, subst, arith}
-use Rattle.std.specs.declared.alloc.Global.{Global}
+use Rattle.std.proofs.Common.{◌≡◌, ◌-◌, ℕ, zero, suc, List, [], ◌∷◌, ◌++◌, Some, None, Result, Ok, Err, refl, arith}
 use Rattle.line_tokens.specs.Token.{Token, token_of}
 use Rattle.query_replies.specs.declared.fault.LineFault.{LineFault}
 use Rattle.query_replies.specs.declared.fault.LineFault.TheVariants.{Extra}
-use Rattle.query_lang.specs.Reader.{Answers}
-use Rattle.query_lang.specs.Word.{beside, more_words, one_more, some_words}
+use Rattle.query_lang.specs.Word.{more_words, one_more}
 
 -- the line ends
 pub more_end : {A : Type 0} (accept : List A → Token → Result A LineFault) (left : ℕ) (named : List A) (text : List ℕ) → token_of text ≡ None → more_words accept left named text ≡ Ok named

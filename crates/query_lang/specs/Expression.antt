@@ -1,6 +1,6 @@
 -- Expressions of a line: E is one or more T joined by `or`; T is one or more F joined by `and`; F is `not F`, `( E )` or
 -- a word. There are at most 32 levels of `not` and parentheses, and 64 words.
-use Rattle.std.specs.Prelude.{ℕ, zero, suc, ◌+◌, nat_le, if◌then◌else◌, Bool, false, List, codes, Option, Some, None, Result, Ok, Err}
+use Rattle.std.specs.Prelude.{ℕ, zero, suc, ◌+◌, nat_le, if◌then◌else◌, List, codes, Option, Some, None, Result, Ok, Err}
 use Rattle.std.specs.Str.{bytes_eq}
 use Rattle.place_map.specs.declared.query.Expr.{Expr}
 use Rattle.place_map.specs.declared.query.Expr.TheVariants.{Has, Not, And, Or}

@@ -1,6 +1,6 @@
 -- Where the boxes of an expression stand doesn't matter to what is said.
 use Rattle.std.proofs.Common.{◌≡◌, Bool, List, Option, Some, None, Ok, refl, ap, ◌∙◌}
-use Rattle.std.specs.Prelude.{ℕ, not, ◌&&◌, ◌||◌}
+use Rattle.std.specs.Prelude.{not, ◌&&◌, ◌||◌}
 use Rattle.std.specs.List.{flat_map}
 use Rattle.spatial_base.specs.Key.{Name}
 use Rattle.ranking.specs.First.{first, ranked}

@@ -1,5 +1,5 @@
 -- The line that bytes stand for.
-use Rattle.std.specs.Prelude.{◌≡◌, ℕ, ◌-◌, ◌^◌, ◌<◌, ◌==◌, nat_lt, if◌then◌else◌, Bool, true, false, ℤ, pos, neg_ℤ, unsigned_abs, List, [], ◌∷◌, length, take, slice_index, codes, Option, Some, None, Result, Ok, Err, refl}
+use Rattle.std.specs.Prelude.{◌≡◌, ℕ, ◌-◌, ◌^◌, ◌<◌, ◌==◌, nat_lt, if◌then◌else◌, Bool, true, false, pos, neg_ℤ, unsigned_abs, List, [], ◌∷◌, length, take, slice_index, codes, Option, Some, Result, Ok, Err, refl}
 use Rattle.std.proofs.lemmas.Bool.{lt-ltb}
 use Rattle.std.specs.Str.{bytes_eq, is_utf8}
 use Rattle.spatial_base.specs.Point.{Position}
@@ -9,7 +9,7 @@ use Rattle.place_map.specs.declared.update.Update.TheVariants as updates
 use Rattle.place_map.specs.declared.query.Expr.{Expr}
 use Rattle.place_map.specs.declared.query.Query.{Query}
 use Rattle.place_map.specs.declared.query.Query.TheVariants as queries
-use Rattle.line_tokens.specs.Token.{Token, Bare, Quoted, Open, Close, Broken, token_of, after_blanks}
+use Rattle.line_tokens.specs.Token.{Token, Bare, Quoted, Open, Close, Broken, after_blanks}
 use Rattle.query_replies.specs.declared.fault.LineFault.{LineFault}
 use Rattle.query_replies.specs.declared.fault.LineFault.TheVariants as faults
 use Rattle.query_lang.specs.declared.line.Line.{Line}
@@ -18,7 +18,7 @@ use Rattle.query_lang.specs.declared.command.Command.{Command}
 use Rattle.query_lang.specs.declared.command.Command.TheVariants as commands
 use Rattle.query_lang.specs.declared.command.Asked.{Asked}
 use Rattle.query_lang.specs.declared.command.Asked.TheVariants as asked
-use Rattle.query_lang.specs.Reader.{Reader, ◌>>=◌, gives, part, accepted, at_end, is_word, made}
+use Rattle.query_lang.specs.Reader.{Reader, ◌>>=◌, gives, part, at_end, is_word, made}
 use Rattle.query_lang.specs.Number.{whole_of}
 use Rattle.query_lang.specs.Degrees.{degrees_of}
 use Rattle.query_lang.specs.Key.{key_of}

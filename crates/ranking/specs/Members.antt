@@ -1,5 +1,5 @@
 -- A ranking and the members of what is ranked: only they decide it, and a list in order is its own.
-use Rattle.std.proofs.Common.{◌≡◌, ℕ, suc, zero, ◌+◌, ◌<◌, ◌≤◌, Bool, true, false, cond, List, [], ◌∷◌, ◌++◌, length, sum_by, refl, sym, ap, ◌∙◌, arith, ◌⊎◌, inl, inr, ⊎_elim, IsPermutation, get_or}
+use Rattle.std.proofs.Common.{◌≡◌, ℕ, suc, ◌+◌, ◌<◌, ◌≤◌, Bool, true, false, cond, List, [], ◌∷◌, ◌++◌, length, sum_by, refl, sym, ap, ◌∙◌, arith, ◌⊎◌, inl, inr, ⊎_elim, IsPermutation, get_or}
 use Rattle.std.specs.List.{AllByRecursion}
 use Rattle.std.specs.Cmp.{IsStrictWeakOrder}
 use Rattle.std.specs.List.Sorted.{IsSortedBy}
@@ -7,8 +7,8 @@ use Rattle.std.proofs.lemmas.Bool.{cases_Bool}
 use Rattle.std.proofs.lemmas.List.Sums.{sum_by-cons, sum_by-append}
 use Rattle.std.proofs.lemmas.List.Sorted.{sum_by-IsPermutation, sorted_far}
 use Rattle.std.proofs.lemmas.List.Elements.{recursion_from_All}
-use Rattle.ranking.specs.First.{IsLinear, placed, ranked, first, IsRanked}
-use Rattle.ranking.specs.Laws.{ranked_middle, all_placed, ranked_is}
+use Rattle.ranking.specs.First.{IsLinear, placed, ranked, IsRanked}
+use Rattle.ranking.specs.Laws.{ranked_middle, all_placed}
 
 -- whatever each member weighs, both lists weigh the same: the one is the other in another order
 abbrev pub SameMembers : {X : Type 0} → List X → List X → Type 0

@@ -3,7 +3,7 @@ use Rattle.std.proofs.Common.{◌≡◌, ℕ, zero, suc, ◌+◌, ◌<◌, ◌�
 use Rattle.std.proofs.lemmas.Bool.Decides.{nat_tests}
 use Rattle.page_face.specs.FreeList.{PageMap, with_page, IsFreePage, next_free}
 use Rattle.btree_nodes.specs.Nodes.{least_of_root}
-use Rattle.btree_nodes.specs.Supply.{one_at, spare, tail}
+use Rattle.btree_nodes.specs.Supply.{one_at, tail}
 use Rattle.btree_nodes.specs.Supply as supply
 use Rattle.btree_nodes.specs.Tree.{IsMap, IsTree, level_of, map_uses, uses}
 use Rattle.btree_nodes.proofs.Frames.{tree-frame}

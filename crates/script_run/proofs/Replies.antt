@@ -2,7 +2,7 @@
 use Rattle.std.proofs.Common.{◌≡◌, ◌≢◌, ◌≤◌, ◌+◌, ◌^◌, ◌==◌, ◌&&◌, nat_le, length, is_some, is_none, Bool, true, false, refl, sym, ap, subst, ◌∙◌, arith}
 use Rattle.std.specs.Prelude.{Result, Ok, Err, IsTrue, if◌then◌else◌}
 use Rattle.disk_model.specs.World.{World, LeavesOnly, Rose}
-use Rattle.disk_model.proofs.Moments.{started, rested}
+use Rattle.disk_model.proofs.Moments.{rested}
 use Rattle.page_face.specs.declared.fault.Damage.{Damage}
 use Rattle.page_face.specs.declared.fault.Rule.TheVariants.{Head}
 use Rattle.page_store.specs.Store.{Rests}

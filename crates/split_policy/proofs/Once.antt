@@ -1,16 +1,14 @@
 -- The definition of the quadratic split fits one mask alone.
-use Rattle.std.proofs.Common.{◌≡◌, ◌≢◌, ℕ, ◌+◌, ◌-◌, ◌<◌, ◌≤◌, ◌^◌, arith, refl, sym, ap, ◌∙◌, subst, Bool, true, false, ◌⊎◌, inl, inr, bit_or, List}
-use Rattle.std.specs.Prelude.{◌≤ℤ◌}
+use Rattle.std.proofs.Common.{◌≡◌, ℕ, ◌+◌, ◌-◌, ◌<◌, arith, refl, sym, ap, ◌∙◌, subst, Bool, true, false, ◌⊎◌, inl, inr, bit_or, List}
 use Rattle.std.specs.Int.{bit_at}
 use Rattle.std.proofs.lemmas.Int.{ints}
 use Rattle.std.proofs.lemmas.Nat.Bits.{same_from_bits, bit_at_or, bit_at-zero}
 use Rattle.spatial_base.specs.Rect.{Bounds}
 use Rattle.split_policy.specs.declared.division.Division.{Division}
 use Rattle.split_policy.specs.Areas.{rect_at}
-use Rattle.split_policy.specs.Masks.{marked, IsAmong}
+use Rattle.split_policy.specs.Masks.{IsAmong}
 use Rattle.split_policy.specs.Quadratic.{remaining, is_preferred, placed, begun, preference_of, IsSeeds, IsNext, IsOpen, NeedsAll, EndsWith, none_left, rest_stays, rest_moves, next_joins, IsQuadraticSplit}
 use Rattle.split_policy.specs.Divided.{IsDivided}
-use Rattle.split_policy.proofs.Bits.{marked-zero}
 use Rattle.split_policy.proofs.Divisions.{begun-divided, moved-divided, stayed-divided, placed-moving, placed-staying}
 use Rattle.split_policy.proofs.Partners.{pair_waste}
 

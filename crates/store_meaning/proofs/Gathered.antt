@@ -16,7 +16,7 @@ use Rattle.store_tables.specs.Entries.{Entries, number_of_word, word_cmp}
 use Rattle.store_tables.specs.Words.{WordTablesAgree, CanHoldBy, claimed_by, number_for}
 use Rattle.store_tables.proofs.MapLemmas.{same_from_test, test_of_same, words_are_ordered}
 use Rattle.store_tables.proofs.WordLemmas.{agree-with_holds}
-use Rattle.store_meaning.specs.Ahead.{AreCountedWords, AreNamed, CanHoldAhead, HeldAhead, IsNamed, held_ahead, number_among, number_in, place_count, times_counted, with_counted, word_count, words_put}
+use Rattle.store_meaning.specs.Ahead.{AreCountedWords, AreNamed, CanHoldAhead, HeldAhead, IsNamed, held_ahead, number_among, number_in, place_count, times_counted, with_counted, word_count}
 use Rattle.store_meaning.proofs.Steps.{word_at, AreAscending, KeepsWords}
 use Rattle.store_meaning.proofs.Held.{has_it}
 use Rattle.store_meaning.proofs.Numbers.{agree-claims, ascend-holds, can_hold-by, keeps-holds, named-holds, next_few, next_rises}

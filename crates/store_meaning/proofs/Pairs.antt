@@ -1,8 +1,7 @@
 -- Pairs in the order of their numbers, as a place has them.
-use Rattle.std.proofs.Common.{◌≡◌, ℕ, ◌+◌, ◌-◌, ◌<◌, ◌≤◌, ◌^◌, ◌==◌, Bool, true, false, cond, ◌||◌, is_some, List, [], ◌∷◌, length, replicate, length-append, take_at, drop_at, All, Option, Some, None, option_map, refl, sym, ap, subst, ◌∙◌, true≢false, arith}
-use Rattle.std.proofs.lemmas.Cmp.{nat_cmp_total, tied_itself}
-use Rattle.std.proofs.lemmas.List.{length-replicate}
-use Rattle.std.proofs.lemmas.List.Elements.{All-append, All-head, All-nil, All-replicate, All-tail, All-weaker}
+use Rattle.std.proofs.Common.{◌≡◌, ℕ, ◌-◌, ◌<◌, ◌≤◌, ◌^◌, ◌==◌, Bool, true, false, cond, ◌||◌, is_some, List, [], ◌∷◌, length, replicate, take_at, drop_at, All, Option, Some, None, option_map, refl, sym, ap, subst, ◌∙◌, true≢false}
+use Rattle.std.proofs.lemmas.Cmp.{tied_itself}
+use Rattle.std.proofs.lemmas.List.Elements.{All-replicate}
 use Rattle.std.proofs.lemmas.Map.Keys.{IsStrictlyIncreasing-from_sorted, sorted_head, sorted_tail}
 use Rattle.std.specs.BTreeMap.{insert_entry, is_at}
 use Rattle.std.specs.List.{AllByRecursion}
@@ -10,19 +9,18 @@ use Rattle.std.specs.List.Sorted.{IsStrictlyIncreasing, IsStrictlySortedBy}
 use Rattle.std.specs.Map.{keys_of, lookup}
 use Rattle.std.specs.Ordering.{is_eq, match_ordering, nat_cmp}
 use Rattle.std.specs.declared.cmp.Ordering.TheVariants.{Less, Equal}
-use Rattle.spatial_base.specs.Point.{Position, IsOnMap}
+use Rattle.spatial_base.specs.Point.{Position}
 use Rattle.row_codec.specs.declared.counted.Counted.{Counted}
-use Rattle.row_codec.specs.Pairs.{Pair, HasImpact, IsPair, IsSpare}
-use Rattle.row_codec.specs.Stored.{IsStored, IsValue, held_pairs}
-use Rattle.store_tables.specs.Coded.{IsEntryOf}
+use Rattle.row_codec.specs.Pairs.{Pair, HasImpact, IsSpare}
+use Rattle.row_codec.specs.Stored.{IsStored, held_pairs}
 use Rattle.store_tables.specs.Entries.{word_cmp, number_of_word, word_of_number}
 use Rattle.store_tables.specs.Words.{WordTablesAgree, with_word, words_of_pairs}
-use Rattle.store_tables.proofs.EntryLemmas.{equal_test, insert-each}
+use Rattle.store_tables.proofs.EntryLemmas.{equal_test}
 use Rattle.store_tables.proofs.MapLemmas.{lookup-insert, numbers_are_ordered, same_from_test, test_of_same, words_are_ordered}
 use Rattle.store_meaning.specs.Updates.{has_pair, by_number, placed, stored_with}
 use Rattle.store_meaning.proofs.Steps.{word_at, AreNumbered, AreApart}
 use Rattle.store_meaning.proofs.Numbers.{no_word, unpaired}
-use Rattle.store_meaning.proofs.Ordered.{length-insert, same_from_lookups, sorted-insert}
+use Rattle.store_meaning.proofs.Ordered.{same_from_lookups, sorted-insert}
 
 -- ---- apart
 

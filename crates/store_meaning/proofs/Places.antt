@@ -14,16 +14,16 @@ use Rattle.row_codec.specs.declared.counted.Counted.{Counted}
 use Rattle.row_codec.specs.declared.stored.Stored.{Stored}
 use Rattle.row_codec.specs.Pairs.{Pair}
 use Rattle.row_codec.specs.Stored.{held_pairs}
-use Rattle.store_tables.specs.Coded.{IsEntryOf, IsPlaceEntry}
+use Rattle.store_tables.specs.Coded.{IsPlaceEntry}
 use Rattle.store_tables.specs.Entries.{Entries, place_of_key, with_place, without_place, word_of_number}
 use Rattle.store_tables.specs.Words.{WordTablesAgree, WordsAgree, has_number, holders}
 use Rattle.store_tables.proofs.WordLemmas.{holders-without_place, known-claimed, words_of_pairs-same}
 use Rattle.store_meaning.specs.Stands.{place_in, places_in}
 use Rattle.store_meaning.proofs.Steps.{word_at, claimed_beside, AreNumbered, AreApart, IsReleasing}
 use Rattle.store_meaning.specs.Updates.{has_pair, pairs_of}
-use Rattle.store_meaning.proofs.Numbers.{agree-claims, below_next, claimed-none}
+use Rattle.store_meaning.proofs.Numbers.{agree-claims, claimed-none}
 use Rattle.store_meaning.proofs.Ordered.{lookup-map}
-use Rattle.store_meaning.proofs.Pairs.{IsImpact, IsNumber, apart-ascending}
+use Rattle.store_meaning.proofs.Pairs.{apart-ascending}
 
 -- ---- places by key
 

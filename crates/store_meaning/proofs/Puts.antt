@@ -7,13 +7,13 @@ use Rattle.std.specs.List.Sorted.{IsStrictlySortedBy}
 use Rattle.std.specs.Map.{keys_of}
 use Rattle.term_impacts.specs.Pairs.{IsWordMap}
 use Rattle.spatial_base.specs.Key.{Name, Text, Auto, key_cmp, key_cmp_total}
-use Rattle.spatial_base.specs.Point.{Position, IsOnMap}
+use Rattle.spatial_base.specs.Point.{Position}
 use Rattle.place_map.specs.declared.place.Place.{Place}
 use Rattle.place_map.specs.State.{IsSerialAbove}
 use Rattle.place_map.specs.State as states
 use Rattle.row_codec.specs.declared.stored.Stored.{Stored}
 use Rattle.row_codec.specs.Pairs.{Pair}
-use Rattle.row_codec.specs.Stored.{IsStored, IsValue, held_pairs}
+use Rattle.row_codec.specs.Stored.{held_pairs}
 use Rattle.store_tables.specs.Coded.{IsEntryOf, IsPlaceEntry}
 use Rattle.store_tables.specs.Entries.{Entries, place_of_key, with_place, without_place}
 use Rattle.store_tables.specs.Words.{WordTablesAgree, WordsAgree, has_number, holders, words_of_pairs}
@@ -25,7 +25,7 @@ use Rattle.store_meaning.proofs.Steps.{word_at, KeepsWords, claimed_beside, AreA
 use Rattle.store_meaning.specs.Updates.{Numbered, after_put, by_number, has_pair, numbered_for, pairs_of, stored_with}
 use Rattle.store_meaning.proofs.Numbers.{agree-claims, numbering-all}
 use Rattle.store_meaning.proofs.Ordered.{same_from_lookups, sorted-insert}
-use Rattle.store_meaning.proofs.Pairs.{IsImpact, IsNumber, apart-numbered, has_pair-by_number, held-stored_with, words-by_number, words-numbered}
+use Rattle.store_meaning.proofs.Pairs.{apart-numbered, has_pair-by_number, held-stored_with, words-by_number, words-numbered}
 use Rattle.store_meaning.proofs.Places.{apart-old, each_paired, held-claimed, known-old, named-claimed, numbered-same, held_by, room-put, agree-released, place-at, place-same, same-released}
 use Rattle.store_meaning.proofs.Releases.{releasing-all}
 

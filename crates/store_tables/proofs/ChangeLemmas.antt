@@ -5,7 +5,7 @@ use Rattle.std.specs.Map.{lookup, remove_entry}
 use Rattle.std.specs.declared.cmp.Ordering.{Ordering}
 use Rattle.page_face.specs.FreeList.{PageMap}
 use Rattle.btree_nodes.specs.declared.form.Form.{Form}
-use Rattle.btree_nodes.specs.Rows.{Row, put, without}
+use Rattle.btree_nodes.specs.Rows.{put, without}
 use Rattle.btree_nodes.specs.Rows as Rows
 use Rattle.btree_nodes.specs.Supply.{View}
 use Rattle.btree_nodes.specs.Tree.{map_rows}

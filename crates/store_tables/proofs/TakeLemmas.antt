@@ -1,7 +1,7 @@
 -- How many pages calls take, one after another.
-use Rattle.std.proofs.Common.{◌≡◌, ◌≢◌, ℕ, ◌+◌, ◌≤◌, Result, Err, arith}
+use Rattle.std.proofs.Common.{◌≡◌, ℕ, ◌+◌, ◌≤◌, Result, arith}
 use Rattle.std.specs.Prelude.{IsErrOf}
-use Rattle.page_face.specs.Calls.{Reads, TakesAtMost, TakesNone}
+use Rattle.page_face.specs.Calls.{Reads, TakesAtMost}
 use Rattle.page_face.specs.declared.fault.PageFault.{PageFault}
 use Rattle.page_face.specs.declared.fault.PageFault.TheVariants.{NoRoom}
 use Rattle.page_face.specs.declared.pages.Pages.{Ghosts}

@@ -1,11 +1,10 @@
 -- The slots that an expression admits, from those that its parts admit.
-use Rattle.std.proofs.Common.{◌≡◌, ℕ, zero, suc, ◌^◌, ◌<◌, ◌≤◌, Bool, true, false, not, ◌&&◌, ◌||◌, nat_lt, refl, sym, ap, ◌∙◌, bit_and, bit_or, List, arith}
+use Rattle.std.proofs.Common.{◌≡◌, ℕ, zero, suc, ◌^◌, ◌<◌, ◌≤◌, Bool, true, false, not, ◌&&◌, ◌||◌, nat_lt, refl, ap, ◌∙◌, bit_and, bit_or, List, arith}
 use Rattle.std.specs.Int.{bit_not, w32}
 use Rattle.place_map.specs.declared.query.Expr.{Expr}
-use Rattle.place_map.specs.declared.query.Expr.TheVariants.{Has}
 use Rattle.tree_entries.specs.Masks.{has_slot, Marks}
 use Rattle.tree_entries.specs.Filters.{admits, meets, may_meet}
-use Rattle.tree_entries.proofs.Marking.{slot-and, slot-or, slot-not, slot-none}
+use Rattle.tree_entries.proofs.Marking.{slot-and, slot-or, slot-not}
 
 -- a row's slots among those of a mask
 pub marks-row : (used row : ℕ) (bytes : ℕ → ℕ) (zero_above : ℕ → ℕ) → Marks row (λ i. nat_lt 0 (bytes i)) → ((i : ℕ) → bytes i ≡ zero_above i) → Marks (bit_and used row) (λ i. has_slot used i && nat_lt 0 (zero_above i))

@@ -8,7 +8,7 @@ use Rattle.spatial_base.specs.Point.{Position, IsOnMap, distance}
 use Rattle.spatial_base.specs.Rect.{Holds, mindist_of}
 use Rattle.spatial_base.specs.Laws.{mindist-below}
 use Rattle.place_map.specs.declared.hit.Hit.{Hit}
-use Rattle.rtree_shape.specs.Slots.{Slots, NodeMap, sum_to, got, amount, tops, Held, Each}
+use Rattle.rtree_shape.specs.Slots.{NodeMap, sum_to, got, amount, Held, Each}
 use Rattle.rtree_shape.specs.Slots as shape
 use Rattle.rtree_shape.specs.Trees.{below as below_item, IsItem, IsNode, node_below, reach_of}
 use Rattle.rtree_shape.proofs.Heights.{tops-at, amount-nothing}

@@ -16,7 +16,7 @@ use Rattle.place_map.specs.declared.hit.Hit.{Hit}
 use Rattle.place_map.specs.declared.query.Expr.{Expr}
 use Rattle.place_map.specs.Top.{Weighted}
 use Rattle.place_map.specs.Hit.{comes_before, hits_linear}
-use Rattle.rtree_shape.specs.Slots.{NodeView, filled, Held, IsChildAt}
+use Rattle.rtree_shape.specs.Slots.{Held, IsChildAt}
 use Rattle.rtree_shape.specs.Slots as shape
 use Rattle.rtree_shape.specs.Stock.{view, plain, rows_form}
 use Rattle.rtree_shape.proofs.Heights.{root-some}

@@ -4,7 +4,7 @@ use Rattle.std.specs.Prelude.{option_map, unsigned_abs}
 use Rattle.std.proofs.lemmas.Bool.{cases_Bool}
 use Rattle.std.proofs.lemmas.Int.{ints, clamps}
 use Rattle.spatial_base.specs.Point.{Position, IsOnMap}
-use Rattle.rtree_shape.specs.Slots.{NodeView, Held, got, one, filled, amount}
+use Rattle.rtree_shape.specs.Slots.{NodeView, Held, got, one, filled}
 use Rattle.rtree_shape.specs.Slots as shape
 use Rattle.rtree_shape.proofs.Amounts.{amount-same}
 use Rattle.rtree_nodes.specs.Reach.{place_item, below_top, above_bottom}

@@ -1,4 +1,4 @@
-use Rattle.std.proofs.Common.{◌≡◌, ◌+◌, ◌≤◌, ◌∙◌, max, List, Vec, Global, sym, subst}
+use Rattle.std.proofs.Common.{◌+◌, ◌≤◌, max, List, Vec, Global, sym, subst}
 use Rattle.std.proofs.lemmas.List.Elements.{Contains-get_or}
 use Rattle.std.specs.List.{AllByRecursion, Contains}
 use Rattle.place_map.specs.declared.query.Pick.{Pick}

@@ -1,4 +1,4 @@
-use Rattle.std.proofs.Common.{ℕ, ◌+◌, ◌≤◌, max, take}
+use Rattle.std.proofs.Common.{◌+◌, ◌≤◌, max, take}
 use Rattle.std.specs.List.{AllByRecursion}
 use Rattle.place_map.specs.declared.query.Pick.{Pick}
 use Rattle.place_map.specs.Group.{farthest}

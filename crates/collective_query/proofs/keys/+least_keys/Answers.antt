@@ -1,9 +1,8 @@
-use Rattle.std.proofs.Common.{◌≡◌, ◌++◌, ◌∷◌, [], List, Vec, Option, Some, None, refl, sym, ◌∙◌, ap, subst}
+use Rattle.std.proofs.Common.{◌≡◌, ◌++◌, ◌∷◌, [], List, Vec, Some, sym, ◌∙◌, ap, subst}
 use Rattle.std.specs.List.{AllByRecursion, Contains}
 use Rattle.std.specs.declared.alloc.Global.{Global}
 use Rattle.spatial_base.specs.Point.{Position, distance}
 use Rattle.place_map.specs.declared.query.Pick.{Pick}
-use Rattle.place_map.specs.Group.{farthest, diameter}
 use Rattle.place_map.specs.Search.{lists_in}
 use Rattle.collective_query.specs.Fronts.{Completes, IsNext, HasLeastKeys}
 use Rattle.collective_query.specs.Picks.{AreMeasured}

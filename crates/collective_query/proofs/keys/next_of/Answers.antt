@@ -1,7 +1,4 @@
-use Rattle.std.proofs.Common.{◌≡◌, false, Option, Some, List, IsSomeAnd, sym}
-use Rattle.std.specs.Ordering.{is_lt}
-use Rattle.place_map.specs.declared.query.Pick.{Pick}
-use Rattle.place_map.specs.Group.{pick_cmp}
+use Rattle.std.proofs.Common.{false}
 use Rattle.place_map.specs.Search.{lists_in}
 use Rattle.collective_query.proofs.Nexts.{next-passed, next-refused, next-taken}
 use Rattle.collective_query.proofs.keys.next_of.Goals as goal

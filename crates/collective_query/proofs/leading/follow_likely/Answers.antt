@@ -1,4 +1,4 @@
-use Rattle.std.proofs.Common.{◌≡◌, ◌<◌, ◌++◌, ◌∷◌, [], ◌∙◌, ℕ, List, Vec, Global, length, ap, sym, subst, arith}
+use Rattle.std.proofs.Common.{◌<◌, ◌++◌, ◌∷◌, [], ◌∙◌, ℕ, List, length, ap, sym, subst, arith}
 use Rattle.std.proofs.lemmas.List.{length-map}
 use Rattle.std.specs.Prelude.{OnOk}
 use Rattle.std.proofs.lemmas.List.Elements.{Contains-append_left}
@@ -6,14 +6,13 @@ use Rattle.std.specs.List.{Contains}
 use Rattle.page_face.specs.FreeList.{PageMap}
 use Rattle.place_map.specs.declared.query.Pick.{Pick}
 use Rattle.place_map.specs.declared.query.Chosen.{Chosen}
-use Rattle.place_map.specs.Search.{lists_in}
 use Rattle.tree_ranking.specs.Fits.{FitsTree, nodes_at}
 use Rattle.collective_query.specs.Leads.{AreLeads, Follows}
 use Rattle.collective_query.specs.Opened.{FindsPicks}
 use Rattle.collective_query.specs.TreePicks.{tree_picks, tree_lists, first_lists}
 use Rattle.collective_query.specs.Tried.{IsChosen}
 use Rattle.collective_query.proofs.Leads.{dear-follows}
-use Rattle.collective_query.proofs.Searches.{searches-give, searches-refused, searches-then}
+use Rattle.collective_query.proofs.Searches.{searches-give, searches-then}
 use Rattle.collective_query.proofs.leading.follow_likely.Goals as goal
 
 pub returns-clause-search : goal.returns-clause-search

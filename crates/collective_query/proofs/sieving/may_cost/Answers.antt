@@ -1,4 +1,4 @@
-use Rattle.std.proofs.Common.{◌≡◌, ◌≤◌, ◌<◌, ◌++◌, List, Vec, sym, ap, subst, arith}
+use Rattle.std.proofs.Common.{◌≤◌, ◌<◌, ◌++◌, List, Vec, sym, ap, subst, arith}
 use Rattle.std.proofs.lemmas.Bool.{leb-false}
 use Rattle.place_map.specs.declared.query.Pick.{Pick}
 use Rattle.place_map.specs.Group.{farthest, diameter, choice_cost}

@@ -1,8 +1,7 @@
-use Rattle.std.proofs.Common.{◌≡◌, ◌++◌, ◌<◌, ◌≤◌, ℕ, List, Vec, Global, sym, subst, ⊎_elim}
+use Rattle.std.proofs.Common.{◌++◌, ◌<◌, ◌≤◌, List, Vec, Global, sym, subst, ⊎_elim}
 use Rattle.std.proofs.lemmas.Bool.{cases_lt}
 use Rattle.std.proofs.lemmas.List.Elements.{Contains-append_left}
-use Rattle.std.specs.List.{AllByRecursion, Contains}
-use Rattle.page_face.specs.FreeList.{PageMap}
+use Rattle.std.specs.List.{Contains}
 use Rattle.place_map.specs.declared.query.Pick.{Pick}
 use Rattle.place_map.specs.Group.{choice_cost}
 use Rattle.place_map.specs.Search.{lists_in}

@@ -1,4 +1,4 @@
-use Rattle.std.proofs.Common.{◌≡◌, ℕ, ◌<◌, length, ap, arith, subst, ◌∙◌}
+use Rattle.std.proofs.Common.{◌≡◌, ◌<◌, length, ap, arith, subst, ◌∙◌}
 use Rattle.page_face.specs.FreeList.{PageMap, next_free}
 use Rattle.page_face.proofs.Frames.{reads_then}
 use Rattle.irtree_engine.proofs.Chains.{left-none, left-step}

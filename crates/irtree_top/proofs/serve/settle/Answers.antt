@@ -1,4 +1,4 @@
-use Rattle.std.proofs.Common.{◌≡◌, ap}
+use Rattle.std.proofs.Common.{ap}
 use Rattle.page_store.specs.Contents as pages
 use Rattle.irtree_top.proofs.serve.settle.Goals as goal
 

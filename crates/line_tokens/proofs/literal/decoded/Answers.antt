@@ -1,4 +1,4 @@
-use Rattle.std.proofs.Common.{◌≡◌, ◌∷◌, ℕ, List, sym, ◌∙◌, subst}
+use Rattle.std.proofs.Common.{ℕ, List, sym, ◌∙◌, subst}
 use Rattle.json_spelled.specs.Grammar.{IsText}
 use Rattle.json_spelled.specs.Json.{text}
 use Rattle.line_tokens.proofs.Said.{literal_text, text_only}

@@ -1,4 +1,4 @@
-use Rattle.std.proofs.Common.{◌∙◌, sym, arith}
+use Rattle.std.proofs.Common.{arith}
 use Rattle.line_tokens.proofs.Literals.{behind_unit, behind_short}
 use Rattle.line_tokens.proofs.literal.is_unit.Goals as goal
 

@@ -1,4 +1,3 @@
-use Rattle.std.proofs.Common.{◌≡◌}
 use Rattle.line_tokens.proofs.Cuts.{blank_cut}
 use Rattle.line_tokens.proofs.scan.after_blanks.Goals as goal
 

@@ -1,4 +1,4 @@
-use Rattle.std.proofs.Common.{◌≡◌, ◌<◌, ℕ, List, Some, length, get_or, drop, ap, sym, ◌∙◌, arith}
+use Rattle.std.proofs.Common.{ℕ, List, Some, ap, sym, ◌∙◌}
 use Rattle.line_tokens.specs.Token.{Token}
 use Rattle.line_tokens.proofs.Scans.{at_end, at_open, at_close, at_quote, at_other}
 use Rattle.line_tokens.proofs.scan.next_token.Goals as goal

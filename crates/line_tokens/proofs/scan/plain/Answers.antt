@@ -1,4 +1,4 @@
-use Rattle.std.proofs.Common.{◌≡◌, ◌<◌, ◌+◌, ◌∷◌, ℕ, List, length, get_or, drop, Some, ap, sym, ◌∙◌, arith, length-drop}
+use Rattle.std.proofs.Common.{ap, ◌∙◌}
 use Rattle.std.specs.List.{prefix_len}
 use Rattle.line_tokens.specs.Literal.{is_plain}
 use Rattle.line_tokens.proofs.Cuts.{plain_cut}

@@ -1,4 +1,4 @@
-use Rattle.std.proofs.Common.{◌≡◌, ℕ, suc, ◌+◌, ◌<◌, ◌≤◌, ◌++◌, codes, decimal, length, arith, ap, ◌∙◌, Err, refl}
+use Rattle.std.proofs.Common.{◌≡◌, suc, ◌+◌, ◌≤◌, ◌++◌, codes, decimal, length, arith, ap, ◌∙◌, Err, refl}
 use Rattle.std.proofs.lemmas.Fmt.{length-decimal-le}
 use Rattle.spatial_base.specs.declared.key.KeyFault.TheVariants.{Empty, TooLong}
 use Rattle.made_places.proofs.made.key_of.Goals as goal

@@ -1,7 +1,6 @@
-use Rattle.std.proofs.Common.{◌≡◌, ◌-◌, ℕ, List, Some, None, Ok, Err, option_map, Bor, codes, refl, sym, ap, ◌∙◌}
-use Rattle.line_tokens.specs.Seen.{seen}
+use Rattle.std.proofs.Common.{◌≡◌, ◌-◌, ℕ, List, Some, None, option_map, Bor, codes, refl, sym, ap, ◌∙◌}
 use Rattle.line_tokens.specs.Token.{token_of}
-use Rattle.query_lang.specs.Expression.{kind_of, behind_kind, next_level, behind_word, both, either, factor, conjunction, plain_clause}
+use Rattle.query_lang.specs.Expression.{behind_word, both, either, factor, conjunction, plain_clause}
 use Rattle.query_lang.proofs.Clauses.{conjunction_step, conjunction_err, expression_step, expression_err, denied_step, denied_err, enclosed_step, enclosed_err, join_step, join_err, more_zero, more_none, more_step, factor_step, factor_end, next_none}
 use Rattle.query_lang.proofs.expression.+grammar.Goals as goal
 

@@ -1,4 +1,4 @@
-use Rattle.std.proofs.Common.{sym, ◌∙◌}
+use Rattle.std.proofs.Common.{sym}
 use Rattle.line_tokens.specs.Seen.{seen}
 use Rattle.query_lang.proofs.Lines.{add_sound}
 use Rattle.query_lang.proofs.line.add.Goals as goal

@@ -1,4 +1,4 @@
-use Rattle.std.proofs.Common.{sym, arith}
+use Rattle.std.proofs.Common.{arith}
 use Rattle.query_lang.specs.Line.{line_of-long}
 use Rattle.query_lang.proofs.Lines.{line_of-other, line_of-text}
 use Rattle.query_lang.proofs.line.read_line.Goals as goal

@@ -1,6 +1,5 @@
-use Rattle.std.proofs.Common.{◌≡◌, ◌-◌, ℕ, List, Some, None, Ok, Err, option_map, refl, sym, ap, ◌∙◌}
+use Rattle.std.proofs.Common.{◌-◌, option_map, sym, ap, ◌∙◌}
 use Rattle.line_tokens.specs.Seen.{seen}
-use Rattle.line_tokens.specs.Token.{token_of}
 use Rattle.query_lang.specs.Word.{word_of}
 use Rattle.query_lang.proofs.Wording.{more_end, more_extra, more_one, one_refused, one_taken}
 use Rattle.query_lang.proofs.word.+words.Goals as goal

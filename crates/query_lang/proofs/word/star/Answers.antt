@@ -1,4 +1,4 @@
-use Rattle.std.proofs.Common.{◌≡◌, ◌≢◌, ◌<◌, ◌≤◌, ◌+◌, ◌-◌, ℕ, suc, length, get_or, sym, arith, add-one}
+use Rattle.std.proofs.Common.{◌-◌, sym, arith, add-one}
 use Rattle.query_lang.proofs.Stars.{no_star, last_star}
 use Rattle.query_lang.proofs.word.star.Goals as goal
 

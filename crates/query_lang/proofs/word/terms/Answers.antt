@@ -1,4 +1,4 @@
-use Rattle.std.proofs.Common.{◌≡◌, ◌∷◌, ◌++◌, [], List, ℕ, ap, ◌∙◌}
+use Rattle.std.proofs.Common.{◌∷◌, ◌++◌, [], ap, ◌∙◌}
 use Rattle.place_map.specs.Query.{IsWeights}
 use Rattle.line_tokens.specs.Seen.{seen}
 use Rattle.query_lang.proofs.Naming.{terms_sound, if_ok}

@@ -1,6 +1,5 @@
 use Rattle.std.proofs.Common.{◌≡◌, true, false, sym, ap, subst, ◌∙◌, arith}
 use Rattle.std.specs.Prelude.{Result, Ok, Err, IfErr}
-use Rattle.page_store.specs.declared.superblock.Superblock.{Superblock}
 use Rattle.irtree_engine.specs.declared.fault.EngineFault.TheVariants as engine
 use Rattle.query_lang.specs.declared.line.Line.TheVariants as lines
 use Rattle.query_replies.specs.declared.reply.Reply.{Reply}

@@ -1,10 +1,10 @@
-use Rattle.std.proofs.Common.{◌≡◌, ℕ, suc, ◌+◌, ◌<◌, ◌≤◌, List, take, length, arith, Option, refl, sym, ap, subst, ◌∙◌, Ok, Err, inl}
+use Rattle.std.proofs.Common.{◌≡◌, ℕ, suc, ◌+◌, ◌<◌, ◌≤◌, List, take, length, arith, Option, sym, ap, subst, ◌∙◌, Ok, Err, inl}
 use Rattle.std.proofs.lemmas.List.{length-take-le}
 use Rattle.std.specs.Prelude.{IfSome}
 use Rattle.page_face.specs.FreeList.{PageMap}
 use Rattle.page_face.specs.declared.fault.PageFault.TheVariants.{Damaged}
 use Rattle.btree_nodes.specs.Damages.{AreTold}
-use Rattle.btree_nodes.proofs.Harms.{asks-further, asks-nothing}
+use Rattle.btree_nodes.proofs.Harms.{asks-further}
 use Rattle.spatial_base.specs.Key.{form_of}
 use Rattle.rtree_shape.specs.Slots.{Item}
 use Rattle.rtree_shape.specs.Stock.{View, view}
