@@ -1,7 +1,6 @@
 //! A row that is put into a map by its root.
-ghost use Rattle.std.specs.Prelude.{◌≡◌, ◌≢◌, ◌⊎◌, ℕ, ◌+◌, ◌<◌, ◌≤◌, List, length, IfOk, OnOk, IsErrOf, IsTrue, is_some};
+ghost use Rattle.std.specs.Prelude.{◌≡◌, ◌≢◌, ◌⊎◌, ℕ, ◌+◌, ◌<◌, ◌≤◌, List, length, IfOk, OnOk, IsErrOf, is_some};
 ghost use Rattle.page_face.specs.Calls.{Changes, FailsChanging, TakesAtMost};
-ghost use Rattle.page_face.specs.Causes.{Rose, HidesNoFault};
 ghost use Rattle.page_face.specs.Number.{number};
 ghost use Rattle.btree_nodes.specs.Supply.{view};
 ghost use Rattle.btree_nodes.specs.Rows.{lookup, put};
@@ -62,17 +61,8 @@ pub fn put_below<P: Pages>(
     ensures own { AreTold (P.pages pages.old) (P.count pages.old) → AsksOnly (map_uses form (P.pages pages.old) root) (P.asked pages.old) (P.asked pages.new) }
     ensures takes { AreTold (P.pages pages.old) (P.count pages.old) → TakesAtMost P.Pages (height_of (P.pages pages.old) root + 1) pages.old pages.new result }
     ensures at_most { TakesAtMost P.Pages 257 pages.old pages.new result }
-    ensures disk { IsErrOf result PageFault.Disk → Rose (P.faults pages.old) (P.faults pages.new) }
-    ensures hides_none { HidesNoFault result (P.faults pages.old) (P.faults pages.new) }
-    ensures refused_more { IsErrOf result PageFault.NoRoom → Rose (P.refused pages.old) (P.refused pages.new) }
-    ensures stopped { IsErrOf result PageFault.Stopped → IsTrue (P.is_stopped pages.old) }
-
-    ensures counts { P.count pages.old ≤ P.count pages.new }
-    ensures room { P.room pages.new ≡ P.room pages.old }
-    ensures faults { P.faults pages.old ≤ P.faults pages.new }
-    ensures refused { P.refused pages.old ≤ P.refused pages.new }
-    ensures goes_on { P.is_stopped pages.new ≡ P.is_stopped pages.old }
-    ensures follows { P.follows_from pages.old pages.new }
+    ensures fails { FailsChanging P.Pages pages.old pages.new result }
+    ensures frame { Changes P.Pages pages.old pages.new }
 {
     match pages.look(root) {
         Ok(()) => {}

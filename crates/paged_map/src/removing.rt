@@ -1,7 +1,7 @@
 //! A row that is taken out of a map by its root.
-ghost use Rattle.std.specs.Prelude.{◌≡◌, ◌≢◌, ℕ, ◌^◌, ◌<◌, ◌≤◌, List, length, IfOk, OnOk, IsErrOf, IsTrue, is_some, false};
-ghost use Rattle.page_face.specs.Calls.{Changes, FailsReading};
-ghost use Rattle.page_face.specs.Causes.{Rose, HidesNoFault, IsUncounted};
+ghost use Rattle.std.specs.Prelude.{◌≡◌, ◌≢◌, ℕ, ◌^◌, ◌<◌, ◌≤◌, List, length, IfOk, OnOk, IsErrOf, is_some, false};
+ghost use Rattle.page_face.specs.Calls.{Changes, FailsReading, FailsWriting, Writes};
+ghost use Rattle.page_face.specs.Causes.{IsUncounted};
 ghost use Rattle.page_face.specs.Number.{number};
 ghost use Rattle.btree_nodes.specs.Supply.{View, view};
 ghost use Rattle.btree_nodes.specs.Rows.{Row, lookup, without};
@@ -38,17 +38,8 @@ fn root_after<P: Pages>(
     ensures told { AreTold (P.pages pages.old) (P.count pages.old) → OnOk result (AreTold (P.pages pages.new) (P.count pages.new)) }
 
     ensures damaged { (damage : Damage) → result ≢ Err (PageFault.Damaged damage) }
-    ensures disk { result ≢ Err PageFault.Disk }
-    ensures room_left { result ≢ Err PageFault.NoRoom }
-    ensures stopped { IsErrOf result PageFault.Stopped → IsTrue (P.is_stopped pages.old) }
-
-    ensures asked { P.asked pages.new ≡ P.asked pages.old }
-    ensures count { P.count pages.new ≡ P.count pages.old }
-    ensures room { P.room pages.new ≡ P.room pages.old }
-    ensures faults { P.faults pages.new ≡ P.faults pages.old }
-    ensures refused { P.refused pages.new ≡ P.refused pages.old }
-    ensures goes_on { P.is_stopped pages.new ≡ P.is_stopped pages.old }
-    ensures follows { P.follows_from pages.old pages.new }
+    ensures fails { FailsWriting P.Pages pages.old result }
+    ensures frame { Writes P.Pages pages.old pages.new }
 {
     if left >= root_least(level) {
         return Ok(root);
@@ -81,17 +72,10 @@ pub fn remove_below<P: Pages>(
         → IsMapDamaged form (P.pages pages.old) (P.count pages.old) root damage × AskedSince (P.asked pages.old) (P.asked pages.new) damage.page }
     ensures stays { (damage : Damage) → IsErrOf result (PageFault.Damaged damage) → P.pages pages.new ≡ P.pages pages.old }
     ensures own { AreTold (P.pages pages.old) (P.count pages.old) → AsksOnly (map_uses form (P.pages pages.old) root) (P.asked pages.old) (P.asked pages.new) }
-    ensures disk { IsErrOf result PageFault.Disk → Rose (P.faults pages.old) (P.faults pages.new) }
-    ensures hides_none { HidesNoFault result (P.faults pages.old) (P.faults pages.new) }
-    ensures room_left { result ≢ Err PageFault.NoRoom }
-    ensures stopped { IsErrOf result PageFault.Stopped → IsTrue (P.is_stopped pages.old) }
-
+    ensures fails { FailsReading P.Pages pages.old pages.new result }
     ensures count { P.count pages.new ≡ P.count pages.old }
-    ensures room { P.room pages.new ≡ P.room pages.old }
-    ensures faults { P.faults pages.old ≤ P.faults pages.new }
     ensures refused { P.refused pages.new ≡ P.refused pages.old }
-    ensures goes_on { P.is_stopped pages.new ≡ P.is_stopped pages.old }
-    ensures follows { P.follows_from pages.old pages.new }
+    ensures frame { Changes P.Pages pages.old pages.new }
 {
     let mut bytes = pages.read(root)?;
     let level = level(&bytes);

@@ -205,7 +205,7 @@ returns-in_err-top-clause-own g c = λ told.
     let m = map-uses form old root root some in
     let whole = asks-further mine asked (g.P.Pages.asked c.read.new.self) (g.P.Pages.asked c.remove_in.new.pages) (asks-here mine asked (g.P.Pages.asked c.read.new.self) root (omega arith) read.asked)
     (asks-more (uses form old lv root) mine _ _ (λ n h. let e = map-uses form old root n some in omega arith) (claim told bytes)) in
-    subst (λ (x : List ℕ). AsksOnly mine asked x) (sym c.root_after.ensures.asked) whole
+    subst (λ (x : List ℕ). AsksOnly mine asked x) (sym c.root_after.ensures.frame.asked) whole
 
 pub returns-clause-own : goal.returns-clause-own
 returns-clause-own g c = λ told.
@@ -228,7 +228,7 @@ returns-clause-own g c = λ told.
     let m = map-uses form old root root some in
     let whole = asks-further mine asked (g.P.Pages.asked c.read.new.self) (g.P.Pages.asked c.remove_in.new.pages) (asks-here mine asked (g.P.Pages.asked c.read.new.self) root (omega arith) read.asked)
     (asks-more (uses form old lv root) mine _ _ (λ n h. let e = map-uses form old root n some in omega arith) (claim told bytes)) in
-    subst (λ (x : List ℕ). AsksOnly mine asked x) (sym c.root_after.ensures.asked) whole
+    subst (λ (x : List ℕ). AsksOnly mine asked x) (sym c.root_after.ensures.frame.asked) whole
 
 pub returns-in-None-clause-removed : goal.returns-in-None-clause-removed
 returns-in-None-clause-removed g c = λ free kept.
