@@ -1,7 +1,7 @@
 //! One update, or a batch of them, of the tables, the tree and page 0's fields, over any pages.
 ghost use Rattle.std.specs.Prelude.{◌≡◌, ◌≤◌, ◌<◌, ◌+◌, ◌^◌, ◌↔◌, List, ◌∷◌, Option, Ok, Err, IsTrue, IfOk, IfErr, OnOk, IsErrOf, length, option_map, ◌≢◌};
 ghost use Rattle.std.specs.List.{AllByRecursion};
-ghost use Rattle.page_face.specs.Causes.{Rose};
+ghost use Rattle.page_face.specs.Calls.{Changes};
 ghost use Rattle.btree_nodes.specs.Damages.{AreTold};
 ghost use Rattle.place_map.specs.State.{Contents, IsSerialAbove};
 ghost use Rattle.spatial_base.specs.Key.{Name};
@@ -11,6 +11,7 @@ ghost use Rattle.place_map.specs.Update.{effect_of, key_for, put_at, removed_at,
 ghost use Rattle.store_meaning.specs.Ahead.{StandAhead};
 ghost use Rattle.store_meaning.specs.Stands.{PagesStand, tables_in};
 ghost use Rattle.irtree_engine.specs.Updates.{IsUpdateFault, IsDueTo, IsAtLimit, StandForOutcome, state_after_all};
+ghost use Rattle.irtree_engine.specs.Calls.{FailsUpdating};
 ghost use Rattle.irtree_engine.specs.Changes.{block_with, head_at, head_with, tree_in, AreHeadNumbers, AreNumbersAhead};
 
 use crate::EngineFault;
@@ -51,16 +52,9 @@ pub(crate) fn update<P: Pages>(
     ensures limits { IfErr result (IsAtLimit head.old.live head.old.number) }
     ensures causes { IfErr result IsUpdateFault }
     ensures one_more { (head.new.live ≤ head.old.live + 1) × (head.new.number ≤ head.old.number + 1) }
-    ensures disk { IsErrOf result EngineFault.Disk → Rose (P.faults pages.old) (P.faults pages.new) }
     ensures stays { result ≢ Err EngineFault.Disk → P.faults pages.new ≡ P.faults pages.old }
-    ensures no_room { IsErrOf result EngineFault.NoRoom → Rose (P.refused pages.old) (P.refused pages.new) }
-    ensures stopped { IsErrOf result EngineFault.Stopped → IsTrue (P.is_stopped pages.old) }
-
-    ensures room { P.room pages.new ≡ P.room pages.old }
-    ensures faults { P.faults pages.old ≤ P.faults pages.new }
-    ensures refused { P.refused pages.old ≤ P.refused pages.new }
-    ensures goes_on { P.is_stopped pages.new ≡ P.is_stopped pages.old }
-    ensures follows { P.follows_from pages.old pages.new }
+    ensures fails { FailsUpdating P.Pages pages.old pages.new result }
+    ensures frame { Changes P.Pages pages.old pages.new }
 {
     update_in_batch(alloc, pages, head, policy, update, &None)
 }
@@ -89,16 +83,9 @@ pub(crate) fn update_all<P: Pages>(
     ensures limits { IfErr result (IsAtLimit (head.old.live + length updates.now) (head.old.number + length updates.now)) }
     ensures causes { IfErr result IsUpdateFault }
     ensures one_more_each { (head.new.live ≤ head.old.live + length updates.now) × (head.new.number ≤ head.old.number + length updates.now) }
-    ensures disk { IsErrOf result EngineFault.Disk → Rose (P.faults pages.old) (P.faults pages.new) }
     ensures stays { result ≢ Err EngineFault.Disk → P.faults pages.new ≡ P.faults pages.old }
-    ensures no_room { IsErrOf result EngineFault.NoRoom → Rose (P.refused pages.old) (P.refused pages.new) }
-    ensures stopped { IsErrOf result EngineFault.Stopped → IsTrue (P.is_stopped pages.old) }
-
-    ensures room { P.room pages.new ≡ P.room pages.old }
-    ensures faults { P.faults pages.old ≤ P.faults pages.new }
-    ensures refused { P.refused pages.old ≤ P.refused pages.new }
-    ensures goes_on { P.is_stopped pages.new ≡ P.is_stopped pages.old }
-    ensures follows { P.follows_from pages.old pages.new }
+    ensures fails { FailsUpdating P.Pages pages.old pages.new result }
+    ensures frame { Changes P.Pages pages.old pages.new }
 {
     let held = hold_ahead(alloc, pages, head, updates)?;
     let mut left = updates;
@@ -131,16 +118,9 @@ fn update_in_batch<P: Pages>(
     ensures limits { IfErr result (IsAtLimit head.old.live head.old.number) }
     ensures causes { IfErr result IsUpdateFault }
     ensures one_more { (head.new.live ≤ head.old.live + 1) × (head.new.number ≤ head.old.number + 1) }
-    ensures disk { IsErrOf result EngineFault.Disk → Rose (P.faults pages.old) (P.faults pages.new) }
     ensures stays { result ≢ Err EngineFault.Disk → P.faults pages.new ≡ P.faults pages.old }
-    ensures no_room { IsErrOf result EngineFault.NoRoom → Rose (P.refused pages.old) (P.refused pages.new) }
-    ensures stopped { IsErrOf result EngineFault.Stopped → IsTrue (P.is_stopped pages.old) }
-
-    ensures room { P.room pages.new ≡ P.room pages.old }
-    ensures faults { P.faults pages.old ≤ P.faults pages.new }
-    ensures refused { P.refused pages.old ≤ P.refused pages.new }
-    ensures goes_on { P.is_stopped pages.new ≡ P.is_stopped pages.old }
-    ensures follows { P.follows_from pages.old pages.new }
+    ensures fails { FailsUpdating P.Pages pages.old pages.new result }
+    ensures frame { Changes P.Pages pages.old pages.new }
 {
     match update {
         Update::Put { key, point, words } => {
@@ -179,16 +159,9 @@ fn hold_ahead<P: Pages>(
     ensures limits { IfErr result (IsAtLimit (head.old.live + length updates.now) (head.old.number + length updates.now)) }
     ensures causes { IfErr result IsUpdateFault }
     ensures same { (head.new.live ≡ head.old.live) × (head.new.number ≡ head.old.number) }
-    ensures disk { IsErrOf result EngineFault.Disk → Rose (P.faults pages.old) (P.faults pages.new) }
     ensures stays { result ≢ Err EngineFault.Disk → P.faults pages.new ≡ P.faults pages.old }
-    ensures no_room { IsErrOf result EngineFault.NoRoom → Rose (P.refused pages.old) (P.refused pages.new) }
-    ensures stopped { IsErrOf result EngineFault.Stopped → IsTrue (P.is_stopped pages.old) }
-
-    ensures room { P.room pages.new ≡ P.room pages.old }
-    ensures faults { P.faults pages.old ≤ P.faults pages.new }
-    ensures refused { P.refused pages.old ≤ P.refused pages.new }
-    ensures goes_on { P.is_stopped pages.new ≡ P.is_stopped pages.old }
-    ensures follows { P.follows_from pages.old pages.new }
+    ensures fails { FailsUpdating P.Pages pages.old pages.new result }
+    ensures frame { Changes P.Pages pages.old pages.new }
 {
     if !has_room_for(head, updates.len()) {
         return Ok(None);
@@ -291,16 +264,9 @@ fn put<P: Pages>(
     ensures limits { IfErr result (IsAtLimit head.old.live head.old.number) }
     ensures causes { IfErr result IsUpdateFault }
     ensures one_more { (head.new.live ≤ head.old.live + 1) × (head.new.number ≤ head.old.number + 1) }
-    ensures disk { IsErrOf result EngineFault.Disk → Rose (P.faults pages.old) (P.faults pages.new) }
     ensures stays { result ≢ Err EngineFault.Disk → P.faults pages.new ≡ P.faults pages.old }
-    ensures no_room { IsErrOf result EngineFault.NoRoom → Rose (P.refused pages.old) (P.refused pages.new) }
-    ensures stopped { IsErrOf result EngineFault.Stopped → IsTrue (P.is_stopped pages.old) }
-
-    ensures room { P.room pages.new ≡ P.room pages.old }
-    ensures faults { P.faults pages.old ≤ P.faults pages.new }
-    ensures refused { P.refused pages.old ≤ P.refused pages.new }
-    ensures goes_on { P.is_stopped pages.new ≡ P.is_stopped pages.old }
-    ensures follows { P.follows_from pages.old pages.new }
+    ensures fails { FailsUpdating P.Pages pages.old pages.new result }
+    ensures frame { Changes P.Pages pages.old pages.new }
 {
     let mut tables = tables_of(head);
     let old = tables.place(pages, key)?;
@@ -354,16 +320,9 @@ fn remove<P: Pages>(
     ensures limits { IfErr result (IsAtLimit head.old.live head.old.number) }
     ensures causes { IfErr result IsUpdateFault }
     ensures one_more { (head.new.live ≤ head.old.live + 1) × (head.new.number ≤ head.old.number + 1) }
-    ensures disk { IsErrOf result EngineFault.Disk → Rose (P.faults pages.old) (P.faults pages.new) }
     ensures stays { result ≢ Err EngineFault.Disk → P.faults pages.new ≡ P.faults pages.old }
-    ensures no_room { IsErrOf result EngineFault.NoRoom → Rose (P.refused pages.old) (P.refused pages.new) }
-    ensures stopped { IsErrOf result EngineFault.Stopped → IsTrue (P.is_stopped pages.old) }
-
-    ensures room { P.room pages.new ≡ P.room pages.old }
-    ensures faults { P.faults pages.old ≤ P.faults pages.new }
-    ensures refused { P.refused pages.old ≤ P.refused pages.new }
-    ensures goes_on { P.is_stopped pages.new ≡ P.is_stopped pages.old }
-    ensures follows { P.follows_from pages.old pages.new }
+    ensures fails { FailsUpdating P.Pages pages.old pages.new result }
+    ensures frame { Changes P.Pages pages.old pages.new }
 {
     let mut tables = tables_of(head);
     let Some(old) = tables.place(pages, key)? else {

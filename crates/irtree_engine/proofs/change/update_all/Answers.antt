@@ -4,6 +4,7 @@ use Rattle.std.specs.List.{AllByRecursion}
 use Rattle.irtree_engine.specs.declared.fault.EngineFault.{EngineFault}
 use Rattle.irtree_engine.specs.declared.fault.EngineFault.TheVariants.{Damaged, Disk}
 use Rattle.irtree_engine.specs.Changes.{AreNumbersAhead, block_with}
+use Rattle.page_face.proofs.Frames.{changes_then}
 use Rattle.place_map.specs.declared.update.Update.{Update}
 use Rattle.place_map.specs.Update.{NamesText}
 use Rattle.irtree_engine.specs.Updates.{IsDueTo, state_after_all}
@@ -29,11 +30,8 @@ loop-next-init g c =
       ahead = c.in_ok-held.ensures.numbers;
       lives = omega (arith, live);
       numbers = omega (arith, number);
-      room = held.room;
       faults = c.in_ok-held.ensures.stays (λ e. absurd (cc));
-      refused = held.refused;
-      goes_on = held.goes_on;
-      follows = held.follows;
+      frame = held.frame;
     }
 
 -- src/change.rt:100:9
@@ -78,11 +76,8 @@ loop-next-preserved g c =
       ahead = c.in_ok-update_in_batch.ensures.numbers c.in-Some.rest.now (subst (λ (us : List Update). AreNumbersAhead (option_map (λ numbers. numbers.entries) c.loop-next.held-1) us c.loop-next.head) is invariant.ahead);
       lives = omega (arith, long, more_live, lives);
       numbers = omega (arith, long, more_number, numbers);
-      room = c.update_in_batch.ensures.room ∙ invariant.room;
       faults = c.in_ok-update_in_batch.ensures.stays (λ e. absurd (cc)) ∙ invariant.faults;
-      refused = omega (arith, c.update_in_batch.ensures.refused, invariant.refused);
-      goes_on = c.update_in_batch.ensures.goes_on ∙ invariant.goes_on;
-      follows = g.met.P.Pages.goes_further _ _ _ invariant.follows c.update_in_batch.ensures.follows;
+      frame = changes_then g.P.Pages g.met.P.Pages.goes_further _ _ _ invariant.frame c.update_in_batch.ensures.frame;
     }
 
 -- src/change.rt:73:1

@@ -1,5 +1,6 @@
 use Rattle.std.proofs.Common.{◌≡◌, ◌+◌, ◌≤◌, length, option_map}
 use Rattle.std.specs.List.{AllByRecursion}
+use Rattle.page_face.specs.Calls.{Changes}
 use Rattle.place_map.specs.State.{Contents}
 use Rattle.store_meaning.specs.Stands.{PagesStand}
 use Rattle.irtree_engine.specs.Changes.{AreNumbersAhead, block_with}
@@ -15,11 +16,8 @@ invariant-loop-next g l = record {
   ahead : AreNumbersAhead (option_map (λ numbers. numbers.entries) l.held) l.left l.head;
   lives : l.head.live + length l.left ≤ l.fn.head.live + length l.fn.updates;
   numbers : l.head.number + length l.left ≤ l.fn.head.number + length l.fn.updates;
-  room : g.P.Pages.room l.pages ≡ g.P.Pages.room l.fn.pages;
   faults : g.P.Pages.faults l.pages ≡ g.P.Pages.faults l.fn.pages;
-  refused : g.P.Pages.refused l.fn.pages ≤ g.P.Pages.refused l.pages;
-  goes_on : g.P.Pages.is_stopped l.pages ≡ g.P.Pages.is_stopped l.fn.pages;
-  follows : g.P.Pages.follows_from l.fn.pages l.pages;
+  frame : Changes g.P.Pages l.fn.pages l.pages;
 }
 
 abbrev pub decreases-loop-next : goal.decreases-loop-next

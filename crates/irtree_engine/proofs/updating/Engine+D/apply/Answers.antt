@@ -44,7 +44,7 @@ returns-in-Ok-commit-clause-applied g c = λ t state holds.
     let stand : PagesStand (block_with store.current.counted store.current.first_free c.head-head.result) held state =
     subst (λ (h : Head). PagesStand (block_with store.current.counted store.current.first_free h) held state) (sym c.head-head.ensures) committed in
     let mid = c.update.new.pages in
-    let rests = c.update.ensures.follows.rests t in
+    let rests = c.update.ensures.frame.follows.rests t in
     let holds_mid = rest-stands (g.D.Disk.world store.disk.now) (g.D.Disk.world mid.disk.now) state rests here in
     let updated = c.in-Ok-update.ensures.updated state stand in
     (updated.0, c.in-Ok-commit.ensures.stored t state (effect_of state c.args.update.now).state holds_mid updated.1 (effect-rises state c.args.update.now).same)
@@ -61,7 +61,7 @@ returns-in-Ok-commit-clause-any_moment g c = λ t state holds.
     let stand : PagesStand (block_with store.current.counted store.current.first_free c.head-head.result) held state =
     subst (λ (h : Head). PagesStand (block_with store.current.counted store.current.first_free h) held state) (sym c.head-head.ensures) committed in
     let mid = c.update.new.pages in
-    let rests = c.update.ensures.follows.rests t in
+    let rests = c.update.ensures.frame.follows.rests t in
     let holds_mid = rest-stands (g.D.Disk.world store.disk.now) (g.D.Disk.world mid.disk.now) state rests here in
     let updated = c.in-Ok-update.ensures.updated state stand in
     subst (λ disk. LeavesOnly (g.D.Disk.world disk) (g.D.Disk.world c.commit.new.store.disk.now) (LeavesOneOf state (effect_of state c.args.update.now).state (g.D.Disk.world disk))) (λ i. (c.begin.ensures.disk i).now)
@@ -80,7 +80,7 @@ returns-in-Err-commit-clause-any_moment g c = λ t state holds.
     let stand : PagesStand (block_with store.current.counted store.current.first_free c.head-head.result) held state =
     subst (λ (h : Head). PagesStand (block_with store.current.counted store.current.first_free h) held state) (sym c.head-head.ensures) committed in
     let mid = c.update.new.pages in
-    let rests = c.update.ensures.follows.rests t in
+    let rests = c.update.ensures.frame.follows.rests t in
     let holds_mid = rest-stands (g.D.Disk.world store.disk.now) (g.D.Disk.world mid.disk.now) state rests here in
     let updated = c.in-Ok-update.ensures.updated state stand in
     subst (λ disk. LeavesOnly (g.D.Disk.world disk) (g.D.Disk.world c.commit.new.store.disk.now) (LeavesOneOf state (effect_of state c.args.update.now).state (g.D.Disk.world disk))) (λ i. (c.begin.ensures.disk i).now)
@@ -92,12 +92,12 @@ returns-in-Err-clause-rises g c = head-stays 1 _ _ (ap (λ (b : Superblock). b.h
 
 pub returns-in-Err-update-clause-rises : goal.returns-in-Err-update-clause-rises
 returns-in-Err-update-clause-rises g c =
-    let last = ap (λ (k : Kept). k.last) c.update.ensures.follows.kept ∙ c.begin.ensures.last ∙ sym c.args.self.now.settled in
+    let last = ap (λ (k : Kept). k.last) c.update.ensures.frame.follows.kept ∙ c.begin.ensures.last ∙ sym c.args.self.now.settled in
     head-stays 1 _ _ (ap (λ (b : Superblock). b.head) (c.abandon.ensures.current ∙ last))
 
 pub returns-in-Ok-commit-clause-rises : goal.returns-in-Ok-commit-clause-rises
 returns-in-Ok-commit-clause-rises g c =
-    let last = ap (λ (k : Kept). k.last) c.update.ensures.follows.kept ∙ c.begin.ensures.last ∙ sym c.args.self.now.settled in
+    let last = ap (λ (k : Kept). k.last) c.update.ensures.frame.follows.kept ∙ c.begin.ensures.last ∙ sym c.args.self.now.settled in
     let from = c.head-head.ensures ∙ ap (λ (b : Superblock). b.head) c.begin.ensures.current in
     let old = c.args.self.now.store.current.head in
     let within = made-from 1 old c.head-head.result c.update.new.head from c.update.ensures.one_more in
@@ -105,7 +105,7 @@ returns-in-Ok-commit-clause-rises g c =
 
 pub returns-in-Err-commit-clause-rises : goal.returns-in-Err-commit-clause-rises
 returns-in-Err-commit-clause-rises g c =
-    let last = ap (λ (k : Kept). k.last) c.update.ensures.follows.kept ∙ c.begin.ensures.last ∙ sym c.args.self.now.settled in
+    let last = ap (λ (k : Kept). k.last) c.update.ensures.frame.follows.kept ∙ c.begin.ensures.last ∙ sym c.args.self.now.settled in
     let from = c.head-head.ensures ∙ ap (λ (b : Superblock). b.head) c.begin.ensures.current in
     let old = c.args.self.now.store.current.head in
     let within = made-from 1 old c.head-head.result c.update.new.head from c.update.ensures.one_more in
@@ -119,11 +119,11 @@ returns-in-Err-update-clause-room_left g c = λ is.
     room-left (g.D.Disk.room_of old.disk.now) old.current.counted old.refused (most_takes 1 old.current.counted) (g.D.Disk.room_of allowed.disk.now)
     (counts_of allowed.current.counted allowed.takes_left allowed.refused) (counts_of mid.current.counted mid.takes_left mid.refused)
     (λ i. g.D.Disk.room_of (c.begin.ensures.disk i).now) (λ i. (c.begin.ensures.current i).counted) c.begin.ensures.refused c.in-Ok.ensures.takes
-    c.update.ensures.follows.takes c.in-Ok.ensures.counts (c.in-Err-update.ensures.no_room is)
+    c.update.ensures.frame.follows.takes c.in-Ok.ensures.counts (c.in-Err-update.ensures.fails.full is)
 
 pub returns-in-Err-update-clause-as_before : goal.returns-in-Err-update-clause-as_before
 returns-in-Err-update-clause-as_before g c = λ is.
-    c.abandon.ensures.current ∙ ap (λ (k : Kept). k.last) c.update.ensures.follows.kept ∙ c.begin.ensures.last ∙ sym c.args.self.now.settled
+    c.abandon.ensures.current ∙ ap (λ (k : Kept). k.last) c.update.ensures.frame.follows.kept ∙ c.begin.ensures.last ∙ sym c.args.self.now.settled
 
 pub update-requires-clause-numbers : goal.update-requires-clause-numbers
 update-requires-clause-numbers g c = subst AreHeadNumbers (sym (c.head-head.ensures ∙ ap (λ (b : Superblock). b.head) c.begin.ensures.current)) c.args.self.now.numbers

@@ -44,7 +44,7 @@ returns-clause-applied g c = λ t state holds.
     let stand : PagesStand (block_with store.current.counted store.current.first_free c.head-head.result) held state =
     subst (λ (h : Head). PagesStand (block_with store.current.counted store.current.first_free h) held state) (sym c.head-head.ensures) committed in
     let mid = c.update_all.new.pages in
-    let rests = c.update_all.ensures.follows.rests t in
+    let rests = c.update_all.ensures.frame.follows.rests t in
     let holds_mid = rest-stands (g.D.Disk.world store.disk.now) (g.D.Disk.world mid.disk.now) state rests here in
     let outcome = outcome-is (state_after_all state c.args.updates.now) (block_with mid.current.counted mid.current.first_free c.update_all.new.head) (counted_pages mid.current.counted (shown g.D.Disk.tells (applied (g.D.Disk.world mid.disk.now).seen) mid.overlay)) (c.in-Ok-update_all.ensures.updated state stand) in
     on_ok_weaker c.commit.result (outcome-stands (state_after_all state c.args.updates.now) outcome.0 (g.D.Disk.world c.commit.new.store.disk.now).seen outcome.1)
@@ -62,7 +62,7 @@ returns-clause-any_moment g c = λ t state holds.
     let stand : PagesStand (block_with store.current.counted store.current.first_free c.head-head.result) held state =
     subst (λ (h : Head). PagesStand (block_with store.current.counted store.current.first_free h) held state) (sym c.head-head.ensures) committed in
     let mid = c.update_all.new.pages in
-    let rests = c.update_all.ensures.follows.rests t in
+    let rests = c.update_all.ensures.frame.follows.rests t in
     let holds_mid = rest-stands (g.D.Disk.world store.disk.now) (g.D.Disk.world mid.disk.now) state rests here in
     let outcome = outcome-is (state_after_all state c.args.updates.now) (block_with mid.current.counted mid.current.first_free c.update_all.new.head) (counted_pages mid.current.counted (shown g.D.Disk.tells (applied (g.D.Disk.world mid.disk.now).seen) mid.overlay)) (c.in-Ok-update_all.ensures.updated state stand) in
     subst (λ disk. LeavesOnly (g.D.Disk.world disk) (g.D.Disk.world c.commit.new.store.disk.now) (LeavesAllOrNone state c.args.updates.now (g.D.Disk.world disk))) (λ i. (c.begin.ensures.disk i).now)
@@ -75,12 +75,12 @@ returns-in-Err-clause-rises g c = head-stays (length c.args.updates.now) _ _ (ap
 
 pub returns-in-Err-update_all-clause-rises : goal.returns-in-Err-update_all-clause-rises
 returns-in-Err-update_all-clause-rises g c =
-    let last = ap (λ (k : Kept). k.last) c.update_all.ensures.follows.kept ∙ c.begin.ensures.last ∙ sym c.args.self.now.settled in
+    let last = ap (λ (k : Kept). k.last) c.update_all.ensures.frame.follows.kept ∙ c.begin.ensures.last ∙ sym c.args.self.now.settled in
     head-stays (length c.args.updates.now) _ _ (ap (λ (b : Superblock). b.head) (c.abandon.ensures.current ∙ last))
 
 pub returns-clause-rises : goal.returns-clause-rises
 returns-clause-rises g c =
-    let last = ap (λ (k : Kept). k.last) c.update_all.ensures.follows.kept ∙ c.begin.ensures.last ∙ sym c.args.self.now.settled in
+    let last = ap (λ (k : Kept). k.last) c.update_all.ensures.frame.follows.kept ∙ c.begin.ensures.last ∙ sym c.args.self.now.settled in
     let from = c.head-head.ensures ∙ ap (λ (b : Superblock). b.head) c.begin.ensures.current in
     let old = c.args.self.now.store.current.head in
     let within = made-from (length c.args.updates.now) old c.head-head.result c.update_all.new.head from c.update_all.ensures.one_more_each in
@@ -94,11 +94,11 @@ returns-in-Err-update_all-clause-room_left g c = λ is.
     room-left (g.D.Disk.room_of old.disk.now) old.current.counted old.refused (most_takes (length c.args.updates.now) old.current.counted) (g.D.Disk.room_of allowed.disk.now)
     (counts_of allowed.current.counted allowed.takes_left allowed.refused) (counts_of mid.current.counted mid.takes_left mid.refused)
     (λ i. g.D.Disk.room_of (c.begin.ensures.disk i).now) (λ i. (c.begin.ensures.current i).counted) c.begin.ensures.refused c.in-Ok.ensures.takes
-    c.update_all.ensures.follows.takes c.in-Ok.ensures.counts (c.in-Err-update_all.ensures.no_room is)
+    c.update_all.ensures.frame.follows.takes c.in-Ok.ensures.counts (c.in-Err-update_all.ensures.fails.full is)
 
 pub returns-in-Err-update_all-clause-as_before : goal.returns-in-Err-update_all-clause-as_before
 returns-in-Err-update_all-clause-as_before g c = λ is.
-    c.abandon.ensures.current ∙ ap (λ (k : Kept). k.last) c.update_all.ensures.follows.kept ∙ c.begin.ensures.last ∙ sym c.args.self.now.settled
+    c.abandon.ensures.current ∙ ap (λ (k : Kept). k.last) c.update_all.ensures.frame.follows.kept ∙ c.begin.ensures.last ∙ sym c.args.self.now.settled
 
 pub update_all-requires-clause-numbers : goal.update_all-requires-clause-numbers
 update_all-requires-clause-numbers g c = subst AreHeadNumbers (sym (c.head-head.ensures ∙ ap (λ (b : Superblock). b.head) c.begin.ensures.current)) c.args.self.now.numbers
