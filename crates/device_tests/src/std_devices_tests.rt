@@ -1,7 +1,6 @@
 //! What the devices do with readers and writers that give and take little at a time.
-ghost use Rattle.std.specs.Prelude.{◌+◌, ◌<◌, ◌^◌};
-
-use disk_model::{Area, Disk, Failed, Source, Station};
+use crate::calls::{fills, gives, holds};
+use disk_model::{Area, Failed, Station};
 use std::io::{self, ErrorKind, Read, Write};
 use std::test::Fail;
 use std_devices::{ScratchStation, StdSource};
@@ -54,6 +53,15 @@ impl Write for Halting {
     }
 }
 
+// What each read gives: how many bytes, or none where it fails, and the bytes.
+static READ: [(Result<usize, Failed>, &[u8]); 5] = [
+    (Ok(2), b"ab"),
+    (Ok(2), b"cd"),
+    (Err(Failed), b""),
+    (Ok(1), b"e"),
+    (Ok(0), b""),
+];
+
 #[test]
 fn a_source_gives_what_its_reader_gives(rt: HostRuntime) -> Result<(), Fail> {
     let mut source = StdSource::new(Halting {
@@ -61,62 +69,35 @@ fn a_source_gives_what_its_reader_gives(rt: HostRuntime) -> Result<(), Fail> {
         at: 0,
         calls: 0,
     });
-    let mut buf = [0; 8];
-    let pieces: [(Result<usize, Failed>, &[u8]); 5] = [
-        (Ok(2), b"ab"),
-        (Ok(2), b"cd"),
-        (Err(Failed), b""),
-        (Ok(1), b"e"),
-        (Ok(0), b""),
-    ];
-    for (read, piece) in pieces {
-        assert!(rt; source.read(&mut buf) == read && buf.starts_with(piece));
+    for &(read, piece) in &READ {
+        assert!(rt; gives(&mut source, read, piece));
     }
     Ok(())
 }
 
-// Six bytes of an area.
-fn six<D: Disk>(disk: &mut D, area: Area, at: u64) -> Result<[u8; 6], Failed>
-    requires { at + 6 < 2 ^ 48 }
-{
-    let mut bytes = [9; 6];
-    disk.read(area, at, &mut bytes)?;
-    Ok(bytes)
-}
-
-// Writes a few bytes to each area, and makes them safe.
-fn fill<D: Disk>(disk: &mut D) -> Result<(), Failed> {
-    disk.write(Area::Pages, 3, b"abc")?;
-    disk.write(Area::Journal, 0, b"j")?;
-    disk.sync(Area::Pages)?;
-    disk.sync(Area::Journal)
-}
+// Pieces, and how many bytes of each are said.
+static SAID: [(&[u8], Result<usize, Failed>); 5] = [
+    (b"one", Ok(2)),
+    (b"e", Ok(1)),
+    (b"two", Err(Failed)),
+    (b"two", Ok(2)),
+    (b"o", Err(Failed)),
+];
 
 #[test]
-fn a_scratch_station_keeps_its_areas_and_says_pieces(rt: HostRuntime) -> Result<(), Fail> {
-    let sink = Halting {
-        bytes: Vec::new(rt.alloc()),
-        at: 0,
-        calls: 0,
-    };
-    let mut station = ScratchStation::new(rt.alloc(), sink);
-    assert_eq!(rt; six(&mut station, Area::Pages, 4096)?, [0; 6]);
-    fill(&mut station)?;
-    for (area, at, bytes) in [
-        (Area::Pages, 2, *b"\0abc\0\0"),
-        (Area::Journal, 0, *b"j\0\0\0\0\0"),
-    ] {
-        assert_eq!(rt; six(&mut station, area, at)?, bytes);
+fn a_scratch_station_keeps_its_areas_and_says_pieces(rt: HostRuntime) {
+    let mut station = ScratchStation::new(
+        rt.alloc(),
+        Halting {
+            bytes: Vec::new(rt.alloc()),
+            at: 0,
+            calls: 0,
+        },
+    );
+    assert!(rt; holds(&mut station, Area::Pages, 4096, &[0; 6]));
+    assert!(rt; fills(&mut station));
+    assert!(rt; holds(&mut station, Area::Journal, 0, b"jk\0\0\0\0"));
+    for (piece, said) in &SAID {
+        assert!(rt; station.say(piece) == *said);
     }
-    let pieces: [(&[u8], Result<usize, Failed>); 5] = [
-        (b"one", Ok(2)),
-        (b"e", Ok(1)),
-        (b"two", Err(Failed)),
-        (b"two", Ok(2)),
-        (b"o", Err(Failed)),
-    ];
-    for (piece, said) in pieces {
-        assert_eq!(rt; station.say(piece), said);
-    }
-    Ok(())
 }

@@ -1,10 +1,9 @@
 //! Seals that are noted and dropped.
 use held_pages::Seals;
 use page_face::Seal;
-use std::test::Fail as Failure;
 
 #[test]
-fn a_seal_stays_until_it_is_dropped(rt: HostRuntime) -> Result<(), Failure> {
+fn a_seal_stays_until_it_is_dropped(rt: HostRuntime) {
     let seal = Seal {
         map: 1,
         key: 12,
@@ -12,20 +11,16 @@ fn a_seal_stays_until_it_is_dropped(rt: HostRuntime) -> Result<(), Failure> {
         level: 0,
     };
     let mut seals = Seals::new(rt.alloc());
-    assert!(rt; !seals.has(1, seal));
     seals.note(1, seal);
     assert!(rt; seals.has(1, seal));
-    assert!(rt; !seals.has(1, Seal { level: 1, ..seal }));
-    assert!(rt; !seals.has(2, seal));
-    seals.forget(1);
-    assert!(rt; !seals.has(1, seal));
     // Page 65,537 has the slot of page 1.
-    seals.note(1, seal);
     seals.note(65_537, seal);
     assert!(rt; !seals.has(1, seal));
     seals.forget(1);
     assert!(rt; seals.has(65_537, seal));
-    seals.clear();
+    seals.forget(65_537);
     assert!(rt; !seals.has(65_537, seal));
-    Ok(())
+    seals.note(1, seal);
+    seals.clear();
+    assert!(rt; !seals.has(1, seal));
 }

@@ -2,7 +2,7 @@
 use page_cache::Cache;
 use std::test::Fail;
 
-// A row of looks: a page, and the first byte that is lent of it.
+// A page, and the first byte that is lent of it.
 static LOOKS: [(u32, Option<u8>); 3] = [(2, None), (1, Some(11)), (3, Some(13))];
 
 // The first byte that is lent of a page.
@@ -10,32 +10,32 @@ fn looked_at(cache: &mut Cache, page: u32) -> Option<u8> {
     if !cache.look(page) {
         return None;
     }
-    cache.looked().map(|bytes| bytes[0])
+    Some(cache.looked()?[0])
+}
+
+// Keeps the pages 1 and 2, looks at page 1 and keeps page 3. Whether all that succeeded.
+fn keep_three(cache: &mut Cache) -> bool {
+    cache.keep(1, &[11; 4096]).is_ok()
+        && cache.keep(2, &[12; 4096]).is_ok()
+        && cache.look(1)
+        && cache.keep(3, &[13; 4096]).is_ok()
 }
 
 #[test]
 fn the_page_used_least_recently_is_dropped(rt: HostRuntime) -> Result<(), Fail> {
-    match Cache::new(rt.alloc(), 2) {
-        Ok(mut cache) => {
-            assert_eq!(rt; cache.keep(1, &[11; 4096]), Ok(()));
-            assert_eq!(rt; cache.keep(2, &[12; 4096]), Ok(()));
-            assert!(rt; cache.look(1));
-            assert_eq!(rt; cache.keep(3, &[13; 4096]), Ok(()));
-            for (page, byte) in &LOOKS {
-                assert_eq!(rt; looked_at(&mut cache, *page), *byte);
-            }
-            cache.forget(3);
-            assert_eq!(rt; looked_at(&mut cache, 3), None);
-        }
-        Err(_) => assert!(rt; false),
+    let mut cache = Cache::new(rt.alloc(), 2)?;
+    assert!(rt; keep_three(&mut cache));
+    for (page, byte) in &LOOKS {
+        assert_eq!(rt; looked_at(&mut cache, *page), *byte);
     }
+    cache.forget(3);
+    assert_eq!(rt; looked_at(&mut cache, 3), None);
     Ok(())
 }
 
 #[test]
-fn a_cache_of_no_page_holds_none(rt: HostRuntime) -> Result<(), Fail> {
+fn a_cache_of_no_page_holds_none(rt: HostRuntime) {
     let mut cache = Cache::empty(rt.alloc());
     assert_eq!(rt; cache.keep(1, &[11; 4096]), Ok(()));
     assert_eq!(rt; looked_at(&mut cache, 1), None);
-    Ok(())
 }

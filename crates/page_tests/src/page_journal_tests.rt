@@ -3,6 +3,7 @@ ghost use Rattle.std.specs.Prelude.{◌<◌, ◌+◌, ◌^◌, ℕ, List, length
 ghost use Rattle.page_journal.specs.Record.{IsRecordOf};
 
 use disk_model::{Area, Disk, Failed, MemoryStation, Tear};
+use page_face::Page;
 use page_journal::{JournalFault, Record, append, recover};
 use std::alloc::{AllocError, Global};
 use std::collections::BTreeMap;
@@ -15,22 +16,21 @@ struct Written {
     pages: &'static [(u32, u8)],
 }
 
-// A journal's records, the byte behind them, what recovery returns, and then the first bytes of pages 1 and 3.
+// What recovery returns, and then the first bytes of the journal and of the pages 1 and 3.
+type Recovered = (Result<(), JournalFault>, [u8; 3]);
+
+// A journal's records, the byte behind them, and what its recovery leaves.
 struct Row {
     records: &'static [Written],
     last: u8,
-    answer: Result<(), JournalFault>,
-    page_1: u8,
-    page_3: u8,
+    recovered: Recovered,
 }
 
 static ROWS: [Row; 9] = [
     Row {
         records: &[],
         last: 0,
-        answer: Ok(()),
-        page_1: 1,
-        page_3: 1,
+        recovered: (Ok(()), [0, 1, 1]),
     },
     Row {
         records: &[Written {
@@ -39,9 +39,7 @@ static ROWS: [Row; 9] = [
             pages: &[(3, 9)],
         }],
         last: 0,
-        answer: Ok(()),
-        page_1: 1,
-        page_3: 1,
+        recovered: (Ok(()), [0, 1, 1]),
     },
     Row {
         records: &[Written {
@@ -50,9 +48,7 @@ static ROWS: [Row; 9] = [
             pages: &[],
         }],
         last: 0,
-        answer: Err(JournalFault::BadJournal(1)),
-        page_1: 1,
-        page_3: 1,
+        recovered: (Err(JournalFault::BadJournal(1)), [1, 1, 1]),
     },
     Row {
         records: &[Written {
@@ -61,9 +57,7 @@ static ROWS: [Row; 9] = [
             pages: &[(3, 7), (3, 8)],
         }],
         last: 0,
-        answer: Err(JournalFault::BadJournal(4105)),
-        page_1: 1,
-        page_3: 1,
+        recovered: (Err(JournalFault::BadJournal(4105)), [1, 1, 1]),
     },
     Row {
         records: &[Written {
@@ -72,9 +66,7 @@ static ROWS: [Row; 9] = [
             pages: &[(3, 9)],
         }],
         last: 7,
-        answer: Err(JournalFault::BadJournal(4106)),
-        page_1: 1,
-        page_3: 1,
+        recovered: (Err(JournalFault::BadJournal(4106)), [1, 1, 1]),
     },
     Row {
         records: &[Written {
@@ -83,9 +75,7 @@ static ROWS: [Row; 9] = [
             pages: &[(2, 7), (3, 8), (1, 6)],
         }],
         last: 0,
-        answer: Err(JournalFault::BadJournal(8205)),
-        page_1: 1,
-        page_3: 1,
+        recovered: (Err(JournalFault::BadJournal(8205)), [1, 1, 1]),
     },
     Row {
         records: &[Written {
@@ -94,9 +84,7 @@ static ROWS: [Row; 9] = [
             pages: &[(3, 9)],
         }],
         last: 0,
-        answer: Ok(()),
-        page_1: 1,
-        page_3: 9,
+        recovered: (Ok(()), [0, 1, 9]),
     },
     Row {
         records: &[
@@ -112,9 +100,7 @@ static ROWS: [Row; 9] = [
             },
         ],
         last: 0,
-        answer: Ok(()),
-        page_1: 6,
-        page_3: 7,
+        recovered: (Ok(()), [0, 6, 7]),
     },
     Row {
         records: &[
@@ -130,9 +116,7 @@ static ROWS: [Row; 9] = [
             },
         ],
         last: 0,
-        answer: Err(JournalFault::BadJournal(4106)),
-        page_1: 1,
-        page_3: 1,
+        recovered: (Err(JournalFault::BadJournal(4106)), [1, 1, 1]),
     },
 ];
 
@@ -147,14 +131,15 @@ fn push_record(bytes: &mut Vec<u8>, record: &Written) -> Result<(), AllocError> 
     Ok(())
 }
 
-// The row's bytes.
-fn journal(alloc: Global, row: &Row) -> Result<Vec<u8>, AllocError> {
-    let mut bytes = Vec::new(alloc);
+// A station of four pages of bytes 1, and a row's journal without what stands behind its first `len` bytes.
+fn station_of(alloc: Global, row: &Row, len: usize) -> Result<MemoryStation, Failure> {
+    let mut journal = Vec::new(alloc);
     for record in row.records {
-        push_record(&mut bytes, record)?;
+        push_record(&mut journal, record)?;
     }
-    bytes.push(row.last)?;
-    Ok(bytes)
+    journal.push(row.last)?;
+    journal.truncate(len);
+    Ok(MemoryStation::with_image(alloc, &[1; 16384], &journal, 4)?)
 }
 
 // The byte of an area at a place.
@@ -166,59 +151,56 @@ fn byte_at(station: &mut MemoryStation, area: Area, at: u64) -> Result<u8, Faile
     Ok(byte[0])
 }
 
-// So many bytes 1.
-fn ones(alloc: Global, len: usize) -> Result<Vec<u8>, AllocError> {
-    vec![in alloc; 1; len]
+// Recovers a station.
+fn recovered(station: &mut MemoryStation) -> Result<Recovered, Failed> {
+    let answer = recover(station);
+    let gate = byte_at(station, Area::Journal, 0)?;
+    let page_1 = byte_at(station, Area::Pages, 4096)?;
+    let page_3 = byte_at(station, Area::Pages, 12288)?;
+    Ok((answer, [gate, page_1, page_3]))
 }
 
 #[test]
 fn recover_answers_each_journal_as_it_stands(rt: HostRuntime) -> Result<(), Failure> {
-    let pages = ones(rt.alloc(), 16384)?;
     for row in &ROWS {
-        let journal = journal(rt.alloc(), row)?;
-        let mut station = MemoryStation::with_image(rt.alloc(), &pages, &journal, 4)?;
-        let gate = byte_at(&mut station, Area::Journal, 0)?;
-        assert_eq!(rt; recover(&mut station), row.answer);
-        assert_eq!(rt; byte_at(&mut station, Area::Pages, 4096)?, row.page_1);
-        assert_eq!(rt; byte_at(&mut station, Area::Pages, 12288)?, row.page_3);
-        let left = if row.answer.is_ok() { 0 } else { gate };
-        assert_eq!(rt; byte_at(&mut station, Area::Journal, 0)?, left);
+        let mut station = station_of(rt.alloc(), row, usize::MAX)?;
+        assert_eq!(rt; recovered(&mut station), Ok(row.recovered));
     }
     Ok(())
 }
 
-// What recovery of a journal that ends after so many pieces of 512 bytes returns, and the first bytes of pages 1 and 3 then.
-fn cut_answer(pieces: usize) -> (Result<(), JournalFault>, u8, u8) {
-    if pieces == 0 {
-        return (Ok(()), 1, 1);
+// What recovery leaves of a journal of two records that ends after so many pieces of 512 bytes.
+fn cut_answer(pieces: usize) -> Recovered {
+    match pieces {
+        0 => (Ok(()), [0, 1, 1]),
+        1..9 => (Ok(()), [0, 5, 1]),
+        9..17 => (Err(JournalFault::BadJournal(8210)), [1, 1, 1]),
+        _ => (Ok(()), [0, 6, 7]),
     }
-    if pieces < 9 {
-        return (Ok(()), 5, 1);
-    }
-    if pieces < 17 {
-        return (Err(JournalFault::BadJournal(8210)), 1, 1);
-    }
-    (Ok(()), 6, 7)
 }
 
 #[test]
 fn a_journal_cut_anywhere_is_refused_or_holds_a_prefix(rt: HostRuntime) -> Result<(), Failure> {
-    let pages = ones(rt.alloc(), 16384)?;
-    let whole = journal(rt.alloc(), &ROWS[7])?;
     for pieces in 0..25 {
-        let Some(front) = whole.get(..512 * pieces) else {
-            return Ok(());
-        };
-        let mut station = MemoryStation::with_image(rt.alloc(), &pages, front, 4)?;
-        let (answer, page_1, page_3) = cut_answer(pieces);
-        assert_eq!(rt; recover(&mut station), answer);
-        assert_eq!(rt; byte_at(&mut station, Area::Pages, 4096)?, page_1);
-        assert_eq!(rt; byte_at(&mut station, Area::Pages, 12288)?, page_3);
+        let mut station = station_of(rt.alloc(), &ROWS[7], 512 * pieces)?;
+        assert_eq!(rt; recovered(&mut station), Ok(cut_answer(pieces)));
     }
     Ok(())
 }
 
 static TEARS: [Tear; 4] = [Tear::Kept, Tear::Lost, Tear::Filled(0), Tear::Filled(255)];
+
+// Adds pages with the byte that each holds.
+fn fill(
+    alloc: Global,
+    pages: &mut BTreeMap<u32, Box<Page>>,
+    filled: &[(u32, u8)],
+) -> Result<(), AllocError> {
+    for (number, byte) in filled {
+        pages.insert(*number, Box::new(alloc, [*byte; 4096])?)?;
+    }
+    Ok(())
+}
 
 // The record of pages with the byte that each holds.
 fn record_of(alloc: Global, filled: &[(u32, u8)]) -> Result<Record, AllocError>
@@ -226,9 +208,7 @@ fn record_of(alloc: Global, filled: &[(u32, u8)]) -> Result<Record, AllocError>
     ensures size { IfOk result (λ gathered. length gathered.bytes.items < 2 ^ 46) }
 {
     let mut pages = BTreeMap::new(alloc);
-    for (number, byte) in filled {
-        pages.insert(*number, Box::new(alloc, [*byte; 4096])?)?;
-    }
+    fill(alloc, &mut pages, filled)?;
     if pages.len() == 0 || pages.len() > 9 {
         return Err(AllocError);
     }
@@ -251,23 +231,36 @@ fn run(alloc: Global, station: &mut MemoryStation) -> Result<(u64, u64), AllocEr
     Ok((next, end))
 }
 
+// What recovery leaves after a crash.
+fn left(station: &MemoryStation, tear: Tear) -> Result<Recovered, Failure> {
+    let mut crashed = station.crashed(tear)?;
+    Ok(recovered(&mut crashed)?)
+}
+
 // How many appends the pages hold; None where they hold something else.
-fn appends_held(station: &mut MemoryStation) -> Result<Option<u64>, Failed> {
-    let page_1 = byte_at(station, Area::Pages, 4096)?;
-    let page_3 = byte_at(station, Area::Pages, 12288)?;
-    Ok(match (page_1, page_3) {
-        (1, 1) => Some(0),
-        (5, 1) => Some(1),
-        (6, 7) => Some(2),
+fn appends_held(left: Recovered) -> Option<u64> {
+    match left {
+        (Ok(()), [0, 1, 1]) => Some(0),
+        (Ok(()), [0, 5, 1]) => Some(1),
+        (Ok(()), [0, 6, 7]) => Some(2),
         _ => None,
-    })
+    }
+}
+
+// Whether the pages hold so many appends or more after each crash.
+fn holds_at_least(appends: u64, station: &MemoryStation) -> Result<bool, Failure> {
+    for tear in &TEARS {
+        if appends_held(left(station, *tear)?) < Some(appends) {
+            return Ok(false);
+        }
+    }
+    Ok(true)
 }
 
 #[test]
 fn appends_cut_off_leave_those_that_succeeded(rt: HostRuntime) -> Result<(), Failure> {
-    let pages = ones(rt.alloc(), 16384)?;
     for calls in 0..12 {
-        let mut station = MemoryStation::with_image(rt.alloc(), &pages, b"", 4)?;
+        let mut station = station_of(rt.alloc(), &ROWS[0], usize::MAX)?;
         station.stop_after(calls);
         let ends = run(rt.alloc(), &mut station)?;
         let done = match calls {
@@ -276,32 +269,21 @@ fn appends_cut_off_leave_those_that_succeeded(rt: HostRuntime) -> Result<(), Fai
             _ => 2,
         };
         assert_eq!(rt; ends, [(0, 0), (4105, 0), (4105, 12310)][done]);
-        for tear in &TEARS {
-            let mut crashed = station.crashed(*tear)?;
-            recover(&mut crashed)?;
-            assert!(rt;
-                appends_held(&mut crashed)? >= Some(done as u64),
-                "after {calls} calls"
-            );
-        }
+        assert!(rt;
+            holds_at_least(done as u64, &station)?,
+            "after {calls} calls"
+        );
     }
     Ok(())
 }
 
 #[test]
 fn a_recovery_cut_off_is_done_again(rt: HostRuntime) -> Result<(), Failure> {
-    let pages = ones(rt.alloc(), 16384)?;
-    let journal = journal(rt.alloc(), &ROWS[7])?;
     for calls in 0..25 {
-        let mut station = MemoryStation::with_image(rt.alloc(), &pages, &journal, 4)?;
+        let mut station = station_of(rt.alloc(), &ROWS[7], usize::MAX)?;
         station.stop_after(calls);
-        let is_done = recover(&mut station).is_ok();
-        assert_eq!(rt; is_done, calls == 24);
-        for tear in &TEARS {
-            let mut crashed = station.crashed(*tear)?;
-            recover(&mut crashed)?;
-            assert_eq!(rt; appends_held(&mut crashed)?, Some(2), "after {calls} calls");
-        }
+        assert_eq!(rt; recover(&mut station).is_ok(), calls == 24);
+        assert!(rt; holds_at_least(2, &station)?, "after {calls} calls");
     }
     Ok(())
 }

@@ -1,17 +1,20 @@
 //! Stores that are opened, committed, dropped, stopped and cut off.
 use disk_model::{CallKind, Fail, MemoryStation, Tear};
 use page_face::{Damage, Page, PageFault, Pages, Rule, free_page};
-use page_store::{OpenFault, Store};
-use std::alloc::Global;
+use page_store::{OpenFault, Store, recover_superblock};
+use std::alloc::{AllocError, Global};
 use std::test::Fail as Failure;
 
-// What page 0 begins with, and the answer of `open`; None is Ok.
+// What a store holds: the pages counted, the live places of its head, and the first byte of page 1, 0 where it isn't counted.
+type Held = (u32, u32, u8);
+
+// What page 0 begins with, and what the store then holds or is refused for.
 struct Row {
     page: &'static [u8],
-    answer: Option<OpenFault>,
+    held: Result<Held, OpenFault>,
 }
 
-const BROKEN: Option<OpenFault> = Some(OpenFault::Damaged(Damage {
+const BROKEN: Result<Held, OpenFault> = Err(OpenFault::Damaged(Damage {
     page: 0,
     rule: Rule::Head,
 }));
@@ -19,46 +22,52 @@ const BROKEN: Option<OpenFault> = Some(OpenFault::Damaged(Damage {
 static ROWS: [Row; 7] = [
     Row {
         page: b"",
-        answer: None,
+        held: Ok((1, 0, 0)),
     },
     Row {
         page: b"x",
-        answer: Some(OpenFault::NotAStore),
+        held: Err(OpenFault::NotAStore),
     },
     Row {
         page: b"IRTREE00\0\0\0\x01",
-        answer: Some(OpenFault::NotAStore),
+        held: Err(OpenFault::NotAStore),
     },
     // no page counted
     Row {
         page: b"IRTREE01",
-        answer: BROKEN,
+        held: BROKEN,
     },
     // the first free page isn't counted
     Row {
         page: b"IRTREE01\0\0\0\x02\0\0\0\x02\0\0\0\0\0\0\0\0\0\0\0\0\0\0\0\0\0\0\0\0\0\0\0\0\0\0\0\0\0\0\0\x01\0\0\0\0\0\0\0\0\0\0\0\0\0\0\0\x01",
-        answer: BROKEN,
+        held: BROKEN,
     },
     // a spare byte
     Row {
         page: b"IRTREE01\0\0\0\x02\0\0\0\x01\0\0\0\0\0\0\0\0\0\0\0\0\0\0\0\0\0\0\0\0\0\0\0\0\0\0\0\0\0\0\0\x01\0\0\0\0\0\0\0\0\0\0\0\0\0\0\0\x01\x01",
-        answer: BROKEN,
+        held: BROKEN,
     },
     Row {
         page: b"IRTREE01\0\0\0\x02\0\0\0\x01\0\0\0\0\0\0\0\0\0\0\0\0\0\0\0\0\0\0\0\0\0\0\0\0\0\0\0\0\0\0\0\x01\0\0\0\0\0\0\0\0\0\0\0\0\0\0\0\x01",
-        answer: None,
+        held: Ok((2, 0, 0)),
     },
 ];
+
+// What a store holds.
+fn held(alloc: Global, station: &mut MemoryStation) -> Result<Held, OpenFault> {
+    let mut store = Store::open(alloc, station, 0)?;
+    let first = match store.read(1) {
+        Ok(page) => page[0],
+        Err(_) => 0,
+    };
+    Ok((store.counted(), store.head().live, first))
+}
 
 #[test]
 fn open_answers_by_page_0(rt: HostRuntime) -> Result<(), Failure> {
     for row in &ROWS {
         let mut station = MemoryStation::with_image(rt.alloc(), row.page, b"", 9)?;
-        let answer = match Store::open(rt.alloc(), &mut station, 0) {
-            Ok(_) => None,
-            Err(fault) => Some(fault),
-        };
-        assert_eq!(rt; answer, row.answer);
+        assert_eq!(rt; held(rt.alloc(), &mut station), row.held);
     }
     Ok(())
 }
@@ -76,42 +85,40 @@ fn write_one(alloc: Global, station: &mut MemoryStation, byte: u8) -> Result<boo
     Ok(is_written && store.commit_all().is_ok())
 }
 
-// What a store holds: the pages counted, the live places of its head, and the first byte of page 1, 0 where it isn't counted.
-fn held(alloc: Global, station: &mut MemoryStation) -> Result<(u32, u32, u8), OpenFault> {
-    let mut store = Store::open(alloc, station, 0)?;
-    let first = match store.read(1) {
-        Ok(page) => page[0],
-        Err(_) => 0,
-    };
-    Ok((store.counted(), store.head().live, first))
+// What a store holds after a crash.
+fn left(alloc: Global, station: &MemoryStation, tear: Tear) -> Result<Held, OpenFault> {
+    match station.crashed(tear) {
+        Ok(mut crashed) => held(alloc, &mut crashed),
+        Err(_) => Err(OpenFault::Memory),
+    }
 }
 
+static TEARS: [Tear; 5] = [
+    Tear::Kept,
+    Tear::Lost,
+    Tear::Filled(0),
+    Tear::Filled(1),
+    Tear::Filled(255),
+];
+
 #[test]
-fn a_commit_cut_off_leaves_the_store_before_or_after(rt: HostRuntime) -> Result<(), Failure> {
+fn a_commit_cut_off_leaves_the_store_before_or_after(rt: HostRuntime) {
     for calls in 0..20 {
         let mut station = MemoryStation::new(rt.alloc(), 9);
         station.stop_after(calls);
         let is_done = write_one(rt.alloc(), &mut station, 7) == Ok(true);
-        for tear in [
-            Tear::Kept,
-            Tear::Lost,
-            Tear::Filled(0),
-            Tear::Filled(1),
-            Tear::Filled(255),
-        ] {
-            let mut crashed = station.crashed(tear)?;
-            let held = held(rt.alloc(), &mut crashed);
+        for tear in &TEARS {
+            let left = left(rt.alloc(), &station, *tear);
             assert!(rt;
-                held == Ok((2, 7, 7)) || (held == Ok((1, 0, 0)) && !is_done),
+                left == Ok((2, 7, 7)) || (left == Ok((1, 0, 0)) && !is_done),
                 "after {calls} calls"
             );
         }
     }
-    Ok(())
 }
 
 // A call of a store.
-#[derive(Clone, Copy, Debug)]
+#[derive(Clone, Copy)]
 enum Call {
     Take,
     // a page that is filled with a byte
@@ -184,7 +191,7 @@ fn answer_of(store: &mut Store<'_, MemoryStation>, call: Call) -> Answer {
 }
 
 // What stands on the disk before a run.
-#[derive(Clone, Copy, Debug)]
+#[derive(Clone, Copy)]
 enum Image {
     Empty,
     // the free list names 2, which names 1
@@ -195,8 +202,9 @@ enum Image {
     Committed,
 }
 
-// A store's calls with their answers, the log that they leave, how often they read the disk, and what the store then holds after a crash.
+// A store's calls with their answers, the log that they leave, how often they read the disk, and what the store holds after a crash then.
 struct Run {
+    name: &'static str,
     image: Image,
     cache: u32,
     // the sync that fails, or 0
@@ -204,12 +212,21 @@ struct Run {
     calls: &'static [(Call, Answer)],
     log: &'static [u32],
     reads: u64,
-    holds: (u32, u32, u8),
+    holds: Held,
 }
+
+const LOOKS: &[(Call, Answer)] = &[
+    (Call::Look(1), Answer::Lent(1)),
+    (Call::Look(1), Answer::Lent(1)),
+    (Call::Look(2), Answer::Lent(2)),
+    (Call::Look(1), Answer::Lent(1)),
+    (Call::Look(1), Answer::Lent(1)),
+];
 
 // Opening makes two syncs, a commit two and a checkpoint two.
 static RUNS: [Run; 11] = [
     Run {
+        name: "a free list that is a circle",
         image: Image::Circle,
         cache: 0,
         fail: 0,
@@ -223,8 +240,8 @@ static RUNS: [Run; 11] = [
         reads: 3,
         holds: (3, 0, 4),
     },
-    // so many takes as are allowed
     Run {
+        name: "so many takes as are allowed",
         image: Image::Circle,
         cache: 0,
         fail: 0,
@@ -239,8 +256,8 @@ static RUNS: [Run; 11] = [
         reads: 2,
         holds: (3, 0, 4),
     },
-    // where no page is left it is said so, whatever is allowed
     Run {
+        name: "where no page is left it is said so, whatever is allowed",
         image: Image::Committed,
         cache: 0,
         fail: 0,
@@ -256,8 +273,8 @@ static RUNS: [Run; 11] = [
         reads: 0,
         holds: (2, 7, 7),
     },
-    // a commit that fails
     Run {
+        name: "a commit that fails",
         image: Image::Empty,
         cache: 0,
         fail: 3,
@@ -272,8 +289,8 @@ static RUNS: [Run; 11] = [
         reads: 0,
         holds: (1, 0, 0),
     },
-    // what is abandoned is as committed
     Run {
+        name: "what is abandoned is as committed",
         image: Image::Committed,
         cache: 0,
         fail: 0,
@@ -291,8 +308,8 @@ static RUNS: [Run; 11] = [
         reads: 1,
         holds: (2, 7, 7),
     },
-    // a page from the overlay, the journal, and its place
     Run {
+        name: "a page from the overlay, the journal, and its place",
         image: Image::Empty,
         cache: 0,
         fail: 0,
@@ -314,8 +331,8 @@ static RUNS: [Run; 11] = [
         reads: 1,
         holds: (2, 0, 8),
     },
-    // a checkpoint that fails
     Run {
+        name: "a checkpoint that fails",
         image: Image::Empty,
         cache: 0,
         fail: 7,
@@ -333,54 +350,38 @@ static RUNS: [Run; 11] = [
         reads: 0,
         holds: (2, 0, 7),
     },
-    // caches of 0, 1 and 2 pages
     Run {
+        name: "a cache of no page",
         image: Image::Filled,
         cache: 0,
         fail: 0,
-        calls: &[
-            (Call::Look(1), Answer::Lent(1)),
-            (Call::Look(1), Answer::Lent(1)),
-            (Call::Look(2), Answer::Lent(2)),
-            (Call::Look(1), Answer::Lent(1)),
-            (Call::Look(1), Answer::Lent(1)),
-        ],
+        calls: LOOKS,
         log: &[1, 1, 2, 1, 1],
         reads: 5,
         holds: (3, 0, 1),
     },
     Run {
+        name: "a cache of one page",
         image: Image::Filled,
         cache: 1,
         fail: 0,
-        calls: &[
-            (Call::Look(1), Answer::Lent(1)),
-            (Call::Look(1), Answer::Lent(1)),
-            (Call::Look(2), Answer::Lent(2)),
-            (Call::Look(1), Answer::Lent(1)),
-            (Call::Look(1), Answer::Lent(1)),
-        ],
+        calls: LOOKS,
         log: &[1, 1, 2, 1, 1],
         reads: 3,
         holds: (3, 0, 1),
     },
     Run {
+        name: "a cache of two pages",
         image: Image::Filled,
         cache: 2,
         fail: 0,
-        calls: &[
-            (Call::Look(1), Answer::Lent(1)),
-            (Call::Look(1), Answer::Lent(1)),
-            (Call::Look(2), Answer::Lent(2)),
-            (Call::Look(1), Answer::Lent(1)),
-            (Call::Look(1), Answer::Lent(1)),
-        ],
+        calls: LOOKS,
         log: &[1, 1, 2, 1, 1],
         reads: 2,
         holds: (3, 0, 1),
     },
-    // a look lends what was written or committed last
     Run {
+        name: "a look lends what was written or committed last",
         image: Image::Empty,
         cache: 1,
         fail: 0,
@@ -418,6 +419,19 @@ const CIRCLE: &[u8] =
 const FILLED: &[u8] =
     b"IRTREE01\0\0\0\x03\0\0\0\0\0\0\0\0\0\0\0\0\0\0\0\0\0\0\0\0\0\0\0\0\0\0\0\0\0\0\0\0\0\0\0\x01\0\0\0\0\0\0\0\0\0\0\0\0\0\0\0\x01";
 
+// Adds a header, with zeros up to a page, and two pages.
+fn push_pages(
+    bytes: &mut Vec<u8>,
+    header: &[u8],
+    one: &Page,
+    two: &Page,
+) -> Result<(), AllocError> {
+    bytes.extend_from_slice(header)?;
+    bytes.resize(4096, 0)?;
+    bytes.extend_from_slice(one)?;
+    bytes.extend_from_slice(two)
+}
+
 // A station with a header and two pages.
 fn station_of(
     alloc: Global,
@@ -425,10 +439,8 @@ fn station_of(
     one: &Page,
     two: &Page,
 ) -> Result<MemoryStation, Failure> {
-    let mut bytes = header.to_vec(alloc)?;
-    bytes.resize(4096, 0)?;
-    bytes.extend_from_slice(one)?;
-    bytes.extend_from_slice(two)?;
+    let mut bytes = Vec::new(alloc);
+    push_pages(&mut bytes, header, one, two)?;
     Ok(MemoryStation::with_image(alloc, &bytes, b"", 9)?)
 }
 
@@ -448,40 +460,56 @@ fn station(alloc: Global, image: Image) -> Result<MemoryStation, Failure> {
 // How often opening a store reads the disk.
 fn opening_reads(alloc: Global, image: Image) -> Result<u64, Failure> {
     let mut station = station(alloc, image)?;
-    let _held = Store::open(alloc, &mut station, 0).is_ok();
+    let _opened = recover_superblock(&mut station);
     Ok(station.reads())
+}
+
+// The station of a run, whose sync is to fail.
+fn failing_station(alloc: Global, run: &Run) -> Result<MemoryStation, Failure> {
+    let mut station = station(alloc, run.image)?;
+    station.fail_at(&[Fail {
+        kind: CallKind::Sync,
+        nth: run.fail,
+    }])?;
+    Ok(station)
+}
+
+// The first answer of a store that isn't the run's.
+fn first_wrong(store: &mut Store<'_, MemoryStation>, run: &Run) -> Option<Answer> {
+    for (call, expected) in run.calls {
+        let answer = answer_of(store, *call);
+        if answer != *expected {
+            return Some(answer);
+        }
+    }
+    None
+}
+
+// Makes the calls of a run. Returns the first answer that isn't the run's, and whether the log is the run's, and none once it is cleared.
+fn made(
+    alloc: Global,
+    station: &mut MemoryStation,
+    run: &Run,
+) -> Result<(Option<Answer>, bool), OpenFault> {
+    let mut store = Store::open(alloc, station, run.cache)?;
+    let wrong = first_wrong(&mut store, run);
+    let is_logged = store.read_log() == run.log;
+    store.clear_log();
+    Ok((wrong, is_logged && store.read_log().is_empty()))
 }
 
 #[test]
 fn calls_answer_as_the_pages_stand(rt: HostRuntime) -> Result<(), Failure> {
     for run in &RUNS {
-        let mut station = station(rt.alloc(), run.image)?;
-        station.fail_at(&[Fail {
-            kind: CallKind::Sync,
-            nth: run.fail,
-        }])?;
-        match Store::open(rt.alloc(), &mut station, run.cache) {
-            Ok(mut store) => {
-                for (call, expected) in run.calls {
-                    let answered = answer_of(&mut store, *call);
-                    assert_eq!(rt; answered, *expected, "{call:?} over {:?}", run.image);
-                }
-                assert_eq!(rt; store.read_log(), run.log);
-                store.clear_log();
-                assert!(rt; store.read_log().is_empty());
-            }
-            Err(_) => assert!(rt; false),
-        }
-        assert_eq!(rt; station.faults(), (run.fail.min(1), 0));
         let opening = opening_reads(rt.alloc(), run.image)?;
-        assert_eq!(rt;
-            station.reads().saturating_sub(opening),
-            run.reads,
-            "{:?}",
-            run.image
-        );
-        let mut crashed = station.crashed(Tear::Lost)?;
-        assert_eq!(rt; held(rt.alloc(), &mut crashed), Ok(run.holds));
+        let mut station = failing_station(rt.alloc(), run)?;
+        let made = made(rt.alloc(), &mut station, run);
+        assert_eq!(rt; made, Ok((None, true)), "{}", run.name);
+        assert_eq!(rt; station.faults(), (run.fail.min(1), 0), "{}", run.name);
+        let reads = station.reads().saturating_sub(opening);
+        assert_eq!(rt; reads, run.reads, "{}", run.name);
+        let left = left(rt.alloc(), &station, Tear::Lost);
+        assert_eq!(rt; left, Ok(run.holds), "{}", run.name);
     }
     Ok(())
 }

@@ -1,8 +1,6 @@
 use btree_nodes::build;
 use page_face::{Damage, MemoryPages, Page, PageFault, Pages, Rule, free_next};
 use paged_map::{Layout, PagedMap};
-use std::collections::BTreeMap;
-use std::test::Fail;
 
 // Rows of 1,020 bytes: a leaf has two to four of them.
 struct Wide;
@@ -48,39 +46,28 @@ fn leaf(first: u8, second: u8) -> Page {
     build(9, 1, 0, 2, &cells)
 }
 
-// An inner page of two entries.
-fn inner(level: u8, left: u8, middle: u8, right: u8) -> Page {
+// A root above the leaves 1 and 2.
+fn root() -> Page {
     let mut cells = [0; 518];
-    cells[258] = left;
-    cells[513] = middle;
-    cells[517] = right;
-    build(9, 2, level, 2, &cells)
+    cells[258] = 1;
+    cells[513] = 6;
+    cells[517] = 2;
+    build(9, 2, 1, 2, &cells)
 }
 
-// A root at page 3 above the leaves 1 and 2.
-fn write_all(
-    pages: &mut MemoryPages,
-    left: &Page,
-    right: &Page,
-    root: &Page,
-) -> Result<(), PageFault> {
-    pages.write(1, left)?;
-    pages.write(2, right)?;
-    pages.write(3, root)
+// Writes a map at page 3 of four rows, in the leaves 1 and 2.
+fn write_four(pages: &mut MemoryPages) -> Result<(), PageFault> {
+    pages.write(1, &leaf(2, 4))?;
+    pages.write(2, &leaf(6, 8))?;
+    pages.write(3, &root())
 }
 
-// Takes the pages 1, 2 and 3.
-fn take_three(pages: &mut MemoryPages) -> Result<(), PageFault> {
+// Takes three pages, and writes the map of four rows there.
+fn take_four(pages: &mut MemoryPages) -> Result<(), PageFault> {
     for _ in 0..3 {
         pages.take()?;
     }
-    Ok(())
-}
-
-// A map at page 3 of four rows, in the leaves 1 and 2.
-fn write_four(pages: &mut MemoryPages) -> Result<(), PageFault> {
-    take_three(pages)?;
-    write_all(pages, &leaf(2, 4), &leaf(6, 8), &inner(1, 1, 6, 2))
+    write_four(pages)
 }
 
 // The leaf that has a key, and the first byte of its value.
@@ -110,227 +97,262 @@ fn first_row(
     )
 }
 
+// A root, the last byte of a key, what is found at the key, and the first row from the key on.
+type LookUp = (u32, u8, Option<(u32, u8)>, Option<(u32, u8, u8)>);
+
+static LOOK_UPS: [LookUp; 8] = [
+    (3, 0, None, Some((1, 2, 2))),
+    (3, 3, None, Some((1, 4, 4))),
+    (3, 4, Some((1, 4)), Some((1, 4, 4))),
+    (3, 5, None, Some((2, 6, 6))),
+    (3, 6, Some((2, 6)), Some((2, 6, 6))),
+    (3, 7, None, Some((2, 8, 8))),
+    (3, 9, None, None),
+    (0, 4, None, None),
+];
+
 #[test]
-fn rows_are_found_by_key_and_in_order(rt: HostRuntime) -> Result<(), Fail> {
+fn rows_are_found_by_key_and_in_order(rt: HostRuntime) {
     let mut pages = MemoryPages::new(rt.alloc(), 8);
-    assert_eq!(rt; write_four(&mut pages), Ok(()));
-    for (root, last, row) in [
-        (3, 4, Some((1, 4))),
-        (3, 6, Some((2, 6))),
-        (3, 5, None),
-        (0, 4, None),
-    ] {
-        assert_eq!(rt; look_up(&mut pages, root, last), Ok(row));
+    assert_eq!(rt; take_four(&mut pages), Ok(()));
+    for (root, last, found, first) in &LOOK_UPS {
+        assert_eq!(rt; look_up(&mut pages, *root, *last), Ok(*found));
+        assert_eq!(rt; first_row(&mut pages, *root, *last), Ok(*first));
     }
-    for (root, last, row) in [
-        (3, 0, Some((1, 2, 2))),
-        (3, 3, Some((1, 4, 4))),
-        (3, 4, Some((1, 4, 4))),
-        (3, 5, Some((2, 6, 6))),
-        (3, 7, Some((2, 8, 8))),
-        (3, 9, None),
-        (0, 0, None),
-    ] {
-        assert_eq!(rt; first_row(&mut pages, root, last), Ok(row));
-    }
-    Ok(())
 }
 
-#[test]
-fn a_broken_page_is_named_with_its_rule(rt: HostRuntime) -> Result<(), Fail> {
-    let mut pages = MemoryPages::new(rt.alloc(), 8);
-    assert_eq!(rt; take_three(&mut pages), Ok(()));
-    let cases = [
-        (leaf(2, 4), inner(255, 3, 6, 2), 3, Rule::Level),
-        (leaf(2, 4), inner(1, 7, 6, 2), 7, Rule::Link),
-        (leaf(4, 2), inner(1, 1, 6, 2), 1, Rule::Order),
-        (leaf(2, 6), inner(1, 1, 6, 2), 1, Rule::Order),
-        (inner(0, 1, 2, 1), inner(1, 1, 6, 2), 1, Rule::Kind),
-        (
-            build(9, 1, 0, 1, &[1; 1020]),
-            inner(1, 1, 6, 2),
-            1,
-            Rule::Fill,
-        ),
-        (
-            build(9, 1, 0, 2, &[1; 2041]),
-            inner(1, 1, 6, 2),
-            1,
-            Rule::Spare,
-        ),
-    ];
-    let map: PagedMap<Wide> = PagedMap::at(3);
-    let mut value = [0; 765];
-    for (left, root, page, rule) in &cases {
-        assert_eq!(rt; write_all(&mut pages, left, &leaf(6, 8), root), Ok(()));
-        let answer = map.get(&mut pages, &key(2), &mut value);
-        assert_eq!(rt;
-            answer,
-            Err(PageFault::Damaged(Damage {
-                page: *page,
-                rule: *rule
-            }))
-        );
-    }
-    Ok(())
+// Bytes of the map of four rows that are changed, by page and place, and the page and the rule that are named then.
+struct Broken {
+    changes: &'static [(u32, usize, u8)],
+    page: u32,
+    rule: Rule,
 }
 
-// Raises the first byte of the value at a key, if the key is there.
-fn raise(pages: &mut MemoryPages, map: &PagedMap<Wide>, last: u8) -> Result<bool, PageFault> {
-    let at = key(last);
-    let mut value = [0; 765];
-    let Some(spot) = map.find(pages, &at, &mut value)? else {
-        return Ok(false);
-    };
-    value[0] = value[0].wrapping_add(1);
-    map.replace(pages, &spot, &at, &value)?;
-    Ok(true)
-}
+static BROKEN: [Broken; 7] = [
+    // the root is of level 255, and the child of itself
+    Broken {
+        changes: &[(3, 4, 255), (3, 274, 3)],
+        page: 3,
+        rule: Rule::Level,
+    },
+    // the child is page 7
+    Broken {
+        changes: &[(3, 274, 7)],
+        page: 7,
+        rule: Rule::Link,
+    },
+    // the keys are 4 and 2
+    Broken {
+        changes: &[(1, 270, 4), (1, 1290, 2)],
+        page: 1,
+        rule: Rule::Order,
+    },
+    // the keys are 2 and 6, as is the first one of leaf 2
+    Broken {
+        changes: &[(1, 1290, 6)],
+        page: 1,
+        rule: Rule::Order,
+    },
+    // an inner page in the place of a leaf
+    Broken {
+        changes: &[(1, 0, 2)],
+        page: 1,
+        rule: Rule::Kind,
+    },
+    // one row
+    Broken {
+        changes: &[(1, 3, 1)],
+        page: 1,
+        rule: Rule::Fill,
+    },
+    // a byte behind the rows
+    Broken {
+        changes: &[(1, 2056, 1)],
+        page: 1,
+        rule: Rule::Spare,
+    },
+];
 
-#[test]
-fn rows_put_are_those_of_a_sorted_map(rt: HostRuntime) -> Result<(), Fail> {
-    let mut pages = MemoryPages::new(rt.alloc(), 99);
-    let mut map: PagedMap<Wide> = PagedMap::at(0);
-    let mut model: BTreeMap<u8, u8> = BTreeMap::new(rt.alloc());
-    let mut value = [0; 765];
-    for step in 0..90u8 {
-        let last = step.wrapping_mul(37) % 60;
-        value[0] = step;
-        let had = model.insert(last, step)?.is_some();
-        assert_eq!(rt; map.put(&mut pages, &key(last), &value), Ok(had));
-    }
-    for last in [0, 7, 8, 31, 59, 60, 255] {
-        let raised = raise(&mut pages, &map, last);
-        assert_eq!(rt; raised, Ok(model.contains_key(&last)));
-        let Some(step) = model.get(&last) else {
-            continue;
-        };
-        let more = step.wrapping_add(1);
-        model.insert(last, more)?;
-    }
-    for last in 0..99u8 {
-        let leaf = map.get(&mut pages, &key(last), &mut value);
-        assert_eq!(rt;
-            leaf.map(|page| page.is_some()),
-            Ok(model.contains_key(&last))
-        );
-        if let Some(step) = model.get(&last) {
-            assert_eq!(rt; value[0], *step);
-        }
-    }
-    let root = pages.read(map.root());
-    assert_eq!(rt; root.map(|page| page[4]), Ok(2));
-    Ok(())
-}
-
-#[test]
-fn a_split_without_room_leaves_the_root(rt: HostRuntime) -> Result<(), Fail> {
-    let mut pages = MemoryPages::new(rt.alloc(), 2);
-    let mut map: PagedMap<Wide> = PagedMap::at(0);
-    let value = [7; 765];
-    for last in 1..5u8 {
-        assert_eq!(rt; map.put(&mut pages, &key(last), &value), Ok(false));
-    }
-    assert_eq!(rt; map.put(&mut pages, &key(3), &value), Ok(true));
-    assert_eq!(rt;
-        map.put(&mut pages, &key(9), &value),
-        Err(PageFault::NoRoom)
-    );
-    assert_eq!(rt; map.root(), 1);
-    Ok(())
-}
-
-// Whether a look-up of each key answers as the model.
-fn is_model(
+// Looks up key 2 once these bytes of the map of four rows are changed.
+fn look_up_changed(
     pages: &mut MemoryPages,
-    map: &PagedMap<Wide>,
-    model: &BTreeMap<u8, u8>,
+    changes: &[(u32, usize, u8)],
+) -> Result<Option<(u32, u8)>, PageFault> {
+    write_four(pages)?;
+    for (page, at, byte) in changes {
+        let mut bytes = pages.read(*page)?;
+        if let Some(changed) = bytes.get_mut(*at) {
+            *changed = *byte;
+        }
+        pages.write(*page, &bytes)?;
+    }
+    look_up(pages, 3, 2)
+}
+
+#[test]
+fn a_broken_page_is_named_with_its_rule(rt: HostRuntime) {
+    let mut pages = MemoryPages::new(rt.alloc(), 8);
+    assert_eq!(rt; take_four(&mut pages), Ok(()));
+    for Broken {
+        changes,
+        page,
+        rule,
+    } in &BROKEN {
+        let damage = Damage {
+            page: *page,
+            rule: *rule,
+        };
+        assert_eq!(rt;
+            look_up_changed(&mut pages, changes),
+            Err(PageFault::Damaged(damage))
+        );
+    }
+}
+
+// What a map is to hold: the first byte of each key's value.
+type Model = [Option<u8>; 256];
+
+// Puts 200 rows. Whether the keys of all were new.
+fn put_all(
+    pages: &mut MemoryPages,
+    map: &mut PagedMap<Wide>,
+    model: &mut Model,
 ) -> Result<bool, PageFault> {
     let mut value = [0; 765];
-    for last in 0..=255u8 {
-        let there = map.get(pages, &key(last), &mut value)?.is_some();
-        let same = match model.get(&last) {
-            Some(first) => there && value[0] == *first,
-            None => !there,
-        };
-        if !same {
+    for step in 0..200u16 {
+        let last = (step * 37 % 200) as u8;
+        value[0] = step as u8;
+        model[last as usize] = Some(step as u8);
+        if map.put(pages, &key(last), &value)? {
             return Ok(false);
         }
     }
     Ok(true)
 }
 
-// How many pages the free list has, which must end at 0.
-fn count_free(pages: &mut MemoryPages) -> Result<Option<u32>, PageFault> {
+// Puts a value that begins with 255 in the place of that of every fifth key below 200. Whether all of these were there.
+fn replace_some(
+    pages: &mut MemoryPages,
+    map: &PagedMap<Wide>,
+    model: &mut Model,
+) -> Result<bool, PageFault> {
+    let mut value = [0; 765];
+    for fifth in 0..40u8 {
+        let last = fifth * 5;
+        let at = key(last);
+        let Some(spot) = map.find(pages, &at, &mut value)? else {
+            return Ok(false);
+        };
+        value[0] = 255;
+        map.replace(pages, &spot, &at, &value)?;
+        model[last as usize] = Some(255);
+    }
+    Ok(true)
+}
+
+// Whether a look-up of each key answers as the model.
+fn is_model(
+    pages: &mut MemoryPages,
+    map: &PagedMap<Wide>,
+    model: &Model,
+) -> Result<bool, PageFault> {
+    let mut value = [0; 765];
+    for last in 0..=255u8 {
+        let found = match map.get(pages, &key(last), &mut value)? {
+            Some(_) => Some(value[0]),
+            None => None,
+        };
+        if found != model[last as usize] {
+            return Ok(false);
+        }
+    }
+    Ok(true)
+}
+
+// Takes the 200 rows out in another order. Whether each was there, and after each 25 of them the map was as the model.
+fn remove_all(
+    pages: &mut MemoryPages,
+    map: &mut PagedMap<Wide>,
+    model: &mut Model,
+) -> Result<bool, PageFault> {
+    for step in 0..200u16 {
+        let last = (step * 71 % 200) as u8;
+        model[last as usize] = None;
+        if !map.remove(pages, &key(last))? {
+            return Ok(false);
+        }
+        if step % 25 == 24 && !is_model(pages, map, model)? {
+            return Ok(false);
+        }
+    }
+    Ok(true)
+}
+
+// Whether the free list has every page but page 0.
+fn all_are_free(pages: &mut MemoryPages) -> Result<bool, PageFault> {
     let mut next = pages.first_free();
-    for count in 0..pages.counted() {
+    for _ in 1..pages.counted() {
         if next == 0 {
-            return Ok(Some(count));
+            return Ok(false);
         }
         let page = pages.read(next)?;
         next = match free_next(&page) {
             Ok(next) => next,
-            Err(_) => return Ok(None),
+            Err(_) => return Ok(false),
         };
     }
-    Ok(None)
+    Ok(next == 0)
+}
+
+// The level of a page.
+fn level(pages: &mut MemoryPages, page: u32) -> Result<u8, PageFault> {
+    Ok(pages.read(page)?[4])
 }
 
 #[test]
-fn rows_removed_in_another_order_leave_a_sorted_map_and_at_last_no_page(
-    rt: HostRuntime,
-) -> Result<(), Fail> {
+fn rows_put_are_those_of_a_model(rt: HostRuntime) {
     let mut pages = MemoryPages::new(rt.alloc(), 200);
     let mut map: PagedMap<Wide> = PagedMap::at(0);
-    let mut model: BTreeMap<u8, u8> = BTreeMap::new(rt.alloc());
-    let mut value = [0; 765];
-    for step in 0..200u16 {
-        let last = (step * 37 % 200) as u8;
-        value[0] = step as u8;
-        model.insert(last, step as u8)?;
-        assert_eq!(rt; map.put(&mut pages, &key(last), &value), Ok(false));
-    }
-    for step in 0..200u16 {
-        if step % 25 == 0 {
-            assert_eq!(rt; is_model(&mut pages, &map, &model), Ok(true));
-        }
-        let last = (step * 71 % 200) as u8;
-        model.remove(&last);
-        assert_eq!(rt; map.remove(&mut pages, &key(last)), Ok(true));
-    }
-    assert_eq!(rt; map.root(), 0);
+    let mut model = [None; 256];
+    assert_eq!(rt; put_all(&mut pages, &mut map, &mut model), Ok(true));
+    assert_eq!(rt; replace_some(&mut pages, &map, &mut model), Ok(true));
     assert_eq!(rt; is_model(&mut pages, &map, &model), Ok(true));
-    let free = count_free(&mut pages);
-    assert_eq!(rt; free, Ok(Some(pages.counted() - 1)));
-    Ok(())
+    assert_eq!(rt; level(&mut pages, map.root()), Ok(2));
 }
 
 #[test]
-fn a_key_that_is_not_there_is_not_removed(rt: HostRuntime) -> Result<(), Fail> {
-    let mut pages = MemoryPages::new(rt.alloc(), 20);
+fn rows_removed_in_another_order_leave_a_model_and_at_last_no_page(rt: HostRuntime) {
+    let mut pages = MemoryPages::new(rt.alloc(), 200);
     let mut map: PagedMap<Wide> = PagedMap::at(0);
-    let mut model: BTreeMap<u8, u8> = BTreeMap::new(rt.alloc());
-    assert_eq!(rt; map.remove(&mut pages, &key(4)), Ok(false));
+    let mut model = [None; 256];
+    assert_eq!(rt; put_all(&mut pages, &mut map, &mut model), Ok(true));
+    assert_eq!(rt; remove_all(&mut pages, &mut map, &mut model), Ok(true));
     assert_eq!(rt; map.root(), 0);
-    let value = [7; 765];
-    for half in 1..9u8 {
-        model.insert(half * 2, 7)?;
-        assert_eq!(rt; map.put(&mut pages, &key(half * 2), &value), Ok(false));
-    }
-    let root = map.root();
-    for last in [0, 1, 7, 9, 17, 255] {
-        assert_eq!(rt; map.remove(&mut pages, &key(last)), Ok(false));
-        assert_eq!(rt; map.root(), root);
-    }
-    assert_eq!(rt; is_model(&mut pages, &map, &model), Ok(true));
-    assert_eq!(rt; pages.first_free(), 0);
-    Ok(())
+    assert_eq!(rt; all_are_free(&mut pages), Ok(true));
+    assert_eq!(rt; map.remove(&mut pages, &key(4)), Ok(false));
+}
+
+#[test]
+fn a_split_without_room_leaves_the_root(rt: HostRuntime) {
+    let mut pages = MemoryPages::new(rt.alloc(), 2);
+    let mut map: PagedMap<Wide> = PagedMap::at(0);
+    let mut model = [None; 256];
+    assert_eq!(rt;
+        put_all(&mut pages, &mut map, &mut model),
+        Err(PageFault::NoRoom)
+    );
+    assert_eq!(rt; map.root(), 1);
+}
+
+// How many rows a leaf has.
+fn count(pages: &mut MemoryPages, leaf: u32) -> Result<u8, PageFault> {
+    Ok(pages.read(leaf)?[3])
 }
 
 // How many rows leaf 1 has, and how many pages are counted, where the root and leaf 2 are as they were written.
 fn left_leaf(pages: &mut MemoryPages) -> Result<Option<(u8, u32)>, PageFault> {
-    let rows = pages.read(1)?[3];
-    let same = pages.read(2)? == leaf(6, 8) && pages.read(3)? == inner(1, 1, 6, 2);
+    let rows = count(pages, 1)?;
+    let same = pages.read(2)? == leaf(6, 8) && pages.read(3)? == root();
     Ok(if same {
         Some((rows, pages.counted()))
     } else {
@@ -338,42 +360,46 @@ fn left_leaf(pages: &mut MemoryPages) -> Result<Option<(u8, u32)>, PageFault> {
     })
 }
 
-#[test]
-fn a_row_is_put_into_its_leaf_until_that_is_full(rt: HostRuntime) -> Result<(), Fail> {
-    let mut pages = MemoryPages::new(rt.alloc(), 8);
-    assert_eq!(rt; write_four(&mut pages), Ok(()));
-    let mut map: PagedMap<Wide> = PagedMap::at(3);
-    // the key, whether it was there, and the rows of leaf 1 and the pages counted then
-    for (last, had, left) in [
-        (4, true, Some((2, 4))),
-        (3, false, Some((3, 4))),
-        (5, false, Some((4, 4))),
-        (2, true, Some((4, 4))),
-        (1, false, None),
-    ] {
-        assert_eq!(rt; map.put(&mut pages, &key(last), &[7; 765]), Ok(had));
-        assert_eq!(rt; look_up(&mut pages, 3, last), Ok(Some((1, 7))));
-        assert_eq!(rt; left_leaf(&mut pages), Ok(left));
-    }
-    assert_eq!(rt; pages.counted(), 5);
-    Ok(())
-}
+// The key of a row that is put or removed, whether it was there, and the rows of leaf 1 and the pages counted then.
+type Step = (u8, bool, Option<(u8, u32)>);
+
+static PUTS: [Step; 5] = [
+    (4, true, Some((2, 4))),
+    (3, false, Some((3, 4))),
+    (5, false, Some((4, 4))),
+    (2, true, Some((4, 4))),
+    (1, false, None),
+];
 
 #[test]
-fn a_row_is_taken_out_of_its_leaf_down_to_the_least_count(rt: HostRuntime) -> Result<(), Fail> {
+fn a_row_is_put_into_its_leaf_until_that_is_full(rt: HostRuntime) {
     let mut pages = MemoryPages::new(rt.alloc(), 8);
-    assert_eq!(rt; write_four(&mut pages), Ok(()));
+    assert_eq!(rt; take_four(&mut pages), Ok(()));
+    let mut map: PagedMap<Wide> = PagedMap::at(3);
+    for (last, had, left) in &PUTS {
+        assert_eq!(rt; map.put(&mut pages, &key(*last), &[7; 765]), Ok(*had));
+        assert_eq!(rt; look_up(&mut pages, 3, *last), Ok(Some((1, 7))));
+        assert_eq!(rt; left_leaf(&mut pages), Ok(*left));
+    }
+    assert_eq!(rt; pages.counted(), 5);
+}
+
+static REMOVES: [Step; 3] = [
+    (5, false, Some((3, 4))),
+    (3, true, Some((2, 4))),
+    (4, true, None),
+];
+
+#[test]
+fn a_row_is_taken_out_of_its_leaf_down_to_the_least_count(rt: HostRuntime) {
+    let mut pages = MemoryPages::new(rt.alloc(), 8);
+    assert_eq!(rt; take_four(&mut pages), Ok(()));
     let mut map: PagedMap<Wide> = PagedMap::at(3);
     assert_eq!(rt; map.put(&mut pages, &key(3), &[7; 765]), Ok(false));
-    for (last, had, left) in [
-        (5, false, Some((3, 4))),
-        (3, true, Some((2, 4))),
-        (4, true, None),
-    ] {
-        assert_eq!(rt; map.remove(&mut pages, &key(last)), Ok(had));
-        assert_eq!(rt; left_leaf(&mut pages), Ok(left));
+    for (last, had, left) in &REMOVES {
+        assert_eq!(rt; map.remove(&mut pages, &key(*last)), Ok(*had));
+        assert_eq!(rt; left_leaf(&mut pages), Ok(*left));
     }
-    assert_eq!(rt; pages.read(map.root()).map(|page| page[3]), Ok(3));
+    assert_eq!(rt; count(&mut pages, map.root()), Ok(3));
     assert!(rt; pages.first_free() > 0);
-    Ok(())
 }

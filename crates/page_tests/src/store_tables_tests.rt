@@ -1,9 +1,8 @@
 //! Tables of one leaf each, whose bytes were worked out by hand from the format.
 use page_face::{Damage, MemoryPages, Page, PageFault, Pages, Rule};
 use spatial_base::{Key, Point};
-use std::process::Abort;
 use std::test::Fail;
-use store_tables::{Stored, Tables};
+use store_tables::Tables;
 use term_impacts::Word;
 
 // The key ab: kind 0, the text, 62 zero bytes, and the length.
@@ -66,101 +65,6 @@ fn tables(pages: &mut MemoryPages, place: &[u8]) -> Result<Tables, PageFault> {
     })
 }
 
-fn key(rt: &impl Abort) -> Key {
-    Key::of_text("ab").expect(rt, "a key")
-}
-
-#[test]
-fn rows_are_found(rt: HostRuntime) -> Result<(), Fail> {
-    let mut pages = MemoryPages::new(rt.alloc(), 10);
-    let tables = tables(&mut pages, &PLACE)?;
-    let word = Word::of_bytes(&CAFE).ok_or("no word")?;
-    assert_eq!(rt; tables.number_of(&mut pages, &word)?, Some(7));
-    assert!(rt; tables.word_of(&mut pages, 7)? == Some(word));
-    assert!(rt; tables.word_of(&mut pages, 8)?.is_none());
-    let stored = tables.place(&mut pages, &key(&rt))?.ok_or("no place")?;
-    assert_eq!(rt; stored.point, Point::new(-1, 2).ok_or("off the map")?);
-    assert_eq!(rt; stored.count, 1);
-    assert_eq!(rt; stored.pairs[0], (7, 9));
-    assert!(rt; tables.place(&mut pages, &Key::auto(1))?.is_none());
-    Ok(())
-}
-
-#[test]
-fn places_follow_one_another(rt: HostRuntime) -> Result<(), Fail> {
-    let mut pages = MemoryPages::new(rt.alloc(), 10);
-    let tables = tables(&mut pages, &PLACE)?;
-    let before = Key::of_text("aa").map_err(|_| "no key")?;
-    let (first, stored) = tables.next_place(&mut pages, None)?.ok_or("no place")?;
-    assert!(rt; first == key(&rt));
-    assert_eq!(rt;
-        tables.next_place(&mut pages, Some(&before))?,
-        Some((first, stored))
-    );
-    assert!(rt; tables.next_place(&mut pages, Some(&first))?.is_none());
-    Ok(())
-}
-
-#[test]
-fn a_place_that_was_put_is_found(rt: HostRuntime) -> Result<(), Fail> {
-    let mut pages = MemoryPages::new(rt.alloc(), 10);
-    let mut tables = tables(&mut pages, &PLACE)?;
-    let point = Point::new(5, 6).ok_or("off the map")?;
-    let stored = Stored {
-        point,
-        count: 0,
-        pairs: [(0, 0); 64],
-    };
-    assert!(rt; !tables.put_place(&mut pages, &Key::auto(1), &stored)?);
-    assert!(rt; tables.put_place(&mut pages, &Key::auto(1), &stored)?);
-    assert!(rt; tables.place(&mut pages, &Key::auto(1))? == Some(stored));
-    assert!(rt; tables.place(&mut pages, &key(&rt))?.is_some());
-    Ok(())
-}
-
-#[test]
-fn a_place_that_was_removed_is_gone(rt: HostRuntime) -> Result<(), Fail> {
-    let mut pages = MemoryPages::new(rt.alloc(), 10);
-    let mut tables = tables(&mut pages, &PLACE)?;
-    assert!(rt; !tables.remove_place(&mut pages, &Key::auto(1))?);
-    assert!(rt; tables.remove_place(&mut pages, &key(&rt))?);
-    assert!(rt; tables.place(&mut pages, &key(&rt))?.is_none());
-    Ok(())
-}
-
-#[test]
-fn empty_tables_hold_nothing(rt: HostRuntime) -> Result<(), Fail> {
-    let mut pages = MemoryPages::new(rt.alloc(), 10);
-    let tables = Tables {
-        places: 0,
-        texts: 0,
-        numbers: 0,
-        next_word: 1,
-    };
-    assert!(rt; tables.place(&mut pages, &key(&rt))?.is_none());
-    assert!(rt; tables.next_place(&mut pages, None)?.is_none());
-    assert!(rt; tables.word_of(&mut pages, 1)?.is_none());
-    Ok(())
-}
-
-#[test]
-fn a_row_of_no_place_is_damaged(rt: HostRuntime) -> Result<(), Fail> {
-    let mut pages = MemoryPages::new(rt.alloc(), 10);
-    let mut place = PLACE;
-    place[8] = 65;
-    let tables = tables(&mut pages, &place)?;
-    let damage = Damage {
-        page: tables.places,
-        rule: Rule::Value,
-    };
-    assert!(rt; tables.place(&mut pages, &key(&rt)) == Err(PageFault::Damaged(damage)));
-    assert!(rt; tables.next_place(&mut pages, None) == Err(PageFault::Damaged(damage)));
-    Ok(())
-}
-
-// Words that are held one after another, and their numbers.
-static HELD: [(&str, u64); 4] = [("tea", 1), ("cake", 2), ("tea", 1), ("art", 3)];
-
 static NO_TABLES: Tables = Tables {
     places: 0,
     texts: 0,
@@ -168,68 +72,199 @@ static NO_TABLES: Tables = Tables {
     next_word: 1,
 };
 
+// Whether the word café and its number are found.
+fn finds_word(pages: &mut MemoryPages, cafe: &Word) -> Result<bool, PageFault> {
+    let tables = tables(pages, &PLACE)?;
+    Ok(tables.number_of(pages, cafe)? == Some(7) && tables.word_of(pages, 7)? == Some(*cafe))
+}
+
+// Whether the place is found at its key.
+fn finds_place(pages: &mut MemoryPages, key: &Key) -> Result<bool, PageFault> {
+    let tables = tables(pages, &PLACE)?;
+    let Some(stored) = tables.place(pages, key)? else {
+        return Ok(false);
+    };
+    Ok(Some(stored.point) == Point::new(-1, 2) && stored.count == 1 && stored.pairs[0] == (7, 9))
+}
+
+#[test]
+fn rows_are_found(rt: HostRuntime) -> Result<(), Fail> {
+    let key = Key::of_text("ab")?;
+    let cafe = Word::of_bytes(&CAFE).ok_or("no word")?;
+    let mut pages = MemoryPages::new(rt.alloc(), 10);
+    assert_eq!(rt; finds_word(&mut pages, &cafe), Ok(true));
+    assert_eq!(rt; finds_place(&mut pages, &key), Ok(true));
+    Ok(())
+}
+
+// Whether the place at a key is the first of all and the first behind another key, and none follows it.
+fn follows(pages: &mut MemoryPages, key: &Key, before: &Key) -> Result<bool, PageFault> {
+    let tables = tables(pages, &PLACE)?;
+    let Some(stored) = tables.place(pages, key)? else {
+        return Ok(false);
+    };
+    let entry = Some((*key, stored));
+    Ok(
+        tables.next_place(pages, None)? == entry
+            && tables.next_place(pages, Some(before))? == entry
+            && tables.next_place(pages, Some(key))?.is_none(),
+    )
+}
+
+#[test]
+fn places_follow_one_another(rt: HostRuntime) -> Result<(), Fail> {
+    let key = Key::of_text("ab")?;
+    let before = Key::of_text("aa")?;
+    let mut pages = MemoryPages::new(rt.alloc(), 10);
+    assert_eq!(rt; follows(&mut pages, &key, &before), Ok(true));
+    Ok(())
+}
+
+// Puts the place at one key at another key, twice. Whether it was there the second time alone, and is found.
+fn puts(
+    pages: &mut MemoryPages,
+    tables: &mut Tables,
+    from: &Key,
+    to: &Key,
+) -> Result<bool, PageFault> {
+    let Some(stored) = tables.place(pages, from)? else {
+        return Ok(false);
+    };
+    Ok(
+        !tables.put_place(pages, to, &stored)?
+            && tables.put_place(pages, to, &stored)?
+            && tables.place(pages, to)? == Some(stored),
+    )
+}
+
+// Removes a place twice. Whether it was there the first time alone, and isn't found.
+fn removes(pages: &mut MemoryPages, tables: &mut Tables, key: &Key) -> Result<bool, PageFault> {
+    Ok(
+        tables.remove_place(pages, key)?
+            && !tables.remove_place(pages, key)?
+            && tables.place(pages, key)?.is_none(),
+    )
+}
+
+#[test]
+fn a_place_that_was_put_is_found_until_it_is_removed(rt: HostRuntime) -> Result<(), Fail> {
+    let key = Key::of_text("ab")?;
+    let mut pages = MemoryPages::new(rt.alloc(), 10);
+    let mut tables = tables(&mut pages, &PLACE)?;
+    assert_eq!(rt;
+        puts(&mut pages, &mut tables, &key, &Key::auto(1)),
+        Ok(true)
+    );
+    assert_eq!(rt; removes(&mut pages, &mut tables, &key), Ok(true));
+    assert_eq!(rt; removes(&mut pages, &mut tables, &Key::auto(1)), Ok(true));
+    Ok(())
+}
+
+// Whether empty tables have no place and no word.
+fn finds_nothing(pages: &mut MemoryPages, key: &Key) -> Result<bool, PageFault> {
+    Ok(
+        NO_TABLES.place(pages, key)?.is_none()
+            && NO_TABLES.next_place(pages, None)?.is_none()
+            && NO_TABLES.word_of(pages, 1)?.is_none(),
+    )
+}
+
+#[test]
+fn empty_tables_hold_nothing(rt: HostRuntime) {
+    let mut pages = MemoryPages::new(rt.alloc(), 10);
+    assert_eq!(rt; finds_nothing(&mut pages, &Key::auto(1)), Ok(true));
+}
+
+#[test]
+fn a_row_of_no_place_is_damaged(rt: HostRuntime) -> Result<(), Fail> {
+    let key = Key::of_text("ab")?;
+    let mut place = PLACE;
+    place[8] = 65;
+    let mut pages = MemoryPages::new(rt.alloc(), 10);
+    let tables = tables(&mut pages, &place)?;
+    let damage = Damage {
+        page: tables.places,
+        rule: Rule::Value,
+    };
+    assert!(rt; tables.place(&mut pages, &key) == Err(PageFault::Damaged(damage)));
+    assert!(rt; tables.next_place(&mut pages, None) == Err(PageFault::Damaged(damage)));
+    Ok(())
+}
+
+// The words tea, cake and art.
+const TEA: [u8; 33] = [
+    0x74, 0x65, 0x61, 0, 0, 0, 0, 0, 0, 0, 0, 0, 0, 0, 0, 0, 0, 0, 0, 0, 0, 0, 0, 0, 0, 0, 0, 0, 0,
+    0, 0, 0, 3,
+];
+
+const CAKE: [u8; 33] = [
+    0x63, 0x61, 0x6b, 0x65, 0, 0, 0, 0, 0, 0, 0, 0, 0, 0, 0, 0, 0, 0, 0, 0, 0, 0, 0, 0, 0, 0, 0, 0,
+    0, 0, 0, 0, 4,
+];
+
+const ART: [u8; 33] = [
+    0x61, 0x72, 0x74, 0, 0, 0, 0, 0, 0, 0, 0, 0, 0, 0, 0, 0, 0, 0, 0, 0, 0, 0, 0, 0, 0, 0, 0, 0, 0,
+    0, 0, 0, 3,
+];
+
+// Words that are held one after another, and their numbers.
+static HELD: [([u8; 33], u64); 4] = [(TEA, 1), (CAKE, 2), (TEA, 1), (ART, 3)];
+
 static DISAGREEMENT: PageFault = PageFault::Damaged(Damage {
     page: 0,
     rule: Rule::Words,
 });
 
-// The word of a text.
-fn word(text: &str) -> Option<Word> {
-    let mut form = [0; 33];
-    for (to, from) in form.iter_mut().zip(text.bytes()) {
-        *to = from;
-    }
-    form[32] = u8::try_from(text.len()).ok()?;
-    Word::of_bytes(&form)
-}
-
 // Holds the words, and answers whether each has its number.
 fn hold_all(pages: &mut MemoryPages, tables: &mut Tables) -> Result<bool, PageFault> {
     let mut are_so = true;
-    for (text, number) in HELD {
-        let Some(word) = word(text) else {
+    for (form, number) in &HELD {
+        let Some(word) = Word::of_bytes(form) else {
             return Ok(false);
         };
         if tables.next_word >= 100 {
             return Ok(false);
         }
-        are_so &= tables.hold(pages, &word, 1)? == number;
+        are_so &= tables.hold(pages, &word, 1)? == *number;
     }
     Ok(are_so)
 }
 
-#[test]
-fn a_word_keeps_the_number_that_it_is_given(rt: HostRuntime) -> Result<(), Fail> {
-    let mut pages = MemoryPages::new(rt.alloc(), 10);
-    let mut tables = NO_TABLES;
-    assert!(rt; hold_all(&mut pages, &mut tables)?);
-    assert_eq!(rt; tables.next_word, 4);
-    assert!(rt; tables.word_of(&mut pages, 2)? == word("cake"));
-    Ok(())
+// Releases the word of a number twice, and answers which number the word has after each time.
+fn released(
+    pages: &mut MemoryPages,
+    tables: &mut Tables,
+    word: &Word,
+) -> Result<[Option<u64>; 2], PageFault> {
+    tables.release(pages, 1)?;
+    let once = tables.number_of(pages, word)?;
+    tables.release(pages, 1)?;
+    let twice = tables.number_of(pages, word)?;
+    Ok([once, twice])
 }
 
 #[test]
-fn a_word_goes_with_its_last_place(rt: HostRuntime) -> Result<(), Fail> {
+fn a_word_keeps_its_number_and_goes_with_its_last_place(rt: HostRuntime) -> Result<(), Fail> {
+    let tea = Word::of_bytes(&TEA).ok_or("no word")?;
     let mut pages = MemoryPages::new(rt.alloc(), 10);
     let mut tables = NO_TABLES;
-    let tea = word("tea").ok_or("no word")?;
-    assert!(rt; hold_all(&mut pages, &mut tables)?);
-    tables.release(&mut pages, 1)?;
-    assert_eq!(rt; tables.number_of(&mut pages, &tea)?, Some(1));
-    assert!(rt; tables.word_of(&mut pages, 2)? == word("cake"));
-    tables.release(&mut pages, 1)?;
-    assert_eq!(rt; tables.number_of(&mut pages, &tea)?, None);
-    assert!(rt; tables.word_of(&mut pages, 1)?.is_none());
-    assert!(rt; tables.release(&mut pages, 1) == Err(DISAGREEMENT));
-    assert!(rt; tables.word_of(&mut pages, 3)? == word("art"));
+    assert_eq!(rt; hold_all(&mut pages, &mut tables), Ok(true));
+    assert_eq!(rt;
+        released(&mut pages, &mut tables, &tea),
+        Ok([Some(1), None])
+    );
+    assert_eq!(rt; tables.release(&mut pages, 1), Err(DISAGREEMENT));
+    assert_eq!(rt; tables.word_of(&mut pages, 1), Ok(None));
+    assert_eq!(rt; tables.word_of(&mut pages, 2), Ok(Word::of_bytes(&CAKE)));
+    assert_eq!(rt; tables.word_of(&mut pages, 3), Ok(Word::of_bytes(&ART)));
     assert_eq!(rt; tables.next_word, 4);
     Ok(())
 }
 
 #[test]
 fn tables_of_words_that_disagree_are_damaged(rt: HostRuntime) -> Result<(), Fail> {
-    let mut pages = MemoryPages::new(rt.alloc(), 10);
     let cafe = Word::of_bytes(&CAFE).ok_or("no word")?;
+    let mut pages = MemoryPages::new(rt.alloc(), 10);
     let mut both = Tables {
         next_word: 8,
         ..tables(&mut pages, &PLACE)?
@@ -240,8 +275,8 @@ fn tables_of_words_that_disagree_are_damaged(rt: HostRuntime) -> Result<(), Fail
         next_word: 7,
         ..both
     };
-    assert!(rt; no_number.hold(&mut pages, &cafe, 1) == Err(DISAGREEMENT));
-    assert!(rt; next_is_known.hold(&mut pages, &cafe, 1) == Err(DISAGREEMENT));
-    assert_eq!(rt; both.hold(&mut pages, &cafe, 1)?, 7);
+    assert_eq!(rt; no_number.hold(&mut pages, &cafe, 1), Err(DISAGREEMENT));
+    assert_eq!(rt; next_is_known.hold(&mut pages, &cafe, 1), Err(DISAGREEMENT));
+    assert_eq!(rt; both.hold(&mut pages, &cafe, 1), Ok(7));
     Ok(())
 }

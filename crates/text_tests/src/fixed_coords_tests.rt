@@ -46,25 +46,24 @@ static NUMBERS: [(&str, Result<i64, NumberFault>); 24] = [
     ("1e", Err(NumberFault::NotANumber)),
 ];
 
-static LONGITUDES: [(&str, Result<i32, NumberFault>); 9] = [
-    ("0.00000005", Ok(1)),
-    ("-0.00000005", Ok(-1)),
-    ("1e1", Ok(100_000_000)),
-    ("180.00000004", Ok(1_800_000_000)),
-    ("180.00000005", Err(NumberFault::OutOfRange)),
-    ("-180.00000005", Err(NumberFault::OutOfRange)),
-    (".5", Err(NumberFault::NotANumber)),
-    ("1e99", Err(NumberFault::TooBig)),
+/// Spellings of coordinates, whether each is a latitude, and their values.
+static COORDINATES: [(&str, bool, Result<i32, NumberFault>); 12] = [
+    ("0.00000005", false, Ok(1)),
+    ("-0.00000005", false, Ok(-1)),
+    ("1e1", false, Ok(100_000_000)),
+    ("180.00000004", false, Ok(1_800_000_000)),
+    ("180.00000005", false, Err(NumberFault::OutOfRange)),
+    ("-180.00000005", false, Err(NumberFault::OutOfRange)),
+    (".5", false, Err(NumberFault::NotANumber)),
+    ("1e99", false, Err(NumberFault::TooBig)),
     (
         "00000000000000000000000000000000000000000000000000000000000000000",
+        false,
         Err(NumberFault::TooLong),
     ),
-];
-
-static LATITUDES: [(&str, Result<i32, NumberFault>); 3] = [
-    ("-90", Ok(-900_000_000)),
-    ("90.00000004", Ok(900_000_000)),
-    ("90.00000005", Err(NumberFault::OutOfRange)),
+    ("-90", true, Ok(-900_000_000)),
+    ("90.00000004", true, Ok(900_000_000)),
+    ("90.00000005", true, Err(NumberFault::OutOfRange)),
 ];
 
 static DEGREES: [(i64, &str); 7] = [
@@ -80,26 +79,37 @@ static DEGREES: [(i64, &str); 7] = [
 #[test]
 fn a_number_is_its_value_times_ten_million_to_the_nearest(rt: HostRuntime) {
     for (spelling, value) in &NUMBERS {
-        assert_eq!(rt; read_fixed(spelling), *value, "{spelling}");
+        assert!(rt; read_fixed(spelling) == *value, "{spelling}");
+    }
+    reading_is_one();
+}
+
+/// The value of a latitude or a longitude.
+fn coordinate(spelling: &str, is_latitude: bool) -> Result<i32, NumberFault> {
+    if is_latitude {
+        latitude(spelling)
+    } else {
+        longitude(spelling)
     }
 }
 
 #[test]
 fn a_coordinate_is_held_to_its_range(rt: HostRuntime) {
-    for (spelling, value) in &LONGITUDES {
-        assert_eq!(rt; longitude(spelling), *value, "{spelling}");
+    for (spelling, is_latitude, value) in &COORDINATES {
+        assert!(rt; coordinate(spelling, *is_latitude) == *value, "{spelling}");
     }
-    for (spelling, value) in &LATITUDES {
-        assert_eq!(rt; latitude(spelling), *value, "{spelling}");
-    }
+}
+
+/// Whether a value is written so.
+fn is_written(value: i64, text: &str) -> bool {
+    let mut out = [b'?'; 24];
+    let end = write_fixed(value, &mut out);
+    &out[..end] == text.as_bytes()
 }
 
 #[test]
 fn a_value_is_written_in_degrees(rt: HostRuntime) {
     for (value, text) in &DEGREES {
-        let mut out = [b'?'; 24];
-        let end = write_fixed(*value, &mut out);
-        assert_eq!(rt; &out[..end], text.as_bytes(), "{value}");
+        assert!(rt; is_written(*value, text), "{value}");
     }
-    reading_is_one();
 }

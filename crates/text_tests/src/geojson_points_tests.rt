@@ -6,26 +6,7 @@ use std::test::Fail;
 /// No text of these tests has more bytes.
 const TEXT_MAX: usize = 1000;
 
-/// What a text gives: `KEY X Y TEXT` of each place, `-` for no key, and `skip INDEX REASON` of each skip, all parted by `; `.
-fn told(alloc: Global, text: &[u8], only: Option<&str>) -> Result<String, AllocError> {
-    if text.len() > TEXT_MAX {
-        return String::from_str(alloc, "longer than a test's text");
-    }
-    let mut out = String::new(alloc);
-    match take(alloc, text, only) {
-        Ok(items) => {
-            for (index, item) in items.iter().enumerate() {
-                if index > 0 {
-                    out.push_str("; ")?;
-                }
-                tell(&mut out, item)?;
-            }
-        }
-        Err(fault) => write!(out, "{fault:?}")?,
-    }
-    Ok(out)
-}
-
+/// Appends what an item gives: `KEY X Y TEXT` of a place, `-` for no key, or `skip INDEX REASON`.
 fn tell(out: &mut String, item: &Taken) -> Result<(), AllocError> {
     match item {
         Taken::Place(draft) => {
@@ -39,6 +20,30 @@ fn tell(out: &mut String, item: &Taken) -> Result<(), AllocError> {
         }
         Taken::Skipped(index, reason) => write!(out, "skip {index} {reason:?}"),
     }
+}
+
+/// What a text gives: that of each item, parted by `; `.
+fn told(alloc: Global, items: &[Taken]) -> Result<String, AllocError> {
+    let mut out = String::new(alloc);
+    for item in items {
+        if !out.is_empty() {
+            out.push_str("; ")?;
+        }
+        tell(&mut out, item)?;
+    }
+    Ok(out)
+}
+
+/// Whether a text gives this, or is refused so.
+fn gives(alloc: Global, text: &[u8], only: Option<&str>, wanted: &str) -> Result<bool, AllocError> {
+    if text.len() > TEXT_MAX {
+        return Ok(false);
+    }
+    let told = match take(alloc, text, only) {
+        Ok(items) => told(alloc, items.as_slice())?,
+        Err(fault) => format!(in alloc; "{fault:?}")?,
+    };
+    Ok(told.as_str() == wanted)
 }
 
 /// Whole texts, and what they give.
@@ -82,11 +87,22 @@ static TEXTS: [(&[u8], &str); 17] = [
 
 #[test]
 fn a_text_gives_its_places_and_skips(rt: HostRuntime) -> Result<(), Fail> {
-    for (text, wanted) in TEXTS.iter() {
-        let found = told(rt.alloc(), text, None)?;
-        assert_eq!(rt; found.as_str(), *wanted);
+    for (text, wanted) in &TEXTS {
+        assert!(rt; gives(rt.alloc(), text, None, wanted)?, "{wanted}");
     }
     Ok(())
+}
+
+/// Whether a text with a part between these gives this.
+fn gives_between(
+    alloc: Global,
+    front: &str,
+    part: &str,
+    back: &str,
+    wanted: &str,
+) -> Result<bool, AllocError> {
+    let text = format!(in alloc; "{front}{part}{back}")?;
+    gives(alloc, text.as_bytes(), None, wanted)
 }
 
 /// Items, and what they give. Where two reasons stand, the first is given.
@@ -134,12 +150,12 @@ static ITEMS: [(&str, &str); 12] = [
 
 #[test]
 fn an_item_gives_a_place_or_the_first_reason(rt: HostRuntime) -> Result<(), Fail> {
-    for (item, wanted) in ITEMS.iter() {
-        let text = format!(in rt.alloc();
-            "{{\"type\":\"FeatureCollection\",\"features\":[{item}]}}"
-        )?;
-        let found = told(rt.alloc(), text.as_bytes(), None)?;
-        assert_eq!(rt; found.as_str(), *wanted);
+    let front = "{\"type\":\"FeatureCollection\",\"features\":[";
+    for (item, wanted) in &ITEMS {
+        assert!(rt;
+            gives_between(rt.alloc(), front, item, "]}", wanted)?,
+            "{item}"
+        );
     }
     Ok(())
 }
@@ -179,12 +195,12 @@ static COORDINATES: [(&str, &str); 20] = [
 
 #[test]
 fn a_position_is_two_numbers_within_range(rt: HostRuntime) -> Result<(), Fail> {
-    for (coordinates, wanted) in COORDINATES.iter() {
-        let text = format!(in rt.alloc();
-            "{{\"type\":\"Feature\",\"geometry\":{{\"type\":\"Point\",\"coordinates\":{coordinates}}}}}"
-        )?;
-        let found = told(rt.alloc(), text.as_bytes(), None)?;
-        assert_eq!(rt; found.as_str(), *wanted);
+    let front = "{\"type\":\"Feature\",\"geometry\":{\"type\":\"Point\",\"coordinates\":";
+    for (coordinates, wanted) in &COORDINATES {
+        assert!(rt;
+            gives_between(rt.alloc(), front, coordinates, "}}", wanted)?,
+            "{coordinates}"
+        );
     }
     Ok(())
 }
@@ -212,12 +228,10 @@ static IDS: [(&str, &str); 11] = [
 
 #[test]
 fn an_id_is_a_key_as_it_is_spelled(rt: HostRuntime) -> Result<(), Fail> {
-    for (id, wanted) in IDS.iter() {
-        let text = format!(in rt.alloc();
-            "{{\"type\":\"Feature\",\"id\":{id},\"geometry\":{{\"type\":\"Point\",\"coordinates\":[0,0]}}}}"
-        )?;
-        let found = told(rt.alloc(), text.as_bytes(), None)?;
-        assert_eq!(rt; found.as_str(), *wanted);
+    let front =
+        "{\"type\":\"Feature\",\"geometry\":{\"type\":\"Point\",\"coordinates\":[0,0]},\"id\":";
+    for (id, wanted) in &IDS {
+        assert!(rt; gives_between(rt.alloc(), front, id, "}", wanted)?, "{id}");
     }
     Ok(())
 }
@@ -252,14 +266,27 @@ static PROPERTIES: [(&str, Option<&str>, &str); 18] = [
     ),
 ];
 
+/// Whether a Feature at 0, 0 with these properties has this text.
+fn has_text(
+    alloc: Global,
+    properties: &str,
+    only: Option<&str>,
+    wanted: &str,
+) -> Result<bool, AllocError> {
+    let text = format!(in alloc;
+        "{{\"type\":\"Feature\",\"geometry\":{{\"type\":\"Point\",\"coordinates\":[0,0]}},\"properties\":{properties}}}"
+    )?;
+    let wanted = format!(in alloc; "- 0 0 {wanted}")?;
+    gives(alloc, text.as_bytes(), only, wanted.as_str())
+}
+
 #[test]
 fn a_text_is_the_strings_among_the_properties(rt: HostRuntime) -> Result<(), Fail> {
-    for (properties, only, wanted) in PROPERTIES.iter() {
-        let text = format!(in rt.alloc();
-            "{{\"type\":\"Feature\",\"geometry\":{{\"type\":\"Point\",\"coordinates\":[0,0]}},\"properties\":{properties}}}"
-        )?;
-        let found = told(rt.alloc(), text.as_bytes(), *only)?;
-        assert_eq!(rt; found.strip_prefix("- 0 0 "), Some(*wanted));
+    for (properties, only, wanted) in &PROPERTIES {
+        assert!(rt;
+            has_text(rt.alloc(), properties, *only, wanted)?,
+            "{properties}"
+        );
     }
     Ok(())
 }

@@ -1,4 +1,5 @@
 use json_spelled::{JsonFault, read_tree};
+use std::alloc::{AllocError, Global};
 use std::test::Fail;
 
 /// Texts, and how their values print. The first two are of RFC 8259, section 13.
@@ -45,7 +46,7 @@ static VALUES: [(&str, &str); 24] = [
 ];
 
 /// Bytes, and the refusal of them.
-static REFUSALS: [(&[u8], JsonFault); 57] = [
+static REFUSALS: [(&[u8], JsonFault); 58] = [
     (b"", JsonFault::Syntax(0)),
     (b" ", JsonFault::Syntax(1)),
     (b"{\"type\":\"Fea", JsonFault::Syntax(12)),
@@ -103,6 +104,10 @@ static REFUSALS: [(&[u8], JsonFault); 57] = [
     (b"[1]//", JsonFault::Syntax(3)),
     (b"NaN", JsonFault::Syntax(0)),
     (b"-Infinity", JsonFault::Syntax(1)),
+    (
+        b"[[[[[[[[[[[[[[[[[[[[[[[[[[[[[[[[[[[[[[[[[[[[[[[[[[[[[[[[[[[[[[[[[",
+        JsonFault::TooDeep(64),
+    ),
 ];
 
 /// A text that has every construct. A character of two bytes begins at its offset 58.
@@ -122,48 +127,30 @@ static FLIPPED: &str = concat!(
     "00000100000000001111000000000000000000000000000000000000000000000000000000000000",
 );
 
-/// So many brackets that open arrays and objects in turn, and then nothing.
-fn opened(rt: &HostRuntime, levels: usize) -> Result<Vec<u8>, Fail> {
-    let mut text = Vec::new(rt.alloc());
-    for level in 0..levels {
-        if level % 2 == 0 {
-            text.push(b'[')?;
-        } else {
-            text.extend_from_slice(b"{\"a\":")?;
-        }
-    }
-    Ok(text)
-}
-
-/// The same with the brackets that close them.
-fn nested(rt: &HostRuntime, levels: usize) -> Result<Vec<u8>, Fail> {
-    let mut text = opened(rt, levels)?;
-    text.push(b'1')?;
-    for level in 0..levels {
-        let is_list = (levels - level) % 2 == 1;
-        text.push(if is_list { b']' } else { b'}' })?;
-    }
-    Ok(text)
+/// How the value of a text prints.
+fn shown(alloc: Global, text: &str) -> Result<String, Fail> {
+    let tree = read_tree(alloc, text.as_bytes())?;
+    Ok(format!(in alloc; "{tree:?}")?)
 }
 
 #[test]
 fn texts_have_their_values(rt: HostRuntime) -> Result<(), Fail> {
-    for (text, value) in VALUES.iter() {
-        let tree = read_tree(rt.alloc(), text.as_bytes())?;
-        let shown = format!(in rt.alloc(); "{tree:?}")?;
+    for (text, value) in &VALUES {
+        let shown = shown(rt.alloc(), text)?;
         assert_eq!(rt; shown.as_str(), *value);
     }
     Ok(())
 }
 
+/// Why bytes are refused, if they are.
+fn refusal(alloc: Global, bytes: &[u8]) -> Option<JsonFault> {
+    read_tree(alloc, bytes).err()
+}
+
 #[test]
 fn refusals_name_the_first_offence(rt: HostRuntime) {
-    for (bytes, fault) in REFUSALS.iter() {
-        assert_eq!(rt;
-            read_tree(rt.alloc(), bytes).err(),
-            Some(*fault),
-            "{bytes:?}"
-        );
+    for (bytes, fault) in &REFUSALS {
+        assert!(rt; refusal(rt.alloc(), bytes) == Some(*fault), "{bytes:?}");
     }
 }
 
@@ -176,40 +163,49 @@ fn each_truncation_ends_too_early(rt: HostRuntime) {
         } else {
             JsonFault::Syntax(end as u64)
         };
-        assert_eq!(rt; read_tree(rt.alloc(), &text[..end]).err(), Some(fault));
+        assert!(rt; refusal(rt.alloc(), &text[..end]) == Some(fault), "{end}");
     }
+}
+
+/// Whether that text is read with some bits of a byte turned over.
+fn is_read_with(alloc: Global, at: usize, bits: u8) -> Result<bool, AllocError> {
+    let mut bytes = TEXT.as_bytes().to_vec(alloc)?;
+    if let Some(byte) = bytes.get_mut(at) {
+        *byte ^= bits;
+    }
+    Ok(read_tree(alloc, &bytes).is_ok())
 }
 
 #[test]
 fn each_bit_turned_over_is_judged_as_elsewhere(rt: HostRuntime) -> Result<(), Fail> {
-    let text = TEXT.as_bytes();
-    let flipped = FLIPPED.as_bytes();
-    for (at, byte) in text.iter().enumerate() {
-        for bit in 0..8 {
-            let mut bytes = text.to_vec(rt.alloc())?;
-            bytes[at] = *byte ^ (1 << bit);
-            let is_read = read_tree(rt.alloc(), &bytes).is_ok();
-            assert_eq!(rt;
-                flipped.get(8 * at + bit),
-                Some(&if is_read { b'1' } else { b'0' })
-            );
-        }
+    assert_eq!(rt; FLIPPED.len(), 8 * TEXT.len());
+    for (n, judged) in FLIPPED.as_bytes().iter().enumerate() {
+        let is_read = is_read_with(rt.alloc(), n / 8, 1 << (n % 8))?;
+        assert_eq!(rt; is_read, *judged == b'1', "bit {n}");
     }
     Ok(())
 }
 
+/// Why a text in 64 levels of arrays and objects in turn is refused, if it is.
+fn refusal_within(alloc: Global, text: &str) -> Result<Option<JsonFault>, AllocError> {
+    let mut nested = String::new(alloc);
+    for _ in 0..32 {
+        nested.push_str("[{\"a\":")?;
+    }
+    nested.push_str(text)?;
+    for _ in 0..32 {
+        nested.push_str("}]")?;
+    }
+    Ok(refusal(alloc, nested.as_bytes()))
+}
+
 #[test]
 fn sixty_four_levels_are_read_and_no_more(rt: HostRuntime) -> Result<(), Fail> {
-    assert!(rt; read_tree(rt.alloc(), &nested(&rt, 64)?).is_ok());
-    let at = opened(&rt, 64)?.len() as u64;
+    assert_eq!(rt; refusal_within(rt.alloc(), "1")?, None);
+    // 32 times the six bytes of two brackets and a name stand before it.
     assert_eq!(rt;
-        read_tree(rt.alloc(), &nested(&rt, 65)?).err(),
-        Some(JsonFault::TooDeep(at))
-    );
-    let lists = vec![in rt.alloc(); b'['; 65]?;
-    assert_eq!(rt;
-        read_tree(rt.alloc(), &lists).err(),
-        Some(JsonFault::TooDeep(64))
+        refusal_within(rt.alloc(), "[1]")?,
+        Some(JsonFault::TooDeep(192))
     );
     Ok(())
 }

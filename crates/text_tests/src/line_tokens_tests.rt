@@ -1,5 +1,5 @@
 use line_tokens::{Quoted, Token, next_token};
-use std::alloc::AllocError;
+use std::alloc::{AllocError, Global};
 use std::fmt::Write;
 use std::test::Fail;
 
@@ -43,19 +43,25 @@ fn tell(out: &mut String, token: &Token) -> Result<(), AllocError> {
     Ok(())
 }
 
+/// The tokens of a line.
+fn told(alloc: Global, line: &str) -> Result<String, Fail> {
+    let mut told = String::new(alloc);
+    let mut text = line;
+    // A token has a byte at least, so one step more finds the end of each line.
+    for _ in 0..=line.len() {
+        let Some((token, rest)) = next_token(alloc, text)? else {
+            break;
+        };
+        tell(&mut told, &token)?;
+        text = rest;
+    }
+    Ok(told)
+}
+
 #[test]
 fn lines_have_their_tokens(rt: HostRuntime) -> Result<(), Fail> {
-    for (line, wanted) in LINES.iter() {
-        let mut told = String::new(rt.alloc());
-        let mut text: &str = line;
-        // A token has a byte at least, so one step more finds the end of each line.
-        for _ in 0..=line.len() {
-            let Some((token, rest)) = next_token(rt.alloc(), text)? else {
-                break;
-            };
-            tell(&mut told, &token)?;
-            text = rest;
-        }
+    for (line, wanted) in &LINES {
+        let told = told(rt.alloc(), line)?;
         assert_eq!(rt; told.as_str(), *wanted);
     }
     Ok(())

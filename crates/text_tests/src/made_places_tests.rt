@@ -1,6 +1,7 @@
 //! The first places of some seeds, worked out by another program from the generator's definition.
-use made_places::Maker;
-use spatial_base::{Key, Point};
+use made_places::{Made, Maker};
+use spatial_base::{Memory, Point};
+use std::alloc::Global;
 use std::test::Fail;
 
 // A place: its seed, its number, its point in units of 10^-7 degrees, its key, its text and the number of its word of kind a.
@@ -98,19 +99,28 @@ static EXPECTED: [Expected; 9] = [
     },
 ];
 
+// The place of a seed that has a number.
+fn made(alloc: Global, seed: u64, number: u32) -> Result<Made, Memory> {
+    let mut maker = Maker::new(seed);
+    for _ in 0..number {
+        maker.make(alloc)?;
+    }
+    maker.make(alloc)
+}
+
+// Whether a place is this one.
+fn is_so(made: &Made, expected: &Expected) -> bool {
+    made.key.text() == Some(expected.key)
+        && Some(made.point) == Point::new(expected.x, expected.y)
+        && made.text.as_str() == expected.text
+        && made.first == expected.first
+}
+
 #[test]
 fn a_seed_makes_these_places(rt: HostRuntime) -> Result<(), Fail> {
     for expected in &EXPECTED {
-        let mut maker = Maker::new(expected.seed);
-        for _ in 0..expected.number {
-            maker.make(rt.alloc())?;
-        }
-        let made = maker.make(rt.alloc())?;
-        let key = Key::of_text(expected.key).map_err(|_| "no key")?;
-        assert!(rt; made.key == key);
-        assert_eq!(rt; Some(made.point), Point::new(expected.x, expected.y));
-        assert_eq!(rt; made.text.as_str(), expected.text);
-        assert_eq!(rt; made.first, expected.first);
+        let made = made(rt.alloc(), expected.seed, expected.number)?;
+        assert!(rt; is_so(&made, expected), "{}", expected.text);
     }
     Ok(())
 }

@@ -1,7 +1,10 @@
 //! Queries asked of small states, with answers worked out by hand.
-use place_map::{Answer, Applied, Expr, Hits, Query, State, Terms, Update, Weights};
+ghost use Rattle.std.specs.Prelude.{IfOk};
+ghost use Rattle.place_map.specs.Update.{NamesText};
+
+use place_map::{Answer, Applied, Chosen, Expr, Hit, Query, State, Terms, Update, Weights};
 use spatial_base::{Key, Point, Rect};
-use std::alloc::Global;
+use std::alloc::{AllocError, Global};
 use std::fmt::Write;
 use std::test::Fail;
 use term_impacts::{Word, Words, impacts, one_word};
@@ -9,25 +12,23 @@ use term_impacts::{Word, Words, impacts, one_word};
 // A place: its key, its longitude and latitude in degrees times 10^7, and its text.
 type Row = (&'static str, i32, i32, &'static str);
 
-// Adds a place.
-fn add(alloc: Global, state: &mut State, row: &Row) -> Result<(), Fail> {
+// The update that puts a place.
+fn put(alloc: Global, row: &Row) -> Result<Update, Fail>
+    ensures { IfOk result NamesText }
+{
     let (key, x, y, text) = row;
-    let key = Key::of_text(key).map_err(|_| "no key")?;
-    let point = Point::new(*x, *y).ok_or("off the map")?;
-    let words = impacts(alloc, text)?;
-    state.apply(Update::Put {
-        key: Some(key),
-        point,
-        words,
-    })?;
-    Ok(())
+    Ok(Update::Put {
+        key: Some(Key::of_text(key)?),
+        point: Point::new(*x, *y).ok_or("off the map")?,
+        words: impacts(alloc, text)?,
+    })
 }
 
 // The state with these places.
 fn state_of(alloc: Global, rows: &[Row]) -> Result<State, Fail> {
     let mut state = State::new(alloc);
     for row in rows {
-        add(alloc, &mut state, row)?;
+        state.apply(put(alloc, row)?)?;
     }
     Ok(state)
 }
@@ -37,30 +38,49 @@ fn word(alloc: Global, text: &str) -> Result<Word, Fail> {
     Ok(one_word(alloc, text)?.ok_or("no word")?)
 }
 
-// The answer to a query, as a text: of hits the key, cost, distance and relevance of each; of a choice its cost, and the word, key
-// and distance of each pick.
-fn told(alloc: Global, state: &State, query: &Query) -> Result<String, Fail> {
-    if !query.is_within_limits() {
-        return Ok(String::from_str(alloc, "beyond the limits")?);
+// Hits as a text: the key, cost, distance and relevance of each.
+fn tell_hits(out: &mut String, hits: &[Hit]) -> Result<(), AllocError> {
+    for hit in hits {
+        let key = hit.key.text().unwrap_or("");
+        write!(out, "{key} {} {} {}, ", hit.cost, hit.dist, hit.text)?;
     }
+    Ok(())
+}
+
+// A choice as a text: its cost, and the word, key and distance of each pick.
+fn tell_choice(out: &mut String, chosen: &Chosen) -> Result<(), AllocError> {
+    write!(out, "{}: ", chosen.cost)?;
+    for pick in chosen.picks.as_slice() {
+        let key = pick.key.text().unwrap_or("");
+        write!(out, "{} {key} {}, ", pick.word.text(), pick.dist)?;
+    }
+    Ok(())
+}
+
+// An answer as a text.
+fn told(alloc: Global, answer: &Answer) -> Result<String, AllocError> {
     let mut out = String::new(alloc);
-    match state.answer(query)? {
-        Answer::Hits(hits) => {
-            for hit in hits.as_slice() {
-                let key = hit.key.text().unwrap_or("");
-                write!(out, "{key} {} {} {}, ", hit.cost, hit.dist, hit.text)?;
-            }
-        }
-        Answer::Group(Some(chosen)) => {
-            write!(out, "{}: ", chosen.cost)?;
-            for pick in chosen.picks.as_slice() {
-                let key = pick.key.text().unwrap_or("");
-                write!(out, "{} {key} {}, ", pick.word.text(), pick.dist)?;
-            }
-        }
+    match answer {
+        Answer::Hits(hits) => tell_hits(&mut out, hits.as_slice())?,
+        Answer::Group(Some(chosen)) => tell_choice(&mut out, chosen)?,
         Answer::Group(None) => out.push_str("none")?,
     }
     Ok(out)
+}
+
+// The answer to a query as a text.
+fn answered(alloc: Global, state: &State, query: &Query) -> Result<String, Fail> {
+    if !query.is_within_limits() {
+        return Ok(String::from_str(alloc, "beyond the limits")?);
+    }
+    let answer = state.answer(query)?;
+    Ok(told(alloc, &answer)?)
+}
+
+// Whether a query over these places has this answer.
+fn is_answered(alloc: Global, rows: &[Row], query: Query, wanted: &str) -> Result<bool, Fail> {
+    let state = state_of(alloc, rows)?;
+    Ok(answered(alloc, &state, &query)?.as_str() == wanted)
 }
 
 // Places, the words of a group query at 0 0, and what it is answered.
@@ -101,23 +121,63 @@ static GROUPS: [(&[Row], &[&str], &str); 5] = [
     ),
 ];
 
+// A group query at 0 0.
+fn group(alloc: Global, texts: &[&str]) -> Result<Query, Fail> {
+    let mut words = Vec::new(alloc);
+    for text in texts {
+        words.push(word(alloc, text)?)?;
+    }
+    Ok(Query::Group {
+        at: Point::new(0, 0).ok_or("off the map")?,
+        words: Terms::from_vec(words),
+    })
+}
+
 #[test]
 fn a_group_is_the_cheapest_choice(rt: HostRuntime) -> Result<(), Fail> {
-    for (rows, texts, wanted) in &GROUPS {
-        let state = state_of(rt.alloc(), rows)?;
-        let mut words = Vec::new(rt.alloc());
-        for text in *texts {
-            words.push(word(rt.alloc(), text)?)?;
-        }
-        let query = Query::Group {
-            at: Point::new(0, 0).ok_or("off the map")?,
-            words: Terms::from_vec(words),
-        };
-        let told = told(rt.alloc(), &state, &query)?;
-        assert_eq!(rt; told.as_str(), *wanted);
+    let alloc = rt.alloc();
+    for &(rows, texts, wanted) in &GROUPS {
+        let query = group(alloc, texts)?;
+        assert!(rt; is_answered(alloc, rows, query, wanted)?, "{wanted}");
     }
     Ok(())
 }
+
+// Places, how many are asked for by a top query at 0 0, its word and weight, and what it is answered.
+static TOPS: [(&[Row], u16, &str, u8, &str); 4] = [
+    (
+        &[
+            ("p", 0, 5_000_000, "cafe"),
+            ("q", 0, 0, "cafe bar"),
+            ("r", 0, 0, "bar"),
+        ],
+        2,
+        "cafe",
+        1,
+        "q 635000000000 0 128, p 637500000000 5000000 255, ",
+    ),
+    (
+        &[("p", 0, 5_000_000, "cafe"), ("q", 0, 0, "cafe bar")],
+        1,
+        "cafe",
+        2,
+        "q 1270000000000 0 256, ",
+    ),
+    // All cost the same, and the first keys win.
+    (
+        &[
+            ("k3", 10_000_000, 10_000_000, "x"),
+            ("k0", 10_000_000, 10_000_000, "x"),
+            ("k2", 10_000_000, 10_000_000, "x"),
+            ("k1", 10_000_000, 10_000_000, "x"),
+        ],
+        2,
+        "x",
+        1,
+        "k0 1803122212500 14142135 255, k1 1803122212500 14142135 255, ",
+    ),
+    (&[], 1, "cafe", 21, "beyond the limits"),
+];
 
 // A top query at 0 0 for one word.
 fn top(alloc: Global, k: u16, text: &str, weight: u8) -> Result<Query, Fail> {
@@ -132,44 +192,13 @@ fn top(alloc: Global, k: u16, text: &str, weight: u8) -> Result<Query, Fail> {
     })
 }
 
-static CAFES: [Row; 3] = [
-    ("p", 0, 5_000_000, "cafe"),
-    ("q", 0, 0, "cafe bar"),
-    ("r", 0, 0, "bar"),
-];
-
 #[test]
 fn top_weighs_distance_against_words(rt: HostRuntime) -> Result<(), Fail> {
-    let state = state_of(rt.alloc(), &CAFES)?;
-    let told_once = told(rt.alloc(), &state, &top(rt.alloc(), 2, "cafe", 1)?)?;
-    assert_eq!(rt;
-        told_once.as_str(),
-        "q 635000000000 0 128, p 637500000000 5000000 255, "
-    );
-    let told_twice = told(rt.alloc(), &state, &top(rt.alloc(), 1, "cafe", 2)?)?;
-    assert_eq!(rt; told_twice.as_str(), "q 1270000000000 0 256, ");
-    let heavy = told(rt.alloc(), &state, &top(rt.alloc(), 1, "cafe", 21)?)?;
-    assert_eq!(rt; heavy.as_str(), "beyond the limits");
-    Ok(())
-}
-
-#[test]
-fn the_first_keys_win_a_tie(rt: HostRuntime) -> Result<(), Fail> {
-    let mut state = State::new(rt.alloc());
-    for n in 0..40 {
-        let mut name = String::new(rt.alloc());
-        write!(name, "k{n:02}")?;
-        state.apply(Update::Put {
-            key: Some(Key::of_text(name.as_str()).map_err(|_| "no key")?),
-            point: Point::new(10_000_000, 10_000_000).ok_or("off the map")?,
-            words: impacts(rt.alloc(), "x")?,
-        })?;
+    let alloc = rt.alloc();
+    for &(rows, k, text, weight, wanted) in &TOPS {
+        let query = top(alloc, k, text, weight)?;
+        assert!(rt; is_answered(alloc, rows, query, wanted)?, "{wanted}");
     }
-    let told = told(rt.alloc(), &state, &top(rt.alloc(), 5, "x", 1)?)?;
-    assert_eq!(rt;
-        told.as_str(),
-        "k00 1803122212500 14142135 255, k01 1803122212500 14142135 255, k02 1803122212500 14142135 255, k03 1803122212500 14142135 255, k04 1803122212500 14142135 255, "
-    );
     Ok(())
 }
 
@@ -191,61 +220,84 @@ static LADDER: [Row; 3] = [
     ("w", 0, 20_000_000, "a and"),
 ];
 
-#[test]
-fn places_pass_a_filter_in_a_range_a_box_or_nearby(rt: HostRuntime) -> Result<(), Fail> {
-    let alloc = rt.alloc();
-    let state = state_of(alloc, &LADDER)?;
+#[derive(Clone, Copy)]
+enum Asked {
+    // The places at most two degrees from 0 0 that have `a` and neither `b` nor `c`.
+    Range,
+    // The places within a degree of longitude and latitude of 0 0.
+    Inside,
+    // So many places nearest to 0 0 that don't have `and`.
+    Nearest(u16),
+}
+
+// What is asked of the ladder, and what it is answered.
+static CLIMBED: [(Asked, &str); 4] = [
+    (Asked::Range, "u 0 0 0, w 20000000 20000000 0, "),
+    (Asked::Inside, "u 0 0 0, v 0 0 0, "),
+    (Asked::Nearest(1), "u 0 0 0, "),
+    (Asked::Nearest(0), "beyond the limits"),
+];
+
+fn query_of(alloc: Global, asked: Asked) -> Result<Query, Fail> {
     let at = Point::new(0, 0).ok_or("off the map")?;
-    let rect = Rect::new(-10_000_000, -10_000_000, 10_000_000, 10_000_000).ok_or("no rectangle")?;
-    let filter = Some(a_alone(alloc)?);
-    let radius = 20_000_000;
-    let in_range = told(alloc, &state, &Query::Range { at, radius, filter })?;
-    assert_eq!(rt; in_range.as_str(), "u 0 0 0, w 20000000 20000000 0, ");
-    let in_box = told(alloc, &state, &Query::Inside { rect, filter: None })?;
-    assert_eq!(rt; in_box.as_str(), "u 0 0 0, v 0 0 0, ");
-    let filter = Some(Expr::Not(has(alloc, "and")?));
-    let near = told(alloc, &state, &Query::Nearest { at, k: 1, filter })?;
-    assert_eq!(rt; near.as_str(), "u 0 0 0, ");
-    let none = told(
-        alloc,
-        &state,
-        &Query::Nearest {
+    Ok(match asked {
+        Asked::Range => Query::Range {
             at,
-            k: 0,
+            radius: 20_000_000,
+            filter: Some(a_alone(alloc)?),
+        },
+        Asked::Inside => Query::Inside {
+            rect: Rect::new(-10_000_000, -10_000_000, 10_000_000, 10_000_000).ok_or(
+                "no rectangle",
+            )?,
             filter: None,
         },
-    )?;
-    assert_eq!(rt; none.as_str(), "beyond the limits");
+        Asked::Nearest(k) => Query::Nearest {
+            at,
+            k,
+            filter: Some(Expr::Not(has(alloc, "and")?)),
+        },
+    })
+}
+
+#[test]
+fn places_pass_a_filter_in_a_range_a_box_or_nearby(rt: HostRuntime) -> Result<(), Fail> {
+    for &(asked, wanted) in &CLIMBED {
+        let query = query_of(rt.alloc(), asked)?;
+        assert!(rt;
+            is_answered(rt.alloc(), &LADDER, query, wanted)?,
+            "{wanted}"
+        );
+    }
     Ok(())
 }
 
-// The longitude of a place and the impact of a word there.
-fn shown(state: &State, key: &Key, word: &Word) -> Option<(i32, u8)> {
-    match state.show(key) {
-        Some((point, words)) => Some((point.x(), words.impact(word))),
+static TWICE: [Row; 2] = [("a", 0, 0, "x"), ("a", 10_000_000, 10_000_000, "y")];
+
+// The longitude of the place `a`, and the impacts of two words there.
+fn shown(state: &State, x: &Word, y: &Word) -> Option<(i32, u8, u8)> {
+    let key = Key::of_text("a").ok()?;
+    match state.show(&key) {
+        Some((point, words)) => Some((point.x(), words.impact(x), words.impact(y))),
         None => None,
     }
 }
 
+// What it does to take the place `a` out.
+fn remove(state: &mut State) -> Option<Applied> {
+    let key = Key::of_text("a").ok()?;
+    state.apply(Update::Remove { key }).ok()
+}
+
 #[test]
 fn a_place_is_shown_replaced_and_removed(rt: HostRuntime) -> Result<(), Fail> {
-    let alloc = rt.alloc();
-    let mut state = state_of(
-        alloc,
-        &[("a", 0, 0, "x"), ("a", 10_000_000, 10_000_000, "y")],
-    )?;
-    let key = Key::of_text("a").map_err(|_| "no key")?;
-    let y = word(alloc, "y")?;
-    assert_eq!(rt; shown(&state, &key, &y), Some((10_000_000, 255)));
-    let filter = Some(Expr::Has(word(alloc, "x")?));
-    let at = Point::new(0, 0).ok_or("off the map")?;
-    let radius = 1_800_000_000;
-    let told = told(alloc, &state, &Query::Range { at, radius, filter })?;
-    assert_eq!(rt; told.as_str(), "");
-    assert_eq!(rt; (state.count(), state.number()), (1, 2));
-    assert!(rt; state.apply(Update::Remove { key })? == Applied::Gone);
-    assert!(rt; state.apply(Update::Remove { key })? == Applied::Absent);
-    assert_eq!(rt; shown(&state, &key, &y), None);
+    let (x, y) = (word(rt.alloc(), "x")?, word(rt.alloc(), "y")?);
+    let mut state = state_of(rt.alloc(), &TWICE)?;
+    assert!(rt; shown(&state, &x, &y) == Some((10_000_000, 0, 255)));
+    assert!(rt; state.count() == 1 && state.number() == 2);
+    assert!(rt; remove(&mut state) == Some(Applied::Gone));
+    assert!(rt; remove(&mut state) == Some(Applied::Absent));
+    assert!(rt; shown(&state, &x, &y).is_none());
     Ok(())
 }
 
@@ -271,35 +323,35 @@ static RESTORED: [(&[Given], u64, u64, Option<u32>); 10] = [
     (&[], 1, (1 << 40) + 1, None),
 ];
 
-// Places of these keys.
-fn rows_of(alloc: Global, given: &[Given]) -> Result<Vec<(Key, Point, Words)>, Fail> {
+// A place of a key.
+fn row_of(alloc: Global, given: &Given) -> Result<(Key, Point, Words), Fail> {
+    let key = match given {
+        Ok(text) => Key::of_text(text)?,
+        Err(serial) => Key::auto(*serial),
+    };
+    let at = Point::new(5, 7).ok_or("off the map")?;
+    Ok((key, at, impacts(alloc, "x")?))
+}
+
+// How many places a state has that is restored from places of these keys, where they are those of a state.
+fn restored(alloc: Global, given: &[Given], serial: u64, number: u64) -> Result<Option<u32>, Fail> {
     let mut rows = Vec::new(alloc);
     for one in given {
-        let key = match one {
-            Ok(text) => Key::of_text(text).map_err(|_| "no key")?,
-            Err(serial) => Key::auto(*serial),
-        };
-        let at = Point::new(5, 7).ok_or("off the map")?;
-        rows.push((key, at, impacts(alloc, "x")?))?;
+        rows.push(row_of(alloc, one)?)?;
     }
-    Ok(rows)
+    if rows.len() > 5 {
+        return Err(Fail::new("more than five places"));
+    }
+    Ok(match State::with_places(alloc, serial, number, rows)? {
+        Some(state) => Some(state.count()),
+        None => None,
+    })
 }
 
 #[test]
 fn only_what_a_state_can_hold_is_restored(rt: HostRuntime) -> Result<(), Fail> {
     for (given, serial, number, count) in &RESTORED {
-        let rows = rows_of(rt.alloc(), *given)?;
-        assert!(rt; rows.len() <= 5);
-        let made = State::with_places(rt.alloc(), *serial, *number, rows)?;
-        let seen = match &made {
-            Some(state) => Some((state.count(), state.number())),
-            None => None,
-        };
-        let wanted = match count {
-            Some(count) => Some((*count, *number)),
-            None => None,
-        };
-        assert_eq!(rt; seen, wanted);
+        assert_eq!(rt; restored(rt.alloc(), given, *serial, *number)?, *count);
     }
     Ok(())
 }

@@ -1,3 +1,4 @@
+use spatial_base::Memory;
 use std::alloc::{AllocError, Global};
 use std::fmt::Write;
 use std::test::Fail;
@@ -7,7 +8,8 @@ use term_impacts::{Word, Words, impacts, one_word};
 fn told(alloc: Global, words: &Words) -> Result<String, AllocError> {
     let mut out = String::new(alloc);
     for (word, impact) in words.pairs() {
-        write!(out, "{} {impact} ", word.text())?;
+        let word = word.text();
+        write!(out, "{word} {impact} ")?;
     }
     Ok(out)
 }
@@ -30,12 +32,16 @@ static WEIGHED: [(&str, &str); 9] = [
     ),
 ];
 
+/// Whether the words of a text have these impacts.
+fn weighs_so(alloc: Global, text: &str, wanted: &str) -> Result<bool, Fail> {
+    let words = impacts(alloc, text)?;
+    Ok(told(alloc, &words)?.as_str() == wanted)
+}
+
 #[test]
 fn impacts_are_shares_of_the_counted_words(rt: HostRuntime) -> Result<(), Fail> {
-    for (text, wanted) in WEIGHED.iter() {
-        let words = impacts(rt.alloc(), text)?;
-        let told = told(rt.alloc(), &words)?;
-        assert_eq!(rt; told.as_str(), *wanted);
+    for (text, wanted) in &WEIGHED {
+        assert!(rt; weighs_so(rt.alloc(), text, wanted)?, "{text}");
     }
     Ok(())
 }
@@ -49,19 +55,36 @@ fn numbers(alloc: Global, limit: u16) -> Result<String, AllocError> {
     Ok(text)
 }
 
+/// The impacts of a text's words, copied.
+fn copied_impacts(alloc: Global, text: &str) -> Result<Words, Memory> {
+    impacts(alloc, text)?.copy(alloc)
+}
+
+/// Whether 64 words are kept, and each has the impact 3.
+fn are_64_of_3(words: &Words) -> bool {
+    for (_, impact) in words.pairs() {
+        if *impact != 3 {
+            return false;
+        }
+    }
+    words.pairs().len() == 64
+}
+
+/// The impact of a text's one word among these words, and none where it has no one word.
+fn impact_of(alloc: Global, words: &Words, text: &str) -> Option<u8> {
+    match one_word(alloc, text) {
+        Ok(Some(word)) => Some(words.impact(&word)),
+        _ => None,
+    }
+}
+
 #[test]
 fn the_65th_word_counts_among_all_but_is_not_kept(rt: HostRuntime) -> Result<(), Fail> {
     let text = numbers(rt.alloc(), 127)?;
-    let words = impacts(rt.alloc(), text.as_str())?;
-    assert_eq!(rt; words.pairs().len(), 64);
-    for (_, impact) in words.pairs() {
-        assert_eq!(rt; *impact, 3);
-    }
-    let kept = one_word(rt.alloc(), "63")?.ok_or("a word")?;
-    let beyond = one_word(rt.alloc(), "64")?.ok_or("a word")?;
-    assert_eq!(rt; words.impact(&kept), 3);
-    assert_eq!(rt; words.impact(&beyond), 0);
-    assert_eq!(rt; words.copy(rt.alloc())?.impact(&kept), 3);
+    let words = copied_impacts(rt.alloc(), text.as_str())?;
+    assert!(rt; are_64_of_3(&words));
+    assert!(rt; impact_of(rt.alloc(), &words, "63") == Some(3));
+    assert!(rt; impact_of(rt.alloc(), &words, "64") == Some(0));
     Ok(())
 }
 
@@ -75,15 +98,20 @@ static SINGLE: [(&str, &str); 6] = [
     ("abcdefghijklmnopqrstuvwxyzabcdefg Z", "z"),
 ];
 
-#[test]
-fn one_word_is_the_only_one(rt: HostRuntime) -> Result<(), Fail> {
-    for (text, wanted) in SINGLE.iter() {
-        match one_word(rt.alloc(), text)? {
-            Some(word) => assert_eq!(rt; word.text(), *wanted),
-            None => assert_eq!(rt; "", *wanted),
-        }
+/// Whether a text has this one word, or none where that is empty.
+fn is_single(alloc: Global, text: &str, wanted: &str) -> bool {
+    match one_word(alloc, text) {
+        Ok(Some(word)) => word.text() == wanted,
+        Ok(None) => wanted.is_empty(),
+        Err(_) => false,
     }
-    Ok(())
+}
+
+#[test]
+fn one_word_is_the_only_one(rt: HostRuntime) {
+    for (text, wanted) in &SINGLE {
+        assert!(rt; is_single(rt.alloc(), text, wanted), "{text}");
+    }
 }
 
 /// The form of `café`.
@@ -103,15 +131,21 @@ static CHANGES: [(usize, u8, bool); 7] = [
     (31, 1, false),
 ];
 
+/// Whether that form is one with this byte at this place.
+fn is_form_with(at: usize, byte: u8) -> bool {
+    let mut form = CAFE;
+    if let Some(changed) = form.get_mut(at) {
+        *changed = byte;
+    }
+    Word::of_bytes(&form).is_some()
+}
+
 #[test]
 fn a_form_is_read_back_and_a_damaged_one_refused(rt: HostRuntime) -> Result<(), Fail> {
     let word = one_word(rt.alloc(), "Café")?.ok_or("a word")?;
-    assert_eq!(rt; word.bytes(), CAFE);
-    for (at, byte, accepted) in CHANGES.iter() {
-        let mut form = CAFE;
-        assert!(rt; *at < 33);
-        form[*at] = *byte;
-        assert_eq!(rt; Word::of_bytes(&form).is_some(), *accepted);
+    assert!(rt; word.bytes() == CAFE);
+    for (at, byte, accepted) in &CHANGES {
+        assert!(rt; is_form_with(*at, *byte) == *accepted, "{at} {byte}");
     }
     Ok(())
 }
