@@ -5,28 +5,20 @@ use node_inverted::{
 };
 use page_face::{Damage, MemoryPages, PageFault, Pages, Rule};
 use std::alloc::Global;
-use std::test::Fail;
+
+static EMPTY: Tree = Tree { root: 5, rows: 0 };
 
 // A row: its node, its word's number, a slot and the byte there; all other bytes are 0.
 type Single = (u32, u64, usize, u8);
 
-static ROWS: [Single; 6] = [
+static ROWS: [Single; 7] = [
     (7, 256, 31, 4),
     (9, 0, 0, 200),
     (7, 1, 0, 9),
     (9, 1, 3, 8),
     (7, 4_294_967_296, 1, 1),
     (7, 18_446_744_073_709_551_615, 2, 255),
-];
-
-// The same rows, and one that isn't there.
-static READ: [Single; 7] = [
-    (7, 256, 31, 4),
-    (9, 0, 0, 200),
-    (7, 1, 0, 9),
-    (9, 1, 3, 8),
-    (7, 4_294_967_296, 1, 1),
-    (7, 18_446_744_073_709_551_615, 2, 255),
+    // a row of zeros, which isn't there
     (7, 2, 0, 0),
 ];
 
@@ -65,10 +57,8 @@ static SHARED: [(u64, u8); 3] = [(1, 9), (0, 7), (256, 7)];
 // A row of zeros but for one byte.
 fn single(slot: usize, byte: u8) -> [u8; 32] {
     let mut row = [0; 32];
-    for (at, to) in row.iter_mut().enumerate() {
-        if at == slot {
-            *to = byte;
-        }
+    if slot < 32 {
+        row[slot] = byte;
     }
     row
 }
@@ -91,15 +81,99 @@ fn are_there(pages: &mut MemoryPages, tree: &Tree, rows: &[Single]) -> Result<bo
     Ok(true)
 }
 
+// The word of the first row of a node from a number on.
+fn first_word(
+    pages: &mut MemoryPages,
+    tree: &Tree,
+    node: u32,
+    from: u64,
+) -> Result<Option<u64>, PageFault> {
+    match next_row(pages, tree, node, from)? {
+        Some(found) => Ok(Some(found.0)),
+        None => Ok(None),
+    }
+}
+
 // Whether the first rows are those of `FIRST`.
 fn are_in_order(pages: &mut MemoryPages, tree: &Tree) -> Result<bool, PageFault> {
     for (node, from, number) in FIRST.iter() {
-        let found = next_row(pages, tree, *node, *from)?;
-        if found.map(|found| found.0) != *number {
+        if first_word(pages, tree, *node, *from)? != *number {
             return Ok(false);
         }
     }
     Ok(true)
+}
+
+// Sets a row of one byte, and one of zeros in its place: whether the row is gone then, and its page free.
+fn set_and_clear(pages: &mut MemoryPages, tree: &mut Tree) -> Result<bool, PageFault> {
+    set_row(pages, tree, 7, 1, &single(0, 9))?;
+    set_row(pages, tree, 7, 1, &[0; 32])?;
+    Ok(tree.rows == 0 && pages.first_free() == 1)
+}
+
+// Raises slot 2 of node 7 by two words, and moves its slots 0 and 1 to node 11: whether the rows are those of `MOVED` then.
+fn raise_and_move(
+    alloc: Global,
+    pages: &mut MemoryPages,
+    tree: &mut Tree,
+) -> Result<bool, PageFault> {
+    raise(pages, tree, 7, 2, &[(1, 3), (5, 6)])?;
+    move_slots(alloc, pages, tree, 7, 3, 11)?;
+    are_there(pages, tree, &MOVED)
+}
+
+// Gives slot 4 of node 9 the words of node 7, sets and renews one of them, and drops node 7: whether the rows are those of `DROPPED` then.
+fn renew_and_drop(
+    alloc: Global,
+    pages: &mut MemoryPages,
+    tree: &mut Tree,
+) -> Result<bool, PageFault> {
+    refresh(pages, tree, 9, 4, 7)?;
+    set_impact(pages, tree, 9, 4, 5, 1)?;
+    renew(alloc, pages, tree, 9, 4, 7, &[(5, 0)])?;
+    drop_node(alloc, pages, tree, 7)?;
+    are_there(pages, tree, &DROPPED)
+}
+
+#[test]
+fn rows_are_found_in_order_and_move_and_are_dropped(rt: HostRuntime) {
+    let mut pages = MemoryPages::new(rt.alloc(), 8);
+    let mut tree = EMPTY;
+    assert_eq!(rt; set_and_clear(&mut pages, &mut tree), Ok(true));
+    assert_eq!(rt; fill(&mut pages, &mut tree), Ok(()));
+    assert_eq!(rt; are_there(&mut pages, &tree, &ROWS), Ok(true));
+    assert_eq!(rt; are_in_order(&mut pages, &tree), Ok(true));
+    assert_eq!(rt; raise_and_move(rt.alloc(), &mut pages, &mut tree), Ok(true));
+    assert_eq!(rt; renew_and_drop(rt.alloc(), &mut pages, &mut tree), Ok(true));
+}
+
+// Whether each of these calls names page 1 as one of another kind.
+fn are_refused(pages: &mut MemoryPages, tree: &Tree) -> bool {
+    let damage = PageFault::Damaged(Damage {
+        page: 1,
+        rule: Rule::Kind,
+    });
+    row(pages, tree, 7, 1) == Err(damage)
+        && next_row(pages, tree, 7, 1) == Err(damage)
+        && like(pages, tree, 7, &[]) == Err(damage)
+}
+
+#[test]
+fn a_page_of_another_kind_is_damaged(rt: HostRuntime) {
+    let mut pages = MemoryPages::new(rt.alloc(), 8);
+    assert!(rt; pages.take() == Ok(1) && pages.write(1, &[3; 4096]) == Ok(()));
+    assert!(rt; are_refused(&mut pages, &Tree { root: 5, rows: 1 }));
+}
+
+// Whether slots 0 and 3 of node 9 alone share a word with the entry, each one.
+fn share_one(alloc: Global, pages: &mut MemoryPages, tree: &Tree) -> bool {
+    let mut counts = [0; 32];
+    counts[0] = 1;
+    counts[3] = 1;
+    match rows_at(alloc, pages, tree, 9, &SHARED) {
+        Ok(rows) => shared_by(&rows) == counts,
+        Err(_) => false,
+    }
 }
 
 // How many of the words `SHARED` are above their byte at a slot of node 9, and the first of them.
@@ -114,135 +188,87 @@ fn count_rising(
     Ok((above.len(), above.first().copied()))
 }
 
-// Gives node 7 one byte at each of its first 200 words, at the slot of the word's number modulo 32: rows of more than two leaves.
-fn fill_leaves(pages: &mut MemoryPages, tree: &mut Tree) -> Result<(), PageFault> {
-    for number in 0..200u64 {
-        set_row(pages, tree, 7, number, &single((number % 32) as usize, 1))?;
-    }
-    Ok(())
+// Whether as many of them are above their byte as should be at slots 3 and 0, the first word before the others.
+fn are_rising(alloc: Global, pages: &mut MemoryPages, tree: &Tree) -> bool {
+    count_rising(alloc, pages, tree, 3) == Ok((3, Some((1, 9))))
+        && count_rising(alloc, pages, tree, 0) == Ok((2, Some((1, 9))))
 }
 
-// Sets a row of one byte, and one of zeros in its place.
-fn set_and_clear(pages: &mut MemoryPages, tree: &mut Tree) -> Result<(), PageFault> {
-    set_row(pages, tree, 7, 1, &single(0, 9))?;
-    set_row(pages, tree, 7, 1, &[0; 32])
-}
-
-// Raises slot 2 of node 7 by two words, and moves its slots 0 and 1 to node 11.
-fn raise_and_move(
-    alloc: Global,
-    pages: &mut MemoryPages,
-    tree: &mut Tree,
-) -> Result<(), PageFault> {
-    raise(pages, tree, 7, 2, &[(1, 3), (5, 6)])?;
-    move_slots(alloc, pages, tree, 7, 3, 11)
-}
-
-// Gives slot 4 of node 9 the words of node 7, sets and renews one of them, and drops node 7.
-fn renew_and_drop(
-    alloc: Global,
-    pages: &mut MemoryPages,
-    tree: &mut Tree,
-) -> Result<(), PageFault> {
-    refresh(pages, tree, 9, 4, 7)?;
-    set_impact(pages, tree, 9, 4, 5, 1)?;
-    renew(alloc, pages, tree, 9, 4, 7, &[(5, 0)])?;
-    drop_node(alloc, pages, tree, 7)
-}
-
-#[test]
-fn rows_are_found_in_order_and_move_and_are_dropped(rt: HostRuntime) -> Result<(), Fail> {
-    let mut pages = MemoryPages::new(rt.alloc(), 8);
-    let mut tree = Tree { root: 5, rows: 0 };
-    // A row of zeros is removed, and its page is free.
-    assert_eq!(rt; set_and_clear(&mut pages, &mut tree), Ok(()));
-    assert_eq!(rt; (tree, pages.first_free()), (Tree { root: 5, rows: 0 }, 1));
-    assert_eq!(rt; fill(&mut pages, &mut tree), Ok(()));
-    assert_eq!(rt; are_there(&mut pages, &tree, &READ), Ok(true));
-    assert_eq!(rt; are_in_order(&mut pages, &tree), Ok(true));
-    assert_eq!(rt; raise_and_move(rt.alloc(), &mut pages, &mut tree), Ok(()));
-    assert_eq!(rt; are_there(&mut pages, &tree, &MOVED), Ok(true));
-    assert_eq!(rt; renew_and_drop(rt.alloc(), &mut pages, &mut tree), Ok(()));
-    assert_eq!(rt; are_there(&mut pages, &tree, &DROPPED), Ok(true));
-    Ok(())
-}
-
-#[test]
-fn a_page_of_another_kind_is_damaged(rt: HostRuntime) -> Result<(), Fail> {
-    let mut pages = MemoryPages::new(rt.alloc(), 8);
-    assert_eq!(rt; pages.take(), Ok(1));
-    assert_eq!(rt; pages.write(1, &[3; 4096]), Ok(()));
-    let tree = Tree { root: 5, rows: 1 };
-    let damage = PageFault::Damaged(Damage {
-        page: 1,
-        rule: Rule::Kind,
-    });
-    assert_eq!(rt; row(&mut pages, &tree, 7, 1), Err(damage));
-    assert_eq!(rt; next_row(&mut pages, &tree, 7, 1), Err(damage));
-    assert_eq!(rt; like(&mut pages, &tree, 7, &[]), Err(damage));
-    Ok(())
-}
-
-#[test]
-fn words_and_rows_are_listed_in_order(rt: HostRuntime) -> Result<(), Fail> {
-    let mut pages = MemoryPages::new(rt.alloc(), 8);
-    let mut tree = Tree { root: 5, rows: 0 };
-    assert_eq!(rt; fill(&mut pages, &mut tree), Ok(()));
-    let rows = rows_at(rt.alloc(), &mut pages, &tree, 9, &SHARED);
-    let mut counts = [0; 32];
-    counts[0] = 1;
-    counts[3] = 1;
-    assert_eq!(rt; rows.map(|rows| shared_by(&rows)), Ok(counts));
-    assert_eq!(rt;
-        count_rising(rt.alloc(), &mut pages, &tree, 3),
-        Ok((3, Some((1, 9))))
-    );
-    assert_eq!(rt;
-        count_rising(rt.alloc(), &mut pages, &tree, 0),
-        Ok((2, Some((1, 9))))
-    );
+// Whether each two slots of node 9 and an entry share as many words as they should.
+fn are_alike(pages: &mut MemoryPages, tree: &Tree) -> bool {
     let mut table = [[0; 33]; 33];
     table[0][0] = 1;
     table[3][3] = 1;
     table[3][32] = 1;
     table[32][3] = 1;
     table[32][32] = 1;
-    assert_eq!(rt; like(&mut pages, &tree, 9, &[(1, 7), (256, 7)]), Ok(table));
-    let words = column(rt.alloc(), &mut pages, &tree, 7, 31);
-    assert_eq!(rt;
-        words.map(|words| (words.len(), words.first().copied())),
-        Ok((1, Some((256, 4))))
-    );
-    let words = words_of(rt.alloc(), &mut pages, &tree, 9);
-    assert_eq!(rt;
-        words.map(|words| (words.len(), words.first().copied(), words.last().copied())),
-        Ok((2, Some((0, 200)), Some((1, 8))))
-    );
-    let rows = take_rows(rt.alloc(), &mut pages, &mut tree, 9);
-    assert_eq!(rt;
-        rows.map(|rows| (rows.len(), rows.last().map(|row| (row.number, row.bytes)))),
-        Ok((2, Some((1, single(3, 8)))))
-    );
-    assert_eq!(rt; next_row(&mut pages, &tree, 9, 0), Ok(None));
-    Ok(())
+    like(pages, tree, 9, &[(1, 7), (256, 7)]) == Ok(table)
+}
+
+// Whether one word alone stands at slot 31 of node 7.
+fn has_column(alloc: Global, pages: &mut MemoryPages, tree: &Tree) -> bool {
+    match column(alloc, pages, tree, 7, 31) {
+        Ok(words) => words.len() == 1 && words.first().copied() == Some((256, 4)),
+        Err(_) => false,
+    }
+}
+
+// Whether a node has so many words, from a first one to a last one.
+fn has_words(
+    alloc: Global,
+    pages: &mut MemoryPages,
+    tree: &Tree,
+    node: u32,
+    count: usize,
+    first: (u64, u8),
+    last: (u64, u8),
+) -> bool {
+    match words_of(alloc, pages, tree, node) {
+        Ok(words) => {
+            words.len() == count
+                && words.first().copied() == Some(first)
+                && words.last().copied() == Some(last)
+        }
+        Err(_) => false,
+    }
+}
+
+// Takes the rows of node 9: whether they are two, the last one that of word 1, and none is left.
+fn take_both(alloc: Global, pages: &mut MemoryPages, tree: &mut Tree) -> Result<bool, PageFault> {
+    let rows = take_rows(alloc, pages, tree, 9)?;
+    let is_last = match rows.last() {
+        Some(row) => row.number == 1 && row.bytes == single(3, 8),
+        None => false,
+    };
+    Ok(is_last && rows.len() == 2 && next_row(pages, tree, 9, 0) == Ok(None))
 }
 
 #[test]
-fn rows_of_several_leaves_are_gone_through(rt: HostRuntime) -> Result<(), Fail> {
-    let mut pages = MemoryPages::new(rt.alloc(), 32);
-    let mut tree = Tree { root: 5, rows: 0 };
-    assert_eq!(rt; fill_leaves(&mut pages, &mut tree), Ok(()));
-    // Slots 0 to 15 have 104 of the 200 words.
-    assert_eq!(rt;
-        move_slots(rt.alloc(), &mut pages, &mut tree, 7, 0xFFFF, 11),
-        Ok(())
-    );
-    for (node, count, last) in [(7, 96, 191), (11, 104, 199)] {
-        let words = words_of(rt.alloc(), &mut pages, &tree, node);
-        assert_eq!(rt;
-            words.map(|words| (words.len(), words.last().copied())),
-            Ok((count, Some((last, 1))))
-        );
+fn words_and_rows_are_listed_in_order(rt: HostRuntime) {
+    let mut pages = MemoryPages::new(rt.alloc(), 8);
+    let mut tree = EMPTY;
+    assert_eq!(rt; fill(&mut pages, &mut tree), Ok(()));
+    assert!(rt; share_one(rt.alloc(), &mut pages, &tree) && are_alike(&mut pages, &tree));
+    assert!(rt; are_rising(rt.alloc(), &mut pages, &tree));
+    assert!(rt; has_column(rt.alloc(), &mut pages, &tree));
+    assert!(rt; has_words(rt.alloc(), &mut pages, &tree, 9, 2, (0, 200), (1, 8)));
+    assert_eq!(rt; take_both(rt.alloc(), &mut pages, &mut tree), Ok(true));
+}
+
+// Gives node 7 one byte at each of its first 200 words, at the slot of the word's number modulo 32: rows of more than two leaves. Then moves slots
+// 0 to 15, which have 104 of the words, to node 11.
+fn fill_and_move(alloc: Global, pages: &mut MemoryPages, tree: &mut Tree) -> Result<(), PageFault> {
+    for number in 0..200u64 {
+        set_row(pages, tree, 7, number, &single((number % 32) as usize, 1))?;
     }
-    Ok(())
+    move_slots(alloc, pages, tree, 7, 0xFFFF, 11)
+}
+
+#[test]
+fn rows_of_several_leaves_are_gone_through(rt: HostRuntime) {
+    let mut pages = MemoryPages::new(rt.alloc(), 32);
+    let mut tree = EMPTY;
+    assert_eq!(rt; fill_and_move(rt.alloc(), &mut pages, &mut tree), Ok(()));
+    assert!(rt; has_words(rt.alloc(), &mut pages, &tree, 7, 96, (16, 1), (191, 1)));
+    assert!(rt; has_words(rt.alloc(), &mut pages, &tree, 11, 104, (0, 1), (199, 1)));
 }

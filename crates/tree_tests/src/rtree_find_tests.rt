@@ -51,24 +51,39 @@ fn look_for(
     let Some(point) = Point::new(x, y) else {
         return Ok(None);
     };
-    let level = find(pages, root, &point, &Key::auto(serial), &mut path)?;
-    Ok(level.map(|level| (level, path[1], path[0])))
+    match find(pages, root, &point, &Key::auto(serial), &mut path)? {
+        Some(level) => Ok(Some((level, path[1], path[0]))),
+        None => Ok(None),
+    }
+}
+
+// A place of the tree: its leaf, its slot, where it is, and its key.
+static PLACES: [(u32, usize, i32, i32, u64); 4] = [
+    (1, 0, 5, 5, 1),
+    (1, 31, 9, 9, 2),
+    (2, 4, 5, 5, 3),
+    (2, 6, 8, 0, 4),
+];
+
+// Writes a leaf.
+fn write_leaf(pages: &mut MemoryPages, number: u32) -> Result<(), PageFault> {
+    let mut leaf = new_node(0);
+    for (of, at, x, y, serial) in &PLACES {
+        if *of == number && *at < 32 {
+            put_place(&mut leaf, *at, *x, *y, *serial);
+        }
+    }
+    pages.write(number, &leaf)
 }
 
 // Leaves at pages 1 and 2, whose rectangles overlap, below a root at page 3.
 fn write_tree(pages: &mut MemoryPages) -> Result<(), PageFault> {
-    let mut first = new_node(0);
-    put_place(&mut first, 0, 5, 5, 1);
-    put_place(&mut first, 31, 9, 9, 2);
-    let mut second = new_node(0);
-    put_place(&mut second, 4, 5, 5, 3);
-    put_place(&mut second, 6, 8, 0, 4);
+    take_three(pages)?;
+    write_leaf(pages, 1)?;
+    write_leaf(pages, 2)?;
     let mut root = new_node(1);
     put_child(&mut root, 2, 9, 9, 1);
     put_child(&mut root, 31, 8, 5, 2);
-    take_three(pages)?;
-    pages.write(1, &first)?;
-    pages.write(2, &second)?;
     pages.write(3, &root)
 }
 
@@ -92,50 +107,63 @@ fn an_entry_is_found_by_its_point_and_its_key(rt: HostRuntime) -> Result<(), Fai
     Ok(())
 }
 
-// What a place is looked for in, whose root at page 3 has one child, at page 1.
+// A page, bytes of it that are changed, and the page and the rule that are named then: the root at page 3 has one child, the leaf at page 1.
+static BROKEN: [(u32, &[(usize, u8)], Option<(u32, Rule)>); 8] = [
+    (1, &[], None),
+    (3, &[(27, 255)], None),
+    // a leaf of another kind, without a slot, and one that is no leaf
+    (1, &[(0, 4)], Some((1, Rule::Kind))),
+    (1, &[(7, 0)], Some((1, Rule::Fill))),
+    (1, &[(1, 1)], Some((1, Rule::Level))),
+    // a root above level 9, one whose slot has no rectangle, and one whose child isn't counted
+    (3, &[(1, 10)], Some((3, Rule::Level))),
+    (3, &[(27, 255), (24, 255)], Some((3, Rule::Value))),
+    (3, &[(35, 4)], Some((4, Rule::Link))),
+];
+
+// Changes bytes of a page.
+fn change(pages: &mut MemoryPages, number: u32, bytes: &[(usize, u8)]) -> Result<(), PageFault> {
+    let mut page = pages.read(number)?;
+    for &(at, byte) in bytes {
+        if at < page.len() {
+            page[at] = byte;
+        }
+    }
+    pages.write(number, &page)
+}
+
+// Looks for a place in a root at page 3 with one child, at page 1, where bytes of one of them are changed.
 fn look_in(
     pages: &mut MemoryPages,
-    root: &Page,
-    leaf: &Page,
+    number: u32,
+    bytes: &[(usize, u8)],
 ) -> Result<Option<(u8, u8, u8)>, PageFault> {
-    pages.write(3, root)?;
-    pages.write(1, leaf)?;
-    look_for(pages, 3, 5, 5, 1)
-}
-
-// A page with another byte at a place.
-fn with_byte(page: &Page, at: usize, byte: u8) -> Page
-    requires { at < 4096 }
-{
-    let mut page = *page;
-    page[at] = byte;
-    page
-}
-
-#[test]
-fn a_broken_page_is_named_with_its_rule(rt: HostRuntime) -> Result<(), Fail> {
-    let mut pages = MemoryPages::new(rt.alloc(), 9);
-    assert_eq!(rt; take_three(&mut pages), Ok(()));
     let mut leaf = new_node(0);
     put_place(&mut leaf, 0, 5, 5, 1);
     let mut root = new_node(1);
     put_child(&mut root, 0, 9, 9, 1);
-    let wider = with_byte(&root, 27, 255);
-    for (root, leaf, broken) in [
-        (root, leaf, None),
-        (wider, leaf, None),
-        (root, with_byte(&leaf, 0, 4), Some((1, Rule::Kind))),
-        (root, new_node(0), Some((1, Rule::Fill))),
-        (root, root, Some((1, Rule::Level))),
-        (with_byte(&root, 1, 10), leaf, Some((3, Rule::Level))),
-        (with_byte(&wider, 24, 255), leaf, Some((3, Rule::Value))),
-        (with_byte(&root, 35, 4), leaf, Some((4, Rule::Link))),
-    ] {
-        let answer = match broken {
-            Some((page, rule)) => Err(PageFault::Damaged(Damage { page, rule })),
-            None => Ok(Some((1, 0, 0))),
-        };
-        assert_eq!(rt; look_in(&mut pages, &root, &leaf), answer);
+    pages.write(1, &leaf)?;
+    pages.write(3, &root)?;
+    change(pages, number, bytes)?;
+    look_for(pages, 3, 5, 5, 1)
+}
+
+// What is answered to it.
+fn answer_of(broken: &Option<(u32, Rule)>) -> Result<Option<(u8, u8, u8)>, PageFault> {
+    match broken {
+        Some((page, rule)) => Err(PageFault::Damaged(Damage {
+            page: *page,
+            rule: *rule,
+        })),
+        None => Ok(Some((1, 0, 0))),
     }
-    Ok(())
+}
+
+#[test]
+fn a_broken_page_is_named_with_its_rule(rt: HostRuntime) {
+    let mut pages = MemoryPages::new(rt.alloc(), 9);
+    assert_eq!(rt; take_three(&mut pages), Ok(()));
+    for (number, bytes, broken) in &BROKEN {
+        assert_eq!(rt; look_in(&mut pages, *number, bytes), answer_of(broken));
+    }
 }

@@ -5,7 +5,6 @@ use rtree_nodes::{
     split_off,
 };
 use spatial_base::{Key, Point, Rect};
-use std::test::Fail;
 
 // The bytes that aren't 0 of a leaf with two places: at slot 0, 1 degree west and 50 degrees north, the key "ab"; at slot 2, the point
 // 1 -1 in units of 10^-7 degrees, the automatic key 258.
@@ -68,9 +67,12 @@ static INNER: [(usize, u8); 30] = [
     (655, 13),
 ];
 
-// Two bytes of the leaf that are changed, and the number of the rule that is broken then: 3 Kind, 4 Fill, 6 Spare, 8 Value. Where
+// Two bytes of a page that are changed, and the number of the rule that is broken then: 3 Kind, 4 Fill, 6 Spare, 8 Value. Where
 // several are, it is the first in the order of the checks.
-static BROKEN_LEAF: [(usize, u8, usize, u8, u8); 8] = [
+type Broken = (usize, u8, usize, u8, u8);
+
+// Changes of the leaf.
+static BROKEN_LEAF: [Broken; 8] = [
     // another kind, and no slot
     (0, 4, 7, 0, 3),
     // no slot, and a spare byte
@@ -89,8 +91,8 @@ static BROKEN_LEAF: [(usize, u8, usize, u8, u8); 8] = [
     (89, 0, 89, 0, 8),
 ];
 
-// The same of the inner node.
-static BROKEN_INNER: [(usize, u8, usize, u8, u8); 4] = [
+// Changes of the inner node.
+static BROKEN_INNER: [Broken; 4] = [
     // a byte of slot 30, which isn't used, and a rectangle that is none
     (616, 1, 647, 3, 6),
     // the first byte behind slot 31
@@ -114,48 +116,66 @@ fn changed(mut page: Page, bytes: &[(usize, u8)]) -> Page {
     page
 }
 
-#[test]
-fn a_leaf_is_these_bytes(rt: HostRuntime) -> Result<(), Fail> {
+// Whether a leaf's first and third slot are read as these, and it is written with the same bytes again.
+fn reads(page: &Page, first: &Slot, third: &Slot) -> bool {
+    match Node::decode(page) {
+        Ok(node) => {
+            node.slots.slot(0) == *first
+                && node.slots.slot(2) == *third
+                && node.encode().as_slice() == page.as_slice()
+        }
+        Err(_) => false,
+    }
+}
+
+// Whether two places make the leaf, and are read from it again.
+fn makes_leaf() -> Option<bool> {
     let west = Slot::Place {
-        point: Point::new(-10_000_000, 500_000_000).ok_or("off the map")?,
-        key: Key::of_text("ab").map_err(|_| "refused")?,
+        point: Point::new(-10_000_000, 500_000_000)?,
+        key: Key::of_text("ab").ok()?,
     };
     let near = Slot::Place {
-        point: Point::new(1, -1).ok_or("off the map")?,
+        point: Point::new(1, -1)?,
         key: Key::auto(258),
     };
     let mut page = new_node(0);
     put_slot(&mut page, 2, &near);
     put_slot(&mut page, 0, &west);
-    assert!(rt; page.as_slice() == page_of(&LEAF).as_slice());
-    let node = Node::decode(&page).map_err(|_| "refused")?;
-    assert!(rt; node.slots.slot(0) == west);
-    assert!(rt; node.slots.slot(2) == near);
-    assert!(rt; node.encode().as_slice() == page.as_slice());
-    assert!(rt; free_slot(&page) == Some(1));
-    assert_eq!(rt; count(&page), 2);
-    Ok(())
+    Some(
+        page.as_slice() == page_of(&LEAF).as_slice()
+            && reads(&page, &west, &near)
+            && free_slot(&page) == Some(1)
+            && count(&page) == 2,
+    )
 }
 
-#[test]
-fn an_inner_node_is_these_bytes(rt: HostRuntime) -> Result<(), Fail> {
+// Whether two children make the inner node, and are read from it again.
+fn makes_inner() -> Option<bool> {
     let first = Slot::Child {
-        rect: Rect::new(-1, -2, 1, 2).ok_or("no rectangle")?,
+        rect: Rect::new(-1, -2, 1, 2)?,
         page: 258,
     };
     let last = Slot::Child {
-        rect: Rect::new(0x0102_0304, 5, 0x0102_0305, 6).ok_or("no rectangle")?,
+        rect: Rect::new(0x0102_0304, 5, 0x0102_0305, 6)?,
         page: 0x0a0b_0c0d,
     };
+    let all = Rect::new(-1, -2, 0x0102_0305, 6)?;
     let mut page = new_node(2);
     put_slot(&mut page, 31, &last);
     put_slot(&mut page, 0, &first);
-    assert!(rt; page.as_slice() == page_of(&INNER).as_slice());
-    assert_eq!(rt; child_at(&page, 31), 0x0a0b_0c0d);
-    assert!(rt; slot_at(&page, 0) == Ok(Some(first)));
-    assert!(rt; slot_at(&page, 1) == Ok(None));
-    assert!(rt; bounds(&page) == Ok(Rect::new(-1, -2, 0x0102_0305, 6).ok_or("no rectangle")?));
-    Ok(())
+    Some(
+        page.as_slice() == page_of(&INNER).as_slice()
+            && child_at(&page, 31) == 0x0a0b_0c0d
+            && slot_at(&page, 0) == Ok(Some(first))
+            && slot_at(&page, 1) == Ok(None)
+            && bounds(&page) == Ok(all),
+    )
+}
+
+#[test]
+fn a_leaf_and_an_inner_node_are_these_bytes(rt: HostRuntime) {
+    assert_eq!(rt; makes_leaf(), Some(true));
+    assert_eq!(rt; makes_inner(), Some(true));
 }
 
 // The number of the rule that a page is refused for.
@@ -166,23 +186,28 @@ fn broken_rule(page: &Page) -> Option<u8> {
     }
 }
 
-#[test]
-fn the_first_broken_rule_is_named(rt: HostRuntime) {
-    for &(first, byte, second, other, number) in &BROKEN_LEAF {
-        let page = changed(page_of(&LEAF), &[(first, byte), (second, other)]);
-        assert!(rt; broken_rule(&page) == Some(number), "leaf {first}");
+// Whether a page is refused as it should be for each two of its bytes that are changed.
+fn are_refused(page: &Page, broken: &[Broken]) -> bool {
+    for &(first, byte, second, other, number) in broken {
+        let page = changed(*page, &[(first, byte), (second, other)]);
+        if broken_rule(&page) != Some(number) {
+            return false;
+        }
     }
-    for &(first, byte, second, other, number) in &BROKEN_INNER {
-        let page = changed(page_of(&INNER), &[(first, byte), (second, other)]);
-        assert!(rt; broken_rule(&page) == Some(number), "inner {first}");
-    }
+    true
 }
 
 #[test]
-fn a_full_leaf_at_the_ends_of_the_map_comes_back(rt: HostRuntime) -> Result<(), Fail> {
+fn the_first_broken_rule_is_named(rt: HostRuntime) {
+    assert!(rt; are_refused(&page_of(&LEAF), &BROKEN_LEAF));
+    assert!(rt; are_refused(&page_of(&INNER), &BROKEN_INNER));
+}
+
+// A leaf whose places lie at two corners of the map, one after the other.
+fn full_leaf() -> Option<Page> {
     let corners = [
-        Point::new(-1_800_000_000, -900_000_000).ok_or("off the map")?,
-        Point::new(1_800_000_000, 900_000_000).ok_or("off the map")?,
+        Point::new(-1_800_000_000, -900_000_000)?,
+        Point::new(1_800_000_000, 900_000_000)?,
     ];
     let mut page = new_node(0);
     for i in 0..32 {
@@ -192,22 +217,32 @@ fn a_full_leaf_at_the_ends_of_the_map_comes_back(rt: HostRuntime) -> Result<(), 
         };
         put_slot(&mut page, i, &slot);
     }
-    let node = Node::decode(&page).map_err(|_| "refused")?;
-    assert_eq!(rt; node.used, u32::MAX);
-    assert!(rt; node.encode().as_slice() == page.as_slice());
-    assert!(rt;
-        bounds(&page)
-            == Ok(Rect::new(-1_800_000_000, -900_000_000, 1_800_000_000, 900_000_000).ok_or(
-                "no rectangle"
-            )?)
-    );
-    assert!(rt; free_slot(&page).is_none());
-    let other = split_off(&mut page, 0xffff_0000);
-    assert_eq!(rt; count(&page), 16);
-    assert_eq!(rt; count(&other), 16);
+    Some(page)
+}
+
+// Whether the places in the last 16 slots move out of a full leaf, and those in the first are cleared away.
+fn is_parted(page: &mut Page) -> bool {
+    let other = split_off(page, 0xffff_0000);
+    let counts = (count(page), count(&other));
     for i in 0..16 {
-        clear_slot(&mut page, i);
+        clear_slot(page, i);
     }
-    assert!(rt; page.as_slice() == new_node(0).as_slice());
-    Ok(())
+    counts == (16, 16) && page.as_slice() == new_node(0).as_slice()
+}
+
+// Whether a full leaf has no free slot, goes round the whole map, and is parted.
+fn is_full_and_parted() -> Option<bool> {
+    let mut page = full_leaf()?;
+    let all = Rect::new(-1_800_000_000, -900_000_000, 1_800_000_000, 900_000_000)?;
+    Some(
+        Node::decode(&page).is_ok()
+            && bounds(&page) == Ok(all)
+            && free_slot(&page).is_none()
+            && is_parted(&mut page),
+    )
+}
+
+#[test]
+fn a_full_leaf_at_the_ends_of_the_map_is_parted(rt: HostRuntime) {
+    assert_eq!(rt; is_full_and_parted(), Some(true));
 }

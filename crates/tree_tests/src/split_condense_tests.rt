@@ -2,7 +2,7 @@
 ghost use Rattle.std.specs.Prelude.{◌<◌};
 
 use node_inverted::{Tree, row};
-use page_face::{MemoryPages, Page, Pages, free_next};
+use page_face::{MemoryPages, Page, PageFault, Pages, free_next};
 use row_codec::PAIRS_MAX;
 use rtree_nodes::{Node, Slot, child_at, slot_at};
 use spatial_base::{Key, Point, Rect};
@@ -105,18 +105,54 @@ fn entry(number: u64, nth: u64) -> Result<Entry, Fail> {
     })
 }
 
-// The entry of a place that lives, by its key: `lives` has for each number how often it was put, and 0 if it isn't there.
-fn living(key: &Key, lives: &[u64]) -> Result<Entry, Fail> {
-    let number = key.serial().ok_or("another key")?;
-    let nth = lives.get(usize::try_from(number)?).ok_or("no place")?;
-    entry(number, *nth)
+// A tree in memory, and for each number of a place how often it was put, 0 if it isn't there.
+#[derive(Drop)]
+struct Grove {
+    pages: MemoryPages,
+    tree: Tree,
+    lives: Vec<u64>,
+}
+
+// An empty tree, for places of as many numbers.
+fn empty_grove(alloc: Global, places: usize) -> Result<Grove, Fail> {
+    Ok(Grove {
+        lives: vec![in alloc; 0; places]?,
+        pages: MemoryPages::new(alloc, 4_096),
+        tree: EMPTY,
+    })
+}
+
+// Puts a place for the nth time, takes it out where nth is 0, or both where it lived.
+fn change(
+    alloc: Global,
+    grove: &mut Grove,
+    policy: &mut dyn SplitPolicy,
+    number: u64,
+    nth: u64,
+) -> Result<(), Fail> {
+    let life = grove
+        .lives
+        .get_mut(usize::try_from(number)?)
+        .ok_or("no place")?;
+    if *life != 0 {
+        let old = entry(number, *life)?;
+        if !delete(alloc, &mut grove.pages, &mut grove.tree, policy, &old)? {
+            return Err(Fail::new("a place that isn't there"));
+        }
+    }
+    if nth != 0 {
+        let new = entry(number, nth)?;
+        insert(alloc, &mut grove.pages, &mut grove.tree, policy, &new)?;
+    }
+    *life = nth;
+    Ok(())
 }
 
 // A node that is still to be looked at: its page, and the level and rectangle that its parent says it has.
 #[derive(Clone, Copy)]
-struct Ahead {
+struct Said {
     page: u32,
-    said: Option<(u8, Rect)>,
+    form: Option<(u8, Rect)>,
 }
 
 // The impacts of each word at each slot.
@@ -126,80 +162,50 @@ fn is_used(node: &Node, at: u32) -> bool {
     node.used.checked_shr(at).unwrap_or(0) % 2 == 1
 }
 
-// Notes the greatest impact of each word below a slot: those of its place, or those of its child's rows.
-fn note(
-    pages: &mut MemoryPages,
-    tree: &Tree,
-    slot: &Slot,
+// Notes the impacts of a place's words at a slot. Refuses a place that isn't where it was put last.
+fn note_place(
+    point: &Point,
+    key: &Key,
     at: usize,
     lives: &[u64],
     table: &mut Table,
 ) -> Result<(), Fail>
     requires { at < 32 }
 {
-    match slot {
-        Slot::Place { point, key } => {
-            let place = living(key, lives)?;
-            if place.point != *point {
-                return Err(Fail::new("a place elsewhere"));
-            }
-            for pair in place.words() {
-                let line = table.get_mut(usize::try_from(pair.0)?).ok_or("no word")?;
-                line[at] = pair.1;
-            }
-        }
-        Slot::Child { page, .. } => {
-            for word in 0..WORDS {
-                let bytes = row(pages, tree, *page, word as u64)?;
-                table[word][at] = bytes.iter().copied().max().unwrap_or(0);
-            }
-        }
+    let number = key.serial().ok_or("another key")?;
+    let nth = lives.get(usize::try_from(number)?).ok_or("no place")?;
+    let place = entry(number, *nth)?;
+    if place.point != *point {
+        return Err(Fail::new("a place elsewhere"));
+    }
+    for (word, impact) in place.words() {
+        let line = table.get_mut(usize::try_from(*word)?).ok_or("no word")?;
+        line[at] = *impact;
     }
     Ok(())
 }
 
-// What a node's slots come to: how many are used, and the least rectangle round them. Notes the children, and the numbers of places.
-fn sum_of(
-    node: &Node,
-    ahead: &mut Vec<Ahead>,
-    numbers: &mut Vec<u64>,
-) -> Result<(u32, Option<Rect>), Fail> {
-    let mut used: u32 = 0;
-    let mut all: Option<Rect> = None;
-    for at in 0..32 {
-        if is_used(node, at as u32) {
-            let slot = node.slots.slot(at);
-            used = used.saturating_add(1);
-            all = match all {
-                None => Some(slot.rect()),
-                Some(rect) => Some(rect.join(&slot.rect())),
-            };
-            match slot {
-                Slot::Place { key, .. } => numbers.push(key.serial().ok_or("another key")?)?,
-                Slot::Child { rect, page } => {
-                    let level = node.level.checked_sub(1).ok_or("a child of a leaf")?;
-                    let said = Some((level, rect));
-                    ahead.push(Ahead { page, said })?;
-                }
-            }
-        }
+// The greatest byte.
+fn greatest(bytes: &[u8; 32]) -> u8 {
+    let mut greatest = 0;
+    for byte in bytes {
+        greatest = greatest.max(*byte);
     }
-    Ok((used, all))
+    greatest
 }
 
-// Refuses a node whose level, number of slots or rectangle isn't as it should be.
-fn judge(node: &Node, said: Option<(u8, Rect)>, used: u32, all: Option<Rect>) -> Result<(), Fail> {
-    match said {
-        Some((level, rect)) => {
-            if node.level != level || used < 12 || all != Some(rect) {
-                return Err(Fail::new("a bad node"));
-            }
-        }
-        None => {
-            if node.level != 0 && used < 2 {
-                return Err(Fail::new("a bad root"));
-            }
-        }
+// Notes the greatest impacts of the words in a child's rows at a slot.
+fn note_child(
+    pages: &mut MemoryPages,
+    tree: &Tree,
+    child: u32,
+    at: usize,
+    table: &mut Table,
+) -> Result<(), PageFault>
+    requires { at < 32 }
+{
+    for word in 0..WORDS {
+        table[word][at] = greatest(&row(pages, tree, child, word as u64)?);
     }
     Ok(())
 }
@@ -215,7 +221,10 @@ fn judge_words(
     let mut table = [[0; 32]; WORDS];
     for at in 0..32 {
         if is_used(node, at as u32) {
-            note(pages, tree, &node.slots.slot(at), at, lives, &mut table)?;
+            match node.slots.slot(at) {
+                Slot::Place { point, key } => note_place(&point, &key, at, lives, &mut table)?,
+                Slot::Child { page, .. } => note_child(pages, tree, page, at, &mut table)?,
+            }
         }
     }
     for word in 0..WORDS {
@@ -226,50 +235,132 @@ fn judge_words(
     Ok(())
 }
 
-// The numbers of the places that live, ascending.
-fn numbers_of(alloc: Global, lives: &[u64]) -> Result<Vec<u64>, Fail> {
-    let mut numbers = Vec::new(alloc);
-    for (number, nth) in lives.iter().enumerate() {
-        if *nth != 0 {
-            numbers.push(number as u64)?;
+// What is still to be looked at: nodes, and for each number of a place how often it was put, 0 if it isn't there or was come upon.
+#[derive(Drop)]
+struct Ahead {
+    nodes: Vec<Said>,
+    places: Vec<u64>,
+}
+
+// Notes that a place was come upon, or that a child of a node of this level is to be looked at.
+fn come_upon(ahead: &mut Ahead, slot: &Slot, level: u8) -> Result<(), Fail> {
+    match slot {
+        Slot::Place { key, .. } => {
+            let number = key.serial().ok_or("another key")?;
+            let place = ahead.places.get_mut(usize::try_from(number)?);
+            let place = place.ok_or("no place")?;
+            if *place == 0 {
+                return Err(Fail::new("a place that is there twice, or not at all"));
+            }
+            *place = 0;
+        }
+        Slot::Child { rect, page } => {
+            let level = level.checked_sub(1).ok_or("a child of a leaf")?;
+            ahead.nodes.push(Said {
+                page: *page,
+                form: Some((level, *rect)),
+            })?;
         }
     }
-    Ok(numbers)
+    Ok(())
+}
+
+// The least rectangle round another one, if there is one, and a slot's.
+fn joined(all: Option<Rect>, slot: &Slot) -> Rect {
+    match all {
+        None => slot.rect(),
+        Some(rect) => rect.join(&slot.rect()),
+    }
+}
+
+// What a node's slots come to: how many are used, and the least rectangle round them. Notes what it comes upon.
+fn sum_of(node: &Node, ahead: &mut Ahead) -> Result<(u32, Option<Rect>), Fail> {
+    let mut used: u32 = 0;
+    let mut all: Option<Rect> = None;
+    for at in 0..32 {
+        if is_used(node, at as u32) {
+            let slot = node.slots.slot(at);
+            used = used.saturating_add(1);
+            all = Some(joined(all, &slot));
+            come_upon(ahead, &slot, node.level)?;
+        }
+    }
+    Ok((used, all))
+}
+
+// Whether a node's level, number of slots and rectangle are as they should be.
+fn is_well(node: &Node, form: Option<(u8, Rect)>, used: u32, all: Option<Rect>) -> bool {
+    match form {
+        Some((level, rect)) => node.level == level && used >= 12 && all == Some(rect),
+        None => node.level == 0 || used >= 2,
+    }
+}
+
+// Judges a node, and returns its level. Refuses one that isn't well-formed, or whose rows say other words than stand below it.
+fn judge(grove: &mut Grove, said: Said, node: &Node, ahead: &mut Ahead) -> Result<u8, Fail> {
+    let (used, all) = sum_of(node, ahead)?;
+    if !is_well(node, said.form, used, all) {
+        return Err(Fail::new("a bad node"));
+    }
+    let lives = grove.lives.as_slice();
+    judge_words(&mut grove.pages, &grove.tree, said.page, node, lives)?;
+    Ok(node.level)
+}
+
+// Looks at a page, and returns its node's level. Refuses what is no node, and a node as `judge` does.
+fn look_at(grove: &mut Grove, said: Said, ahead: &mut Ahead) -> Result<u8, Fail> {
+    let page = grove.pages.read(said.page)?;
+    match Node::decode(&page) {
+        Ok(node) => judge(grove, said, &node, ahead),
+        Err(_) => Err(Fail::new("no node")),
+    }
+}
+
+// How many levels and nodes there are. Refuses nodes as `look_at` does.
+fn look_at_all(grove: &mut Grove, ahead: &mut Ahead) -> Result<(u8, u32), Fail> {
+    let mut levels: u8 = 0;
+    let mut nodes: u32 = 0;
+    for _ in 0..grove.pages.counted() {
+        if let Some(said) = ahead.nodes.pop() {
+            let level = look_at(grove, said, ahead)?;
+            nodes = nodes.saturating_add(1);
+            levels = levels.max(level.saturating_add(1));
+        }
+    }
+    Ok((levels, nodes))
+}
+
+// Whether nothing is left to be looked at.
+fn is_over(ahead: &Ahead) -> bool {
+    for nth in ahead.places.as_slice() {
+        if *nth != 0 {
+            return false;
+        }
+    }
+    ahead.nodes.is_empty()
+}
+
+// What is to be looked at in the beginning: the root, and the places that live.
+fn ahead_of(alloc: Global, grove: &Grove) -> Result<Ahead, Fail> {
+    let mut nodes = Vec::new(alloc);
+    if grove.tree.root != 0 {
+        nodes.push(Said {
+            page: grove.tree.root,
+            form: None,
+        })?;
+    }
+    let places = grove.lives.as_slice().to_vec(alloc)?;
+    Ok(Ahead { nodes, places })
 }
 
 // How many levels and nodes a well-formed tree has. Refuses one that isn't, or that hasn't the places that live with their words.
-fn levels_and_nodes(
-    alloc: Global,
-    pages: &mut MemoryPages,
-    tree: &Tree,
-    lives: &[u64],
-) -> Result<(u32, u32), Fail> {
-    let mut levels: u32 = 0;
-    let mut nodes: u32 = 0;
-    let mut numbers = Vec::new(alloc);
-    let mut ahead = Vec::new(alloc);
-    if tree.root != 0 {
-        ahead.push(Ahead {
-            page: tree.root,
-            said: None,
-        })?;
-    }
-    for _ in 0..pages.counted() {
-        if let Some(next) = ahead.pop() {
-            let page = pages.read(next.page)?;
-            let node = Node::decode(&page).map_err(|_| "no node")?;
-            let (used, all) = sum_of(&node, &mut ahead, &mut numbers)?;
-            judge(&node, next.said, used, all)?;
-            judge_words(pages, tree, next.page, &node, lives)?;
-            nodes = nodes.saturating_add(1);
-            levels = levels.max(u32::from(node.level).saturating_add(1));
-        }
-    }
-    numbers.sort()?;
-    if !ahead.is_empty() || numbers.as_slice() != numbers_of(alloc, lives)?.as_slice() {
+fn levels_and_nodes(alloc: Global, grove: &mut Grove) -> Result<(u8, u32), Fail> {
+    let mut ahead = ahead_of(alloc, grove)?;
+    let found = look_at_all(grove, &mut ahead)?;
+    if !is_over(&ahead) {
         return Err(Fail::new("other places"));
     }
-    Ok((levels, nodes))
+    Ok(found)
 }
 
 // How many pages stand in the free list.
@@ -286,52 +377,43 @@ fn free(pages: &mut MemoryPages) -> Result<u32, Fail> {
     Ok(found)
 }
 
-// Puts a place for the nth time, takes it out where nth is 0, or both where it lived.
-fn change(
+// Lets so many places come, change and go in no order, and looks at the tree after each hundred.
+fn come(
     alloc: Global,
-    pages: &mut MemoryPages,
-    tree: &mut Tree,
+    grove: &mut Grove,
     policy: &mut dyn SplitPolicy,
-    lives: &mut Vec<u64>,
-    number: u64,
-    nth: u64,
+    turns: u64,
 ) -> Result<(), Fail> {
-    let life = lives.get_mut(usize::try_from(number)?).ok_or("no place")?;
-    if *life != 0 && !delete(alloc, pages, tree, policy, &entry(number, *life)?)? {
-        return Err(Fail::new("a place that isn't there"));
-    }
-    if nth != 0 {
-        insert(alloc, pages, tree, policy, &entry(number, nth)?)?;
-    }
-    *life = nth;
-    Ok(())
-}
-
-// Lets so many places come, change and go in no order, looks at the tree after each hundred, and takes all out. The tree is empty then,
-// no word has a row, and no page is lost.
-fn come_and_go(alloc: Global, policy: &mut dyn SplitPolicy, turns: u64) -> Result<(), Fail> {
-    let mut pages = MemoryPages::new(alloc, 4_096);
-    let mut tree = EMPTY;
-    let mut lives = vec![in alloc; 0; PLACES as usize]?;
     let mut seed: u64 = 1;
     for turn in 1..=turns {
         seed = seed.wrapping_mul(6_364_136_223_846_793_005).wrapping_add(1);
         let number = (seed >> 33) % PLACES;
         let nth = if seed >> 62 == 0 { 0 } else { turn };
-        change(
-            alloc, &mut pages, &mut tree, policy, &mut lives, number, nth,
-        )?;
+        change(alloc, grove, policy, number, nth)?;
         if turn % 100 == 0 {
-            levels_and_nodes(alloc, &mut pages, &tree, lives.as_slice())?;
+            levels_and_nodes(alloc, grove)?;
         }
     }
+    Ok(())
+}
+
+// Takes all places out. The tree is empty then, no word has a row, and no page is lost.
+fn go(alloc: Global, grove: &mut Grove, policy: &mut dyn SplitPolicy) -> Result<(), Fail> {
     for number in 0..PLACES {
-        change(alloc, &mut pages, &mut tree, policy, &mut lives, number, 0)?;
+        change(alloc, grove, policy, number, 0)?;
     }
-    if tree != EMPTY || free(&mut pages)?.saturating_add(1) != pages.counted() {
+    let left = free(&mut grove.pages)?.saturating_add(1);
+    if grove.tree != EMPTY || left != grove.pages.counted() {
         return Err(Fail::new("a page is lost"));
     }
     Ok(())
+}
+
+// Lets so many places come, change and go, and takes all out.
+fn come_and_go(alloc: Global, policy: &mut dyn SplitPolicy, turns: u64) -> Result<(), Fail> {
+    let mut grove = empty_grove(alloc, PLACES as usize)?;
+    come(alloc, &mut grove, policy, turns)?;
+    go(alloc, &mut grove, policy)
 }
 
 // Whether a node has the same in a slot, which is used, as another one.
@@ -345,7 +427,7 @@ fn has_same(node: &Page, other: &Page, at: usize) -> bool
 }
 
 // The number of the place in a slot of a leaf.
-fn number_at(node: &Page, at: usize) -> Option<u64>
+pub(crate) fn number_at(node: &Page, at: usize) -> Option<u64>
     requires { at < 32 }
 {
     let Ok(Some(slot)) = slot_at(node, at) else {
@@ -378,35 +460,31 @@ fn are_parted(full: &Page, stay: &Page, go: &Page, moved: u64) -> bool {
     true
 }
 
-#[test]
-fn a_leaf_is_split_and_its_halves_become_one(rt: HostRuntime) -> Result<(), Fail> {
-    let mut pages = MemoryPages::new(rt.alloc(), 64);
-    let mut tree = EMPTY;
+// Puts 33 places and takes 22 of them out, and looks at the tree after each change: whether a second level comes with the last place, and goes.
+fn split_and_join(alloc: Global, grove: &mut Grove) -> Result<bool, Fail> {
     let mut policy = Quadratic::new();
-    let mut lives = vec![in rt.alloc(); 0; 33]?;
     for turn in 0..55 {
         let (number, nth) = if turn < 33 { (turn, 1) } else { (turn - 33, 0) };
-        change(
-            rt.alloc(),
-            &mut pages,
-            &mut tree,
-            &mut policy,
-            &mut lives,
-            number,
-            nth,
-        )?;
-        let found = levels_and_nodes(rt.alloc(), &mut pages, &tree, lives.as_slice())?;
-        assert!(rt; turn != 32 || found == (2, 3));
-        assert!(rt; turn != 31 && turn != 54 || found == (1, 1));
+        change(alloc, grove, &mut policy, number, nth)?;
+        let found = levels_and_nodes(alloc, grove)?;
+        let is_wrong = match turn {
+            32 => found != (2, 3),
+            31 | 54 => found != (1, 1),
+            _ => false,
+        };
+        if is_wrong {
+            return Ok(false);
+        }
     }
-    let again = delete(
-        rt.alloc(),
-        &mut pages,
-        &mut tree,
-        &mut policy,
-        &entry(0, 1)?,
-    )?;
-    assert!(rt; !again);
+    let gone = entry(0, 1)?;
+    let is_there = delete(alloc, &mut grove.pages, &mut grove.tree, &mut policy, &gone)?;
+    Ok(!is_there)
+}
+
+#[test]
+fn a_leaf_is_split_and_its_halves_become_one(rt: HostRuntime) -> Result<(), Fail> {
+    let mut grove = empty_grove(rt.alloc(), 33)?;
+    assert!(rt; split_and_join(rt.alloc(), &mut grove)?);
     Ok(())
 }
 
@@ -417,46 +495,51 @@ fn places_come_and_go_under_any_policy(rt: HostRuntime) -> Result<(), Fail> {
     come_and_go(rt.alloc(), &mut Halving::new(), 3_000)
 }
 
+// Whether a leaf that was full stands below the root's first slot now, and its entries and place 32 lie where a mask says.
+fn is_split_by(grove: &mut Grove, old: u32, full: &Page, moved: u64) -> Result<bool, Fail> {
+    let root = grove.pages.read(grove.tree.root)?;
+    let stay = grove.pages.read(old)?;
+    let go = grove.pages.read(child_at(&root, 1))?;
+    let moves = moved >> 32 & 1 == 1;
+    Ok(
+        child_at(&root, 0) == old
+            && are_parted(full, &stay, &go, moved)
+            && has_place(&go, 32) == moves
+            && has_place(&stay, 32) != moves,
+    )
+}
+
+// Whether the root's child that was chosen has the place of a number.
+fn has_chosen(grove: &mut Grove, chosen: u8, number: u64) -> Result<bool, Fail> {
+    let root = grove.pages.read(grove.tree.root)?;
+    let child = grove.pages.read(child_at(&root, usize::from(chosen % 32)))?;
+    Ok(has_place(&child, number))
+}
+
+// Whether the 33rd place goes where the policy's mask says, and each of seven more where it chose.
+fn goes_where_said(alloc: Global, grove: &mut Grove, policy: &mut Worst) -> Result<bool, Fail> {
+    for number in 0..32 {
+        change(alloc, grove, policy, number, 1)?;
+    }
+    let old = grove.tree.root;
+    let full = grove.pages.read(old)?;
+    change(alloc, grove, policy, 32, 1)?;
+    if !is_split_by(grove, old, &full, policy.moved)? {
+        return Ok(false);
+    }
+    for number in 33..40 {
+        change(alloc, grove, policy, number, 1)?;
+        if !has_chosen(grove, policy.chosen, number)? {
+            return Ok(false);
+        }
+    }
+    Ok(true)
+}
+
 #[test]
 fn an_entry_goes_where_the_policy_says(rt: HostRuntime) -> Result<(), Fail> {
-    let mut pages = MemoryPages::new(rt.alloc(), 64);
-    let mut tree = EMPTY;
+    let mut grove = empty_grove(rt.alloc(), 40)?;
     let mut policy = Worst::new();
-    for number in 0..32 {
-        insert(
-            rt.alloc(),
-            &mut pages,
-            &mut tree,
-            &mut policy,
-            &entry(number, 1)?,
-        )?;
-    }
-    let old = tree.root;
-    let full = pages.read(old)?;
-    insert(
-        rt.alloc(),
-        &mut pages,
-        &mut tree,
-        &mut policy,
-        &entry(32, 1)?,
-    )?;
-    let root = pages.read(tree.root)?;
-    let stay = pages.read(old)?;
-    let go = pages.read(child_at(&root, 1))?;
-    assert_eq!(rt; child_at(&root, 0), old);
-    assert!(rt; are_parted(&full, &stay, &go, policy.moved));
-    assert_eq!(rt; has_place(&go, 32), policy.moved >> 32 & 1 == 1);
-    assert!(rt; has_place(&go, 32) != has_place(&stay, 32));
-    for number in 33..40 {
-        insert(
-            rt.alloc(),
-            &mut pages,
-            &mut tree,
-            &mut policy,
-            &entry(number, 1)?,
-        )?;
-        let chosen = pages.read(child_at(&root, usize::from(policy.chosen % 32)))?;
-        assert!(rt; has_place(&chosen, number));
-    }
+    assert!(rt; goes_where_said(rt.alloc(), &mut grove, &mut policy)?);
     Ok(())
 }

@@ -6,58 +6,39 @@ use rtree_nodes::count;
 use spatial_base::{Key, Point};
 use split_policy::Halving;
 use std::alloc::Global;
-use std::test::Fail;
 use tree_updates::{put_entry, take_entry};
 
 static EMPTY: Tree = Tree { root: 0, rows: 0 };
 
-// A place: how many tenths of a degree east it is, or -1 where there is none, and the number of its word.
-#[derive(Clone, Copy)]
-struct Spot {
-    tenths: i32,
-    word: u64,
-}
+// Where a place is: how many tenths of a degree east, or -1 where there is none, and the number of its word.
+type Spot = (i32, u64);
 
-static NOWHERE: Spot = Spot {
-    tenths: -1,
-    word: 0,
-};
+const NOWHERE: Spot = (-1, 0);
 
-// A change of one place: its number, where it was before with which word, and where it is now.
-static CHANGES: [(u64, i32, u64, i32, u64); 9] = [
-    (1, -1, 0, 5, 1),
-    (2, -1, 0, 5, 1),
-    (1, 5, 1, 5, 1),
-    (1, 5, 1, 5, 2),
-    (1, 5, 2, 9, 2),
-    (3, -1, 0, 9, 1),
-    (2, 5, 1, -1, 0),
-    (1, 9, 2, -1, 0),
-    (3, 9, 1, -1, 0),
-];
-
-// How many entries there are after each of them, and how many of these have the words 1 and 2.
-static ENTRIES: [(usize, usize, usize); 9] = [
-    (1, 1, 0),
-    (2, 2, 0),
-    (2, 2, 0),
-    (2, 1, 1),
-    (2, 1, 1),
-    (3, 2, 1),
-    (2, 1, 1),
-    (1, 1, 0),
-    (0, 0, 0),
+// A change of one place: its number, where it was before and where it is now; and how many entries there are then, and how many of these have
+// the words 1 and 2.
+static CHANGES: [(u64, Spot, Spot, usize, usize, usize); 9] = [
+    (1, NOWHERE, (5, 1), 1, 1, 0),
+    (2, NOWHERE, (5, 1), 2, 2, 0),
+    (1, (5, 1), (5, 1), 2, 2, 0),
+    (1, (5, 1), (5, 2), 2, 1, 1),
+    (1, (5, 2), (9, 2), 2, 1, 1),
+    (3, NOWHERE, (9, 1), 3, 2, 1),
+    (2, (5, 1), NOWHERE, 2, 1, 1),
+    (1, (9, 2), NOWHERE, 1, 1, 0),
+    (3, (9, 1), NOWHERE, 0, 0, 0),
 ];
 
 // What the place table keeps of a place.
 fn stored(spot: Spot) -> Option<Stored> {
-    if spot.tenths < 0 {
+    let (tenths, word) = spot;
+    if tenths < 0 {
         return None;
     }
     let mut pairs = [(0, 0); PAIRS_MAX];
-    pairs[0] = (spot.word, 7);
+    pairs[0] = (word, 7);
     Some(Stored {
-        point: Point::new(spot.tenths.checked_mul(1_000_000)?, 0)?,
+        point: Point::new(tenths.checked_mul(1_000_000)?, 0)?,
         count: 1,
         pairs,
     })
@@ -102,98 +83,101 @@ fn having(pages: &mut MemoryPages, tree: &Tree, word: u64) -> Result<usize, Page
     Ok(found)
 }
 
-// How many pages are free: as many as can be taken before one more is counted.
-fn free(pages: &mut MemoryPages) -> Result<u32, PageFault> {
-    let mut found: u32 = 0;
+// Whether the tree is empty and no page is lost: as many can be taken as there are before one more is counted.
+fn is_empty(pages: &mut MemoryPages, tree: &Tree) -> Result<bool, PageFault> {
+    let mut free: u32 = 0;
     for _ in 0..pages.counted() {
         if pages.first_free() != 0 {
             pages.take()?;
-            found = found.saturating_add(1);
+            free = free.saturating_add(1);
         }
     }
-    Ok(found)
+    Ok(*tree == EMPTY && free == pages.counted().saturating_sub(1))
+}
+
+// Makes the changes: whether the entries are as they should be after each of them.
+fn change_all(alloc: Global, pages: &mut MemoryPages, tree: &mut Tree) -> Result<bool, PageFault> {
+    for (number, from, to, entries, first, second) in &CHANGES {
+        change(alloc, pages, tree, *number, *from, *to)?;
+        if used(pages, tree)? != *entries
+            || having(pages, tree, 1)? != *first
+            || having(pages, tree, 2)? != *second
+        {
+            return Ok(false);
+        }
+    }
+    Ok(true)
 }
 
 #[test]
-fn places_are_put_moved_and_taken(rt: HostRuntime) -> Result<(), Fail> {
+fn places_are_put_moved_and_taken(rt: HostRuntime) {
     let mut pages = MemoryPages::new(rt.alloc(), 8);
     let mut tree = EMPTY;
-    for (turn, after) in CHANGES.iter().zip(&ENTRIES) {
-        let from = Spot {
-            tenths: turn.1,
-            word: turn.2,
-        };
-        let to = Spot {
-            tenths: turn.3,
-            word: turn.4,
-        };
-        change(rt.alloc(), &mut pages, &mut tree, turn.0, from, to)?;
-        assert_eq!(rt; used(&mut pages, &tree), Ok(after.0));
-        assert_eq!(rt; having(&mut pages, &tree, 1), Ok(after.1));
-        assert_eq!(rt; having(&mut pages, &tree, 2), Ok(after.2));
+    assert_eq!(rt; change_all(rt.alloc(), &mut pages, &mut tree), Ok(true));
+    assert_eq!(rt; is_empty(&mut pages, &tree), Ok(true));
+}
+
+// Where a place of forty is at first, after the first turn, and so on.
+fn spot_of(number: u8, turn: u8) -> Spot {
+    let tenths = i32::from(number);
+    match turn {
+        1 => (tenths, u64::from(number % 4)),
+        2 => (tenths.saturating_add(700), u64::from(number % 4)),
+        _ => NOWHERE,
     }
-    assert_eq!(rt; tree, EMPTY);
-    let counted = pages.counted();
-    assert_eq!(rt; free(&mut pages), Ok(counted.saturating_sub(1)));
-    Ok(())
+}
+
+// Lets forty places go from where they are before a turn to where they are after it, and returns how many slots the root has then.
+fn turn_forty(
+    alloc: Global,
+    pages: &mut MemoryPages,
+    tree: &mut Tree,
+    turn: u8,
+) -> Result<usize, PageFault> {
+    for number in 0..40 {
+        let from = spot_of(number, turn.saturating_sub(1));
+        let to = spot_of(number, turn);
+        change(alloc, pages, tree, u64::from(number), from, to)?;
+    }
+    used(pages, tree)
 }
 
 #[test]
-fn forty_places_go_elsewhere_and_away(rt: HostRuntime) -> Result<(), Fail> {
+fn forty_places_go_elsewhere_and_away(rt: HostRuntime) {
     let mut pages = MemoryPages::new(rt.alloc(), 64);
     let mut tree = EMPTY;
-    for turn in 0..3 {
-        for number in 0..40_u8 {
-            let word = u64::from(number % 4);
-            let near = Spot {
-                tenths: number.into(),
-                word,
-            };
-            let far = Spot {
-                tenths: i32::from(number).saturating_add(700),
-                word,
-            };
-            let (from, to) = match turn {
-                0 => (NOWHERE, near),
-                1 => (near, far),
-                _ => (far, NOWHERE),
-            };
-            change(rt.alloc(), &mut pages, &mut tree, number.into(), from, to)?;
-        }
-        let nodes = if turn < 2 { 2 } else { 0 };
-        assert_eq!(rt; used(&mut pages, &tree), Ok(nodes));
+    for (turn, nodes) in [(1, 2), (2, 2), (3, 0)] {
+        assert_eq!(rt;
+            turn_forty(rt.alloc(), &mut pages, &mut tree, turn),
+            Ok(nodes)
+        );
     }
-    assert_eq!(rt; tree, EMPTY);
-    let counted = pages.counted();
-    assert_eq!(rt; free(&mut pages), Ok(counted.saturating_sub(1)));
-    Ok(())
+    assert_eq!(rt; is_empty(&mut pages, &tree), Ok(true));
 }
 
+// Changes of a place that isn't where it was before.
+static REFUSED: [(u64, Spot, Spot); 3] = [
+    (1, (6, 1), NOWHERE),
+    (2, (5, 1), NOWHERE),
+    (1, (6, 1), (5, 1)),
+];
+
 #[test]
-fn a_place_that_is_elsewhere_is_a_damage(rt: HostRuntime) -> Result<(), Fail> {
+fn a_place_that_is_elsewhere_is_a_damage(rt: HostRuntime) {
     let mut pages = MemoryPages::new(rt.alloc(), 8);
     let mut tree = EMPTY;
-    let at_five = Spot { tenths: 5, word: 1 };
-    let at_six = Spot { tenths: 6, word: 1 };
-    change(rt.alloc(), &mut pages, &mut tree, 1, NOWHERE, at_five)?;
+    assert_eq!(rt;
+        change(rt.alloc(), &mut pages, &mut tree, 1, NOWHERE, (5, 1)),
+        Ok(())
+    );
     let before = tree;
-    let none = Err(PageFault::Damaged(Damage {
+    let none = PageFault::Damaged(Damage {
         page: 0,
         rule: Rule::Entry,
-    }));
-    assert_eq!(rt;
-        change(rt.alloc(), &mut pages, &mut tree, 1, at_six, NOWHERE),
-        none
-    );
-    assert_eq!(rt;
-        change(rt.alloc(), &mut pages, &mut tree, 2, at_five, NOWHERE),
-        none
-    );
-    assert_eq!(rt;
-        change(rt.alloc(), &mut pages, &mut tree, 1, at_six, at_five),
-        none
-    );
-    assert_eq!(rt; tree, before);
-    assert_eq!(rt; used(&mut pages, &tree), Ok(1));
-    Ok(())
+    });
+    for (number, from, to) in &REFUSED {
+        let changed = change(rt.alloc(), &mut pages, &mut tree, *number, *from, *to);
+        assert_eq!(rt; changed, Err(none));
+    }
+    assert!(rt; tree == before && used(&mut pages, &tree) == Ok(1));
 }
