@@ -2,16 +2,13 @@
 ghost use Rattle.std.specs.Prelude.{◌≡◌};
 ghost use Rattle.query_lang.specs.Plain.{IsSound};
 
-use crate::runs::{ROOM, run_on};
+use crate::runs::{reads_with, stored_by};
 use disk_model::{MemoryStation, Tear};
 use irtree_engine::Engine;
-use irtree_top::Ended;
 use query_lang::{Line, read_line};
-use split_policy::{Quadratic, SplitPolicy};
+use split_policy::Quadratic;
 use std::alloc::Global;
 use std::test::Fail;
-
-static SCRIPT: &[u8] = b"add z 0 0 a1\nnearest 0 0 5\ngroup 0 0 words a1 b1\n";
 
 // Does what a line says by the engine's own call.
 fn follow(engine: &mut Engine<'_, MemoryStation>, line: Line) -> Result<(), Fail>
@@ -50,13 +47,12 @@ fn act_on_all(alloc: Global, engine: &mut Engine<'_, MemoryStation>) -> Result<(
     act(alloc, engine, b"group 0 0 words a1 b1")
 }
 
+static SCRIPT: &[u8] = b"add z 0 0 a1\nnearest 0 0 5\ngroup 0 0 words a1 b1\n";
+
 // How often a store's station is read by an engine without a cache, from its opening to its close.
-fn reads_by_calls(
-    alloc: Global,
-    made: &MemoryStation,
-    policy: Box<dyn SplitPolicy>,
-) -> Result<u64, Fail> {
-    let mut station = made.crashed(Tear::Kept).map_err(|_| "memory")?;
+fn reads_by_calls(alloc: Global, made: &MemoryStation) -> Result<u64, Fail> {
+    let mut station = made.crashed(Tear::Kept)?;
+    let policy = Box::new(alloc, Quadratic::new())?;
     let mut engine = Engine::open(alloc, &mut station, 0, policy)?;
     let outcome = act_on_all(alloc, &mut engine);
     let settled = engine.settle();
@@ -68,26 +64,8 @@ fn reads_by_calls(
 
 #[test]
 fn a_script_reads_what_the_engine_reads(rt: HostRuntime) -> Result<(), Fail> {
-    let mut made = MemoryStation::new(rt.alloc(), ROOM);
-    let ended = run_on(
-        rt.alloc(),
-        &["-", "make", "--count=5000"],
-        b"",
-        1,
-        &mut made,
-    )?;
-    assert!(rt; ended == Ended::Done);
-    let policy = Box::new(rt.alloc(), Quadratic::new())?;
-    let wanted = reads_by_calls(rt.alloc(), &made, policy)?;
-    let mut station = made.crashed(Tear::Kept).map_err(|_| "memory")?;
-    let ended = run_on(
-        rt.alloc(),
-        &["-", "run", "--cache=0"],
-        SCRIPT,
-        65_536,
-        &mut station,
-    )?;
-    assert!(rt; ended == Ended::Done);
-    assert_eq!(rt; station.reads(), wanted);
+    let made = stored_by(rt.alloc(), &["-", "make", "--count=5000"], b"")?;
+    let wanted = reads_by_calls(rt.alloc(), &made)?;
+    assert_eq!(rt; reads_with(rt.alloc(), "0", SCRIPT, &made)?, wanted);
     Ok(())
 }

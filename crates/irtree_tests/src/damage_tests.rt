@@ -1,5 +1,5 @@
 //! What is done over stores that break a rule.
-use crate::runs::{ROOM, RUN, bytes_of, number_at, run_on};
+use crate::runs::{ROOM, RUN, bytes_of, number_at, run_on, stored_by};
 use disk_model::{Area, MemoryStation};
 use irtree_top::{Ended, StoreFault};
 use page_face::{Damage, Rule};
@@ -20,16 +20,6 @@ enum Spot {
     Uncounted,
 }
 
-// A byte of a page that breaks a rule, what is named, and which of the actions meet it.
-struct Broken {
-    page: Spot,
-    at: u32,
-    byte: u8,
-    named: Spot,
-    rule: Rule,
-    met: [bool; 5],
-}
-
 // Eight places with two words each: `show` reads a place and its words; an update and a load put another word in their place at the first,
 // in the tree too; `top` and `group` read a word's number, the tree and the rows of words.
 static STORE: &[u8] =
@@ -46,187 +36,111 @@ static ACTIONS: [(&[&str; 2], &[u8]); 5] = [
     (&["-", "run"], b"group 0 0 words x y\n"),
 ];
 
-static BROKEN: [Broken; 14] = [
+// Which of the actions meet a rule that is broken: those that read places, those that read the tree, those that change both, or none.
+const PLACES: [bool; 5] = [true, true, true, false, false];
+
+const TREE: [bool; 5] = [false, true, true, true, true];
+
+const CHANGES: [bool; 5] = [false, true, true, false, false];
+
+const NONE: [bool; 5] = [false; 5];
+
+// The page of a byte, its offset and the byte that breaks a rule, the page and the rule that are named, and which actions meet it.
+static BROKEN: [(Spot, u32, u8, Spot, Rule, [bool; 5]); 14] = [
     // The root names a page that isn't counted.
-    Broken {
-        page: Spot::Root,
-        at: 82,
-        byte: 127,
-        named: Spot::Uncounted,
-        rule: Rule::Link,
-        met: [true, true, true, false, false],
-    },
+    (Spot::Root, 82, 127, Spot::Uncounted, Rule::Link, PLACES),
     // The leaf is of no kind.
-    Broken {
-        page: Spot::Leaf,
-        at: 0,
-        byte: 9,
-        named: Spot::Leaf,
-        rule: Rule::Kind,
-        met: [true, true, true, false, false],
-    },
+    (Spot::Leaf, 0, 9, Spot::Leaf, Rule::Kind, PLACES),
     // The leaf has no row.
-    Broken {
-        page: Spot::Leaf,
-        at: 3,
-        byte: 0,
-        named: Spot::Leaf,
-        rule: Rule::Fill,
-        met: [true, true, true, false, false],
-    },
+    (Spot::Leaf, 3, 0, Spot::Leaf, Rule::Fill, PLACES),
     // The leaf's first key is `p9`.
-    Broken {
-        page: Spot::Leaf,
-        at: 18,
-        byte: b'9',
-        named: Spot::Leaf,
-        rule: Rule::Order,
-        met: [true, true, true, false, false],
-    },
+    (Spot::Leaf, 18, b'9', Spot::Leaf, Rule::Order, PLACES),
     // A spare byte isn't zero.
-    Broken {
-        page: Spot::Leaf,
-        at: 5,
-        byte: 1,
-        named: Spot::Leaf,
-        rule: Rule::Spare,
-        met: [true, true, true, false, false],
-    },
+    (Spot::Leaf, 5, 1, Spot::Leaf, Rule::Spare, PLACES),
     // The leaf stands on level 1.
-    Broken {
-        page: Spot::Leaf,
-        at: 4,
-        byte: 1,
-        named: Spot::Leaf,
-        rule: Rule::Level,
-        met: [true, true, true, false, false],
-    },
+    (Spot::Leaf, 4, 1, Spot::Leaf, Rule::Level, PLACES),
     // The first place stands behind 180 degrees.
-    Broken {
-        page: Spot::Leaf,
-        at: 82,
-        byte: 127,
-        named: Spot::Leaf,
-        rule: Rule::Value,
-        met: [true, true, true, false, false],
-    },
+    (Spot::Leaf, 82, 127, Spot::Leaf, Rule::Value, PLACES),
     // No action sees this: the root names page 3, its first leaf, twice, and the second time the leaf's keys are below their separator.
-    Broken {
-        page: Spot::Root,
-        at: 155,
-        byte: 3,
-        named: Spot::Leaf,
-        rule: Rule::Order,
-        met: [false; 5],
-    },
+    (Spot::Root, 155, 3, Spot::Leaf, Rule::Order, NONE),
     // The first word's number isn't that of its text.
-    Broken {
-        page: Spot::Numbers,
-        at: 23,
-        byte: 0,
-        named: Spot::Head,
-        rule: Rule::Words,
-        met: [true, true, true, false, false],
-    },
+    (Spot::Numbers, 23, 0, Spot::Head, Rule::Words, PLACES),
     // Nor this: nine places live.
-    Broken {
-        page: Spot::Head,
-        at: 39,
-        byte: 9,
-        named: Spot::Head,
-        rule: Rule::Counts,
-        met: [false; 5],
-    },
+    (Spot::Head, 39, 9, Spot::Head, Rule::Counts, NONE),
     // The root of the tree is of no kind.
-    Broken {
-        page: Spot::Tree,
-        at: 0,
-        byte: 9,
-        named: Spot::Tree,
-        rule: Rule::Kind,
-        met: [false, true, true, true, true],
-    },
+    (Spot::Tree, 0, 9, Spot::Tree, Rule::Kind, TREE),
     // A spare byte of the root of the tree isn't zero: a node is checked whole before an entry is taken out of it.
-    Broken {
-        page: Spot::Tree,
-        at: 8,
-        byte: 1,
-        named: Spot::Tree,
-        rule: Rule::Spare,
-        met: [false, true, true, false, false],
-    },
+    (Spot::Tree, 8, 1, Spot::Tree, Rule::Spare, CHANGES),
     // A spare byte of the rows of words isn't zero.
-    Broken {
-        page: Spot::Rows,
-        at: 5,
-        byte: 1,
-        named: Spot::Rows,
-        rule: Rule::Spare,
-        met: [false, true, true, true, true],
-    },
+    (Spot::Rows, 5, 1, Spot::Rows, Rule::Spare, TREE),
     // The words by text have no row.
-    Broken {
-        page: Spot::Texts,
-        at: 3,
-        byte: 0,
-        named: Spot::Texts,
-        rule: Rule::Fill,
-        met: [false, true, true, true, true],
-    },
+    (Spot::Texts, 3, 0, Spot::Texts, Rule::Fill, TREE),
 ];
 
 // The page of a spot.
 fn page_of(pages: &[u8], spot: Spot) -> Result<u32, Fail> {
-    let root = number_at(pages, 0, 16)?;
+    // Where page 0 names a root: the field of the places' map, or of another one.
+    let field = match spot {
+        Spot::Head => return Ok(0),
+        Spot::Root | Spot::Leaf | Spot::Uncounted => 16,
+        Spot::Texts => 20,
+        Spot::Numbers => 24,
+        Spot::Rows => 28,
+        Spot::Tree => 32,
+    };
+    let root = number_at(pages, 0, field)?;
     match spot {
-        Spot::Head => Ok(0),
-        Spot::Root => Ok(root),
         Spot::Leaf => number_at(pages, root, 82),
-        Spot::Numbers => number_at(pages, 0, 24),
-        Spot::Texts => number_at(pages, 0, 20),
-        Spot::Rows => number_at(pages, 0, 28),
-        Spot::Tree => number_at(pages, 0, 32),
         Spot::Uncounted => Ok(number_at(pages, root, 82)? | 0x7f00_0000),
+        _ => Ok(root),
     }
 }
 
-// The area Pages of the store, all of it.
-fn pages_of_store(alloc: Global) -> Result<Vec<u8>, Fail> {
-    let mut station = MemoryStation::new(alloc, ROOM);
-    if run_on(alloc, &RUN, STORE, 100, &mut station)? != Ended::Done {
-        return Err("the store was not made".into());
+// The pages of a store with another byte at an offset of a page.
+fn broken(alloc: Global, store: &[u8], page: u32, at: u32, byte: u8) -> Result<Vec<u8>, Fail> {
+    let mut pages = store.to_vec(alloc)?;
+    if let Some(old) = pages.get_mut(page as usize * 4096 + at as usize) {
+        *old = byte;
     }
-    bytes_of(alloc, &mut station, Area::Pages, 65_536)
+    Ok(pages)
+}
+
+// Whether an action over these pages ends so, and says and writes nothing if it doesn't end well.
+fn ends_so(
+    alloc: Global,
+    action: &(&[&str; 2], &[u8]),
+    pages: &[u8],
+    end: Ended,
+) -> Result<bool, Fail> {
+    let mut station = MemoryStation::with_image(alloc, pages, b"", ROOM)?;
+    let (given, input) = (action.0, action.1);
+    let ended = run_on(alloc, given, input, 100, &mut station)?;
+    if end == Ended::Done {
+        return Ok(ended == end);
+    }
+    let left = bytes_of(alloc, &mut station, Area::Pages, 65_536)?;
+    let journal = bytes_of(alloc, &mut station, Area::Journal, 8192)?;
+    let is_untouched = left.as_slice() == pages && journal.as_slice() == [0; 8192].as_slice();
+    Ok(ended == end && station.said().is_empty() && is_untouched)
 }
 
 #[test]
 fn a_broken_rule_is_named_and_nothing_is_written(rt: HostRuntime) -> Result<(), Fail> {
-    let store = pages_of_store(rt.alloc())?;
-    for broken in &BROKEN {
-        let mut pages = store.as_slice().to_vec(rt.alloc())?;
-        let at = page_of(&store, broken.page)? as usize * 4096 + broken.at as usize;
-        if let Some(byte) = pages.get_mut(at) {
-            *byte = broken.byte;
-        }
+    let mut station = stored_by(rt.alloc(), &RUN, STORE)?;
+    let store = bytes_of(rt.alloc(), &mut station, Area::Pages, 65_536)?;
+    for (row, (spot, at, byte, named, rule, met)) in BROKEN.iter().enumerate() {
+        let pages = broken(rt.alloc(), &store, page_of(&store, *spot)?, *at, *byte)?;
         let damage = Damage {
-            page: page_of(&store, broken.named)?,
-            rule: broken.rule,
+            page: page_of(&store, *named)?,
+            rule: *rule,
         };
-        for (action, is_met) in ACTIONS.iter().zip(&broken.met) {
-            let mut station = MemoryStation::with_image(rt.alloc(), &pages, b"", ROOM)?;
-            let (given, input) = (action.0, action.1);
-            let ended = run_on(rt.alloc(), given, input, 100, &mut station)?;
-            if !*is_met {
-                assert!(rt; ended == Ended::Done);
-                continue;
-            }
-            assert!(rt; ended == Ended::Store(StoreFault::Damaged(damage)));
-            assert!(rt; station.said().is_empty());
-            assert!(rt; bytes_of(rt.alloc(), &mut station, Area::Pages, 65_536)? == pages);
-            assert!(rt;
-                bytes_of(rt.alloc(), &mut station, Area::Journal, 8192)?.as_slice()
-                    == [0; 8192].as_slice()
-            );
+        for (action, is_met) in ACTIONS.iter().zip(met) {
+            let end = if *is_met {
+                Ended::Store(StoreFault::Damaged(damage))
+            } else {
+                Ended::Done
+            };
+            assert!(rt; ends_so(rt.alloc(), action, &pages, end)?, "row {row}");
         }
     }
     Ok(())

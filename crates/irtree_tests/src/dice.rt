@@ -4,17 +4,27 @@ ghost use Rattle.std.specs.Prelude.{◌<◌};
 use std::alloc::{AllocError, Global};
 use std::fmt::Write;
 
-static RADII: [&str; 5] = ["0", "0.5", "2", "20", "500"];
+static RADII: [&str; 5] = [" 0", " 0.5", " 2", " 20", " 500"];
 
-static COUNTS: [&str; 8] = ["1", "1", "2", "7", "7", "40", "40", "1000"];
+static COUNTS: [&str; 8] = [" 1", " 1", " 2", " 7", " 7", " 40", " 40", " 1000"];
 
-static SHARES: [&str; 4] = ["0", "300", "500", "1000"];
+static SHARES: [&str; 4] = [" 0", " 300", " 500", " 1000"];
 
-static REACHES: [&str; 4] = ["0.0000001", "1", "50", "402.4922359"];
+static REACHES: [&str; 4] = [" 0.0000001", " 1", " 50", " 402.4922359"];
+
+// Filters: what stands before each of their words, and behind the last.
+static FILTERS: [(&[&str], &str); 6] = [
+    (&[" where "], ""),
+    (&[" where not "], ""),
+    (&[" where ", " and "], ""),
+    (&[" where ", " or "], ""),
+    (&[" where ", " and not (", " or "], ")"),
+    (&[" where not (", " and ", ") or "], ""),
+];
 
 /// Where places stand: in clusters, on borders and anywhere; on a line from border to border; at one point; or in two clusters at
 /// opposite corners.
-#[derive(Clone, Copy, Debug)]
+#[derive(Clone, Copy)]
 pub(crate) enum Ground {
     Clusters,
     Line,
@@ -100,57 +110,60 @@ fn write_degrees(line: &mut String, number: u32, below: u32) -> Result<(), Alloc
     write!(line, " {sign}{}.{:03}", size / 1_000, size % 1_000)
 }
 
-pub(crate) fn write_point(line: &mut String, point: (u32, u32)) -> Result<(), AllocError> {
+/// Writes the degrees of a point, and this between them.
+pub(crate) fn write_point(
+    line: &mut String,
+    point: (u32, u32),
+    between: &str,
+) -> Result<(), AllocError> {
     write_degrees(line, point.0, 180_000)?;
+    line.push_str(between)?;
     write_degrees(line, point.1, 90_000)
 }
 
-// Writes up to five words.
+// Writes the word of a number behind this.
+fn write_word(line: &mut String, before: &str, number: u32) -> Result<(), AllocError> {
+    write!(line, "{before}w{number:02}")
+}
+
+/// Writes up to five words.
 pub(crate) fn write_words(line: &mut String, dice: &mut Dice) -> Result<(), AllocError> {
     for _ in 0..dice.below(6) {
-        write!(line, " w{:02}", dice.word())?;
+        write_word(line, " ", dice.word())?;
     }
     Ok(())
 }
 
 // Writes a filter, or none.
 fn write_filter(line: &mut String, dice: &mut Dice) -> Result<(), AllocError> {
-    let (a, b, c) = (dice.word(), dice.word(), dice.word());
-    match dice.below(8) {
-        0 => write!(line, " where w{a:02}"),
-        1 => write!(line, " where not w{a:02}"),
-        2 => write!(line, " where w{a:02} and w{b:02}"),
-        3 => write!(line, " where w{a:02} or w{b:02}"),
-        4 => write!(line, " where w{a:02} and not (w{b:02} or w{c:02})"),
-        5 => write!(line, " where not (w{a:02} and w{b:02}) or w{c:02}"),
-        _ => Ok(()),
+    let Some((befores, behind)) = FILTERS.get(dice.below(8) as usize) else {
+        return Ok(());
+    };
+    for before in *befores {
+        write_word(line, before, dice.word())?;
     }
+    line.push_str(behind)
+}
+
+// Writes two words that are asked for, and this behind the first.
+fn write_pair(line: &mut String, one: u32, between: &str, other: u32) -> Result<(), AllocError> {
+    write_word(line, " words ", one)?;
+    line.push_str(between)?;
+    write_word(line, " ", other)
 }
 
 // Writes a box with these two points at opposite corners.
 fn write_box(line: &mut String, first: (u32, u32), second: (u32, u32)) -> Result<(), AllocError> {
-    write_point(line, (first.0.min(second.0), first.1.min(second.1)))?;
-    write_point(line, (first.0.max(second.0), first.1.max(second.1)))
+    write_point(line, (first.0.min(second.0), first.1.min(second.1)), "")?;
+    write_point(line, (first.0.max(second.0), first.1.max(second.1)), "")
 }
 
-// Writes what a top query asks for behind its point: two different words, of which a store may know none.
+// Writes what a top query asks for behind its point: an even and an odd word, of which a store may know none.
 fn write_ranking(line: &mut String, dice: &mut Dice) -> Result<(), AllocError> {
-    let count = COUNTS[dice.below(8) as usize];
-    let share = SHARES[dice.below(4) as usize];
-    let reach = REACHES[dice.below(4) as usize];
-    let (even, odd) = (2 * dice.below(22), 2 * dice.below(22) + 1);
-    write!(
-        line,
-        " {count} {share} {reach} words w{even:02}*3 w{odd:02}"
-    )
-}
-
-// Writes a query for a group that has two words, one even and one odd.
-fn write_group(line: &mut String, dice: &mut Dice, at: (u32, u32)) -> Result<(), AllocError> {
-    line.push_str("group")?;
-    write_point(line, at)?;
-    let (even, odd) = (2 * dice.below(20), 2 * dice.below(20) + 1);
-    write!(line, " words w{even:02} w{odd:02}")
+    line.push_str(COUNTS[dice.below(8) as usize])?;
+    line.push_str(SHARES[dice.below(4) as usize])?;
+    line.push_str(REACHES[dice.below(4) as usize])?;
+    write_pair(line, 2 * dice.below(22), "*3", 2 * dice.below(22) + 1)
 }
 
 // Writes a query of each kind in turn; a group query, whose cost is that of many choices, comes seldom.
@@ -162,11 +175,15 @@ fn write_query(
     corner: (u32, u32),
 ) -> Result<(), AllocError> {
     match turn % 17 {
-        0 => write_group(line, dice, at),
+        0 => {
+            line.push_str("group")?;
+            write_point(line, at, "")?;
+            write_pair(line, 2 * dice.below(20), "", 2 * dice.below(20) + 1)
+        }
         1..=4 => {
             line.push_str("range")?;
-            write_point(line, at)?;
-            write!(line, " {}", RADII[dice.below(5) as usize])?;
+            write_point(line, at, "")?;
+            line.push_str(RADII[dice.below(5) as usize])?;
             write_filter(line, dice)
         }
         5..=8 => {
@@ -176,19 +193,19 @@ fn write_query(
         }
         9..=12 => {
             line.push_str("nearest")?;
-            write_point(line, at)?;
-            write!(line, " {}", COUNTS[dice.below(8) as usize])?;
+            write_point(line, at, "")?;
+            line.push_str(COUNTS[dice.below(8) as usize])?;
             write_filter(line, dice)
         }
         _ => {
             line.push_str("top")?;
-            write_point(line, at)?;
+            write_point(line, at, "")?;
             write_ranking(line, dice)
         }
     }
 }
 
-// The query of a turn.
+/// The query of a turn.
 pub(crate) fn query_line(
     alloc: Global,
     dice: &mut Dice,

@@ -3,12 +3,12 @@ ghost use Rattle.std.specs.Prelude.{IfOk};
 ghost use Rattle.query_replies.specs.Reply.{HasReason};
 
 use crate::dice::Dice;
-use crate::runs::said;
+use crate::runs::{RUN, ends_so};
 use irtree_top::Ended;
 use place_map::State;
 use query_lang::{Line, read_line};
 use query_replies::{Reply, UpdateDone, reply_text};
-use std::alloc::Global;
+use std::alloc::{AllocError, Global};
 use std::fmt::Write;
 use std::test::Fail;
 
@@ -22,7 +22,7 @@ const MORE_PLACES: u32 = 40;
 const GROUPS: u32 = 5;
 
 // Words that many places hold, some, and few.
-static WORDS: [&str; 6] = ["a", "b", "c", "d", "e", "f"];
+static WORDS: [&str; 6] = [" a", " b", " c", " d", " e", " f"];
 
 // A place of a map: its point on a small grid, and its words, the nth of them at bit n.
 #[derive(Clone, Copy)]
@@ -44,7 +44,7 @@ fn words_of(dice: &mut Dice) -> u32 {
 }
 
 // The places of a map: on so small a grid many stand at one point.
-fn spots(alloc: Global, dice: &mut Dice) -> Result<Vec<Spot>, Fail> {
+fn spots(alloc: Global, dice: &mut Dice) -> Result<Vec<Spot>, AllocError> {
     let mut spots = Vec::new(alloc);
     let most = match dice.below(10) {
         0 => MORE_PLACES,
@@ -58,95 +58,81 @@ fn spots(alloc: Global, dice: &mut Dice) -> Result<Vec<Spot>, Fail> {
     Ok(spots)
 }
 
-// A line that puts a place.
-fn add_line(alloc: Global, number: usize, dice: &mut Dice, spot: &Spot) -> Result<String, Fail> {
-    let mut line = String::new(alloc);
-    let key = dice.below(90);
-    write!(line, "add k{key}n{number} {} {}", spot.x, spot.y)?;
+// Whether one place alone has some word.
+fn has_lone_word(spots: &[Spot]) -> bool {
+    let (mut some, mut more) = (0, 0);
+    for spot in spots {
+        more |= some & spot.words;
+        some |= spot.words;
+    }
+    some != more
+}
+
+// Whether two places at one point have the same word.
+fn has_tie(spots: &[Spot]) -> bool {
+    for (number, one) in spots.iter().enumerate() {
+        for other in spots.iter().take(number) {
+            if one.x == other.x && one.y == other.y && one.words & other.words != 0 {
+                return true;
+            }
+        }
+    }
+    false
+}
+
+// Writes a line that puts a place.
+fn write_add(
+    script: &mut String,
+    dice: &mut Dice,
+    number: usize,
+    spot: &Spot,
+) -> Result<(), AllocError> {
+    let (key, x, y) = (dice.below(90), spot.x, spot.y);
+    write!(script, "add k{key}n{number} {x} {y}")?;
     let mut left = spot.words;
     for word in &WORDS {
         if left & 1 == 1 {
-            write!(line, " {word}")?;
+            script.push_str(*word)?;
         }
         left >>= 1;
     }
-    Ok(line)
+    script.push_str("\n")
 }
 
-// How many places have the word of a bit.
-fn holders(spots: &[Spot], bit: u32) -> usize {
-    spots.iter().filter(|spot| spot.words & bit != 0).count()
-}
-
-// How many places stand where this one does and have one of its words: it, if it has any, and those that tie with it for the word.
-fn rivals(spots: &[Spot], one: &Spot) -> usize {
-    spots
-        .iter()
-        .filter(|spot| spot.x == one.x && spot.y == one.y && spot.words & one.words != 0)
-        .count()
-}
-
-// How many maps have a word that one place alone has, and how many have two places with the same word at one point.
-#[derive(Clone, Copy)]
-struct Seen {
-    lone: u32,
-    tied: u32,
-}
-
-impl Seen {
-    fn note(&mut self, spots: &[Spot]) {
-        if [1, 2, 4, 8, 16, 32]
-            .iter()
-            .any(|bit| holders(spots, *bit) == 1)
-        {
-            self.lone = self.lone.saturating_add(1);
-        }
-        if spots.iter().any(|spot| rivals(spots, spot) > 1) {
-            self.tied = self.tied.saturating_add(1);
-        }
-    }
-}
-
-// A line that asks for a group of one to four words, from a point on the grid or between its points.
-fn group_line(alloc: Global, dice: &mut Dice) -> Result<String, Fail> {
-    let mut line = String::new(alloc);
+// Writes a line that asks for a group of one to four words, from a point on the grid or between its points.
+fn write_group(script: &mut String, dice: &mut Dice) -> Result<(), AllocError> {
     let (x, y, part) = (dice.below(5), dice.below(4), dice.below(3));
-    write!(line, "group {x}.{part} {y} words")?;
+    write!(script, "group {x}.{part} {y} words")?;
     let (first, count) = (dice.below(6), dice.below(4).saturating_add(1));
     for n in 0..count {
-        let at = (first.saturating_add(n) % 6) as usize;
-        if let Some(word) = WORDS.get(at) {
-            write!(line, " {word}")?;
-        }
+        script.push_str(WORDS[(first.saturating_add(n) % 6) as usize])?;
     }
-    Ok(line)
+    script.push_str("\n")
 }
 
-// The lines of a script over one small map.
-fn small_map(alloc: Global, dice: &mut Dice, seen: &mut Seen) -> Result<Vec<String>, Fail> {
-    let spots = spots(alloc, dice)?;
-    seen.note(&spots);
-    let mut lines = Vec::new(alloc);
+// A script over a map.
+fn script_over(alloc: Global, dice: &mut Dice, spots: &[Spot]) -> Result<String, AllocError> {
+    let mut script = String::new(alloc);
     for (number, spot) in spots.iter().enumerate() {
-        lines.push(add_line(alloc, number, dice, spot)?)?;
+        write_add(&mut script, dice, number, spot)?;
     }
     for _ in 0..GROUPS {
-        lines.push(group_line(alloc, dice)?)?;
+        write_group(&mut script, dice)?;
     }
-    Ok(lines)
+    Ok(script)
 }
 
 // The reply to a line by the scan of a state.
 fn scanned(alloc: Global, state: &mut State, line: &[u8]) -> Result<Reply, Fail>
     ensures { IfOk result HasReason }
 {
-    match read_line(alloc, line).map_err(|_| "no line")? {
+    match read_line(alloc, line)? {
         Line::Do(update) => {
-            state.apply(update).map_err(|_| "refused")?;
+            state.apply(update)?;
             Ok(Reply::Applied(UpdateDone::Ok))
         }
         Line::Ask { query, explain } => Ok(Reply::Found {
-            answer: state.answer(&query).map_err(|_| "memory")?,
+            answer: state.answer(&query)?,
             query,
             explain,
         }),
@@ -154,25 +140,34 @@ fn scanned(alloc: Global, state: &mut State, line: &[u8]) -> Result<Reply, Fail>
     }
 }
 
+// What a script is told by the scan.
+fn replies_to(alloc: Global, script: &str) -> Result<Vec<u8>, Fail> {
+    let mut state = State::new(alloc);
+    let mut replies = Vec::new(alloc);
+    for line in script.lines() {
+        let reply = scanned(alloc, &mut state, line.as_bytes())?;
+        reply_text(alloc, &reply, &mut replies)?;
+    }
+    Ok(replies)
+}
+
 #[test]
 fn groups_are_those_of_the_scan(rt: HostRuntime) -> Result<(), Fail> {
     let mut dice = Dice { seed: 7 };
-    let mut seen = Seen { lone: 0, tied: 0 };
+    let (mut lone, mut tied) = (0_u32, 0_u32);
     for _ in 0..MAPS {
-        let lines = small_map(rt.alloc(), &mut dice, &mut seen)?;
-        let mut script = String::new(rt.alloc());
-        let mut wanted = Vec::new(rt.alloc());
-        let mut state = State::new(rt.alloc());
-        for line in &lines {
-            write!(script, "{line}\n")?;
-            let reply = scanned(rt.alloc(), &mut state, line.as_bytes())?;
-            reply_text(rt.alloc(), &reply, &mut wanted).map_err(|_| "memory")?;
-        }
-        let (ended, replies) = said(rt.alloc(), script.as_bytes(), 65_536)?;
-        assert!(rt; ended == Ended::Done);
-        assert!(rt; replies == wanted, "{script}");
+        let spots = spots(rt.alloc(), &mut dice)?;
+        lone = lone.saturating_add(u32::from(has_lone_word(&spots)));
+        tied = tied.saturating_add(u32::from(has_tie(&spots)));
+        let script = script_over(rt.alloc(), &mut dice, &spots)?;
+        let wanted = replies_to(rt.alloc(), script.as_str())?;
+        let input = script.as_bytes();
+        assert!(rt;
+            ends_so(rt.alloc(), &RUN, input, 65_536, Ended::Done, &wanted)?,
+            "{script}"
+        );
     }
-    assert!(rt; seen.lone > MAPS / 4);
-    assert!(rt; seen.tied > MAPS / 4);
+    // The maps are of both kinds.
+    assert!(rt; lone > MAPS / 4 && tied > MAPS / 4);
     Ok(())
 }

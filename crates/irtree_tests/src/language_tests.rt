@@ -1,7 +1,6 @@
 //! What each line is answered.
-use crate::runs::said;
+use crate::runs::{RUN, ends_so, numbered};
 use irtree_top::Ended;
-use std::alloc::Global;
 use std::test::Fail;
 
 // A script, and what is said of it.
@@ -50,84 +49,25 @@ static SCRIPTS: [(&[u8], &[u8]); 8] = [
 
 #[test]
 fn each_line_is_answered(rt: HostRuntime) -> Result<(), Fail> {
-    for (input, replies) in &SCRIPTS {
-        let (ended, text) = said(rt.alloc(), input, 1_000)?;
-        assert!(rt; ended == Ended::Done);
-        assert!(rt; text.as_slice() == *replies);
+    for (row, (input, replies)) in SCRIPTS.iter().enumerate() {
+        assert!(rt;
+            ends_so(rt.alloc(), &RUN, input, 1_000, Ended::Done, replies)?,
+            "row {row}"
+        );
     }
     Ok(())
 }
 
-// Appends the two digits of a number below 100.
-fn push_digits(text: &mut Vec<u8>, n: u8) -> Result<(), Fail> {
-    text.push(b'0' + n / 10 % 10)?;
-    text.push(b'0' + n % 10)?;
-    Ok(())
-}
-
-// Forty places at one point: the lines that add them, and then this one.
-fn forty(alloc: Global, last: &[u8]) -> Result<Vec<u8>, Fail> {
-    let mut script = Vec::new(alloc);
-    for n in 0..40 {
-        script.extend_from_slice(b"add k")?;
-        push_digits(&mut script, n)?;
-        script.extend_from_slice(b" 1 1 x\n")?;
-    }
-    script.extend_from_slice(last)?;
-    Ok(script)
-}
-
+// Forty places stand at one point, more than a node of the tree holds.
 #[test]
 fn a_tie_goes_to_the_lesser_keys(rt: HostRuntime) -> Result<(), Fail> {
-    let script = forty(rt.alloc(), b"top 0 0 5 500 1 words x\n")?;
-    let mut replies = Vec::new(rt.alloc());
-    for _ in 0..40 {
-        replies.extend_from_slice(b"ok\n")?;
-    }
-    replies.extend_from_slice(
-        b"= 5\n1 \"k00\" 1803122212500\n2 \"k01\" 1803122212500\n3 \"k02\" 1803122212500\n4 \"k03\" 1803122212500\n5 \"k04\" 1803122212500\n",
+    let mut script = numbered(rt.alloc(), 40, "add k# 1 1 x\n")?;
+    script.push_str("top 0 0 5 500 1 words x\n")?;
+    let mut replies = numbered(rt.alloc(), 40, "ok\n")?;
+    replies.push_str(
+        "= 5\n1 \"k00\" 1803122212500\n2 \"k01\" 1803122212500\n3 \"k02\" 1803122212500\n4 \"k03\" 1803122212500\n5 \"k04\" 1803122212500\n",
     )?;
-    assert!(rt; said(rt.alloc(), &script, 1_000)?.1 == replies);
-    Ok(())
-}
-
-// The line that puts a place so many degrees east, below a hundred.
-fn push_add(script: &mut Vec<u8>, n: u8) -> Result<(), Fail> {
-    script.extend_from_slice(b"add t")?;
-    push_digits(script, n)?;
-    script.push(b' ')?;
-    if n >= 10 {
-        script.push(b'0' + n / 10 % 10)?;
-    }
-    script.push(b'0' + n % 10)?;
-    script.extend_from_slice(b" 0\n")?;
-    Ok(())
-}
-
-// The line that takes it out.
-fn push_remove(script: &mut Vec<u8>, n: u8) -> Result<(), Fail> {
-    script.extend_from_slice(b"remove t")?;
-    push_digits(script, n)?;
-    script.push(b'\n')?;
-    Ok(())
-}
-
-#[test]
-fn what_is_left_is_found_after_many_are_taken_out(rt: HostRuntime) -> Result<(), Fail> {
-    let mut script = Vec::new(rt.alloc());
-    let mut replies = Vec::new(rt.alloc());
-    for n in 0..33 {
-        push_add(&mut script, n)?;
-        replies.extend_from_slice(b"ok\n")?;
-    }
-    for n in 0..22 {
-        push_remove(&mut script, n)?;
-        replies.extend_from_slice(b"ok\n")?;
-    }
-    script.extend_from_slice(b"count\nnearest 0 0 3\n")?;
-    replies.extend_from_slice(
-        b"count 11\n= 3\n1 \"t22\" 22.0000000\n2 \"t23\" 23.0000000\n3 \"t24\" 24.0000000\n",
-    )?;
-    assert!(rt; said(rt.alloc(), &script, 1_000)?.1 == replies);
+    let (script, replies) = (script.as_bytes(), replies.as_bytes());
+    assert!(rt; ends_so(rt.alloc(), &RUN, script, 1_000, Ended::Done, replies)?);
     Ok(())
 }

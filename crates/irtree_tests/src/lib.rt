@@ -2,8 +2,6 @@
 #![tactic(auto)]
 
 #[cfg(test)]
-mod answer_tests;
-#[cfg(test)]
 mod call_tests;
 #[cfg(test)]
 mod crash_tests;

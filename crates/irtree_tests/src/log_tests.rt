@@ -1,18 +1,18 @@
-//! Which pages queries over random maps read: each node is one that the query calls for, by what goes round the places below it.
+//! Which pages queries over random maps read: each node is one that the query calls for, by what goes round the places below it. Each
+//! answer is that of a scan of all places.
 ghost use Rattle.std.specs.Prelude.{◌≡◌};
 
-use crate::answer_tests::are_same;
 use crate::dice::{Dice, Ground, query_line, write_point, write_words};
-use crate::runs::{LOAD, ROOM, RUN, bytes_of, number_at, words};
+use crate::runs::{LOAD, ROOM, RUN, all_pages, run_under};
 use crate::tree_nodes::{Node, Round, Tree, is_of_words, tree_in};
-use disk_model::{Area, MemorySource, MemoryStation, Tear};
+use disk_model::{MemorySource, MemoryStation, Tear};
 use irtree_engine::Engine;
-use irtree_top::{Ended, run};
+use irtree_top::Ended;
 use place_map::{Answer, Expr, Hit, Query, State};
 use query_lang::{Line, read_line};
-use spatial_base::{Point, Rect, dist};
+use spatial_base::{Key, Point, Rect, dist};
 use split_policy::{Halving, Quadratic, SplitPolicy};
-use std::alloc::Global;
+use std::alloc::{AllocError, Global};
 use std::fmt::Write;
 use std::test::Fail;
 use term_impacts::Word;
@@ -60,41 +60,31 @@ fn meet(one: &Rect, other: &Rect) -> bool {
         && other.south() <= one.north()
 }
 
-// A top query's words, with their weights, and the other numbers of its costs.
-#[derive(Clone, Copy)]
-struct Costs<'q> {
+// The cost by a top query's numbers of a place that is so far away and has each of its words with the greatest impact; `None` where no
+// place has one of them.
+fn least_cost(
+    round: &Round,
+    words: &[(Word, u8)],
     alpha: u16,
     reach: u64,
-    words: &'q [(Word, u8)],
-}
-
-impl Costs<'_> {
-    // The sum of the weights, and that of each weight times the word's greatest impact.
-    fn sums(&self, round: &Round) -> (u64, u64) {
-        let (mut weights, mut text) = (0_u64, 0_u64);
-        for (word, weight) in self.words {
-            let weight = u64::from(*weight);
-            weights = weights.saturating_add(weight);
-            text = text.saturating_add(weight.saturating_mul(u64::from(round.impact(word))));
-        }
-        (weights, text)
+    far: u64,
+) -> Option<u64> {
+    let (mut all, mut text) = (0_u64, 0_u64);
+    for (word, weight) in words {
+        let weight = u64::from(*weight);
+        all = all.saturating_add(weight.saturating_mul(255));
+        text = text.saturating_add(weight.saturating_mul(u64::from(round.impact(word))));
     }
-
-    // The cost of a place that is so far away and has each word with its greatest impact; `None` where no place has one of them.
-    fn least(&self, round: &Round, far: u64) -> Option<u64> {
-        let (weights, text) = self.sums(round);
-        if text == 0 {
-            return None;
-        }
-        let all = weights.saturating_mul(255);
-        let alpha = u64::from(self.alpha);
-        let by_distance = alpha.saturating_mul(far).saturating_mul(all);
-        let by_words = 1_000_u64
-            .saturating_sub(alpha)
-            .saturating_mul(self.reach)
-            .saturating_mul(all.saturating_sub(text));
-        Some(by_distance.saturating_add(by_words))
+    if text == 0 {
+        return None;
     }
+    let alpha = u64::from(alpha);
+    let by_distance = alpha.saturating_mul(far).saturating_mul(all);
+    let by_words = 1_000_u64
+        .saturating_sub(alpha)
+        .saturating_mul(reach)
+        .saturating_mul(all.saturating_sub(text));
+    Some(by_distance.saturating_add(by_words))
 }
 
 // Whether the last of the hits costs no less than this.
@@ -103,6 +93,16 @@ fn is_up_to_last(cost: u64, hits: &[Hit]) -> bool {
         Some(hit) => cost <= hit.cost,
         None => false,
     }
+}
+
+// Whether one of the places has one of the words.
+fn has_some(round: &Round, words: &[Word]) -> bool {
+    for word in words {
+        if round.impact(word) > 0 {
+            return true;
+        }
+    }
+    false
 }
 
 // Whether a query with these hits calls for a node that isn't the root.
@@ -123,32 +123,24 @@ fn calls_for(query: &Query, hits: &[Hit], round: &Round) -> bool {
             words,
             ..
         } => {
-            let costs = Costs {
-                alpha: *alpha,
-                reach: *reach,
-                words: words.as_slice(),
-            };
-            match costs.least(round, least_distance(&round.rect, at)) {
+            let far = least_distance(&round.rect, at);
+            match least_cost(round, words.as_slice(), *alpha, *reach, far) {
                 Some(cost) => is_up_to_last(cost, hits),
                 None => false,
             }
         }
-        Query::Group { words, .. } => words.as_slice().iter().any(|word| round.impact(word) > 0),
+        Query::Group { words, .. } => has_some(round, words.as_slice()),
     }
 }
 
-// Range, box and group queries open the root whatever is below it.
-fn opens_root(query: &Query) -> bool {
-    matches!(
-        query,
-        Query::Range { .. } | Query::Inside { .. } | Query::Group { .. }
-    )
-}
-
-// Whether a node of a log is one that the query calls for, below one that was asked for.
+// Whether a node of a log is one that the query calls for, below one that was asked for. Range, box and group queries open the root
+// whatever is below it.
 fn is_due(query: &Query, hits: &[Hit], log: &[u32], node: &Node) -> bool {
-    if node.parent == 0 && opens_root(query) {
-        return true;
+    if node.parent == 0 {
+        match query {
+            Query::Nearest { .. } | Query::Top { .. } => {}
+            _ => return true,
+        }
     }
     let is_called = match &node.round {
         Some(round) => calls_for(query, hits, round),
@@ -158,7 +150,7 @@ fn is_due(query: &Query, hits: &[Hit], log: &[u32], node: &Node) -> bool {
 }
 
 // Whether a log has the leaf of a place.
-fn has_leaf(map: &Map, log: &[u32], key: &spatial_base::Key) -> bool {
+fn has_leaf(map: &Map, log: &[u32], key: &Key) -> bool {
     match map.tree.leaves.get(key) {
         Some(leaf) => log.contains(leaf),
         None => false,
@@ -168,19 +160,23 @@ fn has_leaf(map: &Map, log: &[u32], key: &spatial_base::Key) -> bool {
 // Whether a log has the leaf of each place of an answer.
 fn has_leaves(map: &Map, log: &[u32], answer: &Answer) -> bool {
     match answer {
-        Answer::Hits(hits) => hits
-            .as_slice()
-            .iter()
-            .all(|hit| has_leaf(map, log, &hit.key)),
-        Answer::Group(Some(group)) => {
-            group
-                .picks
-                .as_slice()
-                .iter()
-                .all(|pick| has_leaf(map, log, &pick.key))
+        Answer::Hits(hits) => {
+            for hit in hits.as_slice() {
+                if !has_leaf(map, log, &hit.key) {
+                    return false;
+                }
+            }
         }
-        Answer::Group(None) => true,
+        Answer::Group(Some(group)) => {
+            for pick in group.picks.as_slice() {
+                if !has_leaf(map, log, &pick.key) {
+                    return false;
+                }
+            }
+        }
+        Answer::Group(None) => {}
     }
+    true
 }
 
 // Looks at each page of the log of a query.
@@ -213,6 +209,17 @@ struct Map {
     tree: Tree,
 }
 
+fn are_same(one: &Answer, other: &Answer) -> bool {
+    match (one, other) {
+        (Answer::Hits(one), Answer::Hits(other)) => one.as_slice() == other.as_slice(),
+        (Answer::Group(Some(one)), Answer::Group(Some(other))) => {
+            one.cost == other.cost && one.picks.as_slice() == other.picks.as_slice()
+        }
+        (Answer::Group(None), Answer::Group(None)) => true,
+        _ => false,
+    }
+}
+
 // The answer to a query, which has to be that of the scan, and its log are looked at.
 fn look(
     alloc: Global,
@@ -229,14 +236,14 @@ fn look(
         return Err("not within the limits".into());
     }
     let answer = engine.answer(&query)?;
-    let wanted = map.state.answer(&query).map_err(|_| "memory")?;
+    let wanted = map.state.answer(&query)?;
     if !are_same(&answer, &wanted) {
         return Err("another answer".into());
     }
     check_log(map, &query, &answer, engine.read_log())
 }
 
-// Looks at so many queries over an engine.
+// Looks at all queries over an engine.
 fn look_at_all(
     alloc: Global,
     map: &Map,
@@ -253,89 +260,77 @@ fn look_at_all(
 
 // Writes the feature of a place that a load reads.
 fn write_feature(
-    feature: &mut String,
+    text: &mut String,
     number: u32,
-    degrees: &str,
+    point: (u32, u32),
     words: &str,
-) -> Result<(), Fail> {
-    feature.push_str("{\"type\":\"Feature\",\"id\":\"p")?;
-    write!(feature, "{number:04}\",\"geometry\":")?;
-    feature.push_str("{\"type\":\"Point\",\"coordinates\":[")?;
-    for (n, part) in degrees.split_whitespace().enumerate() {
-        feature.push_str(if n == 0 { "" } else { "," })?;
-        feature.push_str(part)?;
-    }
-    feature.push_str("]},\"properties\":{\"t\":\"")?;
-    feature.push_str(words)?;
-    feature.push_str("\"}}")?;
-    Ok(())
+) -> Result<(), AllocError> {
+    text.push_str("{\"type\":\"Feature\",\"id\":\"")?;
+    write!(text, "p{number:04}")?;
+    text.push_str("\",\"geometry\":{\"type\":\"Point\",\"coordinates\":[")?;
+    write_point(text, point, ",")?;
+    text.push_str("]},\"properties\":{\"t\":\"")?;
+    text.push_str(words)?;
+    text.push_str("\"}}")
 }
 
-// A place in two spellings: the feature that a load reads, and the line that puts it.
-fn write_place(
-    alloc: Global,
-    dice: &mut Dice,
-    ground: Ground,
+// Writes the line that puts it.
+fn write_add(
+    script: &mut String,
     number: u32,
-    feature: &mut String,
-    line: &mut String,
-) -> Result<(), Fail> {
-    let point = dice.point_on(ground);
-    let mut degrees = String::new(alloc);
-    write_point(&mut degrees, point)?;
-    let mut words = String::new(alloc);
-    write_words(&mut words, dice)?;
-    write!(line, "add p{number:04}{degrees}{words}")?;
-    write_feature(feature, number, degrees.as_str(), words.as_str())
+    point: (u32, u32),
+    words: &str,
+) -> Result<(), AllocError> {
+    write!(script, "add p{number:04}")?;
+    write_point(script, point, "")?;
+    script.push_str(words)?;
+    script.push_str("\n")
 }
 
-// Does what a line says to a state.
-fn follow(alloc: Global, state: &mut State, line: &str) -> Result<(), Fail> {
-    let Ok(Line::Do(update)) = read_line(alloc, line.as_bytes()) else {
-        return Err("no update".into());
-    };
-    state.apply(update).map_err(|_| "not updated")?;
-    Ok(())
-}
-
-// Puts the places of a ground into a state, and returns them as a text to be loaded.
-fn first_places(
+// Writes the places of a ground in two spellings: as a text that a load reads, and as a script.
+fn write_places(
     alloc: Global,
     dice: &mut Dice,
     ground: Ground,
-    state: &mut State,
-) -> Result<String, Fail> {
-    let mut text = String::new(alloc);
+    text: &mut String,
+    script: &mut String,
+) -> Result<(), AllocError> {
     text.push_str("{\"type\":\"FeatureCollection\",\"features\":[")?;
     for number in 0..PLACES {
-        let mut line = String::new(alloc);
+        let point = dice.point_on(ground);
+        let mut words = String::new(alloc);
+        write_words(&mut words, dice)?;
         text.push_str(if number == 0 { "" } else { "," })?;
-        write_place(alloc, dice, ground, number, &mut text, &mut line)?;
-        follow(alloc, state, line.as_str())?;
+        write_feature(text, number, point, words.as_str())?;
+        write_add(script, number, point, words.as_str())?;
     }
-    text.push_str("]}")?;
-    Ok(text)
+    text.push_str("]}")
 }
 
-// Removes each tenth place from a state, moves the one behind it, and returns the same as a script.
-fn changes(
-    alloc: Global,
-    dice: &mut Dice,
-    ground: Ground,
-    state: &mut State,
-) -> Result<String, Fail> {
+// A script that removes each tenth place and moves the one behind it.
+fn changes(alloc: Global, dice: &mut Dice, ground: Ground) -> Result<String, AllocError> {
     let mut script = String::new(alloc);
     for tenth in 0..PLACES / 10 {
-        let mut line = format!(in alloc; "remove p{:04}", 10 * tenth)?;
-        follow(alloc, state, line.as_str())?;
-        write!(script, "{line}\n")?;
-        line.clear();
-        let mut feature = String::new(alloc);
-        write_place(alloc, dice, ground, 10 * tenth + 1, &mut feature, &mut line)?;
-        follow(alloc, state, line.as_str())?;
-        write!(script, "{line}\n")?;
+        let number = 10 * tenth;
+        write!(script, "remove p{number:04}\n")?;
+        let point = dice.point_on(ground);
+        let mut words = String::new(alloc);
+        write_words(&mut words, dice)?;
+        write_add(&mut script, number + 1, point, words.as_str())?;
     }
     Ok(script)
+}
+
+// The state that a script makes.
+fn state_of(alloc: Global, script: &str) -> Result<State, Fail> {
+    let mut state = State::new(alloc);
+    for line in script.lines() {
+        let Ok(Line::Do(update)) = read_line(alloc, line.as_bytes()) else {
+            return Err("no update".into());
+        };
+        state.apply(update)?;
+    }
+    Ok(state)
 }
 
 // Runs an action over a station under a policy, to a good end.
@@ -346,18 +341,33 @@ fn run_well(
     station: &mut MemoryStation,
     policy: Box<dyn SplitPolicy>,
 ) -> Result<(), Fail> {
-    let mut source = MemorySource::new(alloc, input.as_bytes(), 65_536, &[]).map_err(|_| "memory")?;
-    match run(alloc, &words(alloc, given)?, &mut source, station, policy) {
+    let mut source = MemorySource::new(alloc, input.as_bytes(), 65_536, &[])?;
+    match run_under(alloc, given, &mut source, station, policy)? {
         Ended::Done => Ok(()),
         _ => Err("the run didn't end well".into()),
     }
 }
 
-// All pages of a store.
-fn all_pages(alloc: Global, station: &mut MemoryStation) -> Result<Vec<u8>, Fail> {
-    let head = bytes_of(alloc, station, Area::Pages, 4_096)?;
-    let counted = number_at(&head, 0, 8)?;
-    bytes_of(alloc, station, Area::Pages, counted.saturating_mul(4_096))
+// A store with the places of a text, loaded under one policy, which a script changed under another one.
+fn stored(
+    alloc: Global,
+    text: &str,
+    script: &str,
+    first: Box<dyn SplitPolicy>,
+    second: Box<dyn SplitPolicy>,
+) -> Result<MemoryStation, Fail> {
+    let mut station = MemoryStation::new(alloc, ROOM);
+    run_well(alloc, &LOAD, text, &mut station, first)?;
+    run_well(alloc, &RUN, script, &mut station, second)?;
+    Ok(station.crashed(Tear::Kept)?)
+}
+
+// The state that a script makes, and its store, as a map.
+fn map_of(alloc: Global, script: &str, station: &mut MemoryStation) -> Result<Map, Fail> {
+    let state = state_of(alloc, script)?;
+    let pages = all_pages(alloc, station)?;
+    let tree = tree_in(alloc, &pages, &state)?;
+    Ok(Map { state, pages, tree })
 }
 
 // The queries of a ground, as lines.
@@ -366,7 +376,7 @@ fn queries(
     dice: &mut Dice,
     ground: Ground,
     count: u32,
-) -> Result<Vec<String>, Fail> {
+) -> Result<Vec<String>, AllocError> {
     let mut lines = Vec::new(alloc);
     for turn in 0..count {
         lines.push(query_line(alloc, dice, turn, ground)?)?;
@@ -374,7 +384,7 @@ fn queries(
     Ok(lines)
 }
 
-// The places of a ground, loaded under one policy and changed under another, their store, and so many queries.
+// The places of a ground, loaded under one policy and changed under another one, as a map, their store, and so many queries.
 fn made(
     alloc: Global,
     ground: Ground,
@@ -383,17 +393,14 @@ fn made(
     second: Box<dyn SplitPolicy>,
 ) -> Result<(Map, MemoryStation, Vec<String>), Fail> {
     let mut dice = Dice { seed: 11 };
-    let mut state = State::new(alloc);
-    let mut station = MemoryStation::new(alloc, ROOM);
-    let text = first_places(alloc, &mut dice, ground, &mut state)?;
-    run_well(alloc, &LOAD, text.as_str(), &mut station, first)?;
-    let script = changes(alloc, &mut dice, ground, &mut state)?;
-    run_well(alloc, &RUN, script.as_str(), &mut station, second)?;
-    let pages = all_pages(alloc, &mut station)?;
-    let tree = tree_in(alloc, &pages, &state)?;
+    let (mut text, mut script) = (String::new(alloc), String::new(alloc));
+    write_places(alloc, &mut dice, ground, &mut text, &mut script)?;
+    let changes = changes(alloc, &mut dice, ground)?;
+    script.push_str(changes.as_str())?;
     let lines = queries(alloc, &mut dice, ground, count)?;
-    let kept = station.crashed(Tear::Kept).map_err(|_| "memory")?;
-    Ok((Map { state, pages, tree }, kept, lines))
+    let mut station = stored(alloc, text.as_str(), changes.as_str(), first, second)?;
+    let map = map_of(alloc, script.as_str(), &mut station)?;
+    Ok((map, station, lines))
 }
 
 // Looks at all queries over the store of a map.
@@ -402,8 +409,8 @@ fn look_over(
     map: &Map,
     mut station: MemoryStation,
     lines: &[String],
-    policy: Box<dyn SplitPolicy>,
 ) -> Result<(), Fail> {
+    let policy = Box::new(alloc, Halving::new())?;
     let mut engine = Engine::open(alloc, &mut station, 4_096, policy)?;
     let outcome = look_at_all(alloc, map, &mut engine, lines);
     let _loan = engine.into_disk();
@@ -414,9 +421,8 @@ fn look_over(
 fn queries_read_only_nodes_that_they_call_for(rt: HostRuntime) -> Result<(), Fail> {
     let first = Box::new(rt.alloc(), Quadratic::new())?;
     let second = Box::new(rt.alloc(), Halving::new())?;
-    let third = Box::new(rt.alloc(), Halving::new())?;
     let (map, station, lines) = made(rt.alloc(), Ground::Clusters, MANY, first, second)?;
-    look_over(rt.alloc(), &map, station, &lines, third)
+    look_over(rt.alloc(), &map, station, &lines)
 }
 
 #[test]
@@ -424,9 +430,8 @@ fn so_they_do_on_a_line_at_a_point_and_between_two_ends(rt: HostRuntime) -> Resu
     for ground in [Ground::Line, Ground::Point, Ground::Ends] {
         let first = Box::new(rt.alloc(), Halving::new())?;
         let second = Box::new(rt.alloc(), Quadratic::new())?;
-        let third = Box::new(rt.alloc(), Halving::new())?;
         let (map, station, lines) = made(rt.alloc(), ground, SOME, first, second)?;
-        look_over(rt.alloc(), &map, station, &lines, third)?;
+        look_over(rt.alloc(), &map, station, &lines)?;
     }
     Ok(())
 }

@@ -2,10 +2,10 @@
 ghost use Rattle.std.specs.Prelude.{◌≤◌, ◌<◌, IsTrue, false, [], length, IfOk};
 ghost use Rattle.disk_model.specs.Source.{HasGiven, HasReadCause};
 
-use crate::runs::{RUN, words};
+use crate::runs::{RUN, run_under};
 use disk_model::{Failed, Source};
-use irtree_top::{Ended, run};
-use split_policy::{Quadratic, SplitPolicy};
+use irtree_top::Ended;
+use split_policy::Quadratic;
 use std::alloc::Global;
 use std::cell::RefCell;
 use std::io::{self, ErrorKind, Write};
@@ -93,34 +93,22 @@ impl Write for Sayings<'_> {
 }
 
 // Runs a script, and notes its reads and says in the trace.
-fn follow(
-    alloc: Global,
-    pieces: &[&[u8]],
-    trace: &RefCell<Vec<u8>>,
-    policy: Box<dyn SplitPolicy>,
-) -> Result<Ended, Fail> {
+fn follow(alloc: Global, pieces: &[&[u8]], trace: &RefCell<Vec<u8>>) -> Result<Ended, Fail> {
     let mut source = Pieces {
         pieces,
         at: 0,
         trace,
     };
     let mut station = ScratchStation::new(alloc, Sayings { trace });
-    Ok(run(
-        alloc,
-        &words(alloc, &RUN)?,
-        &mut source,
-        &mut station,
-        policy,
-    ))
+    let policy = Box::new(alloc, Quadratic::new())?;
+    run_under(alloc, &RUN, &mut source, &mut station, policy)
 }
 
 #[test]
 fn replies_are_said_before_the_next_piece_is_read(rt: HostRuntime) -> Result<(), Fail> {
     for (pieces, wanted) in &TRACES {
         let trace = RefCell::new(Vec::new(rt.alloc()));
-        let policy = Box::new(rt.alloc(), Quadratic::new())?;
-        let ended = follow(rt.alloc(), pieces, &trace, policy)?;
-        assert!(rt; ended == Ended::Done);
+        assert!(rt; follow(rt.alloc(), pieces, &trace)? == Ended::Done);
         assert!(rt; trace.into_inner().as_slice() == *wanted);
     }
     Ok(())

@@ -1,14 +1,28 @@
-//! What scripts say under each policy.
-use crate::runs::{ROOM, RUN, run_by};
+//! What scripts say under each policy, and when a policy is let go.
+use crate::runs::{ROOM, RUN, ends_under, ends_well_under_both, numbered};
 use disk_model::{MemorySource, MemoryStation};
 use irtree_engine::Engine;
 use irtree_top::Ended;
 use spatial_base::Rect;
-use split_policy::{Halving, Quadratic, SplitPolicy};
-use std::alloc::{AllocError, Global};
-use std::fmt::Write;
+use split_policy::{Quadratic, SplitPolicy};
+use std::alloc::Global;
 use std::rc::Rc;
 use std::test::Fail;
+
+// A script stores 33 places in a line, one more than a node of the tree holds, and removes two thirds of them.
+#[test]
+fn both_policies_give_the_same_replies(rt: HostRuntime) -> Result<(), Fail> {
+    let mut script = numbered(rt.alloc(), 33, "add t# 0.# 0\n")?;
+    script.push_str(numbered(rt.alloc(), 22, "remove t#\n")?.as_str())?;
+    script.push_str("count\nnearest 0 0 3\n")?;
+    let mut replies = numbered(rt.alloc(), 55, "ok\n")?;
+    replies.push_str(
+        "count 11\n= 3\n1 \"t22\" 0.2200000\n2 \"t23\" 0.2300000\n3 \"t24\" 0.2400000\n",
+    )?;
+    let (script, replies) = (script.as_bytes(), replies.as_bytes());
+    assert!(rt; ends_well_under_both(rt.alloc(), &RUN, script, replies)?);
+    Ok(())
+}
 
 // A policy that holds a token, of which there are as many as there are such policies, and one more.
 #[derive(Drop)]
@@ -38,70 +52,23 @@ impl SplitPolicy for Tokened {
 }
 
 // A policy with a token like this one.
-fn policy_with(token: &Rc<u8, Global>) -> Result<Tokened, AllocError> {
-    Ok(Tokened {
+fn policy_with(alloc: Global, token: &Rc<u8, Global>) -> Result<Box<dyn SplitPolicy>, Fail> {
+    let policy = Tokened {
         policy: Quadratic::new(),
         token: Rc::clone(token)?,
-    })
+    };
+    Ok(Box::new(alloc, policy)?)
 }
 
-// A script that stores 33 places in a line, one more than a node of the tree holds, and removes two thirds of them.
-fn line_of_places(alloc: Global) -> Result<String, AllocError> {
-    let mut script = String::new(alloc);
-    for i in 0..33 {
-        write!(script, "add t{i:02} {i} 0\n")?;
-    }
-    for i in 0..22 {
-        write!(script, "remove t{i:02}\n")?;
-    }
-    script.push_str("count\nnearest 0 0 3\n")?;
-    Ok(script)
-}
-
-// What the script is told.
-fn replies_in_line(alloc: Global) -> Result<String, AllocError> {
-    let mut replies = String::new(alloc);
-    for _ in 0..55 {
-        replies.push_str("ok\n")?;
-    }
-    replies.push_str(
-        "count 11\n= 3\n1 \"t22\" 22.0000000\n2 \"t23\" 23.0000000\n3 \"t24\" 24.0000000\n",
-    )?;
-    Ok(replies)
-}
-
-// What the script is told under a policy.
-fn told_by(alloc: Global, policy: Box<dyn SplitPolicy>) -> Result<Vec<u8>, Fail> {
-    let script = line_of_places(alloc)?;
-    let mut source = MemorySource::new(alloc, script.as_bytes(), 65_536, &[]).map_err(
-        |_| "memory",
-    )?;
-    let (ended, said) = run_by(alloc, &RUN, &mut source, policy)?;
-    if ended == Ended::Done {
-        Ok(said)
-    } else {
-        Err("the script didn't end well".into())
-    }
-}
-
-#[test]
-fn both_policies_give_the_same_replies(rt: HostRuntime) -> Result<(), Fail> {
-    let wanted = replies_in_line(rt.alloc())?;
-    let quadratic = Box::new(rt.alloc(), Quadratic::new())?;
-    let halving = Box::new(rt.alloc(), Halving::new())?;
-    assert!(rt; told_by(rt.alloc(), quadratic)?.as_slice() == wanted.as_bytes());
-    assert!(rt; told_by(rt.alloc(), halving)?.as_slice() == wanted.as_bytes());
-    Ok(())
-}
-
-// Whether an opening with this policy is refused.
-fn is_refused(alloc: Global, station: &mut MemoryStation, policy: Box<dyn SplitPolicy>) -> bool {
-    match Engine::open(alloc, station, 0, policy) {
+// Whether an opening of a foreign store is refused.
+fn is_refused(alloc: Global, policy: Box<dyn SplitPolicy>) -> Result<bool, Fail> {
+    let mut foreign = MemoryStation::with_image(alloc, &[120; 4096], &[0, 7], ROOM)?;
+    match Engine::open(alloc, &mut foreign, 0, policy) {
         Ok(engine) => {
             let _loan = engine.into_disk();
-            false
+            Ok(false)
         }
-        Err(_) => true,
+        Err(_) => Ok(true),
     }
 }
 
@@ -122,32 +89,24 @@ fn counts_of(
 }
 
 #[test]
-fn a_policy_is_let_go_by_an_opening_that_is_refused(rt: HostRuntime) -> Result<(), Fail> {
-    let token = Rc::new(rt.alloc(), 0)?;
-    let mut foreign = MemoryStation::with_image(rt.alloc(), &[120; 4096], &[0, 7], ROOM)?;
-    let policy = Box::new(rt.alloc(), policy_with(&token)?)?;
-    assert_eq!(rt; Rc::strong_count(&token), 2);
-    assert!(rt; is_refused(rt.alloc(), &mut foreign, policy));
-    assert_eq!(rt; Rc::strong_count(&token), 1);
-    Ok(())
-}
-
-#[test]
 fn a_policy_is_let_go_by_another_in_its_place_and_by_a_close(rt: HostRuntime) -> Result<(), Fail> {
     let token = Rc::new(rt.alloc(), 0)?;
-    let first = Box::new(rt.alloc(), policy_with(&token)?)?;
-    let second = Box::new(rt.alloc(), policy_with(&token)?)?;
-    assert_eq!(rt; counts_of(rt.alloc(), &token, first, second)?, [3, 2, 1]);
+    let first = policy_with(rt.alloc(), &token)?;
+    let second = policy_with(rt.alloc(), &token)?;
+    assert!(rt; counts_of(rt.alloc(), &token, first, second)? == [3, 2, 1]);
     Ok(())
 }
 
 #[test]
-fn a_policy_is_let_go_by_a_run(rt: HostRuntime) -> Result<(), Fail> {
+fn a_policy_is_let_go_by_a_refused_opening_and_by_a_run(rt: HostRuntime) -> Result<(), Fail> {
     let token = Rc::new(rt.alloc(), 0)?;
-    let mut empty = MemorySource::new(rt.alloc(), b"", 1, &[]).map_err(|_| "memory")?;
-    let policy = Box::new(rt.alloc(), policy_with(&token)?)?;
-    let (ended, _) = run_by(rt.alloc(), &RUN, &mut empty, policy)?;
-    assert!(rt; ended == Ended::Done);
-    assert_eq!(rt; Rc::strong_count(&token), 1);
+    let refused = policy_with(rt.alloc(), &token)?;
+    assert!(rt; Rc::strong_count(&token) == 2);
+    assert!(rt; is_refused(rt.alloc(), refused)?);
+    assert!(rt; Rc::strong_count(&token) == 1);
+    let mut empty = MemorySource::new(rt.alloc(), b"", 1, &[])?;
+    let given = policy_with(rt.alloc(), &token)?;
+    assert!(rt; ends_under(rt.alloc(), &RUN, &mut empty, given, Ended::Done, b"")?);
+    assert!(rt; Rc::strong_count(&token) == 1);
     Ok(())
 }

@@ -1,13 +1,9 @@
 //! Runs over stations in memory.
-use disk_model::{
-    Area, CallKind, Disk, Fail as Planned, MemorySource, MemoryStation, Source, Station,
-};
-use irtree_engine::Engine;
+use disk_model::{Area, Disk, MemorySource, MemoryStation, Source, Station, Tear};
 use irtree_top::{Ended, run};
-use load_run::run_load;
-use run_protocol::ended_by;
-use split_policy::{Quadratic, SplitPolicy};
-use std::alloc::Global;
+use split_policy::{Halving, Quadratic, SplitPolicy};
+use std::alloc::{AllocError, Global};
+use std::fmt::Write;
 use std::test::Fail;
 
 /// The words of a script.
@@ -19,8 +15,8 @@ pub(crate) static LOAD: [&str; 2] = ["-", "load"];
 /// The pages that a station has room for.
 pub(crate) const ROOM: u32 = 100_000;
 
-/// Words as the top call takes them.
-pub(crate) fn words(alloc: Global, given: &[&str]) -> Result<Vec<String>, Fail> {
+// Words as the top call takes them.
+fn words(alloc: Global, given: &[&str]) -> Result<Vec<String>, AllocError> {
     let mut words = Vec::new(alloc);
     for word in given {
         words.push(word.to_string(alloc)?)?;
@@ -28,96 +24,118 @@ pub(crate) fn words(alloc: Global, given: &[&str]) -> Result<Vec<String>, Fail> 
     Ok(words)
 }
 
-/// How a run on these words over a station ends, with an input that comes in such pieces.
-pub(crate) fn run_on(
+/// How a run on these words ends under a policy.
+pub(crate) fn run_under<S: Source, T: Station>(
+    alloc: Global,
+    given: &[&str],
+    source: &mut S,
+    station: &mut T,
+    policy: Box<dyn SplitPolicy>,
+) -> Result<Ended, Fail> {
+    Ok(run(alloc, &words(alloc, given)?, source, station, policy))
+}
+
+/// How a run on these words ends over a station, with an input that comes in such pieces.
+pub(crate) fn run_on<T: Station>(
     alloc: Global,
     given: &[&str],
     input: &[u8],
     piece: usize,
-    station: &mut MemoryStation,
+    station: &mut T,
 ) -> Result<Ended, Fail> {
-    let mut source = MemorySource::new(alloc, input, piece.max(1), &[]).map_err(|_| "memory")?;
+    let mut source = MemorySource::new(alloc, input, piece.max(1), &[])?;
     let policy = Box::new(alloc, Quadratic::new())?;
-    Ok(run(alloc, &words(alloc, given)?, &mut source, station, policy))
+    run_under(alloc, given, &mut source, station, policy)
 }
 
-/// How a run on these words ends over an empty store with a policy, and what it says.
-pub(crate) fn run_by(
+/// Whether a run on these words over an empty store ends so under a policy, and has said this.
+pub(crate) fn ends_under<S: Source>(
     alloc: Global,
     given: &[&str],
-    source: &mut impl Source,
+    source: &mut S,
     policy: Box<dyn SplitPolicy>,
-) -> Result<(Ended, Vec<u8>), Fail> {
+    end: Ended,
+    said: &[u8],
+) -> Result<bool, Fail> {
     let mut station = MemoryStation::new(alloc, ROOM);
-    let ended = run(alloc, &words(alloc, given)?, source, &mut station, policy);
-    Ok((ended, station.said().to_vec(alloc)?))
+    let ended = run_under(alloc, given, source, &mut station, policy)?;
+    Ok(ended == end && station.said() == said)
 }
 
-/// How a run on these words ends over an empty store, and what it says.
-pub(crate) fn run_over(
-    alloc: Global,
-    given: &[&str],
-    source: &mut impl Source,
-) -> Result<(Ended, Vec<u8>), Fail> {
-    let policy = Box::new(alloc, Quadratic::new())?;
-    run_by(alloc, given, source, policy)
-}
-
-/// What a script says over an empty store that comes in such pieces.
-pub(crate) fn said(alloc: Global, input: &[u8], piece: usize) -> Result<(Ended, Vec<u8>), Fail> {
-    let mut source = MemorySource::new(alloc, input, piece.max(1), &[]).map_err(|_| "memory")?;
-    run_over(alloc, &RUN, &mut source)
-}
-
-/// How a load with such batches ends over a station.
-pub(crate) fn load_on(
-    alloc: Global,
-    batch: u32,
-    text: &[u8],
-    station: &mut MemoryStation,
-) -> Result<Result<(), Ended>, Fail> {
-    let mut source = MemorySource::new(alloc, text, 100, &[]).map_err(|_| "memory")?;
-    let policy = Box::new(alloc, Quadratic::new())?;
-    match Engine::open(alloc, station, 0, policy) {
-        Ok(mut engine) => {
-            let ended = run_load(alloc, batch.min(10_000), None, &mut source, &mut engine);
-            let _loan = engine.into_disk();
-            Ok(ended)
-        }
-        Err(fault) => Ok(Err(ended_by(fault))),
-    }
-}
-
-/// Lets the nth call of a kind fail.
-pub(crate) fn plan(station: &mut MemoryStation, kind: CallKind, nth: u64) -> Result<(), Fail> {
-    station
-        .fail_at(&[Planned { kind, nth }])
-        .map_err(|_| "memory")?;
-    Ok(())
-}
-
-/// How a run on these words ends over any station.
-pub(crate) fn run_with<T: Station>(
+/// Whether a run on these words over an empty store ends so, with an input that comes in such pieces, and has said this.
+pub(crate) fn ends_so(
     alloc: Global,
     given: &[&str],
     input: &[u8],
-    station: &mut T,
-) -> Result<Ended, Fail> {
-    let mut source = MemorySource::new(alloc, input, 65_536, &[]).map_err(|_| "memory")?;
+    piece: usize,
+    end: Ended,
+    said: &[u8],
+) -> Result<bool, Fail> {
+    let mut source = MemorySource::new(alloc, input, piece.max(1), &[])?;
     let policy = Box::new(alloc, Quadratic::new())?;
-    Ok(run(alloc, &words(alloc, given)?, &mut source, station, policy))
+    ends_under(alloc, given, &mut source, policy, end, said)
+}
+
+/// Whether a run on these words over an empty store ends well under both policies, and has said this.
+pub(crate) fn ends_well_under_both(
+    alloc: Global,
+    given: &[&str],
+    input: &[u8],
+    said: &[u8],
+) -> Result<bool, Fail> {
+    if !ends_so(alloc, given, input, 65_536, Ended::Done, said)? {
+        return Ok(false);
+    }
+    let mut source = MemorySource::new(alloc, input, 65_536, &[])?;
+    let policy = Box::new(alloc, Halving::new())?;
+    ends_under(alloc, given, &mut source, policy, Ended::Done, said)
+}
+
+/// A station with the store that a run on these words makes.
+pub(crate) fn stored_by(
+    alloc: Global,
+    given: &[&str],
+    input: &[u8],
+) -> Result<MemoryStation, Fail> {
+    let mut station = MemoryStation::new(alloc, ROOM);
+    match run_on(alloc, given, input, 100, &mut station)? {
+        Ended::Done => Ok(station.crashed(Tear::Kept)?),
+        _ => Err("the store was not made".into()),
+    }
+}
+
+/// How often a store's station is read by a script that ends well, with so many pages kept in memory.
+pub(crate) fn reads_with(
+    alloc: Global,
+    cache: &str,
+    script: &[u8],
+    store: &MemoryStation,
+) -> Result<u64, Fail> {
+    let mut station = store.crashed(Tear::Kept)?;
+    let given = ["-", "run", "--cache", cache];
+    match run_on(alloc, &given, script, 65_536, &mut station)? {
+        Ended::Done => Ok(station.reads()),
+        _ => Err("the script didn't end well".into()),
+    }
 }
 
 /// The first bytes of an area.
-pub(crate) fn bytes_of(
+pub(crate) fn bytes_of<D: Disk>(
     alloc: Global,
-    station: &mut MemoryStation,
+    disk: &mut D,
     area: Area,
     len: u32,
 ) -> Result<Vec<u8>, Fail> {
     let mut bytes = vec![in alloc; 0; len as usize]?;
-    station.read(area, 0, &mut bytes).map_err(|_| "not read")?;
+    disk.read(area, 0, &mut bytes)?;
     Ok(bytes)
+}
+
+/// All pages of a store.
+pub(crate) fn all_pages<D: Disk>(alloc: Global, disk: &mut D) -> Result<Vec<u8>, Fail> {
+    let head = bytes_of(alloc, disk, Area::Pages, 4_096)?;
+    let counted = number_at(&head, 0, 8)?;
+    bytes_of(alloc, disk, Area::Pages, counted.saturating_mul(4_096))
 }
 
 /// The number of four bytes at an offset of a page, among the bytes of all pages.
@@ -127,4 +145,19 @@ pub(crate) fn number_at(pages: &[u8], page: u32, at: u32) -> Result<u32, Fail> {
         Some([a, b, c, d]) => Ok(u32::from_be_bytes([*a, *b, *c, *d])),
         _ => Err("no such page".into()),
     }
+}
+
+/// So many copies of a text one behind the other, the copy's number in two digits in the place of each `#`.
+pub(crate) fn numbered(alloc: Global, count: u32, text: &str) -> Result<String, AllocError> {
+    let mut copies = String::new(alloc);
+    for number in 0..count {
+        for letter in text.chars() {
+            if letter == '#' {
+                write!(copies, "{number:02}")?;
+            } else {
+                copies.push(letter)?;
+            }
+        }
+    }
+    Ok(copies)
 }

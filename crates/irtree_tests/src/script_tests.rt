@@ -2,9 +2,10 @@
 ghost use Rattle.std.specs.Prelude.{◌≤◌, ◌<◌, false, [], length, IfOk};
 ghost use Rattle.disk_model.specs.Source.{HasReadCause};
 
-use crate::runs::{ROOM, RUN, plan, run_on, run_over, said};
-use disk_model::{CallKind, Failed, MemorySource, MemoryStation, Source};
-use irtree_top::{Ended, INPUT_MAX, InputFault};
+use crate::runs::{LOAD, RUN, ends_so, ends_under};
+use disk_model::{Failed, Source};
+use irtree_top::{Ended, INPUT_MAX, InputFault, LOAD_MAX};
+use split_policy::Quadratic;
 use std::test::Fail;
 
 // A script, and what is said of it.
@@ -56,11 +57,12 @@ static REFUSED: [&[&str]; 10] = [
 
 #[test]
 fn a_script_is_answered_in_whatever_pieces_it_comes(rt: HostRuntime) -> Result<(), Fail> {
-    for (input, replies) in &SCRIPTS {
+    for (row, (input, replies)) in SCRIPTS.iter().enumerate() {
         for piece in &PIECES {
-            let (ended, text) = said(rt.alloc(), input, *piece)?;
-            assert!(rt; ended == Ended::Done);
-            assert!(rt; text.as_slice() == *replies);
+            assert!(rt;
+                ends_so(rt.alloc(), &RUN, input, *piece, Ended::Done, replies)?,
+                "row {row} in pieces of {piece}"
+            );
         }
     }
     Ok(())
@@ -70,59 +72,30 @@ fn a_script_is_answered_in_whatever_pieces_it_comes(rt: HostRuntime) -> Result<(
 fn a_line_has_65536_bytes_at_most(rt: HostRuntime) -> Result<(), Fail> {
     let mut line = vec![in rt.alloc(); b' '; 65_527]?;
     line.extend_from_slice(b"add a 0 0")?;
-    assert!(rt; said(rt.alloc(), &line, 65_536)?.1.as_slice() == b"ok\n".as_slice());
+    assert!(rt; ends_so(rt.alloc(), &RUN, &line, 65_536, Ended::Done, b"ok\n")?);
     line.push(b' ')?;
-    assert!(rt; said(rt.alloc(), &line, 65_536)?.1.as_slice() == b"bad length\n".as_slice());
-    assert!(rt; said(rt.alloc(), &line, 1_000)?.1.as_slice() == b"bad length\n".as_slice());
-    Ok(())
-}
-
-#[test]
-fn words_that_are_no_command_say_nothing(rt: HostRuntime) -> Result<(), Fail> {
-    for given in &REFUSED {
-        let mut source = MemorySource::new(rt.alloc(), b"add a 0 0\n", 9, &[]).map_err(
-            |_| "memory",
-        )?;
-        let (ended, text) = run_over(rt.alloc(), given, &mut source)?;
-        assert!(rt; ended == Ended::Words);
-        assert!(rt; text.is_empty());
+    for piece in [1_000, 65_536] {
+        assert!(rt; ends_so(rt.alloc(), &RUN, &line, piece, Ended::Done, b"bad length\n")?);
     }
     Ok(())
 }
 
 #[test]
-fn a_source_that_fails_ends_the_run(rt: HostRuntime) -> Result<(), Fail> {
-    let mut source = MemorySource::new(rt.alloc(), b"add a 0 0\ncount", 10, &[2]).map_err(
-        |_| "memory",
-    )?;
-    let (ended, text) = run_over(rt.alloc(), &RUN, &mut source)?;
-    assert!(rt; ended == Ended::Source);
-    assert_eq!(rt; ended.status(), 4);
-    assert!(rt; text.as_slice() == b"ok\n".as_slice());
-    Ok(())
-}
-
-#[test]
-fn a_sink_that_fails_ends_the_run(rt: HostRuntime) -> Result<(), Fail> {
-    let mut station = MemoryStation::new(rt.alloc(), ROOM);
-    plan(&mut station, CallKind::Say, 1)?;
-    let ended = run_on(rt.alloc(), &RUN, b"add a 0 0\n", 10, &mut station)?;
-    assert!(rt; ended == Ended::Sink);
-    assert_eq!(rt; ended.status(), 5);
-    assert!(rt; station.said().is_empty());
-    let mut again = station
-        .crashed(disk_model::Tear::Kept)
-        .map_err(|_| "memory")?;
-    assert!(rt; run_on(rt.alloc(), &RUN, b"count\n", 10, &mut again)? == Ended::Done);
-    assert!(rt; again.said() == b"count 1\n".as_slice());
+fn words_that_are_no_command_say_nothing(rt: HostRuntime) -> Result<(), Fail> {
+    for (row, given) in REFUSED.iter().enumerate() {
+        assert!(rt;
+            ends_so(rt.alloc(), given, b"add a 0 0\n", 9, Ended::Words, b"")?,
+            "row {row}"
+        );
+    }
     Ok(())
 }
 
 // A source that makes its bytes: a first line, and spaces.
 #[derive(Drop)]
-pub(crate) struct Spaces {
-    pub(crate) begun: bool,
-    pub(crate) left: usize,
+struct Spaces {
+    begun: bool,
+    left: usize,
 }
 
 impl Source for Spaces {
@@ -149,22 +122,30 @@ impl Source for Spaces {
     }
 }
 
+// A script has 268,435,456 bytes at most, and the text of a load 67,108,864.
 #[test]
-fn a_script_has_268435456_bytes_at_most(rt: HostRuntime) -> Result<(), Fail> {
-    let mut most = Spaces {
-        begun: false,
-        left: INPUT_MAX - 10,
-    };
-    let (ended, text) = run_over(rt.alloc(), &RUN, &mut most)?;
-    assert!(rt; ended == Ended::Done);
-    assert!(rt; text.as_slice() == b"ok\nbad length\n".as_slice());
-    let mut more = Spaces {
-        begun: false,
-        left: INPUT_MAX - 9,
-    };
-    let (ended, text) = run_over(rt.alloc(), &RUN, &mut more)?;
-    assert!(rt; ended == Ended::Input(InputFault::Long));
-    assert_eq!(rt; ended.status(), 6);
-    assert!(rt; text.as_slice() == b"ok\n".as_slice());
+fn an_input_that_is_too_long_is_refused(rt: HostRuntime) -> Result<(), Fail> {
+    let long = Ended::Input(InputFault::Long);
+    let blank = Ended::Input(InputFault::Syntax(LOAD_MAX as u64));
+    // The words, whether the first line is left out, how many spaces come, how the run ends, and what it says.
+    for (given, begun, left, end, said) in [
+        (
+            &RUN,
+            false,
+            INPUT_MAX - 10,
+            Ended::Done,
+            b"ok\nbad length\n".as_slice(),
+        ),
+        (&RUN, false, INPUT_MAX - 9, long, b"ok\n".as_slice()),
+        (&LOAD, true, LOAD_MAX, blank, b"".as_slice()),
+        (&LOAD, true, LOAD_MAX + 1, long, b"".as_slice()),
+    ] {
+        let mut spaces = Spaces { begun, left };
+        let policy = Box::new(rt.alloc(), Quadratic::new())?;
+        assert!(rt;
+            ends_under(rt.alloc(), given, &mut spaces, policy, end, said)?,
+            "{left} spaces"
+        );
+    }
     Ok(())
 }

@@ -107,12 +107,8 @@ fn place_at(pages: &[u8], page: u32, at: u32) -> Result<(Point, Key), Fail> {
     let y = i32::from_be_bytes(number_at(pages, page, at.saturating_add(4))?.to_be_bytes());
     let point = Point::new(x, y).ok_or("off the map")?;
     let start = page as usize * 4096 + at as usize + 8;
-    let Some((form, _)) = pages
-        .get(start..)
-        .and_then(|rest| rest.split_first_chunk::<66>())
-    else {
-        return Err("no such page".into());
-    };
+    let rest = pages.get(start..).ok_or("no such page")?;
+    let (form, _) = rest.split_first_chunk::<66>().ok_or("no such page")?;
     let key = Key::of_bytes(form).ok_or("no key")?;
     Ok((point, key))
 }

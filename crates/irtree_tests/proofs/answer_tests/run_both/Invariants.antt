@@ -1,7 +1,0 @@
-use Rattle.std.proofs.Common.{◌≡◌}
-use Rattle.irtree_tests.proofs.answer_tests.run_both.Given as goal
-
-abbrev pub invariant-loop-line : goal.invariant-loop-line
-invariant-loop-line g l = record {
-  same_loan : l.engine.store.disk.ghost_name ≡ l.fn.engine.store.disk.ghost_name;
-}
