@@ -1,23 +1,38 @@
 //! A search over a small tree: its pages are in memory, and what its nodes give stands in a table.
-ghost use Rattle.std.specs.Prelude.{◌≡◌, ◌≤◌, length, IsTrue, IfOk, IfErr};
+ghost use Rattle.std.specs.Prelude.{◌≡◌, ◌≤◌, length, None, IsTrue, IfOk, IfErr};
 ghost use Rattle.std.specs.List.{AllByRecursion};
 ghost use Rattle.best_first.specs.Items.{IsGivenAt};
 ghost use Rattle.best_first.specs.Faults.{held_with};
 
+use crate::small_tree::write_hits;
 use best_first::{Item, Ranked, first_k};
 use page_face::{MemoryPages, PageFault, Pages};
 use place_map::Hit;
 use spatial_base::{Key, Point};
 use std::alloc::Global;
 use std::fmt::Write;
-use std::test::Fail;
 
-// An opener by a table of what the node of each page gives. It promises nothing of what it leads to.
+// What a node gives: a place's key and what it costs, or "", a child's bound and its page.
+type Given = (&'static str, u64, u32);
+
+// What the node of each page gives: a root at page 1 above leaves at pages 2, 3 and 4.
+static ITEMS: [(u32, Given); 9] = [
+    (1, ("", 9, 4)),
+    (1, ("", 1, 2)),
+    (1, ("", 5, 3)),
+    (2, ("c", 7, 0)),
+    (2, ("b", 5, 0)),
+    (2, ("a", 1, 0)),
+    (3, ("aa", 5, 0)),
+    (3, ("d", 6, 0)),
+    (4, ("e", 9, 0)),
+];
+
+// An opener by the table of items. It promises nothing of what it leads to.
 #[derive(Drop)]
 struct Table {
     root: u32,
     level: u8,
-    rows: Vec<(u32, Item)>,
     // the pages opened so far
     opened: Vec<u32>,
     held: Option<PageFault>,
@@ -43,18 +58,39 @@ fn is_given(level: u8, item: &Item) -> bool
     }
 }
 
+// An item of the table.
+fn item_of(given: &Given) -> Option<Item> {
+    let (key, cost, page) = given;
+    if key.is_empty() {
+        return Some(Item::Node {
+            page: *page,
+            level: 0,
+            bound: *cost,
+        });
+    }
+    Some(Item::Place(Hit {
+        cost: *cost,
+        key: Key::of_text(key).ok()?,
+        dist: *cost,
+        text: 0,
+        point: Point::new(0, 0)?,
+    }))
+}
+
 // What the node of a page gives by the table.
 #[tactic(auto, using(best_first::proofs::Lists::all_append))]
-fn given(alloc: Global, rows: &[(u32, Item)], page: u32, level: u8) -> Result<Vec<Item>, PageFault>
+fn given(alloc: Global, page: u32, level: u8) -> Result<Vec<Item>, PageFault>
     ensures few { IfOk result (λ items. length items.items ≤ 32) }
     ensures children { IfOk result (λ items. AllByRecursion (IsGivenAt level) items.items) }
     ensures cause { IfErr result (λ fault. fault ≡ PageFault.Memory) }
 {
     let mut items = Vec::new(alloc);
-    for (at, item) in rows {
-        if *at == page && is_given(level, item) && items.len() < 32 {
-            if items.push(*item).is_err() {
-                return Err(PageFault::Memory);
+    for (at, given) in &ITEMS {
+        if let Some(item) = item_of(given) {
+            if *at == page && is_given(level, &item) && items.len() < 32 {
+                if items.push(item).is_err() {
+                    return Err(PageFault::Memory);
+                }
             }
         }
     }
@@ -124,109 +160,65 @@ impl<P: Pages> Ranked<P> for Table {
         if self.opened.push(node).is_err() {
             return Err(PageFault::Memory);
         }
-        given(alloc, &self.rows, node, level)
+        given(alloc, node, level)
     }
 }
 
-// Adds what a leaf gives: a place with a key and what it costs.
-fn add_place(rows: &mut Vec<(u32, Item)>, page: u32, key: &str, cost: u64) -> Result<(), Fail> {
-    let hit = Hit {
-        cost,
-        key: Key::of_text(key).map_err(|_| "no key")?,
-        dist: cost,
-        text: 0,
-        point: Point::new(0, 0).ok_or("off the map")?,
-    };
-    rows.push((page, Item::Place(hit)))?;
-    Ok(())
+// Writes the first k places with what they cost, and the pages that were opened.
+fn tell(
+    alloc: Global,
+    pages: &mut MemoryPages,
+    table: &mut Table,
+    k: u16,
+    out: &mut String,
+) -> Option<()>
+    requires { table.old.held ≡ None }
+{
+    match first_k(alloc, pages, table, k) {
+        Ok(found) => write_hits(out, &found)?,
+        Err(fault) => write!(out, "{fault:?} ").ok()?,
+    }
+    write!(out, "opened").ok()?;
+    for page in &table.opened {
+        write!(out, " {page}").ok()?;
+    }
+    Some(())
 }
 
-// A root at page 1 above leaves at pages 2, 3 and 4 with bounds 1, 5 and 9.
-fn small_tree(alloc: Global) -> Result<Vec<(u32, Item)>, Fail> {
-    let mut rows = Vec::new(alloc);
-    for (page, bound) in [(4, 9), (2, 1), (3, 5)] {
-        let child = Item::Node {
-            page,
-            level: 0,
-            bound,
-        };
-        rows.push((1, child))?;
-    }
-    for (page, key, cost) in [
-        (2, "c", 7),
-        (2, "b", 5),
-        (2, "a", 1),
-        (3, "aa", 5),
-        (3, "d", 6),
-        (4, "e", 9),
-    ] {
-        add_place(&mut rows, page, key, cost)?;
-    }
-    Ok(rows)
-}
-
-// The first k places with what they cost, and the pages that were opened.
-fn told(alloc: Global, counted: u32, k: u16) -> Result<String, Fail> {
+// Whether the first k places are these, where so many pages are counted behind page 0.
+fn tells(alloc: Global, counted: u32, k: u16, wanted: &str) -> bool {
     let mut pages = MemoryPages::new(alloc, 9);
     for _ in 0..counted {
-        pages.take().map_err(|_| "no page")?;
+        if pages.take().is_err() {
+            return false;
+        }
     }
     let mut table = Table {
         root: 1,
         level: 1,
-        rows: small_tree(alloc)?,
         opened: Vec::new(alloc),
         held: None,
     };
     let mut out = String::new(alloc);
-    match first_k(alloc, &mut pages, &mut table, k) {
-        Ok(found) => {
-            for hit in &found {
-                write!(out, "{} {}, ", hit.key.text().unwrap_or(""), hit.cost)?;
-            }
-        }
-        Err(fault) => write!(out, "{fault:?} ")?,
+    tell(alloc, &mut pages, &mut table, k, &mut out).is_some() && out.as_str() == wanted
+}
+
+// How many pages are counted, how many places are asked for, and these with what they cost, and the pages that are opened.
+static TOLD: [(u32, u16, &str); 6] = [
+    (4, 0, "opened"),
+    (4, 1, "a 1, opened 1 2"),
+    // A node goes before a place of equal cost.
+    (4, 2, "a 1, aa 5, opened 1 2 3"),
+    // Places are ordered by cost and key.
+    (4, 4, "a 1, aa 5, b 5, d 6, opened 1 2 3"),
+    (4, 1000, "a 1, aa 5, b 5, d 6, c 7, e 9, opened 1 2 3 4"),
+    // A page that isn't counted ends the search.
+    (2, 3, "Damaged(Damage { page: 3, rule: Link }) opened 1 2"),
+];
+
+#[test]
+fn places_are_ordered_by_cost_and_key_and_few_nodes_are_opened(rt: HostRuntime) {
+    for (counted, k, wanted) in &TOLD {
+        assert!(rt; tells(rt.alloc(), *counted, *k, wanted));
     }
-    write!(out, "opened")?;
-    for page in &table.opened {
-        write!(out, " {page}")?;
-    }
-    Ok(out)
-}
-
-#[test]
-fn few_nodes_are_opened(rt: HostRuntime) -> Result<(), Fail> {
-    let alloc = rt.alloc();
-    assert_eq!(rt; told(alloc, 4, 0)?.as_str(), "opened");
-    assert_eq!(rt; told(alloc, 4, 1)?.as_str(), "a 1, opened 1 2");
-    Ok(())
-}
-
-#[test]
-fn a_node_goes_before_a_place_of_equal_cost(rt: HostRuntime) -> Result<(), Fail> {
-    assert_eq!(rt; told(rt.alloc(), 4, 2)?.as_str(), "a 1, aa 5, opened 1 2 3");
-    Ok(())
-}
-
-#[test]
-fn places_are_ordered_by_cost_and_key(rt: HostRuntime) -> Result<(), Fail> {
-    let alloc = rt.alloc();
-    assert_eq!(rt;
-        told(alloc, 4, 4)?.as_str(),
-        "a 1, aa 5, b 5, d 6, opened 1 2 3"
-    );
-    assert_eq!(rt;
-        told(alloc, 4, 1000)?.as_str(),
-        "a 1, aa 5, b 5, d 6, c 7, e 9, opened 1 2 3 4"
-    );
-    Ok(())
-}
-
-#[test]
-fn a_page_that_is_not_counted_ends_the_search(rt: HostRuntime) -> Result<(), Fail> {
-    assert_eq!(rt;
-        told(rt.alloc(), 2, 3)?.as_str(),
-        "Damaged(Damage { page: 3, rule: Link }) opened 1 2"
-    );
-    Ok(())
 }

@@ -69,19 +69,18 @@ fn store_one(alloc: Global, station: &mut MemoryStation) -> Result<(), Fail> {
     Ok(())
 }
 
-// How many places live in a store.
-fn count_in(
-    alloc: Global,
-    station: &mut MemoryStation,
-    policy: Box<dyn SplitPolicy>,
-) -> Result<u32, EngineFault> {
-    let engine = Engine::open(alloc, station, 0, policy)?;
-    let count = engine.count();
-    let _loan = engine.into_disk();
-    Ok(count)
-}
-
 // The engine's calls, of which a test needs to know no more than that the engine keeps its loan.
+
+pub(crate) fn opened<'d>(
+    alloc: Global,
+    station: &'d mut MemoryStation,
+    cache: u32,
+    policy: Box<dyn SplitPolicy>,
+) -> Result<Engine<'d, MemoryStation>, EngineFault>
+    ensures { IfOk result (λ engine. engine.store.disk.ghost_name ≡ station.entry.ghost_name) }
+{
+    Engine::open(alloc, station, cache, policy)
+}
 
 fn applied(engine: &mut Engine<'_, MemoryStation>, update: &Update) -> Result<Applied, EngineFault>
     requires { NamesText update.now }
@@ -106,75 +105,116 @@ fn shown(engine: &mut Engine<'_, MemoryStation>, key: &Key) -> Result<Option<Pla
     engine.show(key)
 }
 
-// Says two bytes, and returns how many pages are in the log before and after that.
-fn logs_beside_a_say(engine: &mut Engine<'_, MemoryStation>) -> Result<(usize, usize), Fail>
+// Whether a place is the one that is stored by `store_one`.
+fn is_stored(place: &Place) -> bool {
+    match place.words.pairs() {
+        [(word, impact)] => {
+            Point::new(-1, 2) == Some(place.point) && word.text() == "café" && *impact == 9
+        }
+        _ => false,
+    }
+}
+
+// Whether a place is shown at a key, and it is the one that is stored.
+fn shows_stored(engine: &mut Engine<'_, MemoryStation>, key: &Key) -> bool
+    ensures { engine.new.store.disk.ghost_name ≡ engine.old.store.disk.ghost_name }
+{
+    match shown(engine, key) {
+        Ok(Some(place)) => is_stored(&place),
+        _ => false,
+    }
+}
+
+// Whether no place is shown at a key.
+fn shows_none(engine: &mut Engine<'_, MemoryStation>, key: &Key) -> bool
+    ensures { engine.new.store.disk.ghost_name ≡ engine.old.store.disk.ghost_name }
+{
+    matches!(shown(engine, key), Ok(None))
+}
+
+// Whether two bytes are said, and one page is in the log before and after that.
+fn says_two(engine: &mut Engine<'_, MemoryStation>) -> bool
     ensures { engine.new.store.disk.ghost_name ≡ engine.old.store.disk.ghost_name }
 {
     let before = engine.read_log().len();
-    if engine.say(b"ok").map_err(|_| "not said")? != 2 {
-        return Err("said in part".into());
-    }
-    Ok((before, engine.read_log().len()))
+    engine.say(b"ok") == Ok(2) && before == 1 && engine.read_log().len() == 1
 }
 
 // While an engine lives nothing returns early: its loan is given back by `close` or `into_disk`.
+
+// Whether the stored place is shown alone, the engine says something, and is closed.
+fn shows_in(alloc: Global, station: &mut MemoryStation) -> Result<bool, Fail> {
+    let (here, nowhere) = (key("a")?, key("b")?);
+    let policy = Box::new(alloc, Quadratic::new())?;
+    let mut engine = opened(alloc, station, 0, policy)?;
+    let is_shown = shows_stored(&mut engine, &here);
+    let is_none = shows_none(&mut engine, &nowhere);
+    let is_said = says_two(&mut engine);
+    let closed = engine.close();
+    Ok(is_shown && is_none && is_said && closed == Ok(()))
+}
+
 #[test]
 fn a_stored_place_is_shown_with_its_words(rt: HostRuntime) -> Result<(), Fail> {
     let mut station = MemoryStation::new(rt.alloc(), 9);
     store_one(rt.alloc(), &mut station)?;
-    let (here, nowhere) = (key("a")?, key("b")?);
-    let policy = Box::new(rt.alloc(), Quadratic::new())?;
-    let mut engine = Engine::open(rt.alloc(), &mut station, 0, policy)?;
-    let place = shown(&mut engine, &here);
-    let other = shown(&mut engine, &nowhere);
-    let logs = logs_beside_a_say(&mut engine);
-    assert_eq!(rt; engine.close(), Ok(()));
-    assert_eq!(rt; logs?, (1, 1));
-    let place = place?.ok_or("absent")?;
-    assert_eq!(rt; place.point, Point::new(-1, 2).ok_or("off the map")?);
-    let pairs = place.words.pairs();
-    assert_eq!(rt; pairs.len(), 1);
-    assert_eq!(rt; pairs[0].0.text(), "café");
-    assert_eq!(rt; pairs[0].1, 9);
-    assert!(rt; other?.is_none());
+    assert!(rt; shows_in(rt.alloc(), &mut station)?);
     Ok(())
+}
+
+// Whether so many places live in a store, or it is refused so.
+fn counts(
+    alloc: Global,
+    station: &mut MemoryStation,
+    wanted: Result<u32, EngineFault>,
+) -> Result<bool, Fail> {
+    let policy = Box::new(alloc, Quadratic::new())?;
+    let engine = match opened(alloc, station, 0, policy) {
+        Ok(engine) => engine,
+        Err(fault) => return Ok(wanted == Err(fault)),
+    };
+    let count = engine.count();
+    let _loan = engine.into_disk();
+    Ok(wanted == Ok(count))
 }
 
 #[test]
 fn an_area_of_other_bytes_is_no_store(rt: HostRuntime) -> Result<(), Fail> {
     let mut station = MemoryStation::with_image(rt.alloc(), &[120; 4096], b"", 9)?;
-    let policy = Box::new(rt.alloc(), Quadratic::new())?;
-    let opened = count_in(rt.alloc(), &mut station, policy);
-    assert_eq!(rt; opened, Err(EngineFault::NotAStore));
+    assert!(rt; counts(rt.alloc(), &mut station, Err(EngineFault::NotAStore))?);
     let mut empty = MemoryStation::new(rt.alloc(), 9);
-    let policy = Box::new(rt.alloc(), Quadratic::new())?;
-    let opened = count_in(rt.alloc(), &mut empty, policy);
-    assert_eq!(rt; opened, Ok(0));
+    assert!(rt; counts(rt.alloc(), &mut empty, Ok(0))?);
     Ok(())
 }
 
-// A place that is put, put again, and looked for to be removed under another key; then a batch by which another place takes its place.
-fn apply_some(alloc: Global, engine: &mut Engine<'_, MemoryStation>) -> Result<[Applied; 3], Fail>
+// Whether a place is put, put again, and looked for in vain to be removed under another key; then a batch by which another place takes its place.
+fn applies(alloc: Global, engine: &mut Engine<'_, MemoryStation>) -> Result<bool, Fail>
     ensures { engine.new.store.disk.ghost_name ≡ engine.old.store.disk.ghost_name }
 {
     let first = put(alloc, "a", "café")?;
     let absent = Update::Remove { key: key("b")? };
     let batch = [put(alloc, "b", "bar")?, Update::Remove { key: key("a")? }];
-    let answers = [
-        applied(engine, &first)?,
-        applied(engine, &first)?,
-        applied(engine, &absent)?,
-    ];
-    engine.apply_batch(&batch)?;
-    engine.settle()?;
-    Ok(answers)
+    Ok(
+        applied(engine, &first) == Ok(Applied::New)
+            && applied(engine, &first) == Ok(Applied::Replaced)
+            && applied(engine, &absent) == Ok(Applied::Absent)
+            && engine.apply_batch(&batch) == Ok(())
+            && engine.settle() == Ok(()),
+    )
 }
 
-// How many places there are, whether a place is shown at "a", and the keys of the places nearest to a point.
-fn told_of(
-    alloc: Global,
-    engine: &mut Engine<'_, MemoryStation>,
-) -> Result<(u32, bool, Vec<Key>), Fail>
+// Whether that is so in a store, and without a split.
+fn applies_in(alloc: Global, station: &mut MemoryStation) -> Result<bool, Fail> {
+    let policy = Box::new(alloc, Quadratic::new())?;
+    let mut engine = opened(alloc, station, 0, policy)?;
+    let applies = applies(alloc, &mut engine);
+    let splits = engine.splits();
+    let _loan = engine.into_disk();
+    Ok(applies? && splits == 0)
+}
+
+// Whether the places nearest to a point are one alone, at a key.
+fn is_nearest(engine: &mut Engine<'_, MemoryStation>, key: &Key) -> Result<bool, Fail>
     ensures { engine.new.store.disk.ghost_name ≡ engine.old.store.disk.ghost_name }
 {
     let query = Query::Nearest {
@@ -185,44 +225,38 @@ fn told_of(
     if !query.is_within_limits() {
         return Err("not within the limits".into());
     }
-    let place = shown(engine, &key("a")?)?;
-    let Answer::Hits(hits) = answered(engine, &query)? else {
-        return Err("no hits".into());
-    };
-    let mut keys = Vec::new(alloc);
-    for hit in hits.as_slice() {
-        keys.push(hit.key)?;
+    match answered(engine, &query)? {
+        Answer::Hits(hits) => match hits.as_slice() {
+            [hit] => Ok(hit.key == *key),
+            _ => Ok(false),
+        },
+        Answer::Group(_) => Ok(false),
     }
-    Ok((engine.count(), place.is_some(), keys))
+}
+
+// Whether the other place alone stands in a store, which is opened under another policy.
+fn stands_in(alloc: Global, station: &mut MemoryStation) -> Result<bool, Fail> {
+    let (gone, here) = (key("a")?, key("b")?);
+    let policy = Box::new(alloc, Halving::new())?;
+    let mut engine = opened(alloc, station, 0, policy)?;
+    let is_none = shows_none(&mut engine, &gone);
+    let is_nearest = is_nearest(&mut engine, &here);
+    let count = engine.count();
+    let _loan = engine.into_disk();
+    Ok(is_nearest? && is_none && count == 1)
 }
 
 #[test]
 fn what_was_applied_stands_after_reopening(rt: HostRuntime) -> Result<(), Fail> {
     let mut station = MemoryStation::new(rt.alloc(), 30);
-    let policy = Box::new(rt.alloc(), Quadratic::new())?;
-    let mut engine = Engine::open(rt.alloc(), &mut station, 0, policy)?;
-    let answers = apply_some(rt.alloc(), &mut engine);
-    let splits = engine.splits();
-    let _loan = engine.into_disk();
-    assert_eq!(rt;
-        answers?,
-        [Applied::New, Applied::Replaced, Applied::Absent]
-    );
-    assert_eq!(rt; splits, 0);
-    let another = Box::new(rt.alloc(), Halving::new())?;
-    let mut engine = Engine::open(rt.alloc(), &mut station, 0, another)?;
-    let told = told_of(rt.alloc(), &mut engine);
-    let _loan = engine.into_disk();
-    let (count, is_shown, keys) = told?;
-    assert_eq!(rt; count, 1);
-    assert!(rt; !is_shown);
-    assert_eq!(rt; keys.as_slice(), [key("b")?].as_slice());
+    assert!(rt; applies_in(rt.alloc(), &mut station)?);
+    assert!(rt; stands_in(rt.alloc(), &mut station)?);
     Ok(())
 }
 
 // Puts 33 places on a line from west to east, a degree apart, and returns how many splits the policy made before the last of them and
 // after it. Each has the word "x", and t00 is at longitude 0.
-pub(crate) fn splits_on_a_line(
+fn splits_on_a_line(
     alloc: Global,
     engine: &mut Engine<'_, MemoryStation>,
 ) -> Result<(u64, u64), Fail>
@@ -242,19 +276,22 @@ pub(crate) fn splits_on_a_line(
     Ok((before, engine.splits()))
 }
 
-#[test]
-fn the_policy_that_is_handed_in_splits_the_tree(rt: HostRuntime) -> Result<(), Fail> {
-    let mut station = MemoryStation::new(rt.alloc(), 90);
-    let policy = Box::new(rt.alloc(), Quadratic::new())?;
-    let another = Box::new(rt.alloc(), Halving::new())?;
-    let mut engine = Engine::open(rt.alloc(), &mut station, 0, policy)?;
-    let splits = splits_on_a_line(rt.alloc(), &mut engine);
+// Puts the places on a line into a store: whether the last one splits the tree, and another policy has made no split.
+pub(crate) fn splits_in(alloc: Global, station: &mut MemoryStation) -> Result<bool, Fail> {
+    let policy = Box::new(alloc, Halving::new())?;
+    let another = Box::new(alloc, Quadratic::new())?;
+    let mut engine = opened(alloc, station, 64, policy)?;
+    let splits = splits_on_a_line(alloc, &mut engine);
     engine.set_policy(another);
     let then = engine.splits();
     let count = engine.count();
     let _loan = engine.into_disk();
-    assert_eq!(rt; splits?, (0, 1));
-    assert_eq!(rt; then, 0);
-    assert_eq!(rt; count, 33);
+    Ok(splits? == (0, 1) && then == 0 && count == 33)
+}
+
+#[test]
+fn the_policy_that_is_handed_in_splits_the_tree(rt: HostRuntime) -> Result<(), Fail> {
+    let mut station = MemoryStation::new(rt.alloc(), 90);
+    assert!(rt; splits_in(rt.alloc(), &mut station)?);
     Ok(())
 }

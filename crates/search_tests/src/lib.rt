@@ -14,4 +14,6 @@ mod opened_nodes_tests;
 #[cfg(test)]
 mod place_updates_tests;
 #[cfg(test)]
+mod small_tree;
+#[cfg(test)]
 mod topk_query_tests;

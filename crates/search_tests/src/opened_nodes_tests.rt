@@ -1,7 +1,8 @@
 //! Which nodes of a tree a query opens.
 ghost use Rattle.std.specs.Prelude.{◌≡◌};
 
-use crate::irtree_engine_tests::{answered, splits_on_a_line};
+use crate::irtree_engine_tests::{answered, opened, splits_in};
+use crate::small_tree::write_hits;
 use disk_model::MemoryStation;
 use irtree_engine::Engine;
 use page_face::Pages;
@@ -11,7 +12,6 @@ use rtree_nodes::child_at;
 use spatial_base::Point;
 use split_policy::Halving;
 use std::alloc::Global;
-use std::fmt::Write;
 use std::test::Fail;
 use term_impacts::one_word;
 
@@ -57,78 +57,77 @@ fn top_three(alloc: Global, word: &str) -> Result<Query, Fail> {
     })
 }
 
-// The hits of an answer, each key with its cost.
-fn told(alloc: Global, answer: &Answer) -> Result<String, Fail> {
-    let Answer::Hits(hits) = answer else {
-        return Err("no hits".into());
-    };
+// Whether the keys and costs of an answer are these.
+fn tells(alloc: Global, answer: &Answer, wanted: &str) -> bool {
     let mut out = String::new(alloc);
-    for hit in hits.as_slice() {
-        write!(out, "{} {}, ", hit.key.text().unwrap_or(""), hit.cost)?;
+    match answer {
+        Answer::Hits(hits) => {
+            write_hits(&mut out, hits.as_slice()).is_some() && out.as_str() == wanted
+        }
+        Answer::Group(_) => false,
     }
-    Ok(out)
 }
 
-// The hits of a query, and which of the root and its children, the western one first, it opened.
-fn searched(
+// Whether the hits of a query are these, and which of the root and its children, the western one first, it opens.
+fn is_searched(
     alloc: Global,
     engine: &mut Engine<'_, MemoryStation>,
     nodes: Nodes,
     query: &Query,
-) -> Result<(String, [bool; 3]), Fail>
+    wanted: &str,
+    opened: [bool; 3],
+) -> Result<bool, Fail>
     ensures { engine.new.store.disk.ghost_name ≡ engine.old.store.disk.ghost_name }
 {
     if !query.is_within_limits() {
         return Err("not within the limits".into());
     }
     let answer = answered(engine, query)?;
-    let hits = told(alloc, &answer)?;
     let log = engine.read_log();
-    let opened = [
-        log.contains(&nodes.root),
-        log.contains(&nodes.west),
-        log.contains(&nodes.east),
-    ];
-    Ok((hits, opened))
+    Ok(
+        tells(alloc, &answer, wanted)
+            && log.contains(&nodes.root) == opened[0]
+            && log.contains(&nodes.west) == opened[1]
+            && log.contains(&nodes.east) == opened[2],
+    )
 }
 
-// Three searches over places on a line: the nearest, and the first that have a word which all of them have, or none.
-fn searches_on_a_line(
+// Searches for the nearest places on a line, and for the first that have a word which all of them have, or none: whether they have these hits and
+// open these nodes.
+fn are_searched(
     alloc: Global,
     engine: &mut Engine<'_, MemoryStation>,
     nodes: Nodes,
-) -> Result<[(String, [bool; 3]); 3], Fail>
+) -> Result<bool, Fail>
     ensures { engine.new.store.disk.ghost_name ≡ engine.old.store.disk.ghost_name }
 {
-    Ok([
-        searched(alloc, engine, nodes, &nearest_three()?)?,
-        searched(alloc, engine, nodes, &top_three(alloc, "x")?)?,
-        searched(alloc, engine, nodes, &top_three(alloc, "z")?)?,
-    ])
+    let nearest = nearest_three()?;
+    let held = top_three(alloc, "x")?;
+    let unheld = top_three(alloc, "z")?;
+    let near = "t00 0, t01 10000000, t02 20000000, ";
+    let first = "t00 0, t01 2550000000000, t02 5100000000000, ";
+    let west = [true, true, false];
+    Ok(
+        is_searched(alloc, engine, nodes, &nearest, near, west)?
+            && is_searched(alloc, engine, nodes, &held, first, west)?
+            && is_searched(alloc, engine, nodes, &unheld, "", [false; 3])?,
+    )
+}
+
+// Whether that is so in a store.
+fn are_searched_in(alloc: Global, station: &mut MemoryStation, nodes: Nodes) -> Result<bool, Fail> {
+    let policy = Box::new(alloc, Halving::new())?;
+    let mut engine = opened(alloc, station, 64, policy)?;
+    let are_searched = are_searched(alloc, &mut engine, nodes);
+    let _loan = engine.into_disk();
+    are_searched
 }
 
 #[test]
 fn a_search_opens_only_the_nodes_that_may_hold_an_answer(rt: HostRuntime) -> Result<(), Fail> {
     let mut station = MemoryStation::new(rt.alloc(), 90);
-    let policy = Box::new(rt.alloc(), Halving::new())?;
-    let mut engine = Engine::open(rt.alloc(), &mut station, 64, policy)?;
-    let splits = splits_on_a_line(rt.alloc(), &mut engine);
-    let _loan = engine.into_disk();
-    splits?;
+    assert!(rt; splits_in(rt.alloc(), &mut station)?);
     let nodes = nodes_of(rt.alloc(), &mut station)?;
-    let policy = Box::new(rt.alloc(), Halving::new())?;
-    let mut engine = Engine::open(rt.alloc(), &mut station, 64, policy)?;
-    let searches = searches_on_a_line(rt.alloc(), &mut engine, nodes);
-    let _loan = engine.into_disk();
-    let [nearest, held, unheld] = searches?;
-    assert_eq!(rt; nearest.0.as_str(), "t00 0, t01 10000000, t02 20000000, ");
-    assert_eq!(rt; nearest.1, [true, true, false]);
-    assert_eq!(rt;
-        held.0.as_str(),
-        "t00 0, t01 2550000000000, t02 5100000000000, "
-    );
-    assert_eq!(rt; held.1, [true, true, false]);
-    assert_eq!(rt; unheld.0.as_str(), "");
-    assert_eq!(rt; unheld.1, [false; 3]);
+    assert!(rt; are_searched_in(rt.alloc(), &mut station, nodes)?);
     Ok(())
 }

@@ -64,25 +64,34 @@ fn take_out(pages: &mut MemoryPages, tables: &mut Tables, key: &Key) -> Result<(
     Ok(())
 }
 
+// Puts a place twice and takes it out: whether it has the words that it should, and each word goes with it.
+fn put_twice(alloc: Global, pages: &mut MemoryPages, tables: &mut Tables) -> Result<bool, Fail> {
+    let key = key_of("ab")?;
+    put(alloc, pages, tables, &key, "tea cake")?;
+    if !tells(alloc, pages, tables, &key, "cake 128 tea 128 ")? {
+        return Ok(false);
+    }
+
+    // Cake had number 1 and goes; tea keeps number 2, and art is given 3.
+    put(alloc, pages, tables, &key, "art tea art")?;
+    if !tells(alloc, pages, tables, &key, "art 170 tea 85 ")? || tables.next_word != 4 {
+        return Ok(false);
+    }
+    let is_gone = is_free(pages, tables, 1)?;
+    take_out(pages, tables, &key)?;
+    Ok(
+        is_gone
+            && tells(alloc, pages, tables, &key, "")?
+            && is_free(pages, tables, 2)?
+            && is_free(pages, tables, 3)?,
+    )
+}
+
 #[test]
 fn a_word_goes_with_the_last_place_that_holds_it(rt: HostRuntime) -> Result<(), Fail> {
     let mut pages = MemoryPages::new(rt.alloc(), 100);
     let mut tables = NO_TABLES;
-    let key = key_of("ab")?;
-    put(rt.alloc(), &mut pages, &mut tables, &key, "tea cake")?;
-    assert!(rt; tells(rt.alloc(), &mut pages, &tables, &key, "cake 128 tea 128 ")?);
-
-    // Cake had number 1 and goes; tea keeps number 2, and art is given 3.
-    put(rt.alloc(), &mut pages, &mut tables, &key, "art tea art")?;
-    assert!(rt; tells(rt.alloc(), &mut pages, &tables, &key, "art 170 tea 85 ")?);
-    assert!(rt; is_free(&mut pages, &tables, 1)?);
-    assert_eq!(rt; tables.next_word, 4);
-
-    take_out(&mut pages, &mut tables, &key)?;
-    assert!(rt; tells(rt.alloc(), &mut pages, &tables, &key, "")?);
-    for number in [2, 3] {
-        assert!(rt; is_free(&mut pages, &tables, number)?);
-    }
+    assert!(rt; put_twice(rt.alloc(), &mut pages, &mut tables)?);
     Ok(())
 }
 
@@ -157,22 +166,26 @@ fn put_batch(alloc: Global, pages: &mut MemoryPages, tables: &mut Tables) -> Res
     Ok(())
 }
 
+// Takes out two places that hold tea: whether it stands until the last one goes, and art goes with that one.
+fn take_both(pages: &mut MemoryPages, tables: &mut Tables) -> Result<bool, Fail> {
+    for name in ["a", "b"] {
+        if is_free(pages, tables, 2)? {
+            return Ok(false);
+        }
+        take_out(pages, tables, &key_of(name)?)?;
+    }
+    Ok(is_free(pages, tables, 2)? && is_free(pages, tables, 3)?)
+}
+
 #[test]
 fn a_word_of_a_batch_is_held_by_as_many_places_as_keep_it(rt: HostRuntime) -> Result<(), Fail> {
     let mut pages = MemoryPages::new(rt.alloc(), 100);
     let mut tables = NO_TABLES;
     put_batch(rt.alloc(), &mut pages, &mut tables)?;
-    let (a, b) = (key_of("a")?, key_of("b")?);
-    assert!(rt; tells(rt.alloc(), &mut pages, &tables, &a, "art 128 tea 128 ")?);
+    let key = key_of("a")?;
+    assert!(rt; tells(rt.alloc(), &mut pages, &tables, &key, "art 128 tea 128 ")?);
 
     // Cake went with the first place, and tea goes with the last one.
-    assert!(rt; is_free(&mut pages, &tables, 1)?);
-    for key in [a, b] {
-        assert!(rt; !is_free(&mut pages, &tables, 2)?);
-        take_out(&mut pages, &mut tables, &key)?;
-    }
-    for number in [2, 3] {
-        assert!(rt; is_free(&mut pages, &tables, number)?);
-    }
+    assert!(rt; is_free(&mut pages, &tables, 1)? && take_both(&mut pages, &mut tables)?);
     Ok(())
 }
