@@ -21,11 +21,11 @@ use Rattle.best_first.proofs.Steps.{Searching, below_leads, all_nodes, all_place
 use Rattle.best_first.proofs.Logs.{asked_sooner, asked_before, asks_wider, asks_then}
 
 -- a list contains its head
-contains_head : {X : Type 0} (x : X) (xs : List X) → Contains (x ∷ xs) x
+pub contains_head : {X : Type 0} (x : X) (xs : List X) → Contains (x ∷ xs) x
 contains_head x xs = (all_in (x ∷ xs)).0
 
 -- each place among a leaf's items is from that leaf
-places_from : (all : List Item) (level : ℕ) (items : List Item) → AllByRecursion (IsGivenAt level) items → AllByRecursion (Contains all) items → AllByRecursion (λ (h : Hit). (level ≡ 0) × Contains all (Place h)) (places_of items)
+pub places_from : (all : List Item) (level : ℕ) (items : List Item) → AllByRecursion (IsGivenAt level) items → AllByRecursion (Contains all) items → AllByRecursion (λ (h : Hit). (level ≡ 0) × Contains all (Place h)) (places_of items)
 places_from all level [] g c = tt
 places_from all zero (Node page l bound ∷ items) g c = absurd g.0
 places_from all (suc level) (Node page l bound ∷ items) g c = places_from all (suc level) items g.1 c.1

@@ -169,7 +169,7 @@ children_light zero (Node page l bound ∷ items) g = absurd g.0
 children_light (suc level) (Node page l bound ∷ items) g = omega (arith, sum_by-cons weight (Node page l bound) (nodes_of items), ap node_weight g.0, children_light (suc level) items g.1)
 children_light level (Place hit ∷ items) g = omega (arith, children_light level items g.1)
 
-mul_le : (a b m : ℕ) → a ≤ b → a * m ≤ b * m
+pub mul_le : (a b m : ℕ) → a ≤ b → a * m ≤ b * m
 mul_le a b m q = grind arith
 
 -- an opened node leaves less work

@@ -1,6 +1,6 @@
 -- Where an item doesn't touch the region, or isn't let through by the filter, no place below it is an answer.
-use Rattle.std.proofs.Common.{◌≡◌, ℕ, ℤ, zero, suc, ◌+◌, ◌*◌, ◌<◌, ◌≤◌, ◌≤ℤ◌, Bool, true, false, ◌||◌, List, Option, None, Some, refl, sym, ap, subst, ◌∙◌, arith, ⊎_elim, pos, negsuc}
-use Rattle.std.specs.Prelude.{int_le, option_map}
+use Rattle.std.proofs.Common.{◌≡◌, ℕ, zero, suc, ◌+◌, ◌*◌, ◌<◌, ◌≤◌, Bool, true, false, ◌||◌, List, Option, None, Some, refl, sym, ap, subst, ◌∙◌, arith, ⊎_elim}
+use Rattle.std.specs.Prelude.{option_map}
 use Rattle.std.proofs.lemmas.Bool.{and_parts, and_from, leb-true, le-leb, ltb-true, lt-ltb, true≢false, false≢true, cases_Bool}
 use Rattle.std.proofs.lemmas.Int.{ints, clamps}
 use Rattle.page_face.specs.FreeList.{PageMap}
@@ -17,7 +17,7 @@ use Rattle.rtree_nodes.specs.Reach.{place_item}
 use Rattle.rtree_nodes.specs.Pages.{level_in, is_used, is_form, stored_in, node_of}
 use Rattle.rtree_nodes.proofs.Formed.{form-parts, form-node, other-node, stored-used, stored-unused}
 use Rattle.rtree_nodes.proofs.Children.{point_from, leaf-form, leaf-item}
-use Rattle.rtree_nodes.proofs.Cells.{map-from}
+use Rattle.rtree_nodes.proofs.Cells.{map-from, int-le, le-int}
 use Rattle.node_rows.specs.Rows.{bytes_in}
 use Rattle.irtree_shape.specs.Words.{joined_item}
 use Rattle.irtree_shape.specs.Made.{nodes_in}
@@ -91,18 +91,6 @@ module _ (nodes : NodeMap) (f : Item → ℕ) (leaves : (page : ℕ) → (nodes 
   below-nothing y none (suc level) w h u = amount-nothing (λ z. below nodes f (suc level) z) (nodes w.to).slots (λ i l. held-none (λ z. below nodes f (suc level) z) ((nodes w.to).slots i) (λ z e.
       let item : IsItem nodes (suc level) z = subst (Held (λ v. IsItem nodes (suc level) v)) e (h.0.items i l) in
       below-nothing y none level z item (λ d. let a = held-under IsPlace (suc level) d w z i l h e in let b = u d in omega arith)))
-
-int-le : (a b : ℤ) → int_le a b ≡ true → a ≤ℤ b
-int-le (pos a) (pos b) h = let k = leb-true a b h in omega (arith, ints)
-int-le (pos a) (negsuc b) h = absurd (false≢true h)
-int-le (negsuc a) (pos b) h = omega (arith, ints)
-int-le (negsuc a) (negsuc b) h = let k = leb-true b a h in omega (arith, ints)
-
-le-int : (a b : ℤ) → a ≤ℤ b → int_le a b ≡ true
-le-int (pos a) (pos b) h = le-leb a b (omega (arith, ints))
-le-int (pos a) (negsuc b) h = absurd (omega (arith, ints))
-le-int (negsuc a) (pos b) h = refl
-le-int (negsuc a) (negsuc b) h = le-leb b a (omega (arith, ints))
 
 -- a place stands in the rectangle of an item that it is under
 pub under-holds : (x y : Item) → IsPlace x → IsUnder x y → Holds (rect_of_item y) (point_of x)

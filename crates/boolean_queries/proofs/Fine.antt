@@ -1,20 +1,16 @@
 -- A well-formed node isn't refused.
-use Rattle.std.proofs.Common.{◌≡◌, ℕ, List, true, arith, sym, ◌∙◌, subst, ⊎_elim}
+use Rattle.std.proofs.Common.{◌≡◌, ℕ, arith, sym, ◌∙◌, subst, ⊎_elim}
 use Rattle.page_face.specs.FreeList.{PageMap}
 use Rattle.page_face.specs.Causes.{IsUncounted}
 use Rattle.page_face.specs.declared.fault.Rule.{Rule}
 use Rattle.page_face.specs.declared.fault.Rule.TheVariants.{Head, Link, Kind, Fill, Order, Spare, Level, Value, Shared, Rect, Row, Entry, Words, Counts}
 use Rattle.rtree_shape.specs.Slots.{NodeView}
-use Rattle.rtree_nodes.specs.Pages.{is_form, has_values, node_of}
-use Rattle.rtree_nodes.proofs.Formed.{form-parts, values-from}
+use Rattle.rtree_nodes.specs.Pages.{node_of}
 use Rattle.rtree_find.specs.Subtrees.{IsNodeAt}
 use Rattle.rtree_find.specs.Harms.{BreaksAlone, BreaksPlace}
-use Rattle.rtree_find.proofs.Subtrees.{IsRead}
+use Rattle.rtree_find.proofs.Subtrees.{IsRead, values-form}
 use Rattle.irtree_shape.specs.Made.{nodes_in}
 use Rattle.boolean_queries.proofs.Opened.{joined-read}
-
-values-form : (page : List ℕ) → is_form page ≡ true → has_values page ≡ true
-values-form page h = let p = form-parts page h in values-from page p.values
 
 -- a page with a slot that is counted breaks no rule by itself
 read-fine : (rule : Rule) (pages : PageMap) (count page : ℕ) (node : NodeView) → IsRead (pages page) node → (IsUncounted count page → ⊥) → BreaksAlone rule pages count page → ⊥

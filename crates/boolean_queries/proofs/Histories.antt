@@ -19,26 +19,16 @@ use Rattle.best_first.specs.Openings.{Opening, pages_opened, given_by, IsFromLea
 use Rattle.best_first.proofs.Lists.{all_weaker, all_append, all_parts, all_in, all_moved}
 use Rattle.best_first.proofs.Logs.{asked_sooner, asked_before}
 use Rattle.best_first.proofs.Steps.{all_nodes}
+use Rattle.best_first.proofs.Histories.{contains_head as contains-head, places_from as places-from}
 use Rattle.boolean_queries.specs.declared.region.Region.{Region}
 use Rattle.boolean_queries.specs.Walked.{Stands, AsksFor, Walked}
 use Rattle.node_rows.specs.Damages.{IsRowsDamage}
 use Rattle.boolean_queries.specs.Harms.{IsNodeHarm, IsQueryHarm}
 use Rattle.boolean_queries.proofs.Logs.{asks-wider, asks-then}
 
-contains-head : {X : Type 0} (x : X) (xs : List X) → Contains (x ∷ xs) x
-contains-head x xs = (all_in (x ∷ xs)).0
-
 -- what holds of all holds of one among them
-all-contained : {X : Type 0} (P : X → Type 0) (xs : List X) (x : X) → AllByRecursion P xs → Contains xs x → P x
+pub all-contained : {X : Type 0} (P : X → Type 0) (xs : List X) (x : X) → AllByRecursion P xs → Contains xs x → P x
 all-contained P xs x h c = subst P c.2 (All-from_recursion P xs h c.0 x c.1)
-
--- each place among a leaf's items is from that leaf
-places-from : (all : List Item) (level : ℕ) (items : List Item) → AllByRecursion (IsGivenAt level) items → AllByRecursion (Contains all) items → AllByRecursion (λ (h : Hit). (level ≡ 0) × Contains all (Place h)) (places_of items)
-places-from all level [] g c = tt
-places-from all zero (Node page l bound ∷ items) g c = absurd g.0
-places-from all (suc level) (Node page l bound ∷ items) g c = places-from all (suc level) items g.1 c.1
-places-from all zero (Place hit ∷ items) g c = ((refl, c.0), places-from all zero items g.1 c.1)
-places-from all (suc level) (Place hit ∷ items) g c = absurd g.0
 
 -- the page and the level of a node
 abbrev page-in : Item → ℕ
@@ -49,7 +39,7 @@ abbrev level-in : Item → ℕ
 level-in (Node page level bound) = level
 level-in (Place hit) = 0
 
-none-or : (n : ℕ) → (n ≡ 0) ⊎ (0 < n)
+pub none-or : (n : ℕ) → (n ≡ 0) ⊎ (0 < n)
 none-or n = grind arith
 
 module _ (region : Region) (pages : PageMap) (mine : ℕ → ℕ) (fits : Type 0) (opens : ℕ → ℕ → List Item) (root root_level : ℕ) where

@@ -1,7 +1,6 @@
 -- What a slot's place or child gives, by what stands in the slot.
 use Rattle.std.proofs.Common.{◌≡◌, ℕ, zero, suc, ◌+◌, ◌*◌, ◌-◌, ◌<◌, ◌==◌, ◌&&◌, ◌||◌, nat_lt, Bool, true, false, Option, None, Some, is_some, ⊎_elim, List, [], ◌∷◌, take, drop, refl, sym, ap, ◌∙◌, arith}
 use Rattle.std.specs.Prelude.{if◌then◌else◌}
-use Rattle.std.proofs.lemmas.Int.{ints, clamps}
 use Rattle.std.proofs.lemmas.Bool.{eqb-true, eqb-false, lt-ltb, le-ltb}
 use Rattle.std.proofs.lemmas.Bool.Decides.{nat_tests}
 use Rattle.rtree_shape.specs.Slots.{Item}
@@ -9,7 +8,6 @@ use Rattle.rtree_shape.proofs.Amounts.{same_or}
 use Rattle.spatial_base.specs.Key.{Name, IsName, form_of}
 use Rattle.spatial_base.specs.Point.{Position, IsOnMap}
 use Rattle.spatial_base.specs.Rect.{Bounds, IsRect}
-use Rattle.spatial_base.proofs.Rects.{bounds_same}
 use Rattle.place_map.specs.declared.hit.Hit.{Hit}
 use Rattle.rtree_nodes.specs.Reach.{place_item, child_item, item_of, is_place}
 use Rattle.rtree_nodes.specs.declared.content.Slot.{Slot}
@@ -23,23 +21,10 @@ use Rattle.best_first.specs.declared.item.Item.TheVariants.{Node, Place}
 use Rattle.tree_entries.specs.Masks.{has_slot}
 use Rattle.tree_entries.proofs.Marking.{slot-none}
 use Rattle.tree_entries.specs.Entries.{point_of, rect_of_item, name_of}
+use Rattle.tree_ranking.proofs.Sides.{place-point, child-rect}
 use Rattle.boolean_queries.specs.declared.region.Region.{Region}
 use Rattle.boolean_queries.specs.Regions.{meets, has_point, hit_in}
 use Rattle.boolean_queries.specs.Near.{near_item, is_near, alone_in, listed, touches, given}
-
--- the point of a place's item
-pub place-point : (p : Position) (key : List ℕ) → IsOnMap p.x p.y → point_of (place_item p key) ≡ p
-place-point p key on =
-    let x : (point_of (place_item p key)).x ≡ p.x = omega (arith, ints, clamps) in
-    let y : (point_of (place_item p key)).y ≡ p.y = omega (arith, ints, clamps) in
-    λ i. record { x = x i; y = y i }
-
--- the rectangle of a child's
-pub child-rect : (r : Bounds) (page : ℕ) → IsRect r.west r.south r.east r.north → rect_of_item (child_item r page) ≡ r
-child-rect r page on =
-    let a = on.0 in
-    let b = on.1 in
-    bounds_same (rect_of_item (child_item r page)) r (omega (arith, ints, clamps)) (omega (arith, ints, clamps)) (omega (arith, ints, clamps)) (omega (arith, ints, clamps))
 
 -- a place that the region hasn't
 pub place-out : (region : Region) (p : Position) (key : List ℕ) → IsOnMap p.x p.y → has_point region p ≡ false → near_item region 0 (place_item p key) ≡ []

@@ -10,7 +10,7 @@ use Rattle.best_first.specs.declared.item.Item.{Item}
 use Rattle.best_first.specs.declared.item.Item.TheVariants.{Node, Place}
 use Rattle.best_first.specs.Items.{nodes_of, places_of, IsGivenAt}
 use Rattle.best_first.specs.Leads.{below, reached, leads}
-use Rattle.best_first.proofs.Steps.{below_leads, node_weight, weight, work, child_weight}
+use Rattle.best_first.proofs.Steps.{below_leads, node_weight, weight, work, child_weight, mul_le as mul-le}
 
 module _ (opens : ℕ → ℕ → List Item) where
   -- what was found, and what the waiting nodes lead to, are all places
@@ -63,9 +63,6 @@ children-light level [] g = omega arith
 children-light zero (Node page l bound ∷ items) g = absurd g.0
 children-light (suc level) (Node page l bound ∷ items) g = omega (arith, sum_by-cons weight (Node page l bound) (nodes_of items), ap node_weight g.0, children-light (suc level) items g.1)
 children-light level (Place hit ∷ items) g = omega (arith, children-light level items g.1)
-
-mul-le : (a b m : ℕ) → a ≤ b → a * m ≤ b * m
-mul-le a b m q = grind arith
 
 -- an opened node leaves less work
 pub opened-smaller : (page level bound : ℕ) (items queue rest new : List Item) → queue ≡ rest ++ Node page level bound ∷ [] → length items ≤ 32 → AllByRecursion (IsGivenAt level) items → new ≡ rest ++ nodes_of items → work new < work queue

@@ -1,4 +1,3 @@
-pub mod Gives
 pub mod Bodies
 pub mod Joins
 pub mod Holds

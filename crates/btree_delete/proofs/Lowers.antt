@@ -13,7 +13,7 @@ use Rattle.btree_nodes.proofs.Frames.{SameFan, fan-frame, tree-frame}
 use Rattle.btree_nodes.proofs.Spots.{length-entries_in}
 use Rattle.btree_nodes.proofs.Supplies.{moves-as, moves-beside, one_at-same}
 use Rattle.btree_delete.specs.Mended.{Becomes}
-use Rattle.btree_delete.proofs.Gives.{moves-give}
+use Rattle.btree_nodes.proofs.Gives.{moves-give}
 
 single : (es : List Entry) → length es ≡ 1 → es ≡ get_or es 0 no_entry ∷ []
 single [] h = absurd (omega arith)

@@ -17,7 +17,7 @@ use Rattle.btree_nodes.proofs.Puts.{without-edit, without-here}
 use Rattle.btree_nodes.proofs.Supplies.{moves-as, one_at-same, with-same}
 use Rattle.btree_delete.specs.Body.{rows_of, cells_in, without_cell}
 use Rattle.btree_delete.specs.Removal.{IsOut}
-use Rattle.btree_delete.proofs.Gives.{moves-give}
+use Rattle.btree_nodes.proofs.Gives.{moves-give}
 use Rattle.btree_delete.proofs.Joins.{few, width-some}
 use Rattle.btree_delete.proofs.Holds.{cells-rows, becomes-as}
 use Rattle.btree_delete.proofs.Changes.{rows-without, length-without}

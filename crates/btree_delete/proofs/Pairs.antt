@@ -4,7 +4,7 @@ use Rattle.page_face.specs.FreeList.{PageMap, with_page, IsFreePage, next_free}
 use Rattle.btree_nodes.specs.Supply.{one_at, spare, view, IsSupplied, Moves}
 use Rattle.btree_nodes.proofs.Supplies.{moves-write, moves-beside, moves-further, moves-as, one_at-same, with-same, with-other}
 use Rattle.btree_delete.specs.Mended.{IsMerged, IsHalved}
-use Rattle.btree_delete.proofs.Gives.{moves-give}
+use Rattle.btree_nodes.proofs.Gives.{moves-give}
 
 module _ (old wrote new : PageMap) (count first left right : ℕ) (free front : List ℕ)
     (supplied : IsSupplied (view old count first free))

@@ -1,5 +1,5 @@
 -- One step down a tree: what a page's child has is what the page has.
-use Rattle.std.proofs.Common.{append_assoc, ◌≡◌, ℕ, zero, suc, ◌<◌, ◌≤◌, inl, inr, List, [], ◌∷◌, ◌++◌, length, arith, refl, sym, ap, ◌∙◌, subst, Result, Err, Option, Some, None}
+use Rattle.std.proofs.Common.{◌≡◌, ℕ, zero, suc, ◌<◌, ◌≤◌, inl, inr, List, [], ◌∷◌, ◌++◌, length, arith, refl, sym, ap, ◌∙◌, subst, Result, Err, Option, Some, None}
 use Rattle.page_face.specs.FreeList.{PageMap}
 use Rattle.page_face.specs.Calls.{Reads, TakesNone}
 use Rattle.page_face.specs.Causes.{asked_after}
@@ -19,7 +19,7 @@ use Rattle.btree_delete.specs.Mended.{IsBeside}
 use Rattle.btree_delete.specs.Looks.{HasLooked, TellsBeside, HasBeside}
 use Rattle.btree_delete.specs.declared.settling.Beside.{Beside}
 use Rattle.btree_nodes.proofs.Trees.{child-uses}
-use Rattle.btree_nodes.proofs.Harms.{asked-here, asks-here, asks-further, asks-more}
+use Rattle.btree_nodes.proofs.Harms.{asked-from, asked-here, asks-here, asks-further, asks-more}
 use Rattle.btree_nodes.proofs.Walks.{inside, uses-below, uses-self}
 
 -- the page that a refusal names
@@ -40,15 +40,6 @@ damage-rule form pages count damage least zero page low high bytes rule fault is
 damage-rule form pages count damage least (suc level) page low high bytes rule fault is e f h =
     let same : record { page = page; rule = rule } ≡ damage = cc in
     subst (λ (d : Damage). IsDamaged form pages count d least (suc level) page low high) same (inl (refl, inr (subst (λ (b : List ℕ). BreaksInner rule form least (suc level) low high b) is h)))
-
--- a page asked for before the first of these, where that one was itself asked for later than this
-pub asked-from : (before middle after : List ℕ) (first page : ℕ) → AskedSince before middle first → AskedSince middle after page → AskedSince before after page
-asked-from before middle after first page a b = record {
-  front = (a.front ++ (first ∷ a.back)) ++ b.front;
-  back = b.back;
-  is = b.is ∙ ap (λ (x : List ℕ). x ++ (b.front ++ (page ∷ b.back))) a.is ∙ append_assoc before (a.front ++ (first ∷ a.back)) (b.front ++ (page ∷ b.back))
-      ∙ ap (λ (x : List ℕ). before ++ x) (sym (append_assoc (a.front ++ (first ∷ a.back)) b.front (page ∷ b.back)));
-}
 
 -- a read that was refused as damaged has asked for its page
 pub named-refused : {T : Type 0} (asked new : List ℕ) (child : ℕ) (result : Result T PageFault) (damage : Damage) → new ≡ asked_after result child asked → result ≡ Err (Damaged damage) → damage.page ≡ child → AskedSince asked new damage.page

@@ -70,6 +70,15 @@ asked-here before after page e = record { front = []; back = []; is = e }
 pub asked-sooner : (before after : List ℕ) (first page : ℕ) → AskedSince (before ++ first ∷ []) after page → AskedSince before after page
 asked-sooner before after first page a = record { front = first ∷ a.front; back = a.back; is = a.is ∙ append_assoc before (first ∷ []) (a.front ++ (page ∷ a.back)) }
 
+-- a page asked for before the first of these, where that one was itself asked for later than this
+pub asked-from : (before middle after : List ℕ) (first page : ℕ) → AskedSince before middle first → AskedSince middle after page → AskedSince before after page
+asked-from before middle after first page a b = record {
+  front = (a.front ++ (first ∷ a.back)) ++ b.front;
+  back = b.back;
+  is = b.is ∙ ap (λ (x : List ℕ). x ++ (b.front ++ (page ∷ b.back))) a.is ∙ append_assoc before (a.front ++ (first ∷ a.back)) (b.front ++ (page ∷ b.back))
+      ∙ ap (λ (x : List ℕ). before ++ x) (sym (append_assoc (a.front ++ (first ∷ a.back)) b.front (page ∷ b.back)));
+}
+
 -- a page asked for in the first of two steps
 pub asked-before : (mine : ℕ → ℕ) (before middle after : List ℕ) (page : ℕ) → AsksOnly mine before middle → AskedSince middle after page → AskedSince before after page
 asked-before mine before middle after page m a = record {

@@ -3,6 +3,7 @@ pub mod Chops
 pub mod Writes
 pub mod Overlaps
 pub mod Supplies
+pub mod Gives
 pub mod Spans
 pub mod Orders
 pub mod Fans

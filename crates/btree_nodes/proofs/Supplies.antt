@@ -55,6 +55,19 @@ pub counted-none : (count n : ℕ) → n < count → uncounted count n ≡ 0
 unfolding uncounted
 counted-none count n h = grind (arith, nat_tests)
 
+-- no free page is page 0
+free-away : (pages : PageMap) (count first : ℕ) (free : List ℕ) → IsFreeList pages count first free → times free 0 ≡ 0
+free-away pages count first [] s = refl
+free-away pages count first (page ∷ rest) s =
+    let i = free-away pages count (next_free (pages page)) rest s.4 in
+    let p = s.1 in
+    let o = one_at-other page 0 (λ e. absurd (omega arith)) in
+    omega arith
+
+-- nor is one that can be taken
+pub spare-away : (v : View) → 0 < v.count → IsSupplied v → spare_in v 0 ≡ 0
+spare-away v some s = let f = free-away v.pages v.count v.first v.free s in let c = counted-none v.count 0 some in omega arith
+
 -- a page past the count is a new one
 pub uncounted-past : (count n : ℕ) → count ≤ n → uncounted count n ≡ 1
 unfolding uncounted

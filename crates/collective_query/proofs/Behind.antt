@@ -18,7 +18,8 @@ use Rattle.collective_query.specs.Tried.{IsFirst}
 use Rattle.collective_query.proofs.Costs.{farthest-cons}
 use Rattle.collective_query.proofs.Leads.{chained}
 use Rattle.collective_query.proofs.Least.{itself}
-use Rattle.collective_query.proofs.Members.{all-among, contains-here, contains-cases, contains-none}
+use Rattle.collective_query.proofs.Members.{all-among, contains-cases, contains-none}
+use Rattle.best_first.proofs.Histories.{contains_head as contains-here}
 
 -- each pick is at the point of the other choice's
 abbrev AreAt : List Pick → List Pick → Type 0

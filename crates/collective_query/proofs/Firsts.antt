@@ -21,7 +21,8 @@ use Rattle.collective_query.specs.Choices.{IsChoice, IsWithin, IsCut, AreCut}
 use Rattle.collective_query.specs.Picks.{GoesBeyond}
 use Rattle.collective_query.specs.TreePicks.{tree_picks, tree_lists, pick_from, word_hits, first_picks, first_lists}
 use Rattle.collective_query.specs.Tried.{IsChosen}
-use Rattle.collective_query.proofs.Members.{contains-here, contains-later, contains-none, contains-cases, contains-map, all-among, map-all, all-ranked, among-ranked}
+use Rattle.collective_query.proofs.Members.{contains-later, contains-none, contains-cases, contains-map, all-among, map-all, all-ranked, among-ranked}
+use Rattle.best_first.proofs.Histories.{contains_head as contains-here}
 use Rattle.collective_query.proofs.TreePicks.{picks-made, hit-among}
 
 -- of hits in order, none behind others costs less than one of them

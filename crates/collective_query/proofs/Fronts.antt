@@ -11,7 +11,8 @@ use Rattle.collective_query.specs.Fronts.{Completes}
 use Rattle.collective_query.specs.Picks.{AreMeasured}
 use Rattle.collective_query.proofs.Costs.{farthest-cons, farthest-push, diameter-push}
 use Rattle.collective_query.proofs.Joins.{member-far, member-wide, choice-meets}
-use Rattle.collective_query.proofs.Members.{all-among, contains-cases, contains-here, contains-later, contains-none}
+use Rattle.collective_query.proofs.Members.{all-among, contains-cases, contains-later, contains-none}
+use Rattle.best_first.proofs.Histories.{contains_head as contains-here}
 
 -- where no pick is farther, the farthest isn't
 farthest-within : (point : Position) (picks : List Pick) (most : ℕ) → ((pick : Pick) → Contains picks pick → distance point pick.point ≤ most) → farthest point picks ≤ most

@@ -16,7 +16,8 @@ use Rattle.collective_query.specs.Choices.{IsChoice}
 use Rattle.collective_query.specs.Joins.{may_join, joined_by}
 use Rattle.collective_query.specs.Picks.{AreMeasured}
 use Rattle.collective_query.proofs.Costs.{farthest-cons}
-use Rattle.collective_query.proofs.Members.{all-among, contains-cases, contains-none, contains-here, contains-later}
+use Rattle.collective_query.proofs.Members.{all-among, contains-cases, contains-none, contains-later}
+use Rattle.best_first.proofs.Histories.{contains_head as contains-here}
 
 -- no pick is farther than the farthest
 pub member-far : (point : Position) (choice : List Pick) (pick : Pick) → Contains choice pick → distance point pick.point ≤ farthest point choice

@@ -16,7 +16,8 @@ use Rattle.collective_query.specs.Tried.{IsChosen, IsFirst}
 use Rattle.collective_query.proofs.Cuts.{cut-choice, counted-choice}
 use Rattle.collective_query.proofs.Joins.{member-far, member-wide, choice-meets}
 use Rattle.collective_query.proofs.Least.{itself, least-among, least-first, least-is, dearer-after}
-use Rattle.collective_query.proofs.Members.{all-among, contains-cases, contains-none, contains-here, contains-later}
+use Rattle.collective_query.proofs.Members.{all-among, contains-cases, contains-none, contains-later}
+use Rattle.best_first.proofs.Histories.{contains_head as contains-here}
 use Rattle.collective_query.proofs.Products.{choice-among, all-choices}
 
 -- there are as many lists

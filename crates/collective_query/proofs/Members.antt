@@ -1,15 +1,12 @@
 -- What is in a list that is put together, and in a list in order.
-use Rattle.std.proofs.Common.{◌≡◌, ◌⊎◌, zero, suc, Bool, true, false, List, [], ◌∷◌, map, refl, subst, sym, inl, inr, ⊎_elim, arith}
+use Rattle.std.proofs.Common.{◌≡◌, ◌⊎◌, zero, suc, Bool, true, false, List, [], ◌∷◌, map, subst, sym, inl, inr, ⊎_elim, arith}
 use Rattle.std.proofs.lemmas.Bool.{cases_Bool}
 use Rattle.std.proofs.lemmas.List.Elements.{Contains-append_left, Contains-append_right, All-contains, All-from_recursion}
 use Rattle.std.specs.List.{AllByRecursion, Contains, flat_map}
 use Rattle.ranking.specs.First.{IsLinear, placed, ranked}
 use Rattle.ranking.specs.Laws.{all_placed}
 use Rattle.best_first.proofs.Lists.{all_in}
-
--- the first of a list is in it
-pub contains-here : {X : Type 0} (x : X) (xs : List X) → Contains (x ∷ xs) x
-contains-here x xs = (0, omega arith, refl)
+use Rattle.best_first.proofs.Histories.{contains_head as contains-here}
 
 -- and so are those behind it
 pub contains-later : {X : Type 0} (y : X) (ys : List X) (x : X) → Contains ys x → Contains (y ∷ ys) x

@@ -20,7 +20,8 @@ use Rattle.place_map.specs.Group.{pick_cmp}
 use Rattle.collective_query.specs.Choices.{IsChoice}
 use Rattle.collective_query.specs.Fronts.{Completes, IsNext, HasLeastKeys}
 use Rattle.collective_query.proofs.Fronts.{completes-front}
-use Rattle.collective_query.proofs.Members.{all-among, contains-here}
+use Rattle.collective_query.proofs.Members.{all-among}
+use Rattle.best_first.proofs.Histories.{contains_head as contains-here}
 
 pick-total : IsTotalOrder pick_cmp
 pick-total =

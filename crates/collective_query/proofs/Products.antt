@@ -7,7 +7,8 @@ use Rattle.best_first.proofs.Lists.{flat_map_same}
 use Rattle.best_first.proofs.Lists.{all_in, all_weaker, flat_all}
 use Rattle.place_map.specs.Group.{product}
 use Rattle.collective_query.specs.Choices.{IsChoice}
-use Rattle.collective_query.proofs.Members.{contains-here, contains-none, contains-cases, contains-flat, contains-map}
+use Rattle.collective_query.proofs.Members.{contains-none, contains-cases, contains-flat, contains-map}
+use Rattle.best_first.proofs.Histories.{contains_head as contains-here}
 
 -- a choice is in the product
 pub choice-among : {X : Type 0} (lists : List (List X)) (choice : List X) → IsChoice lists choice → Contains (product lists) choice

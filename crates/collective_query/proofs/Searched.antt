@@ -21,7 +21,8 @@ use Rattle.collective_query.specs.Picks.{AreMeasured}
 use Rattle.collective_query.proofs.Cuts.{covered-least}
 use Rattle.collective_query.proofs.Fronts.{fewer-cost, met-choice}
 use Rattle.collective_query.proofs.Least.{dearer-after}
-use Rattle.collective_query.proofs.Members.{all-among, all-map, map-all, contains-here, contains-later, contains-cases, contains-none}
+use Rattle.collective_query.proofs.Members.{all-among, all-map, map-all, contains-later, contains-cases, contains-none}
+use Rattle.best_first.proofs.Histories.{contains_head as contains-here}
 use Rattle.collective_query.proofs.Products.{choice-among, all-choices}
 
 -- the picks of each list are as far as they say

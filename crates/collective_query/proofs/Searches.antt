@@ -2,7 +2,6 @@
 use Rattle.std.proofs.Common.{◌≡◌, ℕ, List, ◌++◌, ◌∙◌, append_assoc, ap, subst, sym, Result, Ok, Err, arith, inl, inr, ⊎_elim}
 use Rattle.std.specs.Prelude.{IsErrOf, OnOk}
 use Rattle.page_face.specs.FreeList.{PageMap}
-use Rattle.page_face.specs.Calls.{FailsReading}
 use Rattle.page_face.specs.Causes.{Rose, HidesNoFault}
 use Rattle.page_face.specs.declared.fault.Damage.{Damage}
 use Rattle.page_face.specs.declared.fault.PageFault.{PageFault}
@@ -16,6 +15,7 @@ use Rattle.tree_ranking.specs.Harms.{IsHarm}
 use Rattle.tree_ranking.specs.Laws.{harm-sooner as ranked-sooner}
 use Rattle.boolean_queries.specs.Harms.{IsQueryHarm}
 use Rattle.boolean_queries.proofs.Histories.{harm-sooner}
+use Rattle.tree_entries.proofs.Rows.{fails-ok}
 use Rattle.collective_query.specs.Searches.{IsSearchHarm, GoesOn, Searches}
 
 -- the damage of a later search is one of the searches together
@@ -27,10 +27,6 @@ harm-later pages count tree old mid new damage on harm = ⊎_elim
 
 goes-then : (old mid new : List ℕ) → GoesOn old mid → GoesOn mid new → GoesOn old new
 goes-then old mid new a b = record { more = a.more ++ b.more; is = b.is ∙ ap (λ l. l ++ b.more) a.is ∙ append_assoc old a.more b.more }
-
--- a call that isn't refused
-fails-ok : {P X : Type 0} (g : Ghosts P) (a b : P) (x : X) → g.faults b ≡ g.faults a → FailsReading g a b (Ok x)
-fails-ok g a b x same = record { disk = λ e. absurd (cc); hides_none = same; room_left = λ e. absurd (cc); stopped = λ e. absurd (cc) }
 
 -- the same searches, and another answer
 pub searches-ok : {P X Y : Type 0} (g : Ghosts P) (tree : Tree) (a b : P) (x : X) (y : Y) → Searches g tree a b (Ok x) → Searches g tree a b (Ok y)

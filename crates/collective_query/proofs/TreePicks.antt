@@ -15,7 +15,8 @@ use Rattle.tree_entries.specs.Entries.{point_of, tree_places}
 use Rattle.tree_entries.specs.Hits.{hit_near, near_item, range_item}
 use Rattle.collective_query.specs.Choices.{IsWithin, IsCut}
 use Rattle.collective_query.specs.TreePicks.{pick_in, pick_item, tree_picks, pick_from, word_hits, hits_within, near_picks}
-use Rattle.collective_query.proofs.Members.{contains-here, contains-flat, contains-map, all-among, all-ranked, among-ranked}
+use Rattle.collective_query.proofs.Members.{contains-flat, contains-map, all-among, all-ranked, among-ranked}
+use Rattle.best_first.proofs.Histories.{contains_head as contains-here}
 
 -- what may be missing, alike
 one-made : (there : Bool) (pick : Pick) (hit : Hit) (f : Hit → Pick) → pick ≡ f hit → (if there then pick ∷ [] else []) ≡ map f (if there then hit ∷ [] else [])

@@ -1,10 +1,10 @@
 -- A node whose items were let go, and one that was written as its rows stand.
-use Rattle.std.proofs.Common.{◌≡◌, ℕ, ◌<◌, arith, refl, sym, ap, ◌∙◌, List, ◌==◌, if◌then◌else◌, Bool, true, false}
+use Rattle.std.proofs.Common.{◌≡◌, ℕ, arith, refl, sym, ap, ◌∙◌, List, ◌==◌, if◌then◌else◌, Bool, true, false}
 use Rattle.std.proofs.lemmas.Bool.Decides.{nat_tests}
 use Rattle.page_face.specs.FreeList.{PageMap, with_page}
 use Rattle.btree_nodes.specs.Supply.{one_at}
 use Rattle.btree_nodes.specs.Tree.{map_uses}
-use Rattle.btree_nodes.proofs.Supplies.{one_at-same, one_at-is, with-same, with-other}
+use Rattle.btree_nodes.proofs.Supplies.{with-same, with-other}
 use Rattle.rtree_shape.specs.Slots.{Item, NodeView, tops}
 use Rattle.rtree_shape.specs.Stock.{View, view, plain, spare_in, rows_form}
 use Rattle.rtree_nodes.specs.Pages.{node_of}
@@ -17,14 +17,7 @@ use Rattle.irtree_shape.specs.Steps.{crowned}
 use Rattle.irtree_shape.proofs.Stocks.{moves-rows, bytes-same}
 use Rattle.irtree_shape.proofs.Words.{joined-same, words-none_back, sides}
 use Rattle.irtree_shape.proofs.Raises.{crown-reach}
-
--- a page that isn't this one
-pub not-one : (page n : ℕ) → one_at page n ≡ 0 → n ≡ page → ⊥
-not-one page n z e = let s = one_at-same page in let a : one_at page n ≡ one_at page page = ap (one_at page) e in omega arith
-
--- a page in use isn't spare
-pub one-apart : (v : View) (page : ℕ) → spare_in v page ≡ 0 → (n : ℕ) → 0 < one_at page n → spare_in v n ≡ 0
-one-apart v page z n l = ap (spare_in v) (one_at-is page n l) ∙ z
+use Rattle.irtree_shape.proofs.Stepping.{not_one as not-one, one-apart}
 
 module _ (v : View) (pages : PageMap) (rows count first page : ℕ) (supplied : IsSupplied v) (unused : spare_in v page ≡ 0) where
   -- rows of one node have turned into others

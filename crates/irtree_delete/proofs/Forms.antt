@@ -10,27 +10,19 @@ use Rattle.page_face.specs.declared.fault.Damage.{Damage}
 use Rattle.page_face.specs.declared.fault.PageFault.TheVariants.{Damaged}
 use Rattle.btree_nodes.specs.Damages.{AreTold}
 use Rattle.btree_nodes.proofs.Supplies.{with-same, with-other, free-told}
-use Rattle.rtree_shape.specs.Slots.{Item, Slots, NodeView, filled, one}
+use Rattle.rtree_shape.specs.Slots.{Item, Slots, filled, one}
 use Rattle.rtree_shape.specs.Loose.{with_opt, IsAt}
 use Rattle.rtree_shape.proofs.Amounts.{same_or}
 use Rattle.rtree_shape.proofs.Outs.{opt-same, opt-other, opt-sum}
 use Rattle.rtree_nodes.specs.declared.content.Slot.{Slot}
 use Rattle.rtree_nodes.specs.declared.content.Slot.TheVariants.{Place, Child}
 use Rattle.rtree_nodes.specs.Breaks.{BreaksFirst, BreaksHeader}
-use Rattle.rtree_nodes.specs.Pages.{is_form, node_of, slots_in, level_in}
+use Rattle.rtree_nodes.specs.Pages.{is_form, slots_in, level_in}
 use Rattle.rtree_nodes.specs.Reach.{item_of, is_place, rect_in}
 use Rattle.rtree_nodes.proofs.Bounding.{some-form, some-mask}
-use Rattle.rtree_nodes.proofs.Formed.{form-node, form-parts, form-slots, parts-clear, values-from}
+use Rattle.rtree_nodes.proofs.Formed.{form-parts, form-slots, parts-clear, values-from}
 use Rattle.irtree_insert.specs.Fits.{Fits}
 use Rattle.irtree_delete.specs.Orphans.{IsHeadless, IsMisplaced, IsOffPath}
-
--- a node's level is that of its page
-pub form-level : (page : List ℕ) → is_form page ≡ true → (node_of page).level ≡ level_in page
-form-level page e = ap (λ (v : NodeView). v.level) (form-node page e)
-
--- a node's page has bytes
-pub form-told : (page : List ℕ) → is_form page ≡ true → 0 < length page
-form-told page e = let l = (form-parts page e).long in omega arith
 
 -- a node with a used slot has its kind, and a mask
 keeps-header : (rule : Rule) (page : List ℕ) → 0 < filled (slots_in page) → BreaksHeader rule page → ⊥

@@ -17,7 +17,7 @@ use Rattle.irtree_shape.proofs.Words.{words-filled}
 use Rattle.irtree_shape.proofs.Fells.{well-tree, level-at, whole_taking}
 use Rattle.irtree_delete.specs.declared.orphan.Orphan.{Orphan}
 use Rattle.irtree_delete.specs.Orphans.{loose_in}
-use Rattle.irtree_delete.proofs.Forms.{form-level}
+use Rattle.irtree_insert.proofs.Loads.{form-level}
 
 -- a call that was refused for page 0 and wasn't refused was for another page
 pub root-some : (X Y : Type 0) (count root : ℕ) (value : X) → (IsUncounted count root → IsErr {T = X} {E = Y} (Ok value)) → 0 < root

@@ -1,5 +1,5 @@
 -- Loose items that are put back: the counted pages stay told, and the root stays low.
-use Rattle.std.proofs.Common.{◌≡◌, ℕ, zero, suc, ◌<◌, ◌≤◌, ◌^◌, ◌⊎◌, inl, inr, arith, refl, List, [], ◌∷◌, length}
+use Rattle.std.proofs.Common.{◌≡◌, ℕ, zero, suc, ◌<◌, ◌≤◌, ◌^◌, inl, inr, arith, refl, List, [], ◌∷◌, length}
 use Rattle.page_face.specs.FreeList.{PageMap}
 use Rattle.btree_nodes.specs.Damages.{AreTold}
 use Rattle.rtree_shape.specs.Slots.{Item, filled}
@@ -13,10 +13,8 @@ use Rattle.irtree_shape.specs.Made.{nodes_in}
 use Rattle.irtree_shape.specs.Loose.{IsStanding}
 use Rattle.irtree_shape.specs.Whole.{level_at, IsWhole}
 use Rattle.irtree_shape.proofs.Tolds.{told-moved, item-none, node-none}
-use Rattle.irtree_delete.proofs.Forms.{form-told}
-
-none_or : (m : ℕ) → (m ≡ 0) ⊎ (0 < m)
-none_or m = grind arith
+use Rattle.irtree_shape.proofs.Plants.{zero_or as none_or}
+use Rattle.rtree_nodes.proofs.Laws.{form-bytes as form-told}
 
 -- a page with a used slot has bytes
 pub node-tells : (page : List ℕ) → 0 < filled (node_of page).slots → 0 < length page

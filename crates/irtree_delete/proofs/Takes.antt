@@ -22,7 +22,7 @@ use Rattle.irtree_shape.specs.Loose.{IsTaking, IsStanding}
 use Rattle.irtree_shape.proofs.Stocks.{supplied-plain}
 use Rattle.irtree_shape.proofs.Words.{words-filled}
 use Rattle.irtree_delete.specs.Orphans.{IsChildOf}
-use Rattle.irtree_delete.proofs.Forms.{form-level}
+use Rattle.irtree_insert.proofs.Loads.{form-level}
 
 -- the item in the slot of a path
 pub leads-at : (nodes : NodeMap) (path : List ℕ) (level page : ℕ) (x : Item) → Leads nodes path level page x → (z : Item) × IsAt (nodes page).slots (slice_index path level) z

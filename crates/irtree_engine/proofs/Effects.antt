@@ -22,7 +22,8 @@ use Rattle.node_rows.specs.declared.roots.Tree.{Tree}
 use Rattle.rtree_shape.specs.Slots.{Item}
 use Rattle.rtree_shape.specs.Stock as stock
 use Rattle.rtree_nodes.specs.Pages.{node_of}
-use Rattle.tree_updates.specs.Regrown.{IsRegrown, entry_at}
+use Rattle.irtree_shape.specs.Entries.{entry_at}
+use Rattle.irtree_shape.specs.Regrown.{IsRegrown}
 use Rattle.store_tables.specs.declared.tables.Tables.{Tables}
 use Rattle.store_tables.specs.Entries.{place_of_key, without_place}
 use Rattle.store_tables.specs.Holding.{IsApart, IsChanged, numbers_form, places_form, table_uses, texts_form}

@@ -14,7 +14,7 @@ use Rattle.row_codec.specs.declared.stored.Stored.{Stored}
 use Rattle.store_tables.specs.declared.tables.Tables.{Tables}
 use Rattle.store_tables.specs.Holding.{texts_form}
 use Rattle.store_tables.proofs.Heads.{map-spares_head, number-spares_head, place-spares_head, take-spares_head, words-spares_head}
-use Rattle.tree_updates.specs.Regrown.{IsMissing}
+use Rattle.irtree_shape.specs.Regrown.{IsMissing}
 use Rattle.tree_answers.specs.Damages.{IsAnswerHarm}
 use Rattle.irtree_engine.specs.Damages.{IsShownDamage}
 

@@ -13,7 +13,8 @@ use Rattle.rtree_shape.specs.Stock as stock
 use Rattle.rtree_nodes.specs.Pages.{node_of}
 use Rattle.irtree_shape.specs.Made.{nodes_in}
 use Rattle.irtree_shape.specs.Whole.{IsWhole}
-use Rattle.tree_updates.specs.Regrown.{HasEntry, IsRegrown}
+use Rattle.irtree_shape.specs.Entries.{HasEntry}
+use Rattle.irtree_shape.specs.Regrown.{IsRegrown}
 use Rattle.node_rows.specs.declared.roots.Tree.{Tree}
 use Rattle.store_tables.specs.declared.tables.Tables.{Tables}
 use Rattle.store_tables.specs.Entries.{Entries, place_of_key}

@@ -1,34 +1,28 @@
 -- Which damage a node that is read on the way down is refused for.
-use Rattle.std.proofs.Common.{◌≡◌, ◌⊎◌, ℕ, zero, suc, ◌+◌, ◌<◌, ◌≤◌, true, false, not, List, [], ◌∷◌, ◌++◌, length, arith, sym, ap, ◌∙◌, subst, ⊎_elim, inl, inr}
+use Rattle.std.proofs.Common.{◌≡◌, ◌⊎◌, ℕ, suc, ◌+◌, ◌<◌, true, false, not, List, [], ◌∷◌, ◌++◌, length, arith, sym, ap, ◌∙◌, subst, ⊎_elim, inl, inr}
 use Rattle.std.specs.Prelude.{◌≢◌, ◌||◌}
 use Rattle.std.specs.Int.{bit_at}
 use Rattle.std.specs.List.{AllByRecursion}
-use Rattle.std.proofs.lemmas.Bool.{and_parts, cases_Bool, cases_lt, false≢true}
+use Rattle.std.proofs.lemmas.Bool.{cases_Bool, false≢true}
 use Rattle.page_face.specs.FreeList.{PageMap}
-use Rattle.page_face.specs.Causes.{IsUncounted}
 use Rattle.page_face.specs.declared.fault.Rule.TheVariants.{Level}
 use Rattle.page_face.specs.declared.fault.Damage.{Damage}
-use Rattle.btree_nodes.specs.Damages.{AreTold, AskedSince, AsksOnly}
+use Rattle.btree_nodes.specs.Damages.{AskedSince, AsksOnly}
 use Rattle.btree_nodes.proofs.Harms.{asked-before, asks-keep}
 use Rattle.rtree_shape.specs.Slots.{IsChildAt}
 use Rattle.rtree_nodes.specs.Numbers.{number_at}
-use Rattle.rtree_nodes.specs.Cells.{cell_start, has_rect, has_form}
+use Rattle.rtree_nodes.specs.Cells.{cell_start, has_rect}
 use Rattle.rtree_nodes.specs.Pages.{level_in, mask_of, is_used, cell_at, has_values, has_rects, stored_in}
 use Rattle.rtree_nodes.proofs.AllBelow.{all_below-from}
 use Rattle.rtree_nodes.proofs.Formed.{not_or_made, values-at}
 use Rattle.rtree_nodes.proofs.Masks.{slot-bit}
 use Rattle.rtree_nodes.proofs.Children.{child-read}
+use Rattle.rtree_nodes.proofs.Bounding.{form-rect}
 use Rattle.rtree_find.specs.Harms.{IfTold, IsMislevelled}
 use Rattle.node_rows.specs.Damages.{IsRowsHarm}
 use Rattle.node_rows.proofs.Harms.{harm-later}
 use Rattle.irtree_shape.specs.Damages.{IsBroken, IsNodeHarm, IsTreeHarm}
 use Rattle.irtree_insert.specs.declared.draft.Draft.{Draft}
-use Rattle.irtree_insert.proofs.Counted.{counted-some}
-
--- a slot of its form has a rectangle
-form-rect : (level : ℕ) (cell : List ℕ) → has_form level cell ≡ true → has_rect level cell ≡ true
-form-rect zero cell h = (and_parts _ _ h).0
-form-rect (suc level) cell h = h
 
 -- where each used slot is of its form, each has a rectangle
 values-rects : (page : List ℕ) → has_values page ≡ true → has_rects page ≡ true
@@ -90,10 +84,6 @@ child-harm rows old mid new c1 c2 first before asked0 asked1 asked2 bytes l page
 -- a change of rows that was damaged
 pub rows-harm : (rows : ℕ) (pages : PageMap) (count first : ℕ) (before middle after : List ℕ) (page : ℕ) (damage : Damage) → AskedSince before middle page → IsRowsHarm pages count first rows middle after damage → IsTreeHarm pages count first rows before after damage
 rows-harm rows pages count first before middle after page damage asked h = inr (harm-later rows (λ _. 1) pages count first before middle after damage (asks-since before middle page asked) h)
-
--- a counted page holds bytes
-pub told-counted : (pages : PageMap) (count page : ℕ) → AreTold pages count → (IsUncounted count page → ⊥) → 0 < length (pages page)
-told-counted pages count page told counted = told page (counted-some count page counted) (⊎_elim (λ (l : page < count). l) (λ (past : count ≤ page). absurd (counted (inr past))) (cases_lt page count))
 
 -- the child that was read in a used slot is stored there
 pub stored-child : (draft : Draft) (at child : ℕ) → draft.used ≡ mask_of draft.bytes → 0 < level_in draft.bytes → at < 32 → bit_at draft.used at ≡ 1 → child ≡ number_at (cell_start 1 at + 16) draft.bytes → IsChildAt (stored_in draft.bytes) at child

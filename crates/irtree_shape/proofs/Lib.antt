@@ -17,3 +17,4 @@ pub mod Outs
 pub mod Replants
 pub mod Fells
 pub mod Harms
+pub mod Entries

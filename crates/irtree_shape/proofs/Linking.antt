@@ -11,15 +11,13 @@ use Rattle.rtree_shape.proofs.Amounts.{same_or, with_slot-same, with_slot-other}
 use Rattle.node_rows.specs.Rows.{bytes_in}
 use Rattle.node_rows.specs.Impacts.{impact_in, top_at}
 use Rattle.node_rows.proofs.Impacts.{top-at-same}
+use Rattle.node_rows.proofs.Pairs.{max-zero}
 use Rattle.irtree_shape.specs.Words.{worded, joined_item, words_on}
 use Rattle.irtree_shape.specs.Steps.{Steps, crowned_in, relinked}
 use Rattle.irtree_shape.specs.Made.{nodes_in, IsReady, IsOpen, Makes, Puts}
 use Rattle.irtree_shape.proofs.Words.{words-at, words-none}
 use Rattle.irtree_shape.proofs.Relinks.{node-top, relinked-beside, relinked-here, linked-reach, word-reach, worded-reach, crowned-reach}
 use Rattle.irtree_shape.proofs.Climbs as climbs
-
-max-zero : (a b : ℕ) → b ≡ 0 → max a b ≡ a
-max-zero a b e = omega arith
 
 module _ (reads : Reads) (before : View) (least level page goal : ℕ) (words : List (ℕ × ℕ)) (x : Item) (opened : IsOpen reads before least (suc level) page goal (worded (impact_in words) x)) (low : goal ≤ level)
     (at : ℕ) (within : at < 32) (v : NodeView) (is : v ≡ reads (before.pages page)) (c : Item) (here_c : v.slots at ≡ Some c) where

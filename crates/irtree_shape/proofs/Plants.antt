@@ -23,7 +23,7 @@ use Rattle.irtree_shape.proofs.Stocks.{moves-as, moves-further, supplied-plain}
 use Rattle.irtree_shape.proofs.Stores.{blank-after}
 use Rattle.irtree_shape.proofs.Words.{words-same, words-none_back, placed, raised-blank}
 
-zero_or : (m : ℕ) → (m ≡ 0) ⊎ (0 < m)
+pub zero_or : (m : ℕ) → (m ≡ 0) ⊎ (0 < m)
 zero_or m = grind arith
 
 -- Each row names a node of the tree, as before: rows of pages that were neither the tree's nor spare stayed, and spare pages have none.

@@ -10,13 +10,13 @@ use Rattle.rtree_shape.specs.Trees.{below, uses, IsItem, IsNode, with_slot, node
 use Rattle.rtree_shape.specs.Heads.{heads, node_heads, stand_heads}
 use Rattle.rtree_shape.specs.Stock.{View, view, spare_in}
 use Rattle.rtree_shape.specs.Made.{Reads}
-use Rattle.rtree_shape.proofs.Sums.{top-same}
 use Rattle.rtree_shape.proofs.Amounts.{same_or, with_slot-same, with_slot-other}
 use Rattle.rtree_shape.proofs.Frames.{item-frame, SameItem}
 use Rattle.rtree_shape.proofs.Heads.{item-heads}
 use Rattle.rtree_shape.proofs.Raises.{two-sum, two-top, two-each}
-use Rattle.node_rows.specs.Rows.{Bytes, bytes_in}
-use Rattle.node_rows.specs.Impacts.{refreshed, top_at}
+use Rattle.node_rows.specs.Rows.{bytes_in}
+use Rattle.node_rows.specs.Impacts.{refreshed}
+use Rattle.node_rows.proofs.Impacts.{top-at-same}
 use Rattle.node_inverted.proofs.Refreshes.{refreshed-here, refreshed-beside}
 use Rattle.irtree_shape.specs.Words.{joined, joined_item, words_on}
 use Rattle.irtree_shape.specs.Stock.{Moves}
@@ -43,11 +43,6 @@ joined-crown nodes b at x h = ap (λ (r : ℕ → ℕ). record x { reach = r }) 
   | inr l ↦ let t : nat_lt d 4 ≡ false = grind (arith, nat_tests) in let e : 4 + (d - 4) ≡ d = omega arith in
       ap (λ (q : Bool). if q then x.reach d else b (d - 4) at) t ∙ h (d - 4) ∙ ap (λ (m : ℕ). tops m (nodes x.to).slots) e ∙ sym (ap (λ (q : Bool). if q then x.reach d else tops d (nodes x.to).slots) t)
 ]))
-
--- the greatest byte of the same bytes
-pub top-at-same : (b c : Bytes) (n w : ℕ) → ((i : ℕ) → b n w i ≡ c n w i) → top_at b n w ≡ top_at c n w
-unfolding top_at
-top-at-same b c n w h = top-same 32 (λ i. b n w i) (λ i. c n w i) (λ i l. h i)
 
 -- a node with two items was written at a page that was taken
 module _ (reads : Reads) (before : View) (new : PageMap) (rows' count first : ℕ) (free : List ℕ) (least level root top : ℕ) (y : Item) (sums : (Item → ℕ) → ℕ) (reach told : ℕ → ℕ) (a : Item)

@@ -10,8 +10,7 @@ use Rattle.btree_nodes.specs.Supply.{one_at, tail}
 use Rattle.btree_nodes.specs.Tree.{IsMap, level_of, map_rows, map_uses, rows_at, uses}
 use Rattle.btree_nodes.proofs.Frames.{tree-frame}
 use Rattle.btree_nodes.proofs.Supplies as supplies
-use Rattle.btree_nodes.proofs.Supplies.{none, one_at-is, one_at-same, with-other}
-use Rattle.paged_map.proofs.Maps.{spare-away}
+use Rattle.btree_nodes.proofs.Supplies.{none, one_at-is, one_at-same, spare-away, with-other}
 use Rattle.rtree_shape.specs.Stock.{View, view, plain, rows_form, spare_in}
 use Rattle.rtree_shape.specs.Stock as bare
 use Rattle.rtree_shape.specs.Made.{Reads}

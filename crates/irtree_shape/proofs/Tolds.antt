@@ -1,15 +1,17 @@
 -- Counted pages whose bytes are told, after a tree and its rows have changed.
-use Rattle.std.proofs.Common.{◌≡◌, ℕ, zero, suc, ◌+◌, ◌<◌, ◌≤◌, ◌^◌, ◌⊎◌, inl, inr, arith, sym, ap, ◌∙◌, subst, Option, None, Some, List, [], ◌∷◌, length}
-use Rattle.page_face.specs.FreeList.{PageMap, IsFreeList, next_free}
+use Rattle.std.proofs.Common.{◌≡◌, ℕ, zero, suc, ◌+◌, ◌<◌, ◌⊎◌, inl, inr, arith, sym, ap, ◌∙◌, subst, Option, None, Some, List, length}
+use Rattle.page_face.specs.FreeList.{PageMap}
 use Rattle.btree_nodes.specs.Damages.{AreTold}
-use Rattle.btree_nodes.specs.Supply.{one_at, times}
+use Rattle.btree_nodes.specs.Supply.{one_at}
 use Rattle.btree_nodes.specs.declared.form.Form.{Form}
-use Rattle.btree_nodes.specs.Nodes.{Entry, entries_in, half_of, least_of_root}
-use Rattle.btree_nodes.specs.Tree.{IsFan, IsMap, IsTree, level_of, map_uses, next_key, total, with_low}
+use Rattle.btree_nodes.specs.Nodes.{Entry, entries_in, half_of}
+use Rattle.btree_nodes.specs.Tree.{IsTree, map_uses, with_low}
 use Rattle.btree_nodes.specs.Tree as tree
 use Rattle.btree_nodes.proofs.Frames.{with_low-total}
-use Rattle.btree_nodes.proofs.Supplies.{counted-none, free-told, one_at-is, uncounted-past}
+use Rattle.btree_nodes.proofs.Supplies.{counted-none, one_at-is, uncounted-past}
 use Rattle.node_rows.specs.Rows.{Bytes, bytes_in}
+use Rattle.node_rows.proofs.Lookups.{less_or as under_or}
+use Rattle.node_rows.proofs.Told.{fan-told, itself, map-told, list-told}
 use Rattle.rtree_shape.specs.Slots.{Item, Slots, got, amount, filled, Held, Each, no_slots}
 use Rattle.rtree_shape.specs.Trees.{uses, IsItem, IsNode, Stands, least_with, node_uses, stand_uses}
 use Rattle.rtree_shape.specs.Stock.{View, rows_form, spare_in}
@@ -23,17 +25,6 @@ use Rattle.irtree_shape.proofs.Words.{words-filled}
 none_or : (m : ℕ) → (m ≡ 0) ⊎ (0 < m)
 none_or m = grind arith
 
-fan-told : (P : ℕ → ℕ → ℕ → Type 0) (U : ℕ → ℕ → ℕ) (pages : PageMap) (each : (c a b : ℕ) → P c a b → (n : ℕ) → 0 < U c n → 0 < length (pages n))
-    → (low high : ℕ) (es : List Entry) → IsFan P low high es → (n : ℕ) → 0 < total (λ (c : ℕ). U c n) es → 0 < length (pages n)
-fan-told P U pages each low high [] h n used = absurd (omega arith)
-fan-told P U pages each low high (e ∷ es) h n used = elim (none_or (U e.1 n)) [
-  | inl z ↦ fan-told P U pages each (next_key high es) high es h.3 n (omega arith)
-  | inr l ↦ each e.1 low (next_key high es) h.2 n l
-]
-
-itself : (pages : PageMap) (page n : ℕ) → length (pages page) ≡ 4096 → 0 < one_at page n → 0 < length (pages n)
-itself pages page n size at = subst (λ (k : ℕ). 0 < length (pages k)) (sym (one_at-is page n at)) (omega arith)
-
 tree-told : (form : Form) (least : ℕ) (pages : PageMap) (level page low high : ℕ) → IsTree form least pages level page low high → (n : ℕ) → 0 < tree.uses form pages level page n → 0 < length (pages n)
 tree-told form least pages zero page low high h n used = itself pages page n h.0.size used
 tree-told form least pages (suc level) page low high h n used =
@@ -43,22 +34,6 @@ tree-told form least pages (suc level) page low high h n used =
       | inl z ↦ fan-told (IsTree form (half_of form level) pages level) (tree.uses form pages level) pages (λ c a b t. tree-told form (half_of form level) pages level c a b t) low high (with_low low es) h.1 n (omega arith)
       | inr l ↦ itself pages page n h.0.node.size l
     ]
-
--- each page of a map is told
-map-told : (form : Form) (pages : PageMap) (root : ℕ) → IsMap form pages root → (n : ℕ) → 0 < map_uses form pages root n → 0 < length (pages n)
-map-told form pages zero h n used = absurd (omega arith)
-map-told form pages (suc m) h n used = tree-told form (least_of_root (level_of (pages (suc m)))) pages (level_of (pages (suc m))) (suc m) 0 (256 ^ form.key) h n used
-
--- each free page is told
-list-told : (pages : PageMap) (count first : ℕ) (free : List ℕ) → IsFreeList pages count first free → (n : ℕ) → 0 < times free n → 0 < length (pages n)
-list-told pages count first [] h n at = absurd (omega arith)
-list-told pages count first (page ∷ free) h n at = elim (none_or (one_at page n)) [
-  | inl e ↦ list-told pages count (next_free (pages page)) free h.4 n (omega arith)
-  | inr l ↦ subst (λ (k : ℕ). 0 < length (pages k)) (sym (one_at-is page n l)) (free-told (pages page) h.3)
-]
-
-under_or : (a b : ℕ) → (a < b) ⊎ (b ≤ a)
-under_or a b = grind arith
 
 -- what moved leaves the counted pages told, if what it made is told
 pub told-moved : {before after : View} {mine ours : ℕ → ℕ} → Moves before after mine ours → ((n : ℕ) → 0 < n → 0 < ours n → 0 < length (after.pages n)) → AreTold before.pages before.count → AreTold after.pages after.count

@@ -5,3 +5,5 @@ pub mod Made
 pub mod Whole
 pub mod Loose
 pub mod Damages
+pub mod Entries
+pub mod Regrown

@@ -8,15 +8,9 @@ mod crash_tests;
 #[cfg(test)]
 mod damage_tests;
 #[cfg(test)]
-mod dice;
-#[cfg(test)]
-mod group_tests;
-#[cfg(test)]
 mod language_tests;
 #[cfg(test)]
 mod load_tests;
-#[cfg(test)]
-mod log_tests;
 #[cfg(test)]
 mod make_tests;
 #[cfg(test)]
@@ -29,5 +23,3 @@ mod runs;
 mod script_tests;
 #[cfg(test)]
 mod store_tests;
-#[cfg(test)]
-mod tree_nodes;

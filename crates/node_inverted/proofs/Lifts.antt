@@ -1,6 +1,7 @@
 -- The rows of a node in memory.
 use Rattle.std.proofs.Common.{◌≡◌, ℕ, ◌+◌, ◌≤◌, max, arith, refl, ap, ◌∙◌, slice_index, List, [], ◌∷◌, ◌++◌, if◌then◌else◌, ◌==◌, true, false, Bool}
 use Rattle.std.proofs.lemmas.Bool.Decides.{nat_tests}
+use Rattle.node_rows.proofs.Impacts.{swap}
 use Rattle.node_inverted.specs.Lifts.{AreOrdered, lifted_at, lifted_by}
 use Rattle.node_inverted.specs.declared.taking.NodeRow.{NodeRow}
 
@@ -13,9 +14,6 @@ rows-push low at r (q ∷ rows) h l = (h.0, rows-push (q.number + 1) at r rows h
 pub rows-wider : (low at high : ℕ) (rows : List NodeRow) → AreOrdered low at rows → at ≤ high → AreOrdered low high rows
 rows-wider low at high [] h l = omega arith
 rows-wider low at high (r ∷ rows) h l = (h.0, rows-wider (r.number + 1) at high rows h.1 l)
-
-swap : (a b c : ℕ) → max (max a b) c ≡ max (max a c) b
-swap a b c = omega arith
 
 -- the bytes of one row more
 pub lifted-push : (rows : List NodeRow) (r : NodeRow) (w i : ℕ) → lifted_at (rows ++ r ∷ []) w i ≡ max (lifted_at rows w i) (lifted_by r w i)

@@ -94,7 +94,7 @@ module _ (node word slot byte : ℕ) (b : Bytes) where
     ]
   ]
 
-swap : (a b c : ℕ) → max (max a b) c ≡ max (max a c) b
+pub swap : (a b c : ℕ) → max (max a b) c ≡ max (max a c) b
 swap a b c = omega arith
 
 -- the impact of a word among one more pair

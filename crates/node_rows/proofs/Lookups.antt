@@ -1,8 +1,10 @@
 -- What is found in rows after one was put or taken out, and which is the first from a key on.
-use Rattle.std.proofs.Common.{◌≡◌, ℕ, ◌+◌, ◌<◌, ◌≤◌, ◌⊎◌, inl, inr, arith, refl, sym, ap, ◌∙◌, subst, Some, None, List, [], ◌∷◌, if◌then◌else◌, ◌==◌, true, false, nat_lt}
+use Rattle.std.proofs.Common.{◌≡◌, ℕ, ◌+◌, ◌<◌, ◌≤◌, ◌⊎◌, inl, inr, arith, refl, sym, ap, ◌∙◌, subst, Some, None, List, [], ◌∷◌, if◌then◌else◌, ◌==◌, true, false}
 use Rattle.std.proofs.lemmas.Bool.Decides.{nat_tests}
 use Rattle.btree_nodes.specs.Rows.{Row, IsWithin, lookup, first_from, put, without}
 use Rattle.btree_nodes.proofs.Spans.{lookup-below}
+use Rattle.btree_nodes.proofs.Puts.{put-before as put-less, put-here as put-same, put-behind as put-more, without-here as without-same, without-other}
+use Rattle.btree_nodes.proofs.Firsts.{first_from-less as first-less, first_from-here as first-here}
 use Rattle.rtree_shape.proofs.Amounts.{same_or}
 
 lookup-here : (key : ℕ) (row : Row) (rows : List Row) → row.0 ≡ key → lookup key (row ∷ rows) ≡ Some row.1
@@ -14,15 +16,6 @@ lookup-other key row rows h = let t : (row.0 == key) ≡ false = grind (arith, n
 -- which of two is less
 pub order : (a b : ℕ) → (a < b) ⊎ ((a ≡ b) ⊎ (b < a))
 order a b = grind arith
-
-put-less : (key : ℕ) (value : List ℕ) (row : Row) (rows : List Row) → key < row.0 → put key value (row ∷ rows) ≡ (key, value) ∷ (row ∷ rows)
-put-less key value row rows h = let t : nat_lt key row.0 ≡ true = grind (arith, nat_tests) in rw t refl
-
-put-same : (key : ℕ) (value : List ℕ) (row : Row) (rows : List Row) → row.0 ≡ key → put key value (row ∷ rows) ≡ (key, value) ∷ rows
-put-same key value row rows h = let t : nat_lt key row.0 ≡ false = grind (arith, nat_tests) in let u : (row.0 == key) ≡ true = grind (arith, nat_tests) in rw (t, u) refl
-
-put-more : (key : ℕ) (value : List ℕ) (row : Row) (rows : List Row) → row.0 < key → put key value (row ∷ rows) ≡ row ∷ put key value rows
-put-more key value row rows h = let t : nat_lt key row.0 ≡ false = grind (arith, nat_tests) in let u : (row.0 == key) ≡ false = grind (arith, nat_tests) in rw (t, u) refl
 
 -- a put row is found at its key
 pub lookup-put : (key : ℕ) (value : List ℕ) (rows : List Row) → lookup key (put key value rows) ≡ Some value
@@ -45,12 +38,6 @@ lookup-put_other key q value (row ∷ rows) h = elim (order key row.0) [
   ]
 ]
 
-without-same : (key : ℕ) (row : Row) (rows : List Row) → row.0 ≡ key → without key (row ∷ rows) ≡ rows
-without-same key row rows h = let u : (row.0 == key) ≡ true = grind (arith, nat_tests) in rw u refl
-
-without-other : (key : ℕ) (row : Row) (rows : List Row) → (row.0 ≡ key → ⊥) → without key (row ∷ rows) ≡ row ∷ without key rows
-without-other key row rows h = let u : (row.0 == key) ≡ false = grind (arith, nat_tests) in rw u refl
-
 -- a row that was taken out isn't found
 pub lookup-without : (low high key : ℕ) (rows : List Row) → IsWithin low high rows → lookup key (without key rows) ≡ None
 lookup-without low high key [] h = refl
@@ -69,12 +56,6 @@ lookup-without_other key q (row ∷ rows) h = elim (same_or row.0 key) [
     | false ↦ lookup-without_other key q rows h
   ]
 ]
-
-first-less : (key : ℕ) (row : Row) (rows : List Row) → row.0 < key → first_from key (row ∷ rows) ≡ first_from key rows
-first-less key row rows h = let t : nat_lt row.0 key ≡ true = grind (arith, nat_tests) in rw t refl
-
-first-here : (key : ℕ) (row : Row) (rows : List Row) → key ≤ row.0 → first_from key (row ∷ rows) ≡ Some row
-first-here key row rows h = let t : nat_lt row.0 key ≡ false = grind (arith, nat_tests) in rw t refl
 
 -- one is less, or the other isn't greater
 pub less_or : (a b : ℕ) → (a < b) ⊎ (b ≤ a)

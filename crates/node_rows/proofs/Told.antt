@@ -20,13 +20,13 @@ pub map-within : (form : Form) (pages : PageMap) (root : ℕ) → IsMap form pag
 map-within form pages zero h = omega arith
 map-within form pages (suc m) h = tree-within form (least_of_root (level_of (pages (suc m)))) pages (level_of (pages (suc m))) (suc m) 0 (256 ^ form.key) h
 
-fan-told : (P : ℕ → ℕ → ℕ → Type 0) (U : ℕ → ℕ → ℕ) (pages : PageMap) (each : (c a b : ℕ) → P c a b → (n : ℕ) → 0 < U c n → 0 < length (pages n))
+pub fan-told : (P : ℕ → ℕ → ℕ → Type 0) (U : ℕ → ℕ → ℕ) (pages : PageMap) (each : (c a b : ℕ) → P c a b → (n : ℕ) → 0 < U c n → 0 < length (pages n))
     → (low high : ℕ) (es : List Entry) → IsFan P low high es → (n : ℕ) → 0 < total (λ (c : ℕ). U c n) es → 0 < length (pages n)
 fan-told P U pages each low high [] h n used = absurd (omega arith)
 fan-told P U pages each low high (e ∷ es) h n used =
     ⊎_elim (λ (none : U e.1 n < 1). fan-told P U pages each (next_key high es) high es h.3 n (omega arith)) (λ (some : 1 ≤ U e.1 n). each e.1 low (next_key high es) h.2 n (omega arith)) (cases_lt (U e.1 n) 1)
 
-itself : (pages : PageMap) (page n : ℕ) → length (pages page) ≡ 4096 → 0 < one_at page n → 0 < length (pages n)
+pub itself : (pages : PageMap) (page n : ℕ) → length (pages page) ≡ 4096 → 0 < one_at page n → 0 < length (pages n)
 itself pages page n size at = subst (λ (k : ℕ). 0 < length (pages k)) (sym (one_at-is page n at)) (omega arith)
 
 tree-told : (form : Form) (least : ℕ) (pages : PageMap) (level page low high : ℕ) → IsTree form least pages level page low high → (n : ℕ) → 0 < uses form pages level page n → 0 < length (pages n)
@@ -40,12 +40,12 @@ tree-told form least pages (suc level) page low high h n used =
     (cases_lt (one_at page n) 1)
 
 -- each page of a map is told
-map-told : (form : Form) (pages : PageMap) (root : ℕ) → IsMap form pages root → (n : ℕ) → 0 < map_uses form pages root n → 0 < length (pages n)
+pub map-told : (form : Form) (pages : PageMap) (root : ℕ) → IsMap form pages root → (n : ℕ) → 0 < map_uses form pages root n → 0 < length (pages n)
 map-told form pages zero h n used = absurd (omega arith)
 map-told form pages (suc m) h n used = tree-told form (least_of_root (level_of (pages (suc m)))) pages (level_of (pages (suc m))) (suc m) 0 (256 ^ form.key) h n used
 
 -- each free page is told
-list-told : (pages : PageMap) (count first : ℕ) (free : List ℕ) → IsFreeList pages count first free → (n : ℕ) → 0 < times free n → 0 < length (pages n)
+pub list-told : (pages : PageMap) (count first : ℕ) (free : List ℕ) → IsFreeList pages count first free → (n : ℕ) → 0 < times free n → 0 < length (pages n)
 list-told pages count first [] h n at = absurd (omega arith)
 list-told pages count first (page ∷ free) h n at =
     ⊎_elim

@@ -19,7 +19,7 @@ use Rattle.tree_entries.specs.Numbers.{Numbers}
 use Rattle.boolean_queries.proofs.Subtrees.{well-node}
 use Rattle.opened_nodes.specs.Crowns.{crown_at}
 use Rattle.opened_nodes.specs.Logs.{CallsFor, IsChildOfAsked, IsOpened, IsFromAsked}
-use Rattle.opened_nodes.proofs.Lists.{of-member}
+use Rattle.boolean_queries.proofs.Histories.{all-contained as of-member}
 use Rattle.opened_nodes.proofs.Crowns.{child-reach}
 use Rattle.opened_nodes.proofs.Belows.{slot-member, child-used}
 

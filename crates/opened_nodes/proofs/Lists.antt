@@ -2,7 +2,7 @@
 use Rattle.std.proofs.Common.{◌≡◌, ℕ, ◌<◌, ◌≤◌, Bool, true, false, cond, List, [], ◌∷◌, ◌++◌, length, sym, subst, ◌∙◌, arith}
 use Rattle.std.specs.List.{AllByRecursion, Contains}
 use Rattle.std.proofs.lemmas.List.{append_cancel_left, take_all, length-take}
-use Rattle.std.proofs.lemmas.List.Elements.{All-contains, All-from_recursion, Contains-append_right}
+use Rattle.std.proofs.lemmas.List.Elements.{Contains-append_right}
 use Rattle.btree_nodes.specs.Damages.{AskedSince}
 use Rattle.ranking.specs.First.{placed, ranked, first, IsRanked}
 use Rattle.place_map.specs.declared.hit.Hit.{Hit}
@@ -11,10 +11,6 @@ use Rattle.best_first.specs.Openings.{Opening, pages_opened, last_cost}
 use Rattle.best_first.proofs.Lists.{all_in, all_weaker}
 use Rattle.best_first.proofs.Costs.{all_last}
 use Rattle.opened_nodes.specs.Logs.{IsUpToLast}
-
--- of a member
-pub of-member : {X : Type 0} (P : X → Type 0) (xs : List X) (x : X) → AllByRecursion P xs → Contains xs x → P x
-of-member P xs x all among = All-contains P xs x (All-from_recursion P xs all) among
 
 -- of each of two facts
 pub all-both : {X : Type 0} (P Q : X → Type 0) (xs : List X) → AllByRecursion P xs → AllByRecursion Q xs → AllByRecursion (λ x. P x × Q x) xs

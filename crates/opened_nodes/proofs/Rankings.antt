@@ -1,5 +1,5 @@
 -- What a ranked search calls for, by what goes round the places below a node.
-use Rattle.std.proofs.Common.{◌≡◌, ℕ, suc, ◌+◌, ◌<◌, ◌≤◌, Bool, true, false, ◌||◌, ◌&&◌, nat_lt, if◌then◌else◌, List, [], ◌∷◌, length, Option, Some, None, refl, sym, ap, subst, ◌∙◌, arith, ⊎_elim}
+use Rattle.std.proofs.Common.{◌≡◌, ℕ, suc, ◌+◌, ◌<◌, ◌≤◌, Bool, true, false, ◌||◌, nat_lt, if◌then◌else◌, List, [], ◌∷◌, length, Option, Some, None, refl, sym, ap, subst, ◌∙◌, arith, ⊎_elim}
 use Rattle.std.specs.List.{AllByRecursion, Contains, flat_map}
 use Rattle.std.proofs.lemmas.Bool.{cases_Bool, ltb-true, lt-ltb}
 use Rattle.spatial_base.specs.Point.{Position, IsOnMap, distance}
@@ -20,24 +20,13 @@ use Rattle.tree_entries.specs.Numbers.{Numbers, number_of, by_number, impact_of}
 use Rattle.tree_ranking.specs.declared.ask.Ask.{Ask}
 use Rattle.tree_ranking.specs.declared.ask.Ask.TheVariants.{Nearest, Top}
 use Rattle.tree_ranking.specs.Asks.{qualifies, hit_by, hits_for, bound_by}
-use Rattle.tree_ranking.specs.Weighed.{IsUnder as IsLess, impact-under, cost-under}
+use Rattle.tree_ranking.specs.Weighed.{IsUnder as IsLess, impact-under, cost-under, above, and-true, or-true}
 use Rattle.boolean_queries.proofs.Covers.{IsPlace, IsUnder, under-holds}
 use Rattle.opened_nodes.specs.Crowns.{farthest, crown_of}
 use Rattle.opened_nodes.specs.Logs.{IsUpToLast}
-use Rattle.opened_nodes.proofs.Lists.{of-member, all-both, all-unranked, first-all, all-up-to}
+use Rattle.opened_nodes.proofs.Lists.{all-both, all-unranked, first-all, all-up-to}
+use Rattle.boolean_queries.proofs.Histories.{all-contained as of-member}
 use Rattle.opened_nodes.proofs.Crowns.{attained, under-crown}
-
-above : (m n : ℕ) → m ≤ n → nat_lt 0 m ≡ true → nat_lt 0 n ≡ true
-above m n l h = let some = ltb-true 0 m h in lt-ltb 0 n (omega arith)
-
-and-true : (a b c d : Bool) → (a ≡ true → c ≡ true) → (b ≡ true → d ≡ true) → (a && b) ≡ true → (c && d) ≡ true
-and-true true b c d f g h = ap (λ (x : Bool). x && d) (f refl) ∙ g h
-and-true false b c d f g h = absurd (cc)
-
-or-true : (a b c d : Bool) → (a ≡ true → c ≡ true) → (b ≡ true → d ≡ true) → (a || b) ≡ true → (c || d) ≡ true
-or-true true b c d f g h = ap (λ (x : Bool). x || d) (f refl)
-or-true false b true d f g h = refl
-or-true false b false d f g h = g h
 
 -- words of more impact may meet an expression where those of less may
 may-rises : (g f : List ℕ → ℕ) → IsLess g f → (filter : Expr) → may_meet g filter ≡ true → may_meet f filter ≡ true

@@ -47,7 +47,8 @@ use Rattle.boolean_queries.proofs.Opened.{joined-words}
 use Rattle.boolean_queries.proofs.Subtrees.{well-node, well-level}
 use Rattle.opened_nodes.specs.Crowns.{reaching, crown_of, crown_at}
 use Rattle.opened_nodes.specs.Logs.{IsUpToLast, CallsFor, IsOpened, IsFromAsked, OpensFew}
-use Rattle.opened_nodes.proofs.Lists.{of-member, all-both, all-pages, asked-in, up-to-last}
+use Rattle.opened_nodes.proofs.Lists.{all-both, all-pages, asked-in, up-to-last}
+use Rattle.boolean_queries.proofs.Histories.{all-contained as of-member, none-or}
 use Rattle.opened_nodes.proofs.Crowns.{node-farthest}
 use Rattle.opened_nodes.proofs.Belows.{places-are, place-some}
 use Rattle.opened_nodes.proofs.Chains.{Gives, IsReached, AreReached, all-reached, root-reached, opened-from, found-from, opened-reach}
@@ -66,10 +67,6 @@ some-below (suc n) test h = ⊎_elim
 byte-under : (b : ℕ → ℕ → ℕ) (i n : ℕ) (o : Option Item) → (o ≡ None → b n i ≡ 0) → b n i ≤ got (reach_of (4 + n)) (option_map (joined_item b i) o)
 byte-under b i n None blank = let z = blank refl in omega arith
 byte-under b i n (Some x) blank = let e = joined-words b i n x in omega arith
-
--- a node whose page isn't one of the rows' map
-none-or : (n : ℕ) → (n ≡ 0) ⊎ (0 < n)
-none-or n = grind arith
 
 same-or : (n k : ℕ) → n ≤ k → (n ≡ k) ⊎ (n < k)
 same-or n k l = grind arith

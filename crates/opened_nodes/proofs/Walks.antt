@@ -32,7 +32,8 @@ use Rattle.boolean_queries.proofs.Lists.{in-order-all}
 use Rattle.opened_nodes.specs.Bounds.{may_pass}
 use Rattle.opened_nodes.specs.Crowns.{reaching, crown_at}
 use Rattle.opened_nodes.specs.Logs.{CallsFor, IsOpened, IsFromAsked, OpensFew}
-use Rattle.opened_nodes.proofs.Lists.{of-member, all-pages, asked-in}
+use Rattle.opened_nodes.proofs.Lists.{all-pages, asked-in}
+use Rattle.boolean_queries.proofs.Histories.{all-contained as of-member, none-or}
 use Rattle.opened_nodes.proofs.Chains.{Gives, IsReached, AreReached, all-reached, root-reached, opened-from, found-from, opened-reach}
 use Rattle.opened_nodes.proofs.Rankings.{all-if}
 
@@ -80,9 +81,6 @@ module _ (region : Area) (ids : Numbers) (filter : Option Expr) where
 start-all : (P : best.Item → Type 0) (nodes : NodeMap) (root : ℕ) → (0 < root → P (Node root (level_at nodes root) 0)) → AllByRecursion P (starts_at nodes root)
 start-all P nodes zero h = tt
 start-all P nodes (suc m) h = (h (omega arith), tt)
-
-none-or : (n : ℕ) → (n ≡ 0) ⊎ (0 < n)
-none-or n = grind arith
 
 module _ (pages : PageMap) (rows count begin root : ℕ) (region : Area) (ids : Numbers) (filter : Option Expr) (give : Item → List Hit) (hit_given : GivesHits region ids filter give) (fits : Fits pages rows count begin root) (query : queries.Query) (found : List Hit)
     (calls : (round : Item) (is_root : Type 0) → is_root ⊎ LetsThrough region ids filter round 0 → CallsFor ids query found is_root round) (old new : List ℕ) where

@@ -14,7 +14,7 @@ use Rattle.tree_entries.specs.Numbers.{Numbers, impact_of}
 use Rattle.opened_nodes.specs.Crowns.{crown_at}
 use Rattle.opened_nodes.specs.Logs.{CallsFor, IsChildOfAsked, IsOpened, IsFromAsked, OpensFew}
 use Rattle.opened_nodes.specs.Words.{HoldsOneOf, IsOpenedForWords, OpensFewForWords}
-use Rattle.opened_nodes.proofs.Lists.{of-member}
+use Rattle.boolean_queries.proofs.Histories.{all-contained as of-member}
 
 -- a child of a node among more that were asked for
 child-of-more : (nodes : NodeMap) (asked all : List ℕ) (page : ℕ) → ((n : ℕ) → Contains asked n → Contains all n) → IsChildOfAsked nodes asked page → IsChildOfAsked nodes all page

@@ -2,20 +2,21 @@
 use Rattle.std.proofs.Common.{◌≡◌, ℕ, zero, suc, ◌^◌, ◌<◌, ◌≤◌, List, [], ◌∷◌, take, replicate, arith, refl, sym, ap, ◌∙◌, subst, append-nil, ⊎_elim}
 use Rattle.std.proofs.lemmas.List.{take-replicate}
 use Rattle.std.specs.List.{flat_map}
-use Rattle.page_face.specs.FreeList.{PageMap, IsFreeList, next_free}
+use Rattle.page_face.specs.FreeList.{PageMap}
 use Rattle.page_face.specs.declared.fault.Damage.{Damage}
 use Rattle.page_face.specs.Number.{number}
 use Rattle.btree_nodes.specs.declared.form.Form.{Form}
 use Rattle.btree_nodes.specs.Rows.{Row}
-use Rattle.btree_nodes.specs.Supply.{View, view, IsSupplied, spare_in, times, Moves}
+use Rattle.btree_nodes.specs.Supply.{View, view, Moves}
 use Rattle.btree_nodes.specs.Nodes.{Entry, least_of_root}
 use Rattle.btree_nodes.specs.Store.{IsGrown}
-use Rattle.btree_nodes.proofs.Supplies.{one_at-other, moves-as, counted-none, uncounted-past}
+use Rattle.btree_nodes.proofs.Supplies.{moves-as, spare-away, uncounted-past}
 use Rattle.btree_nodes.specs.Tree.{IsTree, IsFan, IsMap, total, rows_at, uses, map_rows, map_uses, level_of}
 use Rattle.btree_nodes.specs.Damages.{IsDamaged}
 use Rattle.btree_nodes.proofs.Harms.{tree-undamaged}
 use Rattle.paged_map.specs.Maps.{IsMapDamaged, AreCounted, IsKept, HasBecome}
 use Rattle.btree_insert.proofs.Inners.{number-zeros}
+use Rattle.btree_search.proofs.Roots.{map-rows, map-uses}
 
 -- what is said of a page by other names is said of it
 pub enter : (Claim : Form → PageMap → ℕ → ℕ → ℕ → ℕ → Type 0) (form form' : Form) (pages pages' : PageMap) (count count' level level' least least' low low' : ℕ) → form' ≡ form → pages' ≡ pages → count' ≡ count
@@ -28,22 +29,9 @@ enter Claim form form' pages pages' count count' level level' least least' low l
     (subst (λ (x : PageMap). Claim form x count' level' least' low') f
     (subst (λ (x : Form). Claim x pages' count' level' least' low') e claim)))))
 
--- a map that isn't empty is the tree below its root
-pub map-tree : (form : Form) (pages : PageMap) (root : ℕ) → 0 < root → IsMap form pages root → IsTree form (least_of_root (level_of (pages root))) pages (level_of (pages root)) root 0 (256 ^ form.key)
-map-tree form pages zero some map = absurd (omega arith)
-map-tree form pages (suc n) some map = map
-
 pub to-map : (form : Form) (pages : PageMap) (root : ℕ) → 0 < root → IsTree form (least_of_root (level_of (pages root))) pages (level_of (pages root)) root 0 (256 ^ form.key) → IsMap form pages root
 to-map form pages zero some tree = absurd (omega arith)
 to-map form pages (suc n) some tree = tree
-
-pub map-rows : (form : Form) (pages : PageMap) (root : ℕ) → 0 < root → map_rows form pages root ≡ rows_at form pages (level_of (pages root)) root
-map-rows form pages zero some = absurd (omega arith)
-map-rows form pages (suc n) some = refl
-
-pub map-uses : (form : Form) (pages : PageMap) (root n : ℕ) → 0 < root → map_uses form pages root n ≡ uses form pages (level_of (pages root)) root n
-map-uses form pages zero n some = absurd (omega arith)
-map-uses form pages (suc m) n some = refl
 
 pub map-damage : (form : Form) (pages : PageMap) (count root : ℕ) (damage : Damage) → 0 < root → IsDamaged form pages count damage (least_of_root (level_of (pages root))) (level_of (pages root)) root 0 (256 ^ form.key) → IsMapDamaged form pages count root damage
 map-damage form pages count zero damage some d = absurd (omega arith)
@@ -73,18 +61,6 @@ number-low key h = ap number (take-replicate key 255 0 h) ∙ number-zeros key
 pub tree-level : (form : Form) (least : ℕ) (pages : PageMap) (level page low high : ℕ) → IsTree form least pages level page low high → level_of (pages page) ≡ level
 tree-level form least pages zero page low high tree = tree.0.level
 tree-level form least pages (suc level) page low high tree = tree.0.node.level
-
--- no free page is page 0
-free-away : (pages : PageMap) (count first : ℕ) (free : List ℕ) → IsFreeList pages count first free → times free 0 ≡ 0
-free-away pages count first [] s = refl
-free-away pages count first (page ∷ rest) s =
-    let i = free-away pages count (next_free (pages page)) rest s.4 in
-    let p = s.1 in
-    let o = one_at-other page 0 (λ e. absurd (omega arith)) in
-    omega arith
-
-pub spare-away : (v : View) → 0 < v.count → IsSupplied v → spare_in v 0 ≡ 0
-spare-away v some s = let f = free-away v.pages v.count v.first v.free s in let c = counted-none v.count 0 some in omega arith
 
 -- A tree that has grown into one tree, over a root's pages, is what the map has become.
 pub becomes : (form : Form) (before : View) (pages : PageMap) (count first level root page middle : ℕ) (mine : ℕ → ℕ) (rows : List Row) → 0 < page → before.count ≤ count → IsKept form before root

@@ -7,13 +7,13 @@ use Rattle.btree_nodes.specs.Supply.{View, view, Moves}
 use Rattle.btree_nodes.specs.Rows.{Row, lookup, without}
 use Rattle.btree_nodes.specs.Nodes.{half_of, least_of_root}
 use Rattle.btree_nodes.specs.Tree.{rows_at, uses, map_rows, map_uses}
-use Rattle.btree_nodes.proofs.Supplies.{moves-as, moves-further}
+use Rattle.btree_nodes.proofs.Supplies.{moves-as, moves-further, spare-away}
 use Rattle.btree_delete.specs.Mended.{Becomes}
 use Rattle.btree_delete.specs.Removal.{IsEmptied}
 use Rattle.btree_delete.proofs.Settles.{tree-fewer, half_some}
 use Rattle.paged_map.specs.Maps.{IsKept, HasBecome}
 use Rattle.btree_nodes.proofs.Walks.{uses-self}
-use Rattle.paged_map.proofs.Maps.{becomes, spare-away}
+use Rattle.paged_map.proofs.Maps.{becomes}
 
 -- a root with too few cells, but with some, is an inner page with one entry
 pub root-one : (level left : ℕ) → 0 < left → left < least_of_root level → (left ≡ 1) × (0 < level)

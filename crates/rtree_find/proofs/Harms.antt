@@ -5,7 +5,7 @@ use Rattle.page_face.specs.FreeList.{PageMap}
 use Rattle.page_face.specs.declared.fault.Rule.TheVariants.{Level}
 use Rattle.page_face.specs.declared.fault.Damage.{Damage}
 use Rattle.btree_nodes.specs.Damages.{AskedSince}
-use Rattle.btree_delete.proofs.Walks.{asked-from}
+use Rattle.btree_nodes.proofs.Harms.{asked-from}
 use Rattle.rtree_shape.specs.Slots.{IsChildAt}
 use Rattle.rtree_nodes.specs.Pages.{level_in, stored_in}
 use Rattle.rtree_find.specs.Harms.{BreaksAlone, BreaksPlace, IfTold, IsMislevelled, HasWrongLevel, IsHarm}

@@ -48,7 +48,7 @@ some-read bytes some =
 pub node-read : (pages : PageMap) (level page : ℕ) → IsNodeAt (nodes_in node_of pages) level page → IsRead (pages page) (node_of (pages page))
 node-read pages level page node = let s = node.some in some-read (pages page) (omega arith)
 
-values-form : (page : List ℕ) → is_form page ≡ true → has_values page ≡ true
+pub values-form : (page : List ℕ) → is_form page ≡ true → has_values page ≡ true
 values-form page h = let p = form-parts page h in values-from page p.values
 
 -- it breaks no rule by itself, if it is counted

@@ -21,7 +21,7 @@ use Rattle.rtree_nodes.proofs.Formed.{form-parts, form-slots, other-slots, store
 use Rattle.rtree_nodes.proofs.Reaches.{joined-reach}
 
 -- a slot of its form has a rectangle
-form-rect : (level : ℕ) (cell : List ℕ) → has_form level cell ≡ true → has_rect level cell ≡ true
+pub form-rect : (level : ℕ) (cell : List ℕ) → has_form level cell ≡ true → has_rect level cell ≡ true
 form-rect zero cell h = (and_parts _ _ h).0
 form-rect (suc level) cell h = h
 

@@ -23,13 +23,13 @@ pub map-to : (x y : ℤ) → IsOnMap x y → is_on_map x y ≡ true
 map-to x y h = and_from _ _ (le-leb (unsigned_abs x) 1800000000 h.0) (le-leb (unsigned_abs y) 900000000 h.1)
 
 -- an order of signed numbers
-int-le : (a b : ℤ) → int_le a b ≡ true → a ≤ℤ b
+pub int-le : (a b : ℤ) → int_le a b ≡ true → a ≤ℤ b
 int-le (pos a) (pos b) h = let k = leb-true a b h in omega (arith, ints)
 int-le (pos a) (negsuc b) h = absurd (false≢true h)
 int-le (negsuc a) (pos b) h = omega (arith, ints)
 int-le (negsuc a) (negsuc b) h = let k = leb-true b a h in omega (arith, ints)
 
-le-int : (a b : ℤ) → a ≤ℤ b → int_le a b ≡ true
+pub le-int : (a b : ℤ) → a ≤ℤ b → int_le a b ≡ true
 le-int (pos a) (pos b) h = le-leb a b (omega (arith, ints))
 le-int (pos a) (negsuc b) h = absurd (omega (arith, ints))
 le-int (negsuc a) (pos b) h = refl

@@ -9,7 +9,7 @@ use Rattle.btree_nodes.specs.Tree.{IsMap, IsTree, level_of, map_uses, uses}
 use Rattle.btree_nodes.proofs.Frames.{tree-frame}
 use Rattle.btree_nodes.proofs.Supplies as supplies
 use Rattle.btree_nodes.proofs.Supplies.{one_at-same, one_at-other, none}
-use Rattle.btree_delete.proofs.Gives as gives
+use Rattle.btree_nodes.proofs.Gives as gives
 use Rattle.rtree_shape.proofs.Amounts.{same_or}
 use Rattle.rtree_shape.specs.Stock.{View, view, plain, rows_form, spare_in, IsSupplied, Moves}
 

@@ -1,57 +1,27 @@
 -- The words of an entry that a path leads to.
-use Rattle.std.proofs.Common.{◌≡◌, ◌≢◌, ℕ, zero, suc, ◌+◌, ◌-◌, ◌<◌, ◌≤◌, arith, refl, sym, ap, subst, ◌∙◌, List, Bool, true, false, cond, ◌&&◌, inl, inr, eq-eqb}
-use Rattle.std.specs.Prelude.{◌==◌, if◌then◌else◌}
-use Rattle.std.proofs.lemmas.Bool.{le-ltb, ne_eqb}
-use Rattle.std.proofs.lemmas.Slice.Eq.{bytes_eq-Decides}
+use Rattle.std.proofs.Common.{◌≡◌, ℕ, zero, suc, ◌-◌, ◌<◌, ◌≤◌, arith, refl, ap, subst, List, inl, inr}
 use Rattle.page_face.specs.FreeList.{PageMap}
 use Rattle.spatial_base.specs.Point.{Position}
-use Rattle.spatial_base.specs.Rect.{rect_of}
 use Rattle.rtree_shape.specs.Slots.{Item, NodeMap, got}
 use Rattle.rtree_shape.specs.Trees.{below, node_below}
 use Rattle.rtree_shape.specs.Loose.{Leads}
 use Rattle.rtree_shape.specs.Made as bare_made
 use Rattle.rtree_shape.proofs.Amounts.{amount-at, same_or}
 use Rattle.node_rows.specs.Rows.{bytes_in}
-use Rattle.rtree_nodes.specs.Reach.{place_item, reach_of}
+use Rattle.rtree_nodes.specs.Reach.{place_item}
 use Rattle.rtree_nodes.specs.Pages.{node_of}
-use Rattle.rtree_find.specs.Entries.{is_entry, is_place_of}
+use Rattle.rtree_find.specs.Entries.{is_entry}
 use Rattle.irtree_shape.specs.Words.{worded}
 use Rattle.irtree_shape.specs.Made.{nodes_in}
 use Rattle.irtree_shape.specs.Whole.{level_at, tree_sum}
-use Rattle.split_condense.specs.Entries.{AreWorded, has_impact}
+use Rattle.irtree_shape.specs.Entries.{AreWorded, has_impact}
+use Rattle.irtree_shape.proofs.Entries.{entry-counts, impact-counts}
 use Rattle.split_condense.proofs.Plain.{IsBlind, leads-worded}
-
--- both tests hold
-both : {a b : Bool} → a ≡ true → b ≡ true → (a && b) ≡ true
-both p q = λ i. p i && q i
-
--- an entry is that of its point and key
-entry-itself : (point : Position) (key : List ℕ) → is_place_of point key (place_item point key) ≡ true
-entry-itself point key =
-    let side = λ (d : ℕ). eq-eqb (reach_of (rect_of point) d) (reach_of (rect_of point) d) refl in
-    both (both (both (both (side 0) (side 1)) (side 2)) (side 3)) ((bytes_eq-Decides key key).1 refl)
 
 -- the words of an item don't make it another entry
 pub entry-blind : (point : Position) (key : List ℕ) → IsBlind (is_entry point key)
 unfolding is_entry
 entry-blind point key x h = refl
-
--- an entry counts for one, whatever its words
-pub entry-counts : (point : Position) (key : List ℕ) (f : ℕ → ℕ) → is_entry point key (worded f (place_item point key)) ≡ 1
-unfolding is_entry
-entry-counts point key f = ap (λ (b : Bool). cond b 1 0) (entry-itself point key)
-
--- how far an item with words reaches to a word
-pub word-reach : (f : ℕ → ℕ) (x : Item) (w : ℕ) → (worded f x).reach (4 + w) ≡ f w
-word-reach f x w =
-    let back : 4 + w - 4 ≡ w = omega arith in
-    ap (λ (b : Bool). if b then x.reach (4 + w) else f (4 + w - 4)) (le-ltb (4 + w) 4 (omega arith)) ∙ ap f back
-
--- an entry that has this impact of the word counts for one
-pub impact-counts : (point : Position) (key : List ℕ) (f : ℕ → ℕ) (w c : ℕ) → f w ≡ c → has_impact point key w c (worded f (place_item point key)) ≡ 1
-impact-counts point key f w c e =
-    let x : Item = worded f (place_item point key) in
-    ap (λ (b : Bool). if b then is_entry point key x else 0) (eq-eqb (x.reach (4 + w)) c (word-reach f (place_item point key) w ∙ e)) ∙ entry-counts point key f
 
 -- what a path leads to is among the entries
 leads-sum : (nodes : NodeMap) (f : Item → ℕ) (path : List ℕ) (level page : ℕ) (x : Item) → Leads nodes path level page x → f x ≤ node_below nodes f level page
@@ -108,17 +78,3 @@ leads-has pages rows root level path point key some level_is leads =
     let sum = leads-sum nodes (is_entry point key) path (level_at nodes root) root (worded there.words (place_item point key)) here in
     let is = root_sum nodes root (is_entry point key) some in
     omega (arith, one, sum, is)
-
--- an entry that hasn't this impact of the word counts for none
-pub impact-none : (point : Position) (key : List ℕ) (f : ℕ → ℕ) (w c : ℕ) → c ≢ f w → has_impact point key w c (worded f (place_item point key)) ≡ 0
-impact-none point key f w c other =
-    let x : Item = worded f (place_item point key) in
-    ap (λ (b : Bool). if b then is_entry point key x else 0) (ne_eqb (x.reach (4 + w)) c (λ e. other (sym e ∙ word-reach f (place_item point key) w)))
-
--- nor does an item that is no such entry
-pub other-none : (point : Position) (key : List ℕ) (w c : ℕ) (x : Item) → is_entry point key x ≡ 0 → has_impact point key w c x ≡ 0
-other-none point key w c x none = by (x.reach (4 + w) == c)
-  where
-    by : (b : Bool) → (if b then is_entry point key x else 0) ≡ 0
-    by true = none
-    by false = refl

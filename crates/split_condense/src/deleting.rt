@@ -9,7 +9,8 @@ ghost use Rattle.rtree_find.specs.Entries.{is_entry};
 ghost use Rattle.irtree_shape.specs.Made.{nodes_in};
 ghost use Rattle.irtree_shape.specs.Whole.{IsWhole, IsFelled, tree_sum};
 ghost use Rattle.irtree_shape.specs.Damages.{IsTreeHarm};
-ghost use Rattle.split_condense.specs.Entries.{AreWorded, entry_item, impact_of};
+ghost use Rattle.irtree_shape.specs.Entries.{AreWorded};
+ghost use Rattle.split_condense.specs.Entries.{entry_item, impact_of};
 
 use crate::Entry;
 use irtree_delete::remove_at;

@@ -13,7 +13,8 @@ use Rattle.page_store.specs.declared.superblock.Superblock.{Superblock}
 use Rattle.btree_nodes.specs.Supply.{view}
 use Rattle.rtree_shape.specs.Stock as stock
 use Rattle.rtree_nodes.specs.Pages.{node_of}
-use Rattle.tree_updates.specs.Regrown.{IsRegrown, entry_at}
+use Rattle.irtree_shape.specs.Entries.{entry_at}
+use Rattle.irtree_shape.specs.Regrown.{IsRegrown}
 use Rattle.place_map.specs.declared.place.Place.{Place}
 use Rattle.place_map.specs.State.{IsSerialAbove}
 use Rattle.place_map.specs.declared.update.Update.{Update}

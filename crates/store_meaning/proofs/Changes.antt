@@ -17,7 +17,8 @@ use Rattle.row_codec.specs.declared.stored.Stored.{Stored}
 use Rattle.rtree_shape.specs.Slots.{got}
 use Rattle.rtree_shape.specs.Stock as stock
 use Rattle.rtree_nodes.specs.Pages.{node_of}
-use Rattle.tree_updates.specs.Regrown.{IsRegrown, entry_at}
+use Rattle.irtree_shape.specs.Entries.{entry_at}
+use Rattle.irtree_shape.specs.Regrown.{IsRegrown}
 use Rattle.store_tables.specs.Entries.{Entries, place_of_key, with_place, without_place}
 use Rattle.store_tables.specs.Holding.{IsChanged}
 use Rattle.store_meaning.specs.Stands.{IsCounting, PagesStand, PagesStandFor, at_number, entry_sum, place_in, places_in, tables_in}

@@ -1,6 +1,5 @@
 -- The state that an image stands for.
 use Rattle.std.proofs.Common.{◌≡◌, ℕ, ◌+◌, ◌≤◌, ◌^◌, Bool, true, false, cond, nat_lt, [], Some, None, refl, sym, ap, subst, ◌∙◌, true≢false, arith}
-use Rattle.std.proofs.lemmas.Bool.{le-ltb}
 use Rattle.std.proofs.lemmas.List.Elements.{All-nil}
 use Rattle.disk_model.specs.World.{Image}
 use Rattle.page_face.specs.FreeList.{PageMap}
@@ -10,6 +9,7 @@ use Rattle.page_store.specs.Contents as stores
 use Rattle.page_store.specs.Superblock.{IsInRange, empty_store, fields_of, is_zero, superblock_in}
 use Rattle.page_store.specs.declared.superblock.Superblock.{Superblock}
 use Rattle.btree_nodes.specs.Supply.{uncounted}
+use Rattle.btree_nodes.proofs.Supplies.{uncounted-past as uncounted-one}
 use Rattle.node_rows.specs.Rows.{bytes_of}
 use Rattle.place_map.specs.State.{Contents, IsSerialAbove, opening}
 use Rattle.store_tables.specs.Entries.{Entries, no_entries}
@@ -91,11 +91,6 @@ empty-range = record {
   next_word = omega arith;
   words = omega arith;
 }
-
--- a page behind those counted can be taken
-uncounted-one : (count n : ℕ) → count ≤ n → uncounted count n ≡ 1
-unfolding uncounted
-uncounted-one count n behind = ap (λ b. cond b 0 1) (le-ltb n count behind)
 
 -- the tables of the empty store stand for no entries, and no page belongs to others
 empty-tables : (pages : PageMap) → TablesStand empty_store pages (λ n. 0) no_entries

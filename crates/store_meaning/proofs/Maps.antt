@@ -10,9 +10,8 @@ use Rattle.std.specs.Int.{cast_signed, cast_unsigned, from_be_bytes, to_be_bytes
 use Rattle.std.specs.List.{AllByRecursion, flat_map}
 use Rattle.std.specs.List.Sorted.{IsStrictlySortedBy}
 use Rattle.std.specs.Map.{keys_of}
-use Rattle.std.specs.Ordering.{nat_cmp}
 use Rattle.std.specs.declared.cmp.Ordering.{Ordering}
-use Rattle.std.specs.declared.cmp.Ordering.TheVariants.{Less, Equal}
+use Rattle.std.specs.declared.cmp.Ordering.TheVariants.{Less}
 use Rattle.page_face.specs.FreeList.{PageMap}
 use Rattle.spatial_base.specs.Point.{Position, IsOnMap}
 use Rattle.term_impacts.specs.Form.{IsWordText, word_form}
@@ -34,7 +33,7 @@ use Rattle.store_tables.specs.Entries.{Entries}
 use Rattle.store_tables.specs.Holding.{Holds, HoldsMap}
 use Rattle.store_tables.specs.declared.tables.Tables.{Tables}
 use Rattle.store_tables.proofs.CodeLemmas.{length-word_form, word-order}
-use Rattle.store_tables.proofs.EntryLemmas.{IsCoding}
+use Rattle.store_tables.proofs.EntryLemmas.{IsCoding, level}
 use Rattle.store_tables.proofs.LookupLemmas.{keys_coding, numbers_coding, words_coding}
 use Rattle.store_tables.proofs.MapLemmas.{IsOrder, keys_are_ordered, numbers_are_ordered, words_are_ordered}
 use Rattle.store_meaning.proofs.Steps.{AreAscending}
@@ -81,10 +80,6 @@ ascending-holds pages tables entries holds = record {
 }
 
 -- ---- one list
-
--- equal numbers tie
-level : {m n : ℕ} → m ≡ n → nat_cmp m n ≡ Equal
-level {m} {n} h = sym (nat_cmp_is m n Equal h)
 
 module _ {K V : Type 0} {cmp : K → K → Ordering} {IsKey : K → Type 0} {code : K → ℕ} (coding : IsCoding cmp IsKey code) (order : IsOrder cmp) (IsValue : V → Type 0) (value : V → List ℕ)
     (one : (v w : V) → IsValue v → IsValue w → value v ≡ value w → v ≡ w) where
@@ -155,7 +150,7 @@ place_value-same s t is also same =
     same_place (place_value s) s t also.0 point (count_next s) (pairs_last s is.0) is.0.size is.0.pairs same
 
 -- a word's form tells it
-word_form-same : (a b : List ℕ) → IsWordText a → IsWordText b → word_form a ≡ word_form b → a ≡ b
+pub word_form-same : (a b : List ℕ) → IsWordText a → IsWordText b → word_form a ≡ word_form b → a ≡ b
 unfolding word_code
 word_form-same a b is also same = words_are_ordered.same a b (word-order a b is also ∙ level (ap number same))
 

@@ -14,16 +14,12 @@ use Rattle.row_codec.specs.Pairs.{Pair}
 use Rattle.store_tables.specs.Entries.{Entries, word_cmp, number_of_word, word_of_number}
 use Rattle.store_tables.specs.Words.{WordTablesAgree, CanHold, CanHoldBy, IsHoldable, claimed_more, next_after, number_for, places_of_number, texts_after, with_hold, with_holds}
 use Rattle.store_tables.proofs.MapLemmas.{lookup-insert, numbers_are_ordered, same_from_test, test_of_same, words_are_ordered}
-use Rattle.store_tables.proofs.WordLemmas.{agree-with_hold}
+use Rattle.store_tables.proofs.WordLemmas.{agree-with_hold, no_word}
 use Rattle.store_meaning.specs.Updates.{Numbered, has_pair, numbered}
 use Rattle.store_meaning.proofs.Steps.{word_at, KeepsWords, claimed_beside, AreNumbered, AreAscending, IsNumbering, with_pairs}
 use Rattle.store_meaning.proofs.Ordered.{sorted-insert}
 
 -- ---- one word
-
--- no word is found in nothing
-pub no_word : (w : List ℕ) → None ≡ Some w → ⊥
-no_word w e = cc
 
 -- a row with a word is one
 some_with_word : (found : Option Counted) (w : List ℕ) → option_map (λ (c : Counted). c.word) found ≡ Some w → IsSome found

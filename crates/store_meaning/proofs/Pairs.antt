@@ -19,7 +19,8 @@ use Rattle.store_tables.proofs.EntryLemmas.{equal_test}
 use Rattle.store_tables.proofs.MapLemmas.{lookup-insert, numbers_are_ordered, same_from_test, test_of_same, words_are_ordered}
 use Rattle.store_meaning.specs.Updates.{has_pair, by_number, placed, stored_with}
 use Rattle.store_meaning.proofs.Steps.{word_at, AreNumbered, AreApart}
-use Rattle.store_meaning.proofs.Numbers.{no_word, unpaired}
+use Rattle.store_meaning.proofs.Numbers.{unpaired}
+use Rattle.store_tables.proofs.WordLemmas.{no_word}
 use Rattle.store_meaning.proofs.Ordered.{same_from_lookups, sorted-insert}
 
 -- ---- apart

@@ -13,7 +13,7 @@ use Rattle.rtree_shape.specs.Stock.{rows_form}
 use Rattle.rtree_nodes.specs.Pages.{node_of}
 use Rattle.irtree_shape.specs.Made.{nodes_in}
 use Rattle.irtree_shape.specs.Whole.{tree_uses}
-use Rattle.tree_updates.specs.Regrown.{IsRegrown}
+use Rattle.irtree_shape.specs.Regrown.{IsRegrown}
 use Rattle.store_tables.specs.declared.tables.Tables.{Tables}
 use Rattle.store_tables.specs.Entries.{Entries}
 use Rattle.store_tables.specs.Holding.{Holds, IsApart, IsSameMap, numbers_form, places_form, table_uses, texts_form}

@@ -11,7 +11,8 @@ use Rattle.store_tables.proofs.MapLemmas.{lookup-insert, lookup-remove, numbers_
 use Rattle.store_tables.proofs.WordLemmas.{agree-without_hold, known-claimed}
 use Rattle.store_meaning.specs.Updates.{has_pair, released_all}
 use Rattle.store_meaning.proofs.Steps.{word_at, KeepsWords, claimed_beside, AreAscending, IsReleasing, AreApart}
-use Rattle.store_meaning.proofs.Numbers.{agree-claims, no_word}
+use Rattle.store_meaning.proofs.Numbers.{agree-claims}
+use Rattle.store_tables.proofs.WordLemmas.{no_word}
 use Rattle.store_meaning.proofs.Ordered.{sorted-insert, sorted-remove}
 
 -- ---- one word

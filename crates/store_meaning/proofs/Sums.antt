@@ -21,9 +21,9 @@ use Rattle.rtree_nodes.specs.Pages.{node_of}
 use Rattle.rtree_find.specs.Entries.{is_entry}
 use Rattle.rtree_find.proofs.Entries.{entry-is}
 use Rattle.irtree_shape.specs.Made.{nodes_in}
-use Rattle.split_condense.specs.Entries.{has_impact}
-use Rattle.split_condense.proofs.Worded.{entry-counts, impact-none, other-none}
-use Rattle.tree_updates.specs.Regrown.{HasEntry, entry_at}
+use Rattle.irtree_shape.specs.Entries.{has_impact}
+use Rattle.irtree_shape.proofs.Entries.{entry-counts, impact-none, other-none}
+use Rattle.irtree_shape.specs.Entries.{HasEntry, entry_at}
 use Rattle.store_tables.specs.Coded.{IsPlaceEntry}
 use Rattle.store_tables.specs.Entries.{Entries, place_of_key, with_place, without_place}
 use Rattle.store_tables.proofs.KeyLemmas.{form-same}

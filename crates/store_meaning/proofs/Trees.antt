@@ -10,7 +10,7 @@ use Rattle.btree_nodes.specs.Supply as supply
 use Rattle.btree_nodes.specs.declared.form.Form.{Form}
 use Rattle.btree_nodes.specs.Tree.{level_of, map_uses, uses}
 use Rattle.btree_nodes.proofs.Supplies.{one_at-same}
-use Rattle.paged_map.proofs.Maps as maps
+use Rattle.btree_nodes.proofs.Supplies as supplies
 use Rattle.rtree_shape.specs.Slots.{Item, NodeView, NodeMap}
 use Rattle.rtree_shape.specs.Trees.{IsTree, node_below, node_uses}
 use Rattle.rtree_shape.specs.Stock.{View, rows_form, spare_in, view}
@@ -118,7 +118,7 @@ tree-kept old new before after entries uses stands rows tree kept = roots-same o
 
 -- page 0 can't be taken
 pub spare-away : {claims : ℕ → ℕ → ℕ} {last : ℕ} (block : Superblock) (pages : PageMap) (others : ℕ → ℕ) (entries : Entries) (tables : TablesStandFor claims last block pages others entries) → spare tables.free block.counted 0 ≡ 0
-spare-away block pages others entries tables = maps.spare-away (supply.view pages block.counted block.first_free tables.free) tables.apart.some tables.apart.supplied
+spare-away block pages others entries tables = supplies.spare-away (supply.view pages block.counted block.first_free tables.free) tables.apart.some tables.apart.supplied
 
 -- a tree whose pages are apart from those that are spare is whole over them
 pub stands-whole : (head : Head) (pages : PageMap) (count first : ℕ) (free : List ℕ) (entries : Entries) (uses : ℕ → ℕ) → TreeStands head pages entries uses → supply.IsSupplied (supply.view pages count first free) → 0 < count

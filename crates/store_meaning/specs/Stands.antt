@@ -19,7 +19,7 @@ use Rattle.rtree_nodes.specs.Pages.{node_of}
 use Rattle.node_rows.specs.Rows.{AreFilled, bytes_in}
 use Rattle.irtree_shape.specs.Made.{nodes_in, IsBlank}
 use Rattle.irtree_shape.specs.Whole.{IsWell, tree_uses, tree_sum}
-use Rattle.tree_updates.specs.Regrown.{entry_at}
+use Rattle.irtree_shape.specs.Entries.{entry_at}
 use Rattle.store_tables.specs.declared.tables.Tables.{Tables}
 use Rattle.store_tables.specs.Entries.{Entries}
 use Rattle.store_tables.specs.Holding.{Holds, IsApart, table_uses}

@@ -20,7 +20,7 @@ pub record IsCoding {K : Type 0} (cmp : K → K → Ordering) (IsKey : K → Typ
 less : {m n : ℕ} → m < n → nat_cmp m n ≡ Less
 less {m} {n} h = sym (nat_cmp_is m n Less h)
 
-level : {m n : ℕ} → m ≡ n → nat_cmp m n ≡ Equal
+pub level : {m n : ℕ} → m ≡ n → nat_cmp m n ≡ Equal
 level {m} {n} h = sym (nat_cmp_is m n Equal h)
 
 greater : {m n : ℕ} → n < m → nat_cmp m n ≡ Greater

@@ -22,7 +22,7 @@ eqb_flip m n = ⊎_elim (λ (e : m ≡ n). eq-eqb m n e ∙ sym (eq-eqb n m (sym
 no_number : (m : ℕ) → None ≡ Some m → ⊥
 no_number m e = cc
 
-no_word : (w : List ℕ) → None ≡ Some w → ⊥
+pub no_word : (w : List ℕ) → None ≡ Some w → ⊥
 no_word w e = cc
 
 some_from_word : (found : Option Counted) (w : List ℕ) → word_in found ≡ Some w → IsSome found

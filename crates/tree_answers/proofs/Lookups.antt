@@ -5,14 +5,10 @@ use Rattle.std.proofs.lemmas.List.Elements.{Contains-append_cases}
 use Rattle.std.specs.List.{AllByRecursion, Contains, flat_map}
 use Rattle.std.specs.Map.{lookup}
 use Rattle.std.specs.Str.{bytes_eq}
-use Rattle.term_impacts.specs.Form.{IsWordText, form_text, word_form}
-use Rattle.term_impacts.proofs.FormLemmas.{form_text-word_form}
+use Rattle.term_impacts.specs.Form.{IsWordText, word_form}
 use Rattle.store_tables.specs.Entries.{number_of_word}
+use Rattle.store_meaning.proofs.Maps.{word_form-same as form-same}
 use Rattle.tree_answers.specs.Asked.{form_with, id_in}
-
--- a word's form tells the word
-form-same : (a b : List ℕ) → IsWordText a → IsWordText b → word_form a ≡ word_form b → a ≡ b
-form-same a b is also same = sym (form_text-word_form a is.fits) ∙ ap form_text same ∙ form_text-word_form b also.fits
 
 module _ (texts : List (List ℕ × ℕ)) (word : List ℕ) (is : IsWordText word) where
   -- the form of a word is looked for

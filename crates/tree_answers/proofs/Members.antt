@@ -33,7 +33,7 @@ use Rattle.store_tables.specs.Coded.{IsPlaceEntry}
 use Rattle.store_tables.specs.Entries.{Entries}
 use Rattle.store_tables.specs.declared.tables.Tables.{Tables}
 use Rattle.store_tables.specs.Words.{WordsAgree, holders, words_of_place}
-use Rattle.tree_updates.specs.Regrown.{entry_at}
+use Rattle.irtree_shape.specs.Entries.{entry_at}
 use Rattle.store_meaning.specs.Stands.{entry_sum, place_in, places_in, state_in}
 use Rattle.tree_answers.specs.Asked.{AreKnown, asked_in}
 use Rattle.tree_answers.specs.Answers.{cut_by, hits_by, IsAnswer}

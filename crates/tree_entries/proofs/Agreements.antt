@@ -72,7 +72,7 @@ pub held-agreed : (f g : List ℕ → ℕ) (words : Weighted) → AgreeWeighed f
 held-agreed f g [] e = refl
 held-agreed f g (term ∷ words) e = ap (λ (n : ℕ). nat_lt 0 n || holds_by f words) e.0 ∙ ap (λ (b : Bool). nat_lt 0 (g term.0) || b) (held-agreed f g words e.1)
 
-side-back : (z : ℤ) → z ≤ℤ pos 2147483648 → least_at (below_top z) ≡ z
+pub side-back : (z : ℤ) → z ≤ℤ pos 2147483648 → least_at (below_top z) ≡ z
 side-back z l = omega (arith, ints, clamps)
 
 -- a place's item stands where the place does

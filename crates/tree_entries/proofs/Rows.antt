@@ -18,7 +18,7 @@ use Rattle.node_rows.proofs.Faults.{reads-none}
 use Rattle.tree_entries.specs.Rows.{LooksAtRows}
 
 -- a call that isn't refused
-fails-ok : {P X : Type 0} (g : Ghosts P) (a b : P) (x : X) → g.faults b ≡ g.faults a → FailsReading g a b (Ok x)
+pub fails-ok : {P X : Type 0} (g : Ghosts P) (a b : P) (x : X) → g.faults b ≡ g.faults a → FailsReading g a b (Ok x)
 fails-ok g a b x same = record { disk = λ e. absurd (cc); hides_none = same; room_left = λ e. absurd (cc); stopped = λ e. absurd (cc) }
 
 -- no look

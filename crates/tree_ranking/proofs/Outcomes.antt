@@ -1,5 +1,5 @@
 -- Results, and what damage says.
-use Rattle.std.proofs.Common.{◌≡◌, ◌⊎◌, ℕ, ◌<◌, List, length, true, false, Vec, Global, Result, Ok, Err, inl, inr, ⊎_elim, sym, ap, subst, ◌∙◌, arith}
+use Rattle.std.proofs.Common.{◌≡◌, ◌⊎◌, ℕ, ◌<◌, List, length, false, Vec, Global, Result, Ok, Err, inl, inr, ⊎_elim, sym, ap, subst, ◌∙◌, arith}
 use Rattle.std.specs.Prelude.{IfOk, IfErr, IsErrOf}
 use Rattle.page_face.specs.FreeList.{PageMap}
 use Rattle.page_face.specs.declared.fault.Damage.{Damage}
@@ -10,9 +10,11 @@ use Rattle.page_face.specs.declared.fault.PageFault.TheVariants.{Disk, NoRoom, S
 use Rattle.btree_nodes.specs.Damages.{AskedSince}
 use Rattle.btree_nodes.proofs.Walks.{same-fault}
 use Rattle.rtree_nodes.specs.Breaks.{BreaksNode}
-use Rattle.rtree_nodes.specs.Pages.{is_form, has_values}
-use Rattle.rtree_nodes.proofs.Formed.{form-parts, values-from}
+use Rattle.rtree_nodes.specs.Pages.{is_form}
+use Rattle.rtree_nodes.proofs.Formed.{form-parts}
+use Rattle.rtree_nodes.proofs.Laws.{form-bytes as form-told}
 use Rattle.rtree_find.specs.Harms.{BreaksAlone, BreaksPlace}
+use Rattle.rtree_find.proofs.Subtrees.{values-form}
 use Rattle.best_first.specs.declared.item.Item.{Item}
 use Rattle.best_first.specs.Levels.{IsOffLevel}
 use Rattle.tree_ranking.specs.Openings.{IsSoundNode, SaysLevel}
@@ -63,12 +65,6 @@ place-harm pages count rows node level old new damage e there broken =
     (λ alone. inl (subst (AskedSince old new) (sym e) there, inl (inl (subst (BreaksAlone damage.rule pages count) (sym e) alone))))
     (λ at_level. let rule = at_level.0 in inr ((λ i. record { page = e i; rule = rule i }), (there, λ says. at_level.1 says.0 says.1)))
     broken
-
-values-form : (page : List ℕ) → is_form page ≡ true → has_values page ≡ true
-values-form page h = let p = form-parts page h in values-from page p.values
-
-form-told : (page : List ℕ) → is_form page ≡ true → 0 < length page
-form-told page h = let p = form-parts page h in let long = p.long in omega arith
 
 alone-fine : (rule : Rule) (pages : PageMap) (count node level : ℕ) → IsSoundNode pages count node level → BreaksAlone rule pages count node → ⊥
 alone-fine Link pages count node level s b = s.counted b

@@ -8,7 +8,7 @@ use Rattle.spatial_base.specs.Rect.{Bounds, IsRect}
 use Rattle.rtree_nodes.specs.Reach.{place_item, child_item, below_top, above_bottom}
 use Rattle.rtree_nodes.proofs.Keys.{named}
 use Rattle.tree_entries.specs.Entries.{point_of, name_of, rect_of_item, least_at, greatest_at}
-use Rattle.tree_entries.proofs.Agreements.{point-back}
+use Rattle.tree_entries.proofs.Agreements.{point-back, side-back as low-back}
 
 -- a place stands where its item does
 pub place-point : (p : Position) (key : List ℕ) → IsOnMap p.x p.y → point_of (place_item p key) ≡ p
@@ -17,9 +17,6 @@ place-point p key on = point-back (λ d. 0) p key on
 -- and has its key
 pub place-name : (p : Position) (key : Name) → IsName key → name_of (place_item p (form_of key)) ≡ key
 place-name p key name = named key name
-
-low-back : (z : ℤ) → z ≤ℤ pos 2147483648 → least_at (below_top z) ≡ z
-low-back z l = omega (arith, ints, clamps)
 
 high-back : (z : ℤ) → unsigned_abs z ≤ 2147483648 → greatest_at (above_bottom z) ≡ z
 high-back z l = omega (arith, ints, clamps)

@@ -17,14 +17,14 @@ use Rattle.tree_ranking.specs.Asks.{qualifies, text_by, cost_by}
 abbrev pub IsUnder : (List ℕ → ℕ) → (List ℕ → ℕ) → Type 0
 IsUnder g f = (word : List ℕ) → g word ≤ f word
 
-above : (m n : ℕ) → m ≤ n → nat_lt 0 m ≡ true → nat_lt 0 n ≡ true
+pub above : (m n : ℕ) → m ≤ n → nat_lt 0 m ≡ true → nat_lt 0 n ≡ true
 above m n l h = grind (arith, nat_tests)
 
-and-true : (a b c d : Bool) → (a ≡ true → c ≡ true) → (b ≡ true → d ≡ true) → (a && b) ≡ true → (c && d) ≡ true
+pub and-true : (a b c d : Bool) → (a ≡ true → c ≡ true) → (b ≡ true → d ≡ true) → (a && b) ≡ true → (c && d) ≡ true
 and-true true b c d f g h = ap (λ (x : Bool). x && d) (f refl) ∙ g h
 and-true false b c d f g h = absurd (cc)
 
-or-true : (a b c d : Bool) → (a ≡ true → c ≡ true) → (b ≡ true → d ≡ true) → (a || b) ≡ true → (c || d) ≡ true
+pub or-true : (a b c d : Bool) → (a ≡ true → c ≡ true) → (b ≡ true → d ≡ true) → (a || b) ≡ true → (c || d) ≡ true
 or-true true b c d f g h = ap (λ (x : Bool). x || d) (f refl)
 or-true false b true d f g h = refl
 or-true false b false d f g h = g h

@@ -10,7 +10,9 @@ use Rattle.irtree_shape.proofs.Stocks.{moves-further, moves-none}
 use Rattle.irtree_shape.specs.Whole.{IsWhole, IsPlanted, IsFelled}
 use Rattle.split_condense.specs.declared.entry.Entry.{Entry}
 use Rattle.split_condense.specs.Entries.{entry_item}
-use Rattle.tree_updates.specs.Regrown.{IsRegrown, entry_at, entry_for}
+use Rattle.irtree_shape.specs.Entries.{entry_at}
+use Rattle.irtree_shape.specs.Regrown.{IsRegrown}
+use Rattle.tree_updates.specs.Entries.{entry_for}
 
 -- nothing changed
 pub nothing-regrown : (pages : PageMap) (rows count first root : ℕ) (free : List ℕ) (taken put : Option Item) → taken ≡ put → IsWhole node_of (view pages rows count first free) root

@@ -12,7 +12,7 @@ use Rattle.rtree_find.proofs.Subtrees.{some-read}
 use Rattle.irtree_shape.specs.Made.{nodes_in}
 use Rattle.irtree_shape.specs.Whole.{IsWell, level_at, tree_uses}
 use Rattle.irtree_shape.proofs.Tolds.{node-none, told-moved}
-use Rattle.tree_updates.specs.Regrown.{IsRegrown}
+use Rattle.irtree_shape.specs.Regrown.{IsRegrown}
 
 -- a page that holds a node with a slot is told
 node_tells : (page : List ℕ) → 0 < filled (node_of page).slots → 0 < length page

@@ -1,1 +1,1 @@
-pub mod Regrown
+pub mod Entries

@@ -8,7 +8,8 @@ ghost use Rattle.rtree_nodes.specs.Pages.{node_of};
 ghost use Rattle.irtree_shape.specs.Made.{nodes_in};
 ghost use Rattle.irtree_shape.specs.Whole.{IsWhole};
 ghost use Rattle.irtree_shape.specs.Damages.{IsTreeHarm};
-ghost use Rattle.tree_updates.specs.Regrown.{HasEntry, IsMissing, IsRegrown, entry_at};
+ghost use Rattle.irtree_shape.specs.Entries.{HasEntry, entry_at};
+ghost use Rattle.irtree_shape.specs.Regrown.{IsMissing, IsRegrown};
 
 use crate::taking::{entry_of, take_entry};
 use node_inverted::Tree;

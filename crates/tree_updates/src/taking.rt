@@ -7,7 +7,9 @@ ghost use Rattle.rtree_nodes.specs.Pages.{node_of};
 ghost use Rattle.irtree_shape.specs.Made.{nodes_in};
 ghost use Rattle.irtree_shape.specs.Whole.{IsWhole};
 ghost use Rattle.irtree_shape.specs.Damages.{IsTreeHarm};
-ghost use Rattle.tree_updates.specs.Regrown.{HasEntry, HasPlace, IsMissing, IsRegrown, entry_at, entry_for};
+ghost use Rattle.irtree_shape.specs.Entries.{HasEntry, HasPlace, entry_at};
+ghost use Rattle.irtree_shape.specs.Regrown.{IsMissing, IsRegrown};
+ghost use Rattle.tree_updates.specs.Entries.{entry_for};
 
 use node_inverted::Tree;
 use page_face::{Damage, PageFault, Pages, Rule};

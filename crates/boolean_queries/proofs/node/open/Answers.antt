@@ -15,7 +15,8 @@ use Rattle.tree_entries.specs.Filters.{admits_by}
 use Rattle.boolean_queries.specs.Opens.{filter_in}
 use Rattle.boolean_queries.specs.Walked.{AsksFor}
 use Rattle.node_rows.specs.Damages.{IsRowsDamage}
-use Rattle.boolean_queries.proofs.Results.{ok-always, on-always}
+use Rattle.boolean_queries.proofs.Results.{ok-always}
+use Rattle.best_first.proofs.Queued.{ok_always as on-always}
 use Rattle.boolean_queries.proofs.Logs.{contains-none, asks-then, asks-wider, asks-page}
 use Rattle.boolean_queries.proofs.Opened.{gives-node, gives-none, kept-children, kept-stand, kept-few, joined-read}
 use Rattle.boolean_queries.proofs.Fine.{joined-fine}

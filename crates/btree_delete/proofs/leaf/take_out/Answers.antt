@@ -5,7 +5,7 @@ use Rattle.btree_nodes.specs.declared.form.Shape.{Shape}
 use Rattle.btree_nodes.proofs.Tolds.{told_given}
 use Rattle.page_face.specs.Nodes.{count_of}
 use Rattle.btree_delete.specs.Body.{without_cell, cells_in}
-use Rattle.btree_delete.proofs.Gives.{page-some}
+use Rattle.btree_nodes.proofs.Gives.{page-some}
 use Rattle.btree_delete.proofs.Joins.{few, width-some}
 use Rattle.btree_delete.proofs.Relinks.{made-count}
 use Rattle.btree_delete.proofs.Outs.{emptied, written-out}

@@ -1,6 +1,6 @@
 use Rattle.std.proofs.Common.{◌∙◌}
 use Rattle.btree_nodes.proofs.Tolds.{image_told, told_given, told_written}
-use Rattle.btree_delete.proofs.Gives.{page-some}
+use Rattle.btree_nodes.proofs.Gives.{page-some}
 use Rattle.btree_delete.proofs.Pairs.{is_merged}
 use Rattle.btree_delete.proofs.pair.merge.Goals as goal
 

@@ -14,14 +14,14 @@ use Rattle.btree_nodes.specs.Damages.{IsDamaged, AreTold, AskedSince, AsksOnly}
 use Rattle.std.proofs.Math.Nat.{mul-le-mul_left}
 use Rattle.page_face.specs.Causes.{IsUncounted}
 use Rattle.btree_nodes.proofs.Trees.{tree-size}
-use Rattle.btree_nodes.proofs.Harms.{asks-here, asks-keep, asks-nothing}
+use Rattle.btree_nodes.proofs.Harms.{asked-from, asks-here, asks-keep, asks-nothing}
 use Rattle.page_face.proofs.Frames.{takes_none_then, writes_take_none}
 use Rattle.btree_delete.specs.Removal.{HasRemoved, Lessens, IsOut, IsLess}
 use Rattle.btree_delete.specs.Mended.{IsBeside}
 use Rattle.btree_delete.proofs.Settles.{half_some}
 use Rattle.btree_delete.proofs.Rises.{rise, child-claim}
 use Rattle.btree_nodes.proofs.Walks.{same-fault, told-read, uses-self, asks-read, damage-link, uses-below, tree-below, damage-below, lookup-below}
-use Rattle.btree_delete.proofs.Walks.{read-looked, uses-most, named-refused, asked-from, asked-child, beside-is, own-looked, own-below, damage-looked, damage-in_tree}
+use Rattle.btree_delete.proofs.Walks.{read-looked, uses-most, named-refused, asked-child, beside-is, own-looked, own-below, damage-looked, damage-in_tree}
 use Rattle.btree_delete.proofs.remove.+remove_in.Goals as goal
 
 pub returns-then-level-eq0-clause-removed : goal.returns-then-level-eq0-clause-removed

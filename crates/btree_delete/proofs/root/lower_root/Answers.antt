@@ -5,7 +5,7 @@ use Rattle.btree_nodes.specs.Tree.{uses, rows_at}
 use Rattle.btree_nodes.specs.Supply.{view}
 use Rattle.btree_nodes.proofs.Tolds.{told_given}
 use Rattle.btree_delete.specs.Mended.{Becomes}
-use Rattle.btree_delete.proofs.Gives.{page-some}
+use Rattle.btree_nodes.proofs.Gives.{page-some}
 use Rattle.btree_delete.proofs.Lowers.{lowered}
 use Rattle.btree_delete.proofs.root.lower_root.Goals as goal
 

@@ -8,7 +8,8 @@ use Rattle.collective_query.specs.Fronts.{Completes, IsNext, HasLeastKeys}
 use Rattle.collective_query.specs.Picks.{AreMeasured}
 use Rattle.collective_query.proofs.Costs.{far-pushed, wide-pushed}
 use Rattle.collective_query.proofs.Fronts.{completes-met}
-use Rattle.collective_query.proofs.Members.{all-among, contains-here, contains-later}
+use Rattle.collective_query.proofs.Members.{all-among, contains-later}
+use Rattle.best_first.proofs.Histories.{contains_head as contains-here}
 use Rattle.collective_query.proofs.Nexts.{has-least}
 use Rattle.collective_query.proofs.keys.+least_keys.Goals as goal
 

@@ -12,7 +12,8 @@ use Rattle.collective_query.specs.TreePicks.{tree_lists, first_lists}
 use Rattle.collective_query.specs.Tried.{IsChosen}
 use Rattle.collective_query.proofs.Behind.{behind-follows, still-among}
 use Rattle.collective_query.proofs.Leads.{none-follows, follows-then}
-use Rattle.collective_query.proofs.Members.{all-among, contains-here}
+use Rattle.collective_query.proofs.Members.{all-among}
+use Rattle.best_first.proofs.Histories.{contains_head as contains-here}
 use Rattle.collective_query.proofs.Searches.{searches-give, searches-refused, searches-then}
 use Rattle.collective_query.proofs.leading.follow_each.Goals as goal
 

@@ -5,7 +5,7 @@ use Rattle.btree_nodes.specs.Supply.{one_at}
 use Rattle.btree_nodes.proofs.Harms.{asks-further, asks-nothing}
 use Rattle.btree_nodes.proofs.Supplies.{none}
 use Rattle.btree_nodes.proofs.Walks.{same-fault}
-use Rattle.btree_delete.proofs.Gives.{page-some}
+use Rattle.btree_nodes.proofs.Gives.{page-some}
 use Rattle.rtree_shape.specs.Slots.{Item, Slots, NodeView, one, filled, amount, Each}
 use Rattle.rtree_shape.specs.Trees.{IsItem}
 use Rattle.rtree_shape.specs.Stock.{View, view}

@@ -8,7 +8,7 @@ use Rattle.btree_nodes.specs.Supply.{one_at}
 use Rattle.btree_nodes.proofs.Supplies.{none}
 use Rattle.btree_nodes.proofs.Harms.{asks-here, asks-further, asks-nothing}
 use Rattle.btree_nodes.proofs.Walks.{same-fault, asks-read}
-use Rattle.btree_delete.proofs.Gives.{page-some}
+use Rattle.btree_nodes.proofs.Gives.{page-some}
 use Rattle.rtree_shape.specs.Slots.{filled}
 use Rattle.rtree_shape.specs.Trees.{root_least}
 use Rattle.rtree_shape.specs.Stock.{View, view, plain}
@@ -29,7 +29,8 @@ use Rattle.irtree_shape.proofs.Words.{words-filled}
 use Rattle.irtree_shape.proofs.Fells.{felled_same, felled_child}
 use Rattle.irtree_delete.specs.Orphans.{IsHeadless, IsOnlyChild}
 use Rattle.irtree_delete.proofs.Dissolves.{moves-dropped, dropped-none}
-use Rattle.irtree_delete.proofs.Forms.{form-told, has-head, told-given}
+use Rattle.irtree_delete.proofs.Forms.{has-head, told-given}
+use Rattle.rtree_nodes.proofs.Laws.{form-bytes as form-told}
 use Rattle.irtree_delete.proofs.Harms.{looked-counted, link-harm, head-harm}
 use Rattle.irtree_delete.proofs.Lowers.{joined-alone, joined-there}
 use Rattle.irtree_delete.proofs.Takes.{standing-some, standing-level, standing-counted, standing-unused}

@@ -33,7 +33,9 @@ use Rattle.irtree_shape.proofs.Harms.{tree-later}
 use Rattle.irtree_shape.proofs.Outs.{take_child, child_apart, own-page, own-unspared}
 use Rattle.irtree_delete.specs.Clears.{KeepsWords, cleared}
 use Rattle.irtree_delete.specs.Orphans.{loose_in, IsMisplaced, IsOffPath}
-use Rattle.irtree_delete.proofs.Forms.{form-level, form-told, in-place, on-path, place-level, child-level, left-filled, at-some, ok-from}
+use Rattle.irtree_delete.proofs.Forms.{in-place, on-path, place-level, child-level, left-filled, at-some, ok-from}
+use Rattle.irtree_insert.proofs.Loads.{form-level}
+use Rattle.rtree_nodes.proofs.Laws.{form-bytes as form-told}
 use Rattle.irtree_delete.proofs.Takes.{leads-at, joined-some, taking-some, taking-form, taking-level, taking-least, taking-counted, child-at, left-at, look-changes}
 use Rattle.irtree_delete.proofs.Keeps.{keeps-before, keeps-below}
 use Rattle.irtree_delete.proofs.Leaves.{leaf-kept, leaf-ready, leaf-taken}

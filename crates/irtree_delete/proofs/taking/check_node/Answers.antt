@@ -4,7 +4,7 @@ use Rattle.rtree_nodes.specs.Nodes.{view_of}
 use Rattle.rtree_nodes.specs.Pages.{level_in, is_form, node_of}
 use Rattle.rtree_nodes.specs.declared.held.Node.{Node}
 use Rattle.irtree_delete.specs.Orphans.{IsMisplaced}
-use Rattle.irtree_delete.proofs.Forms.{form-level}
+use Rattle.irtree_insert.proofs.Loads.{form-level}
 use Rattle.irtree_delete.proofs.taking.check_node.Goals as goal
 
 -- a node that was read is of its page's level

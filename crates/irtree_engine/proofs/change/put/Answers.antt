@@ -12,7 +12,8 @@ use Rattle.rtree_shape.specs.Stock as stock
 use Rattle.rtree_nodes.specs.Pages.{node_of}
 use Rattle.irtree_shape.specs.Made.{nodes_in}
 use Rattle.irtree_shape.specs.Whole.{IsWhole}
-use Rattle.tree_updates.specs.Regrown.{HasEntry, IsRegrown, entry_at}
+use Rattle.irtree_shape.specs.Entries.{HasEntry, entry_at}
+use Rattle.irtree_shape.specs.Regrown.{IsRegrown}
 use Rattle.place_map.specs.declared.place.Place.{Place}
 use Rattle.place_map.specs.declared.update.Applied.{Applied}
 use Rattle.place_map.specs.declared.update.Applied.TheVariants.{New, Replaced}

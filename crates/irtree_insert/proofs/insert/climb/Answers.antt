@@ -14,7 +14,8 @@ use Rattle.irtree_insert.proofs.Loads.{some-told}
 use Rattle.irtree_insert.proofs.Descents.{open-counted, open-some, open-level, puts-view, loaded}
 use Rattle.irtree_insert.proofs.Tops.{puts-level, open-of-level, open-low}
 use Rattle.btree_nodes.proofs.Harms.{asks-further}
-use Rattle.irtree_insert.proofs.Harms.{page-harm, high-harm, told-counted}
+use Rattle.irtree_insert.proofs.Harms.{page-harm, high-harm}
+use Rattle.btree_nodes.proofs.Walks.{told-read as told-counted}
 use Rattle.page_face.specs.declared.fault.PageFault.TheVariants.{Damaged}
 use Rattle.page_face.specs.declared.fault.Rule.TheVariants.{Level}
 use Rattle.irtree_insert.proofs.insert.climb.Goals as goal

@@ -30,7 +30,8 @@ use Rattle.page_face.specs.declared.fault.PageFault.TheVariants.{Damaged}
 use Rattle.btree_nodes.specs.Tree.{map_uses}
 use Rattle.btree_nodes.proofs.Harms.{asks-further, asks-more, asked-before}
 use Rattle.node_rows.proofs.Harms.{harm-later, harm-looked}
-use Rattle.irtree_insert.proofs.Harms.{asks-since, child-harm, rows-harm, told-counted, stored-child}
+use Rattle.irtree_insert.proofs.Harms.{asks-since, child-harm, rows-harm, stored-child}
+use Rattle.btree_nodes.proofs.Walks.{told-read as told-counted}
 use Rattle.irtree_insert.proofs.put.+put_below.Goals as goal
 
 pub returns-then-level-goal-clause-made : goal.returns-then-level-goal-clause-made

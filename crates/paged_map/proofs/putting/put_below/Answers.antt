@@ -22,7 +22,10 @@ use Rattle.btree_search.specs.Steps.{low_of, high_of}
 use Rattle.btree_search.proofs.Roots.{enter, named-first}
 use Rattle.btree_insert.proofs.Roots.{to-root, rooted}
 use Rattle.paged_map.proofs.Behind.{stays-behind}
-use Rattle.paged_map.proofs.Maps.{map-tree, map-rows, map-uses, map-damage, map-undamaged, kept-counted, becomes}
+use Rattle.paged_map.proofs.Maps.{map-damage, map-undamaged, kept-counted, becomes}
+use Rattle.btree_search.proofs.Roots.{map-uses}
+use Rattle.btree_search.proofs.Roots.{map-rows}
+use Rattle.btree_search.proofs.Roots.{map-tree}
 use Rattle.paged_map.proofs.putting.put_below.Goals as goal
 
 pub put_in-requires-clause-from : goal.put_in-requires-clause-from

@@ -19,7 +19,10 @@ use Rattle.paged_map.specs.declared.putting.Rooted.{Rooted}
 use Rattle.paged_map.specs.Maps.{HasBecome}
 use Rattle.btree_nodes.proofs.Walks.{same-fault, told-read, uses-self, asks-read, damage-link}
 use Rattle.paged_map.proofs.Rows.{named-first}
-use Rattle.paged_map.proofs.Maps.{enter, map-tree, map-rows, map-uses, map-damage, map-undamaged, kept-counted}
+use Rattle.paged_map.proofs.Maps.{enter, map-damage, map-undamaged, kept-counted}
+use Rattle.btree_search.proofs.Roots.{map-uses}
+use Rattle.btree_search.proofs.Roots.{map-rows}
+use Rattle.btree_search.proofs.Roots.{map-tree}
 use Rattle.paged_map.proofs.Removes.{without-absent, is-some, stays}
 use Rattle.paged_map.proofs.removing.remove_below.Goals as goal
 

@@ -6,9 +6,8 @@ use Rattle.page_face.specs.declared.fault.Damage.{Damage}
 use Rattle.page_face.specs.declared.fault.PageFault.TheVariants.{Damaged}
 use Rattle.page_face.proofs.Frames.{reads_then}
 use Rattle.btree_nodes.specs.Damages.{AreTold, AskedSince, AsksOnly}
-use Rattle.btree_nodes.proofs.Harms.{asks-further}
+use Rattle.btree_nodes.proofs.Harms.{asked-from, asks-further}
 use Rattle.btree_nodes.proofs.Walks.{same-fault}
-use Rattle.btree_delete.proofs.Walks.{asked-from}
 use Rattle.rtree_shape.specs.Slots.{NodeMap, IsChildAt, got}
 use Rattle.rtree_shape.specs.Trees.{below, node_below}
 use Rattle.rtree_shape.specs.Made.{nodes_in}

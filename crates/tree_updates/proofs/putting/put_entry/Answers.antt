@@ -10,7 +10,8 @@ use Rattle.rtree_shape.specs.Stock.{View, view}
 use Rattle.rtree_nodes.specs.Pages.{node_of}
 use Rattle.irtree_shape.specs.Made.{nodes_in}
 use Rattle.irtree_shape.proofs.Harms.{tree-later}
-use Rattle.tree_updates.specs.Regrown.{HasEntry, IsMissing, IsRegrown, entry_at}
+use Rattle.irtree_shape.specs.Entries.{HasEntry, entry_at}
+use Rattle.irtree_shape.specs.Regrown.{IsMissing, IsRegrown}
 use Rattle.tree_updates.proofs.Regrowths.{nothing-regrown, planted-regrown, regrown-further}
 use Rattle.tree_updates.proofs.Same.{stored-same}
 use Rattle.tree_updates.proofs.Told.{told-regrown}

@@ -10,7 +10,8 @@ use Rattle.rtree_find.specs.Entries.{is_entry}
 use Rattle.irtree_shape.specs.Made.{nodes_in}
 use Rattle.irtree_shape.specs.Whole.{tree_sum}
 use Rattle.split_condense.specs.declared.entry.Entry.{Entry}
-use Rattle.split_condense.specs.Entries.{AreWorded, impact_of}
+use Rattle.irtree_shape.specs.Entries.{AreWorded}
+use Rattle.split_condense.specs.Entries.{impact_of}
 use Rattle.tree_updates.proofs.Regrowths.{entry-regrown}
 use Rattle.tree_updates.proofs.Missing.{named-same}
 use Rattle.tree_updates.proofs.taking.take_entry.Goals as goal

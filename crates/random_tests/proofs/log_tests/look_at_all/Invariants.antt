@@ -1,5 +1,5 @@
 use Rattle.std.proofs.Common.{◌≡◌}
-use Rattle.irtree_tests.proofs.log_tests.look_at_all.Given as goal
+use Rattle.random_tests.proofs.log_tests.look_at_all.Given as goal
 
 abbrev pub invariant-loop-line : goal.invariant-loop-line
 invariant-loop-line g l = record {

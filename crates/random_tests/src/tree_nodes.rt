@@ -1,6 +1,5 @@
 //! The nodes of a store's tree, read from the bytes of its pages as `docs/FORMAT.md` lays them out, and what goes round the places below
 //! each: the least rectangle, and the greatest impact of each word.
-use crate::runs::number_at;
 use place_map::State;
 use spatial_base::{Key, Point, Rect};
 use std::alloc::Global;
@@ -94,6 +93,14 @@ impl Tree {
             page = node.parent;
         }
     }
+}
+
+/// The number of four bytes at an offset of a page.
+pub(crate) fn number_at(pages: &[u8], page: u32, at: u32) -> Result<u32, Fail> {
+    let start = page as usize * 4096 + at as usize;
+    let rest = pages.get(start..).ok_or("no such page")?;
+    let (number, _) = rest.split_first_chunk::<4>().ok_or("no such page")?;
+    Ok(u32::from_be_bytes(*number))
 }
 
 // The byte at an offset of a page.

@@ -1,42 +1,18 @@
 -- What an update of a place makes of a tree.
-use Rattle.std.specs.Prelude.{◌≡◌, ℕ, ◌+◌, ◌≤◌, List, Option}
+use Rattle.std.specs.Prelude.{◌≡◌, ℕ, ◌+◌, List, Option}
 use Rattle.page_face.specs.FreeList.{PageMap}
 use Rattle.page_face.specs.declared.fault.Rule.TheVariants.{Entry as NoEntry}
 use Rattle.page_face.specs.declared.fault.Damage.{Damage}
 use Rattle.spatial_base.specs.Key.{Name, form_of}
 use Rattle.spatial_base.specs.Point.{Position}
-use Rattle.row_codec.specs.declared.stored.Stored.{Stored}
-use Rattle.row_codec.specs.Stored.{held_pairs}
-use Rattle.node_rows.specs.Impacts.{impact_in}
-use Rattle.rtree_shape.specs.Slots.{Item, NodeMap, got}
+use Rattle.rtree_shape.specs.Slots.{Item, got}
 use Rattle.rtree_shape.specs.Stock.{View, view}
 use Rattle.rtree_shape.specs.Made.{Reads}
-use Rattle.rtree_nodes.specs.Reach.{place_item}
 use Rattle.rtree_nodes.specs.Pages.{node_of}
 use Rattle.rtree_find.specs.Entries.{is_entry}
-use Rattle.irtree_shape.specs.Words.{worded}
 use Rattle.irtree_shape.specs.Stock.{Moves}
 use Rattle.irtree_shape.specs.Made.{nodes_in}
 use Rattle.irtree_shape.specs.Whole.{IsWhole, tree_uses, tree_sum}
-use Rattle.split_condense.specs.declared.entry.Entry.{Entry}
-use Rattle.split_condense.specs.Entries.{AreWorded}
-
--- the entry of a key's place, as it is handed to a tree
-abbrev pub entry_for : Name → Stored → Entry
-entry_for key stored = record { key = key; point = stored.point; count = stored.count; pairs = stored.pairs }
-
--- its item: the place's point, the key and the place's words
-abbrev pub entry_at : Name → Stored → Item
-entry_at key stored = worded (impact_in (held_pairs stored)) (place_item stored.point (form_of key))
-
--- a tree has an entry of a key at a point
-abbrev pub HasPlace : NodeMap → ℕ → Name → Position → Type 0
-HasPlace nodes root key point = 1 ≤ tree_sum nodes root (is_entry point (form_of key))
-
--- a tree has the entry of a key's place, and none of its key and point with other words
-pub record HasEntry (nodes : NodeMap) (root : ℕ) (key : Name) (stored : Stored) : Type 0 where
-  pub there : HasPlace nodes root key stored.point
-  pub words : AreWorded nodes root stored.point (form_of key) (impact_in (held_pairs stored))
 
 -- the damage that a place's entry is missing: page 0 is named, and over every free list for which the tree is whole it has no entry of the key at the point
 pub record IsMissing (pages : PageMap) (rows count first root : ℕ) (key : Name) (point : Position) (damage : Damage) : Type 0 where

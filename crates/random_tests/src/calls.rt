@@ -1,0 +1,129 @@
+//! Which nodes a query calls for, by what goes round the places below each.
+use crate::tree_nodes::{Node, Round};
+use place_map::{Expr, Hit, Query};
+use spatial_base::{Point, Rect, dist};
+use term_impacts::Word;
+
+// What goes round the places below a node may pass a filter: a word that one of them has may lack in another.
+fn may_meet(round: &Round, filter: &Expr) -> bool {
+    match filter {
+        Expr::Has(word) => round.impact(word) > 0,
+        Expr::Not(_) => true,
+        Expr::And(one, other) => may_meet(round, one) && may_meet(round, other),
+        Expr::Or(one, other) => may_meet(round, one) || may_meet(round, other),
+    }
+}
+
+fn may_pass(round: &Round, filter: &Option<Expr>) -> bool {
+    match filter {
+        Some(filter) => may_meet(round, filter),
+        None => true,
+    }
+}
+
+// The distance from a point to the nearest point of a rectangle.
+fn least_distance(rect: &Rect, at: &Point) -> u64 {
+    let x = at.x().max(rect.west()).min(rect.east());
+    let y = at.y().max(rect.south()).min(rect.north());
+    match Point::new(x, y) {
+        Some(nearest) => dist(at, &nearest),
+        None => u64::MAX,
+    }
+}
+
+// Whether two rectangles have a point in common.
+fn meet(one: &Rect, other: &Rect) -> bool {
+    one.west() <= other.east()
+        && other.west() <= one.east()
+        && one.south() <= other.north()
+        && other.south() <= one.north()
+}
+
+// The cost by a top query's numbers of a place that is so far away and has each of its words with the greatest impact; `None` where no
+// place has one of them.
+fn least_cost(
+    round: &Round,
+    words: &[(Word, u8)],
+    alpha: u16,
+    reach: u64,
+    far: u64,
+) -> Option<u64> {
+    let (mut all, mut text) = (0_u64, 0_u64);
+    for (word, weight) in words {
+        let weight = u64::from(*weight);
+        all = all.saturating_add(weight.saturating_mul(255));
+        text = text.saturating_add(weight.saturating_mul(u64::from(round.impact(word))));
+    }
+    if text == 0 {
+        return None;
+    }
+    let alpha = u64::from(alpha);
+    let by_distance = alpha.saturating_mul(far).saturating_mul(all);
+    let by_words = 1_000_u64
+        .saturating_sub(alpha)
+        .saturating_mul(reach)
+        .saturating_mul(all.saturating_sub(text));
+    Some(by_distance.saturating_add(by_words))
+}
+
+// Whether the last of the hits costs no less than this.
+fn is_up_to_last(cost: u64, hits: &[Hit]) -> bool {
+    match hits.last() {
+        Some(hit) => cost <= hit.cost,
+        None => false,
+    }
+}
+
+// Whether one of the places has one of the words.
+fn has_some(round: &Round, words: &[Word]) -> bool {
+    for word in words {
+        if round.impact(word) > 0 {
+            return true;
+        }
+    }
+    false
+}
+
+// Whether a query with these hits calls for a node that isn't the root.
+fn calls_for(query: &Query, hits: &[Hit], round: &Round) -> bool {
+    match query {
+        Query::Range { at, radius, filter } => {
+            may_pass(round, filter) && least_distance(&round.rect, at) <= *radius
+        }
+        Query::Inside { rect, filter } => may_pass(round, filter) && meet(&round.rect, rect),
+        Query::Nearest { at, k, filter } => {
+            let few = filter.is_some() && hits.len() < usize::from(*k);
+            may_pass(round, filter) && (few || is_up_to_last(least_distance(&round.rect, at), hits))
+        }
+        Query::Top {
+            at,
+            alpha,
+            reach,
+            words,
+            ..
+        } => {
+            let far = least_distance(&round.rect, at);
+            match least_cost(round, words.as_slice(), *alpha, *reach, far) {
+                Some(cost) => is_up_to_last(cost, hits),
+                None => false,
+            }
+        }
+        Query::Group { words, .. } => has_some(round, words.as_slice()),
+    }
+}
+
+/// Whether a node of a log is one that the query calls for, below one that was asked for. Range, box and group queries open the root
+/// whatever is below it.
+pub(crate) fn is_due(query: &Query, hits: &[Hit], log: &[u32], node: &Node) -> bool {
+    if node.parent == 0 {
+        match query {
+            Query::Nearest { .. } | Query::Top { .. } => {}
+            _ => return true,
+        }
+    }
+    let is_called = match &node.round {
+        Some(round) => calls_for(query, hits, round),
+        None => false,
+    };
+    is_called && (node.parent == 0 || log.contains(&node.parent))
+}

@@ -1,0 +1,155 @@
+//! Which pages queries over random maps read: each node is one that the query calls for, by what goes round the places below it. Each
+//! answer is that of a scan of all places.
+ghost use Rattle.std.specs.Prelude.{◌≡◌};
+
+use crate::calls::is_due;
+use crate::dice::Ground;
+use crate::maps::{Map, made};
+use crate::tree_nodes::is_of_words;
+use disk_model::MemoryStation;
+use irtree_engine::Engine;
+use place_map::{Answer, Hit, Query};
+use query_lang::{Line, read_line};
+use spatial_base::Key;
+use split_policy::{Halving, Quadratic};
+use std::alloc::Global;
+use std::test::Fail;
+
+// How many queries are asked: of 17 in a row one is a group, and each other kind comes four times.
+const MANY: u32 = 4_250;
+
+const SOME: u32 = 425;
+
+// Whether a log has the leaf of a place.
+fn has_leaf(map: &Map, log: &[u32], key: &Key) -> bool {
+    match map.tree.leaves.get(key) {
+        Some(leaf) => log.contains(leaf),
+        None => false,
+    }
+}
+
+// Whether a log has the leaf of each place of an answer.
+fn has_leaves(map: &Map, log: &[u32], answer: &Answer) -> bool {
+    match answer {
+        Answer::Hits(hits) => {
+            for hit in hits.as_slice() {
+                if !has_leaf(map, log, &hit.key) {
+                    return false;
+                }
+            }
+        }
+        Answer::Group(Some(group)) => {
+            for pick in group.picks.as_slice() {
+                if !has_leaf(map, log, &pick.key) {
+                    return false;
+                }
+            }
+        }
+        Answer::Group(None) => {}
+    }
+    true
+}
+
+// Looks at each page of the log of a query.
+fn check_log(map: &Map, query: &Query, answer: &Answer, log: &[u32]) -> Result<(), Fail> {
+    let hits: &[Hit] = match answer {
+        Answer::Hits(hits) => hits.as_slice(),
+        Answer::Group(_) => &[],
+    };
+    for page in log {
+        let is_right = match map.tree.nodes.get(page) {
+            Some(node) => is_due(query, hits, log, node),
+            None => is_of_words(&map.pages, *page)?,
+        };
+        if !is_right {
+            return Err("a page was read that the query doesn't call for".into());
+        }
+    }
+    if has_leaves(map, log, answer) {
+        Ok(())
+    } else {
+        Err("the leaf of an answer isn't in the log".into())
+    }
+}
+
+fn are_same(one: &Answer, other: &Answer) -> bool {
+    match (one, other) {
+        (Answer::Hits(one), Answer::Hits(other)) => one.as_slice() == other.as_slice(),
+        (Answer::Group(Some(one)), Answer::Group(Some(other))) => {
+            one.cost == other.cost && one.picks.as_slice() == other.picks.as_slice()
+        }
+        (Answer::Group(None), Answer::Group(None)) => true,
+        _ => false,
+    }
+}
+
+// The answer to a query, which has to be that of the scan, and its log are looked at.
+fn look(
+    alloc: Global,
+    map: &Map,
+    engine: &mut Engine<'_, MemoryStation>,
+    line: &str,
+) -> Result<(), Fail>
+    ensures { engine.new.store.disk.ghost_name ≡ engine.old.store.disk.ghost_name }
+{
+    let Ok(Line::Ask { query, explain: _ }) = read_line(alloc, line.as_bytes()) else {
+        return Err("no query".into());
+    };
+    if !query.is_within_limits() {
+        return Err("not within the limits".into());
+    }
+    let answer = engine.answer(&query)?;
+    let wanted = map.state.answer(&query)?;
+    if !are_same(&answer, &wanted) {
+        return Err("another answer".into());
+    }
+    check_log(map, &query, &answer, engine.read_log())
+}
+
+// Looks at all queries over an engine.
+fn look_at_all(
+    alloc: Global,
+    map: &Map,
+    engine: &mut Engine<'_, MemoryStation>,
+    lines: &[String],
+) -> Result<(), Fail>
+    ensures { engine.new.store.disk.ghost_name ≡ engine.old.store.disk.ghost_name }
+{
+    for line in lines {
+        look(alloc, map, engine, line.as_str())?;
+    }
+    Ok(())
+}
+
+// Looks at all queries over the store of a map.
+fn look_over(
+    alloc: Global,
+    map: &Map,
+    mut station: MemoryStation,
+    lines: &[String],
+) -> Result<(), Fail> {
+    let policy = Box::new(alloc, Halving::new())?;
+    let mut engine = Engine::open(alloc, &mut station, 4_096, policy)?;
+    let outcome = look_at_all(alloc, map, &mut engine, lines);
+    let _loan = engine.into_disk();
+    outcome
+}
+
+#[test]
+fn queries_read_only_nodes_that_they_call_for(rt: HostRuntime) -> Result<(), Fail> {
+    let first = Box::new(rt.alloc(), Quadratic::new())?;
+    let second = Box::new(rt.alloc(), Halving::new())?;
+    let (map, station, lines) = made(rt.alloc(), Ground::Clusters, MANY, first, second)?;
+    look_over(rt.alloc(), &map, station, &lines)
+}
+
+#[test]
+fn so_they_do_on_a_line_at_a_point_and_between_two_ends(rt: HostRuntime) -> Result<(), Fail> {
+    for ground in [Ground::Line, Ground::Point, Ground::Ends] {
+        let first = Box::new(rt.alloc(), Halving::new())?;
+        let second = Box::new(rt.alloc(), Quadratic::new())?;
+        let (map, station, lines) = made(rt.alloc(), ground, SOME, first, second)?;
+        look_over(rt.alloc(), &map, station, &lines)?;
+    }
+    Ok(())
+}
