@@ -6,6 +6,8 @@ mod held_pages_tests;
 #[cfg(test)]
 mod page_cache_tests;
 #[cfg(test)]
+mod page_face_tests;
+#[cfg(test)]
 mod page_journal_tests;
 #[cfg(test)]
 mod page_store_tests;

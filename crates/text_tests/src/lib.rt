@@ -14,6 +14,8 @@ mod line_tokens_tests;
 #[cfg(test)]
 mod made_places_tests;
 #[cfg(test)]
+mod number_grammar_tests;
+#[cfg(test)]
 mod place_map_tests;
 #[cfg(test)]
 mod row_codec_tests;
