@@ -77,21 +77,12 @@ IsAtLimit live number Full = 200000 ≤ live
 IsAtLimit live number Worn = 2 ^ 40 ≤ number
 IsAtLimit live number _ = Unit {0}
 
--- How many pages so many updates take in the tables at most: each makes 129 puts, of a place and of 64 words by text and by number, and a put
--- takes one page for each level of its map, of which there are 256 at most, and one for a new root.
-abbrev pub table_takes : ℕ → ℕ
-table_takes updates = 33153 * updates
-
--- How many takes are allowed to the tree for so many updates, over so many pages counted: a fuse that no change in order comes near. An
--- update that splits or dissolves a node sets rows for each word of its entries, at most 2,048 of 32 with 64 words each, and in a few
--- nodes; a row takes a page or two where leaves split. Much of what a change takes it gave back before, and the larger the store, the more
--- there is to give back: hence the pages counted.
-abbrev pub tree_takes : ℕ → ℕ → ℕ
-tree_takes updates counted = 32383 * updates + 256 * counted
-
--- how many takes so many updates in one commit are allowed, over so many pages counted
+-- How many takes of a page so many updates in one commit are allowed, over so many pages counted: a fuse that no change in order comes near.
+-- An update makes 129 puts into the tables, of a place and of 64 words by text and by number, and sets 64 rows at each level of the tree; a put
+-- takes a page for each level of its map whose page splits. Where a node of the tree splits, the rows of what moves are put anew: they are
+-- no more than there are rows at its level, and are in leaves that are half full at least. Hence a few for each page counted.
 abbrev pub most_takes : ℕ → ℕ → ℕ
-most_takes updates counted = table_takes updates + tree_takes updates counted
+most_takes updates counted = 65536 + 128 * updates + 8 * counted
 
 -- the room is no more than the pages counted and as many as so many updates are allowed to take
 abbrev pub LacksRoom : ℕ → ℕ → ℕ → Type 0

@@ -25,7 +25,8 @@ impl<'d, D: Station> Engine<'d, D> {
     ///
     /// By the tree it looks at one page a level of the words by text for each word of the query. Then it opens the nodes that may hold an
     /// answer: each costs a look at its page and, for each word of the query that the store knows, at one page a level of the rows of
-    /// words. A group query makes one search for each of its words, and for some a second one.
+    /// words. A group query makes one search for each of its words, and more
+    /// where `collective_query::group` says so.
     pub fn answer(&mut self, query: &Query) -> Result<Answer, EngineFault>
         requires { IsWithinLimits query.now }
         ensures same_loan { self.new.store.disk.ghost_name ≡ self.old.store.disk.ghost_name }

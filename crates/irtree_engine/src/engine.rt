@@ -131,7 +131,8 @@ impl<'d, D: Station> Engine<'d, D> {
 
     /// How many places live. Makes no call of the disk.
     pub fn count(&self) -> u32
-        ensures { IsTrue D.tells → self.now.stopped ≡ false → (state : Contents) → HoldsState (D.world self.now.store.disk.now) state → result ≡ length state.places }
+        ensures live { result ≡ self.now.store.current.head.live }
+        ensures counted { IsTrue D.tells → self.now.stopped ≡ false → (state : Contents) → HoldsState (D.world self.now.store.disk.now) state → result ≡ length state.places }
     {
         self.store.head().live
     }

@@ -20,13 +20,12 @@ use page_face::{Damage, Head, PageFault, Pages, Rule};
 use page_store::Store;
 use place_map::{Applied, Update};
 
-// How many takes of a page are allowed to each update of a commit: for its puts into the tables as many as 129 of them need at most, each 257
-// pages, and for its change of the tree; and for each page counted.
-const TABLE_TAKES: u64 = 33_153;
+// How many takes of a page are allowed to a commit, to each of its updates besides, and for each page counted.
+const TAKES: u64 = 65_536;
 
-const TREE_TAKES: u64 = 32_383;
+const TAKES_AN_UPDATE: u64 = 128;
 
-const TAKES_A_PAGE: u64 = 256;
+const TAKES_A_PAGE: u64 = 8;
 
 impl<'d, D: Station> Engine<'d, D> {
     /// Stores one update in one commit, in the place table and in the tree. An update that changes nothing makes none. A key that a Put
@@ -108,8 +107,8 @@ impl<'d, D: Station> Engine<'d, D> {
 
     /// Stores all updates in one commit, or none. There are at most 10,000, and a key that a Put names is a text key; of none nothing is stored.
     ///
-    /// Refuses as [`Engine::apply`], for the first update that meets a cause; then none is stored. A batch is allowed to take as many pages
-    /// as its updates need in the tables at most, and for the tree as an update by itself, once for each of them. Costs in the place table and in the
+    /// Refuses as [`Engine::apply`], for the first update that meets a cause; then none is stored. A batch is allowed to take 128 pages
+    /// more for each of its updates than an empty one. Costs in the place table and in the
     /// tree as much as each update by itself, with one commit of the pages that changed. A word of the batch costs a look-up and one or
     /// two puts in the tables of words, however many of its places hold it, and each word of a place that is replaced or removed a
     /// look-up and a put.
@@ -178,7 +177,7 @@ fn takes_for(updates: usize, counted: u32) -> u64
     requires few { updates ≤ 10000 }
     ensures { result ≡ most_takes updates counted }
 {
-    (TABLE_TAKES + TREE_TAKES) * updates as u64 + TAKES_A_PAGE * counted as u64
+    TAKES + TAKES_AN_UPDATE * updates as u64 + TAKES_A_PAGE * counted as u64
 }
 
 // Empties the log of reads, and allows the takes for so many updates. Refuses `Stopped` exactly where the engine is stopped, and `Memory`

@@ -8,6 +8,7 @@ pub mod Openings
 pub mod Reading
 pub mod Rooms
 pub mod Replies
+pub mod Rests
 pub mod Scripts
 pub mod Settled
 pub mod Transcripts

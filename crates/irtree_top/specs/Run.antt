@@ -5,7 +5,7 @@ use Rattle.irtree_engine.specs.Damages.{IsImageDamage}
 use Rattle.irtree_engine.specs.Holding.{HasBrokenHead, IsForeign, StandsForNone}
 use Rattle.irtree_engine.specs.Opening.{IsRecovered}
 use Rattle.irtree_engine.specs.Queries.{EachRead, contents_held}
-use Rattle.page_journal.specs.Record.{IsBad, StandsAlike, StandsFor}
+use Rattle.page_journal.specs.Record.{IsBad, IsReady, StandsAlike, StandsFor}
 use Rattle.page_store.specs.Contents as pages
 use Rattle.page_store.specs.Contents.{page_bytes}
 use Rattle.page_store.specs.Opening.{IsOpeningRead, head_damage}
@@ -208,6 +208,22 @@ IsBehindOpening ends.Disk = ⊥
 IsBehindOpening (ends.Store fault) = ⊥
 IsBehindOpening _ = Unit {0}
 
+-- ---- what is left behind the job
+
+-- Behind any end but the disk's nothing is pending, and the journal's first closed gate is its first byte: what it held is in its place.
+abbrev pub RestsBehind : World → Ended → Type 0
+RestsBehind new ends.Disk = Unit {0}
+RestsBehind new _ = IsReady 0 new
+
+abbrev pub LeavesAtRest : {T : Type 0} → World → Result T Ended → Type 0
+LeavesAtRest new (Ok done) = IsReady 0 new
+LeavesAtRest new (Err end) = RestsBehind new end
+
+-- So it is behind any end that comes behind the opening.
+abbrev pub RestsIfOpened : {T : Type 0} → World → Result T Ended → Type 0
+RestsIfOpened new (Ok done) = IsReady 0 new
+RestsIfOpened new (Err end) = IsBehindOpening end → IsReady 0 new
+
 -- an end that no fault of source, disk or sink causes
 abbrev pub IsSettled : Ended → Type 0
 IsSettled ends.Disk = ⊥
@@ -245,6 +261,11 @@ abbrev pub LeavesStore : StoreFault → World → World → Type 0
 LeavesStore stores.NotAStore old new = LeavesRecovered old new
 LeavesStore (stores.BadJournal at) old new = WritesNothing old new
 LeavesStore (stores.Damaged damage) old new = HasBrokenHead old.seen → LeavesRecovered old new
+
+-- At every crash the image stands for what it stood for, whatever that was, and nothing was said.
+pub record LeavesAlike (old new : World) : Type 0 where
+  pub alike : LeavesOnly old new (StandsAlike old)
+  pub said : new.said ≡ old.said
 
 -- a store that is refused as it is opened is left alone
 abbrev pub LeavesAlone : Ended → World → World → Type 0

@@ -5,10 +5,11 @@ ghost use Rattle.place_map.specs.State.{Contents};
 ghost use Rattle.irtree_engine.specs.Holding.{HoldsState, LeavesState};
 ghost use Rattle.irtree_engine.specs.Queries.{contents_held};
 ghost use Rattle.run_protocol.specs.Asking.{AreAsking};
-ghost use Rattle.run_protocol.specs.Causes.{HasJobEnd};
+ghost use Rattle.page_journal.specs.Record.{IsReady};
+ghost use Rattle.run_protocol.specs.Causes.{GoesOn, HasJobEnd};
 ghost use Rattle.run_protocol.specs.Reading.{AreReading, IsMetIn};
 ghost use Rattle.run_protocol.specs.Script.{script_lines};
-ghost use Rattle.irtree_top.specs.Run.{EndsJob, HasRunEnd, HoldsPrefix, IsLimitReached, IsInputEnd, IsLimitOf, IsUnreadEnd, IsWholeInput, LacksRoomFor, LeavesAlone, LeavesInput, NamesBrokenRule, OpensFew, ReachesLimitBy};
+ghost use Rattle.irtree_top.specs.Run.{EndsJob, HasRunEnd, HoldsPrefix, IsLimitReached, IsInputEnd, IsLimitOf, IsUnreadEnd, IsOpenable, IsWholeInput, LacksRoomFor, LeavesAlike, LeavesAlone, LeavesAtRest, LeavesInput, NamesBrokenRule, OpensFew, ReachesLimitBy, RestsIfOpened};
 ghost use Rattle.command_words.specs.Job.{asked_of};
 
 use crate::{transcript_is_one, transcript_is_some};
@@ -53,6 +54,7 @@ fn act<'d, S: Source, T: Station>(
         → AreAsking (script_lines (S.left source.old)) → OnOk result (OpensFew state (S.left source.old) (T.world engine.old.store.disk.now) (T.world engine.new.store.disk.now)) }
     ensures met { job.now.action ≡ Action.Run → IsTrue S.tells → IsTrue T.tells → AreReading (script_lines (S.left source.old))
         → IfErr result (IsMetIn (T.world engine.old.store.disk.now).seen) }
+    ensures goes_on { GoesOn engine.new.stopped result }
     ensures cause { HasJobEnd T.tells (S.faults source.old) (S.faults source.new) (T.world engine.old.store.disk.now) (T.world engine.new.store.disk.now) result }
     ensures input { IsTrue S.tells → (fault : InputFault) → IsErrOf result (Ended.Input fault) → IsInputEnd job.now.action (option_map string_bytes job.now.text) (S.left source.old) fault }
     ensures whole { IsTrue S.tells → OnOk result (LeavesInput job.now.action (S.left source.old) (S.left source.new) × IsWholeInput job.now.action (option_map string_bytes job.now.text) (S.left source.old)) }
@@ -87,6 +89,7 @@ fn settle<'d, T: Station>(engine: &mut Engine<'d, T>) -> Result<(), Failed>
     ensures reads { IsTrue T.tells → ReadsJournalOnly (T.world engine.old.store.disk.now) (T.world engine.new.store.disk.now) }
     ensures cause { HasDiskCause (T.world engine.old.store.disk.now) (T.world engine.new.store.disk.now) result }
     ensures room { T.room_of engine.new.store.disk.now ≡ T.room_of engine.old.store.disk.now }
+    ensures at_rest { IsTrue T.tells → engine.old.stopped ≡ false → OnOk result (IsReady 0 (T.world engine.new.store.disk.now)) }
     ensures alike { IsTrue T.tells → OnOk result (contents_held (T.world engine.new.store.disk.now).seen ≡ contents_held (T.world engine.old.store.disk.now).seen) }
 {
     match engine.settle() {
@@ -117,6 +120,7 @@ fn serve<'d, S: Source, T: Station>(
         → AreAsking (script_lines (S.left source.old)) → OnOk result (OpensFew state (S.left source.old) (T.world engine.old.store.disk.now) (T.world engine.new.store.disk.now)) }
     ensures met { job.now.action ≡ Action.Run → IsTrue S.tells → IsTrue T.tells → AreReading (script_lines (S.left source.old))
         → IfErr result (IsMetIn (T.world engine.old.store.disk.now).seen) }
+    ensures at_rest { IsTrue T.tells → LeavesAtRest (T.world engine.new.store.disk.now) result }
     ensures cause { HasJobEnd T.tells (S.faults source.old) (S.faults source.new) (T.world engine.old.store.disk.now) (T.world engine.new.store.disk.now) result }
     ensures input { IsTrue S.tells → (fault : InputFault) → IsErrOf result (Ended.Input fault) → IsInputEnd job.now.action (option_map string_bytes job.now.text) (S.left source.old) fault }
     ensures whole { IsTrue S.tells → OnOk result (LeavesInput job.now.action (S.left source.old) (S.left source.new) × IsWholeInput job.now.action (option_map string_bytes job.now.text) (S.left source.old)) }
@@ -158,6 +162,8 @@ pub(crate) fn run_job<S: Source, T: Station>(
         → AreAsking (script_lines (S.left source.old)) → OnOk result (OpensFew state (S.left source.old) (T.world station.old) (T.world station.new)) }
     ensures broken_rule { job.now.action ≡ Action.Run → IsTrue S.tells → IsTrue T.tells → AreReading (script_lines (S.left source.old))
         → IfErr result (NamesBrokenRule (T.world station.old).seen) }
+    ensures at_rest { IsTrue T.tells → RestsIfOpened (T.world station.new) result }
+    ensures unopened { IsTrue T.tells → ¬ IsOpenable (T.world station.old).seen → LeavesAlike (T.world station.old) (T.world station.new) }
     ensures cause { HasRunEnd T.tells (S.faults source.old) (S.faults source.new) (T.world station.old) (T.world station.new) result }
     ensures left_alone { IsTrue T.tells → IfErr result (λ end. LeavesAlone end (T.world station.old) (T.world station.new)) }
     ensures input { IsTrue S.tells → (fault : InputFault) → IsErrOf result (Ended.Input fault) → IsInputEnd job.now.action (option_map string_bytes job.now.text) (S.left source.old) fault }

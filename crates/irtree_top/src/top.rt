@@ -1,13 +1,14 @@
 //! The top call.
 ghost use Rattle.std.specs.Prelude.{◌≡◌, ◌≢◌, ◌≤◌, ◌⊎◌, ℕ, List, map, string_bytes, IsTrue, Err};
 ghost use Rattle.disk_model.specs.World.{LeavesOnly, Rose};
+ghost use Rattle.page_journal.specs.Record.{IsReady};
 ghost use Rattle.place_map.specs.State.{Contents};
 ghost use Rattle.irtree_engine.specs.Holding.{HoldsState};
 ghost use Rattle.run_protocol.specs.Asking.{AreAsking};
 ghost use Rattle.run_protocol.specs.Reading.{AreReading};
 ghost use Rattle.run_protocol.specs.Script.{script_lines};
 ghost use Rattle.run_protocol.specs.Turn.{Transcript, Done, Input};
-ghost use Rattle.irtree_top.specs.Run.{EndsBy, HoldsPrefix, IsLimitReached, IsBehindOpening, IsBroken, IsBrokenRule, IsCompleteEnd, IsInputEnd, IsLimitOf, IsOpenable, IsSettled, IsUnreadEnd, IsWholeInput, LacksRoomFor, LeavesAlone, LeavesInput, OpensFew, SaysFront, SaysWhatWasRead, StopsAtLimit};
+ghost use Rattle.irtree_top.specs.Run.{EndsBy, HoldsPrefix, IsLimitReached, IsBehindOpening, IsBroken, IsBrokenRule, IsCompleteEnd, IsInputEnd, IsLimitOf, IsOpenable, IsSettled, IsUnreadEnd, IsWholeInput, LacksRoomFor, LeavesAlike, LeavesAlone, LeavesInput, OpensFew, SaysFront, SaysWhatWasRead, StopsAtLimit};
 ghost use Rattle.irtree_top.specs.Transcript.{IsTranscript};
 ghost use Rattle.command_words.specs.Job.{Asked, AskFor, AreAccepted};
 
@@ -138,8 +139,12 @@ pub fn run<S: Source, T: Station>(
     ensures source_later { S.faults source.old ≤ S.faults source.new }
     ensures sink_later { (T.world station.old).sink_faults ≤ (T.world station.new).sink_faults }
 
-    // A store that is refused as it is opened is left alone.
+    // A store that is refused as it is opened is left alone. However the run ends, an image that can't be opened stands for what it stood for.
     ensures left_alone { IsTrue T.tells → LeavesAlone result (T.world station.old) (T.world station.new) }
+    ensures unopened { IsTrue T.tells → ¬ IsOpenable (T.world station.old).seen → LeavesAlike (T.world station.old) (T.world station.new) }
+
+    // Behind the job what the journal held is in its place.
+    ensures at_rest { IsBehindOpening result → IsTrue T.tells → IsReady 0 (T.world station.new) }
 
     // If no count rose, the words are accepted and the image stands for a state, it ends by its transcript, or for want of room or memory.
     ensures complete { (asked : Asked) → AskFor (map string_bytes words.now) asked → IsTrue T.tells

@@ -6,7 +6,7 @@ ghost use Rattle.place_map.specs.declared.update.Update.{Update};
 ghost use Rattle.geojson_points.specs.Takes.{Item, Placed, Skipped, HasTextKey, item_of, place_of};
 ghost use Rattle.irtree_engine.specs.Holding.{HoldsState};
 ghost use Rattle.place_map.specs.Update.{NamesText};
-ghost use Rattle.run_protocol.specs.Causes.{HasEngineEnd, LacksRoomIn};
+ghost use Rattle.run_protocol.specs.Causes.{GoesOn, HasEngineEnd, LacksRoomIn};
 ghost use Rattle.run_protocol.specs.Load.{Closing, Step, Store, places_among, put_of, says_loaded};
 ghost use Rattle.run_protocol.specs.Said.{SaysAll};
 ghost use Rattle.load_run.specs.Loading.{CanWait, Concludes, HasStored, Moves, RisesBy, StoresAll, acted_on, closing_of, stage, stage_at_start, stage_before};
@@ -41,9 +41,9 @@ fn say_text<'d, T: Station>(text: &mut Vec<u8>, engine: &mut Engine<'d, T>) -> R
     ensures same_loan { engine.new.store.disk.ghost_name ≡ engine.old.store.disk.ghost_name }
     ensures none { OnOk result (text.new.items ≡ []) }
     ensures said { IsTrue T.tells → SaysAll text.old.items (T.world engine.old.store.disk.now) (T.world engine.new.store.disk.now) result }
-    ensures on { engine.new.stopped ≡ false }
     ensures ends { IfErr result (λ end. end ≡ Ended.Sink) }
     ensures head { engine.new.store.current ≡ engine.old.store.current }
+    ensures goes_on { GoesOn engine.new.stopped result }
     ensures cause { HasEngineEnd T.tells (T.world engine.old.store.disk.now) (T.world engine.new.store.disk.now) result }
 {
     match say_all(engine, &*text) {
@@ -63,7 +63,7 @@ fn store_batch<'d, T: Station>(engine: &mut Engine<'d, T>, updates: &[Update]) -
     ensures same_loan { engine.new.store.disk.ghost_name ≡ engine.old.store.disk.ghost_name }
     ensures told { IsTrue T.tells → (state : Contents) → HoldsState (T.world engine.old.store.disk.now) state
         → StoresAll state updates.now (T.world engine.old.store.disk.now) (T.world engine.new.store.disk.now) result }
-    ensures on { OnOk result (engine.new.stopped ≡ false) }
+    ensures goes_on { GoesOn engine.new.stopped result }
     ensures cause { HasEngineEnd T.tells (T.world engine.old.store.disk.now) (T.world engine.new.store.disk.now) result }
     ensures rises { RisesBy (length updates.now) 0 0 engine.old.store.current.head engine.new.store.current.head result }
     ensures lacks { IsTrue T.tells → IsErrOf result (Ended.Limit LimitFault.NoRoom) → LacksRoomIn 10000 (T.room_of engine.new.store.disk.now) (T.world engine.new.store.disk.now).seen }
@@ -121,7 +121,7 @@ impl Load {
         ensures told { IsTrue T.tells → (closing : Closing) (state : Contents) (items : List Item) → HoldsState (T.world engine.old.store.disk.now) state
             → Moves (stage_before closing self.old state (item_of item ∷ items)) (λ after. stage_before closing self.new after items)
             (T.world engine.old.store.disk.now) (T.world engine.new.store.disk.now) result }
-        ensures on { OnOk result (engine.new.stopped ≡ false) }
+        ensures goes_on { GoesOn engine.new.stopped result }
         ensures count { OnOk result (acted_on self.new ≡ acted_on self.old + 1) }
         ensures waits { OnOk result (CanWait self.new) }
         ensures cause { HasEngineEnd T.tells (T.world engine.old.store.disk.now) (T.world engine.new.store.disk.now) result }
@@ -148,7 +148,7 @@ impl Load {
         ensures told { IsTrue T.tells → (closing : Closing) (state : Contents) (items : List Item) → HoldsState (T.world engine.old.store.disk.now) state
             → Moves (stage_before closing self.old state (Skipped index reason ∷ items)) (λ after. stage_before closing self.new after items)
             (T.world engine.old.store.disk.now) (T.world engine.new.store.disk.now) result }
-        ensures on { OnOk result (engine.new.stopped ≡ false) }
+        ensures goes_on { GoesOn engine.new.stopped result }
         ensures count { OnOk result (acted_on self.new ≡ acted_on self.old + 1) }
         ensures waits { OnOk result (CanWait self.new) }
         ensures cause { HasEngineEnd T.tells (T.world engine.old.store.disk.now) (T.world engine.new.store.disk.now) result }
@@ -183,7 +183,7 @@ impl Load {
         ensures told { IsTrue T.tells → (closing : Closing) (state : Contents) (items : List Item) → HoldsState (T.world engine.old.store.disk.now) state
             → Moves (stage_before closing self.old state (Placed (place_of draft) ∷ items)) (λ after. stage_before closing self.new after items)
             (T.world engine.old.store.disk.now) (T.world engine.new.store.disk.now) result }
-        ensures on { OnOk result (engine.new.stopped ≡ false) }
+        ensures goes_on { GoesOn engine.new.stopped result }
         ensures count { OnOk result (acted_on self.new ≡ acted_on self.old + 1) }
         ensures waits { OnOk result (CanWait self.new) }
         ensures cause { HasEngineEnd T.tells (T.world engine.old.store.disk.now) (T.world engine.new.store.disk.now) result }
@@ -220,7 +220,7 @@ impl Load {
         ensures told { IsTrue T.tells → (closing : Closing) (state : Contents) (rest : List Step) → HoldsState (T.world engine.old.store.disk.now) state
             → Moves (stage closing self.old state (Store updates.now ∷ rest)) (λ after. stage closing self.new after rest)
             (T.world engine.old.store.disk.now) (T.world engine.new.store.disk.now) result }
-        ensures on { OnOk result (engine.new.stopped ≡ false) }
+        ensures goes_on { GoesOn engine.new.stopped result }
         ensures counts { OnOk result (HasStored (length updates.now) self.old self.new) }
         ensures cause { HasEngineEnd T.tells (T.world engine.old.store.disk.now) (T.world engine.new.store.disk.now) result }
         ensures rises { RisesBy (length updates.now) 0 0 engine.old.store.current.head engine.new.store.current.head result }
@@ -252,7 +252,7 @@ impl Load {
         ensures told { IsTrue T.tells → (closing : Closing) (state : Contents) → HoldsState (T.world engine.old.store.disk.now) state
             → Moves (stage_before closing self.old state []) (λ after. stage closing self.new after [])
             (T.world engine.old.store.disk.now) (T.world engine.new.store.disk.now) result }
-        ensures on { OnOk result (engine.new.stopped ≡ false) }
+        ensures goes_on { GoesOn engine.new.stopped result }
         ensures cause { HasEngineEnd T.tells (T.world engine.old.store.disk.now) (T.world engine.new.store.disk.now) result }
         ensures rises { RisesBy 0 (length self.old.waiting.items) 0 engine.old.store.current.head engine.new.store.current.head result }
         ensures lacks { IsTrue T.tells → IsErrOf result (Ended.Limit LimitFault.NoRoom) → LacksRoomIn 10000 (T.room_of engine.new.store.disk.now) (T.world engine.new.store.disk.now).seen }
@@ -276,6 +276,7 @@ impl Load {
         ensures same_loan { engine.new.store.disk.ghost_name ≡ engine.old.store.disk.ghost_name }
         ensures told { IsTrue T.tells → (closing : Closing) (state : Contents) → HoldsState (T.world engine.old.store.disk.now) state → line.now ≡ closing_of closing self.old state
             → Concludes (stage closing self.old state []) (T.world engine.old.store.disk.now) (T.world engine.new.store.disk.now) result }
+        ensures goes_on { GoesOn engine.new.stopped result }
         ensures cause { HasEngineEnd T.tells (T.world engine.old.store.disk.now) (T.world engine.new.store.disk.now) result }
         ensures rises { RisesBy 0 0 0 engine.old.store.current.head engine.new.store.current.head result }
         ensures lacks { IsTrue T.tells → IsErrOf result (Ended.Limit LimitFault.NoRoom) → LacksRoomIn 10000 (T.room_of engine.new.store.disk.now) (T.world engine.new.store.disk.now).seen }
@@ -294,6 +295,7 @@ impl Load {
         ensures same_loan { engine.new.store.disk.ghost_name ≡ engine.old.store.disk.ghost_name }
         ensures told { IsTrue T.tells → (state : Contents) → HoldsState (T.world engine.old.store.disk.now) state
             → Concludes (stage_before says_loaded self.old state []) (T.world engine.old.store.disk.now) (T.world engine.new.store.disk.now) result }
+        ensures goes_on { GoesOn engine.new.stopped result }
         ensures cause { HasEngineEnd T.tells (T.world engine.old.store.disk.now) (T.world engine.new.store.disk.now) result }
         ensures rises { RisesBy 0 (length self.old.waiting.items) 0 engine.old.store.current.head engine.new.store.current.head result }
         ensures lacks { IsTrue T.tells → IsErrOf result (Ended.Limit LimitFault.NoRoom) → LacksRoomIn 10000 (T.room_of engine.new.store.disk.now) (T.world engine.new.store.disk.now).seen }
@@ -310,6 +312,7 @@ impl Load {
         ensures same_loan { engine.new.store.disk.ghost_name ≡ engine.old.store.disk.ghost_name }
         ensures told { IsTrue T.tells → (state : Contents) → HoldsState (T.world engine.old.store.disk.now) state
             → Concludes (stage says_loaded self.old state []) (T.world engine.old.store.disk.now) (T.world engine.new.store.disk.now) result }
+        ensures goes_on { GoesOn engine.new.stopped result }
         ensures cause { HasEngineEnd T.tells (T.world engine.old.store.disk.now) (T.world engine.new.store.disk.now) result }
         ensures rises { RisesBy 0 0 0 engine.old.store.current.head engine.new.store.current.head result }
         ensures lacks { IsTrue T.tells → IsErrOf result (Ended.Limit LimitFault.NoRoom) → LacksRoomIn 10000 (T.room_of engine.new.store.disk.now) (T.world engine.new.store.disk.now).seen }

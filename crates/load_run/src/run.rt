@@ -5,7 +5,7 @@ ghost use Rattle.disk_model.specs.World.{LeavesOnly};
 ghost use Rattle.place_map.specs.State.{Contents};
 ghost use Rattle.geojson_points.specs.Takes.{HasTextKey, item_of};
 ghost use Rattle.irtree_engine.specs.Holding.{HoldsState};
-ghost use Rattle.run_protocol.specs.Causes.{HasEngineEnd, HasJobEnd, LacksRoomIn};
+ghost use Rattle.run_protocol.specs.Causes.{GoesOn, HasEngineEnd, HasJobEnd, LacksRoomIn};
 ghost use Rattle.run_protocol.specs.Left.{LeftByLoad};
 ghost use Rattle.run_protocol.specs.Load.{GivesItems, IsTaken, ReachesLimit, places_among, says_loaded};
 ghost use Rattle.load_run.specs.Loading.{Concludes, EndsLoad, HasReadEnd, HasText, RefusesSo, RisesBy, stage_at_start};
@@ -68,6 +68,7 @@ fn store_items<'d, T: Station>(
     ensures same_loan { engine.new.store.disk.ghost_name ≡ engine.old.store.disk.ghost_name }
     ensures told { IsTrue T.tells → (state : Contents) → HoldsState (T.world engine.old.store.disk.now) state
         → Concludes (stage_at_start says_loaded batch state (map item_of items.items)) (T.world engine.old.store.disk.now) (T.world engine.new.store.disk.now) result }
+    ensures goes_on { GoesOn engine.new.stopped result }
     ensures cause { HasEngineEnd T.tells (T.world engine.old.store.disk.now) (T.world engine.new.store.disk.now) result }
     ensures rises { RisesBy (places_among (map item_of items.items)) 0 0 engine.old.store.current.head engine.new.store.current.head result }
     ensures lacks { IsTrue T.tells → IsErrOf result (Ended.Limit LimitFault.NoRoom) → LacksRoomIn 10000 (T.room_of engine.new.store.disk.now) (T.world engine.new.store.disk.now).seen }
@@ -122,6 +123,8 @@ pub fn run_load<'d, S: Source, T: Station>(
     // A crash at any moment leaves one of the states around a batch, and what comes before it was said whole.
     ensures any_moment { IsTrue S.tells → IsTrue T.tells → (state : Contents) → HoldsState (T.world engine.old.store.disk.now) state
         → LeavesOnly (T.world engine.old.store.disk.now) (T.world engine.new.store.disk.now) (LeftByLoad batch (option_copied only.entry) state (S.left source.old) (T.world engine.old.store.disk.now).said) }
+    // Only a disk that failed stops the engine.
+    ensures goes_on { GoesOn engine.new.stopped result }
     ensures cause { HasJobEnd T.tells (S.faults source.old) (S.faults source.new) (T.world engine.old.store.disk.now) (T.world engine.new.store.disk.now) result }
 
     // Whatever the image stands for, the text and a limit end it only for their cause, and else the text was read to its end.

@@ -3,7 +3,7 @@ ghost use Rattle.std.specs.Prelude.{◌≡◌, ◌≤◌, [], false, IsErrOf, Is
 ghost use Rattle.disk_model.specs.World.{LeavesOnly};
 ghost use Rattle.place_map.specs.State.{Contents};
 ghost use Rattle.irtree_engine.specs.Holding.{HoldsState};
-ghost use Rattle.run_protocol.specs.Causes.{HasEngineEnd, LacksRoomIn};
+ghost use Rattle.run_protocol.specs.Causes.{GoesOn, HasEngineEnd, LacksRoomIn};
 ghost use Rattle.load_run.specs.Loading.{Concludes, RisesBy, stage, stage_at_start};
 ghost use Rattle.make_run.specs.Making.{EndsMake, LeftByMake, ReachLimit, items_from, says_made};
 
@@ -31,6 +31,7 @@ fn conclude<'d, T: Station>(
     ensures same_loan { engine.new.store.disk.ghost_name ≡ engine.old.store.disk.ghost_name }
     ensures told { IsTrue T.tells → (state : Contents) → HoldsState (T.world engine.old.store.disk.now) state
         → Concludes (stage (says_made seed count) load.old state []) (T.world engine.old.store.disk.now) (T.world engine.new.store.disk.now) result }
+    ensures goes_on { GoesOn engine.new.stopped result }
     ensures cause { HasEngineEnd T.tells (T.world engine.old.store.disk.now) (T.world engine.new.store.disk.now) result }
     ensures rises { RisesBy 0 0 0 engine.old.store.current.head engine.new.store.current.head result }
     ensures lacks { IsTrue T.tells → IsErrOf result (Ended.Limit LimitFault.NoRoom) → LacksRoomIn 10000 (T.room_of engine.new.store.disk.now) (T.world engine.new.store.disk.now).seen }
@@ -61,6 +62,7 @@ fn make_places<'d, T: Station>(
     ensures same_loan { engine.new.store.disk.ghost_name ≡ engine.old.store.disk.ghost_name }
     ensures told { IsTrue T.tells → (state : Contents) → HoldsState (T.world engine.old.store.disk.now) state
         → Concludes (stage_at_start (says_made seed count) batch state (items_from seed 0 count)) (T.world engine.old.store.disk.now) (T.world engine.new.store.disk.now) result }
+    ensures goes_on { GoesOn engine.new.stopped result }
     ensures cause { HasEngineEnd T.tells (T.world engine.old.store.disk.now) (T.world engine.new.store.disk.now) result }
     ensures rises { RisesBy count 0 0 engine.old.store.current.head engine.new.store.current.head result }
     ensures lacks { IsTrue T.tells → IsErrOf result (Ended.Limit LimitFault.NoRoom) → LacksRoomIn 10000 (T.room_of engine.new.store.disk.now) (T.world engine.new.store.disk.now).seen }
@@ -99,6 +101,8 @@ pub fn run_make<'d, T: Station>(
     // A crash at any moment leaves one of the states around a batch, and what comes before it was said whole.
     ensures any_moment { IsTrue T.tells → (state : Contents) → HoldsState (T.world engine.old.store.disk.now) state
         → LeavesOnly (T.world engine.old.store.disk.now) (T.world engine.new.store.disk.now) (LeftByMake batch seed count state (T.world engine.old.store.disk.now).said) }
+    // Only a disk that failed stops the engine.
+    ensures goes_on { GoesOn engine.new.stopped result }
     ensures cause { HasEngineEnd T.tells (T.world engine.old.store.disk.now) (T.world engine.new.store.disk.now) result }
     // Whatever the image stands for, a limit ends it only where the places reach it.
     ensures limit { (fault : LimitFault) → IsErrOf result (Ended.Limit fault)

@@ -4,7 +4,7 @@ ghost use Rattle.made_places.specs.Makers.{place_in};
 ghost use Rattle.place_map.specs.State.{Contents};
 ghost use Rattle.geojson_points.specs.Takes.{place_of};
 ghost use Rattle.irtree_engine.specs.Holding.{HoldsState};
-ghost use Rattle.run_protocol.specs.Causes.{HasEngineEnd, LacksRoomIn};
+ghost use Rattle.run_protocol.specs.Causes.{GoesOn, HasEngineEnd, LacksRoomIn};
 ghost use Rattle.run_protocol.specs.Load.{Closing};
 ghost use Rattle.load_run.specs.Loading.{CanWait, Moves, RisesBy, acted_on, stage, stage_before};
 ghost use Rattle.make_run.specs.Making.{given, items_from};
@@ -51,7 +51,7 @@ pub(crate) fn store_places<'d, T: Station>(
     ensures told { IsTrue T.tells → (closing : Closing) (state : Contents) → HoldsState (T.world engine.old.store.disk.now) state
         → Moves (stage_before closing load.old state (items_from seed 0 count)) (λ after. stage closing load.new after [])
         (T.world engine.old.store.disk.now) (T.world engine.new.store.disk.now) result }
-    ensures on { OnOk result (engine.new.stopped ≡ false) }
+    ensures goes_on { GoesOn engine.new.stopped result }
     ensures cause { HasEngineEnd T.tells (T.world engine.old.store.disk.now) (T.world engine.new.store.disk.now) result }
     ensures rises { RisesBy count 0 0 engine.old.store.current.head engine.new.store.current.head result }
     ensures lacks { IsTrue T.tells → IsErrOf result (Ended.Limit LimitFault.NoRoom) → LacksRoomIn 10000 (T.room_of engine.new.store.disk.now) (T.world engine.new.store.disk.now).seen }

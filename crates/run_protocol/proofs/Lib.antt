@@ -1,5 +1,6 @@
 pub mod Counts
 pub mod Fronts
+pub mod Going
 pub mod Reading
 pub mod Rooms
 pub mod Saying

@@ -1,5 +1,5 @@
 -- Why a run ends.
-use Rattle.std.specs.Prelude.{ℕ, ◌≤◌, ◌≡◌, ◌≢◌, Bool, IsTrue, Result, Err, OnOk, IfErr}
+use Rattle.std.specs.Prelude.{ℕ, ◌≤◌, ◌≡◌, ◌≢◌, Bool, false, IsTrue, Result, Ok, Err, OnOk, IfErr}
 use Rattle.disk_model.specs.World.{World, Image, Rose}
 use Rattle.page_face.specs.declared.fault.Rule.TheVariants.{Head}
 use Rattle.place_map.specs.State.{Contents}
@@ -25,6 +25,16 @@ end_of_engine engine.Worn = Limit limits.Worn
 end_of_engine engine.NoRoom = Limit limits.NoRoom
 end_of_engine engine.Stopped = Disk
 end_of_engine engine.Memory = Memory
+
+-- behind such an end the engine goes on, but behind that by the disk
+abbrev pub GoesOnBehind : Bool → Ended → Type 0
+GoesOnBehind stopped Disk = Unit {0}
+GoesOnBehind stopped _ = stopped ≡ false
+
+-- the engine goes on, where the disk didn't end the call
+abbrev pub GoesOn : {T : Type 0} → Bool → Result T Ended → Type 0
+GoesOn stopped (Ok value) = stopped ≡ false
+GoesOn stopped (Err end) = GoesOnBehind stopped end
 
 -- where the image stood for a state, it stands for one
 abbrev pub StandsStill : World → World → Type 0

@@ -59,9 +59,9 @@ pub enum StoreFault {
 /// Which limit ended a run.
 #[derive(Clone, Copy, Debug, PartialEq, Eq)]
 pub enum LimitFault {
-    /// 200,000 or more places live, and a key is new: in a load.
+    /// 200,000 or more places live, and a key is new: in a load or a make.
     Full,
-    /// The update number is 2^40: in a load.
+    /// The update number is 2^40: in a load or a make.
     Worn,
     /// No page is free, and as many are counted as there is room for.
     NoRoom,

@@ -3,6 +3,7 @@ mod Causes
 mod Ends
 mod Feeding
 mod Fronts
+mod Going
 mod Lines
 mod Replies
 mod Runs

@@ -10,7 +10,7 @@ ghost use Rattle.place_map.specs.Query.{IsWithinLimits};
 ghost use Rattle.irtree_engine.specs.Holding.{HoldsState};
 ghost use Rattle.place_map.specs.Update.{NamesText};
 ghost use Rattle.run_protocol.specs.Asking.{IsAsking, ReadsForLine};
-ghost use Rattle.run_protocol.specs.Causes.{HasEngineEnd, LacksRoomIn};
+ghost use Rattle.run_protocol.specs.Causes.{GoesOn, HasEngineEnd, LacksRoomIn};
 ghost use Rattle.run_protocol.specs.Reading.{IsReading, KeepsImage};
 ghost use Rattle.script_run.specs.Lines.{refused_by, IsLineEnd, RepliesTo, RunsLines};
 
@@ -54,7 +54,7 @@ fn update<'d, T: Station>(engine: &mut Engine<'d, T>, update: &Update) -> Result
     ensures told { IsTrue T.tells → (state : Contents) → HoldsState (T.world engine.old.store.disk.now) state
         → RepliesTo state (Ok (lines.Do update.now)) (T.world engine.old.store.disk.now) (T.world engine.new.store.disk.now) result }
     ensures reason { IfOk result HasReason }
-    ensures on { OnOk result (engine.new.stopped ≡ false) }
+    ensures goes_on { GoesOn engine.new.stopped result }
     ensures cause { HasEngineEnd T.tells (T.world engine.old.store.disk.now) (T.world engine.new.store.disk.now) result }
     ensures ends { IfErr result IsLineEnd }
     ensures lacks { IsTrue T.tells → IsErrOf result (Ended.Limit LimitFault.NoRoom) → LacksRoomIn 1 (T.room_of engine.new.store.disk.now) (T.world engine.new.store.disk.now).seen }
@@ -80,7 +80,7 @@ fn ask<'d, T: Station>(
         → OnOk result (ReadsForLine state (Ok (plain_line (lines.Ask query explain))) (T.world engine.old.store.disk.now) (T.world engine.new.store.disk.now)) }
     ensures kept { IsTrue T.tells → KeepsImage (T.world engine.old.store.disk.now) (T.world engine.new.store.disk.now) result }
     ensures reason { IfOk result HasReason }
-    ensures on { OnOk result (engine.new.stopped ≡ false) }
+    ensures goes_on { GoesOn engine.new.stopped result }
     ensures cause { HasEngineEnd T.tells (T.world engine.old.store.disk.now) (T.world engine.new.store.disk.now) result }
     ensures ends { IfErr result IsLineEnd }
     ensures lacks { IsTrue T.tells → IsErrOf result (Ended.Limit LimitFault.NoRoom) → LacksRoomIn 1 (T.room_of engine.new.store.disk.now) (T.world engine.new.store.disk.now).seen }
@@ -103,7 +103,7 @@ fn show<'d, T: Station>(engine: &mut Engine<'d, T>, key: Key) -> Result<Reply, E
         → RepliesTo state (Ok (lines.Show key)) (T.world engine.old.store.disk.now) (T.world engine.new.store.disk.now) result }
     ensures kept { IsTrue T.tells → KeepsImage (T.world engine.old.store.disk.now) (T.world engine.new.store.disk.now) result }
     ensures reason { IfOk result HasReason }
-    ensures on { OnOk result (engine.new.stopped ≡ false) }
+    ensures goes_on { GoesOn engine.new.stopped result }
     ensures cause { HasEngineEnd T.tells (T.world engine.old.store.disk.now) (T.world engine.new.store.disk.now) result }
     ensures ends { IfErr result IsLineEnd }
     ensures lacks { IsTrue T.tells → IsErrOf result (Ended.Limit LimitFault.NoRoom) → LacksRoomIn 1 (T.room_of engine.new.store.disk.now) (T.world engine.new.store.disk.now).seen }
@@ -130,7 +130,7 @@ fn answer<'d, T: Station>(engine: &mut Engine<'d, T>, line: Line) -> Result<Repl
         → OnOk result (ReadsForLine state (Ok (plain_line line)) (T.world engine.old.store.disk.now) (T.world engine.new.store.disk.now)) }
     ensures kept { IsTrue T.tells → IsReading (Ok (plain_line line)) → KeepsImage (T.world engine.old.store.disk.now) (T.world engine.new.store.disk.now) result }
     ensures reason { IfOk result HasReason }
-    ensures on { OnOk result (engine.new.stopped ≡ false) }
+    ensures goes_on { GoesOn engine.new.stopped result }
     ensures cause { HasEngineEnd T.tells (T.world engine.old.store.disk.now) (T.world engine.new.store.disk.now) result }
     ensures ends { IfErr result IsLineEnd }
     ensures lacks { IsTrue T.tells → IsErrOf result (Ended.Limit LimitFault.NoRoom) → LacksRoomIn 1 (T.room_of engine.new.store.disk.now) (T.world engine.new.store.disk.now).seen }
@@ -158,7 +158,7 @@ fn reply_to<'d, T: Station>(
         → OnOk result (ReadsForLine state (line_of line.now) (T.world engine.old.store.disk.now) (T.world engine.new.store.disk.now)) }
     ensures kept { IsTrue T.tells → IsReading (line_of line.now) → KeepsImage (T.world engine.old.store.disk.now) (T.world engine.new.store.disk.now) result }
     ensures reason { IfOk result HasReason }
-    ensures on { OnOk result (engine.new.stopped ≡ false) }
+    ensures goes_on { GoesOn engine.new.stopped result }
     ensures cause { HasEngineEnd T.tells (T.world engine.old.store.disk.now) (T.world engine.new.store.disk.now) result }
     ensures ends { IfErr result IsLineEnd }
     ensures lacks { IsTrue T.tells → IsErrOf result (Ended.Limit LimitFault.NoRoom) → LacksRoomIn 1 (T.room_of engine.new.store.disk.now) (T.world engine.new.store.disk.now).seen }
@@ -182,7 +182,7 @@ pub(crate) fn act<'d, T: Station>(
     ensures told { IsTrue T.tells → (state : Contents) → HoldsState (T.world engine.old.store.disk.now) state
         → RunsLines state (line.now ∷ []) (T.world engine.old.store.disk.now) (T.world engine.new.store.disk.now) result }
     ensures kept { IsTrue T.tells → IsReading (line_of line.now) → KeepsImage (T.world engine.old.store.disk.now) (T.world engine.new.store.disk.now) result }
-    ensures on { OnOk result (engine.new.stopped ≡ false) }
+    ensures goes_on { GoesOn engine.new.stopped result }
     ensures cause { HasEngineEnd T.tells (T.world engine.old.store.disk.now) (T.world engine.new.store.disk.now) result }
     ensures ends { IfErr result IsLineEnd }
     ensures lacks { IsTrue T.tells → IsErrOf result (Ended.Limit LimitFault.NoRoom) → LacksRoomIn 1 (T.room_of engine.new.store.disk.now) (T.world engine.new.store.disk.now).seen }

@@ -4,7 +4,7 @@ ghost use Rattle.disk_model.specs.World.{LeavesOnly};
 ghost use Rattle.place_map.specs.State.{Contents};
 ghost use Rattle.irtree_engine.specs.Holding.{HoldsState};
 ghost use Rattle.run_protocol.specs.Asking.{AreAsking, ReadsForLines};
-ghost use Rattle.run_protocol.specs.Causes.{HasJobEnd, LacksRoomIn};
+ghost use Rattle.run_protocol.specs.Causes.{GoesOn, HasJobEnd, LacksRoomIn};
 ghost use Rattle.run_protocol.specs.Left.{LeftByLines};
 ghost use Rattle.run_protocol.specs.Reading.{AreReading, KeepsImage};
 ghost use Rattle.run_protocol.specs.Script.{cut, script_lines, FitsScript, IsScriptInput};
@@ -44,7 +44,7 @@ fn take<'d, T: Station>(
         → OnOk result (script.new.line.items ≡ kept (cut (front ++ piece.now)).rest) }
     ensures few { IfOk result (λ now. (now ≤ 268435456) × (now ≡ taken + length piece.now)) }
     ensures short { OnOk result (length script.new.line.items ≤ 65537) }
-    ensures on { OnOk result (engine.new.stopped ≡ false) }
+    ensures goes_on { GoesOn engine.new.stopped result }
     ensures cause { HasJobEnd T.tells 0 0 (T.world engine.old.store.disk.now) (T.world engine.new.store.disk.now) result }
     ensures ends { IfErr result (IsPieceEnd taken (length piece.now)) }
     ensures lacks { IsTrue T.tells → IsErrOf result (Ended.Limit LimitFault.NoRoom) → LacksRoomIn 1 (T.room_of engine.new.store.disk.now) (T.world engine.new.store.disk.now).seen }
@@ -93,6 +93,8 @@ pub fn run_script<'d, S: Source, T: Station>(
         → OnOk result (ReadsForLines state (script_lines (S.left source.old)) (T.world engine.old.store.disk.now) (T.world engine.new.store.disk.now)) }
     // Lines that only read leave the image as it was, whatever it stands for, and damage that ends them is its own.
     ensures kept { IsTrue S.tells → IsTrue T.tells → AreReading (script_lines (S.left source.old)) → KeepsImage (T.world engine.old.store.disk.now) (T.world engine.new.store.disk.now) result }
+    // Only a disk that failed stops the engine.
+    ensures goes_on { GoesOn engine.new.stopped result }
     ensures cause { HasJobEnd T.tells (S.faults source.old) (S.faults source.new) (T.world engine.old.store.disk.now) (T.world engine.new.store.disk.now) result }
 
     // Whatever the image stands for, the input and a limit end it only for their cause, and else the input was read to its end.

@@ -2,7 +2,7 @@
 ghost use Rattle.std.specs.Prelude.{◌≡◌, ◌≤◌, ◌<◌, ◌++◌, ◌∷◌, [], ℕ, List, false, length, take, slice_index, IsTrue, OnOk, IfNone, IfSome, IfErr, IsErrOf};
 ghost use Rattle.place_map.specs.State.{Contents};
 ghost use Rattle.irtree_engine.specs.Holding.{HoldsState};
-ghost use Rattle.run_protocol.specs.Causes.{HasEngineEnd, LacksRoomIn};
+ghost use Rattle.run_protocol.specs.Causes.{GoesOn, HasEngineEnd, LacksRoomIn};
 ghost use Rattle.query_lang.specs.Line.{line_of};
 ghost use Rattle.run_protocol.specs.Reading.{AreReading, IsReading, KeepsImage};
 ghost use Rattle.run_protocol.specs.Script.{cut, last_line};
@@ -93,7 +93,7 @@ impl Script {
         ensures kept { (front : List ℕ) → self.old.line.items ≡ kept front → IsTrue T.tells → IsReading (line_of (front ++ part.now))
             → KeepsImage (T.world engine.old.store.disk.now) (T.world engine.new.store.disk.now) result }
         ensures line { OnOk result (self.new.line.items ≡ []) }
-        ensures on { OnOk result (engine.new.stopped ≡ false) }
+        ensures goes_on { GoesOn engine.new.stopped result }
         ensures cause { HasEngineEnd T.tells (T.world engine.old.store.disk.now) (T.world engine.new.store.disk.now) result }
         ensures ends { IfErr result IsLineEnd }
         ensures lacks { IsTrue T.tells → IsErrOf result (Ended.Limit LimitFault.NoRoom) → LacksRoomIn 1 (T.room_of engine.new.store.disk.now) (T.world engine.new.store.disk.now).seen }
@@ -123,7 +123,7 @@ impl Script {
         ensures line { (front : List ℕ) → EndsNoLine front → self.old.line.items ≡ kept front
             → OnOk result (self.new.line.items ≡ kept (cut (front ++ piece.now)).rest) }
         ensures short { OnOk result (length self.new.line.items ≤ 65537) }
-        ensures on { OnOk result (engine.new.stopped ≡ false) }
+        ensures goes_on { GoesOn engine.new.stopped result }
         ensures cause { HasEngineEnd T.tells (T.world engine.old.store.disk.now) (T.world engine.new.store.disk.now) result }
         ensures ends { IfErr result IsLineEnd }
         ensures lacks { IsTrue T.tells → IsErrOf result (Ended.Limit LimitFault.NoRoom) → LacksRoomIn 1 (T.room_of engine.new.store.disk.now) (T.world engine.new.store.disk.now).seen }
@@ -144,6 +144,7 @@ impl Script {
             → RunsLines state (last_line front) (T.world engine.old.store.disk.now) (T.world engine.new.store.disk.now) result }
         ensures kept { (front : List ℕ) → self.old.line.items ≡ kept front → IsTrue T.tells → AreReading (last_line front)
             → KeepsImage (T.world engine.old.store.disk.now) (T.world engine.new.store.disk.now) result }
+        ensures goes_on { GoesOn engine.new.stopped result }
         ensures cause { HasEngineEnd T.tells (T.world engine.old.store.disk.now) (T.world engine.new.store.disk.now) result }
         ensures ends { IfErr result IsLineEnd }
         ensures lacks { IsTrue T.tells → IsErrOf result (Ended.Limit LimitFault.NoRoom) → LacksRoomIn 1 (T.room_of engine.new.store.disk.now) (T.world engine.new.store.disk.now).seen }

@@ -1,5 +1,5 @@
 //! A disk over the files of a store, and standard output.
-ghost use Rattle.std.specs.Prelude.{◌≡◌, ◌≤◌, ◌<◌, ◌^◌, ◌+◌, false, length, string_bytes, IfOk, OnOk, None, IsErr, IsSome, IsTrue};
+ghost use Rattle.std.specs.Prelude.{◌≡◌, ◌≤◌, ◌<◌, ◌^◌, ◌+◌, false, ◌↔◌, length, string_bytes, IfOk, IfErr, OnOk, Some, None, IsErr, IsSome, IsTrue};
 ghost use Rattle.disk_model.specs.World.{HasRead, HasWritten, HasSynced, HasSaid, HasDiskCause, HasSinkCause};
 ghost use Rattle.std.specs.Io.KnownBytes.{WriteAppends};
 ghost use Rattle.std.proofs.Common.{rules};
@@ -54,6 +54,7 @@ impl<'a, R: Files<File = F>, W: Write + Drop, F: StoreFile> FileStation<'a, R, W
         ensures faults { IfOk result (λ station. station.faults ≡ 0) }
         ensures sink_faults { IfOk result (λ station. station.sink_faults ≡ 0) }
         ensures trouble { IfOk result (λ station. station.trouble ≡ None) }
+        ensures unopened { IfOk result (λ station. station.files.opened ≡ None) }
     {
         Ok(FileStation {
             files: StoreFiles::new(alloc, rt, store)?,
@@ -76,7 +77,7 @@ impl<'a, R: Files<File = F>, W: Write + Drop, F: StoreFile> FileStation<'a, R, W
     ///
     /// Refuses `Memory` alone.
     pub fn trouble_line(&self, alloc: Global) -> Result<Option<String>, Memory>
-        ensures { IfOk result (λ line. IsSome line → IsSome self.now.trouble) }
+        ensures { IfOk result (λ line. IsSome line ↔ IsSome self.now.trouble) }
     {
         match self.trouble {
             Some(trouble) => Ok(Some(trouble.line(alloc, self.files.store())?)),
@@ -86,7 +87,8 @@ impl<'a, R: Files<File = F>, W: Write + Drop, F: StoreFile> FileStation<'a, R, W
 
     // Refuses where a call of the disk failed before, for its cause.
     fn goes_on(&self) -> Result<(), FileTrouble>
-        ensures { IsSome self.now.trouble → IsErr result }
+        ensures fails { IsSome self.now.trouble → IsErr result }
+        ensures named { IfErr result (λ trouble. self.now.trouble ≡ Some trouble) }
     {
         match self.trouble {
             Some(trouble) => Err(trouble),
@@ -98,8 +100,10 @@ impl<'a, R: Files<File = F>, W: Write + Drop, F: StoreFile> FileStation<'a, R, W
     fn counted(&mut self, outcome: Result<(), FileTrouble>) -> Result<(), Failed>
         ensures cause { HasDiskCause (untold self.old.faults self.old.sink_faults) (untold self.new.faults self.new.sink_faults) result }
         ensures failed { IsErr outcome → IsErr result }
+        ensures named { IfErr outcome (λ trouble. self.new.trouble ≡ Some trouble) }
         ensures trouble { IsErr result → IsSome self.new.trouble }
         ensures kept { OnOk result (self.new.trouble ≡ self.old.trouble) }
+        ensures files { self.new.files ≡ self.old.files }
         ensures output { self.new.output ≡ self.old.output }
     {
         match outcome {
@@ -137,6 +141,7 @@ impl<'a, R: Files<File = F>, W: Write + Drop, F: StoreFile> Disk for FileStation
         ensures trouble { IsErr result → IsSome self.new.trouble }
         ensures kept { OnOk result (self.new.trouble ≡ self.old.trouble) }
         ensures stopped { IsSome self.old.trouble → IsErr result }
+        ensures first { IsSome self.old.trouble → (self.new.trouble ≡ self.old.trouble) × (self.new.files ≡ self.old.files) }
         ensures output { self.new.output ≡ self.old.output }
     {
         let outcome = match self.goes_on() {
@@ -153,6 +158,7 @@ impl<'a, R: Files<File = F>, W: Write + Drop, F: StoreFile> Disk for FileStation
         ensures trouble { IsErr result → IsSome self.new.trouble }
         ensures kept { OnOk result (self.new.trouble ≡ self.old.trouble) }
         ensures stopped { IsSome self.old.trouble → IsErr result }
+        ensures first { IsSome self.old.trouble → (self.new.trouble ≡ self.old.trouble) × (self.new.files ≡ self.old.files) }
         ensures output { self.new.output ≡ self.old.output }
     {
         let outcome = match self.goes_on() {
@@ -168,6 +174,7 @@ impl<'a, R: Files<File = F>, W: Write + Drop, F: StoreFile> Disk for FileStation
         ensures trouble { IsErr result → IsSome self.new.trouble }
         ensures kept { OnOk result (self.new.trouble ≡ self.old.trouble) }
         ensures stopped { IsSome self.old.trouble → IsErr result }
+        ensures first { IsSome self.old.trouble → (self.new.trouble ≡ self.old.trouble) × (self.new.files ≡ self.old.files) }
         ensures output { self.new.output ≡ self.old.output }
     {
         let outcome = match self.goes_on() {

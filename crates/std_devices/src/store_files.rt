@@ -1,5 +1,5 @@
 //! The two files of a store, opened at first use.
-ghost use Rattle.std.specs.Prelude.{◌≡◌, ◌<◌, ◌^◌, ◌+◌, length, string_bytes, IfOk};
+ghost use Rattle.std.specs.Prelude.{◌≡◌, ◌<◌, ◌^◌, ◌+◌, length, string_bytes, IfOk, None};
 
 use crate::opening::{named_once, open_journal, open_pages, settle_folder};
 use crate::store_file::{KeptFile, StoreFile};
@@ -37,19 +37,20 @@ pub(crate) struct StoreFiles<'a, R: Files<File = F>, F: StoreFile = File> {
     rt: &'a R,
     // As it was given; once it is open, the path of the file itself.
     store: String,
-    open: Option<OpenFiles<F>>,
+    opened: Option<OpenFiles<F>>,
 }
 
 impl<'a, R: Files<File = F>, F: StoreFile> StoreFiles<'a, R, F> {
     // Files that no call has opened.
     pub(crate) fn new(alloc: Global, rt: &'a R, store: &str) -> Result<StoreFiles<'a, R, F>, Memory>
         ensures store { IfOk result (λ files. string_bytes files.store ≡ store.now) }
+        ensures unopened { IfOk result (λ files. files.opened ≡ None) }
     {
         Ok(StoreFiles {
             alloc,
             rt,
             store: String::from_str(alloc, store).map_err(|_| Memory)?,
-            open: None,
+            opened: None,
         })
     }
 
@@ -88,10 +89,10 @@ impl<'a, R: Files<File = F>, F: StoreFile> StoreFiles<'a, R, F> {
 
     // The file of an area. The first call opens both.
     fn file(&mut self, area: Area) -> Result<&mut KeptFile<F>, FileTrouble> {
-        if self.open.is_none() {
-            self.open = Some(self.open_both()?);
+        if self.opened.is_none() {
+            self.opened = Some(self.open_both()?);
         }
-        match (&mut self.open, area) {
+        match (&mut self.opened, area) {
             (Some(files), Area::Pages) => Ok(&mut files.pages),
             (Some(files), Area::Journal) => Ok(&mut files.journal),
             (None, _) => of_area(area, Err(no_memory())),

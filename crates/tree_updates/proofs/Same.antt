@@ -1,5 +1,7 @@
 -- When two places are the same.
-use Rattle.std.proofs.Common.{◌≡◌, Bool, true, ◌&&◌, ◌==◌, int_eq, refl, ap, sym, ◌∙◌}
+use Rattle.std.proofs.Common.{◌≡◌, Bool, true, false, Option, Some, ◌&&◌, ◌==◌, int_eq, refl, ap, sym, ◌∙◌}
+use Rattle.std.specs.Borrow.{Bor}
+use Rattle.std.specs.Option.{option_copied}
 use Rattle.std.specs.Cmp.Lexicographic.{pointwise}
 use Rattle.std.proofs.lemmas.Bool.{and_parts, eqb-true, eq-eqb}
 use Rattle.std.proofs.lemmas.Bool.Decides.{Decides-int_eq}
@@ -28,3 +30,22 @@ stored-same s t test is holds =
     let count = eqb-true s.count t.count words.0 in
     let pairs = (slice_eq-Decides (λ p q. (pair_same p q, pair_itself p q)) s.pairs t.pairs (pointwise is_same_pair s.pairs t.pairs) refl).0 words.1 in
     λ i. record { point = record { x = x i; y = y i }; count = count i; pairs = pairs i }
+
+-- and the test says so of a place and itself
+stored-itself : (s t : Stored) (test : Bool) → test ≡ ((int_eq s.point.x t.point.x && int_eq s.point.y t.point.y) && ((s.count == t.count) && pointwise is_same_pair s.pairs t.pairs)) → s ≡ t → test ≡ true
+stored-itself s t test is same =
+    let x = (Decides-int_eq s.point.x t.point.x).1 (ap (λ (r : Stored). r.point.x) same) in
+    let y = (Decides-int_eq s.point.y t.point.y).1 (ap (λ (r : Stored). r.point.y) same) in
+    let count = eq-eqb s.count t.count (ap (λ (r : Stored). r.count) same) in
+    let pairs = (slice_eq-Decides (λ p q. (pair_same p q, pair_itself p q)) s.pairs t.pairs (pointwise is_same_pair s.pairs t.pairs) refl).1 (ap (λ (r : Stored). r.pairs) same) in
+    is ∙ (λ i. (x i && y i) && (count i && pairs i))
+
+-- so where it says no, the old place isn't the new one
+pub none-same : (old : Option (Bor Stored)) (was : Bor Stored) (new : Stored) (test : Bool) → old ≡ Some was
+    → test ≡ ((int_eq was.now.point.x new.point.x && int_eq was.now.point.y new.point.y) && ((was.now.count == new.count) && pointwise is_same_pair was.now.pairs new.pairs))
+    → test ≡ false → option_copied old ≡ Some new → ⊥
+none-same old was new test held is differs same =
+    let both : Some was.now ≡ Some new = sym (ap option_copied held) ∙ same in
+    let equal : was.now ≡ new = cc in
+    let yes : false ≡ true = sym differs ∙ stored-itself was.now new test is equal in
+    absurd (cc)

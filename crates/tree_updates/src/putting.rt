@@ -1,5 +1,5 @@
 //! The entry of a place that is put.
-ghost use Rattle.std.specs.Prelude.{◌≢◌, ◌⊎◌, ℕ, List, Some, IfSome, OnOk, IsErrOf, MatchOption, option_map};
+ghost use Rattle.std.specs.Prelude.{◌≡◌, ◌≢◌, ◌⊎◌, ℕ, List, Ok, Some, IfSome, OnOk, IsErrOf, MatchOption, option_map};
 ghost use Rattle.std.specs.Option.{option_copied};
 ghost use Rattle.page_face.specs.Calls.{Changes, FailsChanging};
 ghost use Rattle.btree_nodes.specs.Damages.{AreTold, AsksOnly};
@@ -8,7 +8,7 @@ ghost use Rattle.rtree_nodes.specs.Pages.{node_of};
 ghost use Rattle.irtree_shape.specs.Made.{nodes_in};
 ghost use Rattle.irtree_shape.specs.Whole.{IsWhole};
 ghost use Rattle.irtree_shape.specs.Damages.{IsTreeHarm};
-ghost use Rattle.irtree_shape.specs.Entries.{HasEntry, entry_at};
+ghost use Rattle.irtree_shape.specs.Entries.{HasEntry, HasPlace, entry_at};
 ghost use Rattle.irtree_shape.specs.Regrown.{IsMissing, IsRegrown};
 
 use crate::taking::{entry_of, take_entry};
@@ -38,6 +38,9 @@ pub fn put_entry<P: Pages>(
         → IfSome (option_copied old.entry) (HasEntry (nodes_in node_of (P.pages pages.old) tree.old.rows) tree.old.root key.now)
         → OnOk result (IsRegrown node_of (view (P.pages pages.old) tree.old.rows (P.count pages.old) (P.first pages.old) free) (P.pages pages.new) tree.new.rows (P.count pages.new) (P.first pages.new)
         tree.old.root tree.new.root (option_map (entry_at key.now) (option_copied old.entry)) (Some (entry_at key.now new.now))) }
+    ensures there { (free : List ℕ) → IsWhole node_of (view (P.pages pages.old) tree.old.rows (P.count pages.old) (P.first pages.old) free) tree.old.root
+        → OnOk result (IfSome (option_copied old.entry) (λ stored. stored ≢ new.now → HasPlace (nodes_in node_of (P.pages pages.old) tree.old.rows) tree.old.root key.now stored.point)) }
+    ensures same { option_copied old.entry ≡ Some new.now → (result ≡ Ok tt) × (pages.new ≡ pages.old) × (tree.new ≡ tree.old) }
     ensures honest { (free : List ℕ) → IsWhole node_of (view (P.pages pages.old) tree.old.rows (P.count pages.old) (P.first pages.old) free) tree.old.root
         → IfSome (option_copied old.entry) (HasEntry (nodes_in node_of (P.pages pages.old) tree.old.rows) tree.old.root key.now)
         → AreTold (P.pages pages.old) (P.count pages.old)

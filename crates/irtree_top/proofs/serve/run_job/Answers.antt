@@ -11,7 +11,7 @@ use Rattle.run_protocol.proofs.Counts.{keeps-fault}
 use Rattle.run_protocol.specs.declared.ended.Ended.{Ended}
 use Rattle.run_protocol.specs.declared.ended.Ended.TheVariants as ends
 use Rattle.run_protocol.specs.declared.ended.LimitFault.TheVariants as limits
-use Rattle.irtree_top.specs.Run.{EndsJob, HasRunEnd, HoldsPrefix, LacksRoomFor, OpensFew, ReachesLimitBy}
+use Rattle.irtree_top.specs.Run.{EndsJob, HasRunEnd, HoldsPrefix, LacksRoomFor, OpensFew, ReachesLimitBy, RestsIfOpened}
 use Rattle.irtree_top.proofs.Asking.{opened-opens}
 use Rattle.irtree_top.proofs.Crashes.{left-from, none-held}
 use Rattle.irtree_top.proofs.Jobs.{fault-unread, job-from}
@@ -20,6 +20,7 @@ use Rattle.run_protocol.specs.Reading.{IsMetIn}
 use Rattle.irtree_top.proofs.Reading.{opened-names, refused-names}
 use Rattle.irtree_top.proofs.serve.run_job.Given as given
 use Rattle.irtree_top.proofs.serve.run_job.Goals.{After-ended_by}
+use Rattle.irtree_top.proofs.Rests.{job-rests, none-behind}
 use Rattle.irtree_top.proofs.serve.run_job.Goals as goal
 
 -- what the refused opening says of the image
@@ -161,3 +162,19 @@ returns-in-Err-clause-lacks g c = λ told is. absurd (ends-otherwise g (goal.at.
 pub returns-clause-lacks : goal.returns-clause-lacks
 returns-clause-lacks g c = λ told is.
     given-back (λ disk. LacksRoomFor c.args.job.now.action (g.T.Disk.room_of disk) (g.T.Disk.world disk).seen) c.serve-end.new.engine.store.disk.now _ (search rules) (c.serve-end.ensures.lacks told is)
+
+-- ---- what is left
+
+pub returns-in-Err-clause-at_rest : goal.returns-in-Err-clause-at_rest
+returns-in-Err-clause-at_rest g c = λ told behind. absurd (none-behind _ (ends-otherwise g (goal.at.returns-in-Err-clause-at_rest g c).After-ended_by _ refl) behind)
+
+pub returns-clause-at_rest : goal.returns-clause-at_rest
+returns-clause-at_rest g c = λ told.
+    given-back (λ disk. RestsIfOpened (g.T.Disk.world disk) c.serve-end.result) c.serve-end.new.engine.store.disk.now _ (search rules)
+    (job-rests (g.T.Disk.world c.serve-end.new.engine.store.disk.now) c.serve-end.result (c.serve-end.ensures.at_rest told))
+
+pub returns-in-Err-clause-unopened : goal.returns-in-Err-clause-unopened
+returns-in-Err-clause-unopened g c = λ told closed. record { alike = c.recover_superblock.ensures.alike told; said = (c.recover_superblock.ensures.quiet told).said }
+
+pub returns-clause-unopened : goal.returns-clause-unopened
+returns-clause-unopened g c = λ told closed. absurd (closed (opened-image c.in-Ok.block (g.T.Disk.world c.args.station.now) (g.T.Disk.world c.recover_superblock.new.disk) (c.in-Ok.ensures.opened told)))

@@ -10,6 +10,7 @@ use Rattle.irtree_top.proofs.Rooms.{lacks-settled}
 use Rattle.irtree_top.proofs.Settled.{cause-settled, ends-front, now-left, settled-front, settled-job, settled-left}
 use Rattle.irtree_top.proofs.serve.serve.Given as given
 use Rattle.irtree_top.proofs.serve.serve.Goals.{After-settle}
+use Rattle.irtree_top.proofs.Rests.{leaves-rest}
 use Rattle.irtree_top.proofs.serve.serve.Goals as goal
 
 -- what a crash leaves of the job and of the settling
@@ -88,3 +89,7 @@ returns-in-Ok-clause-lacks g c = λ told is.
 
 pub returns-in-Err-clause-lacks : goal.returns-in-Err-clause-lacks
 returns-in-Err-clause-lacks g c = λ told is. absurd (cc)
+
+pub returns-in-Ok-clause-at_rest : goal.returns-in-Ok-clause-at_rest
+returns-in-Ok-clause-at_rest g c = λ told.
+    leaves-rest c.act-end.new.engine.stopped (g.T.Disk.world c.settle.new.engine.store.disk.now) c.act-end.result c.act-end.ensures.goes_on (c.in-Ok.ensures.at_rest told)

@@ -144,3 +144,15 @@ returns-in-Ok-clause-lacks g c = λ asked wants told is.
     let named : IsErrOf c.run_job.result (ends.Limit limits.NoRoom) = cc in
     let station = c.run_job.new.station in
     subst (λ (a : Asked). LacksRoomFor a.action (g.T.Disk.room_of station) (g.T.Disk.world station).seen) same (c.run_job.ensures.lacks told named)
+
+pub returns-in-Ok-run_job-clause-unopened : goal.returns-in-Ok-run_job-clause-unopened
+returns-in-Ok-run_job-clause-unopened g c = c.run_job.ensures.unopened
+
+pub returns-in-Ok-clause-unopened : goal.returns-in-Ok-clause-unopened
+returns-in-Ok-clause-unopened g c = c.run_job.ensures.unopened
+
+pub returns-in-Ok-run_job-clause-at_rest : goal.returns-in-Ok-run_job-clause-at_rest
+returns-in-Ok-run_job-clause-at_rest g c = λ behind told. c.in-Ok-run_job.ensures.at_rest told
+
+pub returns-in-Ok-clause-at_rest : goal.returns-in-Ok-clause-at_rest
+returns-in-Ok-clause-at_rest g c = λ behind told. c.in-Err.ensures.at_rest told behind

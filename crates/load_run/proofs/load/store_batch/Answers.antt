@@ -1,10 +1,11 @@
-use Rattle.std.proofs.Common.{◌≡◌, ◌≢◌, length, Ok, Err, ap, sym, ◌∙◌, arith}
+use Rattle.std.proofs.Common.{◌≡◌, ◌≢◌, length, Ok, Err, ap, sym, subst, ◌∙◌, arith}
 use Rattle.std.proofs.lemmas.Bool.{false≢true}
 use Rattle.irtree_engine.specs.declared.fault.EngineFault.TheVariants as engine
-use Rattle.run_protocol.specs.Causes.{end_of_engine}
+use Rattle.run_protocol.specs.Causes.{GoesOnBehind, end_of_engine}
 use Rattle.run_protocol.specs.declared.ended.Ended.TheVariants as ends
 use Rattle.run_protocol.specs.declared.ended.LimitFault.TheVariants as limits
 use Rattle.run_protocol.proofs.Counts.{keeps-both}
+use Rattle.run_protocol.proofs.Going.{goes-on}
 use Rattle.run_protocol.proofs.Rooms.{lacks-image}
 use Rattle.load_run.proofs.Numbers.{ended-full, limit-more, limit-of-engine}
 use Rattle.load_run.proofs.Batches.{failed, outcome-holds, not-stored, not-stored-cause}
@@ -66,3 +67,8 @@ returns-in-Err-clause-lacks g c = λ told is.
     let on = sym new.stops ∙ was.goes_on (λ e. apart (cc)) ∙ c.requires.on in
     lacks-image (length c.args.updates.now) 10000 _ _ c.args.engine.now.store.current g.T.Disk.tells (g.T.Disk.world new.store.disk.now) new.store.current new.store.last new.store.overlay new.store.end told c.requires.few was.room (was.as_before (ap Err no))
     new.clean new.settled (new.store.ready told on) (was.room_left (ap Err no)) (was.free_left (ap Err no))
+
+pub returns-in-Err-clause-goes_on : goal.returns-in-Err-clause-goes_on
+returns-in-Err-clause-goes_on g c =
+    let stopped = c.apply_batch.new.self.stopped in
+    subst (GoesOnBehind stopped) (sym c.ended_by.ensures) (goes-on stopped c.in-Err.fault (λ apart. c.in-Err.ensures.goes_on (λ e. apart (cc)) ∙ c.requires.on))

@@ -9,6 +9,7 @@ use Rattle.load_run.specs.Loading.{IsLimitAt}
 use Rattle.load_run.proofs.Causes.{job-of-engine}
 use Rattle.load_run.proofs.Numbers.{limit-reaches}
 use Rattle.load_run.proofs.Outcomes.{load_max-is, on_ok-held, read-items, refused-ends, refused-input, refused-limit, taken-ends, taken-left, unread-ends, unread-input, unread-limit}
+use Rattle.run_protocol.proofs.Going.{on-behind}
 use Rattle.load_run.proofs.run.run_load.Goals as goal
 
 pub returns-in-Err-clause-told : goal.returns-in-Err-clause-told
@@ -82,3 +83,11 @@ returns-clause-whole g c = λ tells. tt
 
 pub returns-clause-limit : goal.returns-clause-limit
 returns-clause-limit g c = λ tells why is. absurd (refused-limit c.in-Err-take.fault c.refusal.result why c.refusal.ensures is)
+
+-- ---- an engine that goes on
+
+pub returns-in-Err-clause-goes_on : goal.returns-in-Err-clause-goes_on
+returns-in-Err-clause-goes_on g c = on-behind _ c.in-Err.end c.requires.on
+
+pub returns-clause-goes_on : goal.returns-clause-goes_on
+returns-clause-goes_on g c = on-behind _ c.refusal.result c.requires.on

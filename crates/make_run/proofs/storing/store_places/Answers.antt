@@ -38,7 +38,7 @@ loop-number-preserved g c =
     record {
       at = c.in-Ok.ensures.at seed n (omega arith) i.at;
       acted = c.in-Ok-place.ensures.count ∙ ap (λ k. k + 1) i.acted;
-      on = c.in-Ok-place.ensures.on;
+      on = c.in-Ok-place.ensures.goes_on;
       loan = c.in-Ok-place.ensures.same_loan ∙ i.loan;
       waits = c.in-Ok-place.ensures.waits;
       told = λ told closing state holds.

@@ -36,7 +36,7 @@ pub returns-in-Count-clause-told : goal.returns-in-Count-clause-told
 unfolding reply_of
 returns-in-Count-clause-told g c = λ told state holds.
     subst (λ (l : Line). RepliesTo state (Ok l) (g.T.Disk.world c.args.engine.now.store.disk.now) (g.T.Disk.world c.args.engine.now.store.disk.now) (Ok (replies.Count c.count.result))) (sym c.in-Count.is)
-    (read-replies state (Ok lines.Count) _ _ (replies.Count c.count.result) (rests-still _) holds refl (ap (λ n. text_of_reply (replies.Count n)) (c.count.ensures told c.requires.on state holds)))
+    (read-replies state (Ok lines.Count) _ _ (replies.Count c.count.result) (rests-still _) holds refl (ap (λ n. text_of_reply (replies.Count n)) (c.count.ensures.counted told c.requires.on state holds)))
 
 pub returns-in-Nothing-clause-reads : goal.returns-in-Nothing-clause-reads
 returns-in-Nothing-clause-reads g c = λ told state holds asks. line-unread state (Ok (plain_line c.args.line)) (g.T.Disk.world c.args.engine.now.store.disk.now)

@@ -36,7 +36,7 @@ returns-in-Err g c =
       kept = λ told reads. record { seen = refl; met = tt };
       reads = λ told state holds asks. line-unread state (line_of c.args.line.now) (g.T.Disk.world c.args.engine.now.store.disk.now);
       reason = apart;
-      on = c.requires.on;
+      goes_on = c.requires.on;
       cause = engine-still _ _ _;
       ends = tt;
       lacks = λ told is. absurd (cc);

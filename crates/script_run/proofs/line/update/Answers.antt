@@ -3,12 +3,13 @@ use Rattle.std.specs.Prelude.{Result, Ok, Err, IfErr}
 use Rattle.irtree_engine.specs.declared.fault.EngineFault.TheVariants as engine
 use Rattle.query_lang.specs.declared.line.Line.TheVariants as lines
 use Rattle.query_replies.specs.declared.reply.Reply.{Reply}
-use Rattle.run_protocol.specs.Causes.{HasEngineEnd}
+use Rattle.run_protocol.specs.Causes.{GoesOn, HasEngineEnd}
 use Rattle.run_protocol.specs.declared.ended.Ended.{Ended}
 use Rattle.script_run.specs.Lines.{IsLineEnd, RepliesTo}
 use Rattle.run_protocol.proofs.Rooms.{lacks-image}
 use Rattle.script_run.proofs.Ends.{refused-ends, refused-full}
 use Rattle.script_run.proofs.Replies.{AcceptedUpdate, RefusedUpdate, accepted-replies, accepted-goes_on, refused-replies, refused-cause}
+use Rattle.script_run.proofs.Going.{refused-goes_on}
 use Rattle.script_run.proofs.line.update.Goals as goal
 
 pub returns-in-Ok-clause-told : goal.returns-in-Ok-clause-told
@@ -81,3 +82,8 @@ returns-in-Err-clause-lacks g c = λ told is.
     let on = sym new.stops ∙ was.goes_on (λ e. apart (cc)) ∙ c.requires.on in
     lacks-image 1 1 _ _ c.args.engine.now.store.current g.T.Disk.tells (g.T.Disk.world new.store.disk.now) new.store.current new.store.last new.store.overlay new.store.end told (omega arith) was.room (was.as_before (ap Err no))
     new.clean new.settled (new.store.ready told on) (was.room_left (ap Err no)) (was.free_left (ap Err no))
+
+pub returns-in-Err-clause-goes_on : goal.returns-in-Err-clause-goes_on
+returns-in-Err-clause-goes_on g c =
+    subst (λ (r : Result Reply Ended). GoesOn c.apply.new.self.stopped r) (sym c.refused.ensures.reply)
+    (refused-goes_on c.apply.new.self.stopped c.in-Err.fault (λ apart. c.in-Err.ensures.goes_on (λ e. apart (cc)) ∙ c.requires.on))

@@ -154,7 +154,7 @@ pieces-smaller g c = omega (arith, c.in-Ok-take.ensures.few.0, c.in-Ok-take.ensu
 
 pub pieces-preserved : goal.pieces-preserved
 pieces-preserved g c = record {
-  on = c.in-Ok-take.ensures.on;
+  on = c.in-Ok-take.ensures.goes_on;
   loan = c.in-Ok-take.ensures.same_loan ∙ c.pieces.invariant.loan;
   taken = c.in-Ok-take.ensures.few.0;
   room = c.pieces.invariant.room;
@@ -263,3 +263,17 @@ returns-then-n-eq0-clause-lacks g c = λ told is. c.end.ensures.lacks told is
 
 pub returns-in-Err-take-clause-lacks : goal.returns-in-Err-take-clause-lacks
 returns-in-Err-take-clause-lacks g c = λ told is. let same : c.in-Err-take.end ≡ ends.Limit limits.NoRoom = cc in c.in-Err-take.ensures.lacks told (ap Err same)
+
+-- ---- an engine that goes on
+
+pub returns-in-Err-clause-goes_on : goal.returns-in-Err-clause-goes_on
+returns-in-Err-clause-goes_on g c = c.requires.on
+
+pub returns-in-Err-read-clause-goes_on : goal.returns-in-Err-read-clause-goes_on
+returns-in-Err-read-clause-goes_on g c = c.pieces.invariant.on
+
+pub returns-then-n-eq0-clause-goes_on : goal.returns-then-n-eq0-clause-goes_on
+returns-then-n-eq0-clause-goes_on g c = c.end.ensures.goes_on
+
+pub returns-in-Err-take-clause-goes_on : goal.returns-in-Err-take-clause-goes_on
+returns-in-Err-take-clause-goes_on g c = c.in-Err-take.ensures.goes_on

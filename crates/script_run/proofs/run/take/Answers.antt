@@ -79,8 +79,17 @@ returns-in-Ok-feed-clause-few g c = (omega arith, refl)
 pub returns-in-Ok-feed-clause-short : goal.returns-in-Ok-feed-clause-short
 returns-in-Ok-feed-clause-short g c = c.in-Ok-feed.ensures.short
 
-pub returns-in-Ok-feed-clause-on : goal.returns-in-Ok-feed-clause-on
-returns-in-Ok-feed-clause-on g c = c.in-Ok-feed.ensures.on
+pub returns-in-Ok-clause-goes_on : goal.returns-in-Ok-clause-goes_on
+returns-in-Ok-clause-goes_on g c = c.in-Ok.ensures.goes_on
+
+pub returns-in-Err-clause-goes_on : goal.returns-in-Err-clause-goes_on
+returns-in-Err-clause-goes_on g c = c.in-Err.ensures.goes_on
+
+pub returns-in-Ok-feed-clause-goes_on : goal.returns-in-Ok-feed-clause-goes_on
+returns-in-Ok-feed-clause-goes_on g c = c.in-Ok-feed.ensures.goes_on
+
+pub returns-in-Err-feed-clause-goes_on : goal.returns-in-Err-feed-clause-goes_on
+returns-in-Err-feed-clause-goes_on g c = c.in-Err-feed.ensures.goes_on
 
 pub returns-in-Ok-feed-clause-cause : goal.returns-in-Ok-feed-clause-cause
 returns-in-Ok-feed-clause-cause g c = job-by-value _ 0 _ _ tt _ c.in-Ok-feed.ensures.cause

@@ -1,4 +1,4 @@
-use Rattle.std.proofs.Common.{◌≡◌, inl, inr, ⊎_elim, subst, sym, Some, Option, Ok, Err, Result, ap, ◌∙◌, option_map}
+use Rattle.std.proofs.Common.{◌≡◌, ◌≢◌, None, inl, inr, ⊎_elim, subst, sym, Some, Option, Ok, Err, Result, ap, ◌∙◌, option_map}
 use Rattle.std.specs.Borrow.{Bor}
 use Rattle.std.specs.Prelude.{IfSome, OnOk, MatchOption}
 use Rattle.std.specs.Option.{option_copied}
@@ -10,10 +10,10 @@ use Rattle.rtree_shape.specs.Stock.{View, view}
 use Rattle.rtree_nodes.specs.Pages.{node_of}
 use Rattle.irtree_shape.specs.Made.{nodes_in}
 use Rattle.irtree_shape.proofs.Harms.{tree-later}
-use Rattle.irtree_shape.specs.Entries.{HasEntry, entry_at}
+use Rattle.irtree_shape.specs.Entries.{HasEntry, HasPlace, entry_at}
 use Rattle.irtree_shape.specs.Regrown.{IsMissing, IsRegrown}
 use Rattle.tree_updates.proofs.Regrowths.{nothing-regrown, planted-regrown, regrown-further}
-use Rattle.tree_updates.proofs.Same.{stored-same}
+use Rattle.tree_updates.proofs.Same.{none-same, stored-same}
 use Rattle.tree_updates.proofs.Told.{told-regrown}
 use Rattle.tree_updates.proofs.putting.put_entry.Goals as goal
 
@@ -98,3 +98,43 @@ returns-in_err-insert-clause-damaged g c = λ told damage e.
     let fault_is : c.in_err-insert.field-0.0 ≡ Damaged damage = cc (passed.1, passed.2, e) in
     inl (tree-later c.insert-2.new.tree.rows (λ _. 1) (P.pages c.insert-2.new.pages) (P.count c.insert-2.new.pages) (P.first c.insert-2.new.pages) (P.asked c.args.pages.now) (P.asked c.take_entry.new.pages) (P.asked c.insert-2.new.pages) damage
     (c.take_entry.ensures.more told) (c.insert-2.ensures.damaged (c.in_ok-take_entry.ensures.told told) damage (c.in_err-insert.was ∙ ap Err fault_is)))
+
+-- ---- the old place was there
+
+pub returns-in_default-clause-there : goal.returns-in_default-clause-there
+returns-in_default-clause-there g c = λ free whole.
+    let P = g.P.Pages in
+    let tree = c.args.tree.now in
+    ok_then c.insert.result
+    (λ h. subst (λ (o : Option (Bor Stored)). IfSome (option_copied o) (λ stored. stored ≢ c.args.new.now → HasPlace (nodes_in node_of (P.pages c.args.pages.now) tree.rows) tree.root c.args.key.now stored.point)) (sym c.in_default.is) tt)
+    (c.insert.ensures.planted free whole)
+
+pub returns-then-eq-clause-there : goal.returns-then-eq-clause-there
+returns-then-eq-clause-there g c = λ free whole.
+    let P = g.P.Pages in
+    let tree = c.args.tree.now in
+    let said = c.if-eq.true in
+    let test = c.eq.ensures in
+    let equal : c.in-Some.old.now ≡ c.args.new.now = stored-same c.in-Some.old.now c.args.new.now c.eq.result test said in
+    subst (λ (o : Option (Bor Stored)). IfSome (option_copied o) (λ stored. stored ≢ c.args.new.now → HasPlace (nodes_in node_of (P.pages c.args.pages.now) tree.rows) tree.root c.args.key.now stored.point)) (sym c.in-Some.is) (λ differs. absurd (differs equal))
+
+pub returns-clause-there : goal.returns-clause-there
+returns-clause-there g c = λ free whole.
+    let P = g.P.Pages in
+    let tree = c.args.tree.now in
+    subst (λ (o : Option (Bor Stored)). IfSome (option_copied o) (λ stored. stored ≢ c.args.new.now → HasPlace (nodes_in node_of (P.pages c.args.pages.now) tree.rows) tree.root c.args.key.now stored.point)) (sym c.in-Some.is)
+    (λ differs. c.in_ok-take_entry.ensures.there free whole)
+
+-- ---- nothing is done where both are the same
+
+pub returns-in_default-clause-same : goal.returns-in_default-clause-same
+returns-in_default-clause-same g c = λ same. let none : None ≡ Some c.args.new.now = sym (ap option_copied c.in_default.is) ∙ same in absurd (cc)
+
+pub returns-in_err-take_entry-clause-same : goal.returns-in_err-take_entry-clause-same
+returns-in_err-take_entry-clause-same g c = λ same. absurd (none-same c.args.old c.in-Some.old c.args.new.now c.eq.result c.in-Some.is c.eq.ensures c.if-eq.false same)
+
+pub returns-in_err-insert-clause-same : goal.returns-in_err-insert-clause-same
+returns-in_err-insert-clause-same g c = λ same. absurd (none-same c.args.old c.in-Some.old c.args.new.now c.eq.result c.in-Some.is c.eq.ensures c.if-eq.false same)
+
+pub returns-clause-same : goal.returns-clause-same
+returns-clause-same g c = λ same. absurd (none-same c.args.old c.in-Some.old c.args.new.now c.eq.result c.in-Some.is c.eq.ensures c.if-eq.false same)

@@ -1,5 +1,7 @@
-use Rattle.std.proofs.Common.{◌≡◌, List, ℕ, [], ◌∷◌, ◌++◌, refl, ap, subst, arith, ◌∙◌}
-use Rattle.std.specs.Prelude.{Err}
+use Rattle.std.proofs.Common.{◌≡◌, List, ℕ, [], ◌∷◌, ◌++◌, refl, ap, subst, sym, arith, ◌∙◌}
+use Rattle.std.specs.Prelude.{Result, Err}
+use Rattle.run_protocol.specs.Causes.{GoesOn}
+use Rattle.run_protocol.specs.declared.ended.Ended.{Ended}
 use Rattle.std.proofs.lemmas.Result.{err_from_is_err_and}
 use Rattle.script_run.specs.Lines.{RunsLines}
 use Rattle.script_run.proofs.Lines.{line-fresh, line-ended, none-left}
@@ -55,3 +57,16 @@ returns-in_err-act-clause-kept g c = λ front is told reads.
 pub returns-clause-kept : goal.returns-clause-kept
 returns-clause-kept g c = λ front is told reads.
     c.in_ok-act.ensures.kept told (reading-alike c.deref.result.now (front ++ c.args.part.now) (line-ended c.args.self.now.line.items _ front _ (c.deref.ensures.value ∙ c.in_ok-extend.ensures.ok) is) reads)
+
+pub returns-in_err-extend-clause-goes_on : goal.returns-in_err-extend-clause-goes_on
+returns-in_err-extend-clause-goes_on g c =
+    let passed = err_from_is_err_and c.from_residual.result c.from_residual.ensures.1 in
+    let memory : c.in_err-extend.field-0.0 ≡ ends.Memory = c.in_err-extend.ensures.err in
+    let same : c.from_residual.result ≡ Err ends.Memory = cc (passed.1, passed.2, memory) in
+    subst (λ (r : Result (Unit {0}) Ended). GoesOn c.args.engine.now.stopped r) (sym same) c.requires.on
+
+pub returns-in_err-act-clause-goes_on : goal.returns-in_err-act-clause-goes_on
+returns-in_err-act-clause-goes_on g c =
+    let passed = err_from_is_err_and c.from_residual-in_err-act.result c.from_residual-in_err-act.ensures.1 in
+    let same : c.from_residual-in_err-act.result ≡ Err c.in_err-act.field-0.0 = cc (passed.1, passed.2) in
+    subst (λ (r : Result (Unit {0}) Ended). GoesOn c.act-2.new.engine.stopped r) (sym same) c.in_err-act.ensures.goes_on

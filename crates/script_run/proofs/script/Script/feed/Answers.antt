@@ -1,10 +1,11 @@
 use Rattle.std.proofs.Common.{◌≡◌, length, refl, sym, ap, subst, ◌∙◌, arith}
 use Rattle.std.specs.Prelude.{Result, Err}
 use Rattle.std.proofs.lemmas.Result.{on_ok_weaker, err_from_is_err_and}
-use Rattle.run_protocol.specs.Causes.{HasEngineEnd}
+use Rattle.run_protocol.specs.Causes.{GoesOn, HasEngineEnd}
 use Rattle.run_protocol.specs.declared.ended.Ended.{Ended}
 use Rattle.script_run.proofs.Causes.{engine-still, engine-then, engine-ends}
 use Rattle.script_run.proofs.Feeding.{feeding-start, feeding-line, feeding-breaks, feeding-ends, feeding-kept, feeding-met, feeding-stays}
+use Rattle.run_protocol.proofs.Going.{on-still}
 use Rattle.script_run.proofs.script.Script.feed.Goals as goal
 
 pub lines-init : goal.lines-init
@@ -33,7 +34,7 @@ returns-in_err-end_line-clause-cause g c =
 
 pub lines-preserved : goal.lines-preserved
 lines-preserved g c = record {
-  on = c.in_ok-end_line.ensures.on;
+  on = c.in_ok-end_line.ensures.goes_on;
   loan = c.in_ok-end_line.ensures.same_loan ∙ c.lines.invariant.loan;
   short = omega (arith, ap length c.in_ok-end_line.ensures.line);
   feeding = λ front ends is.
@@ -64,3 +65,12 @@ returns-in_err-end_line-clause-kept g c = λ front ends is told reads.
 pub returns-clause-kept : goal.returns-clause-kept
 returns-clause-kept g c = λ front ends is told reads.
     feeding-stays _ _ _ _ _ _ _ (c.lines.invariant.feeding front ends is) c.in_default.ensures.none c.extend.result c.extend.ensures.err told reads
+
+pub returns-in_err-end_line-clause-goes_on : goal.returns-in_err-end_line-clause-goes_on
+returns-in_err-end_line-clause-goes_on g c =
+    let passed = err_from_is_err_and c.from_residual.result c.from_residual.ensures.1 in
+    let same : c.from_residual.result ≡ Err c.in_err-end_line.field-0.0 = cc (passed.1, passed.2) in
+    subst (λ (r : Result (Unit {0}) Ended). GoesOn c.end_line.new.engine.stopped r) (sym same) c.in_err-end_line.ensures.goes_on
+
+pub returns-clause-goes_on : goal.returns-clause-goes_on
+returns-clause-goes_on g c = on-still _ c.extend.result c.lines.invariant.on
