@@ -1,14 +1,11 @@
 -- A store whose journal is at its front behind the job.
-use Rattle.std.proofs.Common.{◌≡◌, refl, Bool, false}
+use Rattle.std.proofs.Common.{◌≡◌, Bool, false}
 use Rattle.std.specs.Prelude.{Result, Ok, Err}
 use Rattle.disk_model.specs.World.{World}
 use Rattle.page_journal.specs.Record.{IsReady}
 use Rattle.run_protocol.specs.Causes.{GoesOn, GoesOnBehind}
 use Rattle.run_protocol.specs.declared.ended.Ended.{Ended}
 use Rattle.run_protocol.specs.declared.ended.Ended.TheVariants as ends
-use Rattle.irtree_engine.specs.Faults.{IsSettleFault}
-use Rattle.irtree_engine.specs.declared.fault.EngineFault.{EngineFault}
-use Rattle.irtree_engine.specs.declared.fault.EngineFault.TheVariants as engine
 use Rattle.irtree_top.specs.Run.{IsBehindOpening, LeavesAtRest, RestsBehind, RestsIfOpened}
 use Rattle.irtree_top.proofs.Openings.{IsOpeningEnd}
 
@@ -55,15 +52,3 @@ none-behind ends.Source opens behind = opens
 none-behind ends.Sink opens behind = opens
 none-behind (ends.Input fault) opens behind = opens
 none-behind (ends.Limit fault) opens behind = opens
-
--- a settling that isn't refused for the disk is refused for an earlier commit
-pub settle-stopped : (fault : EngineFault) → IsSettleFault fault → (fault ≡ engine.Disk → ⊥) → fault ≡ engine.Stopped
-settle-stopped engine.Disk causes apart = absurd (apart refl)
-settle-stopped engine.Stopped causes apart = refl
-settle-stopped engine.NotAStore causes apart = absurd causes
-settle-stopped (engine.BadJournal at) causes apart = absurd causes
-settle-stopped (engine.Damaged damage) causes apart = absurd causes
-settle-stopped engine.Full causes apart = absurd causes
-settle-stopped engine.Worn causes apart = absurd causes
-settle-stopped engine.NoRoom causes apart = absurd causes
-settle-stopped engine.Memory causes apart = absurd causes
