@@ -215,6 +215,7 @@ abbrev pub RestsBehind : World → Ended → Type 0
 RestsBehind new ends.Disk = Unit {0}
 RestsBehind new _ = IsReady 0 new
 
+-- so does a job that ends well
 abbrev pub LeavesAtRest : {T : Type 0} → World → Result T Ended → Type 0
 LeavesAtRest new (Ok done) = IsReady 0 new
 LeavesAtRest new (Err end) = RestsBehind new end

@@ -11,7 +11,6 @@ use Rattle.make_run.proofs.Ends.{refused-asking, refused-limit, refused-room}
 use Rattle.make_run.proofs.Hits.{counts-answer}
 use Rattle.make_run.proofs.asking.ask.Given as given
 use Rattle.make_run.proofs.asking.ask.Goals.{After-ended_by}
-use Rattle.run_protocol.proofs.Going.{on-behind}
 use Rattle.make_run.proofs.asking.ask.Goals as goal
 
 -- what is known of a query that was refused
@@ -69,6 +68,3 @@ pub returns-clause-lacks : goal.returns-clause-lacks
 returns-clause-lacks g c = λ told is.
     let ended : c.ended_by.result ≡ ends.Limit limits.NoRoom = cc in
     absurd (refused-room c.in-Err-answer.fault c.in-Err-answer.ensures.causes (sym c.ended_by.ensures ∙ ended))
-
-pub returns-clause-goes_on : goal.returns-clause-goes_on
-returns-clause-goes_on g c = on-behind _ c.ended_by.result (c.in-Err-answer.ensures.goes_on ∙ c.requires.on)

@@ -41,7 +41,7 @@ loop-number-preserved g c =
       at = c.in-Ok.ensures.at seed n (omega arith) i.at;
       few = omega (arith, i.few, c.in-Ok-ask.ensures.few.0);
       cheap = omega (arith, i.cheap, c.in-Ok-ask.ensures.few.1);
-      on = c.in-Ok-ask.ensures.goes_on;
+      on = c.in-Ok-ask.ensures.on;
       loan = c.in-Ok-ask.ensures.same_loan ∙ i.loan;
       told = λ told state holds.
           counts-more state seed n _ c.loop-number.found c.in-Ok-ask.here _ (c.in-Ok.ensures.place seed n i.at) (i.told told state holds)

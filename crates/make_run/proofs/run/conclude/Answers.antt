@@ -5,6 +5,7 @@ use Rattle.load_run.proofs.Numbers.{rises-then}
 use Rattle.load_run.proofs.Stages.{goes-concludes, goes-read}
 use Rattle.make_run.specs.Making.{made_line, says_made}
 use Rattle.make_run.proofs.Ends.{concludes-unasked, made-says}
+use Rattle.run_protocol.proofs.Going.{on-behind}
 use Rattle.make_run.proofs.run.conclude.Goals as goal
 
 pub returns-in-Err-clause-told : goal.returns-in-Err-clause-told
@@ -24,3 +25,6 @@ returns-in-Ok-write_made-clause-cause g c = engine-then c.in-Ok.ensures.cause _ 
 
 pub returns-in-Ok-write_made-clause-rises : goal.returns-in-Ok-write_made-clause-rises
 returns-in-Ok-write_made-clause-rises g c = rises-then 0 0 0 c.args.engine.now.store.current.head c.in-Ok.found 0 0 c.ask_places.new.engine.store.current.head c.say_last.new.engine.store.current.head c.say_last.result c.in-Ok.ensures.rises c.say_last.ensures.rises
+
+pub returns-in-Err-clause-goes_on : goal.returns-in-Err-clause-goes_on
+returns-in-Err-clause-goes_on g c = on-behind _ c.in-Err.end c.in-Err.ensures.on
