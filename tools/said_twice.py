@@ -12,6 +12,8 @@ import re
 
 # Where std says one thing under two paths.
 OF_STD = re.compile(r"Rattle\.std\.(?:proofs\.Common|specs\.Prelude)\.")
+# A word of a statement.
+WORD = r"[^\s(){}\[\],;.]+"
 # Shorter statements are those of any helper.
 SHORTEST = 12
 
@@ -46,17 +48,23 @@ def imports(text):
     return found
 
 
-def lemmas(path, text):
-    """Yields each statement at the margin of a file: its name, whether it is public, and its words with what they stand for."""
+def meaning(statement, bound, named):
+    """Returns the statement with each bound word by its number and each imported one by what it stands for."""
+    numbers = {}
+    return re.sub(WORD, lambda it: f"#{numbers.setdefault(it[0], len(numbers))}" if it[0] in bound else named.get(it[0], it[0]), statement)
+
+
+def lemmas(text):
+    """Yields each statement at the margin of a file: its name, whether it is public, its words and what they mean."""
     named = imports(text)
     own = set(re.findall(r"(?m)^(?:(?:pub|abbrev|unfoldable|opaque|data|record) )*([^\s:(){},]+)(?: .*)? :(?=\s)", text))
     for public, name, first, more in re.findall(r"(?m)^(pub )?([a-z][^\s:]*) : (.+)((?:\n +.+)*)", text):
         statement = re.sub(r"\s+", " ", first + more)
-        words = re.findall(r"[^\s(){}\[\],;.]+", statement)
+        words = re.findall(WORD, statement)
         bound = {word for group in re.findall(r"[({]([^(){}:]*?) :", statement) for word in group.split()}
         if len(statement) < SHORTEST or any(word in own and word not in named and word not in bound for word in words):
             continue
-        yield name, bool(public), (statement, tuple("" if word in bound else named.get(word, word) for word in words))
+        yield name, bool(public), statement, meaning(statement, bound, named)
 
 
 def main():
@@ -70,10 +78,10 @@ def main():
     for crate in crates:
         for path, text in texts(crate, "specs", "proofs", kinds=(".antt",)):
             if os.path.basename(path) not in ("Answers.antt", "Invariants.antt", "Lib.antt"):
-                for name, public, statement in lemmas(path, text):
-                    said.setdefault(statement, []).append((crate, path, name, public))
-    for (statement, _), places in said.items():
-        for crate, path, name, _ in places:
+                for name, public, statement, means in lemmas(text):
+                    said.setdefault(means, []).append((crate, path, name, public, statement))
+    for places in said.values():
+        for crate, path, name, _, statement in places:
             lower = [it for it in places if it[0] in below(crate) or it[0] == crate and it[1] < path]
             if lower:
                 first = min(lower, key=lambda it: (len(below(it[0])), it[1]))

@@ -10,6 +10,7 @@ use Rattle.page_face.specs.declared.fault.Damage.{Damage}
 use Rattle.btree_nodes.specs.Damages.{AskedSince}
 use Rattle.place_map.specs.declared.hit.Hit.{Hit}
 use Rattle.rtree_shape.specs.Slots.{IsChildAt}
+use Rattle.rtree_shape.proofs.Heights.{none_or}
 use Rattle.rtree_nodes.specs.Pages.{level_in, stored_in}
 use Rattle.rtree_find.specs.Harms.{BreaksAlone, BreaksPlace, IfTold, IsMislevelled, HasWrongLevel, IsHarm}
 use Rattle.best_first.specs.declared.item.Item.{Item}
@@ -38,9 +39,6 @@ page-in (Place hit) = 0
 abbrev level-in : Item → ℕ
 level-in (Node page level bound) = level
 level-in (Place hit) = 0
-
-pub none-or : (n : ℕ) → (n ≡ 0) ⊎ (0 < n)
-none-or n = grind arith
 
 module _ (region : Region) (pages : PageMap) (mine : ℕ → ℕ) (fits : Type 0) (opens : ℕ → ℕ → List Item) (root root_level : ℕ) where
   -- what is told of the openings so far, and of what waits: it was given
@@ -151,7 +149,7 @@ module _ (region : Region) (pages : PageMap) (mine : ℕ → ℕ) (fits : Type 0
         names = λ told. n.child;
         level = λ told there e. let k = n.level_is in wrong there (omega arith);
       })
-      (none-or (length (pages s.opening.page)))
+      (none_or (length (pages s.opening.page)))
 
   -- the root, looked at as of another level than it was found to have
   misread : (page level bound : ℕ) → IfTold pages root (λ bytes. level_in bytes ≡ root_level) → IfTold pages page (λ bytes. level_in bytes ≢ level) → Node page level bound ≡ Node root root_level 0 → IfTold pages page (λ bytes. 9 < level_in bytes)

@@ -31,19 +31,16 @@ use Rattle.boolean_queries.specs.Opens.{hits_in, gives, opens_in}
 use Rattle.best_first.proofs.Lists.{sum_by-flat_map}
 use Rattle.boolean_queries.proofs.Lists.{in-order-sum, in-order-flat}
 use Rattle.boolean_queries.proofs.Covers.{leaf-places, below-nothing, region-without, filter-without}
+use Rattle.node_rows.proofs.Bytes.{and_false}
 
 -- the hits of a place outside the region, or of one that doesn't pass the filter
 hits-out : (region : Region) (ids : Numbers) (filter : Option Expr) (x : Item) → has_point region (point_of x) ≡ false → hits_in region ids filter x ≡ []
 hits-out (Within at radius) ids filter x e = rw e refl
 hits-out (Inside asked) ids filter x e = rw e refl
 
-and-false : (b : Bool) → (b && false) ≡ false
-and-false true = refl
-and-false false = refl
-
 hits-not : (region : Region) (ids : Numbers) (filter : Option Expr) (x : Item) → admits_by 0 (impact_of ids x) filter ≡ false → hits_in region ids filter x ≡ []
-hits-not (Within at radius) ids filter x e = rw (e, and-false (has_point (Within at radius) (point_of x))) refl
-hits-not (Inside asked) ids filter x e = rw (e, and-false (has_point (Inside asked) (point_of x))) refl
+hits-not (Within at radius) ids filter x e = rw (e, and_false (has_point (Within at radius) (point_of x))) refl
+hits-not (Inside asked) ids filter x e = rw (e, and_false (has_point (Inside asked) (point_of x))) refl
 
 -- a leaf's entry leads to its own hits
 led-cond : (g : ℕ → List Hit) (b : Bool) (hit : Hit) → flat_map (led g) (if b then Place hit ∷ [] else []) ≡ (if b then hit ∷ [] else [])

@@ -3,7 +3,7 @@ use Rattle.std.proofs.Common.{◌≡◌, ℕ, zero, suc, ◌+◌, ◌<◌, ◌�
 use Rattle.std.specs.Prelude.{if◌then◌else◌, option_map}
 use Rattle.std.specs.List.{AllByRecursion, flat_map}
 use Rattle.std.specs.Int.{bit_at}
-use Rattle.std.proofs.lemmas.Bool.{lt-ltb, le-ltb}
+use Rattle.std.proofs.lemmas.Bool.{lt-ltb}
 use Rattle.page_face.specs.FreeList.{PageMap}
 use Rattle.place_map.specs.declared.query.Expr.{Expr}
 use Rattle.rtree_shape.specs.Slots.{Item, Slots, got, one, filled}
@@ -14,6 +14,7 @@ use Rattle.rtree_find.proofs.Subtrees.{IsRead, some-read}
 use Rattle.node_rows.specs.Rows.{bytes_in}
 use Rattle.irtree_shape.specs.Words.{joined_item, words_on}
 use Rattle.irtree_shape.specs.Made.{nodes_in}
+use Rattle.irtree_shape.proofs.Relinks.{word-reach}
 use Rattle.best_first.specs.declared.item.Item as best
 use Rattle.best_first.specs.Items.{IsGivenAt}
 use Rattle.tree_entries.specs.Masks.{has_slot, Marks}
@@ -39,12 +40,8 @@ joined-read pages rows level page node =
     let some = node.some in
     some-read (pages page) (omega arith)
 
--- an item joined with its bytes has them behind its sides
-pub joined-words : (b : ℕ → ℕ → ℕ) (i n : ℕ) (x : Item) → (joined_item b i x).reach (4 + n) ≡ b n i
-joined-words b i n x = rw (le-ltb (4 + n) 4 (omega arith)) (ap (λ (m : ℕ). b m i) (omega arith))
-
 pub joined-impact : (ids : Numbers) (b : ℕ → ℕ → ℕ) (i : ℕ) (x : Item) → impact_of ids (joined_item b i x) ≡ byte_of ids b i
-joined-impact ids b i x = λ k. impact_by ids (λ n. joined-words b i n x k)
+joined-impact ids b i x = λ k. impact_by ids (λ n. word-reach b i n x k)
 
 -- and touches the region as it does
 pub joined-touches : (region : Region) (b : ℕ → ℕ → ℕ) (i level : ℕ) (x : Item) → touches region level (joined_item b i x) ≡ touches region level x

@@ -1,77 +1,31 @@
 -- The cells of a node: cut in two, joined, and written into a page.
-use Rattle.std.proofs.Common.{◌≡◌, ℕ, zero, suc, ◌+◌, ◌-◌, ◌*◌, ◌^◌, ◌<◌, ◌≤◌, List, [], ◌∷◌, ◌++◌, length, take, drop, map, replicate, arith, refl, sym, ap, ◌∙◌, subst}
-use Rattle.std.specs.Int.{from_be_bytes, w32}
-use Rattle.std.proofs.lemmas.List.{drop-take, length-drop, length-replicate, map-append, take-take, take-append-drop, take-append-le, take_at, drop_at, drop-drop, length-take-le, length-map}
-use Rattle.std.proofs.Math.Nat.{mul-le-mul_left, mul-zero, zero-mul}
+use Rattle.std.proofs.Common.{◌≡◌, ℕ, zero, suc, ◌+◌, ◌-◌, ◌*◌, ◌^◌, ◌<◌, ◌≤◌, List, ◌++◌, length, take, drop, map, replicate, arith, refl, sym, ap, ◌∙◌, subst}
+use Rattle.std.proofs.lemmas.List.{length-drop, length-replicate, map-append, take-take, take-append-drop, take-append-le, take_at, length-take-le}
+use Rattle.std.proofs.Math.Nat.{mul-le-mul_left}
 use Rattle.page_face.specs.FreeList.{PageMap}
 use Rattle.page_face.specs.Number.{number}
-use Rattle.page_face.specs.Cells.{chop, key_at}
+use Rattle.page_face.specs.Cells.{chop}
 use Rattle.btree_nodes.specs.Build.{image}
-use Rattle.btree_nodes.proofs.Chops.{chop-append, length-chop}
+use Rattle.btree_nodes.proofs.Chops.{chop-append}
 use Rattle.btree_nodes.specs.declared.form.Form.{Form}
 use Rattle.btree_nodes.specs.Supply.{one_at}
 use Rattle.btree_nodes.specs.Rows.{Row, IsWithin}
-use Rattle.btree_nodes.specs.Nodes.{Entry, rows_in, row_of, entries_in, entry_of, width_of, half_of, IsLeaf, IsInner}
+use Rattle.btree_nodes.specs.Nodes.{Entry, rows_in, row_of, entries_in, entry_of, width_of, half_of, IsLeaf, IsInner, rows_of, entries_of}
 use Rattle.btree_nodes.specs.Tree.{next_key, IsTree, IsFan, rows_at, uses, total, with_low}
 use Rattle.btree_nodes.specs.Store.{below_rows}
-use Rattle.btree_nodes.proofs.Spans.{within-le, within-append}
-use Rattle.btree_nodes.proofs.Fans.{with_low-rows, length-with_low}
-use Rattle.btree_nodes.proofs.Frames.{fan-frame, fan-head, fan-append, tree-frame, flat_map-append, total-append, with_low-total}
-use Rattle.btree_nodes.proofs.Images.{image-node, image-rows, image-cells}
-use Rattle.btree_delete.specs.Body.{kind_of, rows_of, entries_of, IsBody, body_rows, body_uses, cleared, headed}
-
-pub length-rows_of : (form : Form) (count : ℕ) (bytes : List ℕ) → length (rows_of form count bytes) ≡ count
-length-rows_of form count bytes = length-map (chop (form.key + form.value) count bytes) (row_of form.key) ∙ length-chop (form.key + form.value) count bytes
-
-pub length-entries_of : (form : Form) (count : ℕ) (bytes : List ℕ) → length (entries_of form count bytes) ≡ count
-length-entries_of form count bytes = length-map (chop (form.key + 4) count bytes) (entry_of form.key) ∙ length-chop (form.key + 4) count bytes
-
--- rows between bounds leave room between them
-pub within-lt : (low high : ℕ) (rows : List Row) → 0 < length rows → IsWithin low high rows → low < high
-within-lt low high [] k h = absurd (omega arith)
-within-lt low high (row ∷ rows) k h = let m = within-le (row.0 + 1) high rows h.1 in let g = h.0 in omega arith
-
-pub fan-lt : (P : ℕ → ℕ → ℕ → Type 0) (low high : ℕ) (es : List Entry) → 0 < length es → IsFan P low high es → low < high
-fan-lt P low high [] k h = absurd (omega arith)
-fan-lt P low high (e ∷ []) k h = h.1
-fan-lt P low high (e ∷ (f ∷ es)) k h = let r = fan-lt P f.0 high (f ∷ es) (omega arith) h.3 in let l = h.1 in omega arith
-
--- rows that come apart at a row's key
-pub within-split : (low high : ℕ) (xs : List Row) (y : Row) (ys : List Row) → IsWithin low high (xs ++ (y ∷ ys)) → IsWithin low y.0 xs × IsWithin y.0 high (y ∷ ys)
-within-split low high [] y ys h = (h.0, (omega arith, h.1))
-within-split low high (x ∷ xs) y ys h = let r = within-split (x.0 + 1) high xs y ys h.1 in ((h.0, r.0), r.1)
-
--- entries that come apart at a key
-pub fan-split : (P : ℕ → ℕ → ℕ → Type 0) (low high : ℕ) (xs ys : List Entry) → IsFan P low high (xs ++ ys) → IsFan P low (next_key high ys) xs × IsFan P (next_key high ys) high ys
-fan-split P low high [] ys h = let e = fan-head P low high ys h in (sym e, subst (λ (k : ℕ). IsFan P k high ys) (sym e) h)
-fan-split P low high (x ∷ []) ys h = ((h.0, h.1, h.2, refl), h.3)
-fan-split P low high (x ∷ (z ∷ xs)) ys h = let r = fan-split P z.0 high (z ∷ xs) ys h.3 in ((h.0, h.1, h.2, r.0), r.1)
-
-pub number-zeros : (n : ℕ) → number (replicate n 0) ≡ 0
-number-zeros zero = refl
-number-zeros (suc n) = let h = number-zeros n in omega (arith, zero-mul (256 ^ length {A = ℕ} (replicate n 0)))
-
-pub with_low-append : (low : ℕ) (xs ys : List Entry) → 0 < length xs → with_low low (xs ++ ys) ≡ with_low low xs ++ ys
-with_low-append low [] ys h = absurd (omega arith)
-with_low-append low (x ∷ xs) ys h = refl
+use Rattle.btree_nodes.proofs.Spans.{within-append, within-lt, within-split}
+use Rattle.btree_nodes.proofs.Fans.{with_low-rows, length-with_low, with_low-append}
+use Rattle.btree_nodes.proofs.Frames.{fan-frame, fan-head, fan-append, tree-frame, flat_map-append, total-append, with_low-total, fan-lt, fan-split}
+use Rattle.btree_nodes.proofs.Images.{image-node, image-rows, image-entries, image-first}
+use Rattle.btree_nodes.proofs.Numbers.{number-zeros}
+use Rattle.btree_nodes.proofs.Cells.{length-rows_of, length-entries_of, anew-entries, key-first, entries-zeroed, zeroed-entries}
+use Rattle.btree_delete.specs.Body.{kind_of, IsBody, body_rows, body_uses, cleared, headed}
 
 -- a page that holds these cells heads a tree
 pub record IsTreeOf (form : Form) (least : ℕ) (pages : PageMap) (level page low high count : ℕ) (bytes : List ℕ) : Type 0 where
   pub tree : IsTree form least pages level page low high
   pub gives : rows_at form pages level page ≡ body_rows form pages level count bytes
   pub used : (n : ℕ) → uses form pages level page n ≡ one_at page n + body_uses form pages level count bytes n
-
-image-entries : (form : Form) (level count : ℕ) (bytes : List ℕ) → count < 2 ^ 16 → length bytes ≡ (form.key + 4) * count → 16 + length bytes ≤ 4096
-    → entries_in form (image form.map 2 level count bytes) ≡ entries_of form count bytes
-unfolding entries_in
-image-entries form level count bytes small whole fits = ap (map (entry_of form.key)) (image-cells form.map 2 level (form.key + 4) 0 count bytes small whole fits)
-
-image-first : (form : Form) (level count : ℕ) (bytes : List ℕ) → form.key ≤ length bytes → key_at form.key (form.key + 4) (image form.map 2 level count bytes) 0 ≡ number (take form.key bytes)
-unfolding image
-image-first form level count bytes long =
-    let from : 16 + (form.key + 4) * 0 ≡ 16 = omega (arith, mul-zero (form.key + 4)) in
-    ap (λ (k : ℕ). number (take form.key (drop k (image form.map 2 level count bytes)))) from
-    ∙ ap number (take-append-le form.key bytes (replicate (4080 - length bytes) 0) long)
 
 pub tree-of : (form : Form) (least : ℕ) (pages : PageMap) (level page low high count : ℕ) (bytes : List ℕ) → pages page ≡ image form.map (kind_of level) level count bytes
     → 0 < count → least ≤ count → count < 2 ^ 16 → length bytes ≡ width_of form level * count → 16 + length bytes ≤ 4096 → IsBody form pages level low high count bytes
@@ -125,41 +79,6 @@ body-lt form pages (suc level) low high count bytes some h =
     fan-lt (IsTree form (half_of form level) pages level) low high (with_low low (entries_of form count bytes))
     (omega (arith, length-with_low low (entries_of form count bytes), length-entries_of form count bytes)) h.1
 
--- the entries of cells whose first key is written anew
-module _ (form : Form) (rest : ℕ) (key b : List ℕ) (long : (form.key + 4) * suc rest ≤ length b) (lk : length key ≡ form.key) where
-  anew : List ℕ
-  anew = key ++ drop form.key b
-
-  child-same : drop form.key (take (form.key + 4) anew) ≡ drop form.key (take (form.key + 4) b)
-  unfolding anew
-  child-same = drop-take form.key 4 anew ∙ ap (take 4) (drop_at key (drop form.key b) form.key lk) ∙ sym (drop-take form.key 4 b)
-
-  others-same : drop (form.key + 4) anew ≡ drop (form.key + 4) b
-  unfolding anew
-  others-same = sym (drop-drop 4 form.key anew) ∙ ap (drop 4) (drop_at key (drop form.key b) form.key lk) ∙ drop-drop 4 form.key b
-
-  key-new : number (take form.key (take (form.key + 4) anew)) ≡ number key
-  unfolding anew
-  key-new = ap number (take-take form.key (form.key + 4) anew (omega arith) ∙ take_at key (drop form.key b) form.key lk)
-
-  pub anew-entries : entries_of form (suc rest) (key ++ drop form.key b) ≡ with_low (number key) (entries_of form (suc rest) b)
-  unfolding anew
-  anew-entries =
-      ap (λ (k : ℕ). (k, from_be_bytes w32 (drop form.key (take (form.key + 4) anew))) ∷ map (entry_of form.key) (chop (form.key + 4) rest (drop (form.key + 4) anew))) key-new
-      ∙ ap (λ (c : List ℕ). (number key, from_be_bytes w32 c) ∷ map (entry_of form.key) (chop (form.key + 4) rest (drop (form.key + 4) anew))) child-same
-      ∙ ap (λ (c : List ℕ). (number key, from_be_bytes w32 (drop form.key (take (form.key + 4) b))) ∷ map (entry_of form.key) (chop (form.key + 4) rest c)) others-same
-
-key-first : (form : Form) (rest : ℕ) (b : List ℕ) (high : ℕ) → next_key high (entries_of form (suc rest) b) ≡ number (take form.key b)
-key-first form rest b high = ap number (take-take form.key (form.key + 4) b (omega arith))
-
-with_low-own : (low : ℕ) (es : List Entry) (high : ℕ) → 0 < length es → next_key high es ≡ low → with_low low es ≡ es
-with_low-own low [] high s h = refl
-with_low-own low (e ∷ es) high s h = ap (λ (k : ℕ). (k, e.1) ∷ es) (sym h)
-
-with_low-twice : (low more : ℕ) (es : List Entry) → with_low low (with_low more es) ≡ with_low low es
-with_low-twice low more [] = refl
-with_low-twice low more (e ∷ es) = refl
-
 -- cells cut in two, the second ones as the first of a page
 pub record IsCut (form : Form) (pages : PageMap) (level low high half rest middle : ℕ) (bytes front back : List ℕ) : Type 0 where
   pub front_body : IsBody form pages level low middle half front
@@ -208,8 +127,8 @@ body-cut form pages (suc level) low high half rest bytes whole left body =
     let together : with_low low (entries_of form (half + suc rest) bytes) ≡ with_low low xs ++ ys = ap (with_low low) pieces ∙ with_low-append low xs ys (omega (arith, length-entries_of form half a)) in
     let parts = fan-split P low high (with_low low xs) ys (subst (λ (x : List Entry). IsFan P low high x) together body.1) in
     let nk : next_key high ys ≡ m = key-first form rest b high in
-    let zeroed : entries_of form (suc rest) zb ≡ with_low 0 ys = anew-entries form rest (replicate form.key 0) b (omega arith) (length-replicate form.key 0) ∙ ap (λ (k : ℕ). with_low k ys) (number-zeros form.key) in
-    let same : with_low m (entries_of form (suc rest) zb) ≡ ys = ap (with_low m) zeroed ∙ with_low-twice m 0 ys ∙ with_low-own m ys high (omega arith) nk in
+    let zeroed : entries_of form (suc rest) zb ≡ with_low 0 ys = entries-zeroed form rest b (omega arith) in
+    let same : with_low m (entries_of form (suc rest) zb) ≡ ys = sym (zeroed-entries form rest b (omega arith)) in
     record {
       front_body = (ap number (take-take form.key (w * half) bytes (omega arith)) ∙ body.0, subst (λ (k : ℕ). IsFan P low k (with_low low xs)) nk parts.0);
       back_body = (

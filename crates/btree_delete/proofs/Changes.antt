@@ -6,12 +6,12 @@ use Rattle.std.proofs.Math.Nat.{mul-le-mul_left, mul-suc}
 use Rattle.page_face.specs.Number.{number}
 use Rattle.page_face.specs.Cells.{chop}
 use Rattle.btree_nodes.proofs.Chops.{chop-append, chop-front, chop-back}
+use Rattle.btree_nodes.proofs.Cells.{anew-entries}
 use Rattle.btree_nodes.specs.declared.form.Form.{Form}
 use Rattle.btree_nodes.specs.Rows.{Row}
-use Rattle.btree_nodes.specs.Nodes.{Entry, row_of, entry_of}
+use Rattle.btree_nodes.specs.Nodes.{Entry, row_of, entry_of, rows_of, entries_of}
 use Rattle.btree_nodes.specs.Tree.{with_low}
-use Rattle.btree_delete.specs.Body.{rows_of, entries_of, without_cell, with_key}
-use Rattle.btree_delete.proofs.Bodies.{anew-entries}
+use Rattle.btree_delete.specs.Body.{without_cell, with_key}
 
 -- the cells without one
 pub chop-without : (width at rest : ℕ) (bytes : List ℕ) → length bytes ≡ width * (at + suc rest)

@@ -10,11 +10,11 @@ use Rattle.btree_nodes.specs.declared.form.Form.{Form}
 use Rattle.btree_nodes.specs.Supply.{View, one_at}
 use Rattle.btree_nodes.specs.Rows.{Row, IsWithin}
 use Rattle.page_face.specs.Nodes.{count_of}
-use Rattle.btree_nodes.specs.Nodes.{Entry, rows_in, row_of, entries_in, entry_of, width_of, half_of}
+use Rattle.btree_nodes.specs.Nodes.{Entry, rows_in, row_of, entries_in, entry_of, width_of, half_of, rows_of, entries_of}
 use Rattle.btree_nodes.specs.Tree.{IsTree, IsFan, rows_at, uses, total, with_low}
 use Rattle.btree_nodes.specs.Store.{below_rows}
 use Rattle.btree_nodes.proofs.Supplies.{moves-as}
-use Rattle.btree_delete.specs.Body.{rows_of, entries_of, IsBody, body_rows, body_uses, cells_in, headed}
+use Rattle.btree_delete.specs.Body.{IsBody, body_rows, body_uses, cells_in, headed}
 use Rattle.btree_delete.specs.Mended.{Becomes}
 use Rattle.btree_delete.proofs.Bodies.{IsSum, body-sum}
 

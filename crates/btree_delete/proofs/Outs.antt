@@ -9,13 +9,13 @@ use Rattle.btree_nodes.specs.declared.form.Form.{Form}
 use Rattle.btree_nodes.specs.Supply.{view, IsSupplied, spare, one_at}
 use Rattle.btree_nodes.specs.Rows.{Row, IsWithin, lookup, without}
 use Rattle.page_face.specs.Nodes.{count_of}
-use Rattle.btree_nodes.specs.Nodes.{rows_in}
+use Rattle.btree_nodes.specs.Nodes.{rows_in, rows_of}
 use Rattle.btree_nodes.proofs.Spans.{no_row, within-append, within-wider}
 use Rattle.btree_nodes.proofs.Spots.{length-rows_in, row-key}
 use Rattle.btree_nodes.proofs.Finds.{front, back, found}
 use Rattle.btree_nodes.proofs.Puts.{without-edit, without-here}
 use Rattle.btree_nodes.proofs.Supplies.{moves-as, one_at-same, with-same}
-use Rattle.btree_delete.specs.Body.{rows_of, cells_in, without_cell}
+use Rattle.btree_delete.specs.Body.{cells_in, without_cell}
 use Rattle.btree_delete.specs.Removal.{IsOut}
 use Rattle.btree_nodes.proofs.Gives.{moves-give}
 use Rattle.btree_delete.proofs.Joins.{few, width-some}

@@ -11,7 +11,7 @@ use Rattle.btree_nodes.specs.declared.form.Form.{Form}
 use Rattle.btree_nodes.specs.Supply.{View, view, spare_in, spare, one_at}
 use Rattle.btree_nodes.specs.Rows.{Row}
 use Rattle.page_face.specs.Nodes.{count_of}
-use Rattle.btree_nodes.specs.Nodes.{Entry, entries_in, half_of}
+use Rattle.btree_nodes.specs.Nodes.{Entry, entries_in, half_of, entries_of}
 use Rattle.btree_nodes.specs.Tree.{next_key, IsFan, IsTree, rows_at, uses, total, with_low}
 use Rattle.btree_nodes.specs.Bounds.{child_of}
 use Rattle.btree_nodes.specs.Store.{below_rows}
@@ -19,7 +19,7 @@ use Rattle.btree_nodes.proofs.Fans.{no_entry, with_low-child, with_low-key, with
 use Rattle.btree_nodes.proofs.Frames.{flat_map-append, total-append, with_low-total}
 use Rattle.btree_nodes.proofs.Spots.{entry-key, length-entries_in}
 use Rattle.btree_nodes.proofs.Supplies.{moves-beside, moves-as, moves-further}
-use Rattle.btree_delete.specs.Body.{IsBody, entries_of, cells_in, without_cell, with_key}
+use Rattle.btree_delete.specs.Body.{IsBody, cells_in, without_cell, with_key}
 use Rattle.btree_delete.specs.Mended.{Becomes, HasPair, joined}
 use Rattle.btree_delete.proofs.Holds.{becomes-as, cells-entries, cells-first}
 use Rattle.btree_delete.proofs.Joins.{few}

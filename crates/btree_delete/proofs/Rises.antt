@@ -12,16 +12,14 @@ use Rattle.btree_nodes.specs.Tree.{next_key, IsFan, IsTree, IsPlaceFor, rows_at,
 use Rattle.btree_nodes.specs.Bounds.{low_at, high_at, child_of}
 use Rattle.btree_nodes.specs.Store.{below_rows}
 use Rattle.btree_nodes.proofs.Fans.{no_entry, with_low-child, with_low-rows, length-with_low, drop-with_low, fan-within}
-use Rattle.btree_nodes.proofs.Frames.{flat_map-append, total-append, with_low-total, total-at}
-use Rattle.btree_nodes.proofs.Trees.{tree-within, place-from, place-to}
+use Rattle.btree_nodes.proofs.Frames.{flat_map-append, total-append, with_low-total, total-at, fan-split}
+use Rattle.btree_nodes.proofs.Trees.{tree-within, place-from, place-to, node-fewer}
 use Rattle.btree_nodes.proofs.Puts.{without-edit}
 use Rattle.btree_nodes.proofs.Spots.{length-entries_in}
 use Rattle.btree_nodes.proofs.Supplies.{moves-beside, moves-as, moves-further, one_at-same}
 use Rattle.btree_delete.specs.Mended.{Becomes, HasLow, IsBeside}
 use Rattle.btree_delete.specs.Removal.{IsOut, HasRemoved}
-use Rattle.btree_delete.proofs.Bodies.{fan-split}
 use Rattle.btree_delete.proofs.Holds.{becomes-as}
-use Rattle.btree_delete.proofs.Settles.{node-fewer}
 use Rattle.btree_nodes.proofs.Walks.{uses-self}
 use Rattle.btree_delete.proofs.Among.{front-same, back-same, among-moves, among-rows}
 

@@ -5,7 +5,7 @@ use Rattle.std.proofs.lemmas.Nat.{le-div}
 use Rattle.page_face.specs.FreeList.{PageMap}
 use Rattle.btree_nodes.specs.declared.form.Form.{Form}
 use Rattle.btree_nodes.specs.Supply.{view, IsSupplied, Moves, one_at}
-use Rattle.page_face.specs.Nodes.{count_of, IsNode}
+use Rattle.page_face.specs.Nodes.{count_of}
 use Rattle.btree_nodes.specs.Nodes.{Entry, entries_in, IsInner, width_of, half_of, half_of_width}
 use Rattle.btree_nodes.specs.Tree.{next_key, IsFan, IsTree, rows_at, uses, total, with_low}
 use Rattle.btree_nodes.specs.Store.{below_rows}
@@ -13,23 +13,12 @@ use Rattle.btree_nodes.proofs.Fans.{length-with_low}
 use Rattle.btree_nodes.proofs.Spots.{length-entries_in}
 use Rattle.btree_delete.specs.Body.{cells_in}
 use Rattle.btree_delete.specs.Mended.{Becomes, HasPair, HasLow}
-use Rattle.btree_delete.proofs.Bodies.{fan-split, fan-lt, body-lt}
+use Rattle.btree_delete.proofs.Bodies.{body-lt}
 use Rattle.btree_delete.proofs.Joins.{width-some}
 use Rattle.btree_delete.proofs.Holds.{holds-tree}
 use Rattle.btree_delete.proofs.Among.{fan-between}
-
-pub node-fewer : (number kind level width most least : ℕ) (page : List ℕ) → least ≤ count_of page → IsNode number kind level width most page → IsNode number kind level width least page
-node-fewer number kind level width most least page h n = record {
-  size = n.size;
-  kind = n.kind;
-  of = n.of;
-  level = n.level;
-  some = n.some;
-  fill = h;
-  fits = n.fits;
-  plain = n.plain;
-  rest = n.rest;
-}
+use Rattle.btree_nodes.proofs.Frames.{fan-split, fan-lt}
+use Rattle.btree_nodes.proofs.Trees.{node-fewer}
 
 -- a tree whose top has as many cells as it has
 pub tree-as : (form : Form) (most least : ℕ) (pages : PageMap) (level page low high : ℕ) → least ≤ count_of (pages page) → IsTree form most pages level page low high → IsTree form least pages level page low high

@@ -2,7 +2,6 @@
 use Rattle.std.proofs.Common.{◌≡◌, ℕ, zero, suc, ◌<◌, ◌≤◌, inl, inr, List, [], ◌∷◌, ◌++◌, length, arith, refl, sym, ap, ◌∙◌, subst, Result, Err, Option, Some, None}
 use Rattle.page_face.specs.FreeList.{PageMap}
 use Rattle.page_face.specs.Calls.{Reads, TakesNone}
-use Rattle.page_face.specs.Causes.{asked_after}
 use Rattle.page_face.specs.declared.fault.Rule.{Rule}
 use Rattle.page_face.specs.declared.fault.Damage.{Damage}
 use Rattle.page_face.specs.declared.fault.PageFault.{PageFault}
@@ -40,12 +39,6 @@ damage-rule form pages count damage least zero page low high bytes rule fault is
 damage-rule form pages count damage least (suc level) page low high bytes rule fault is e f h =
     let same : record { page = page; rule = rule } ≡ damage = cc in
     subst (λ (d : Damage). IsDamaged form pages count d least (suc level) page low high) same (inl (refl, inr (subst (λ (b : List ℕ). BreaksInner rule form least (suc level) low high b) is h)))
-
--- a read that was refused as damaged has asked for its page
-pub named-refused : {T : Type 0} (asked new : List ℕ) (child : ℕ) (result : Result T PageFault) (damage : Damage) → new ≡ asked_after result child asked → result ≡ Err (Damaged damage) → damage.page ≡ child → AskedSince asked new damage.page
-named-refused {T = T} asked new child result damage n e same =
-    asked-here asked new damage.page
-    (n ∙ ap (λ (r : Result T PageFault). asked_after r child asked) e ∙ ap (λ (p : ℕ). asked ++ p ∷ []) (sym same))
 
 -- the page asked for, and then its child
 pub asked-child : (before asked new : List ℕ) (page child : ℕ) → AskedSince before asked page → new ≡ asked ++ child ∷ [] → AskedSince before new child

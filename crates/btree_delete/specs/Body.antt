@@ -1,11 +1,10 @@
 -- The cells of a page of a map, apart from the page.
-use Rattle.std.specs.Prelude.{◌≡◌, ℕ, zero, suc, ◌+◌, ◌*◌, List, ◌++◌, length, take, drop, map, replicate}
+use Rattle.std.specs.Prelude.{◌≡◌, ℕ, zero, suc, ◌+◌, ◌*◌, List, ◌++◌, length, take, drop, replicate}
 use Rattle.page_face.specs.FreeList.{PageMap}
 use Rattle.page_face.specs.Number.{number}
-use Rattle.page_face.specs.Cells.{chop}
 use Rattle.btree_nodes.specs.declared.form.Form.{Form}
 use Rattle.btree_nodes.specs.Rows.{Row, IsWithin}
-use Rattle.btree_nodes.specs.Nodes.{Entry, row_of, entry_of, half_of}
+use Rattle.btree_nodes.specs.Nodes.{half_of, rows_of, entries_of}
 use Rattle.btree_nodes.specs.Tree.{uses, total, with_low, IsFan, IsTree}
 use Rattle.btree_nodes.specs.Store.{below_rows}
 
@@ -13,14 +12,6 @@ use Rattle.btree_nodes.specs.Store.{below_rows}
 abbrev pub kind_of : ℕ → ℕ
 kind_of zero = 1
 kind_of (suc level) = 2
-
--- the rows of so many cells of a leaf
-abbrev pub rows_of : Form → ℕ → List ℕ → List Row
-rows_of form count bytes = map (row_of form.key) (chop (form.key + form.value) count bytes)
-
--- the entries of so many cells of an inner page
-abbrev pub entries_of : Form → ℕ → List ℕ → List Entry
-entries_of form count bytes = map (entry_of form.key) (chop (form.key + 4) count bytes)
 
 -- So many cells are those of a node of this level whose keys go from `low` up to `high`: rows in order, or entries whose first key is zeros and whose children are half full.
 abbrev pub IsBody : Form → PageMap → ℕ → ℕ → ℕ → ℕ → List ℕ → Type 0

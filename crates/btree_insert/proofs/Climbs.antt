@@ -17,7 +17,7 @@ use Rattle.btree_nodes.proofs.Frames.{EditFan, fan-edit, tree-frame, total-at, w
 use Rattle.btree_nodes.proofs.Puts.{put-edit}
 use Rattle.btree_insert.proofs.Leaves.{grown-two}
 
-up-one : (at : ℕ) → at + 1 ≡ suc at
+pub up-one : (at : ℕ) → at + 1 ≡ suc at
 up-one at = omega arith
 
 same-least : (b : Bool) (half : ℕ) → (if b then half else half) ≡ half

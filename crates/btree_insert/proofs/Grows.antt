@@ -1,10 +1,8 @@
 -- A put below an inner page, seen from the page.
-use Rattle.std.proofs.Common.{◌≡◌, ℕ, zero, suc, ◌+◌, ◌<◌, ◌≤◌, inl, inr, Bool, List, [], ◌∷◌, ◌++◌, length, arith, refl, sym, ap, ◌∙◌, subst, Result, Err}
+use Rattle.std.proofs.Common.{◌≡◌, ℕ, zero, suc, ◌+◌, ◌<◌, ◌≤◌, inl, inr, Bool, List, [], ◌∷◌, ◌++◌, length, arith, refl, sym, ap, ◌∙◌, subst}
 use Rattle.page_face.specs.FreeList.{PageMap}
 use Rattle.page_face.specs.declared.fault.Rule.{Rule}
 use Rattle.page_face.specs.declared.fault.Damage.{Damage}
-use Rattle.page_face.specs.declared.fault.PageFault.{PageFault}
-use Rattle.page_face.specs.declared.fault.PageFault.TheVariants.{Damaged}
 use Rattle.btree_nodes.specs.declared.form.Form.{Form}
 use Rattle.btree_nodes.specs.Supply.{view, IsSupplied, spare}
 use Rattle.btree_nodes.specs.Rows.{lookup, put}
@@ -23,16 +21,6 @@ use Rattle.btree_nodes.proofs.Trees.{tree-size, child-uses}
 use Rattle.btree_nodes.proofs.Harms.{asks-here, asks-further, asks-more}
 use Rattle.btree_nodes.proofs.Walks.{tree-below, damage-below, lookup-below, told-read, uses-self, uses-below}
 use Rattle.btree_insert.proofs.Climbs.{not_split, page-same, Links, links}
-
--- the damage that a refusal names
-damage_in : {T : Type 0} → Damage → Result T PageFault → Damage
-damage_in other (Err (Damaged damage)) = damage
-damage_in other _ = other
-
-pub same-damage : {T : Type 0} (result : Result T PageFault) (fault : PageFault) (first second : Damage) → result ≡ Err fault → fault ≡ Damaged first → result ≡ Err (Damaged second) → second ≡ first
-unfolding damage_in
-same-damage {T = T} result fault first second e f h =
-    sym (ap (damage_in {T = T} first) h) ∙ ap (damage_in {T = T} first) e ∙ ap (λ (x : PageFault). damage_in {T = T} first (Err x)) f
 
 -- a leaf that breaks a rule
 pub damage-leaf : (form : Form) (pages : PageMap) (count : ℕ) (damage : Damage) (least level page low high : ℕ) (bytes : List ℕ) → level ≡ 0 → bytes ≡ pages page

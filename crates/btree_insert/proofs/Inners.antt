@@ -1,56 +1,32 @@
 -- Inner pages that were made.
-use Rattle.std.proofs.Common.{◌≡◌, ℕ, zero, suc, ◌+◌, ◌-◌, ◌*◌, ◌/◌, ◌^◌, ◌<◌, ◌≤◌, List, [], ◌∷◌, ◌++◌, length, take, drop, map, replicate, arith, refl, sym, ap, ◌∙◌, subst, append-nil}
-use Rattle.std.proofs.lemmas.List.{drop-take, length-drop, length-append, length-replicate, map-append, take-take, take-append-drop, take-append-le, take_at, drop_at, drop-drop, length-take-le, length-map}
-use Rattle.std.proofs.Math.Nat.{mul-le-mul_left, mul-zero, zero-mul}
+use Rattle.std.proofs.Common.{◌≡◌, ℕ, suc, ◌+◌, ◌-◌, ◌*◌, ◌/◌, ◌^◌, ◌<◌, ◌≤◌, List, [], ◌∷◌, ◌++◌, length, take, drop, map, replicate, arith, refl, sym, ap, ◌∙◌, subst, append-nil}
+use Rattle.std.proofs.lemmas.List.{length-drop, length-append, length-replicate, map-append, take-take, take-append-drop, take_at, length-take-le}
+use Rattle.std.proofs.Math.Nat.{mul-le-mul_left}
 use Rattle.page_face.specs.FreeList.{PageMap, with_page}
 use Rattle.btree_nodes.specs.Supply.{one_at, spare}
 use Rattle.btree_nodes.specs.Supply.{View, view, IsSupplied, spare_in, Moves}
 use Rattle.btree_nodes.proofs.Supplies.{moves-write, moves-as, moves-beside, one_at-same, with-same, with-other}
-use Rattle.std.specs.Int.{from_be_bytes, w32}
 use Rattle.page_face.specs.Number.{number}
-use Rattle.page_face.specs.Cells.{chop, key_at}
+use Rattle.page_face.specs.Cells.{chop}
 use Rattle.btree_nodes.specs.Build.{image}
-use Rattle.btree_nodes.proofs.Chops.{chop-append, length-chop}
+use Rattle.btree_nodes.proofs.Chops.{chop-append}
 use Rattle.btree_nodes.specs.declared.form.Form.{Form}
 use Rattle.btree_nodes.specs.Rows.{Row}
-use Rattle.btree_nodes.specs.Nodes.{Entry, IsInner, entries_in, entry_of, half_of}
+use Rattle.btree_nodes.specs.Nodes.{Entry, IsInner, entries_in, entry_of, half_of, entries_of}
 use Rattle.btree_nodes.specs.Tree.{next_key, IsTree, IsFan, rows_at, uses, total, with_low}
 use Rattle.btree_nodes.specs.Store.{IsSplit, IsGrown, below_rows}
-use Rattle.btree_nodes.proofs.Fans.{with_low-rows, length-with_low}
-use Rattle.btree_nodes.proofs.Frames.{SameFan, fan-frame, tree-frame, fan-head, flat_map-append, total-append, with_low-total}
-use Rattle.btree_nodes.proofs.Images.{image-node, image-cells}
+use Rattle.btree_nodes.proofs.Fans.{with_low-rows, length-with_low, with_low-append}
+use Rattle.btree_nodes.proofs.Frames.{SameFan, fan-frame, tree-frame, flat_map-append, total-append, with_low-total, fan-lt, fan-split}
+use Rattle.btree_nodes.proofs.Images.{image-node, image-entries, image-first}
+use Rattle.btree_nodes.proofs.Numbers.{number-zeros}
+use Rattle.btree_nodes.proofs.Cells.{length-entries_of, key-first, zeroed-entries}
 use Rattle.btree_insert.proofs.Leaves.{grown-two, after-split, half-split}
-
-abbrev pub entries_of : Form → ℕ → List ℕ → List Entry
-entries_of form count bytes = map (entry_of form.key) (chop (form.key + 4) count bytes)
-
-pub fan-lt : (P : ℕ → ℕ → ℕ → Type 0) (low high : ℕ) (es : List Entry) → 0 < length es → IsFan P low high es → low < high
-fan-lt P low high [] k h = absurd (omega arith)
-fan-lt P low high (e ∷ []) k h = h.1
-fan-lt P low high (e ∷ (f ∷ es)) k h = let r = fan-lt P f.0 high (f ∷ es) (omega arith) h.3 in let l = h.1 in omega arith
-
-pub fan-split : (P : ℕ → ℕ → ℕ → Type 0) (low high : ℕ) (xs ys : List Entry) → IsFan P low high (xs ++ ys) → IsFan P low (next_key high ys) xs × IsFan P (next_key high ys) high ys
-fan-split P low high [] ys h = let e = fan-head P low high ys h in (sym e, subst (λ (k : ℕ). IsFan P k high ys) (sym e) h)
-fan-split P low high (x ∷ []) ys h = ((h.0, h.1, h.2, refl), h.3)
-fan-split P low high (x ∷ (z ∷ xs)) ys h = let r = fan-split P z.0 high (z ∷ xs) ys h.3 in ((h.0, h.1, h.2, r.0), r.1)
 
 -- an inner page that was made, with these entries
 pub record IsInnerOf (form : Form) (least : ℕ) (pages : PageMap) (level page low high : ℕ) (es : List Entry) : Type 0 where
   pub tree : IsTree form least pages (suc level) page low high
   pub gives : rows_at form pages (suc level) page ≡ below_rows form pages level es
   pub used : (n : ℕ) → uses form pages (suc level) page n ≡ one_at page n + total (λ (c : ℕ). uses form pages level c n) es
-
-image-entries : (form : Form) (level count : ℕ) (bytes : List ℕ) → count < 2 ^ 16 → length bytes ≡ (form.key + 4) * count → 16 + length bytes ≤ 4096
-    → entries_in form (image form.map 2 level count bytes) ≡ entries_of form count bytes
-unfolding entries_in
-image-entries form level count bytes small whole fits = ap (map (entry_of form.key)) (image-cells form.map 2 level (form.key + 4) 0 count bytes small whole fits)
-
-image-first : (form : Form) (level count : ℕ) (bytes : List ℕ) → form.key ≤ length bytes → key_at form.key (form.key + 4) (image form.map 2 level count bytes) 0 ≡ number (take form.key bytes)
-unfolding image
-image-first form level count bytes long =
-    let from : 16 + (form.key + 4) * 0 ≡ 16 = omega (arith, mul-zero (form.key + 4)) in
-    ap (λ (k : ℕ). number (take form.key (drop k (image form.map 2 level count bytes)))) from
-    ∙ ap number (take-append-le form.key bytes (replicate (4080 - length bytes) 0) long)
 
 pub inner-of : (form : Form) (least : ℕ) (pages : PageMap) (level page low high count : ℕ) (bytes : List ℕ) (es : List Entry) → pages page ≡ image form.map 2 (suc level) count bytes → 0 < count → least ≤ count → count < 2 ^ 16
     → length bytes ≡ (form.key + 4) * count → 16 + length bytes ≤ 4096 → number (take form.key bytes) ≡ 0 → es ≡ with_low low (entries_of form count bytes)
@@ -83,7 +59,7 @@ kept-fan form before new level page low high es others once fan =
     let b : spare_in before n ≡ 0 = omega arith in others n a b)
 
 length-es : (form : Form) (n : ℕ) (bytes : List ℕ) (low : ℕ) → length (with_low low (entries_of form n bytes)) ≡ n
-length-es form n bytes low = length-with_low low (entries_of form n bytes) ∙ length-map (chop (form.key + 4) n bytes) (entry_of form.key) ∙ length-chop (form.key + 4) n bytes
+length-es form n bytes low = length-with_low low (entries_of form n bytes) ∙ length-entries_of form n bytes
 
 -- an inner page that was written over
 pub one_inner : (form : Form) (least : ℕ) (old new : PageMap) (count first count' first' level page low high n middle : ℕ) (bytes free : List ℕ) → new ≡ with_page page (image form.map 2 (suc level) n bytes) old → count' ≡ count → first' ≡ first
@@ -112,40 +88,6 @@ one_inner form least old new count first count' first' level page low high n mid
       gives = append-nil (rows_at form new (suc level) page) ∙ inner.gives ∙ kept.rows;
     }
 
-pub number-zeros : (n : ℕ) → number (replicate n 0) ≡ 0
-number-zeros zero = refl
-number-zeros (suc n) = let h = number-zeros n in omega (arith, zero-mul (256 ^ length {A = ℕ} (replicate n 0)))
-
-with_low-append : (low : ℕ) (xs ys : List Entry) → 0 < length xs → with_low low (xs ++ ys) ≡ with_low low xs ++ ys
-with_low-append low [] ys h = absurd (omega arith)
-with_low-append low (x ∷ xs) ys h = refl
-
--- the entries of a page whose first key is written as zeros
-module _ (form : Form) (rest : ℕ) (b : List ℕ) (long : (form.key + 4) * suc rest ≤ length b) where
-  zeroed : List ℕ
-  zeroed = replicate form.key 0 ++ drop form.key b
-
-  child-same : drop form.key (take (form.key + 4) zeroed) ≡ drop form.key (take (form.key + 4) b)
-  unfolding zeroed
-  child-same = drop-take form.key 4 zeroed ∙ ap (take 4) (drop_at (replicate form.key 0) (drop form.key b) form.key (length-replicate form.key 0)) ∙ sym (drop-take form.key 4 b)
-
-  others-same : drop (form.key + 4) zeroed ≡ drop (form.key + 4) b
-  unfolding zeroed
-  others-same = sym (drop-drop 4 form.key zeroed) ∙ ap (drop 4) (drop_at (replicate form.key 0) (drop form.key b) form.key (length-replicate form.key 0)) ∙ drop-drop 4 form.key b
-
-  key-same : number (take form.key (take (form.key + 4) b)) ≡ number (take form.key b)
-  key-same = ap number (take-take form.key (form.key + 4) b (omega arith))
-
-  pub zeroed-entries : entries_of form (suc rest) b ≡ with_low (number (take form.key b)) (entries_of form (suc rest) (replicate form.key 0 ++ drop form.key b))
-  unfolding zeroed
-  zeroed-entries =
-      ap (λ (k : ℕ). (k, from_be_bytes w32 (drop form.key (take (form.key + 4) b))) ∷ map (entry_of form.key) (chop (form.key + 4) rest (drop (form.key + 4) b))) key-same
-      ∙ ap (λ (c : List ℕ). (number (take form.key b), from_be_bytes w32 c) ∷ map (entry_of form.key) (chop (form.key + 4) rest (drop (form.key + 4) b))) (sym child-same)
-      ∙ ap (λ (c : List ℕ). (number (take form.key b), from_be_bytes w32 (drop form.key (take (form.key + 4) zeroed))) ∷ map (entry_of form.key) (chop (form.key + 4) rest c)) (sym others-same)
-
-  pub next-key : (high : ℕ) → next_key high (entries_of form (suc rest) b) ≡ number (take form.key b)
-  next-key high = key-same
-
 -- an inner page that became two
 pub two_inner : (form : Form) (least : ℕ) (before : View) (new : PageMap) (count' first' level page right low high half rest : ℕ) (bytes : List ℕ)
     → IsSplit before new count' first' page right (image form.map 2 (suc level) half (take ((form.key + 4) * half) bytes))
@@ -168,7 +110,7 @@ two_inner form least before new count' first' level page right low high half res
     let one_wide = mul-le-mul_left {m = 1} {n = half} w left in
     let la : length a ≡ w * half = length-take-le (w * half) bytes (omega arith) in
     let lb : length b ≡ w * suc rest = omega (arith, length-drop (w * half) bytes) in
-    let ls : length (entries_of form half a) ≡ half = length-map (chop w half a) (entry_of form.key) ∙ length-chop w half a in
+    let ls : length (entries_of form half a) ≡ half = length-entries_of form half a in
     let pieces : entries_of form (half + suc rest) bytes ≡ entries_of form half a ++ ys =
     ap (λ (x : List ℕ). entries_of form (half + suc rest) x) (sym (take-append-drop (w * half) bytes))
     ∙ ap (map (entry_of form.key)) (chop-append w half (suc rest) a b la)
@@ -176,7 +118,7 @@ two_inner form least before new count' first' level page right low high half res
     let joined : es ≡ xs ++ ys = ap (with_low low) pieces ∙ with_low-append low (entries_of form half a) ys (omega arith) in
     let kept = kept-fan form before new level page low high es split.moves.others once fan in
     let parts = fan-split (IsTree form (half_of form level) new level) low high xs ys (subst (λ (x : List Entry). IsFan (IsTree form (half_of form level) new level) low high x) joined kept.fan) in
-    let nk : next_key high ys ≡ m = next-key form rest b (omega arith) high in
+    let nk : next_key high ys ≡ m = key-first form rest b high in
     let fan_left : IsFan (IsTree form (half_of form level) new level) low m xs = subst (λ (k : ℕ). IsFan (IsTree form (half_of form level) new level) low k xs) nk parts.0 in
     let fan_right : IsFan (IsTree form (half_of form level) new level) m high ys = subst (λ (k : ℕ). IsFan (IsTree form (half_of form level) new level) k high ys) nk parts.1 in
     let first_left : number (take form.key a) ≡ 0 = ap number (take-take form.key (w * half) bytes (omega arith)) ∙ zero_key in

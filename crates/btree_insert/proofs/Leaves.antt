@@ -1,6 +1,6 @@
 -- Leaves that were made.
 use Rattle.std.proofs.Common.{◌≡◌, ℕ, suc, ◌+◌, ◌-◌, ◌*◌, ◌/◌, ◌^◌, ◌<◌, ◌≤◌, List, [], ◌∷◌, ◌++◌, length, take, drop, map, arith, refl, sym, ap, ◌∙◌, subst, false, ◌==◌, append-nil}
-use Rattle.std.proofs.lemmas.List.{length-drop, map-append, take-take, take-append-drop, length-take-le, length-map}
+use Rattle.std.proofs.lemmas.List.{length-drop, map-append, take-take, take-append-drop, length-take-le}
 use Rattle.std.proofs.lemmas.Bool.Decides.{nat_tests}
 use Rattle.std.proofs.lemmas.Bool.{cases_lt}
 use Rattle.std.proofs.Common.{⊎_elim}
@@ -12,28 +12,15 @@ use Rattle.btree_nodes.proofs.Supplies.{moves-write, moves-as, one_at-same, with
 use Rattle.page_face.specs.Number.{number}
 use Rattle.page_face.specs.Cells.{chop}
 use Rattle.btree_nodes.specs.Build.{image}
-use Rattle.btree_nodes.proofs.Chops.{chop-append, length-chop}
+use Rattle.btree_nodes.proofs.Chops.{chop-append}
 use Rattle.btree_nodes.specs.declared.form.Form.{Form}
 use Rattle.btree_nodes.specs.Rows.{Row, IsWithin}
-use Rattle.btree_nodes.specs.Nodes.{IsLeaf, rows_in, row_of, half_of, half_of_width}
+use Rattle.btree_nodes.specs.Nodes.{IsLeaf, rows_in, row_of, half_of, half_of_width, rows_of}
 use Rattle.btree_nodes.specs.Tree.{IsTree, IsFan, rows_at}
 use Rattle.btree_nodes.specs.Store.{IsSplit, IsGrown, grown, least_after}
-use Rattle.btree_nodes.proofs.Spans.{within-le}
+use Rattle.btree_nodes.proofs.Spans.{within-lt, within-split}
 use Rattle.btree_nodes.proofs.Images.{image-node, image-rows}
-
-abbrev pub rows_of : Form → ℕ → List ℕ → List Row
-rows_of form count bytes = map (row_of form.key) (chop (form.key + form.value) count bytes)
-
-pub length-rows_of : (form : Form) (count : ℕ) (bytes : List ℕ) → length (rows_of form count bytes) ≡ count
-length-rows_of form count bytes = length-map (chop (form.key + form.value) count bytes) (row_of form.key) ∙ length-chop (form.key + form.value) count bytes
-
-pub within-lt : (low high : ℕ) (rows : List Row) → 0 < length rows → IsWithin low high rows → low < high
-within-lt low high [] k h = absurd (omega arith)
-within-lt low high (row ∷ rows) k h = let m = within-le (row.0 + 1) high rows h.1 in let g = h.0 in omega arith
-
-pub within-split : (low high : ℕ) (xs : List Row) (y : Row) (ys : List Row) → IsWithin low high (xs ++ (y ∷ ys)) → IsWithin low y.0 xs × IsWithin y.0 high (y ∷ ys)
-within-split low high [] y ys h = (h.0, (omega arith, h.1))
-within-split low high (x ∷ xs) y ys h = let r = within-split (x.0 + 1) high xs y ys h.1 in ((h.0, r.0), r.1)
+use Rattle.btree_nodes.proofs.Cells.{length-rows_of}
 
 -- a leaf that was made, with these rows
 pub record IsLeafOf (form : Form) (least : ℕ) (pages : PageMap) (page low high : ℕ) (rows : List Row) : Type 0 where

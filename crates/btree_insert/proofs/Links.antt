@@ -10,10 +10,9 @@ use Rattle.page_face.specs.Cells.{chop, cells, key_at}
 use Rattle.btree_nodes.proofs.Chops.{chop-splice, length-chop}
 use Rattle.btree_nodes.specs.declared.form.Form.{Form}
 use Rattle.page_face.specs.Nodes.{count_of}
-use Rattle.btree_nodes.specs.Nodes.{Entry, entries_in, entry_of}
+use Rattle.btree_nodes.specs.Nodes.{Entry, entries_in, entry_of, entries_of}
 use Rattle.btree_nodes.specs.Tree.{with_low}
 use Rattle.btree_nodes.specs.Store.{linked}
-use Rattle.btree_insert.proofs.Inners.{entries_of}
 use Rattle.btree_insert.proofs.PutLeaf.{chop-body}
 
 with_low-put : (low : ℕ) (es : List Entry) (at : ℕ) (x : Entry) → at < length es → with_low low (take (suc at) es ++ (x ∷ drop (suc at) es)) ≡ take (suc at) (with_low low es) ++ (x ∷ drop (suc at) (with_low low es))

@@ -1,5 +1,5 @@
 -- A row that is put into a leaf's cells.
-use Rattle.std.proofs.Common.{◌≡◌, ℕ, suc, ◌+◌, ◌-◌, ◌*◌, ◌<◌, ◌≤◌, ◌⊎◌, inl, inr, List, ◌∷◌, ◌++◌, length, get_or, take, drop, map, arith, sym, ap, ◌∙◌, subst, ⊎_elim, true, false, nat_eq}
+use Rattle.std.proofs.Common.{◌≡◌, ℕ, ◌+◌, ◌-◌, ◌*◌, ◌<◌, ◌≤◌, ◌⊎◌, inl, inr, List, ◌∷◌, ◌++◌, length, get_or, take, drop, map, arith, sym, ap, ◌∙◌, subst, ⊎_elim, true, false, nat_eq}
 use Rattle.std.proofs.Math.Nat.{mul-suc}
 use Rattle.std.specs.Option.{is_some}
 use Rattle.std.proofs.lemmas.Bool.Decides.{nat_tests}
@@ -12,12 +12,12 @@ use Rattle.btree_nodes.proofs.Chops.{chop-splice, chop-front, length-chop}
 use Rattle.btree_nodes.specs.declared.form.Form.{Form}
 use Rattle.btree_nodes.specs.Rows.{Row, IsWithin, IsMade, lookup, put}
 use Rattle.page_face.specs.Nodes.{count_of}
-use Rattle.btree_nodes.specs.Nodes.{row_of, rows_in}
+use Rattle.btree_nodes.specs.Nodes.{row_of, rows_in, rows_of}
 use Rattle.btree_nodes.proofs.Spans.{no_row, within-append}
 use Rattle.btree_nodes.proofs.Puts.{put-append_right, put-first, put-here}
 use Rattle.btree_nodes.proofs.Finds.{front, back, beyond, found, missed}
 use Rattle.btree_nodes.proofs.Spots.{length-rows_in, row-key}
-use Rattle.btree_insert.proofs.Leaves.{rows_of}
+use Rattle.btree_insert.proofs.Climbs.{up-one}
 
 put-at : (low high key : ℕ) (value : List ℕ) (rows : List Row) (at gone : ℕ) → IsWithin low key (take at rows)
     → ((gone ≡ 0) × IsWithin (key + 1) high (drop at rows)) ⊎ ((gone ≡ 1) × (at < length rows) × ((get_or rows at no_row).0 ≡ key) × IsWithin key high (drop at rows))
@@ -42,15 +42,12 @@ put-at low high key value rows at gone f (inr c) =
       is = rw one (sym (joined ∙ ap (λ (x : List Row). take at rows ++ x) (ap (put key value) more ∙ put-here key value (get_or rows at no_row) (drop (at + 1) rows) c.2)));
     }
 
-one_more : (n : ℕ) → n + 1 ≡ suc n
-one_more n = omega arith
-
 -- the cells have room for the new one
 pub room-splice : (width count at gone out body both : ℕ) → gone ≤ 1 → at + gone ≤ count → out ≡ width * (count + 1 - gone) → body ≡ width * count → both ≡ width
     → out + (width * (at + gone) - width * at) ≡ body + both
 room-splice width count at gone out body both small inside o b w =
-    let more : width * (count + 1) ≡ width * count + width = ap (λ (n : ℕ). width * n) (one_more count) ∙ mul-suc width count in
-    let next : width * (at + 1) ≡ width * at + width = ap (λ (n : ℕ). width * n) (one_more at) ∙ mul-suc width at in
+    let more : width * (count + 1) ≡ width * count + width = ap (λ (n : ℕ). width * n) (up-one count) ∙ mul-suc width count in
+    let next : width * (at + 1) ≡ width * at + width = ap (λ (n : ℕ). width * n) (up-one at) ∙ mul-suc width at in
     ⊎_elim
     (λ (e : gone ≡ 1).
     let f : width * (count + 1 - gone) ≡ width * count = ap (λ (n : ℕ). width * n) (omega arith) in

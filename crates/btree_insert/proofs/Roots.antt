@@ -11,12 +11,12 @@ use Rattle.page_face.specs.Number.{number}
 use Rattle.btree_nodes.specs.Build.{image}
 use Rattle.btree_nodes.specs.declared.form.Form.{Form}
 use Rattle.btree_nodes.specs.Rows.{Row, IsWithin}
-use Rattle.btree_nodes.specs.Nodes.{Entry, entry_of, row_of, half_of}
-use Rattle.btree_insert.proofs.Leaves.{rows_of, one_leaf, grown-two, after-split}
+use Rattle.btree_nodes.specs.Nodes.{Entry, entry_of, row_of, half_of, rows_of, entries_of}
+use Rattle.btree_insert.proofs.Leaves.{one_leaf, grown-two, after-split}
 use Rattle.btree_nodes.specs.Tree.{IsTree, IsFan, rows_at, uses, total, with_low}
 use Rattle.btree_nodes.specs.Store.{IsGrown, below_rows, least_after}
 use Rattle.btree_nodes.proofs.Frames.{SameFan, fan-frame, tree-frame}
-use Rattle.btree_insert.proofs.Inners.{entries_of, one_inner}
+use Rattle.btree_insert.proofs.Inners.{one_inner}
 
 pub two-joined : (z l m r a b d e : List ℕ) (key : ℕ) → z ≡ replicate key 0 → length m ≡ key → length l ≡ 4 → length r ≡ 4 → length e ≡ (key + 4) + (key + 4)
     → take (0 + length z) a ≡ z → take (key + length l) b ≡ take key a ++ l → take (key + 4 + length m) d ≡ take (key + 4) b ++ m → take (key + 4 + key + length r) e ≡ take (key + 4 + key) d ++ r

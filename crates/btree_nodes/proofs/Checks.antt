@@ -23,7 +23,7 @@ use Rattle.btree_nodes.proofs.Fans.{no_entry, with_low-key, length-with_low}
 use Rattle.btree_nodes.proofs.Spots.{length-rows_in, row-key, length-entries_in, entry-key}
 use Rattle.btree_nodes.proofs.Orders.{within-of, within-step, within-last, fan-of, fan-step, fan-last}
 
-and-true : (a b : Bool) → (a && b) ≡ true → (a ≡ true) × (b ≡ true)
+pub and-true : (a b : Bool) → (a && b) ≡ true → (a ≡ true) × (b ≡ true)
 and-true true b h = (refl, h)
 and-true false b h = cc
 

@@ -1,5 +1,5 @@
 -- The children of an inner page.
-use Rattle.std.proofs.Common.{◌≡◌, ℕ, zero, suc, ◌<◌, ◌≤◌, List, [], ◌∷◌, length, get_or, drop, arith, refl, sym, ◌∙◌, subst}
+use Rattle.std.proofs.Common.{◌≡◌, ℕ, zero, suc, ◌<◌, ◌≤◌, List, [], ◌∷◌, ◌++◌, length, get_or, drop, arith, refl, sym, ap, ◌∙◌, subst}
 use Rattle.std.specs.List.{flat_map}
 use Rattle.btree_nodes.specs.Rows.{Row, IsWithin, lookup}
 use Rattle.btree_nodes.specs.Nodes.{Entry}
@@ -75,6 +75,18 @@ pub with_low-from : (low key : ℕ) (es : List Entry) (i : ℕ) → low ≤ key 
 with_low-from low key [] i h k = k
 with_low-from low key (e ∷ es) zero h k = h
 with_low-from low key (e ∷ es) (suc i) h k = k
+
+pub with_low-append : (low : ℕ) (xs ys : List Entry) → 0 < length xs → with_low low (xs ++ ys) ≡ with_low low xs ++ ys
+with_low-append low [] ys h = absurd (omega arith)
+with_low-append low (x ∷ xs) ys h = refl
+
+pub with_low-own : (low : ℕ) (es : List Entry) (high : ℕ) → 0 < length es → next_key high es ≡ low → with_low low es ≡ es
+with_low-own low [] high s h = refl
+with_low-own low (e ∷ es) high s h = ap (λ (k : ℕ). (k, e.1) ∷ es) (sym h)
+
+pub with_low-twice : (low more : ℕ) (es : List Entry) → with_low low (with_low more es) ≡ with_low low es
+with_low-twice low more [] = refl
+with_low-twice low more (e ∷ es) = refl
 
 -- what is behind a place doesn't depend on the first key
 pub drop-with_low : (low : ℕ) (es : List Entry) (at : ℕ) → drop (suc at) (with_low low es) ≡ drop (suc at) es

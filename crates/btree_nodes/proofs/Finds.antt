@@ -16,7 +16,7 @@ pub place_as : {k k' w n n' g g' at : ℕ} {page : List ℕ} → k ≡ k' → n 
 place_as {k = k} {k' = k'} {w = w} {n = n} {n' = n'} {g = g} {g' = g'} {at = at} {page = page} e f h p =
     subst (λ (x : ℕ). IsPlace x w n' page g' at) e (subst (λ (x : ℕ). IsPlace k w x page g' at) f (subst (λ (x : ℕ). IsPlace k w n page x at) h p))
 
-lookup-here : (key : ℕ) (row : Row) (rows : List Row) → row.0 ≡ key → lookup key (row ∷ rows) ≡ Some row.1
+pub lookup-here : (key : ℕ) (row : Row) (rows : List Row) → row.0 ≡ key → lookup key (row ∷ rows) ≡ Some row.1
 lookup-here key row rows h = grind (arith, nat_tests)
 
 module _ (form : Form) (page : List ℕ) (low high key at : ℕ) (place : IsPlace form.key (form.key + form.value) (count_of page) page key at) (within : IsWithin low high (rows_in form page)) (from : low ≤ key) (to : key < high) where

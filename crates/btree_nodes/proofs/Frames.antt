@@ -29,6 +29,18 @@ fan-append P low high (x ∷ xs) ys h k =
       subst (λ (b : ℕ). IsFan P b high (xs ++ ys)) e (fan-append P (next_key (next_key high ys) xs) high xs ys h.3 k),
     )
 
+-- entries between bounds leave room between them
+pub fan-lt : (P : ℕ → ℕ → ℕ → Type 0) (low high : ℕ) (es : List Entry) → 0 < length es → IsFan P low high es → low < high
+fan-lt P low high [] k h = absurd (omega arith)
+fan-lt P low high (e ∷ []) k h = h.1
+fan-lt P low high (e ∷ (f ∷ es)) k h = let r = fan-lt P f.0 high (f ∷ es) (omega arith) h.3 in let l = h.1 in omega arith
+
+-- entries that come apart at a key
+pub fan-split : (P : ℕ → ℕ → ℕ → Type 0) (low high : ℕ) (xs ys : List Entry) → IsFan P low high (xs ++ ys) → IsFan P low (next_key high ys) xs × IsFan P (next_key high ys) high ys
+fan-split P low high [] ys h = let e = fan-head P low high ys h in (sym e, subst (λ (k : ℕ). IsFan P k high ys) (sym e) h)
+fan-split P low high (x ∷ []) ys h = ((h.0, h.1, h.2, refl), h.3)
+fan-split P low high (x ∷ (z ∷ xs)) ys h = let r = fan-split P z.0 high (z ∷ xs) ys h.3 in ((h.0, h.1, h.2, r.0), r.1)
+
 -- the rows below two lists of entries
 pub flat_map-append : (R : ℕ → List Row) (xs ys : List Entry) → flat_map (λ (e : Entry). R e.1) (xs ++ ys) ≡ flat_map (λ (e : Entry). R e.1) xs ++ flat_map (λ (e : Entry). R e.1) ys
 flat_map-append R [] ys = refl

@@ -1,13 +1,15 @@
 -- Pages that were made of cells.
 use Rattle.std.proofs.Common.{◌≡◌, ℕ, zero, suc, ◌+◌, ◌-◌, ◌*◌, ◌^◌, ◌<◌, ◌≤◌, List, ◌++◌, length, get_or, take, drop, map, replicate, arith, refl, sym, ap, ◌∙◌, subst, append-nil}
-use Rattle.std.proofs.lemmas.List.{drop-drop, drop_at, length-append, length-replicate}
+use Rattle.std.proofs.lemmas.List.{drop-drop, drop_at, length-append, length-replicate, take-append-le}
 use Rattle.std.proofs.lemmas.Nat.{from_be_bytes-to_be_bytes_2}
-use Rattle.page_face.specs.Cells.{chop, cells}
+use Rattle.std.proofs.Math.Nat.{mul-zero}
+use Rattle.page_face.specs.Number as numbers
+use Rattle.page_face.specs.Cells.{chop, cells, key_at}
 use Rattle.btree_nodes.specs.Build.{image}
 use Rattle.btree_nodes.proofs.Chops.{chop-append}
 use Rattle.btree_nodes.specs.declared.form.Form.{Form}
 use Rattle.page_face.specs.Nodes.{count_of, AreZero, IsNode}
-use Rattle.btree_nodes.specs.Nodes.{rows_in, row_of}
+use Rattle.btree_nodes.specs.Nodes.{rows_in, row_of, rows_of, entries_in, entry_of, entries_of}
 
 zeros : (n : ℕ) → AreZero (replicate n 0)
 zeros zero = refl
@@ -58,6 +60,19 @@ module _ (number kind level width least count : ℕ) (bytes : List ℕ) (small :
 
 -- the rows of a leaf that was made
 pub image-rows : (form : Form) (count : ℕ) (bytes : List ℕ) → count < 2 ^ 16 → length bytes ≡ (form.key + form.value) * count → 16 + length bytes ≤ 4096
-    → rows_in form (image form.map 1 0 count bytes) ≡ map (row_of form.key) (chop (form.key + form.value) count bytes)
+    → rows_in form (image form.map 1 0 count bytes) ≡ rows_of form count bytes
 unfolding rows_in
 image-rows form count bytes small whole fits = ap (map (row_of form.key)) (image-cells form.map 1 0 (form.key + form.value) 0 count bytes small whole fits)
+
+-- the entries and the first key of an inner page that was made
+pub image-entries : (form : Form) (level count : ℕ) (bytes : List ℕ) → count < 2 ^ 16 → length bytes ≡ (form.key + 4) * count → 16 + length bytes ≤ 4096
+    → entries_in form (image form.map 2 level count bytes) ≡ entries_of form count bytes
+unfolding entries_in
+image-entries form level count bytes small whole fits = ap (map (entry_of form.key)) (image-cells form.map 2 level (form.key + 4) 0 count bytes small whole fits)
+
+pub image-first : (form : Form) (level count : ℕ) (bytes : List ℕ) → form.key ≤ length bytes → key_at form.key (form.key + 4) (image form.map 2 level count bytes) 0 ≡ numbers.number (take form.key bytes)
+unfolding image
+image-first form level count bytes long =
+    let from : 16 + (form.key + 4) * 0 ≡ 16 = omega (arith, mul-zero (form.key + 4)) in
+    ap (λ (k : ℕ). numbers.number (take form.key (drop k (image form.map 2 level count bytes)))) from
+    ∙ ap numbers.number (take-append-le form.key bytes (replicate (4080 - length bytes) 0) long)

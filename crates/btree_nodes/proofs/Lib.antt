@@ -13,6 +13,7 @@ pub mod Trees
 pub mod Finds
 pub mod Puts
 pub mod Images
+pub mod Cells
 pub mod Splits
 pub mod Harms
 pub mod Firsts

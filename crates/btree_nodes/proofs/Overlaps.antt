@@ -1,6 +1,5 @@
 -- The order of two keys of eight to sixteen bytes is that of their first eight bytes, and where those are equal that of their last eight.
 use Rattle.std.proofs.Common.{◌≡◌, ◌⊎◌, inl, inr, ⊎_elim, ℕ, zero, suc, ◌+◌, ◌-◌, ◌*◌, ◌^◌, ◌<◌, ◌≤◌, List, [], ◌∷◌, length, take, drop, arith, ap, sym, ◌∙◌, subst}
-use Rattle.std.proofs.Math.Nat.{mul-le-mul_left, mul-suc}
 use Rattle.std.proofs.lemmas.Bool.{cases_lt}
 use Rattle.std.proofs.lemmas.List.{length-drop, length-take-le, get_or-drop, take-append-drop, take-take, drop-take, drop-drop}
 use Rattle.page_face.specs.Number.{number}
@@ -8,6 +7,7 @@ use Rattle.page_face.specs.Cells.{key_at}
 use Rattle.btree_nodes.proofs.Numbers.{AreBytes, higher, number-append, number_below}
 use Rattle.btree_nodes.specs.Pairs.{pair_at}
 use Rattle.btree_nodes.specs.declared.pairs.Pair.{Pair}
+use Rattle.btree_nodes.proofs.Spots.{fits_at}
 
 -- two heights are the same where the wholes that they head are
 heads : (c d r e f : ℕ) → e < r → f < r → c * r + e ≡ d * r + f → c ≡ d
@@ -112,10 +112,6 @@ module _ (key width : ℕ) (page : List ℕ) (i j : ℕ) (long : 8 ≤ key) (sho
       let fa = front-of i in let fb = front-of j in let ea = end-of i in let eb = end-of j in
       ⊎_elim (λ l. inl (omega arith)) (λ (p : (number (take 8 (take key (drop (16 + width * i) page))) ≡ number (take 8 (take key (drop (16 + width * j) page)))) × (number (drop (key - 8) (take key (drop (16 + width * i) page))) < number (drop (key - 8) (take key (drop (16 + width * j) page))))). let p0 = p.0 in let p1 = p.1 in inr (sym fa ∙ p0 ∙ fb, omega arith))
       (pairs-back key (take key (drop (16 + width * i) page)) (take key (drop (16 + width * j) page)) long short (long-of i fi) (long-of j fj) (bytes-of i) (bytes-of j) h)
-
--- a cell of those that fit is within the page
-pub fits_at : (width at count : ℕ) → at < count → 16 + width * count ≤ 4096 → 16 + width * at + width ≤ 4096
-fits_at width at count h k = omega (arith, mul-le-mul_left {m = suc at} {n = count} width h, mul-suc width at)
 
 -- the same of two pairs that were read
 module _ (key width : ℕ) (page : List ℕ) (count i : ℕ) (long : 8 ≤ key) (short : key ≤ 16) (wide : key ≤ width) (fits : 16 + width * count ≤ 4096) (size : length page ≡ 4096) (b : AreBytes page) (within : i + 1 < count)

@@ -12,6 +12,16 @@ pub within-le : (low high : ℕ) (rows : List Row) → IsWithin low high rows �
 within-le low high [] h = h
 within-le low high (row ∷ rows) h = let i = within-le (row.0 + 1) high rows h.1 in let g = h.0 in omega arith
 
+-- rows between bounds leave room between them
+pub within-lt : (low high : ℕ) (rows : List Row) → 0 < length rows → IsWithin low high rows → low < high
+within-lt low high [] k h = absurd (omega arith)
+within-lt low high (row ∷ rows) k h = let m = within-le (row.0 + 1) high rows h.1 in let g = h.0 in omega arith
+
+-- rows that come apart at a row's key
+pub within-split : (low high : ℕ) (xs : List Row) (y : Row) (ys : List Row) → IsWithin low high (xs ++ (y ∷ ys)) → IsWithin low y.0 xs × IsWithin y.0 high (y ∷ ys)
+within-split low high [] y ys h = (h.0, (omega arith, h.1))
+within-split low high (x ∷ xs) y ys h = let r = within-split (x.0 + 1) high xs y ys h.1 in ((h.0, r.0), r.1)
+
 pub within-wider : (low lower high : ℕ) (rows : List Row) → lower ≤ low → IsWithin low high rows → IsWithin lower high rows
 within-wider low lower high [] l h = omega arith
 within-wider low lower high (row ∷ rows) l h = let g = h.0 in (omega arith, h.1)

@@ -2,6 +2,7 @@
 use Rattle.std.proofs.Common.{◌≡◌, ℕ, zero, suc, ◌<◌, ◌≤◌, inl, inr, List, [], ◌∷◌, length, get_or, drop, arith, sym, ap, ◌∙◌, subst}
 use Rattle.page_face.specs.FreeList.{PageMap}
 use Rattle.page_face.specs.declared.fault.Damage.{Damage}
+use Rattle.page_face.specs.Nodes.{count_of, IsNode}
 use Rattle.btree_nodes.specs.declared.form.Form.{Form}
 use Rattle.btree_nodes.specs.Rows.{Row, IsWithin, lookup}
 use Rattle.btree_nodes.specs.Nodes.{Entry, entries_in, half_of}
@@ -10,6 +11,20 @@ use Rattle.btree_nodes.specs.Bounds.{low_at, high_at, child_of}
 use Rattle.btree_nodes.specs.Damages.{SomeChild, IsDamaged}
 use Rattle.btree_nodes.proofs.Fans.{no_entry, fan-within, fan-lookup, fan-child, with_low-rows, with_low-child, with_low-key, with_low-from, length-with_low, next_key-drop, drop-with_low}
 use Rattle.btree_nodes.proofs.Frames.{total-at}
+
+-- a node with another least count
+pub node-fewer : (number kind level width most least : ℕ) (page : List ℕ) → least ≤ count_of page → IsNode number kind level width most page → IsNode number kind level width least page
+node-fewer number kind level width most least page h n = record {
+  size = n.size;
+  kind = n.kind;
+  of = n.of;
+  level = n.level;
+  some = n.some;
+  fill = h;
+  fits = n.fits;
+  plain = n.plain;
+  rest = n.rest;
+}
 
 -- the rows of a tree keep to its bounds
 pub tree-within : (form : Form) (least : ℕ) (pages : PageMap) (level page low high : ℕ) → IsTree form least pages level page low high → IsWithin low high (rows_at form pages level page)

@@ -43,6 +43,12 @@ told-read pages count page told counted =
     (⊎_elim (λ (l : page < 1). absurd (counted (inl (omega arith)))) (λ (l : 1 ≤ page). l) (cases_lt page 1))
     (⊎_elim (λ (l : page < count). l) (λ (l : count ≤ page). absurd (counted (inr l))) (cases_lt page count))
 
+-- a read that was refused as damaged has asked for its page
+pub named-refused : {T : Type 0} (asked new : List ℕ) (child : ℕ) (result : Result T PageFault) (damage : Damage) → new ≡ asked_after result child asked → result ≡ Err (Damaged damage) → damage.page ≡ child → AskedSince asked new damage.page
+named-refused {T = T} asked new child result damage n e same =
+    asked-here asked new damage.page
+    (n ∙ ap (λ (r : Result T PageFault). asked_after r child asked) e ∙ ap (λ (p : ℕ). asked ++ p ∷ []) (sym same))
+
 -- a page uses itself
 pub uses-self : (form : Form) (pages : PageMap) (level page : ℕ) → 0 < uses form pages level page page
 uses-self form pages zero page = let s = one_at-same page in omega arith

@@ -3,7 +3,7 @@ use Rattle.std.specs.Prelude.{◌≡◌, ℕ, zero, suc, ◌+◌, ◌/◌, List,
 use Rattle.std.specs.Int.{from_be_bytes, w32}
 use Rattle.page_face.specs.Number.{number}
 use Rattle.page_face.specs.Nodes.{count_of, IsNode}
-use Rattle.page_face.specs.Cells.{cells, key_at}
+use Rattle.page_face.specs.Cells.{chop, cells, key_at}
 use Rattle.btree_nodes.specs.declared.form.Form.{Form}
 use Rattle.btree_nodes.specs.Rows.{Row}
 
@@ -18,6 +18,14 @@ row_of key cell = (number (take key cell), drop key cell)
 -- an inner page's cell: a key, and behind it the child's page in four bytes
 abbrev pub entry_of : ℕ → List ℕ → Entry
 entry_of key cell = (number (take key cell), from_be_bytes w32 (drop key cell))
+
+-- the rows of so many cells of a leaf
+abbrev pub rows_of : Form → ℕ → List ℕ → List Row
+rows_of form count bytes = map (row_of form.key) (chop (form.key + form.value) count bytes)
+
+-- the entries of so many cells of an inner page
+abbrev pub entries_of : Form → ℕ → List ℕ → List Entry
+entries_of form count bytes = map (entry_of form.key) (chop (form.key + 4) count bytes)
 
 -- the rows of a leaf
 unfoldable pub rows_in : Form → List ℕ → List Row

@@ -1,19 +1,13 @@
 -- A map entered at its root.
-use Rattle.std.proofs.Common.{◌≡◌, ℕ, zero, suc, ◌^◌, ◌<◌, ◌≤◌, List, [], ◌∷◌, ◌++◌, take, replicate, length, arith, refl, sym, ap, ◌∙◌, subst, Result, Err}
+use Rattle.std.proofs.Common.{◌≡◌, ℕ, zero, suc, ◌^◌, ◌<◌, ◌≤◌, List, ◌++◌, take, replicate, length, arith, refl, sym, ap, ◌∙◌, subst}
 use Rattle.std.proofs.Math.Nat.{zero-mul}
 use Rattle.page_face.specs.FreeList.{PageMap, with_page}
-use Rattle.page_face.specs.Causes.{asked_after}
-use Rattle.page_face.specs.declared.fault.Damage.{Damage}
-use Rattle.page_face.specs.declared.fault.PageFault.{PageFault}
-use Rattle.page_face.specs.declared.fault.PageFault.TheVariants.{Damaged}
 use Rattle.page_face.specs.Number.{number}
 use Rattle.btree_nodes.specs.declared.form.Form.{Form}
 use Rattle.btree_nodes.specs.Rows.{IsWithin}
 use Rattle.btree_nodes.specs.Supply.{one_at}
 use Rattle.btree_nodes.specs.Nodes.{rows_in, IsLeaf, least_of_root}
 use Rattle.btree_nodes.specs.Tree.{IsTree, IsMap, rows_at, uses, map_rows, map_uses, level_of}
-use Rattle.btree_nodes.specs.Damages.{AskedSince}
-use Rattle.btree_nodes.proofs.Harms.{asked-here}
 use Rattle.btree_nodes.proofs.Supplies.{one_at-same, with-same, with-other}
 use Rattle.btree_search.specs.Below.{HeadsInstead, LiesBelow}
 use Rattle.btree_search.specs.Leaves.{HoldsInstead, IsLeafOf}
@@ -43,12 +37,12 @@ map-uses form pages zero n some = absurd (omega arith)
 map-uses form pages (suc m) n some = refl
 
 -- the tree below a root is a map
-tree-map : (form : Form) (pages : PageMap) (root : ℕ) → 0 < root → IsTree form (least_of_root (level_of (pages root))) pages (level_of (pages root)) root 0 (256 ^ form.key) → IsMap form pages root
+pub tree-map : (form : Form) (pages : PageMap) (root : ℕ) → 0 < root → IsTree form (least_of_root (level_of (pages root))) pages (level_of (pages root)) root 0 (256 ^ form.key) → IsMap form pages root
 tree-map form pages zero some tree = absurd (omega arith)
 tree-map form pages (suc n) some tree = tree
 
 -- a tree's page has the tree's level
-tree-level : (form : Form) (least : ℕ) (pages : PageMap) (level page low high : ℕ) → IsTree form least pages level page low high → level_of (pages page) ≡ level
+pub tree-level : (form : Form) (least : ℕ) (pages : PageMap) (level page low high : ℕ) → IsTree form least pages level page low high → level_of (pages page) ≡ level
 tree-level form least pages zero page low high tree = tree.0.level
 tree-level form least pages (suc level) page low high tree = tree.0.node.level
 
@@ -94,15 +88,6 @@ module _ (form : Form) (pages : PageMap) (root least page low high : ℕ) (some 
     behind = lies.behind;
     edit = λ bytes leaf within once. holds-instead bytes leaf within once;
   }
-
--- a read that was refused as damaged has asked for its page, and for it alone
-pub named-first : {T : Type 0} (asked new : List ℕ) (child : ℕ) (result : Result T PageFault) (damage : Damage) → new ≡ asked_after result child asked → result ≡ Err (Damaged damage) → damage.page ≡ child → AskedSince asked new damage.page
-named-first {T = T} asked new child result damage n e same =
-    asked-here asked new damage.page (n ∙ ap (λ (r : Result T PageFault). asked_after r child asked) e ∙ ap (λ (p : ℕ). asked ++ p ∷ []) (sym same))
-
-number-zeros : (n : ℕ) → number (replicate n 0) ≡ 0
-number-zeros zero = refl
-number-zeros (suc n) = let h = number-zeros n in omega (arith, zero-mul (256 ^ length {A = ℕ} (replicate n 0)))
 
 zeros-front : (n m : ℕ) → number (take n (replicate m 0)) ≡ 0
 zeros-front zero m = refl

@@ -18,8 +18,9 @@ use Rattle.collective_query.specs.Tried.{IsFirst}
 use Rattle.collective_query.proofs.Costs.{farthest-cons}
 use Rattle.collective_query.proofs.Leads.{chained}
 use Rattle.collective_query.proofs.Least.{itself}
-use Rattle.collective_query.proofs.Members.{all-among, contains-cases, contains-none}
+use Rattle.collective_query.proofs.Members.{contains-cases, contains-none}
 use Rattle.best_first.proofs.Histories.{contains_head as contains-here}
+use Rattle.boolean_queries.proofs.Histories.{all-contained}
 
 -- each pick is at the point of the other choice's
 abbrev AreAt : List Pick → List Pick → Type 0
@@ -65,13 +66,10 @@ not-first Less b h = h
 not-first Equal b h = refl
 not-first Greater b h = refl
 
-tie : (a b : ℕ) → a ≡ b → nat_cmp a b ≡ Equal
-tie a b same = sym (nat_cmp_is a b Equal same)
-
 -- no list of picks comes before itself
 list-itself : (at : Position) (picks : List Pick) → is_lt (slice_cmp pick_cmp picks picks) ≡ false
 list-itself at picks =
-    not-second (nat_cmp (choice_cost at picks) (choice_cost at picks)) (slice_cmp pick_cmp picks picks) (tie (choice_cost at picks) (choice_cost at picks) refl) (itself at picks)
+    not-second (nat_cmp (choice_cost at picks) (choice_cost at picks)) (slice_cmp pick_cmp picks picks) (sym (nat_cmp_is (choice_cost at picks) (choice_cost at picks) Equal refl)) (itself at picks)
 
 -- nor does a pick
 pick-itself : (at : Position) (pick : Pick) → is_lt (pick_cmp pick pick) ≡ false
@@ -81,7 +79,7 @@ pick-itself at pick = not-first (pick_cmp pick pick) Equal (list-itself at (pick
 comes-behind : (at : Position) (xs ys : List Pick) → AreAt xs ys → is_lt (slice_cmp pick_cmp xs ys) ≡ false → is_cheaper at xs ys ≡ false
 comes-behind at xs ys same after =
     let costs : choice_cost at xs ≡ choice_cost at ys = λ i. same-far at xs ys same i + same-wide xs ys same i in
-    not-then (nat_cmp (choice_cost at xs) (choice_cost at ys)) (slice_cmp pick_cmp xs ys) (ap is_lt (tie (choice_cost at xs) (choice_cost at ys) costs)) after
+    not-then (nat_cmp (choice_cost at xs) (choice_cost at ys)) (slice_cmp pick_cmp xs ys) (ap is_lt (sym (nat_cmp_is (choice_cost at xs) (choice_cost at ys) Equal costs))) after
 
 -- a choice with a lead, and the one with another pick at its point in its place, which it comes behind
 instead : (from : Position) (lists : List (List Pick)) (own : ℕ) (lead other : Pick) (choice : List Pick) → IsBehind lead other → IsChoice (led_by own lead lists) choice
@@ -116,7 +114,7 @@ behind-follows at lists own some lead (Some other) old best among is follows = r
   chosen = follows.chosen;
   after = follows.after;
   first = all_append (λ pick. IsFirst at (led_by own pick lists) best) some (lead ∷ []) follows.first
-      (behind-first at lists own lead other best is (all-among (λ pick. IsFirst at (led_by own pick lists) best) some other follows.first among), tt);
+      (behind-first at lists own lead other best is (all-contained (λ pick. IsFirst at (led_by own pick lists) best) some other follows.first among), tt);
 }
 
 -- the last one that was followed is still among them when there are more

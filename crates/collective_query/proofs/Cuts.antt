@@ -11,7 +11,8 @@ use Rattle.place_map.specs.GroupLaws.{choices_linear, least_cost}
 use Rattle.collective_query.specs.Choices.{IsChoice, IsCut, AreCut}
 use Rattle.collective_query.proofs.Least.{costed, least-among, least-first, least-some, least-is}
 use Rattle.collective_query.proofs.Joins.{choice-meets}
-use Rattle.collective_query.proofs.Members.{all-among, contains-none, contains-cases}
+use Rattle.collective_query.proofs.Members.{contains-none, contains-cases}
+use Rattle.boolean_queries.proofs.Histories.{all-contained}
 
 -- what counts in fewer cases
 pub cut-wider : (counts others : Pick → Type 0) (all cut : List Pick) → ((pick : Pick) → others pick → counts pick) → IsCut counts all cut → IsCut others all cut
@@ -45,7 +46,7 @@ module _ (counts : Pick → Type 0) where
   pub none-counted : (lists : List (List Pick)) (choice list : List Pick) → Contains lists list → IsCut counts list [] → IsChoice lists choice → AllByRecursion counts choice → ⊥
   none-counted lists choice list c cut is all =
       let met = choice-meets lists choice list is c in
-      contains-none met.0 (cut.whole met.0 met.2 (all-among counts choice met.0 all met.1))
+      contains-none met.0 (cut.whole met.0 met.2 (all-contained counts choice met.0 all met.1))
 
 -- the least of some choices has its own cost
 own-cost : (at : Position) (choices : List (List Pick)) (found : Chosen) → least_of at choices ≡ Some found → Some found ≡ Some (costed at found.picks)
@@ -61,7 +62,7 @@ covered-least at tried some all best was own covered =
     let least = least-some at whole best.picks best_among in
     let found : Chosen = least.0 in
     let first = least-first at whole found least.1 in
-    let not_before : (choice : List Pick) → Contains whole choice → is_cheaper at choice found.picks ≡ false = λ choice c. all-among (λ picks. is_cheaper at picks found.picks ≡ false) whole choice first c in
+    let not_before : (choice : List Pick) → Contains whole choice → is_cheaper at choice found.picks ≡ false = λ choice c. all-contained (λ picks. is_cheaper at picks found.picks ≡ false) whole choice first c in
     let among : Contains more found.picks = ⊎_elim (λ (c : Contains tried found.picks). Contains-append_left tried all found.picks c) (λ (c : Contains some found.picks). Contains-append_right tried all found.picks (own found.picks c))
     (Contains-append_cases tried some found.picks (least-among at whole found least.1)) in
     let none_before : (choice : List Pick) → Contains more choice → is_cheaper at choice found.picks ≡ false = λ choice c. ⊎_elim

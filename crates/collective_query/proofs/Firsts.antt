@@ -21,15 +21,16 @@ use Rattle.collective_query.specs.Choices.{IsChoice, IsWithin, IsCut, AreCut}
 use Rattle.collective_query.specs.Picks.{GoesBeyond}
 use Rattle.collective_query.specs.TreePicks.{tree_picks, tree_lists, pick_from, word_hits, first_picks, first_lists}
 use Rattle.collective_query.specs.Tried.{IsChosen}
-use Rattle.collective_query.proofs.Members.{contains-later, contains-none, contains-cases, contains-map, all-among, map-all, all-ranked, among-ranked}
+use Rattle.collective_query.proofs.Members.{contains-later, contains-none, contains-cases, contains-map, map-all, all-ranked, among-ranked}
 use Rattle.best_first.proofs.Histories.{contains_head as contains-here}
 use Rattle.collective_query.proofs.TreePicks.{picks-made, hit-among}
+use Rattle.boolean_queries.proofs.Histories.{all-contained}
 
 -- of hits in order, none behind others costs less than one of them
 before-behind : (xs ys : List Hit) (y : Hit) → IsRanked comes_before (xs ++ ys) → Contains ys y → AllByRecursion (λ (x : Hit). x.cost ≤ y.cost) xs
 before-behind [] ys y ranks c = tt
 before-behind (x ∷ xs) ys y ranks c =
-    (upto_cost x y (all-among (λ z. comes_before z x ≡ false) (xs ++ ys) y ranks.0 (Contains-append_right xs ys y c)), before-behind xs ys y ranks.1 c)
+    (upto_cost x y (all-contained (λ z. comes_before z x ≡ false) (xs ++ ys) y ranks.0 (Contains-append_right xs ys y c)), before-behind xs ys y ranks.1 c)
 
 -- fewer than so many: none is behind them
 none-behind : (k : ℕ) (hits : List Hit) (hit : Hit) → length (take k hits) < k → Contains (drop k hits) hit → ⊥
@@ -41,7 +42,7 @@ first-among ids at centre nodes root word pick c =
     let hits : List Hit = word_hits ids centre nodes root word in
     let P : Hit → Type 0 = λ one. Contains (tree_picks ids at nodes root word) (pick_from at word one) in
     let all : AllByRecursion P hits = all_weaker (Contains hits) P (hit-among ids at word nodes root centre) hits (all_in hits) in
-    all-among (Contains (tree_picks ids at nodes root word)) (first_picks ids at centre nodes root word) pick
+    all-contained (Contains (tree_picks ids at nodes root word)) (first_picks ids at centre nodes root word) pick
     (map-all (Contains (tree_picks ids at nodes root word)) (pick_from at word) (take 5 (ranked comes_before hits)) (all_taken P 5 (ranked comes_before hits) (all-ranked hits_linear P hits all))) c
 
 module _ (ids : Numbers) (at : Position) (nodes : NodeMap) (root : ℕ) (word : List ℕ) where
@@ -87,7 +88,7 @@ module _ (ids : Numbers) (at : Position) (nodes : NodeMap) (root : ℕ) (word : 
         (λ (far : (pick : Pick) × Contains (first_picks ids at at nodes root word) pick × (radius < pick.dist)).
         let before = before-behind (take 5 in_order) (drop 5 in_order) hit (subst (IsRanked comes_before) (sym (take-append-drop 5 in_order)) (ranked_is hits_linear hits)) c in
         let near : AllByRecursion (λ (pick : Pick). pick.dist ≤ hit.cost) (first_picks ids at at nodes root word) = map-all (λ (pick : Pick). pick.dist ≤ hit.cost) (pick_from at word) (take 5 in_order) (each-near (take 5 in_order) before firsts-cost) in
-        let low = all-among (λ (pick : Pick). pick.dist ≤ hit.cost) (first_picks ids at at nodes root word) far.0 near far.1 in
+        let low = all-contained (λ (pick : Pick). pick.dist ≤ hit.cost) (first_picks ids at at nodes root word) far.0 near far.1 in
         let high = far.2 in
         omega arith)
         beyond
@@ -99,7 +100,7 @@ module _ (ids : Numbers) (at : Position) (nodes : NodeMap) (root : ℕ) (word : 
     near-first : (hit : Hit) → Contains hits hit → distance at hit.point ≤ radius → Contains (first_picks ids at at nodes root word) (pick_from at word hit)
     near-first hit c close = ⊎_elim
         (λ (here : Contains (take 5 in_order) hit). contains-map (pick_from at word) (take 5 in_order) hit here)
-        (λ (behind : Contains (drop 5 in_order) hit). absurd (far-behind hit (all-among CostsDistance hits hit hits-cost c) behind close))
+        (λ (behind : Contains (drop 5 in_order) hit). absurd (far-behind hit (all-contained CostsDistance hits hit hits-cost c) behind close))
         (Contains-append_cases (take 5 in_order) (drop 5 in_order) hit (subst (λ (l : List Hit). Contains l hit) (sym (take-append-drop 5 in_order)) (among-ranked hits_linear hits hit c)))
 
     -- so they have all that are at most so far
@@ -109,7 +110,7 @@ module _ (ids : Numbers) (at : Position) (nodes : NodeMap) (root : ℕ) (word : 
       whole = λ pick c close.
           let P : Pick → Type 0 = λ one. distance at one.point ≤ radius → Contains (first_picks ids at at nodes root word) one in
           let all : AllByRecursion P (map (pick_from at word) hits) = map-all P (pick_from at word) hits (all_weaker (Contains hits) (λ hit. P (pick_from at word hit)) near-first hits (all_in hits)) in
-          all-among P (map (pick_from at word) hits) pick all (subst (λ (picks : List Pick). Contains picks pick) (picks-made ids at word nodes root at) c) close;
+          all-contained P (map (pick_from at word) hits) pick all (subst (λ (picks : List Pick). Contains picks pick) (picks-made ids at word nodes root at) c) close;
     }
 
 module _ (ids : Numbers) (at : Position) (nodes : NodeMap) (root : ℕ) where

@@ -11,8 +11,9 @@ use Rattle.collective_query.specs.Fronts.{Completes}
 use Rattle.collective_query.specs.Picks.{AreMeasured}
 use Rattle.collective_query.proofs.Costs.{farthest-cons, farthest-push, diameter-push}
 use Rattle.collective_query.proofs.Joins.{member-far, member-wide, choice-meets}
-use Rattle.collective_query.proofs.Members.{all-among, contains-cases, contains-later, contains-none}
+use Rattle.collective_query.proofs.Members.{contains-cases, contains-later, contains-none}
 use Rattle.best_first.proofs.Histories.{contains_head as contains-here}
+use Rattle.boolean_queries.proofs.Histories.{all-contained}
 
 -- where no pick is farther, the farthest isn't
 farthest-within : (point : Position) (picks : List Pick) (most : ℕ) → ((pick : Pick) → Contains picks pick → distance point pick.point ≤ most) → farthest point picks ≤ most
@@ -61,8 +62,8 @@ pub missed : (at : Position) (front : List Pick) (far wide bound : ℕ) (lists :
 missed at front far wide bound lists list choice is also measured misses among taken =
     let met = choice-meets lists choice list taken among in
     let pick : Pick = met.0 in
-    let dist = all-among (λ (p : Pick). p.dist ≡ distance at p.point) list pick measured met.2 in
-    let least = all-among (λ (p : Pick). bound ≤ max far p.dist + max wide (farthest p.point front)) list pick misses met.2 in
+    let dist = all-contained (λ (p : Pick). p.dist ≡ distance at p.point) list pick measured met.2 in
+    let least = all-contained (λ (p : Pick). bound ≤ max far p.dist + max wide (farthest p.point front)) list pick misses met.2 in
     let cost = pushed-cost at front pick far wide is also dist in
     let more = behind-cost at front (pick ∷ []) choice (λ p c. alone pick p choice met.1 c) in
     omega arith

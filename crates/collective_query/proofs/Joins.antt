@@ -16,8 +16,9 @@ use Rattle.collective_query.specs.Choices.{IsChoice}
 use Rattle.collective_query.specs.Joins.{may_join, joined_by}
 use Rattle.collective_query.specs.Picks.{AreMeasured}
 use Rattle.collective_query.proofs.Costs.{farthest-cons}
-use Rattle.collective_query.proofs.Members.{all-among, contains-cases, contains-none, contains-later}
+use Rattle.collective_query.proofs.Members.{contains-cases, contains-none, contains-later}
 use Rattle.best_first.proofs.Histories.{contains_head as contains-here}
+use Rattle.boolean_queries.proofs.Histories.{all-contained}
 
 -- no pick is farther than the farthest
 pub member-far : (point : Position) (choice : List Pick) (pick : Pick) → Contains choice pick → distance point pick.point ≤ farthest point choice
@@ -101,7 +102,7 @@ module _ (at : Position) (most : ℕ) (others : List Pick) (choice : List Pick) 
     each-joined [] picks measured inside is = is
     each-joined (list ∷ lists) [] measured inside is = is
     each-joined (list ∷ lists) (pick ∷ picks) measured inside is = (
-      contains-filter (λ p. list_any (may_join most p) others) list pick is.0 (joins pick inside.0 (all-among (λ (p : Pick). p.dist ≡ distance at p.point) list pick measured.0 is.0)),
+      contains-filter (λ p. list_any (may_join most p) others) list pick is.0 (joins pick inside.0 (all-contained (λ (p : Pick). p.dist ≡ distance at p.point) list pick measured.0 is.0)),
       each-joined lists picks measured.1 inside.1 is.1,
     )
 
@@ -110,5 +111,5 @@ pub choice-joined : (at : Position) (most : ℕ) (others : List Pick) (lists : L
     → IsChoice (map (joined_by most others) lists) choice
 choice-joined at most others lists choice c measured is cheap =
     let met = choice-meets lists choice others is c in
-    let here : AreMeasured at others = all-among (AreMeasured at) lists others measured c in
-    each-joined at most others choice met.0 met.1 met.2 (all-among (λ (p : Pick). p.dist ≡ distance at p.point) others met.0 here met.2) cheap lists choice measured (all_in choice) is
+    let here : AreMeasured at others = all-contained (AreMeasured at) lists others measured c in
+    each-joined at most others choice met.0 met.1 met.2 (all-contained (λ (p : Pick). p.dist ≡ distance at p.point) others met.0 here met.2) cheap lists choice measured (all_in choice) is

@@ -16,9 +16,10 @@ use Rattle.collective_query.specs.Tried.{IsChosen, IsFirst}
 use Rattle.collective_query.proofs.Cuts.{cut-choice, counted-choice}
 use Rattle.collective_query.proofs.Joins.{member-far, member-wide, choice-meets}
 use Rattle.collective_query.proofs.Least.{itself, least-among, least-first, least-is, dearer-after}
-use Rattle.collective_query.proofs.Members.{all-among, contains-cases, contains-none, contains-later}
+use Rattle.collective_query.proofs.Members.{contains-cases, contains-none, contains-later}
 use Rattle.best_first.proofs.Histories.{contains_head as contains-here}
 use Rattle.collective_query.proofs.Products.{choice-among, all-choices}
+use Rattle.boolean_queries.proofs.Histories.{all-contained}
 
 -- there are as many lists
 pub led-length : {X : Type 0} (at : ℕ) (x : X) (lists : List (List X)) → length (led_by at x lists) ≡ length lists
@@ -119,12 +120,12 @@ module _ (at : Position) (lists cuts : List (List Pick)) (old new : Chosen) (was
     new-after = firsts.0
 
     pub new-first : IsFirst at cuts new
-    new-first choice c = all-among (λ picks. is_cheaper at picks new.picks ≡ false) (product cuts) choice firsts.1 (choice-among cuts choice c)
+    new-first choice c = all-contained (λ picks. is_cheaper at picks new.picks ≡ false) (product cuts) choice firsts.1 (choice-among cuts choice c)
 
     pub new-chosen : IsChosen at lists new
     new-chosen = record {
       choice = ⊎_elim (λ (same : old.picks ≡ new.picks). subst (IsChoice lists) same was.choice)
-          (λ (c : Contains (product cuts) new.picks). own new.picks (all-among (IsChoice cuts) (product cuts) new.picks (all-choices cuts) c))
+          (λ (c : Contains (product cuts) new.picks). own new.picks (all-contained (IsChoice cuts) (product cuts) new.picks (all-choices cuts) c))
           (contains-cases old.picks (product cuts) new.picks (least-among at (old.picks ∷ product cuts) new (sym is)));
       cost = least_cost at (old.picks ∷ product cuts) new (sym is);
     }
@@ -189,14 +190,14 @@ pub companion-met : (at : Position) (lists : List (List Pick)) (own index : ℕ)
     → IsChoice (led_by own lead lists) choice → choice_cost at choice ≤ most → (pick : Pick) × Contains choice pick × Contains picks pick
 companion-met at lists own index lead most all picks choice true inside within is other cut one cheap =
     let takes = led-takes own lead lists choice inside one in
-    (lead, takes, cut.whole lead (contains-here lead []) (all-among (IsBeside at lead most) choice lead (all-beside at most lead choice takes cheap) takes))
+    (lead, takes, cut.whole lead (contains-here lead []) (all-contained (IsBeside at lead most) choice lead (all-beside at most lead choice takes cheap) takes))
 companion-met at lists own index lead most all picks choice false inside within is other cut one cheap =
     let takes = led-takes own lead lists choice inside one in
     let led : List (List Pick) = led_by own lead lists in
     let there : index < length led = omega (arith, led-length own lead lists) in
     let list_is : get_or led index [] ≡ all = led-other own index lead lists (other refl) ∙ is in
     let met = choice-meets led choice (get_or led index []) one (Contains-get_or led index [] there) in
-    (met.0, met.1, cut.whole met.0 (subst (λ (l : List Pick). Contains l met.0) list_is met.2) (all-among (IsBeside at lead most) choice met.0 (all-beside at most lead choice takes cheap) met.1))
+    (met.0, met.1, cut.whole met.0 (subst (λ (l : List Pick). Contains l met.0) list_is met.2) (all-contained (IsBeside at lead most) choice met.0 (all-beside at most lead choice takes cheap) met.1))
 
 -- none is followed
 pub none-follows : (at : Position) (lists : List (List Pick)) (own : ℕ) (best : Chosen) → IsChosen at lists best → Follows at lists own [] best best
@@ -221,7 +222,7 @@ follows-all at lists own leads old new inside was cut follows choice is =
     (λ (more : old.cost < choice_cost at choice). chained at old.picks new.picks choice follows.after (dear at lists old choice was more))
     (λ (cheap : choice_cost at choice ≤ old.cost).
     let far = member-far at choice led.0 led.2 in
-    all-among (λ lead. IsFirst at (led_by own lead lists) new) leads led.0 follows.first (cut.whole led.0 led.1 (omega arith)) choice led.3)
+    all-contained (λ lead. IsFirst at (led_by own lead lists) new) leads led.0 follows.first (cut.whole led.0 led.1 (omega arith)) choice led.3)
     (cases_lt old.cost (choice_cost at choice))
 
 -- and so it is where a choice of lists that have all picks that are no farther is the first of these lists

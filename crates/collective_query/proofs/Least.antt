@@ -15,7 +15,8 @@ use Rattle.place_map.specs.declared.query.Pick.{Pick}
 use Rattle.place_map.specs.declared.query.Chosen.{Chosen}
 use Rattle.place_map.specs.Group.{choice_cost, choice_cmp, pick_cmp, is_cheaper, head_of, least_of}
 use Rattle.place_map.specs.GroupLaws.{choices_linear}
-use Rattle.collective_query.proofs.Members.{all-ranked, ranked-all, among-ranked, all-among, contains-none}
+use Rattle.collective_query.proofs.Members.{all-ranked, ranked-all, among-ranked, contains-none}
+use Rattle.boolean_queries.proofs.Histories.{all-contained}
 
 -- a choice with its cost
 abbrev pub costed : Position → List Pick → Chosen
@@ -62,7 +63,7 @@ module _ (at : Position) (choices : List (List Pick)) where
       first-is : (in_order : List (List Pick)) → IsRanked (is_cheaper at) in_order → AllByRecursion (λ other. is_cheaper at other picks ≡ false) in_order → Contains in_order picks → head_of at (take 1 in_order) ≡ Some (costed at picks)
       first-is [] ranks all c = absurd (contains-none picks c)
       first-is (first ∷ rest) ranks all c =
-          let not_before = all-among (λ other. is_cheaper at other first ≡ false) (first ∷ rest) picks (itself at first, ranks.0) c in
+          let not_before = all-contained (λ other. is_cheaper at other first ≡ false) (first ∷ rest) picks (itself at first, ranks.0) c in
           let same : first ≡ picks = (choices_linear at).same first picks all.0 not_before in
           ap (λ p. Some (costed at p)) same
 

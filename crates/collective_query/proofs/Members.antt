@@ -1,12 +1,13 @@
 -- What is in a list that is put together, and in a list in order.
 use Rattle.std.proofs.Common.{◌≡◌, ◌⊎◌, zero, suc, Bool, true, false, List, [], ◌∷◌, map, subst, sym, inl, inr, ⊎_elim, arith}
 use Rattle.std.proofs.lemmas.Bool.{cases_Bool}
-use Rattle.std.proofs.lemmas.List.Elements.{Contains-append_left, Contains-append_right, All-contains, All-from_recursion}
+use Rattle.std.proofs.lemmas.List.Elements.{Contains-append_left, Contains-append_right}
 use Rattle.std.specs.List.{AllByRecursion, Contains, flat_map}
 use Rattle.ranking.specs.First.{IsLinear, placed, ranked}
 use Rattle.ranking.specs.Laws.{all_placed}
 use Rattle.best_first.proofs.Lists.{all_in}
 use Rattle.best_first.proofs.Histories.{contains_head as contains-here}
+use Rattle.boolean_queries.proofs.Histories.{all-contained}
 
 -- and so are those behind it
 pub contains-later : {X : Type 0} (y : X) (ys : List X) (x : X) → Contains ys x → Contains (y ∷ ys) x
@@ -20,10 +21,6 @@ contains-cases y ys x (suc k, less, same) = inr (k, omega arith, same)
 -- nothing is in the empty list
 pub contains-none : {X : Type 0} (x : X) → Contains {X = X} [] x → ⊥
 contains-none x c = let less = c.1 in omega arith
-
--- what holds of all holds of one that is among them
-pub all-among : {X : Type 0} (P : X → Type 0) (xs : List X) (x : X) → AllByRecursion P xs → Contains xs x → P x
-all-among P xs x all c = All-contains P xs x (All-from_recursion P xs all) c
 
 -- what a member gives is among what all give
 pub contains-flat : {X Y : Type 0} (g : X → List Y) (xs : List X) (x : X) (y : Y) → Contains xs x → Contains (g x) y → Contains (flat_map g xs) y
@@ -70,4 +67,4 @@ module _ {X : Type 0} {before : X → X → Bool} (o : IsLinear before) where
   ranked-all P (x ∷ xs) all = let parts = placed-all P x (ranked before xs) all in (parts.0, ranked-all P xs parts.1)
 
   pub among-ranked : (xs : List X) (x : X) → Contains xs x → Contains (ranked before xs) x
-  among-ranked xs x c = all-among (Contains (ranked before xs)) xs x (ranked-all (Contains (ranked before xs)) xs (all_in (ranked before xs))) c
+  among-ranked xs x c = all-contained (Contains (ranked before xs)) xs x (ranked-all (Contains (ranked before xs)) xs (all_in (ranked before xs))) c

@@ -1,60 +1,28 @@
 -- The least picks with which a front can be completed.
 use Rattle.std.proofs.Common.{◌≡◌, ◌⊎◌, ℕ, true, false, List, [], ◌∷◌, ◌++◌, Option, Some, None, IfSome, IsSomeAnd, refl, sym, ap, subst, ◌∙◌, ⊎_elim}
 use Rattle.std.proofs.lemmas.Bool.{cases_Bool}
-use Rattle.std.proofs.lemmas.Cmp.{then_total, on_total, nat_cmp_total, int_cmp_total}
 use Rattle.std.proofs.lemmas.List.{append_assoc}
 use Rattle.std.proofs.lemmas.List.Elements.{Contains-append_left, Contains-append_right}
-use Rattle.std.specs.Cmp.{IsTotalOrder}
-use Rattle.std.specs.Cmp.Lexicographic.{slice_cmp, nat_list_cmp_total}
-use Rattle.std.specs.FinMap.{nat_cmp-IsAntisymmetric, int_cmp-IsAntisymmetric, slice_cmp-IsAntisymmetric}
-use Rattle.std.specs.Ordering.{nat_cmp, int_cmp, is_lt, ordering_then}
+use Rattle.std.specs.Cmp.Lexicographic.{slice_cmp}
+use Rattle.std.specs.Ordering.{is_lt, ordering_then}
 use Rattle.std.specs.declared.cmp.Ordering.{Ordering}
 use Rattle.std.specs.declared.cmp.Ordering.TheVariants.{Less, Equal, Greater}
 use Rattle.ranking.specs.First.{IsLinear}
 use Rattle.ranking.specs.Laws.{linear_from_total}
 use Rattle.best_first.proofs.Lists.{all_append, all_weaker}
-use Rattle.spatial_base.specs.Key.{key_cmp, key_cmp_total, key_cmp_same}
 use Rattle.spatial_base.specs.Point.{Position}
 use Rattle.place_map.specs.declared.query.Pick.{Pick}
 use Rattle.place_map.specs.Group.{pick_cmp}
+use Rattle.place_map.specs.GroupLaws.{pick_cmp_total, pick_cmp_same}
 use Rattle.collective_query.specs.Choices.{IsChoice}
 use Rattle.collective_query.specs.Fronts.{Completes, IsNext, HasLeastKeys}
 use Rattle.collective_query.proofs.Fronts.{completes-front}
-use Rattle.collective_query.proofs.Members.{all-among}
 use Rattle.best_first.proofs.Histories.{contains_head as contains-here}
-
-pick-total : IsTotalOrder pick_cmp
-pick-total =
-    then_total (on_total (λ (p : Pick). p.key) key_cmp_total)
-    (then_total (on_total (λ (p : Pick). p.word) nat_list_cmp_total)
-    (then_total (on_total (λ (p : Pick). p.dist) nat_cmp_total)
-    (then_total (on_total (λ (p : Pick). p.point.x) int_cmp_total) (on_total (λ (p : Pick). p.point.y) int_cmp_total))))
-
-both-tie : (a b : Ordering) → ordering_then a b ≡ Equal → (a ≡ Equal) × (b ≡ Equal)
-both-tie Equal b h = (refl, h)
-both-tie Less b h = absurd (cc)
-both-tie Greater b h = absurd (cc)
-
--- only the same pick ties
-pick-same : (x y : Pick) → pick_cmp x y ≡ Equal → x ≡ y
-pick-same x y h =
-    let point = ordering_then (int_cmp x.point.x y.point.x) (int_cmp x.point.y y.point.y) in
-    let dist = ordering_then (nat_cmp x.dist y.dist) point in
-    let word = ordering_then (slice_cmp nat_cmp x.word y.word) dist in
-    let a = both-tie (key_cmp x.key y.key) word h in
-    let b = both-tie (slice_cmp nat_cmp x.word y.word) dist a.1 in
-    let c = both-tie (nat_cmp x.dist y.dist) point b.1 in
-    let d = both-tie (int_cmp x.point.x y.point.x) (int_cmp x.point.y y.point.y) c.1 in
-    let p = key_cmp_same x.key y.key a.0 in
-    let q = slice_cmp-IsAntisymmetric nat_cmp-IsAntisymmetric x.word y.word b.0 in
-    let r = nat_cmp-IsAntisymmetric x.dist y.dist c.0 in
-    let s = int_cmp-IsAntisymmetric x.point.x y.point.x d.0 in
-    let t = int_cmp-IsAntisymmetric x.point.y y.point.y d.1 in
-    λ i. record { key = p i; word = q i; dist = r i; point = record { x = s i; y = t i } }
+use Rattle.boolean_queries.proofs.Histories.{all-contained}
 
 -- picks have one order
 picks-linear : IsLinear (λ a b. is_lt (pick_cmp a b))
-picks-linear = linear_from_total pick-total pick-same
+picks-linear = linear_from_total pick_cmp_total pick_cmp_same
 
 -- none comes before itself
 itself : (pick : Pick) → is_lt (pick_cmp pick pick) ≡ false
@@ -99,7 +67,7 @@ module _ (at : Position) (firsts lists : List (List Pick)) (most : ℕ) (list fr
     keys-after other others Less is after one done = absurd (cc)
     keys-after other others Greater is after one done = refl
     keys-after other others Equal is after one done =
-        let same : other ≡ pick = pick-same other pick is in
+        let same : other ≡ pick = pick_cmp_same other pick is in
         rest.least others one (subst (Completes at lists most)
         (ap (λ p. front ++ p ∷ others) same ∙ sym (append_assoc front (pick ∷ []) others) ∙ ap (λ f. f ++ others) (sym longer_is)) done)
 
@@ -107,7 +75,7 @@ module _ (at : Position) (firsts lists : List (List Pick)) (most : ℕ) (list fr
     least-keys [] one done = absurd one
     least-keys (other ∷ others) one done =
         let alone : Completes at lists most (front ++ other ∷ []) = completes-front at lists most (front ++ other ∷ []) others (subst (Completes at lists most) (sym (append_assoc front (other ∷ []) others)) done) in
-        keys-after other others (pick_cmp other pick) refl (all-among (λ p. Completes at lists most (front ++ p ∷ []) → is_lt (pick_cmp p pick) ≡ false) list other next.2 one.0 alone) one.1 done
+        keys-after other others (pick_cmp other pick) refl (all-contained (λ p. Completes at lists most (front ++ p ∷ []) → is_lt (pick_cmp p pick) ≡ false) list other next.2 one.0 alone) one.1 done
 
     pub has-least : HasLeastKeys at (list ∷ firsts) lists most front new
     has-least = record {

@@ -33,6 +33,7 @@ use Rattle.tree_ranking.specs.Openings.{StandsIn, opened_in, started_in}
 use Rattle.boolean_queries.specs.Opens.{Fits, filter_in, opens_in, starts_at}
 use Rattle.boolean_queries.specs.Regions.{circle}
 use Rattle.boolean_queries.specs.Walked.{Walked}
+use Rattle.boolean_queries.proofs.Histories.{all-contained}
 use Rattle.opened_nodes.specs.Logs.{OpensFew}
 use Rattle.opened_nodes.proofs.Searches.{nearest-few}
 use Rattle.opened_nodes.proofs.Walks.{range-few}
@@ -43,7 +44,7 @@ use Rattle.collective_query.specs.Opened.{FindsPicks, given_to}
 use Rattle.collective_query.specs.Picks.{picks_of}
 use Rattle.collective_query.specs.TreePicks.{pick_in, pick_item, pick_from}
 use Rattle.collective_query.proofs.Least.{least-among}
-use Rattle.collective_query.proofs.Members.{contains-none, contains-cases, all-among}
+use Rattle.collective_query.proofs.Members.{contains-none, contains-cases}
 use Rattle.collective_query.proofs.Products.{all-choices}
 
 -- what is made where a test holds is made of what is given there
@@ -82,7 +83,7 @@ least-picks at lists old new is pick c =
     let all : List (List Pick) = product (lists_in lists) in
     ⊎_elim
     (λ (same : old.picks ≡ new.picks). Contains-append_left old.picks (picks_of lists) pick (subst (λ (picks : List Pick). Contains picks pick) (sym same) c))
-    (λ (late : Contains all new.picks). Contains-append_right old.picks (picks_of lists) pick (choice-picks lists new.picks (all-among (IsChoice (lists_in lists)) all new.picks (all-choices (lists_in lists)) late) pick c))
+    (λ (late : Contains all new.picks). Contains-append_right old.picks (picks_of lists) pick (choice-picks lists new.picks (all-contained (IsChoice (lists_in lists)) all new.picks (all-choices (lists_in lists)) late) pick c))
     (contains-cases old.picks all new.picks (least-among at (old.picks ∷ all) new (sym is)))
 
 -- a list more

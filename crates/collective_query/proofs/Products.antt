@@ -60,7 +60,7 @@ AreSame (xs ∷ lists) [] = ⊥
 AreSame (xs ∷ lists) (ys ∷ others) = SameMembers xs ys × AreSame lists others
 
 -- a weight of what is put together
-weight-mapped : {X Y : Type 0} (weight : Y → ℕ) (f : X → Y) (xs : List X) → sum_by weight (map f xs) ≡ sum_by (λ x. weight (f x)) xs
+pub weight-mapped : {X Y : Type 0} (weight : Y → ℕ) (f : X → Y) (xs : List X) → sum_by weight (map f xs) ≡ sum_by (λ x. weight (f x)) xs
 weight-mapped weight f [] = refl
 weight-mapped weight f (x ∷ xs) = omega (arith, sum_by-cons weight (f x) (map f xs), sum_by-cons (λ y. weight (f y)) x xs, weight-mapped weight f xs)
 

@@ -21,9 +21,10 @@ use Rattle.collective_query.specs.Picks.{AreMeasured}
 use Rattle.collective_query.proofs.Cuts.{covered-least}
 use Rattle.collective_query.proofs.Fronts.{fewer-cost, met-choice}
 use Rattle.collective_query.proofs.Least.{dearer-after}
-use Rattle.collective_query.proofs.Members.{all-among, all-map, map-all, contains-later, contains-cases, contains-none}
+use Rattle.collective_query.proofs.Members.{all-map, map-all, contains-later, contains-cases, contains-none}
 use Rattle.best_first.proofs.Histories.{contains_head as contains-here}
 use Rattle.collective_query.proofs.Products.{choice-among, all-choices}
+use Rattle.boolean_queries.proofs.Histories.{all-contained}
 
 -- the picks of each list are as far as they say
 abbrev pub Each : Position → List (Vec Pick Global) → Type 0
@@ -33,7 +34,7 @@ Each at lists = AllByRecursion (λ (list : Vec Pick Global). AreMeasured at list
 pub each-among : (at : Position) (lists others : List (Vec Pick Global)) → ((list : List Pick) → Contains (lists_in lists) list → Contains (lists_in others) list) → Each at others → Each at lists
 each-among at lists others own all =
     all-map (AreMeasured at) (λ (list : Vec Pick Global). list.items) lists
-    (all_weaker (Contains (lists_in lists)) (AreMeasured at) (λ list c. all-among (AreMeasured at) (lists_in others) list (map-all (AreMeasured at) (λ (list : Vec Pick Global). list.items) others all) (own list c)) (lists_in lists) (all_in (lists_in lists)))
+    (all_weaker (Contains (lists_in lists)) (AreMeasured at) (λ list c. all-contained (AreMeasured at) (lists_in others) list (map-all (AreMeasured at) (λ (list : Vec Pick Global). list.items) others all) (own list c)) (lists_in lists) (all_in (lists_in lists)))
 
 -- a choice that costs more doesn't come before
 dearer : (at : Position) (choice best : List Pick) → choice_cost at best < choice_cost at choice → is_cheaper at choice best ≡ false
@@ -85,7 +86,7 @@ module _ (at : Position) (lists kept sorted tried : List (List Pick)) (best : Ch
     costs = least_cost at tried best (sym was)
 
     is-choice : (choice : List Pick) → Contains (product lists) choice → IsChoice lists choice
-    is-choice choice c = all-among (IsChoice lists) (product lists) choice (all-choices lists) c
+    is-choice choice c = all-contained (IsChoice lists) (product lists) choice (all-choices lists) c
 
     -- where each choice costs more, the best one stays
     pub none-cheaper : best.cost < least → least_of at tried ≡ least_of at (tried ++ product lists)

@@ -15,8 +15,9 @@ use Rattle.tree_entries.specs.Entries.{point_of, tree_places}
 use Rattle.tree_entries.specs.Hits.{hit_near, near_item, range_item}
 use Rattle.collective_query.specs.Choices.{IsWithin, IsCut}
 use Rattle.collective_query.specs.TreePicks.{pick_in, pick_item, tree_picks, pick_from, word_hits, hits_within, near_picks}
-use Rattle.collective_query.proofs.Members.{contains-flat, contains-map, all-among, all-ranked, among-ranked}
+use Rattle.collective_query.proofs.Members.{contains-flat, contains-map, all-ranked, among-ranked}
 use Rattle.best_first.proofs.Histories.{contains_head as contains-here}
+use Rattle.boolean_queries.proofs.Histories.{all-contained}
 
 -- what may be missing, alike
 one-made : (there : Bool) (pick : Pick) (hit : Hit) (f : Hit → Pick) → pick ≡ f hit → (if there then pick ∷ [] else []) ≡ map f (if there then hit ∷ [] else [])
@@ -53,7 +54,7 @@ module _ (ids : Numbers) (at : Position) (word : List ℕ) where
 
       near-among : (pick : Pick) → Contains (near_picks ids at centre radius nodes root word) pick → Contains (tree_picks ids at nodes root word) pick
       near-among pick c =
-          all-among (Contains (tree_picks ids at nodes root word)) (near_picks ids at centre radius nodes root word) pick
+          all-contained (Contains (tree_picks ids at nodes root word)) (near_picks ids at centre radius nodes root word) pick
           (mapped (hits_within ids centre radius nodes root word)
           (all-ranked hits_linear (λ hit. Contains (tree_picks ids at nodes root word) (pick_from at word hit)) (flat_map in_range (tree_places nodes root))
           (flat_all (λ hit. Contains (tree_picks ids at nodes root word) (pick_from at word hit)) in_range (tree_places nodes root)
@@ -75,7 +76,7 @@ module _ (ids : Numbers) (at : Position) (word : List ℕ) where
       far-among : (pick : Pick) → Contains (tree_picks ids at nodes root word) pick → distance centre pick.point ≤ radius → Contains (near_picks ids at centre radius nodes root word) pick
       far-among pick c near =
           let P : Pick → Type 0 = λ one. distance centre one.point ≤ radius → Contains (near_picks ids at centre radius nodes root word) one in
-          all-among P (tree_picks ids at nodes root word) pick
+          all-contained P (tree_picks ids at nodes root word) pick
           (flat_all P (pick_item ids at word) (tree_places nodes root)
           (all_weaker (Contains (tree_places nodes root)) (λ x. AllByRecursion P (pick_item ids at word x)) (λ x in_tree. one-given P (nat_lt 0 (impact_of ids x word)) (pick_in at word x) (given-near x in_tree)) (tree_places nodes root) (all_in (tree_places nodes root)))) c near
         where

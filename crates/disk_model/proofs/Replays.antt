@@ -119,7 +119,7 @@ after_write st area at bytes false image may a i free = may a i free
 torn_refl : (area : Area) (at len : ℕ) (image : Image) → Torn area at len image image
 torn_refl area at len image = record { same = λ a i out. refl }
 
-on_ok_from : {T E P : Type 0} (r : Result T E) → P → OnOk r P
+pub on_ok_from : {T E P : Type 0} (r : Result T E) → P → OnOk r P
 on_ok_from (Ok x) p = p
 on_ok_from (Err e) p = tt
 

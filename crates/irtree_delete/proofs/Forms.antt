@@ -80,10 +80,6 @@ some-none (Some y) z e f = let k : Option Item → ℕ = λ o. elim o [ None ↦
 pub on-path : (page at : ℕ) (bytes : List ℕ) (damage : Damage) (z : Item) → is_form bytes ≡ true → IsAt (slots_in bytes) at z → IsOffPath page at bytes (Damaged damage) → ⊥
 on-path page at bytes damage z form there h = some-none (slots_in bytes at) z there.1 (h.1 there.0 form)
 
--- a slot that holds an item is one of those that are used
-pub at-some : (s : Slots) (at : ℕ) (z : Item) → IsAt s at z → 0 < filled s
-at-some s at z there = let a = opt-sum one s at z None there in omega arith
-
 -- an item that is put again where it stands changes nothing
 pub put-same : (at : ℕ) (y : Item) (s : Slots) → s at ≡ Some y → s ≡ with_opt at (Some y) s
 put-same at y s there = fun_ext (λ i. elim (same_or i at) [

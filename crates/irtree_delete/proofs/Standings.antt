@@ -1,24 +1,18 @@
 -- Loose items that are put back: the counted pages stay told, and the root stays low.
-use Rattle.std.proofs.Common.{◌≡◌, ℕ, zero, suc, ◌<◌, ◌≤◌, ◌^◌, inl, inr, arith, refl, List, [], ◌∷◌, length}
+use Rattle.std.proofs.Common.{◌≡◌, ℕ, zero, suc, ◌<◌, ◌≤◌, ◌^◌, inl, inr, arith, refl, [], ◌∷◌, length}
 use Rattle.page_face.specs.FreeList.{PageMap}
 use Rattle.btree_nodes.specs.Damages.{AreTold}
-use Rattle.rtree_shape.specs.Slots.{Item, filled}
+use Rattle.rtree_shape.specs.Slots.{Item}
 use Rattle.rtree_shape.specs.Trees.{uses, IsItem, root_least}
 use Rattle.rtree_shape.specs.Stock.{View}
 use Rattle.rtree_shape.specs.Loose.{Loose, total_loose, AllLoose, out_uses}
-use Rattle.rtree_shape.proofs.Heights.{node-level, root-some}
+use Rattle.rtree_shape.proofs.Heights.{node-level, root-some, none_or}
 use Rattle.rtree_nodes.specs.Pages.{node_of}
-use Rattle.rtree_nodes.proofs.Bounding.{some-form}
 use Rattle.irtree_shape.specs.Made.{nodes_in}
 use Rattle.irtree_shape.specs.Loose.{IsStanding}
 use Rattle.irtree_shape.specs.Whole.{level_at, IsWhole}
 use Rattle.irtree_shape.proofs.Tolds.{told-moved, item-none, node-none}
-use Rattle.irtree_shape.proofs.Plants.{zero_or as none_or}
-use Rattle.rtree_nodes.proofs.Laws.{form-bytes as form-told}
-
--- a page with a used slot has bytes
-pub node-tells : (page : List ℕ) → 0 < filled (node_of page).slots → 0 < length page
-node-tells page some = form-told page (some-form page some)
+use Rattle.rtree_find.proofs.Subtrees.{node-tells}
 
 -- no loose item stands at a page without bytes
 loose-none : (pages : PageMap) (rows n : ℕ) → length (pages n) ≡ 0 → (os : Loose) → AllLoose (λ l y. IsItem (nodes_in node_of pages rows) l y) os → total_loose (λ l y. uses (nodes_in node_of pages rows) l y n) os ≡ 0

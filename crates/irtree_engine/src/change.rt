@@ -52,6 +52,7 @@ pub(crate) fn update<P: Pages>(
     ensures limits { IfErr result (IsAtLimit head.old.live head.old.number) }
     ensures causes { IfErr result IsUpdateFault }
     ensures one_more { (head.new.live ≤ head.old.live + 1) × (head.new.number ≤ head.old.number + 1) }
+    ensures absent { IfOk result (λ applied. applied ≡ Applied.Absent → head.new ≡ head.old) }
     ensures stays { result ≢ Err EngineFault.Disk → P.faults pages.new ≡ P.faults pages.old }
     ensures fails { FailsUpdating P.Pages pages.old pages.new result }
     ensures frame { Changes P.Pages pages.old pages.new }
@@ -118,6 +119,7 @@ fn update_in_batch<P: Pages>(
     ensures limits { IfErr result (IsAtLimit head.old.live head.old.number) }
     ensures causes { IfErr result IsUpdateFault }
     ensures one_more { (head.new.live ≤ head.old.live + 1) × (head.new.number ≤ head.old.number + 1) }
+    ensures absent { IfOk result (λ applied. applied ≡ Applied.Absent → head.new ≡ head.old) }
     ensures stays { result ≢ Err EngineFault.Disk → P.faults pages.new ≡ P.faults pages.old }
     ensures fails { FailsUpdating P.Pages pages.old pages.new result }
     ensures frame { Changes P.Pages pages.old pages.new }
@@ -264,6 +266,7 @@ fn put<P: Pages>(
     ensures limits { IfErr result (IsAtLimit head.old.live head.old.number) }
     ensures causes { IfErr result IsUpdateFault }
     ensures one_more { (head.new.live ≤ head.old.live + 1) × (head.new.number ≤ head.old.number + 1) }
+    ensures stored { IfOk result (λ applied. applied ≢ Applied.Absent) }
     ensures stays { result ≢ Err EngineFault.Disk → P.faults pages.new ≡ P.faults pages.old }
     ensures fails { FailsUpdating P.Pages pages.old pages.new result }
     ensures frame { Changes P.Pages pages.old pages.new }
@@ -320,6 +323,7 @@ fn remove<P: Pages>(
     ensures limits { IfErr result (IsAtLimit head.old.live head.old.number) }
     ensures causes { IfErr result IsUpdateFault }
     ensures one_more { (head.new.live ≤ head.old.live + 1) × (head.new.number ≤ head.old.number + 1) }
+    ensures absent { IfOk result (λ applied. applied ≡ Applied.Absent → head.new ≡ head.old) }
     ensures stays { result ≢ Err EngineFault.Disk → P.faults pages.new ≡ P.faults pages.old }
     ensures fails { FailsUpdating P.Pages pages.old pages.new result }
     ensures frame { Changes P.Pages pages.old pages.new }

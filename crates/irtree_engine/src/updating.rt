@@ -28,7 +28,7 @@ const TAKES_AN_UPDATE: u64 = 128;
 const TAKES_A_PAGE: u64 = 8;
 
 impl<'d, D: Station> Engine<'d, D> {
-    /// Stores one update in one commit, in the place table and in the tree. An update that changes nothing makes none. A key that a Put
+    /// Stores one update in one commit, in the place table and in the tree. A removal of a key at which no place lives makes none. A key that a Put
     /// names is a text key.
     ///
     /// Refuses `Stopped` exactly where an earlier commit of this engine failed, before all else; `Full` exactly where 200,000 or
@@ -68,8 +68,9 @@ impl<'d, D: Station> Engine<'d, D> {
         ensures free_left { IsErrOf result EngineFault.NoRoom → LacksPages 1 (D.room_of self.old.store.disk.now) (⟦<Store<'d, D> as Pages>⟧.pages self.new.store) self.old.store.current.counted self.old.store.current.first_free }
         ensures as_before { IsErrOf result EngineFault.NoRoom → self.new.store.current ≡ self.old.store.current }
 
-        // After a refusal that doesn't stop the engine the image is as before.
+        // After a refusal that doesn't stop the engine the image is as before; and nothing is committed for a key that isn't there to be removed.
         ensures rests { IsTrue D.tells → OnErr result (self.new.stopped ≡ self.old.stopped → Rests (D.world self.old.store.disk.now) (D.world self.new.store.disk.now)) }
+        ensures absent { IsTrue D.tells → IfOk result (λ applied. applied ≡ Applied.Absent → Rests (D.world self.old.store.disk.now) (D.world self.new.store.disk.now)) }
         ensures goes_on { result ≢ Err EngineFault.Disk → self.new.stopped ≡ self.old.stopped }
         ensures silent { IsTrue D.tells → (D.world self.new.store.disk.now).said ≡ (D.world self.old.store.disk.now).said }
         ensures later { (D.world self.old.store.disk.now).faults ≤ (D.world self.new.store.disk.now).faults }
@@ -262,6 +263,7 @@ fn commit<'d, D: Station>(
     ensures any_moment { IsTrue D.tells → (before after : Contents) → HoldsState (D.world store.old.disk.now) before
         → PagesStand (block_with store.old.current.counted store.old.current.first_free head.now) (⟦<Store<'d, D> as Pages>⟧.pages store.old) after
         → LeavesOnly (D.world store.old.disk.now) (D.world store.new.disk.now) (LeavesOneOf before after (D.world store.old.disk.now)) }
+    ensures idle { IsTrue D.tells → head.now.number ≡ store.old.current.head.number → Rests (D.world store.old.disk.now) (D.world store.new.disk.now) }
     ensures clean { store.new.overlay.entries ≡ [] }
     ensures settled { store.new.current ≡ store.new.last }
     ensures causes { IfErr result IsCommitFault }

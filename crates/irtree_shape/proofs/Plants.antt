@@ -1,5 +1,5 @@
 -- A place that was put into a whole tree, with its words.
-use Rattle.std.proofs.Common.{◌≡◌, ℕ, zero, suc, ◌+◌, ◌<◌, ◌≤◌, ◌⊎◌, inl, inr, max, arith, refl, sym, ap, ◌∙◌, subst, Some, None, List, [], ◌∷◌, ◌++◌, length, length-append}
+use Rattle.std.proofs.Common.{◌≡◌, ℕ, zero, suc, ◌+◌, ◌<◌, ◌≤◌, inl, inr, max, arith, refl, sym, ap, ◌∙◌, subst, Some, None, List, [], ◌∷◌, ◌++◌, length, length-append}
 use Rattle.page_face.specs.FreeList.{PageMap}
 use Rattle.btree_nodes.specs.Supply.{one_at}
 use Rattle.btree_nodes.proofs.Supplies.{none, one_at-same, one_at-other}
@@ -12,6 +12,7 @@ use Rattle.rtree_shape.proofs.Amounts.{same_or}
 use Rattle.rtree_shape.proofs.Heads.{total-append}
 use Rattle.rtree_shape.proofs.Plants.{least-some}
 use Rattle.rtree_shape.proofs.Raises.{one-sum, one-each}
+use Rattle.rtree_shape.proofs.Heights.{none_or}
 use Rattle.node_rows.specs.Rows.{bytes_in}
 use Rattle.node_rows.specs.Impacts.{impact_in, raised}
 use Rattle.irtree_shape.specs.Words.{worded, joined, words_on}
@@ -23,12 +24,9 @@ use Rattle.irtree_shape.proofs.Stocks.{moves-as, moves-further, supplied-plain}
 use Rattle.irtree_shape.proofs.Stores.{blank-after}
 use Rattle.irtree_shape.proofs.Words.{words-same, words-none_back, placed, raised-blank}
 
-pub zero_or : (m : ℕ) → (m ≡ 0) ⊎ (0 < m)
-zero_or m = grind arith
-
 -- Each row names a node of the tree, as before: rows of pages that were neither the tree's nor spare stayed, and spare pages have none.
 pub named-after : (before after : View) (mine ours : ℕ → ℕ) → Moves before after mine ours → ((n w i : ℕ) → mine n ≡ 0 → bytes_in before.pages before.rows n w i ≡ 0) → (n w i : ℕ) → ours n ≡ 0 → bytes_in after.pages after.rows n w i ≡ 0
-named-after before after mine ours moves named n w i o = elim (zero_or (spare_in after n)) [
+named-after before after mine ours moves named n w i o = elim (none_or (spare_in after n)) [
   | inl z ↦ let e = moves.kept n in let m : mine n ≡ 0 = omega arith in (moves.others n m (omega arith)).bytes w i ∙ named n w i m
   | inr s ↦ moves.supplied.clear n w i s
 ]

@@ -1,5 +1,5 @@
 -- A new root, with the words below both its children.
-use Rattle.std.proofs.Common.{◌≡◌, ℕ, suc, ◌+◌, ◌-◌, ◌<◌, ◌≤◌, ◌⊎◌, inl, inr, max, arith, refl, sym, ap, ◌∙◌, subst, Option, Some, None, List, [], ◌∷◌, nat_lt, if◌then◌else◌, true, false, Bool, option_map}
+use Rattle.std.proofs.Common.{◌≡◌, ℕ, suc, ◌+◌, ◌-◌, ◌<◌, inl, inr, max, arith, refl, sym, ap, ◌∙◌, subst, Option, Some, None, List, [], ◌∷◌, nat_lt, if◌then◌else◌, true, false, Bool, option_map}
 use Rattle.std.proofs.lemmas.Bool.Decides.{nat_tests}
 use Rattle.std.proofs.Math.Path.{fun_ext}
 use Rattle.page_face.specs.FreeList.{PageMap}
@@ -24,10 +24,7 @@ use Rattle.irtree_shape.specs.Steps.{Steps, Takes, crowned}
 use Rattle.irtree_shape.specs.Made.{nodes_in, IsBlank, IsMade, IsRaised}
 use Rattle.irtree_shape.proofs.Stocks.{still, moves-as, moves-beside, moves-further}
 use Rattle.irtree_shape.proofs.Stores.{blank-after}
-use Rattle.irtree_shape.proofs.Relinks.{node-top}
-
-less_or : (d : ℕ) → (d < 4) ⊎ (4 ≤ d)
-less_or d = grind arith
+use Rattle.irtree_shape.proofs.Relinks.{node-top, less_or}
 
 -- a child's item with the words below it reaches as far as its node
 pub crown-reach : (nodes : NodeMap) (x : Item) → ((d : ℕ) → d < 4 → x.reach d ≡ tops d (nodes x.to).slots) → (d : ℕ) → (crowned nodes x).reach d ≡ tops d (nodes x.to).slots

@@ -13,7 +13,7 @@ use Rattle.irtree_shape.specs.Steps.{crowned, relinked}
 use Rattle.irtree_shape.specs.Made.{nodes_in, IsBlank}
 use Rattle.irtree_shape.proofs.Words.{word-top, raised-at, raised-beside}
 
-less_or : (d : ℕ) → (d < 4) ⊎ (4 ≤ d)
+pub less_or : (d : ℕ) → (d < 4) ⊎ (4 ≤ d)
 less_or d = grind arith
 
 -- the greatest byte of each word of a node is how far its slots reach to it

@@ -1,5 +1,5 @@
 -- What single steps do with the pages in which a tree and its rows stand, and how steps follow each other.
-use Rattle.std.proofs.Common.{◌≡◌, ℕ, zero, suc, ◌+◌, ◌<◌, ◌^◌, ◌⊎◌, inl, inr, arith, refl, sym, ap, ◌∙◌, subst, List, ◌∷◌, length}
+use Rattle.std.proofs.Common.{◌≡◌, ℕ, zero, suc, ◌+◌, ◌<◌, ◌^◌, inl, inr, arith, refl, sym, ap, ◌∙◌, subst, List, ◌∷◌, length}
 use Rattle.std.proofs.Math.Path.{fun_ext}
 use Rattle.page_face.specs.FreeList.{PageMap, with_page, IsFreePage, next_free}
 use Rattle.page_face.specs.declared.fault.Damage.{Damage}
@@ -7,14 +7,16 @@ use Rattle.btree_nodes.specs.Damages.{IsRefusedTake}
 use Rattle.btree_nodes.specs.Nodes.{least_of_root}
 use Rattle.btree_nodes.specs.Rows.{Row}
 use Rattle.btree_nodes.specs.Supply.{one_at, tail}
-use Rattle.btree_nodes.specs.Tree.{IsMap, level_of, map_rows, map_uses, rows_at, uses}
+use Rattle.btree_nodes.specs.Tree.{IsMap, level_of, map_rows, map_uses, rows_at}
 use Rattle.btree_nodes.proofs.Frames.{tree-frame}
 use Rattle.btree_nodes.proofs.Supplies as supplies
 use Rattle.btree_nodes.proofs.Supplies.{none, one_at-is, one_at-same, spare-away, with-other}
+use Rattle.btree_nodes.proofs.Walks.{uses-self}
 use Rattle.rtree_shape.specs.Stock.{View, view, plain, rows_form, spare_in}
 use Rattle.rtree_shape.specs.Stock as bare
 use Rattle.rtree_shape.specs.Made.{Reads}
 use Rattle.rtree_shape.proofs.Stocks as bares
+use Rattle.rtree_shape.proofs.Heights.{none_or}
 use Rattle.node_rows.specs.Rows.{Bytes, AreFilled, bytes_in, bytes_of}
 use Rattle.node_rows.specs.Turns.{Turns}
 use Rattle.irtree_shape.specs.Words.{joined}
@@ -72,9 +74,6 @@ supplied-plain v s = record {
 pub take-honest : (v : View) (damage : Damage) → IsSupplied v → IsRefusedTake v.pages v.count v.first damage → ⊥
 take-honest v damage s r = supplies.take-honest v.pages v.count v.first v.free damage s.rows.kept.supplied r
 
-none_or : (m : ℕ) → (m ≡ 0) ⊎ (0 < m)
-none_or m = grind arith
-
 -- rows of pages of the tree have turned into others
 pub moves-rows : (v : View) (pages : PageMap) (rows count first : ℕ) (b : Bytes) (mine : ℕ → ℕ) → IsSupplied v → (turn : Turns (plain v) v.rows pages count first rows b)
     → ((n : ℕ) → 0 < mine n → spare_in v n ≡ 0) → ((n w i : ℕ) → mine n ≡ 0 → b n w i ≡ bytes_in v.pages v.rows n w i) → Moves v (view pages rows count first turn.free) mine mine
@@ -90,16 +89,12 @@ moves-rows v pages rows count first b mine supplied turn apart same = record {
     unmoved : (n : ℕ) → 0 < spare_in v n → mine n ≡ 0
     unmoved n s = elim (none_or (mine n)) [ inl e ↦ e | inr l ↦ let a = apart n l in absurd (omega arith) ]
 
-uses-root : (pages : PageMap) (level page : ℕ) → 0 < uses rows_form pages level page page
-uses-root pages zero page = let one = one_at-same page in omega arith
-uses-root pages (suc level) page = let one = one_at-same page in omega arith
-
 -- a map of rows whose pages stay has the same rows
 rows-same : (old new : PageMap) (root : ℕ) → IsMap rows_form old root → ((n : ℕ) → 0 < map_uses rows_form old root n → new n ≡ old n) → map_rows rows_form new root ≡ map_rows rows_form old root
 rows-same old new zero tree same = refl
 rows-same old new (suc m) tree same =
     let level : ℕ = level_of (old (suc m)) in
-    let here : new (suc m) ≡ old (suc m) = same (suc m) (uses-root old level (suc m)) in
+    let here : new (suc m) ≡ old (suc m) = same (suc m) (uses-self rows_form old level (suc m)) in
     let level_is : level_of (new (suc m)) ≡ level = ap level_of here in
     ap (λ (l : ℕ). rows_at rows_form new l (suc m)) level_is ∙ (tree-frame rows_form (least_of_root level) old new level (suc m) 0 (256 ^ rows_form.key) tree same).rows
 

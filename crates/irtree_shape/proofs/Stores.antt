@@ -1,5 +1,5 @@
 -- Nodes that were written, with their rows.
-use Rattle.std.proofs.Common.{◌≡◌, ℕ, ◌+◌, ◌<◌, ◌⊎◌, inl, inr, max, arith, refl, sym, ap, ◌∙◌, subst, Option, Some, None, List, [], ◌∷◌}
+use Rattle.std.proofs.Common.{◌≡◌, ℕ, ◌+◌, ◌<◌, inl, inr, max, arith, refl, sym, ap, ◌∙◌, subst, Option, Some, None, List, [], ◌∷◌}
 use Rattle.page_face.specs.FreeList.{PageMap}
 use Rattle.btree_nodes.specs.Supply.{one_at}
 use Rattle.btree_nodes.proofs.Supplies.{one_at-other}
@@ -11,16 +11,14 @@ use Rattle.rtree_shape.specs.Made.{Reads, sums_with, uses_with, reach_with}
 use Rattle.rtree_shape.proofs.Amounts.{same_or}
 use Rattle.rtree_shape.proofs.Frames.{SameSlots, slots-frame}
 use Rattle.rtree_shape.proofs.Heads.{slots-heads}
+use Rattle.rtree_shape.proofs.Heights.{none_or}
 use Rattle.irtree_shape.specs.Stock.{Moves}
 use Rattle.irtree_shape.specs.Made.{nodes_in, IsBlank, IsReady, IsMade, IsTwo, IsSplit}
 use Rattle.irtree_shape.proofs.Stocks.{still, moves-beside, moves-as}
 
-zero_or : (m : ℕ) → (m ≡ 0) ⊎ (0 < m)
-zero_or m = grind arith
-
 -- no byte stands at an unused slot of a page that is none of those that changed
 pub blank-after : (reads : Reads) (before after : View) (mine ours : ℕ → ℕ) → Moves before after mine ours → (n : ℕ) → mine n ≡ 0 → ours n ≡ 0 → IsBlank reads before.pages before.rows n → IsBlank reads after.pages after.rows n
-blank-after reads before after mine ours moves n m o blank w i none = elim (zero_or (spare_in before n)) [
+blank-after reads before after mine ours moves n m o blank w i none = elim (none_or (spare_in before n)) [
   | inl z ↦ let h = moves.others n m z in
       h.bytes w i ∙ blank w i (ap (λ (p : List ℕ). (reads p).slots i) (sym h.page) ∙ none)
   | inr s ↦ let e = moves.kept n in moves.supplied.clear n w i (omega arith)

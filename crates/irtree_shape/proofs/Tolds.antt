@@ -1,39 +1,22 @@
 -- Counted pages whose bytes are told, after a tree and its rows have changed.
-use Rattle.std.proofs.Common.{◌≡◌, ℕ, zero, suc, ◌+◌, ◌<◌, ◌⊎◌, inl, inr, arith, sym, ap, ◌∙◌, subst, Option, None, Some, List, length}
+use Rattle.std.proofs.Common.{◌≡◌, ℕ, zero, suc, ◌+◌, ◌<◌, inl, inr, arith, sym, ap, ◌∙◌, subst, Option, None, Some, List, length}
 use Rattle.page_face.specs.FreeList.{PageMap}
 use Rattle.btree_nodes.specs.Damages.{AreTold}
 use Rattle.btree_nodes.specs.Supply.{one_at}
-use Rattle.btree_nodes.specs.declared.form.Form.{Form}
-use Rattle.btree_nodes.specs.Nodes.{Entry, entries_in, half_of}
-use Rattle.btree_nodes.specs.Tree.{IsTree, map_uses, with_low}
-use Rattle.btree_nodes.specs.Tree as tree
-use Rattle.btree_nodes.proofs.Frames.{with_low-total}
+use Rattle.btree_nodes.specs.Tree.{map_uses}
 use Rattle.btree_nodes.proofs.Supplies.{counted-none, one_at-is, uncounted-past}
 use Rattle.node_rows.specs.Rows.{Bytes, bytes_in}
-use Rattle.node_rows.proofs.Lookups.{less_or as under_or}
-use Rattle.node_rows.proofs.Told.{fan-told, itself, map-told, list-told}
+use Rattle.btree_nodes.proofs.Tolds.{map-told, list-told}
 use Rattle.rtree_shape.specs.Slots.{Item, Slots, got, amount, filled, Held, Each, no_slots}
 use Rattle.rtree_shape.specs.Trees.{uses, IsItem, IsNode, Stands, least_with, node_uses, stand_uses}
 use Rattle.rtree_shape.specs.Stock.{View, rows_form, spare_in}
 use Rattle.rtree_shape.specs.Made.{Reads}
 use Rattle.rtree_shape.proofs.Amounts.{amount-same, amount-none}
+use Rattle.rtree_shape.proofs.Heights.{under_or, none_or}
 use Rattle.irtree_shape.specs.Stock.{Moves}
 use Rattle.irtree_shape.specs.Steps.{Steps}
 use Rattle.irtree_shape.specs.Made.{nodes_in, IsMade}
 use Rattle.irtree_shape.proofs.Words.{words-filled}
-
-none_or : (m : ℕ) → (m ≡ 0) ⊎ (0 < m)
-none_or m = grind arith
-
-tree-told : (form : Form) (least : ℕ) (pages : PageMap) (level page low high : ℕ) → IsTree form least pages level page low high → (n : ℕ) → 0 < tree.uses form pages level page n → 0 < length (pages n)
-tree-told form least pages zero page low high h n used = itself pages page n h.0.size used
-tree-told form least pages (suc level) page low high h n used =
-    let es : List Entry = entries_in form (pages page) in
-    let below = with_low-total (λ (c : ℕ). tree.uses form pages level c n) low es in
-    elim (none_or (one_at page n)) [
-      | inl z ↦ fan-told (IsTree form (half_of form level) pages level) (tree.uses form pages level) pages (λ c a b t. tree-told form (half_of form level) pages level c a b t) low high (with_low low es) h.1 n (omega arith)
-      | inr l ↦ itself pages page n h.0.node.size l
-    ]
 
 -- what moved leaves the counted pages told, if what it made is told
 pub told-moved : {before after : View} {mine ours : ℕ → ℕ} → Moves before after mine ours → ((n : ℕ) → 0 < n → 0 < ours n → 0 < length (after.pages n)) → AreTold before.pages before.count → AreTold after.pages after.count

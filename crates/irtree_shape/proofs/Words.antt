@@ -13,6 +13,7 @@ use Rattle.node_rows.specs.Turns.{moved}
 use Rattle.node_rows.specs.Impacts.{raised, top_at}
 use Rattle.node_inverted.proofs.Moves.{moved-node, moved-to}
 use Rattle.irtree_shape.specs.Words.{worded, joined_item, words_on, joined, AreBlank}
+use Rattle.rtree_find.proofs.Entries.{same_number}
 
 item-same : (x : Item) (f g : ℕ → ℕ) → ((d : ℕ) → f d ≡ g d) → record x { reach = f } ≡ record x { reach = g }
 item-same x f g h = ap (λ (k : ℕ → ℕ). record x { reach = k }) (fun_ext h)
@@ -57,9 +58,6 @@ raised-at page at f b w = raised-row page at f b w at ∙ (let t : (at == at) �
 pub raised-beside : (page at : ℕ) (f : ℕ → ℕ) (b : Bytes) (w i : ℕ) → (i ≡ at → ⊥) → raised page at f b page w i ≡ b page w i
 raised-beside page at f b w i d = raised-row page at f b w i ∙ (let t : (i == at) ≡ false = grind (arith, nat_tests) in rw t (omega arith))
 
-same-if : (i slot : ℕ) → (i == slot) ≡ true → i ≡ slot
-same-if i slot h = grind (arith, nat_tests)
-
 -- a slot without bytes, which then holds an item and was raised by its words
 slot-raised : (s : Slots) (slot : ℕ) (x : Item) (old new : ℕ → ℕ → ℕ) (f : ℕ → ℕ) → ((w : ℕ) → old w slot ≡ 0)
     → ((w i : ℕ) → new w i ≡ max (old w i) (if i == slot then f w else 0)) → (i : ℕ) → words_on new (with_slot slot x s) i ≡ with_slot slot (worded f x) (words_on old s) i
@@ -67,7 +65,7 @@ slot-raised s slot x old new f none is i = elim (i == slot) as (λ b. ((w : ℕ)
     → option_map (joined_item new i) (if b then Some x else s i) ≡ (if b then Some (worded f x) else option_map (joined_item old i) (s i))) [
       | true ↦ λ h e. ap Some (item-same x (joined_item new i x).reach (worded f x).reach (λ d. ap (λ (k : ℕ). if nat_lt d 4 then x.reach d else k) (h (d - 4) ∙ (let z = none (d - 4) in let o : old (d - 4) i ≡ old (d - 4) slot = ap (old (d - 4)) (e refl) in omega arith))))
       | false ↦ λ h e. words-at new old s i (λ w. h w ∙ (let t = h w in omega arith))
-    ] (λ w. is w i) (λ h. same-if i slot h)
+    ] (λ w. is w i) (λ h. same_number i slot h)
 
 -- an item was put into a free slot, and its words into the rows
 pub placed : (page at : ℕ) (f : ℕ → ℕ) (b : Bytes) (s t : Slots) (x : Item) → ((w : ℕ) → b page w at ≡ 0) → t ≡ with_slot at x s

@@ -1,5 +1,5 @@
 -- Fronts of what a run says.
-use Rattle.std.proofs.Common.{◌≡◌, ℕ, suc, ◌+◌, ⊎_elim, List, [], ◌∷◌, ◌++◌, length, take, sym, ap, ◌∙◌, arith, append_assoc, zero-add}
+use Rattle.std.proofs.Common.{◌≡◌, ℕ, ◌+◌, ⊎_elim, List, [], ◌∷◌, ◌++◌, length, take, sym, ap, ◌∙◌, arith, append_assoc}
 use Rattle.std.specs.Prelude.{Result, Ok, Err}
 use Rattle.std.proofs.lemmas.List.{append-nil, take_all}
 use Rattle.disk_model.specs.World.{World}
@@ -11,6 +11,7 @@ use Rattle.run_protocol.specs.Load.{Closing, Step, Skip, Store, load, skip_line,
 use Rattle.run_protocol.specs.Said.{EndsAs, SaysFrontOf}
 use Rattle.run_protocol.specs.Script.{script, turn}
 use Rattle.run_protocol.specs.Turn.{Transcript, End}
+use Rattle.script_run.proofs.Fronts.{take-behind}
 
 -- nothing is a front
 pub none-said : (text before : List ℕ) (now : List ℕ) → now ≡ before → SaysFrontOf text before now
@@ -21,13 +22,6 @@ pub whole-said : (wanted : End) (whole : Transcript) (old new : World) → EndsA
 whole-said wanted whole old new ends =
     let text = whole.turn.text in
     (length text, ends.said ∙ ap (λ t. old.said ++ t) (sym (take_all (length text) text (omega arith))))
-
--- a front of what is behind some bytes
-take-behind : (xs ys : List ℕ) (k : ℕ) → take (length xs + k) (xs ++ ys) ≡ xs ++ take k ys
-take-behind [] ys k = ap (λ n. take n ys) (zero-add k)
-take-behind (x ∷ xs) ys k =
-    let one_more : suc (length xs) + k ≡ suc (length xs + k) = omega arith in
-    ap (λ n. take n (x ∷ xs ++ ys)) one_more ∙ ap (λ l. x ∷ l) (take-behind xs ys k)
 
 -- what was said and a front of what follows is a front of both
 pub front-behind : (text rest before now : List ℕ) → SaysFrontOf rest (before ++ text) now → SaysFrontOf (text ++ rest) before now

@@ -4,12 +4,11 @@ use Rattle.std.specs.Prelude.{IsTrue, Result, Ok, Err}
 use Rattle.disk_model.specs.World.{World, Image, LeavesOnly, LeavesOnlySeen}
 use Rattle.disk_model.proofs.Moments.{then, within}
 use Rattle.place_map.specs.State.{Contents}
-use Rattle.place_map.specs.declared.update.UpdateFault.{UpdateFault}
 use Rattle.irtree_engine.specs.Holding.{HoldsState, LeavesState}
 use Rattle.irtree_engine.specs.Updates.{state_after_all}
 use Rattle.run_protocol.specs.Causes.{HasJobEnd, IsJobEnd}
 use Rattle.run_protocol.proofs.Counts.{keeps-on}
-use Rattle.run_protocol.specs.Left.{StopsAtBatch, StopsAtLine, StopsBehind}
+use Rattle.run_protocol.specs.Left.{StopsAtBatch, StopsAtLine}
 use Rattle.run_protocol.specs.Load.{Step, Skip, Store, skip_line, steps, stored_line}
 use Rattle.run_protocol.specs.Script.{script_lines, turn}
 use Rattle.make_run.specs.Making.{make_steps}
@@ -24,6 +23,7 @@ use Rattle.irtree_top.specs.Run.{EndsBy, EndsJob, HoldsPrefix, IsNear, SaysFront
 use Rattle.irtree_top.specs.Transcript.{IsTranscript}
 use Rattle.command_words.specs.Job.{Asked}
 use Rattle.irtree_top.proofs.Jobs.{decided-front, job-front}
+use Rattle.load_run.proofs.Stages.{behind-same}
 
 -- the law that what is asked for has one transcript
 abbrev pub TranscriptIsOne : Type 0
@@ -35,11 +35,6 @@ ends-front one T asked state input left old new (Ok done) says = decided-front o
 ends-front one T asked state input left old new (Err end) says = job-front one T asked state input left old new end says
 
 -- ---- how the job ended
-
--- behind a batch that is accepted, by what follows it
-behind-by : (outcome : Result Contents UpdateFault) (P Q : Contents → Type 0) → ((after : Contents) → P after → Q after) → StopsBehind outcome P → StopsBehind outcome Q
-behind-by (Ok after) P Q go stops = go after stops
-behind-by (Err fault) P Q go stops = absurd stops
 
 module _ (asked : Asked) (state : Contents) (input : List ℕ) (old mid new : World) (same : new.said ≡ mid.said) where
   -- nothing more was said
@@ -71,7 +66,7 @@ module _ (asked : Asked) (state : Contents) (input : List ℕ) (old mid new : Wo
     batch-settled at stored skipped (Skip index reason ∷ rest) before stops = batch-settled at stored (skipped + 1) rest (before ++ skip_line index reason) stops
     batch-settled at stored skipped (Store updates ∷ rest) before stops = ⊎_elim
         (λ here. inl (same ∙ here.0, stands at here.1))
-        (λ behind. inr (behind-by (state_after_all at updates)
+        (λ behind. inr (behind-same (state_after_all at updates)
         (λ after. StopsAtBatch after (stored + length updates) skipped rest (before ++ stored_line (stored + length updates)) mid)
         (λ after. StopsAtBatch after (stored + length updates) skipped rest (before ++ stored_line (stored + length updates)) new)
         (λ after next. batch-settled after (stored + length updates) skipped rest (before ++ stored_line (stored + length updates)) next) behind))

@@ -175,15 +175,15 @@ IsLimitOf Run fault = fault ≡ limits.NoRoom
 IsLimitOf Load fault = Unit {0}
 IsLimitOf Make fault = Unit {0}
 
--- how many updates of the action one commit stores at most
-abbrev pub most_updates : Action → ℕ
-most_updates Run = 1
-most_updates Load = 10000
-most_updates Make = 10000
+-- how many updates of the action one commit stores at most, with so many places in a batch
+abbrev pub most_updates : Action → ℕ → ℕ
+most_updates Run batch = 1
+most_updates Load batch = batch
+most_updates Make batch = batch
 
 -- of the image's free pages, and of those that the disk has room for beside the pages counted, there are no more than a commit of the action is allowed to take
-abbrev pub LacksRoomFor : Action → ℕ → Image → Type 0
-LacksRoomFor action room image = LacksRoomIn (most_updates action) room image
+abbrev pub LacksRoomFor : Action → ℕ → ℕ → Image → Type 0
+LacksRoomFor action batch room image = LacksRoomIn (most_updates action batch) room image
 
 -- The places of an action reach the limit, from so many live places and this update number on: those of the text of a load, or those that
 -- are made.

@@ -63,7 +63,7 @@ fn act<'d, S: Source, T: Station>(
     ensures reached { IsTrue S.tells → (fault : LimitFault) → IsErrOf result (Ended.Limit fault)
         → ReachesLimitBy job.now.action (asked_of job.now) fault engine.old.store.current.head.live engine.old.store.current.head.number (S.left source.old) }
     ensures lacks { IsTrue T.tells → IsErrOf result (Ended.Limit LimitFault.NoRoom)
-        → LacksRoomFor job.now.action (T.room_of engine.new.store.disk.now) (T.world engine.new.store.disk.now).seen }
+        → LacksRoomFor job.now.action job.now.batch (T.room_of engine.new.store.disk.now) (T.world engine.new.store.disk.now).seen }
 {
     match job.action {
         Action::Run => run_script(alloc, source, engine),
@@ -129,7 +129,7 @@ fn serve<'d, S: Source, T: Station>(
     ensures reached { IsTrue S.tells → (fault : LimitFault) → IsErrOf result (Ended.Limit fault)
         → ReachesLimitBy job.now.action (asked_of job.now) fault engine.old.store.current.head.live engine.old.store.current.head.number (S.left source.old) }
     ensures lacks { IsTrue T.tells → IsErrOf result (Ended.Limit LimitFault.NoRoom)
-        → LacksRoomFor job.now.action (T.room_of engine.new.store.disk.now) (T.world engine.new.store.disk.now).seen }
+        → LacksRoomFor job.now.action job.now.batch (T.room_of engine.new.store.disk.now) (T.world engine.new.store.disk.now).seen }
 {
     transcript_is_one();
     transcript_is_some();
@@ -172,7 +172,7 @@ pub(crate) fn run_job<S: Source, T: Station>(
     ensures limits { (fault : LimitFault) → IsErrOf result (Ended.Limit fault) → IsLimitOf job.now.action fault }
     ensures reached { IsTrue S.tells → IsTrue T.tells → (fault : LimitFault) → IsErrOf result (Ended.Limit fault)
         → IsLimitReached fault (asked_of job.now) (S.left source.old) (T.world station.old).seen }
-    ensures lacks { IsTrue T.tells → IsErrOf result (Ended.Limit LimitFault.NoRoom) → LacksRoomFor job.now.action (T.room_of station.new) (T.world station.new).seen }
+    ensures lacks { IsTrue T.tells → IsErrOf result (Ended.Limit LimitFault.NoRoom) → LacksRoomFor job.now.action job.now.batch (T.room_of station.new) (T.world station.new).seen }
 {
     let block = match recover_superblock(&mut *station) {
         Ok(block) => block,

@@ -118,7 +118,7 @@ pub fn run<S: Source, T: Station>(
         → IsLimitReached fault asked (S.left source.old) (T.world station.old).seen }
     // No page is left for an update only where the image has few free pages at the end, and the disk has room for few more.
     ensures lacks { (asked : Asked) → AskFor (map string_bytes words.now) asked → IsTrue T.tells → result ≡ Ended.Limit LimitFault.NoRoom
-        → LacksRoomFor asked.action (T.room_of station.new) (T.world station.new).seen }
+        → LacksRoomFor asked.action asked.batch (T.room_of station.new) (T.world station.new).seen }
     // A make reads nothing, and ends by no input.
     ensures unread { (asked : Asked) → AskFor (map string_bytes words.now) asked → asked.action ≡ Action.Make → (source.new ≡ source.old) × IsUnreadEnd result }
 

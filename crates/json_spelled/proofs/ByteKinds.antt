@@ -6,6 +6,7 @@ use Rattle.json_spelled.specs.Grammar.{IsSpace}
 use Rattle.json_spelled.specs.Kind.{kind, letter_kind, sign_kind, control_kind}
 use Rattle.json_spelled.specs.declared.kind.Kind.{Kind}
 use Rattle.json_spelled.specs.declared.kind.Kind.TheVariants.{Blank, Break, Control, Quote, Backslash, Comma, Colon, OpenList, CloseList, OpenObject, CloseObject, Minus, Plus, Point, Zero, Digit, Exponent, SmallN, SmallT, SmallF, Other}
+use Rattle.number_grammar.proofs.Tests.{same_is}
 
 -- what a byte of this kind is
 abbrev pub IsOf : ℕ → Kind → Type 0
@@ -36,10 +37,6 @@ chosen : (b : ℕ) (test : Bool) (x y : Kind) → (test ≡ true → IsOf b x) �
 chosen b true x y h k = h refl
 chosen b false x y h k = k refl
 
--- what a test of equality says
-same : (a b : ℕ) → nat_eq a b ≡ true → a ≡ b
-same a b h = grind (arith, nat_tests)
-
 -- what a failed test of equality says
 other : (a b : ℕ) → nat_eq a b ≡ false → a ≢ b
 other a b h e = grind (arith, nat_tests)
@@ -55,9 +52,9 @@ from a b h = grind (arith, nat_tests)
 -- each byte below 32 is of its kind
 control_is : (b : ℕ) → b < 32 → IsOf b (control_kind b)
 control_is b small =
-    chosen b (nat_eq b 9) _ _ (λ h. inl (same b 9 h)) (λ n9.
-    chosen b (nat_eq b 10) _ _ (λ h. inr (inl (same b 10 h))) (λ n10.
-    chosen b (nat_eq b 13) _ _ (λ h. inr (inr (same b 13 h))) (λ n13. (small, other b 9 n9, other b 10 n10, other b 13 n13))))
+    chosen b (nat_eq b 9) _ _ (λ h. inl (same_is b 9 h)) (λ n9.
+    chosen b (nat_eq b 10) _ _ (λ h. inr (inl (same_is b 10 h))) (λ n10.
+    chosen b (nat_eq b 13) _ _ (λ h. inr (inr (same_is b 13 h))) (λ n13. (small, other b 9 n9, other b 10 n10, other b 13 n13))))
 
 -- what the test for a digit other than zero says
 digit_test : (b : ℕ) → (nat_le 49 b && nat_le b 57) ≡ true → (49 ≤ b) × (b ≤ 57)
@@ -70,14 +67,14 @@ no_digit b h = grind (arith, nat_tests)
 -- each byte from 32 to 64 is of its kind
 sign_is : (b : ℕ) → 32 ≤ b → b < 65 → IsOf b (sign_kind b)
 sign_is b low high =
-    chosen b (nat_eq b 32) _ _ (λ h. same b 32 h) (λ n1.
-    chosen b (nat_eq b 34) _ _ (λ h. same b 34 h) (λ n2.
-    chosen b (nat_eq b 44) _ _ (λ h. same b 44 h) (λ n3.
-    chosen b (nat_eq b 58) _ _ (λ h. same b 58 h) (λ n4.
-    chosen b (nat_eq b 45) _ _ (λ h. same b 45 h) (λ n5.
-    chosen b (nat_eq b 43) _ _ (λ h. same b 43 h) (λ n6.
-    chosen b (nat_eq b 46) _ _ (λ h. same b 46 h) (λ n7.
-    chosen b (nat_eq b 48) _ _ (λ h. same b 48 h) (λ n8.
+    chosen b (nat_eq b 32) _ _ (λ h. same_is b 32 h) (λ n1.
+    chosen b (nat_eq b 34) _ _ (λ h. same_is b 34 h) (λ n2.
+    chosen b (nat_eq b 44) _ _ (λ h. same_is b 44 h) (λ n3.
+    chosen b (nat_eq b 58) _ _ (λ h. same_is b 58 h) (λ n4.
+    chosen b (nat_eq b 45) _ _ (λ h. same_is b 45 h) (λ n5.
+    chosen b (nat_eq b 43) _ _ (λ h. same_is b 43 h) (λ n6.
+    chosen b (nat_eq b 46) _ _ (λ h. same_is b 46 h) (λ n7.
+    chosen b (nat_eq b 48) _ _ (λ h. same_is b 48 h) (λ n8.
     chosen b (nat_le 49 b && nat_le b 57) _ _ (λ h. digit_test b h) (λ h.
     let no_space : b ≢ 32 = other b 32 n1 in
     (omega arith, other b 34 n2, omega arith, other b 48 n8, no_digit b h, omega arith))))))))))
@@ -85,16 +82,16 @@ sign_is b low high =
 -- each byte from 65 on is of its kind
 letter_is : (b : ℕ) → 65 ≤ b → IsOf b (letter_kind b)
 letter_is b low =
-    chosen b (nat_eq b 91) _ _ (λ h. same b 91 h) (λ n1.
-    chosen b (nat_eq b 93) _ _ (λ h. same b 93 h) (λ n2.
-    chosen b (nat_eq b 123) _ _ (λ h. same b 123 h) (λ n3.
-    chosen b (nat_eq b 125) _ _ (λ h. same b 125 h) (λ n4.
-    chosen b (nat_eq b 92) _ _ (λ h. same b 92 h) (λ n5.
-    chosen b (nat_eq b 101) _ _ (λ h. inl (same b 101 h)) (λ n6.
-    chosen b (nat_eq b 69) _ _ (λ h. inr (same b 69 h)) (λ n7.
-    chosen b (nat_eq b 110) _ _ (λ h. same b 110 h) (λ n8.
-    chosen b (nat_eq b 116) _ _ (λ h. same b 116 h) (λ n9.
-    chosen b (nat_eq b 102) _ _ (λ h. same b 102 h) (λ n10.
+    chosen b (nat_eq b 91) _ _ (λ h. same_is b 91 h) (λ n1.
+    chosen b (nat_eq b 93) _ _ (λ h. same_is b 93 h) (λ n2.
+    chosen b (nat_eq b 123) _ _ (λ h. same_is b 123 h) (λ n3.
+    chosen b (nat_eq b 125) _ _ (λ h. same_is b 125 h) (λ n4.
+    chosen b (nat_eq b 92) _ _ (λ h. same_is b 92 h) (λ n5.
+    chosen b (nat_eq b 101) _ _ (λ h. inl (same_is b 101 h)) (λ n6.
+    chosen b (nat_eq b 69) _ _ (λ h. inr (same_is b 69 h)) (λ n7.
+    chosen b (nat_eq b 110) _ _ (λ h. same_is b 110 h) (λ n8.
+    chosen b (nat_eq b 116) _ _ (λ h. same_is b 116 h) (λ n9.
+    chosen b (nat_eq b 102) _ _ (λ h. same_is b 102 h) (λ n10.
     (omega arith, omega arith, other b 92 n5, omega arith, inr (omega arith), other b 93 n2)))))))))))
 
 -- each byte is of its kind

@@ -1,7 +1,7 @@
 -- How a load ends, from what its text gives.
-use Rattle.std.proofs.Common.{◌≡◌, ◌≢◌, ◌⊎◌, ℕ, ◌+◌, ◌<◌, ◌≤◌, inl, inr, ⊎_elim, List, [], ◌∷◌, ◌++◌, length, take, refl, sym, ap, subst, ◌∙◌, arith, append_assoc, length-append, length-take}
-use Rattle.std.specs.Prelude.{Option, Result, Ok, Err, OnOk, IfErr, IsErrOf}
-use Rattle.std.proofs.lemmas.List.{append-nil, take-take, take-append-le}
+use Rattle.std.proofs.Common.{◌≡◌, ◌≢◌, ◌⊎◌, ℕ, ◌+◌, ◌<◌, ◌≤◌, inl, inr, ⊎_elim, List, [], ◌++◌, length, take, refl, sym, ap, subst, ◌∙◌, arith, append_assoc, length-append, length-take}
+use Rattle.std.specs.Prelude.{Option, Result, Ok, Err, IfErr, IsErrOf}
+use Rattle.std.proofs.lemmas.List.{append-nil}
 use Rattle.disk_model.specs.World.{World, LeavesOnly}
 use Rattle.disk_model.proofs.Moments.{within}
 use Rattle.place_map.specs.State.{Contents}
@@ -21,6 +21,7 @@ use Rattle.run_protocol.specs.Left.{LeftBySteps, LeftByLoad, StopsAtBatch}
 use Rattle.run_protocol.specs.Load.{Closing, load, load_max, IsTaken, says_loaded, steps}
 use Rattle.run_protocol.specs.Said.{EndsAs, SaysFrontOf}
 use Rattle.run_protocol.specs.Turn.{End}
+use Rattle.run_protocol.proofs.Lists.{none-behind}
 use Rattle.load_run.specs.Loading.{IsUnread, RefusesSo, EndsLoad, EndsSteps, IsConcluded, Reaches, LeftFrom, stage_at_start}
 use Rattle.load_run.proofs.Fronts.{front-empty}
 
@@ -109,11 +110,6 @@ taken-left batch only state input bytes items old new same short takes left = wi
 
 -- ---- reading the whole input
 
--- nothing is behind no bytes
-none-behind : (front back : List ℕ) → front ++ back ≡ [] → back ≡ []
-none-behind [] back is = is
-none-behind (byte ∷ front) back is = absurd (omega (arith, ap length is))
-
 -- the end of the input was read
 pub read-whole : (input text left next part : List ℕ) → input ≡ text ++ left → left ≡ part ++ next → left ≡ [] → (text ≡ input) × (next ≡ [])
 read-whole input text left next part came given none =
@@ -128,10 +124,6 @@ read-more input text left next part longer came given is =
 pub read-long : (input text left next buf : List ℕ) (n : ℕ) → input ≡ text ++ left → left ≡ take n buf ++ next → n ≤ length buf → 67108864 < length text + n → load_max < length input
 read-long input text left next buf n came given few more =
     omega (arith, load_max-is, ap length came, length-append text left, ap length given, length-append (take n buf) next, length-take n buf)
-
--- a front of what was written over the front of a buffer
-pub take-over : (n len : ℕ) (over rest : List ℕ) → n ≤ length over → length over ≤ len → take n (take len (over ++ rest)) ≡ take n over
-take-over n len over rest few room = take-take n len (over ++ rest) (omega (arith, few, room)) ∙ take-append-le n over rest few
 
 -- ---- whatever the image stands for
 
@@ -184,8 +176,3 @@ refused-limit (loads.Json (json.TooDeep at)) end why so is = cc
 refused-limit (loads.Json json.Memory) end why so is = cc
 refused-limit loads.NotFeatures end why so is = cc
 refused-limit loads.Memory end why so is = cc
-
--- what holds in any case holds after a success
-pub on_ok-held : {T E P : Type 0} (result : Result T E) → P → OnOk result P
-on_ok-held (Ok value) held = held
-on_ok-held (Err fault) held = tt

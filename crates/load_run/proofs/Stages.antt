@@ -23,7 +23,7 @@ use Rattle.load_run.specs.Loading.{LeftFrom, Stage, text_to_say, StopsFrom, mome
 -- ---- where a load stops for want of room
 
 -- behind a batch
-behind-same : (after : Result Contents UpdateFault) (One Other : Contents → Type 0) → ((state : Contents) → One state → Other state) → StopsBehind after One → StopsBehind after Other
+pub behind-same : (after : Result Contents UpdateFault) (One Other : Contents → Type 0) → ((state : Contents) → One state → Other state) → StopsBehind after One → StopsBehind after Other
 behind-same (Ok state) One Other more stops = more state stops
 behind-same (Err fault) One Other more stops = absurd stops
 

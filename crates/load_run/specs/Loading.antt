@@ -1,5 +1,5 @@
 -- A load between two of its items, and how it ends.
-use Rattle.std.specs.Prelude.{◌≡◌, ◌≢◌, ◌⊎◌, ℕ, ◌+◌, ◌^◌, ◌<◌, ◌≤◌, List, [], ◌++◌, length, Option, Vec, Result, Ok, Err, OnOk, IfErr}
+use Rattle.std.specs.Prelude.{◌≡◌, ◌≢◌, ◌⊎◌, ℕ, ◌+◌, ◌^◌, ◌<◌, ◌≤◌, List, [], ◌++◌, length, max, Option, Vec, Result, Ok, Err, OnOk, IfErr}
 use Rattle.std.specs.List.{AllByRecursion}
 use Rattle.disk_model.specs.World.{World, Image, LeavesOnly, Rose}
 use Rattle.json_spelled.specs.declared.tree.JsonFault.TheVariants as json
@@ -42,9 +42,9 @@ HasText old new (Err end) = IsUnread old end
 abbrev pub acted_on : Load → ℕ
 acted_on at = at.stored + (length at.waiting.items + at.skipped)
 
--- The places that wait are fewer than a batch may have, and can be stored.
+-- The places that wait are fewer than a batch has, which is one at least, and can be stored.
 pub record CanWait (at : Load) : Type 0 where
-  pub few : length at.waiting.items < 10000
+  pub few : length at.waiting.items < max at.batch 1
   pub batch : at.batch ≤ 10000
   pub keys : AllByRecursion NamesText at.waiting.items
 

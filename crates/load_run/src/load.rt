@@ -1,5 +1,5 @@
 // A load, item by item, over an engine.
-ghost use Rattle.std.specs.Prelude.{◌≡◌, ◌≤◌, ◌<◌, ◌+◌, ◌^◌, ◌∷◌, [], List, length, false, IsTrue, IfOk, IfErr, IsErrOf, OnOk};
+ghost use Rattle.std.specs.Prelude.{◌≡◌, ◌≤◌, ◌<◌, ◌+◌, ◌^◌, ◌∷◌, [], List, length, max, false, IsTrue, IfOk, IfErr, IsErrOf, OnOk};
 ghost use Rattle.std.specs.List.{AllByRecursion};
 ghost use Rattle.place_map.specs.State.{Contents};
 ghost use Rattle.place_map.specs.declared.update.Update.{Update};
@@ -66,7 +66,7 @@ fn store_batch<'d, T: Station>(engine: &mut Engine<'d, T>, updates: &[Update]) -
     ensures goes_on { GoesOn engine.new.stopped result }
     ensures cause { HasEngineEnd T.tells (T.world engine.old.store.disk.now) (T.world engine.new.store.disk.now) result }
     ensures rises { RisesBy (length updates.now) 0 0 engine.old.store.current.head engine.new.store.current.head result }
-    ensures lacks { IsTrue T.tells → IsErrOf result (Ended.Limit LimitFault.NoRoom) → LacksRoomIn 10000 (T.room_of engine.new.store.disk.now) (T.world engine.new.store.disk.now).seen }
+    ensures lacks { IsTrue T.tells → IsErrOf result (Ended.Limit LimitFault.NoRoom) → LacksRoomIn (length updates.now) (T.room_of engine.new.store.disk.now) (T.world engine.new.store.disk.now).seen }
 {
     match engine.apply_batch(updates) {
         Ok(()) => Ok(()),
@@ -94,6 +94,7 @@ impl Load {
     pub fn new(alloc: Global, batch: u32) -> Load
         requires { batch ≤ 10000 }
         ensures stage { (closing : Closing) (state : Contents) (items : List Item) → stage_before closing result state items ≡ stage_at_start closing batch state items }
+        ensures batch { result.batch ≡ batch }
         ensures none { acted_on result ≡ 0 }
         ensures waits { CanWait result }
     {
@@ -123,10 +124,11 @@ impl Load {
             (T.world engine.old.store.disk.now) (T.world engine.new.store.disk.now) result }
         ensures goes_on { GoesOn engine.new.stopped result }
         ensures count { OnOk result (acted_on self.new ≡ acted_on self.old + 1) }
+        ensures batch { OnOk result (self.new.batch ≡ self.old.batch) }
         ensures waits { OnOk result (CanWait self.new) }
         ensures cause { HasEngineEnd T.tells (T.world engine.old.store.disk.now) (T.world engine.new.store.disk.now) result }
         ensures rises { RisesBy (places_among (item_of item ∷ [])) (length self.old.waiting.items) (length self.new.waiting.items) engine.old.store.current.head engine.new.store.current.head result }
-        ensures lacks { IsTrue T.tells → IsErrOf result (Ended.Limit LimitFault.NoRoom) → LacksRoomIn 10000 (T.room_of engine.new.store.disk.now) (T.world engine.new.store.disk.now).seen }
+        ensures lacks { IsTrue T.tells → IsErrOf result (Ended.Limit LimitFault.NoRoom) → LacksRoomIn (max self.old.batch 1) (T.room_of engine.new.store.disk.now) (T.world engine.new.store.disk.now).seen }
     {
         match item {
             Taken::Place(draft) => self.place(engine, draft),
@@ -150,10 +152,11 @@ impl Load {
             (T.world engine.old.store.disk.now) (T.world engine.new.store.disk.now) result }
         ensures goes_on { GoesOn engine.new.stopped result }
         ensures count { OnOk result (acted_on self.new ≡ acted_on self.old + 1) }
+        ensures batch { OnOk result (self.new.batch ≡ self.old.batch) }
         ensures waits { OnOk result (CanWait self.new) }
         ensures cause { HasEngineEnd T.tells (T.world engine.old.store.disk.now) (T.world engine.new.store.disk.now) result }
         ensures rises { RisesBy 0 (length self.old.waiting.items) (length self.new.waiting.items) engine.old.store.current.head engine.new.store.current.head result }
-        ensures lacks { IsTrue T.tells → IsErrOf result (Ended.Limit LimitFault.NoRoom) → LacksRoomIn 10000 (T.room_of engine.new.store.disk.now) (T.world engine.new.store.disk.now).seen }
+        ensures room { ¬ IsErrOf result (Ended.Limit LimitFault.NoRoom) }
     {
         match write_skip(index, reason, &mut self.text) {
             Ok(()) => {}
@@ -185,10 +188,11 @@ impl Load {
             (T.world engine.old.store.disk.now) (T.world engine.new.store.disk.now) result }
         ensures goes_on { GoesOn engine.new.stopped result }
         ensures count { OnOk result (acted_on self.new ≡ acted_on self.old + 1) }
+        ensures batch { OnOk result (self.new.batch ≡ self.old.batch) }
         ensures waits { OnOk result (CanWait self.new) }
         ensures cause { HasEngineEnd T.tells (T.world engine.old.store.disk.now) (T.world engine.new.store.disk.now) result }
         ensures rises { RisesBy 1 (length self.old.waiting.items) (length self.new.waiting.items) engine.old.store.current.head engine.new.store.current.head result }
-        ensures lacks { IsTrue T.tells → IsErrOf result (Ended.Limit LimitFault.NoRoom) → LacksRoomIn 10000 (T.room_of engine.new.store.disk.now) (T.world engine.new.store.disk.now).seen }
+        ensures lacks { IsTrue T.tells → IsErrOf result (Ended.Limit LimitFault.NoRoom) → LacksRoomIn (max self.old.batch 1) (T.room_of engine.new.store.disk.now) (T.world engine.new.store.disk.now).seen }
     {
         let update = match update_of(self.alloc, draft) {
             Ok(update) => update,
@@ -224,7 +228,7 @@ impl Load {
         ensures counts { OnOk result (HasStored (length updates.now) self.old self.new) }
         ensures cause { HasEngineEnd T.tells (T.world engine.old.store.disk.now) (T.world engine.new.store.disk.now) result }
         ensures rises { RisesBy (length updates.now) 0 0 engine.old.store.current.head engine.new.store.current.head result }
-        ensures lacks { IsTrue T.tells → IsErrOf result (Ended.Limit LimitFault.NoRoom) → LacksRoomIn 10000 (T.room_of engine.new.store.disk.now) (T.world engine.new.store.disk.now).seen }
+        ensures lacks { IsTrue T.tells → IsErrOf result (Ended.Limit LimitFault.NoRoom) → LacksRoomIn (length updates.now) (T.room_of engine.new.store.disk.now) (T.world engine.new.store.disk.now).seen }
     {
         match say_text(&mut self.text, &mut *engine) {
             Ok(()) => {}
@@ -255,7 +259,7 @@ impl Load {
         ensures goes_on { GoesOn engine.new.stopped result }
         ensures cause { HasEngineEnd T.tells (T.world engine.old.store.disk.now) (T.world engine.new.store.disk.now) result }
         ensures rises { RisesBy 0 (length self.old.waiting.items) 0 engine.old.store.current.head engine.new.store.current.head result }
-        ensures lacks { IsTrue T.tells → IsErrOf result (Ended.Limit LimitFault.NoRoom) → LacksRoomIn 10000 (T.room_of engine.new.store.disk.now) (T.world engine.new.store.disk.now).seen }
+        ensures lacks { IsTrue T.tells → IsErrOf result (Ended.Limit LimitFault.NoRoom) → LacksRoomIn (max self.old.batch 1) (T.room_of engine.new.store.disk.now) (T.world engine.new.store.disk.now).seen }
     {
         let updates = mem::replace(&mut self.waiting, Vec::new(self.alloc));
         if updates.is_empty() {
@@ -279,7 +283,7 @@ impl Load {
         ensures goes_on { GoesOn engine.new.stopped result }
         ensures cause { HasEngineEnd T.tells (T.world engine.old.store.disk.now) (T.world engine.new.store.disk.now) result }
         ensures rises { RisesBy 0 0 0 engine.old.store.current.head engine.new.store.current.head result }
-        ensures lacks { IsTrue T.tells → IsErrOf result (Ended.Limit LimitFault.NoRoom) → LacksRoomIn 10000 (T.room_of engine.new.store.disk.now) (T.world engine.new.store.disk.now).seen }
+        ensures room { ¬ IsErrOf result (Ended.Limit LimitFault.NoRoom) }
     {
         match write_bytes(line, &mut self.text) {
             Ok(()) => say_text(&mut self.text, engine),
@@ -298,7 +302,7 @@ impl Load {
         ensures goes_on { GoesOn engine.new.stopped result }
         ensures cause { HasEngineEnd T.tells (T.world engine.old.store.disk.now) (T.world engine.new.store.disk.now) result }
         ensures rises { RisesBy 0 (length self.old.waiting.items) 0 engine.old.store.current.head engine.new.store.current.head result }
-        ensures lacks { IsTrue T.tells → IsErrOf result (Ended.Limit LimitFault.NoRoom) → LacksRoomIn 10000 (T.room_of engine.new.store.disk.now) (T.world engine.new.store.disk.now).seen }
+        ensures lacks { IsTrue T.tells → IsErrOf result (Ended.Limit LimitFault.NoRoom) → LacksRoomIn (max self.old.batch 1) (T.room_of engine.new.store.disk.now) (T.world engine.new.store.disk.now).seen }
     {
         match self.store_rest(&mut *engine) {
             Ok(()) => self.conclude(engine),
@@ -315,7 +319,7 @@ impl Load {
         ensures goes_on { GoesOn engine.new.stopped result }
         ensures cause { HasEngineEnd T.tells (T.world engine.old.store.disk.now) (T.world engine.new.store.disk.now) result }
         ensures rises { RisesBy 0 0 0 engine.old.store.current.head engine.new.store.current.head result }
-        ensures lacks { IsTrue T.tells → IsErrOf result (Ended.Limit LimitFault.NoRoom) → LacksRoomIn 10000 (T.room_of engine.new.store.disk.now) (T.world engine.new.store.disk.now).seen }
+        ensures room { ¬ IsErrOf result (Ended.Limit LimitFault.NoRoom) }
     {
         let mut line = Vec::new(self.alloc);
         match write_loaded(self.stored, self.skipped, &mut line) {

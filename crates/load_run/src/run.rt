@@ -1,5 +1,5 @@
 //! A load, from its source to its end.
-ghost use Rattle.std.specs.Prelude.{◌≡◌, ◌≤◌, ◌<◌, ◌^◌, [], length, map, option_copied, false, Err, IfOk, OnOk, IsErrOf, IsTrue};
+ghost use Rattle.std.specs.Prelude.{◌≡◌, ◌≤◌, ◌<◌, ◌^◌, [], length, map, max, option_copied, false, Err, IfOk, OnOk, IsErrOf, IsTrue};
 ghost use Rattle.std.specs.List.{All};
 ghost use Rattle.disk_model.specs.World.{LeavesOnly};
 ghost use Rattle.place_map.specs.State.{Contents};
@@ -71,7 +71,7 @@ fn store_items<'d, T: Station>(
     ensures goes_on { GoesOn engine.new.stopped result }
     ensures cause { HasEngineEnd T.tells (T.world engine.old.store.disk.now) (T.world engine.new.store.disk.now) result }
     ensures rises { RisesBy (places_among (map item_of items.items)) 0 0 engine.old.store.current.head engine.new.store.current.head result }
-    ensures lacks { IsTrue T.tells → IsErrOf result (Ended.Limit LimitFault.NoRoom) → LacksRoomIn 10000 (T.room_of engine.new.store.disk.now) (T.world engine.new.store.disk.now).seen }
+    ensures lacks { IsTrue T.tells → IsErrOf result (Ended.Limit LimitFault.NoRoom) → LacksRoomIn (max batch 1) (T.room_of engine.new.store.disk.now) (T.world engine.new.store.disk.now).seen }
 {
     let mut load = Load::new(alloc, batch);
     for item in items {
@@ -133,7 +133,7 @@ pub fn run_load<'d, S: Source, T: Station>(
     ensures limit { IsTrue S.tells → (fault : LimitFault) → IsErrOf result (Ended.Limit fault)
         → ReachesLimit fault engine.old.store.current.head.live engine.old.store.current.head.number (option_copied only.entry) (S.left source.old) }
     // For want of room it ends only where the station has no more than the pages counted and as many as a batch is allowed to take.
-    ensures lacks { IsTrue T.tells → IsErrOf result (Ended.Limit LimitFault.NoRoom) → LacksRoomIn 10000 (T.room_of engine.new.store.disk.now) (T.world engine.new.store.disk.now).seen }
+    ensures lacks { IsTrue T.tells → IsErrOf result (Ended.Limit LimitFault.NoRoom) → LacksRoomIn (max batch 1) (T.room_of engine.new.store.disk.now) (T.world engine.new.store.disk.now).seen }
 {
     let text = match read_text(alloc, source) {
         Ok(text) => text,

@@ -43,18 +43,6 @@ refused-limit live number engine.Stopped reads = tt
 refused-limit live number (engine.Damaged damage) reads = tt
 refused-limit live number _ reads = absurd reads
 
--- and never for want of room
-pub refused-room : (fault : EngineFault) → IsReadFault fault → end_of_engine fault ≡ ends.Limit limits.NoRoom → ⊥
-refused-room engine.Disk reads is = absurd (cc)
-refused-room engine.Memory reads is = absurd (cc)
-refused-room engine.Stopped reads is = absurd (cc)
-refused-room (engine.Damaged damage) reads is = absurd (cc)
-refused-room engine.NoRoom reads is = absurd reads
-refused-room engine.Full reads is = absurd reads
-refused-room engine.Worn reads is = absurd reads
-refused-room engine.NotAStore reads is = absurd reads
-refused-room (engine.BadJournal at) reads is = absurd reads
-
 -- ---- the whole
 
 -- nothing was said then

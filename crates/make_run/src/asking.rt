@@ -5,7 +5,7 @@ ghost use Rattle.page_store.specs.Store.{Rests};
 ghost use Rattle.place_map.specs.Answer.{answer_of};
 ghost use Rattle.place_map.specs.State.{Contents};
 ghost use Rattle.irtree_engine.specs.Holding.{HoldsState};
-ghost use Rattle.run_protocol.specs.Causes.{HasEngineEnd, LacksRoomIn};
+ghost use Rattle.run_protocol.specs.Causes.{HasEngineEnd};
 ghost use Rattle.load_run.specs.Loading.{RisesBy};
 ghost use Rattle.make_run.specs.Asking as spec;
 ghost use Rattle.make_run.specs.Asking.{Counts, found_in, hits_in};
@@ -36,7 +36,7 @@ fn ask<'d, T: Station>(
     ensures on { engine.new.stopped ≡ false }
     ensures cause { HasEngineEnd T.tells (T.world engine.old.store.disk.now) (T.world engine.new.store.disk.now) result }
     ensures rises { RisesBy 0 0 0 engine.old.store.current.head engine.new.store.current.head result }
-    ensures lacks { IsTrue T.tells → IsErrOf result (Ended.Limit LimitFault.NoRoom) → LacksRoomIn 10000 (T.room_of engine.new.store.disk.now) (T.world engine.new.store.disk.now).seen }
+    ensures room { ¬ IsErrOf result (Ended.Limit LimitFault.NoRoom) }
 {
     let query = match query_for(alloc, made) {
         Ok(query) => query,
@@ -64,7 +64,7 @@ pub(crate) fn ask_places<'d, T: Station>(
     ensures on { engine.new.stopped ≡ false }
     ensures cause { HasEngineEnd T.tells (T.world engine.old.store.disk.now) (T.world engine.new.store.disk.now) result }
     ensures rises { RisesBy 0 0 0 engine.old.store.current.head engine.new.store.current.head result }
-    ensures lacks { IsTrue T.tells → IsErrOf result (Ended.Limit LimitFault.NoRoom) → LacksRoomIn 10000 (T.room_of engine.new.store.disk.now) (T.world engine.new.store.disk.now).seen }
+    ensures room { ¬ IsErrOf result (Ended.Limit LimitFault.NoRoom) }
 {
     let mut maker = Maker::new(seed);
     let mut found = Found { hits: 0, cost: 0 };

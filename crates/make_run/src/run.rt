@@ -1,5 +1,5 @@
 //! A make, from its first place to its last line.
-ghost use Rattle.std.specs.Prelude.{◌≡◌, ◌≤◌, [], false, IsErrOf, IsTrue};
+ghost use Rattle.std.specs.Prelude.{◌≡◌, ◌≤◌, max, [], false, IsErrOf, IsTrue};
 ghost use Rattle.disk_model.specs.World.{LeavesOnly};
 ghost use Rattle.place_map.specs.State.{Contents};
 ghost use Rattle.irtree_engine.specs.Holding.{HoldsState};
@@ -34,7 +34,7 @@ fn conclude<'d, T: Station>(
     ensures goes_on { GoesOn engine.new.stopped result }
     ensures cause { HasEngineEnd T.tells (T.world engine.old.store.disk.now) (T.world engine.new.store.disk.now) result }
     ensures rises { RisesBy 0 0 0 engine.old.store.current.head engine.new.store.current.head result }
-    ensures lacks { IsTrue T.tells → IsErrOf result (Ended.Limit LimitFault.NoRoom) → LacksRoomIn 10000 (T.room_of engine.new.store.disk.now) (T.world engine.new.store.disk.now).seen }
+    ensures room { ¬ IsErrOf result (Ended.Limit LimitFault.NoRoom) }
 {
     let queries = count.min(QUERIES_MAX);
     let found = match ask_places(alloc, seed, queries, &mut *engine) {
@@ -65,7 +65,7 @@ fn make_places<'d, T: Station>(
     ensures goes_on { GoesOn engine.new.stopped result }
     ensures cause { HasEngineEnd T.tells (T.world engine.old.store.disk.now) (T.world engine.new.store.disk.now) result }
     ensures rises { RisesBy count 0 0 engine.old.store.current.head engine.new.store.current.head result }
-    ensures lacks { IsTrue T.tells → IsErrOf result (Ended.Limit LimitFault.NoRoom) → LacksRoomIn 10000 (T.room_of engine.new.store.disk.now) (T.world engine.new.store.disk.now).seen }
+    ensures lacks { IsTrue T.tells → IsErrOf result (Ended.Limit LimitFault.NoRoom) → LacksRoomIn (max batch 1) (T.room_of engine.new.store.disk.now) (T.world engine.new.store.disk.now).seen }
 {
     let mut load = Load::new(alloc, batch);
     match store_places(alloc, seed, count, &mut load, &mut *engine) {
@@ -108,7 +108,7 @@ pub fn run_make<'d, T: Station>(
     ensures limit { (fault : LimitFault) → IsErrOf result (Ended.Limit fault)
         → ReachLimit count fault engine.old.store.current.head.live engine.old.store.current.head.number }
     // For want of room it ends only where the station has no more than the pages counted and as many as a batch is allowed to take.
-    ensures lacks { IsTrue T.tells → IsErrOf result (Ended.Limit LimitFault.NoRoom) → LacksRoomIn 10000 (T.room_of engine.new.store.disk.now) (T.world engine.new.store.disk.now).seen }
+    ensures lacks { IsTrue T.tells → IsErrOf result (Ended.Limit LimitFault.NoRoom) → LacksRoomIn (max batch 1) (T.room_of engine.new.store.disk.now) (T.world engine.new.store.disk.now).seen }
 {
     make_places(alloc, batch, seed, count, engine)
 }

@@ -1,5 +1,5 @@
 // Places made from a seed, stored batch by batch.
-ghost use Rattle.std.specs.Prelude.{◌≡◌, ◌≤◌, [], false, IsTrue, OnOk, IsErrOf};
+ghost use Rattle.std.specs.Prelude.{◌≡◌, ◌≤◌, max, [], false, IsTrue, OnOk, IsErrOf};
 ghost use Rattle.made_places.specs.Makers.{place_in};
 ghost use Rattle.place_map.specs.State.{Contents};
 ghost use Rattle.geojson_points.specs.Takes.{place_of};
@@ -54,7 +54,7 @@ pub(crate) fn store_places<'d, T: Station>(
     ensures goes_on { GoesOn engine.new.stopped result }
     ensures cause { HasEngineEnd T.tells (T.world engine.old.store.disk.now) (T.world engine.new.store.disk.now) result }
     ensures rises { RisesBy count 0 0 engine.old.store.current.head engine.new.store.current.head result }
-    ensures lacks { IsTrue T.tells → IsErrOf result (Ended.Limit LimitFault.NoRoom) → LacksRoomIn 10000 (T.room_of engine.new.store.disk.now) (T.world engine.new.store.disk.now).seen }
+    ensures lacks { IsTrue T.tells → IsErrOf result (Ended.Limit LimitFault.NoRoom) → LacksRoomIn (max load.old.batch 1) (T.room_of engine.new.store.disk.now) (T.world engine.new.store.disk.now).seen }
 {
     let mut maker = Maker::new(seed);
     for _number in 0..count {

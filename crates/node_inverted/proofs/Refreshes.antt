@@ -4,12 +4,12 @@ use Rattle.std.proofs.lemmas.Bool.Decides.{nat_tests}
 use Rattle.page_face.specs.FreeList.{PageMap}
 use Rattle.btree_nodes.specs.Supply.{View}
 use Rattle.rtree_shape.proofs.Amounts.{same_or}
+use Rattle.rtree_shape.proofs.Heights.{under_or}
 use Rattle.node_rows.specs.Rows.{Bytes, IsRows, bytes_in}
 use Rattle.node_rows.specs.Turns.{Turns, Next}
 use Rattle.node_rows.specs.Ascents.{until}
 use Rattle.node_rows.specs.Impacts.{with_byte, refreshed, top_at}
 use Rattle.node_inverted.specs.Refreshing.{IsFrom, word_of, lesser_of, byte_ahead, IsRefreshing, IsBounded, is_named, on_words}
-use Rattle.node_rows.proofs.Lookups.{less_or}
 use Rattle.node_rows.proofs.Bytes.{and_false}
 use Rattle.node_rows.proofs.Ascents.{ascend, rest, left, all, start}
 use Rattle.node_rows.proofs.Impacts.{byte-here, byte-elsewhere, byte-another, byte-beside, top-clear}
@@ -26,7 +26,7 @@ pub least : (o p : Option (ℕ × List ℕ)) (word : ℕ) → lesser_of (word_of
 least None None word e = cc
 least None (Some p) word e = let f : p.0 ≡ word = cc in record { from_o = tt; from_p = omega arith; on = λ b d n m k x y. let l = y.on in omega arith }
 least (Some o) None word e = let f : o.0 ≡ word = cc in record { from_o = omega arith; from_p = tt; on = λ b d n m k x y. let l = x.on in omega arith }
-least (Some o) (Some p) word e = elim (less_or p.0 o.0) [
+least (Some o) (Some p) word e = elim (under_or p.0 o.0) [
   | inl l ↦ let t : nat_lt p.0 o.0 ≡ true = grind (arith, nat_tests) in
       let g : Some p.0 ≡ Some word = ap (λ (x : Bool). Some (if x then p.0 else o.0)) (sym t) ∙ e in
       let f : p.0 ≡ word = cc in record { from_o = omega arith; from_p = omega arith; on = λ b d n m k x y. let j = y.on in omega arith }

@@ -3,7 +3,8 @@ use Rattle.std.proofs.Common.{◌≡◌, ℕ, ◌+◌, ◌<◌, ◌≤◌, inl, 
 use Rattle.std.proofs.lemmas.Bool.Decides.{nat_tests}
 use Rattle.node_rows.specs.Rows.{Bytes}
 use Rattle.node_rows.specs.Ascents.{until}
-use Rattle.node_rows.proofs.Lookups.{less_or, order}
+use Rattle.node_rows.proofs.Lookups.{order}
+use Rattle.rtree_shape.proofs.Heights.{under_or}
 
 -- a word that is done
 pub until-done : (k : ℕ) (new old : Bytes) (n w i : ℕ) → w < k → until k new old n w i ≡ new n w i
@@ -22,7 +23,7 @@ module _ (new old now : Bytes) (at : ℕ) (is : (n w i : ℕ) → now n w i ≡ 
   pub ascend : (after : Bytes) (word : ℕ) → at ≤ word → ((n w i : ℕ) → (w ≡ word → ⊥) → after n w i ≡ now n w i) → ((n i : ℕ) → after n word i ≡ new n word i)
       → ((n w i : ℕ) → at ≤ w → w < word → new n w i ≡ old n w i) → (n w i : ℕ) → after n w i ≡ until (word + 1) new old n w i
   ascend after word on others here idle n w i = elim (order w word) [
-    | inl l ↦ others n w i (λ e. omega arith) ∙ elim (less_or w at) [
+    | inl l ↦ others n w i (λ e. omega arith) ∙ elim (under_or w at) [
       | inl k ↦ is n w i ∙ until-done at new old n w i k
       | inr k ↦ left n w i k ∙ sym (idle n w i k l)
     ] ∙ sym (until-done (word + 1) new old n w i (omega arith))
@@ -32,9 +33,9 @@ module _ (new old now : Bytes) (at : ℕ) (is : (n w i : ℕ) → now n w i ≡ 
 
   -- nothing is left to be done
   pub rest : (k : ℕ) → at ≤ k → ((n w i : ℕ) → at ≤ w → new n w i ≡ old n w i) → (n w i : ℕ) → now n w i ≡ until k new old n w i
-  rest k on idle n w i = elim (less_or w at) [
+  rest k on idle n w i = elim (under_or w at) [
     | inl l ↦ is n w i ∙ until-done at new old n w i l ∙ sym (until-done k new old n w i (omega arith))
-    | inr l ↦ left n w i l ∙ elim (less_or w k) [
+    | inr l ↦ left n w i l ∙ elim (under_or w k) [
       | inl m ↦ sym (idle n w i l) ∙ sym (until-done k new old n w i m)
       | inr m ↦ sym (until-left k new old n w i m)
     ]
@@ -42,7 +43,7 @@ module _ (new old now : Bytes) (at : ℕ) (is : (n w i : ℕ) → now n w i ≡ 
 
 -- all words are done
 pub all : (k : ℕ) (new old : Bytes) → ((n w i : ℕ) → k ≤ w → new n w i ≡ old n w i) → (n w i : ℕ) → until k new old n w i ≡ new n w i
-all k new old idle n w i = elim (less_or w k) [
+all k new old idle n w i = elim (under_or w k) [
   | inl l ↦ until-done k new old n w i l
   | inr l ↦ until-left k new old n w i l ∙ sym (idle n w i l)
 ]

@@ -5,8 +5,9 @@ use Rattle.page_face.specs.FreeList.{are_zero}
 use Rattle.btree_nodes.specs.Rows.{Row, IsWithin, lookup, first_from, put, without}
 use Rattle.node_rows.specs.Rows.{Bytes, key_of, byte_in, bytes_of, IsFilled, AreFilled}
 use Rattle.node_rows.specs.Turns.{with_row, IsNext}
-use Rattle.node_rows.proofs.Lookups.{lookup-put, lookup-put_other, lookup-without, lookup-without_other, first-none, first-some, less_or, IsFirst}
+use Rattle.node_rows.proofs.Lookups.{lookup-put, lookup-put_other, lookup-without, lookup-without_other, first-none, first-some, IsFirst}
 use Rattle.rtree_shape.proofs.Amounts.{same_or}
+use Rattle.rtree_shape.proofs.Heights.{under_or}
 
 pub word-same : (n n' w w' : ℕ) → w < 2 ^ 64 → w' < 2 ^ 64 → key_of n w ≡ key_of n' w' → w ≡ w'
 unfolding key_of
@@ -64,7 +65,7 @@ module _ (rows after : List Row) (node word : ℕ) (value : List ℕ) (small : w
     (here : byte_in (lookup (key_of node word) after) ≡ slice_index value)
     (others : (q : ℕ) → (q ≡ key_of node word → ⊥) → lookup q after ≡ lookup q rows) where
   same-bytes : (n w i : ℕ) → (w < 2 ^ 64 → key_of n w ≡ key_of node word → ⊥) → bytes_of after n w i ≡ bytes_of rows n w i
-  same-bytes n w i h = elim (less_or w (2 ^ 64)) [
+  same-bytes n w i h = elim (under_or w (2 ^ 64)) [
     | inl l ↦ bytes-small after n w i l ∙ ap (λ (o : Option (List ℕ)). byte_in o i) (others (key_of n w) (h l)) ∙ sym (bytes-small rows n w i l)
     | inr l ↦ bytes-large after n w i l ∙ sym (bytes-large rows n w i l)
   ]
@@ -84,7 +85,7 @@ module _ (rows after : List Row) (node word : ℕ) (value : List ℕ) (small : w
 -- the next row of a node
 module _ (rows : List Row) (low high node from : ℕ) (small : from < 2 ^ 64) (within : IsWithin low high rows) where
   pub next-none : first_from (key_of node from) rows ≡ None → (v i : ℕ) → from ≤ v → bytes_of rows node v i ≡ 0
-  next-none e v i l = elim (less_or v (2 ^ 64)) [
+  next-none e v i l = elim (under_or v (2 ^ 64)) [
     | inl s ↦ bytes-small rows node v i s ∙ ap (λ (o : Option (List ℕ)). byte_in o i) (first-none low high (key_of node from) (key_of node v) rows within e (key-word node from v l))
     | inr s ↦ bytes-large rows node v i s
   ]
@@ -107,7 +108,7 @@ module _ (rows : List Row) (low high node from : ℕ) (small : from < 2 ^ 64) (w
         }
 
     pub next-away : (n ≡ node → ⊥) → (v i : ℕ) → from ≤ v → bytes_of rows node v i ≡ 0
-    next-away d v i l = elim (less_or v (2 ^ 64)) [
+    next-away d v i l = elim (under_or v (2 ^ 64)) [
       | inl s ↦ bytes-small rows node v i s
           ∙ ap (λ (o : Option (List ℕ)). byte_in o i) (first.none (key_of node v) (key-word node from v l) (node-later node n from v w s fits d first.on small))
       | inr s ↦ bytes-large rows node v i s

@@ -12,12 +12,12 @@ use Rattle.btree_search.specs.Leaves.{IsLeafOf}
 use Rattle.paged_map.proofs.Leaves.{lookup-leaf}
 use Rattle.paged_map.proofs.Maps.{map-none}
 use Rattle.rtree_shape.specs.Stock.{rows_form}
+use Rattle.rtree_shape.proofs.Heights.{under_or}
 use Rattle.node_rows.specs.Rows.{Bytes, byte_in, bytes_in, bytes_of, key_of}
 use Rattle.node_rows.specs.Turns.{IsNext, Next}
 use Rattle.node_rows.specs.Copies.{HasRows, IsBefore}
 use Rattle.node_rows.specs.declared.leaf.LeafCopy.{LeafCopy}
 use Rattle.node_rows.proofs.Bytes.{bytes-large, bytes-small, key-word, next-away, next-here, next-none}
-use Rattle.node_rows.proofs.Lookups.{less_or}
 
 -- a word before one that stands before the end
 pub before-less : (w v : ℕ) (o : Option ℕ) → w < v → IsBefore v o → IsBefore w o
@@ -32,7 +32,7 @@ before-le w v (Some next) l h = omega arith
 -- a word before the end stands before one that doesn't
 pub before-past : (w v : ℕ) (o : Option ℕ) → IsBefore w o → (IsBefore v o → ⊥) → w < v
 before-past w v None h k = absurd (k tt)
-before-past w v (Some next) h k = elim (less_or v next) [
+before-past w v (Some next) h k = elim (under_or v next) [
   | inl l ↦ absurd (k l)
   | inr l ↦ omega arith
 ]
@@ -87,7 +87,7 @@ filled form e pages root node from least page low high b bytes next is sound wit
       high = high;
       fits = sound'.fits;
       within = subst (λ (f : Form). IsWithin low high (rows_in f bytes)) e within;
-      is = λ w i l m. elim (less_or w (2 ^ 64)) [
+      is = λ w i l m. elim (under_or w (2 ^ 64)) [
         | inl s ↦
             let k = key-word node from w l in
             bytes-small (rows_in rows_form bytes) node w i s
@@ -99,7 +99,7 @@ filled form e pages root node from least page low high b bytes next is sound wit
 
 -- the first row from a word on is that from an earlier one on, if nothing lies between
 pub next-on : (b d : Bytes) (node from at : ℕ) (o : Option (ℕ × List ℕ)) → from ≤ at → ((w i : ℕ) → at ≤ w → d node w i ≡ b node w i) → ((w i : ℕ) → from ≤ w → w < at → b node w i ≡ 0) → Next d node at o → Next b node from o
-next-on b d node from at None le same quiet next = λ w i l. elim (less_or w at) [
+next-on b d node from at None le same quiet next = λ w i l. elim (under_or w at) [
   | inl m ↦ quiet w i l m
   | inr m ↦ sym (same w i m) ∙ next w i m
 ]
@@ -109,7 +109,7 @@ next-on b d node from at (Some found) le same quiet next =
       on = omega arith;
       small = next.small;
       is = λ i. next.is i ∙ same found.0 i o;
-      none = λ w i l m. elim (less_or w at) [
+      none = λ w i l m. elim (under_or w at) [
         | inl k ↦ quiet w i l k
         | inr k ↦ sym (same w i k) ∙ next.none w i k m
       ];
@@ -117,7 +117,7 @@ next-on b d node from at (Some found) le same quiet next =
 
 -- an empty map has no bytes
 pub bytes-empty : (pages : PageMap) (root n w i : ℕ) → root ≡ 0 → bytes_in pages root n w i ≡ 0
-bytes-empty pages root n w i e = ap (λ (rows : List Row). bytes_of rows n w i) (map-none rows_form pages root e) ∙ elim (less_or w (2 ^ 64)) [
+bytes-empty pages root n w i e = ap (λ (rows : List Row). bytes_of rows n w i) (map-none rows_form pages root e) ∙ elim (under_or w (2 ^ 64)) [
   | inl s ↦ bytes-small [] n w i s
   | inr s ↦ bytes-large [] n w i s
 ]

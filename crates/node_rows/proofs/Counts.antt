@@ -3,6 +3,7 @@ use Rattle.std.proofs.Common.{◌≡◌, ℕ, zero, suc, ◌+◌, ◌-◌, ◌<�
 use Rattle.std.proofs.lemmas.Bool.Decides.{nat_tests}
 use Rattle.page_face.specs.FreeList.{are_zero}
 use Rattle.rtree_shape.specs.Slots.{sum_to}
+use Rattle.rtree_shape.proofs.Looses.{sum_none}
 use Rattle.node_rows.specs.Rows.{Bytes}
 use Rattle.node_rows.specs.Impacts.{impact_in}
 use Rattle.node_rows.specs.Counts.{sign, most, both, counted_on, impact_33, alike, cell}
@@ -24,7 +25,7 @@ counted-set count x y k = let t : nat_lt 0 x ≡ true = grind (arith, nat_tests)
 pub counted-same : (count x y : ℕ) → x ≡ 0 → count ≡ counted_on count x y
 counted-same count x y e = let t : nat_lt 0 x ≡ false = grind (arith, nat_tests) in ap (λ (b : Bool). if b then min (count + sign y) most else count) (sym t)
 
-and-left : (a b : Bool) → (a && b) ≡ true → a ≡ true
+pub and-left : (a b : Bool) → (a && b) ≡ true → a ≡ true
 and-left true b h = refl
 and-left false b h = cc
 
@@ -47,10 +48,6 @@ cell-clear (line ∷ lines) (suc i) j h = cell-clear lines i j (and-right (are_z
 pub sum-next : (n : ℕ) (g : ℕ → ℕ) → sum_to (n + 1) g ≡ sum_to n g + g n
 unfolding sum_to
 sum-next n g = let e : n + 1 ≡ suc n = omega arith in rw e (omega arith)
-
-pub sum-none : (g : ℕ → ℕ) → sum_to 0 g ≡ 0
-unfolding sum_to
-sum-none g = refl
 
 -- no words between two
 sum-more : (at m : ℕ) (g : ℕ → ℕ) → ((w : ℕ) → at ≤ w → w < at + m → g w ≡ 0) → sum_to (at + m) g ≡ sum_to at g
@@ -89,7 +86,7 @@ module _ (b : Bytes) (node : ℕ) (ps : List (ℕ × ℕ)) (at i j : ℕ) (h : (
 
 pub alike-none : (b : Bytes) (node : ℕ) (ps : List (ℕ × ℕ)) (i j : ℕ) → alike b node ps 0 i j ≡ 0
 unfolding alike
-alike-none b node ps i j = sum-none (λ w. both (impact_33 b node ps w i) (impact_33 b node ps w j))
+alike-none b node ps i j = sum_none (λ w. both (impact_33 b node ps w i) (impact_33 b node ps w j))
 
 pub set-here : (t : List (List ℕ)) (at : ℕ) (v : List ℕ) → at < length t → slice_index_or (slice_set t at v) at [] ≡ v
 set-here t at v l = search rules

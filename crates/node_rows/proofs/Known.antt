@@ -2,12 +2,12 @@
 use Rattle.std.proofs.Common.{◌≡◌, ℕ, zero, suc, ◌+◌, ◌<◌, ◌≤◌, max, inl, inr, arith, refl, sym, ap, ◌∙◌, List, [], ◌∷◌, ◌++◌, length, filter, get_or, ◌==◌, nat_lt, true, false, slice_index, slice_index_or}
 use Rattle.std.proofs.lemmas.Bool.Decides.{nat_tests}
 use Rattle.rtree_shape.proofs.Amounts.{same_or}
+use Rattle.rtree_shape.proofs.Heights.{under_or}
 use Rattle.node_rows.specs.Rows.{Bytes, HasBytes}
 use Rattle.node_rows.specs.Counts.{shared_in, sign}
 use Rattle.node_rows.specs.Impacts.{impact_at, impact_in, raised}
 use Rattle.node_rows.specs.Known.{AreRowsAt, rises}
 use Rattle.node_rows.proofs.Pairs.{impact-here, impact-other}
-use Rattle.node_rows.proofs.Lookups.{less_or}
 
 -- one word more
 pub known-push : (b : Bytes) (node : ℕ) (ps : List (ℕ × ℕ)) (rs : List (List ℕ)) (p : ℕ × ℕ) (r : List ℕ) → AreRowsAt b node ps rs → HasBytes r (b node p.0) → AreRowsAt b node (ps ++ p ∷ []) (rs ++ r ∷ [])
@@ -57,7 +57,7 @@ skip x a b c e l = omega arith
 -- the words that rise raise a slot as all of them
 pub rising-all : (b : Bytes) (node slot : ℕ) (ps : List (ℕ × ℕ)) (w : ℕ) → max (b node w slot) (impact_in (filter (rises b node slot) ps) w) ≡ max (b node w slot) (impact_in ps w)
 rising-all b node slot [] w = refl
-rising-all b node slot (p ∷ ps) w = let h = rising-all b node slot ps w in elim (less_or (b node p.0 slot) p.1) [
+rising-all b node slot (p ∷ ps) w = let h = rising-all b node slot ps w in elim (under_or (b node p.0 slot) p.1) [
   | inl l ↦ let t : nat_lt (b node p.0 slot) p.1 ≡ true = grind (arith, nat_tests) in rw t (join (b node w slot) (impact_in (filter (rises b node slot) ps) w) (impact_in ps w) (impact_at p w) h)
   | inr k ↦ let t : nat_lt (b node p.0 slot) p.1 ≡ false = grind (arith, nat_tests) in rw t (skip (b node w slot) (impact_in (filter (rises b node slot) ps) w) (impact_in ps w) (impact_at p w) h (elim (same_or p.0 w) [
     | inl e ↦ let a = impact-here p.0 p.1 w e in let q = ap (λ (v : ℕ). b node v slot) e in omega arith

@@ -5,10 +5,9 @@ use Rattle.btree_nodes.specs.Rows.{Row, IsWithin, lookup, first_from, put, witho
 use Rattle.btree_nodes.proofs.Spans.{lookup-below}
 use Rattle.btree_nodes.proofs.Puts.{put-before as put-less, put-here as put-same, put-behind as put-more, without-here as without-same, without-other}
 use Rattle.btree_nodes.proofs.Firsts.{first_from-less as first-less, first_from-here as first-here}
+use Rattle.btree_nodes.proofs.Finds.{lookup-here}
 use Rattle.rtree_shape.proofs.Amounts.{same_or}
-
-lookup-here : (key : ℕ) (row : Row) (rows : List Row) → row.0 ≡ key → lookup key (row ∷ rows) ≡ Some row.1
-lookup-here key row rows h = grind (arith, nat_tests)
+use Rattle.rtree_shape.proofs.Heights.{under_or}
 
 lookup-other : (key : ℕ) (row : Row) (rows : List Row) → (row.0 ≡ key → ⊥) → lookup key (row ∷ rows) ≡ lookup key rows
 lookup-other key row rows h = let t : (row.0 == key) ≡ false = grind (arith, nat_tests) in rw t refl
@@ -57,14 +56,10 @@ lookup-without_other key q (row ∷ rows) h = elim (same_or row.0 key) [
   ]
 ]
 
--- one is less, or the other isn't greater
-pub less_or : (a b : ℕ) → (a < b) ⊎ (b ≤ a)
-less_or a b = grind arith
-
 -- where no row is the first from a key, there is none from there on
 pub first-none : (low high key q : ℕ) (rows : List Row) → IsWithin low high rows → first_from key rows ≡ None → key ≤ q → lookup q rows ≡ None
 first-none low high key q [] h e l = refl
-first-none low high key q (row ∷ rows) h e l = elim (less_or row.0 key) [
+first-none low high key q (row ∷ rows) h e l = elim (under_or row.0 key) [
   | inl k ↦ lookup-other q row rows (λ s. omega arith) ∙ first-none (row.0 + 1) high key q rows h.1 (sym (first-less key row rows k) ∙ e) l
   | inr k ↦ let s : Some row ≡ None = sym (first-here key row rows k) ∙ e in cc
 ]
@@ -78,7 +73,7 @@ pub record IsFirst (key : ℕ) (row : Row) (rows : List Row) : Type 0 where
 -- the first row from a key on is so
 pub first-some : (low high key : ℕ) (first : Row) (rows : List Row) → IsWithin low high rows → first_from key rows ≡ Some first → IsFirst key first rows
 first-some low high key first [] h e = cc
-first-some low high key first (row ∷ rows) h e = elim (less_or row.0 key) [
+first-some low high key first (row ∷ rows) h e = elim (under_or row.0 key) [
   | inl k ↦ let r = first-some (row.0 + 1) high key first rows h.1 (sym (first-less key row rows k) ∙ e) in
       let on = r.on in
       record {

@@ -69,7 +69,7 @@ passed_int (byte ∷ next ∷ rest) h =
 is_same : (a b : ℕ) → a ≡ b → nat_eq a b ≡ true
 is_same a b h = grind (arith, nat_tests)
 
-same_is : (a b : ℕ) → nat_eq a b ≡ true → a ≡ b
+pub same_is : (a b : ℕ) → nat_eq a b ≡ true → a ≡ b
 same_is a b h = grind (arith, nat_tests)
 
 frac_pass : (bytes : List ℕ) → IsFrac bytes → is_frac bytes ≡ true

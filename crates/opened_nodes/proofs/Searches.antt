@@ -17,13 +17,14 @@ use Rattle.place_map.specs.Top.{Weighted}
 use Rattle.rtree_shape.specs.Slots.{Item, NodeMap, got}
 use Rattle.rtree_shape.specs.Stock.{rows_form}
 use Rattle.rtree_shape.specs.Trees.{root_least, reach_of}
-use Rattle.rtree_shape.proofs.Heights.{tops-at}
+use Rattle.rtree_shape.proofs.Heights.{tops-at, none_or}
 use Rattle.rtree_nodes.specs.Pages.{node_of}
 use Rattle.rtree_find.specs.Subtrees.{IsNodeAt}
 use Rattle.node_rows.specs.declared.roots.Tree.{Tree}
 use Rattle.node_rows.specs.Rows.{bytes_in}
 use Rattle.irtree_shape.specs.Words.{joined_item}
 use Rattle.irtree_shape.specs.Whole.{IsWell, level_at}
+use Rattle.irtree_shape.proofs.Relinks.{word-reach}
 use Rattle.best_first.specs.declared.item.Item as best
 use Rattle.best_first.specs.declared.item.Item.TheVariants.{Node, Place}
 use Rattle.best_first.specs.Items.{pages_of}
@@ -43,12 +44,11 @@ use Rattle.tree_ranking.specs.Laws.{top-hits}
 use Rattle.tree_ranking.specs.Openings.{given_by, given_at, some_below, first_in, opened_in, started_in, StandsIn}
 use Rattle.boolean_queries.specs.Opens.{filter_in}
 use Rattle.boolean_queries.proofs.Covers.{IsPlace, leaf-places}
-use Rattle.boolean_queries.proofs.Opened.{joined-words}
 use Rattle.boolean_queries.proofs.Subtrees.{well-node, well-level}
 use Rattle.opened_nodes.specs.Crowns.{reaching, crown_of, crown_at}
 use Rattle.opened_nodes.specs.Logs.{IsUpToLast, CallsFor, IsOpened, IsFromAsked, OpensFew}
 use Rattle.opened_nodes.proofs.Lists.{all-both, all-pages, asked-in, up-to-last}
-use Rattle.boolean_queries.proofs.Histories.{all-contained as of-member, none-or}
+use Rattle.boolean_queries.proofs.Histories.{all-contained as of-member}
 use Rattle.opened_nodes.proofs.Crowns.{node-farthest}
 use Rattle.opened_nodes.proofs.Belows.{places-are, place-some}
 use Rattle.opened_nodes.proofs.Chains.{Gives, IsReached, AreReached, all-reached, root-reached, opened-from, found-from, opened-reach}
@@ -66,7 +66,7 @@ some-below (suc n) test h = ⊎_elim
 -- the byte of a word at a slot is no more than the slot reaches to the word
 byte-under : (b : ℕ → ℕ → ℕ) (i n : ℕ) (o : Option Item) → (o ≡ None → b n i ≡ 0) → b n i ≤ got (reach_of (4 + n)) (option_map (joined_item b i) o)
 byte-under b i n None blank = let z = blank refl in omega arith
-byte-under b i n (Some x) blank = let e = joined-words b i n x in omega arith
+byte-under b i n (Some x) blank = let e = word-reach b i n x in omega arith
 
 same-or : (n k : ℕ) → n ≤ k → (n ≡ k) ⊎ (n < k)
 same-or n k l = grind arith
@@ -215,7 +215,7 @@ module _ (pages : PageMap) (count begin : ℕ) (tree : Tree) (ids : Numbers) (at
             asked = asked;
             log = l.log;
             each = all_weaker _ (λ page. (0 < map_uses rows_form pages tree.rows page) ⊎ Is page)
-                (λ page h. ⊎_elim (λ (none : map_uses rows_form pages tree.rows page ≡ 0). inr (of-member Is (pages_of t.start ++ pages_opened openings) page each (h none))) (λ used. inl used) (none-or (map_uses rows_form pages tree.rows page)))
+                (λ page h. ⊎_elim (λ (none : map_uses rows_form pages tree.rows page ≡ 0). inr (of-member Is (pages_of t.start ++ pages_opened openings) page each (h none))) (λ used. inl used) (none_or (map_uses rows_form pages tree.rows page)))
                 asked l.alone;
             from = all_weaker (IsFromLeaf openings) (IsFromAsked nodes asked (hits_for ids at ask))
                 (λ hit leaf. found-from nodes tree.root MayStart (LetsThrough ids at ask) (hits_for ids at ask) openings asked read (opened_in ids at ask nodes) (opens-give ids at ask nodes tree.root MayStart) (t.gave fits)

@@ -13,6 +13,7 @@ use Rattle.place_map.specs.declared.query.Query as queries
 use Rattle.place_map.specs.declared.query.Query.TheVariants as asked_for
 use Rattle.rtree_shape.specs.Slots.{Item, NodeMap}
 use Rattle.rtree_shape.specs.Stock.{rows_form}
+use Rattle.rtree_shape.proofs.Heights.{none_or}
 use Rattle.rtree_nodes.specs.Pages.{node_of}
 use Rattle.irtree_shape.specs.Made.{nodes_in}
 use Rattle.irtree_shape.specs.Whole.{level_at}
@@ -33,7 +34,7 @@ use Rattle.opened_nodes.specs.Bounds.{may_pass}
 use Rattle.opened_nodes.specs.Crowns.{reaching, crown_at}
 use Rattle.opened_nodes.specs.Logs.{CallsFor, IsOpened, IsFromAsked, OpensFew}
 use Rattle.opened_nodes.proofs.Lists.{all-pages, asked-in}
-use Rattle.boolean_queries.proofs.Histories.{all-contained as of-member, none-or}
+use Rattle.boolean_queries.proofs.Histories.{all-contained as of-member}
 use Rattle.opened_nodes.proofs.Chains.{Gives, IsReached, AreReached, all-reached, root-reached, opened-from, found-from, opened-reach}
 use Rattle.opened_nodes.proofs.Rankings.{all-if}
 
@@ -140,7 +141,7 @@ module _ (pages : PageMap) (rows count begin root : ℕ) (region : Area) (ids : 
         all_weaker _ (λ page. (0 < map_uses rows_form pages rows page) ⊎ Is page)
         (λ page h. ⊎_elim (λ (c : Contains (root ∷ pages_opened openings) page). inr (of-member Is (root ∷ pages_opened openings) page all c)) (λ used. inl used) h)
         asked walked.log.alone)
-        (none-or root)
+        (none_or root)
 
     -- what a walk that found these hits says of its log
     pub walk-few : (root ≡ 0 → new ≡ old) → Few

@@ -1,5 +1,5 @@
 -- Pages with a batch written.
-use Rattle.std.proofs.Common.{◌≡◌, ◌≢◌, ◌⊎◌, inl, inr, ⊎_elim, ℕ, zero, suc, ◌+◌, ◌*◌, ◌/◌, ◌%◌, ◌<◌, ◌≤◌, ◌==◌, if◌then◌else◌, List, [], ◌∷◌, length, slice_index, get_or, Box, eq-eqb, add-one, Result, Ok, Err, OnOk, refl, sym, ◌∙◌, ap, ap₂, subst, arith}
+use Rattle.std.proofs.Common.{◌≡◌, ◌≢◌, ◌⊎◌, inl, inr, ⊎_elim, ℕ, zero, suc, ◌+◌, ◌*◌, ◌/◌, ◌%◌, ◌<◌, ◌≤◌, ◌==◌, if◌then◌else◌, List, [], ◌∷◌, length, slice_index, get_or, Box, eq-eqb, add-one, refl, sym, ◌∙◌, ap, ap₂, subst, arith}
 use Rattle.std.specs.Map.{keys_of}
 use Rattle.std.specs.List.Sorted.{IsStrictlySortedBy}
 use Rattle.std.specs.Ordering.{nat_cmp}
@@ -14,10 +14,6 @@ use Rattle.page_journal.specs.Record.{Batch, given, batch_of, written_up_to, wit
 pub length_given : (entries : List (ℕ × Box (List ℕ) Global)) → length (given entries) ≡ length entries
 length_given [] = refl
 length_given (e ∷ entries) = ap (λ (n : ℕ). suc n) (length_given entries)
-
-pub on_ok_from : {T E P : Type 0} (r : Result T E) → P → OnOk r P
-on_ok_from (Ok x) p = p
-on_ok_from (Err e) p = tt
 
 -- ---- pages with a batch written
 
@@ -95,7 +91,7 @@ with_empty p = sym (written_none (batch_of []) p)
 
 -- ---- a map's entries
 
-number_given : (entries : List (ℕ × Box (List ℕ) Global)) (k : ℕ) → (get_or (given entries) k (0, [])).0 ≡ get_or (keys_of entries) k 0
+pub number_given : (entries : List (ℕ × Box (List ℕ) Global)) (k : ℕ) → (get_or (given entries) k (0, [])).0 ≡ get_or (keys_of entries) k 0
 number_given [] k = refl
 number_given (e ∷ entries) zero = refl
 number_given (e ∷ entries) (suc k) = number_given entries k

@@ -14,7 +14,7 @@ use Rattle.disk_model.proofs.Moments.{then, within}
 use Rattle.page_face.specs.Causes.{IsUncounted}
 use Rattle.page_face.specs.FreeList.{PageMap, with_page}
 use Rattle.page_journal.specs.Record.{IsAscending, applied, batch_of, given, with_batch, IsBeforeOrAfter, IsReady, LeavesPages, StandsFor}
-use Rattle.page_journal.proofs.Batches.{page_here, page_elsewhere, length_given}
+use Rattle.page_journal.proofs.Batches.{page_here, page_elsewhere, length_given, number_given}
 use Rattle.held_pages.specs.Rooms.{Ordered, ordered_page}
 use Rattle.held_pages.proofs.Tables.{same_key, other_key}
 use Rattle.page_store.specs.declared.superblock.Superblock.{Superblock}
@@ -56,11 +56,6 @@ found_or_missing (e ∷ entries) n = ⊎_elim
     (λ (m : Missing entries n). inr record { apart = apart_more e entries n ne m.apart; at = cond-false _ _ _ (other_key n e.0 ne) ∙ m.at })
     (found_or_missing entries n))
     (cases_eq n e.0)
-
-number_given : (entries : List (ℕ × Box (List ℕ) Global)) (k : ℕ) → (get_or (given entries) k (0, [])).0 ≡ get_or (keys_of entries) k 0
-number_given [] k = refl
-number_given (e ∷ entries) zero = refl
-number_given (e ∷ entries) (suc k) = number_given entries k
 
 length_keys : (entries : List (ℕ × Box (List ℕ) Global)) → length (keys_of entries) ≡ length entries
 length_keys [] = refl

@@ -44,6 +44,10 @@ pub record GoesOn {D : Type 0} (tells : Bool) (world : D → World) (room_of : D
   pub rests : IsTrue tells → Rests (world old.now) (world new.now)
   pub takes : Takes (room_of old.now) counts_old counts_new
 
+-- no call
+pub rests_still : (now : World) → Rests now now
+rests_still now = record { seen = refl; crash = λ image may. may; adds = started now; said = refl }
+
 -- one run of calls after another
 pub rests_then : {a b c : World} → Rests a b → Rests b c → Rests a c
 rests_then ab bc = record {

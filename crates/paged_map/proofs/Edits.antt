@@ -12,7 +12,7 @@ use Rattle.page_face.specs.Sound.{IsSound}
 use Rattle.btree_nodes.specs.declared.form.Form.{Form}
 use Rattle.btree_nodes.specs.Build.{image}
 use Rattle.btree_nodes.specs.Rows.{Row, IsWithin, IsEdit, IsMade, put, without}
-use Rattle.btree_nodes.specs.Nodes.{IsLeaf, rows_in}
+use Rattle.btree_nodes.specs.Nodes.{IsLeaf, rows_in, rows_of}
 use Rattle.btree_nodes.specs.Supply.{view, one_at, Moves}
 use Rattle.btree_nodes.specs.Tree.{map_rows, map_uses}
 use Rattle.btree_nodes.proofs.Images.{image-node, image-rows}
@@ -20,7 +20,6 @@ use Rattle.btree_nodes.proofs.Supplies.{moves-write, with-other}
 use Rattle.btree_nodes.proofs.Writes.{built}
 use Rattle.btree_search.specs.Leaves.{IsLeafOf, HoldsInstead}
 use Rattle.btree_search.proofs.Soundness.{leaf-sound}
-use Rattle.btree_insert.proofs.Leaves.{rows_of}
 use Rattle.btree_insert.proofs.PutLeaf.{put_cells}
 use Rattle.btree_delete.specs.Body.{cells_in, without_cell}
 use Rattle.btree_delete.proofs.Joins.{few, width-some}

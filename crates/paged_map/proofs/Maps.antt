@@ -14,9 +14,9 @@ use Rattle.btree_nodes.proofs.Supplies.{moves-as, spare-away, uncounted-past}
 use Rattle.btree_nodes.specs.Tree.{IsTree, IsFan, IsMap, total, rows_at, uses, map_rows, map_uses, level_of}
 use Rattle.btree_nodes.specs.Damages.{IsDamaged}
 use Rattle.btree_nodes.proofs.Harms.{tree-undamaged}
+use Rattle.btree_nodes.proofs.Numbers.{number-zeros}
 use Rattle.paged_map.specs.Maps.{IsMapDamaged, AreCounted, IsKept, HasBecome}
-use Rattle.btree_insert.proofs.Inners.{number-zeros}
-use Rattle.btree_search.proofs.Roots.{map-rows, map-uses}
+use Rattle.btree_search.proofs.Roots.{map-rows, map-uses, tree-map, tree-level}
 
 -- what is said of a page by other names is said of it
 pub enter : (Claim : Form → PageMap → ℕ → ℕ → ℕ → ℕ → Type 0) (form form' : Form) (pages pages' : PageMap) (count count' level level' least least' low low' : ℕ) → form' ≡ form → pages' ≡ pages → count' ≡ count
@@ -28,10 +28,6 @@ enter Claim form form' pages pages' count count' level level' least least' low l
     (subst (λ (x : ℕ). Claim form pages x level' least' low') g
     (subst (λ (x : PageMap). Claim form x count' level' least' low') f
     (subst (λ (x : Form). Claim x pages' count' level' least' low') e claim)))))
-
-pub to-map : (form : Form) (pages : PageMap) (root : ℕ) → 0 < root → IsTree form (least_of_root (level_of (pages root))) pages (level_of (pages root)) root 0 (256 ^ form.key) → IsMap form pages root
-to-map form pages zero some tree = absurd (omega arith)
-to-map form pages (suc n) some tree = tree
 
 pub map-damage : (form : Form) (pages : PageMap) (count root : ℕ) (damage : Damage) → 0 < root → IsDamaged form pages count damage (least_of_root (level_of (pages root))) (level_of (pages root)) root 0 (256 ^ form.key) → IsMapDamaged form pages count root damage
 map-damage form pages count zero damage some d = absurd (omega arith)
@@ -57,11 +53,6 @@ map-undamaged form pages count (suc n) damage map counted d =
 pub number-low : (key : ℕ) → key ≤ 255 → number (take key (replicate 255 0)) ≡ 0
 number-low key h = ap number (take-replicate key 255 0 h) ∙ number-zeros key
 
--- the root's level is the one that its page says
-pub tree-level : (form : Form) (least : ℕ) (pages : PageMap) (level page low high : ℕ) → IsTree form least pages level page low high → level_of (pages page) ≡ level
-tree-level form least pages zero page low high tree = tree.0.level
-tree-level form least pages (suc level) page low high tree = tree.0.node.level
-
 -- A tree that has grown into one tree, over a root's pages, is what the map has become.
 pub becomes : (form : Form) (before : View) (pages : PageMap) (count first level root page middle : ℕ) (mine : ℕ → ℕ) (rows : List Row) → 0 < page → before.count ≤ count → IsKept form before root
     → ((n : ℕ) → mine n ≡ map_uses form before.pages root n)
@@ -84,7 +75,7 @@ becomes form before pages count first level root page middle mine rows some more
     record {
       free = grew.free;
       kept = record {
-        map = to-map form pages page some tree';
+        map = tree-map form pages page some tree';
         supplied = moved.supplied;
         once = λ n. let k = moved.kept n in let o = kept.once n in omega arith;
         away = omega arith;

@@ -1,11 +1,5 @@
 -- The first row whose key isn't less, in a leaf.
-use Rattle.std.proofs.Common.{◌≤◌, ◌≡◌, ℕ, zero, suc, ◌+◌, ◌-◌, ◌*◌, ◌<◌, List, [], ◌∷◌, ◌++◌, length, get_or, take, drop, arith, refl, sym, ap, ◌∙◌, subst, Some, None, Result, Err}
-use Rattle.page_face.specs.Causes.{asked_after}
-use Rattle.page_face.specs.declared.fault.Damage.{Damage}
-use Rattle.page_face.specs.declared.fault.PageFault.{PageFault}
-use Rattle.page_face.specs.declared.fault.PageFault.TheVariants.{Damaged}
-use Rattle.btree_nodes.specs.Damages.{AskedSince}
-use Rattle.btree_nodes.proofs.Harms.{asked-here}
+use Rattle.std.proofs.Common.{◌≤◌, ◌≡◌, ℕ, zero, suc, ◌+◌, ◌-◌, ◌*◌, ◌<◌, List, [], ◌∷◌, length, get_or, take, drop, arith, refl, sym, ap, ◌∙◌, subst, Some, None}
 use Rattle.std.proofs.lemmas.Bool.Decides.{nat_tests}
 use Rattle.page_face.specs.Number.{number}
 use Rattle.page_face.specs.Cells.{key_at, IsPlace}
@@ -16,9 +10,7 @@ use Rattle.btree_nodes.specs.Nodes.{rows_in}
 use Rattle.btree_nodes.proofs.Spans.{no_row, within-row}
 use Rattle.btree_nodes.proofs.Spots.{length-rows_in, get_or-rows_in, row-key}
 use Rattle.btree_nodes.proofs.Firsts.{first_from-last, first_from-at}
-
-lookup-here : (key : ℕ) (row : Row) (rows : List Row) → row.0 ≡ key → lookup key (row ∷ rows) ≡ Some row.1
-lookup-here key row rows h = grind (arith, nat_tests)
+use Rattle.btree_nodes.proofs.Finds.{lookup-here}
 
 lookup-other : (key : ℕ) (row : Row) (rows : List Row) → row.0 < key → lookup key (row ∷ rows) ≡ lookup key rows
 lookup-other key row rows h = grind (arith, nat_tests)
@@ -76,8 +68,3 @@ module _ (form : Form) (page : List ℕ) (low high key at : ℕ) (place : IsPlac
         let r = row-key form page at small in
         let k = key-same in
         omega arith
-
--- a read that was refused as damaged has asked for its page, and for it alone
-pub named-first : (asked new : List ℕ) (child : ℕ) (result : Result (List ℕ) PageFault) (damage : Damage) → new ≡ asked_after result child asked → result ≡ Err (Damaged damage) → damage.page ≡ child → AskedSince asked new damage.page
-named-first asked new child result damage n e same =
-    asked-here asked new damage.page (n ∙ ap (λ (r : Result (List ℕ) PageFault). asked_after r child asked) e ∙ ap (λ (p : ℕ). asked ++ p ∷ []) (sym same))

@@ -10,7 +10,7 @@ use Rattle.place_map.specs.State.{IsSerialAbove, Places, with_place}
 use Rattle.place_map.proofs.Rows.{keys_stay}
 
 -- a later serial is above what an earlier one is above
-later : (serial next : ℕ) → serial ≤ next → (name : Name) → IsSerialAbove serial name → IsSerialAbove next name
+pub later : (serial next : ℕ) → serial ≤ next → (name : Name) → IsSerialAbove serial name → IsSerialAbove next name
 later serial next le (Text bytes) above = tt
 later serial next le (Auto given) above = omega (arith, le, above)
 

@@ -14,7 +14,7 @@ use Rattle.std.proofs.lemmas.List.Concat.{flat_map-append}
 use Rattle.std.proofs.Math.Seq.{take-append_seam}
 use Rattle.std.specs.declared.alloc.Global.{Global}
 use Rattle.std.proofs.lemmas.List.Sums.{fold-append}
-use Rattle.spatial_base.specs.Key.{key_cmp, key_cmp_total, key_cmp_same}
+use Rattle.spatial_base.specs.Key.{key_cmp, key_cmp_total, key_cmp_same, both_tie}
 use Rattle.spatial_base.specs.Point.{Position, distance}
 use Rattle.ranking.specs.First.{IsLinear, placed, first}
 use Rattle.ranking.specs.Laws.{linear_from_total, first_push}
@@ -23,12 +23,7 @@ use Rattle.place_map.specs.declared.query.Chosen.{Chosen}
 use Rattle.place_map.specs.Group.{product, farthest, diameter, choice_cost, pick_cmp, choice_cmp, is_cheaper, head_of, least_of}
 use Rattle.place_map.specs.Search.{lists_in, fronted}
 
-both_tie : (a b : Ordering) → ordering_then a b ≡ Equal → (a ≡ Equal) × (b ≡ Equal)
-both_tie Equal b h = (refl, h)
-both_tie Less b h = absurd (cc)
-both_tie Greater b h = absurd (cc)
-
-pick_cmp_total : IsTotalOrder pick_cmp
+pub pick_cmp_total : IsTotalOrder pick_cmp
 pick_cmp_total =
     then_total (on_total (λ (p : Pick). p.key) key_cmp_total)
     (then_total (on_total (λ (p : Pick). p.word) nat_list_cmp_total)
@@ -36,7 +31,7 @@ pick_cmp_total =
     (then_total (on_total (λ (p : Pick). p.point.x) int_cmp_total) (on_total (λ (p : Pick). p.point.y) int_cmp_total))))
 
 -- only the same pick ties
-pick_cmp_same : (x y : Pick) → pick_cmp x y ≡ Equal → x ≡ y
+pub pick_cmp_same : (x y : Pick) → pick_cmp x y ≡ Equal → x ≡ y
 pick_cmp_same x y h =
     let point = ordering_then (int_cmp x.point.x y.point.x) (int_cmp x.point.y y.point.y) in
     let dist = ordering_then (nat_cmp x.dist y.dist) point in

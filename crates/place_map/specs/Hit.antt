@@ -1,11 +1,11 @@
 -- Hits and their order.
-use Rattle.std.proofs.Common.{◌≡◌, Bool, List, [], ◌∷◌, Option, Some, None, refl}
+use Rattle.std.proofs.Common.{◌≡◌, Bool, List, [], ◌∷◌, Option, Some, None}
 use Rattle.std.specs.Ordering.{nat_cmp, int_cmp, on, then_cmp, is_lt, ordering_then}
 use Rattle.std.specs.declared.cmp.Ordering.{Ordering}
-use Rattle.std.specs.declared.cmp.Ordering.TheVariants.{Less, Equal, Greater}
+use Rattle.std.specs.declared.cmp.Ordering.TheVariants.{Equal}
 use Rattle.std.specs.FinMap.{nat_cmp-IsAntisymmetric, int_cmp-IsAntisymmetric}
 use Rattle.std.proofs.lemmas.Cmp.{then_total, on_total, nat_cmp_total, int_cmp_total}
-use Rattle.spatial_base.specs.Key.{key_cmp, key_cmp_total, key_cmp_same}
+use Rattle.spatial_base.specs.Key.{key_cmp, key_cmp_total, key_cmp_same, both_tie}
 use Rattle.ranking.specs.First.{IsLinear}
 use Rattle.ranking.specs.Laws.{linear_from_total}
 use Rattle.place_map.specs.declared.hit.Hit.{Hit}
@@ -22,11 +22,6 @@ hit_cmp =
 -- a hit comes before another by cost and key
 abbrev pub comes_before : Hit → Hit → Bool
 comes_before a b = is_lt (hit_cmp a b)
-
-both_tie : (a b : Ordering) → ordering_then a b ≡ Equal → (a ≡ Equal) × (b ≡ Equal)
-both_tie Equal b h = (refl, h)
-both_tie Less b h = absurd (cc)
-both_tie Greater b h = absurd (cc)
 
 -- only the same hit ties
 hit_cmp_same : (x y : Hit) → hit_cmp x y ≡ Equal → x ≡ y

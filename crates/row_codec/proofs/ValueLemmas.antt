@@ -43,7 +43,7 @@ fits_map : (z : ℤ) → unsigned_abs z ≤ 1800000000 → cast_unsigned w32 z <
 fits_map z small = Fits-lt-pow (Fits-of_z (fits_signed_from_abs w32 z (omega arith)))
 
 -- four bytes tell their number
-word_same : (m n : ℕ) → m < 2 ^ 32 → n < 2 ^ 32 → to_be_bytes w32 m ≡ to_be_bytes w32 n → m ≡ n
+pub word_same : (m n : ℕ) → m < 2 ^ 32 → n < 2 ^ 32 → to_be_bytes w32 m ≡ to_be_bytes w32 n → m ≡ n
 word_same m n fits other same =
     sym (from_be_bytes-to_be_bytes_4 m fits) ∙ ap (λ (l : List ℕ). from_be_bytes w32 l) same ∙ from_be_bytes-to_be_bytes_4 n other
 
@@ -129,7 +129,7 @@ same_place xs made stored value point count pairs size fits is =
 
 -- ---- words and their counts
 
-length-word_form : (text : List ℕ) → IsWordText text → length (word_form text) ≡ 33
+pub length-word_form : (text : List ℕ) → IsWordText text → length (word_form text) ≡ 33
 length-word_form text is =
     let fits = is.fits in
     omega (arith, length-append text (replicate (32 - length text) 0 ++ length text ∷ []), length-append (replicate (32 - length text) 0) (length text ∷ []), length-replicate {A = ℕ} (32 - length text) 0)

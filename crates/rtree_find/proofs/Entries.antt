@@ -1,5 +1,5 @@
 -- When an item is an entry.
-use Rattle.std.proofs.Common.{◌≡◌, ℕ, zero, suc, ◌+◌, ◌*◌, ◌<◌, Bool, true, false, ◌&&◌, ◌==◌, arith, refl, ap, ◌∙◌, List, take, drop, Some, if◌then◌else◌, inl, inr, ◌⊎◌}
+use Rattle.std.proofs.Common.{◌≡◌, ℕ, zero, suc, ◌+◌, ◌*◌, ◌<◌, Bool, true, false, ◌==◌, arith, refl, ap, ◌∙◌, List, take, drop, Some, if◌then◌else◌, inl, inr}
 use Rattle.std.specs.Str.{bytes_eq}
 use Rattle.std.proofs.lemmas.Bool.Decides.{nat_tests}
 use Rattle.std.proofs.lemmas.Slice.Eq.{bytes_eq-Decides}
@@ -7,12 +7,14 @@ use Rattle.std.proofs.lemmas.Int.{ints, clamps}
 use Rattle.spatial_base.specs.Point.{Position}
 use Rattle.spatial_base.specs.Rect.{rect_of}
 use Rattle.rtree_shape.specs.Slots.{Item, got}
+use Rattle.rtree_shape.proofs.Heights.{none_or}
 use Rattle.rtree_nodes.specs.Numbers.{int_at}
 use Rattle.rtree_nodes.specs.Reach.{reach_of, place_item}
 use Rattle.rtree_nodes.specs.Pages.{level_in, is_used, stored_in}
 use Rattle.rtree_nodes.proofs.Formed.{stored-used, stored-unused}
 use Rattle.rtree_nodes.proofs.Children.{leaf-item}
 use Rattle.rtree_find.specs.Entries.{is_at_side, is_place_of, is_entry, IsPlaceIn}
+use Rattle.btree_nodes.proofs.Checks.{and-true}
 
 -- what an entry's item says
 pub record IsEntry (point : Position) (key : List ℕ) (x : Item) : Type 0 where
@@ -22,20 +24,15 @@ pub record IsEntry (point : Position) (key : List ℕ) (x : Item) : Type 0 where
   pub side_3 : x.reach 3 ≡ reach_of (rect_of point) 3
   pub key_is : x.key ≡ key
 
-both : (a b : Bool) → (a && b) ≡ true → (a ≡ true) × (b ≡ true)
-both true true e = (refl, refl)
-both true false e = absurd (cc)
-both false b e = absurd (cc)
-
-same_number : (a b : ℕ) → (a == b) ≡ true → a ≡ b
+pub same_number : (a b : ℕ) → (a == b) ≡ true → a ≡ b
 same_number a b e = grind (arith, nat_tests)
 
 passes-entry : (point : Position) (key : List ℕ) (x : Item) → is_place_of point key x ≡ true → IsEntry point key x
 passes-entry point key x e =
-    let a = both _ (bytes_eq x.key key) e in
-    let b = both _ (is_at_side point x 3) a.0 in
-    let c = both _ (is_at_side point x 2) b.0 in
-    let d = both (is_at_side point x 0) (is_at_side point x 1) c.0 in
+    let a = and-true _ (bytes_eq x.key key) e in
+    let b = and-true _ (is_at_side point x 3) a.0 in
+    let c = and-true _ (is_at_side point x 2) b.0 in
+    let d = and-true (is_at_side point x 0) (is_at_side point x 1) c.0 in
     record {
       side_0 = same_number _ _ d.0;
       side_1 = same_number _ _ d.1;
@@ -89,9 +86,6 @@ place-held page at point key e l used h =
     leaf-used page at e l used
     ∙ ap (λ (q : Position). Some (place_item q (take 66 (drop (s + 8) page)))) (same_place p point h.x h.y)
     ∙ ap (λ (k : List ℕ). Some (place_item point k)) h.key_is
-
-none_or : (a : ℕ) → (a ≡ 0) ⊎ (0 < a)
-none_or a = grind arith
 
 place-other : (page : List ℕ) (s : ℕ) (point : Position) (key : List ℕ) → (IsPlaceIn page s point key → ⊥) → is_entry point key (place_from page s) ≡ 0
 place-other page s point key h = elim (none_or (is_entry point key (place_from page s))) [

@@ -44,6 +44,10 @@ some-read bytes some =
       mask = some-mask bytes some;
     }
 
+-- a page that holds a node with a slot is told
+pub node-tells : (page : List ℕ) → 0 < filled (node_of page).slots → 0 < length page
+node-tells page some = (some-read page some).told
+
 -- the page of a well-formed node
 pub node-read : (pages : PageMap) (level page : ℕ) → IsNodeAt (nodes_in node_of pages) level page → IsRead (pages page) (node_of (pages page))
 node-read pages level page node = let s = node.some in some-read (pages page) (omega arith)

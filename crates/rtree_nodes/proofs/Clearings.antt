@@ -27,7 +27,7 @@ above : (i n : ℕ) → n ≤ i → (i ≡ n → ⊥) → n + 1 ≤ i
 above i n l ne = grind arith
 
 -- any other slot is gone through already, or isn't yet
-same : (i n : ℕ) → (i ≡ n → ⊥) → nat_lt i n ≡ nat_lt i (n + 1)
+pub same : (i n : ℕ) → (i ≡ n → ⊥) → nat_lt i n ≡ nat_lt i (n + 1)
 same i n ne = ⊎_elim
     (λ (l : i < n). lt-ltb i n l ∙ sym (lt-ltb i (n + 1) (omega arith)))
     (λ (l : n ≤ i). le-ltb i n l ∙ sym (le-ltb i (n + 1) (above i n l ne)))

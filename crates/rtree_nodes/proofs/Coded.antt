@@ -26,6 +26,7 @@ use Rattle.rtree_nodes.specs.Cells.{has_form}
 use Rattle.rtree_nodes.proofs.AllBelow.{used-more, used-false}
 use Rattle.rtree_nodes.proofs.Masks.{slot-bit}
 use Rattle.rtree_nodes.proofs.Formed.{clear-parts, values-at, parts-form, form-node, form-slots, stored-used, stored-unused, stored-past}
+use Rattle.rtree_nodes.proofs.Clearings.{same as same_below}
 
 -- the items of the slots below n that are used
 abbrev pub items_to : ℕ → ℕ → Slots → SlotItems
@@ -33,15 +34,6 @@ items_to n used slots i = if nat_lt i n && (bit_at used i == 1) then Some (item_
 
 pub items-none : (used : ℕ) (slots : Slots) → no_slots ≡ items_to 0 used slots
 items-none used slots = fun_ext (λ i. rw (le-ltb i 0 (omega arith)) refl)
-
-above : (i n : ℕ) → n ≤ i → (i ≡ n → ⊥) → n + 1 ≤ i
-above i n l ne = grind arith
-
-same_below : (i n : ℕ) → (i ≡ n → ⊥) → nat_lt i n ≡ nat_lt i (n + 1)
-same_below i n ne = ⊎_elim
-    (λ (l : i < n). lt-ltb i n l ∙ sym (lt-ltb i (n + 1) (omega arith)))
-    (λ (l : n ≤ i). le-ltb i n l ∙ sym (le-ltb i (n + 1) (above i n l ne)))
-    (cases_lt i n)
 
 -- one more
 pub items-more : (n used : ℕ) (slots : Slots) (here next : SlotItems) → here ≡ items_to n used slots

@@ -106,7 +106,7 @@ cells-same level (suc n) xs ys l each =
     ∙ split 16 (cell_width level * n) (cell_width level) xs ys (cells-same level n xs ys (omega arith) each) (each n (omega arith))
     ∙ sym (ap (λ (k : ℕ). take k (drop 16 ys)) more)
 
-start-fits : (level i : ℕ) → i < 32 → cell_start level i + cell_width level ≤ 4096
+pub start-fits : (level i : ℕ) → i < 32 → cell_start level i + cell_width level ≤ 4096
 start-fits zero i l = omega arith
 start-fits (suc level) i l = omega arith
 

@@ -19,7 +19,8 @@ use Rattle.rtree_nodes.specs.Pages.{level_in, mask_of, is_form, slots_in}
 use Rattle.rtree_nodes.proofs.Cells.{length-place, length-child, place-item, place-form, child-item, child-form}
 use Rattle.rtree_nodes.proofs.Formed.{form-parts, parts-form, form-slots}
 use Rattle.rtree_nodes.proofs.Parts.{overwritten-byte, overwritten-number}
-use Rattle.rtree_nodes.proofs.Rewrites.{Rewrites, KeepsBits, rewritten, rewritten-form, rewritten-put, rewritten-clear, mask_is, start-low, cell-within}
+use Rattle.rtree_nodes.proofs.Rewrites.{Rewrites, KeepsBits, rewritten, rewritten-form, rewritten-put, rewritten-clear, mask_is, start-low}
+use Rattle.rtree_nodes.proofs.Images.{start-fits}
 
 -- what stands in a slot fits a level
 record Suits (slot : Slot) (level : ℕ) : Type 0 where
@@ -140,7 +141,7 @@ clear-rewrites old mid new at mask w =
 clear-keeps : (old mid new : List ℕ) (at mask : ℕ) → ClearsSlot old mid new at mask → KeepsBits (mask_of old) at (bit_and mask (bit_not w32 (1 * 2 ^ at % 2 ^ 32)))
 clear-keeps old mid new at mask w =
     let low = start-low (level_in old) at in
-    let within = cell-within (level_in old) at w.within in
+    let within = start-fits (level_in old) at w.within in
     let was : mask ≡ mask_of old = w.mask_is ∙ ap mask_of w.cell
     ∙ overwritten-number (cell_start (level_in old) at) 4 (replicate (cell_width (level_in old)) 0) old (inl (omega arith)) (omega (arith, w.long)) in
     λ i l ne. bit_at_clear_other w32 mask at w.within i l ne ∙ ap (λ (n : ℕ). bit_at n i) was

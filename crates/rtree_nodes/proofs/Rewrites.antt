@@ -13,6 +13,7 @@ use Rattle.rtree_nodes.specs.Cells.{cell_width, cell_start, item_in, has_form}
 use Rattle.rtree_nodes.specs.Pages.{level_in, mask_of, is_used, cell_at, item_at, stored_in}
 use Rattle.rtree_nodes.proofs.Formed.{IsFormed, stored-used, stored-unused, stored-past, bit-used, bit-unused}
 use Rattle.rtree_nodes.proofs.Parts.{overwritten-length, overwritten-here, overwritten-behind, overwritten-apart, overwritten-byte}
+use Rattle.rtree_nodes.proofs.Images.{start-fits}
 
 -- a page with other bytes in one slot, and another mask
 pub record Rewrites (old new : List ℕ) (at used : ℕ) (cell : List ℕ) : Type 0 where
@@ -30,11 +31,6 @@ pub record Rewrites (old new : List ℕ) (at used : ℕ) (cell : List ℕ) : Typ
 pub cells-apart : (level i j : ℕ) → i < j → cell_start level i + cell_width level ≤ cell_start level j
 cells-apart zero i j l = omega arith
 cells-apart (suc level) i j l = omega arith
-
--- and lie in the page
-pub cell-within : (level i : ℕ) → i < 32 → cell_start level i + cell_width level ≤ 4096
-cell-within zero i l = omega arith
-cell-within (suc level) i l = omega arith
 
 cell-apart : (level i at : ℕ) → (i ≡ at → ⊥) → (cell_start level i + cell_width level ≤ cell_start level at) ⊎ (cell_start level at + cell_width level ≤ cell_start level i)
 cell-apart level i at ne = ⊎_elim
@@ -61,7 +57,7 @@ covered : (old cell : List ℕ) (at : ℕ) → at < 32 → length old ≡ 4096 �
 covered old cell at l long wide =
     let level = level_in old in
     let start = cell_start level at in
-    let within = cell-within level at l in
+    let within = start-fits level at l in
     let low = start-low level at in
     let last = cells-apart level at 32 l in
     let fits : start ≤ length old = omega arith in

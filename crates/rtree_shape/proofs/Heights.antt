@@ -79,10 +79,10 @@ pub amount-nothing : (f : Item → ℕ) (s : Slots) → ((i : ℕ) → i < 32 �
 unfolding amount
 amount-nothing f s e = sum-same 32 (λ i. got f (s i)) (λ i. 0) e ∙ sum-zero 32
 
-under_or : (a b : ℕ) → (a < b) ⊎ (b ≤ a)
+pub under_or : (a b : ℕ) → (a < b) ⊎ (b ≤ a)
 under_or a b = grind arith
 
-none_or : (a : ℕ) → (a ≡ 0) ⊎ (0 < a)
+pub none_or : (a : ℕ) → (a ≡ 0) ⊎ (0 < a)
 none_or a = grind arith
 
 -- a page below n is counted once among these

@@ -17,7 +17,7 @@ opt-other at o s i h = grind (arith, nat_tests)
 pub at-same : (a b : Item) (o : Option Item) → o ≡ Some a → o ≡ Some b → a.to ≡ b.to
 at-same a b o p q = let e : Some a ≡ Some b = sym p ∙ q in let f : Option Item → ℕ = λ o. got (λ y. y.to) o in ap f e
 
-some-filled : (s : Slots) (at : ℕ) (z : Item) → IsAt s at z → 0 < filled s
+pub some-filled : (s : Slots) (at : ℕ) (z : Item) → IsAt s at z → 0 < filled s
 some-filled s at z h = let a = amount-at one s at h.0 in let b = ap (got one) h.1 in omega arith
 
 -- a node that a path leads through has a used slot

@@ -4,6 +4,7 @@ use Rattle.rtree_shape.specs.Slots.{Item, Slots, NodeMap, got, amount, tops, Hel
 use Rattle.rtree_shape.specs.Trees.{below, uses, IsNode, IsItem, Stands, reach_of, node_below, least_with}
 use Rattle.rtree_shape.proofs.Amounts.{amount-put, tops-put, each-put, without, without-same, without-other, each-without}
 use Rattle.rtree_shape.proofs.Frames.{SameSlots, slots-frame}
+use Rattle.rtree_shape.proofs.Sums.{max_assoc}
 
 -- what stands below the slots once a child has changed: one item has grown, and one may be left to be put in
 pub record Stepped (old new : NodeMap) (level : ℕ) (s t : Slots) (x x' : Item) (more : Option Item) (gain : (Item → ℕ) → ℕ) (wide : ℕ → ℕ) : Type 0 where
@@ -13,9 +14,6 @@ pub record Stepped (old new : NodeMap) (level : ℕ) (s t : Slots) (x x' : Item)
   pub beside : Held (λ y. IsItem new level y) more
   pub pages : (n : ℕ) → amount (λ y. uses new level y n) t + uses old level x n ≡ amount (λ y. uses old level y n) s + uses new level x' n
   pub as_many : filled t ≡ filled s
-
-max_assoc : (a b c : ℕ) → max (max a b) c ≡ max a (max b c)
-max_assoc a b c = omega arith
 
 widest : (o t s a b m w : ℕ) → t ≡ max o a → s ≡ max o b → max a m ≡ max b w → max t m ≡ max s w
 widest o t s a b m w p q e = ap (λ (k : ℕ). max k m) p ∙ max_assoc o a m ∙ ap (max o) e ∙ sym (max_assoc o b w) ∙ ap (λ (k : ℕ). max k w) (sym q)

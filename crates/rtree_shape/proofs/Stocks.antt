@@ -8,8 +8,9 @@ use Rattle.btree_nodes.specs.Supply as supply
 use Rattle.btree_nodes.specs.Tree.{IsMap, IsTree, level_of, map_uses, uses}
 use Rattle.btree_nodes.proofs.Frames.{tree-frame}
 use Rattle.btree_nodes.proofs.Supplies as supplies
-use Rattle.btree_nodes.proofs.Supplies.{one_at-same, one_at-other, none}
+use Rattle.btree_nodes.proofs.Supplies.{one_at-other, none}
 use Rattle.btree_nodes.proofs.Gives as gives
+use Rattle.btree_nodes.proofs.Walks.{uses-self}
 use Rattle.rtree_shape.proofs.Amounts.{same_or}
 use Rattle.rtree_shape.specs.Stock.{View, view, plain, rows_form, spare_in, IsSupplied, Moves}
 
@@ -18,15 +19,11 @@ record SameRows (old new : PageMap) (root : ℕ) : Type 0 where
   pub map : IsMap rows_form new root
   pub uses_are : (n : ℕ) → map_uses rows_form new root n ≡ map_uses rows_form old root n
 
-uses-root : (pages : PageMap) (level page : ℕ) → 0 < uses rows_form pages level page page
-uses-root pages zero page = let one = one_at-same page in omega arith
-uses-root pages (suc level) page = let one = one_at-same page in omega arith
-
 rows-frame : (old new : PageMap) (root : ℕ) → IsMap rows_form old root → ((n : ℕ) → 0 < map_uses rows_form old root n → new n ≡ old n) → SameRows old new root
 rows-frame old new zero tree same = record { map = tt; uses_are = λ n. refl }
 rows-frame old new (suc m) tree same =
     let level : ℕ = level_of (old (suc m)) in
-    let here : new (suc m) ≡ old (suc m) = same (suc m) (uses-root old level (suc m)) in
+    let here : new (suc m) ≡ old (suc m) = same (suc m) (uses-self rows_form old level (suc m)) in
     let r = tree-frame rows_form (least_of_root level) old new level (suc m) 0 (256 ^ rows_form.key) tree same in
     let level_is : level_of (new (suc m)) ≡ level = ap level_of here in
     record {

@@ -52,7 +52,7 @@ sum-apart (suc n) f g at l e = elim (at_end n at l) [
 max_swap : (a b c : ℕ) → max a (max b c) ≡ max b (max a c)
 max_swap a b c = omega arith
 
-max_assoc : (a b c : ℕ) → max (max a b) c ≡ max a (max b c)
+pub max_assoc : (a b c : ℕ) → max (max a b) c ≡ max a (max b c)
 max_assoc a b c = omega arith
 
 pub max_across : (a b c d : ℕ) → max (max a b) (max c d) ≡ max (max a c) (max b d)

@@ -1,8 +1,7 @@
 -- What a call of the engine that only reads means for a run.
-use Rattle.std.proofs.Common.{◌≡◌, ◌≢◌, ◌≤◌, ◌∙◌, Bool, refl, sym, subst, arith}
+use Rattle.std.proofs.Common.{◌≡◌, ◌≢◌, ◌≤◌, Bool, refl, sym, subst, arith}
 use Rattle.std.specs.Prelude.{Ok, Err, IsTrue}
 use Rattle.disk_model.specs.World.{World, Image, Rose}
-use Rattle.disk_model.proofs.Moments.{started, then}
 use Rattle.page_face.specs.declared.fault.Damage.{Damage}
 use Rattle.page_face.specs.declared.fault.Rule.TheVariants.{Head}
 use Rattle.page_store.specs.Store.{Rests}
@@ -15,24 +14,13 @@ use Rattle.irtree_engine.specs.Faults.{IsReadFault}
 use Rattle.irtree_engine.specs.Holding.{HoldsState}
 use Rattle.run_protocol.specs.Causes.{HasEngineEnd, end_of_engine}
 use Rattle.run_protocol.specs.Reading.{IsMetIn}
+use Rattle.run_protocol.specs.declared.ended.Ended.TheVariants as ends
+use Rattle.run_protocol.specs.declared.ended.LimitFault.TheVariants as limits
 use Rattle.run_protocol.proofs.Counts.{keeps-both, keeps-fault}
 
 -- an image that is as it was stands for the same state
 pub holds-same : (old new : World) (state : Contents) → new.seen ≡ old.seen → HoldsState old state → HoldsState new state
 holds-same old new state same holds = subst (λ (image : Image). Stands image state) (sym same) holds
-
--- an engine that wasn't called
-pub rests-still : (now : World) → Rests now now
-rests-still now = record { seen = refl; crash = λ image may. may; adds = started now; said = refl }
-
--- one call that only reads behind another
-pub rests-then : {first now last : World} → Rests first now → Rests now last → Rests first last
-rests-then one next = record {
-  seen = next.seen ∙ one.seen;
-  crash = λ image may. one.crash image (next.crash image may);
-  adds = then one.adds next.adds;
-  said = next.said ∙ one.said;
-}
 
 -- a run that only read goes on
 pub read-goes_on : {T : Type 0} (tells : Bool) (old new : World) (value : T) → (IsTrue tells → Rests old new) → new.faults ≡ old.faults → new.sink_faults ≡ old.sink_faults → HasEngineEnd tells old new (Ok value)
@@ -80,3 +68,15 @@ refused-read-cause tells old new T engine.Worn refused = absurd refused.causes
 refused-read-cause tells old new T engine.NoRoom refused = absurd refused.causes
 refused-read-cause tells old new T engine.NotAStore refused = absurd refused.causes
 refused-read-cause tells old new T (engine.BadJournal at) refused = absurd refused.causes
+
+-- a call that only reads is refused for no want of room
+pub refused-room : (fault : EngineFault) → IsReadFault fault → end_of_engine fault ≡ ends.Limit limits.NoRoom → ⊥
+refused-room engine.Disk reads is = absurd (cc)
+refused-room engine.Memory reads is = absurd (cc)
+refused-room engine.Stopped reads is = absurd (cc)
+refused-room (engine.Damaged damage) reads is = absurd (cc)
+refused-room engine.NoRoom reads is = absurd reads
+refused-room engine.Full reads is = absurd reads
+refused-room engine.Worn reads is = absurd reads
+refused-room engine.NotAStore reads is = absurd reads
+refused-room (engine.BadJournal at) reads is = absurd reads

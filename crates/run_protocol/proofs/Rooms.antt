@@ -1,10 +1,11 @@
 -- Room that is wanting, by what the image holds.
 use Rattle.std.proofs.Common.{◌≡◌, ℕ, ◌≤◌, Bool, IsTrue, [], sym, subst, arith}
-use Rattle.disk_model.specs.World.{World}
+use Rattle.disk_model.specs.World.{World, Image}
 use Rattle.page_face.specs.FreeList.{PageMap}
 use Rattle.page_journal.specs.Record.{applied}
 use Rattle.page_store.specs.Contents.{Contents, IsCommitted, Overlay, counted_pages, shown}
 use Rattle.page_store.specs.declared.superblock.Superblock.{Superblock}
+use Rattle.irtree_engine.specs.Queries.{contents_held}
 use Rattle.irtree_engine.specs.Updates.{LacksPages, LacksRoom}
 use Rattle.irtree_engine.proofs.Standing.{committed-held}
 use Rattle.run_protocol.specs.Causes.{LacksRoomIn}
@@ -16,6 +17,10 @@ Lacked n room held = LacksRoom n room held.block.counted × LacksPages n room he
 -- lacks it for more
 more-lack : (n more room : ℕ) (held : Contents) → n ≤ more → Lacked n room held → Lacked more room held
 more-lack n more room held few lacks = (let h = lacks.0 in omega (arith, few, h), λ free list. let l = lacks.1 free list in omega (arith, few, l))
+
+-- so it does by what an image holds
+pub lacks-more : (n more room : ℕ) (image : Image) → n ≤ more → LacksRoomIn n room image → LacksRoomIn more room image
+lacks-more n more room image few lacks = more-lack n more room (contents_held image) few lacks
 
 -- What lacked room for some updates lacks it for more by what the image holds, where page 0's fields are as they were and nothing waits to be
 -- committed.

@@ -1,6 +1,6 @@
 -- What ends a script, whatever the image stands for.
 use Rattle.std.proofs.Common.{◌≡◌, ℕ, ◌+◌, ◌<◌, ◌≤◌, List, ◌++◌, length, take, refl, ap, subst, arith, length-append}
-use Rattle.std.specs.Prelude.{Result, Ok, Err, OnOk, IfErr, IsErrOf}
+use Rattle.std.specs.Prelude.{Result, IfErr, IsErrOf}
 use Rattle.std.proofs.lemmas.List.{length-take-le}
 use Rattle.irtree_engine.specs.Faults.{IsReadFault}
 use Rattle.irtree_engine.specs.declared.fault.EngineFault.{EngineFault}
@@ -40,18 +40,6 @@ refused-full (engine.Damaged damage) is = absurd (cc)
 refused-full engine.Stopped is = absurd (cc)
 refused-full engine.Memory is = absurd (cc)
 
--- a call that only reads ends none for want of room
-pub read-full : (fault : EngineFault) → IsReadFault fault → end_of_engine fault ≡ ends.Limit limits.NoRoom → ⊥
-read-full engine.NoRoom reads is = absurd reads
-read-full engine.Full reads is = absurd reads
-read-full engine.Worn reads is = absurd reads
-read-full engine.NotAStore reads is = absurd reads
-read-full (engine.BadJournal at) reads is = absurd reads
-read-full engine.Disk reads is = absurd (cc)
-read-full (engine.Damaged damage) reads is = absurd (cc)
-read-full engine.Stopped reads is = absurd (cc)
-read-full engine.Memory reads is = absurd (cc)
-
 -- no input ends lines
 pub line-input : {T : Type 0} (result : Result T Ended) (fault : InputFault) → IfErr result IsLineEnd → IsErrOf result (ends.Input fault) → ⊥
 line-input {T = T} result fault has is = subst (λ (r : Result T Ended). IfErr r IsLineEnd) is has
@@ -81,8 +69,3 @@ piece-limit {T = T} taken len result fault has is = subst (λ (r : Result T Ende
 -- how many bytes were left, where some were read to a buffer
 pub left-counts : (left next buffer : List ℕ) (n : ℕ) → left ≡ take n buffer ++ next → n ≤ length buffer → length left ≡ n + length next
 left-counts left next buffer n is few = omega (arith, ap length is, length-append (take n buffer) next, length-take-le n buffer few)
-
--- what holds in any case holds after a success
-pub on_ok-held : {T E P : Type 0} (result : Result T E) → P → OnOk result P
-on_ok-held (Ok value) held = held
-on_ok-held (Err fault) held = tt

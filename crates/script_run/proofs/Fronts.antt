@@ -1,7 +1,8 @@
 -- Fronts of bytes.
 use Rattle.std.proofs.Common.{◌≡◌, ℕ, zero, suc, ◌+◌, ◌≤◌, List, [], ◌∷◌, ◌++◌, length, take, drop, min, sym, ap, ◌∙◌, arith, append_assoc, zero-add}
-use Rattle.std.proofs.lemmas.List.{take_all, take_min, take-take, take-append-le, take-append-drop}
+use Rattle.std.proofs.lemmas.List.{take_all, take_min, take-append-le, take-append-drop}
 use Rattle.run_protocol.specs.Said.{SaysFrontOf}
+use Rattle.run_protocol.proofs.Lists.{take-over}
 
 -- a front is no longer than that
 pub length-take_most : (n : ℕ) (xs : List ℕ) → length (take n xs) ≤ n
@@ -31,10 +32,6 @@ pub front-behind : (text more whole old new : List ℕ) → whole ≡ text ++ mo
 front-behind text more whole old new is says =
     (length text + says.0, says.1 ∙ append_assoc old text (take says.0 more) ∙ ap (λ t. old ++ t) (sym (ap (take (length text + says.0)) is ∙ take-behind text more says.0)))
 
--- a front of what was written over the front of a buffer
-take-over : (n len : ℕ) (over rest : List ℕ) → n ≤ length over → length over ≤ len → take n (take len (over ++ rest)) ≡ take n over
-take-over n len over rest few room = take-take n len (over ++ rest) (omega (arith, few, room)) ∙ take-append-le n over rest few
-
 -- a piece that was read to the front of a buffer is the next bytes of the source
 pub piece-came : (n len : ℕ) (buffer behind slice piece left next : List ℕ) → n ≤ length buffer → length buffer ≤ len → slice ≡ take len (buffer ++ behind) → piece ≡ take n slice → left ≡ take n buffer ++ next → left ≡ piece ++ next
 piece-came n len buffer behind slice piece left next few room held front given =
@@ -43,8 +40,3 @@ piece-came n len buffer behind slice piece left next few room held front given =
 -- a piece in two parts
 pub parts-came : (piece left next : List ℕ) (room : ℕ) → left ≡ piece ++ next → left ≡ take room piece ++ (drop room piece ++ next)
 parts-came piece left next room is = is ∙ ap (λ p. p ++ next) (sym (take-append-drop room piece)) ∙ append_assoc (take room piece) (drop room piece) next
-
--- nothing is behind no bytes
-pub none-behind : (front back : List ℕ) → front ++ back ≡ [] → back ≡ []
-none-behind [] back is = is
-none-behind (byte ∷ front) back is = absurd (omega (arith, ap length is))

@@ -2,7 +2,7 @@ mod Asking
 mod Causes
 mod Ends
 mod Feeding
-mod Fronts
+pub mod Fronts
 mod Going
 mod Lines
 mod Replies

@@ -1,7 +1,7 @@
 -- Lines that come piece by piece.
-use Rattle.std.proofs.Common.{◌≡◌, ℕ, zero, suc, ◌-◌, ◌<◌, ◌≤◌, ⊎_elim, ◌==◌, Bool, true, false, List, [], ◌∷◌, ◌++◌, length, take, min, refl, sym, ap, ◌∙◌, arith, append_assoc}
+use Rattle.std.proofs.Common.{◌≡◌, ℕ, zero, suc, ◌-◌, ◌<◌, ◌≤◌, ⊎_elim, List, [], ◌∷◌, ◌++◌, length, take, min, refl, sym, ap, ◌∙◌, arith, append_assoc}
 use Rattle.std.specs.Prelude.{Err}
-use Rattle.std.proofs.lemmas.Bool.{lt-ltb, cases_lt, cases_eq, eq-eqb, eqb-true, eqb-false, ne_eqb}
+use Rattle.std.proofs.lemmas.Bool.{lt-ltb, cases_lt, cases_eq, eq-eqb, ne_eqb}
 use Rattle.std.proofs.lemmas.List.{take_all, take_min, length-take-le}
 use Rattle.place_map.specs.State.{Contents}
 use Rattle.query_replies.specs.declared.fault.LineFault.TheVariants.{Length}
@@ -147,12 +147,3 @@ line-fresh line front part none is = ap (λ f. f ++ part) (sym (kept-none front 
 pub line-ended : (line whole front part : List ℕ) → whole ≡ kept (line ++ part) → line ≡ kept front → line_of whole ≡ line_of (front ++ part)
 line-ended line whole front part all is =
     ap line_of (all ∙ ap (λ l. kept (l ++ part)) is ∙ kept-append front part) ∙ line-kept (front ++ part)
-
--- nothing was counted
-pub none-left : {X : Type 0} (bytes : List X) (n : ℕ) (b : Bool) → n ≡ length bytes → b ≡ (n == 0) → b ≡ true → bytes ≡ []
-none-left [] n b l e t = refl
-none-left (byte ∷ bytes) n b l e t = absurd (let z : n ≡ 0 = eqb-true n 0 (sym e ∙ t) in omega arith)
-
--- something was counted
-pub some-left : {X : Type 0} (bytes : List X) (n : ℕ) (b : Bool) → n ≡ length bytes → b ≡ (n == 0) → b ≡ false → bytes ≡ [] → ⊥
-some-left bytes n b l e f none = eqb-false n 0 (sym e ∙ f) (l ∙ ap length none)

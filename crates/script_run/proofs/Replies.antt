@@ -5,7 +5,7 @@ use Rattle.disk_model.specs.World.{World, LeavesOnly, Rose}
 use Rattle.disk_model.proofs.Moments.{rested}
 use Rattle.page_face.specs.declared.fault.Damage.{Damage}
 use Rattle.page_face.specs.declared.fault.Rule.TheVariants.{Head}
-use Rattle.page_store.specs.Store.{Rests}
+use Rattle.page_store.specs.Store.{Rests, rests_still}
 use Rattle.place_map.specs.declared.update.Applied.{Applied}
 use Rattle.place_map.specs.declared.update.Applied.TheVariants.{New, Replaced, Gone, Absent}
 use Rattle.place_map.specs.declared.update.Update.{Update}
@@ -28,7 +28,7 @@ use Rattle.irtree_engine.specs.declared.fault.EngineFault.TheVariants as engine
 use Rattle.irtree_engine.specs.Holding.{HoldsState}
 use Rattle.irtree_engine.specs.Updates.{LeavesOneOf, IsUpdateFault, IsDueTo}
 use Rattle.run_protocol.proofs.Counts.{keeps-both, keeps-fault}
-use Rattle.run_protocol.proofs.Reading.{RefusedRead, holds-same, rests-still}
+use Rattle.run_protocol.proofs.Reading.{RefusedRead, holds-same}
 use Rattle.run_protocol.specs.Causes.{HasEngineEnd, end_of_engine}
 use Rattle.run_protocol.specs.Script.{state_after}
 use Rattle.run_protocol.specs.declared.ended.Ended.{Ended}
@@ -243,4 +243,4 @@ module _ (state : Contents) (line : Line) (read : Result Line LineFault) (old ne
 pub bad-replies : (state : Contents) (read : Result Line LineFault) (now : World) (fault : LineFault) → read ≡ Err fault → HoldsState now state → RepliesTo state read now now (Ok (replies.Bad fault))
 unfolding reply_of
 bad-replies state read now fault is holds =
-    read-replies state read now now (replies.Bad fault) (rests-still now) holds (ap (state_after state) is) (ap (λ (r : Result Line LineFault). text_of_reply (reply_of state r)) (sym is))
+    read-replies state read now now (replies.Bad fault) (rests_still now) holds (ap (state_after state) is) (ap (λ (r : Result Line LineFault). text_of_reply (reply_of state r)) (sym is))

@@ -53,7 +53,7 @@ pub key_cmp_total : IsTotalOrder key_cmp
 key_cmp_total = then_total (on_total kind_of nat_cmp_total) (then_total (on_total bytes_of nat_list_cmp_total) (on_total number_of nat_cmp_total))
 
 -- the first of two orders ties, and so does the second
-both_tie : (a b : Ordering) → ordering_then a b ≡ Equal → (a ≡ Equal) × (b ≡ Equal)
+pub both_tie : (a b : Ordering) → ordering_then a b ≡ Equal → (a ≡ Equal) × (b ≡ Equal)
 both_tie Equal b h = (refl, h)
 both_tie Less b h = absurd (cc)
 both_tie Greater b h = absurd (cc)

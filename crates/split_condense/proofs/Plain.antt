@@ -18,6 +18,7 @@ use Rattle.irtree_shape.specs.Words.{worded, joined_item, words_on, joined}
 use Rattle.irtree_shape.specs.Made.{nodes_in}
 use Rattle.irtree_shape.specs.Whole.{IsWell, IsWhole, level_at, tree_sum, tree_uses}
 use Rattle.irtree_shape.proofs.Stocks.{supplied-plain}
+use Rattle.irtree_shape.proofs.Words.{sides as tops_side}
 use Rattle.split_condense.proofs.Bare.{IsBare, node-bare}
 
 -- a function that sees no words
@@ -35,15 +36,6 @@ amount_words f g c s e = amount-same f g (words_on c s) s (λ i l. by i (s i))
 -- a side of an item with words
 side_of : (x : Item) (h : ℕ → ℕ) (d : ℕ) → d < 4 → (worded h x).reach d ≡ x.reach d
 side_of x h d l = ap (λ b. if b then x.reach d else h (d - 4)) (lt-ltb d 4 l)
-
--- to a side slots with words reach as far as without
-tops_side : (c : ℕ → ℕ → ℕ) (s : Slots) (d : ℕ) → d < 4 → tops d (words_on c s) ≡ tops d s
-unfolding tops
-tops_side c s d l = top-same 32 (λ i. got (reach_of d) (words_on c s i)) (λ i. got (reach_of d) (s i)) (λ i k. by i (s i))
-  where
-    by : (i : ℕ) (o : Option Item) → got (reach_of d) (option_map (joined_item c i) o) ≡ got (reach_of d) o
-    by i None = refl
-    by i (Some x) = side_of x (λ w. c w i) d l
 
 -- behind the sides slots of bare items reach nowhere
 tops_bare : (s : Slots) (d : ℕ) → 4 ≤ d → ((i : ℕ) → Held IsBare (s i)) → tops d s ≡ 0

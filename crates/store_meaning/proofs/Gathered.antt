@@ -19,7 +19,7 @@ use Rattle.store_tables.proofs.WordLemmas.{agree-with_holds}
 use Rattle.store_meaning.specs.Ahead.{AreCountedWords, AreNamed, CanHoldAhead, HeldAhead, IsNamed, held_ahead, number_among, number_in, place_count, times_counted, with_counted, word_count}
 use Rattle.store_meaning.proofs.Steps.{word_at, AreAscending, KeepsWords}
 use Rattle.store_meaning.proofs.Held.{has_it}
-use Rattle.store_meaning.proofs.Numbers.{agree-claims, ascend-holds, can_hold-by, keeps-holds, named-holds, next_few, next_rises}
+use Rattle.store_meaning.proofs.Numbers.{agree-claims, ascend-holds, can_hold-by, keeps-holds, key_inside, named-holds, next_few, next_rises}
 
 -- ---- sums
 
@@ -183,16 +183,11 @@ module _ (claims : ℕ → ℕ) (before : Entries) (next_word : ℕ) (done : Lis
 
 -- ---- all of them
 
--- what holds of each word holds of one among them
-each-inside : (P : List ℕ → Type 0) (done : List (List ℕ × ℕ)) (count : List ℕ × ℕ) (rest : List (List ℕ × ℕ)) → AllByRecursion P (keys_of (done ++ count ∷ rest)) → P count.0
-each-inside P [] count rest all = all.0
-each-inside P (c ∷ done) count rest all = each-inside P done count rest all.1
-
 -- where no word stands twice, one is none of those before it
 distinct-before : (done : List (List ℕ × ℕ)) (count : List ℕ × ℕ) (rest : List (List ℕ × ℕ)) → IsDistinct bytes_eq (keys_of (done ++ count ∷ rest)) → AllByRecursion (λ d. d ≡ count.0 → ⊥) (keys_of done)
 distinct-before [] count rest distinct = tt
 distinct-before (c ∷ done) count rest distinct =
-    let other : bytes_eq c.0 count.0 ≡ false = each-inside (λ w. bytes_eq c.0 w ≡ false) done count rest (IsDistinct-head bytes_eq c.0 (keys_of (done ++ count ∷ rest)) distinct) in (
+    let other : bytes_eq c.0 count.0 ≡ false = key_inside (λ w. bytes_eq c.0 w ≡ false) done count rest (IsDistinct-head bytes_eq c.0 (keys_of (done ++ count ∷ rest)) distinct) in (
       λ same. true≢false (sym (nat_list_eq_equiv.refl c.0) ∙ ap (bytes_eq c.0) same ∙ other),
       distinct-before done count rest (IsDistinct-tail bytes_eq c.0 (keys_of (done ++ count ∷ rest)) distinct),
     )

@@ -4,7 +4,7 @@ use Rattle.std.proofs.Math.Facts.{Fits-lt-pow, Fits-of_z}
 use Rattle.std.proofs.lemmas.Int.{fits_signed_from_abs, to_z-of_z}
 use Rattle.std.proofs.lemmas.List.{take_all}
 use Rattle.std.proofs.lemmas.List.Elements.{All-head, All-tail}
-use Rattle.std.proofs.lemmas.Nat.{from_be_bytes-to_be_bytes_4, from_be_bytes-to_be_bytes_8}
+use Rattle.std.proofs.lemmas.Nat.{from_be_bytes-to_be_bytes_8}
 use Rattle.std.specs.Cmp.{nat_cmp_is}
 use Rattle.std.specs.Int.{cast_signed, cast_unsigned, from_be_bytes, to_be_bytes, w32, w64}
 use Rattle.std.specs.List.{AllByRecursion, flat_map}
@@ -27,12 +27,12 @@ use Rattle.row_codec.specs.Stored.{IsValue, place_value, point_bytes}
 use Rattle.row_codec.specs.declared.counted.Counted.{Counted}
 use Rattle.row_codec.specs.declared.stored.Stored.{Stored}
 use Rattle.row_codec.proofs.PairLemmas.{length-pairs}
-use Rattle.row_codec.proofs.ValueLemmas.{places_part, same_place, word_part}
+use Rattle.row_codec.proofs.ValueLemmas.{places_part, same_place, word_part, word_same, length-word_form}
 use Rattle.store_tables.specs.Coded.{IsEntryOf, IsPlaceValue, IsU64, row_by, word_code}
 use Rattle.store_tables.specs.Entries.{Entries}
 use Rattle.store_tables.specs.Holding.{Holds, HoldsMap}
 use Rattle.store_tables.specs.declared.tables.Tables.{Tables}
-use Rattle.store_tables.proofs.CodeLemmas.{length-word_form, word-order}
+use Rattle.store_tables.proofs.CodeLemmas.{word-order}
 use Rattle.store_tables.proofs.EntryLemmas.{IsCoding, level}
 use Rattle.store_tables.proofs.LookupLemmas.{keys_coding, numbers_coding, words_coding}
 use Rattle.store_tables.proofs.MapLemmas.{IsOrder, keys_are_ordered, numbers_are_ordered, words_are_ordered}
@@ -109,16 +109,12 @@ number_bytes-same : (m n : ℕ) → IsU64 m → IsU64 n → number_bytes m ≡ n
 unfolding number_bytes
 number_bytes-same m n fits also same = sym (from_be_bytes-to_be_bytes_8 m fits) ∙ ap (from_be_bytes w64) same ∙ from_be_bytes-to_be_bytes_8 n also
 
--- and so do four
-four_bytes-same : (m n : ℕ) → m < 2 ^ 32 → n < 2 ^ 32 → to_be_bytes w32 m ≡ to_be_bytes w32 n → m ≡ n
-four_bytes-same m n fits also same = sym (from_be_bytes-to_be_bytes_4 m fits) ∙ ap (from_be_bytes w32) same ∙ from_be_bytes-to_be_bytes_4 n also
-
 -- a coordinate's bytes tell it
 coordinate-same : (y z : ℤ) → unsigned_abs y ≤ 1800000000 → unsigned_abs z ≤ 1800000000 → to_be_bytes w32 (cast_unsigned w32 y) ≡ to_be_bytes w32 (cast_unsigned w32 z) → y ≡ z
 coordinate-same y z small also same =
     let y_fits = fits_signed_from_abs w32 y (omega (arith, small)) in
     let z_fits = fits_signed_from_abs w32 z (omega (arith, also)) in
-    sym (to_z-of_z w32 y y_fits) ∙ ap (cast_signed w32) (four_bytes-same (cast_unsigned w32 y) (cast_unsigned w32 z) (Fits-lt-pow (Fits-of_z y_fits)) (Fits-lt-pow (Fits-of_z z_fits)) same) ∙ to_z-of_z w32 z z_fits
+    sym (to_z-of_z w32 y y_fits) ∙ ap (cast_signed w32) (word_same (cast_unsigned w32 y) (cast_unsigned w32 z) (Fits-lt-pow (Fits-of_z y_fits)) (Fits-lt-pow (Fits-of_z z_fits)) same) ∙ to_z-of_z w32 z z_fits
 
 -- a point's bytes tell it
 point_bytes-same : (p q : Position) → IsOnMap p.x p.y → IsOnMap q.x q.y → point_bytes p ≡ point_bytes q → p ≡ q

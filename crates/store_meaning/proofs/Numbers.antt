@@ -205,7 +205,7 @@ numbering-start claims old entries next_word agree ascend known = record {
 }
 
 -- what holds of each word holds of one among them
-key_inside : (P : List ℕ → Type 0) (front : List (List ℕ × ℕ)) (term : List ℕ × ℕ) (rest : List (List ℕ × ℕ)) → AllByRecursion P (keys_of (front ++ term ∷ rest)) → P term.0
+pub key_inside : (P : List ℕ → Type 0) (front : List (List ℕ × ℕ)) (term : List ℕ × ℕ) (rest : List (List ℕ × ℕ)) → AllByRecursion P (keys_of (front ++ term ∷ rest)) → P term.0
 key_inside P [] term rest all = all.0
 key_inside P (t ∷ front) term rest all = key_inside P front term rest all.1
 

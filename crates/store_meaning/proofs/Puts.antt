@@ -6,11 +6,12 @@ use Rattle.std.specs.BTreeMap.{is_at}
 use Rattle.std.specs.List.Sorted.{IsStrictlySortedBy}
 use Rattle.std.specs.Map.{keys_of}
 use Rattle.term_impacts.specs.Pairs.{IsWordMap}
-use Rattle.spatial_base.specs.Key.{Name, Text, Auto, key_cmp, key_cmp_total}
+use Rattle.spatial_base.specs.Key.{Name, key_cmp, key_cmp_total}
 use Rattle.spatial_base.specs.Point.{Position}
 use Rattle.place_map.specs.declared.place.Place.{Place}
 use Rattle.place_map.specs.State.{IsSerialAbove}
 use Rattle.place_map.specs.State as states
+use Rattle.place_map.proofs.Serials.{later}
 use Rattle.row_codec.specs.declared.stored.Stored.{Stored}
 use Rattle.row_codec.specs.Pairs.{Pair}
 use Rattle.row_codec.specs.Stored.{held_pairs}
@@ -28,11 +29,6 @@ use Rattle.store_meaning.proofs.Ordered.{same_from_lookups, sorted-insert}
 use Rattle.store_meaning.proofs.Pairs.{apart-numbered, has_pair-by_number, held-stored_with, words-by_number, words-numbered}
 use Rattle.store_meaning.proofs.Places.{apart-old, each_paired, held-claimed, known-old, named-claimed, numbered-same, held_by, room-put, agree-released, place-at, place-same, same-released}
 use Rattle.store_meaning.proofs.Releases.{releasing-all}
-
--- a key below a serial is below those behind it
-later : (serial next : ℕ) → serial ≤ next → (k : Name) → IsSerialAbove serial k → IsSerialAbove next k
-later serial next le (Text bytes) below = tt
-later serial next le (Auto n) below = omega (arith, le, below)
 
 -- ---- a place whose words have their numbers
 

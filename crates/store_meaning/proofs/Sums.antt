@@ -1,5 +1,5 @@
 -- Sums over the entries that places have in a tree: with a place put, and with one taken out.
-use Rattle.std.proofs.Common.{◌≡◌, ℕ, ◌+◌, ◌<◌, ◌⊎◌, inl, inr, Bool, true, false, cond, List, [], ◌∷◌, Option, Some, None, option_map, refl, sym, ap, subst, ◌∙◌, true≢false, arith}
+use Rattle.std.proofs.Common.{◌≡◌, ℕ, ◌+◌, inl, inr, Bool, true, false, cond, List, [], ◌∷◌, Option, Some, None, option_map, refl, sym, ap, subst, ◌∙◌, true≢false, arith}
 use Rattle.std.proofs.lemmas.List.Sums.{sum_by-cons}
 use Rattle.std.specs.BTreeMap.{is_at}
 use Rattle.std.proofs.lemmas.List.Elements.{All-head, All-tail}
@@ -17,6 +17,7 @@ use Rattle.row_codec.specs.declared.stored.Stored.{Stored}
 use Rattle.row_codec.specs.Stored.{held_pairs}
 use Rattle.node_rows.specs.Impacts.{impact_in}
 use Rattle.rtree_shape.specs.Slots.{Item, got}
+use Rattle.rtree_shape.proofs.Heights.{none_or}
 use Rattle.rtree_nodes.specs.Pages.{node_of}
 use Rattle.rtree_find.specs.Entries.{is_entry}
 use Rattle.rtree_find.proofs.Entries.{entry-is}
@@ -125,9 +126,6 @@ found_name key stored (e ∷ places) each found = by (is_at (key_cmp key) e.0) r
     by : (b : Bool) → is_at (key_cmp key) e.0 ≡ b → (place_of_key key places ≡ Some stored → IsName key) → cond b (Some e.1) (place_of_key key places) ≡ Some stored → IsName key
     by true here rest is = subst IsName (sym (same_from_test keys_are_ordered key e.0 here)) (All-head IsPlaceEntry e places each).0
     by false apart rest is = rest is
-
-none_or : (n : ℕ) → (n ≡ 0) ⊎ (0 < n)
-none_or n = grind arith
 
 -- the entry of another key isn't this key's
 other_key : (point : Position) (key k : Name) (s : Stored) → IsName key → IsName k → (k ≡ key → ⊥) → is_entry point (form_of key) (entry_at k s) ≡ 0

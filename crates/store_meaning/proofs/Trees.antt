@@ -1,5 +1,5 @@
 -- The tree and its rows beside the tables.
-use Rattle.std.proofs.Common.{◌≡◌, ℕ, zero, suc, ◌+◌, ◌<◌, ◌≤◌, ◌⊎◌, inl, inr, List, refl, sym, ap, subst, subst₂, ◌∙◌, arith}
+use Rattle.std.proofs.Common.{◌≡◌, ℕ, zero, suc, ◌+◌, ◌<◌, ◌≤◌, inl, inr, List, refl, sym, ap, subst, subst₂, ◌∙◌, arith}
 use Rattle.std.proofs.lemmas.Bool.Decides.{nat_tests}
 use Rattle.page_face.specs.FreeList.{PageMap}
 use Rattle.page_face.specs.declared.head.Head.{Head}
@@ -15,6 +15,7 @@ use Rattle.rtree_shape.specs.Slots.{Item, NodeView, NodeMap}
 use Rattle.rtree_shape.specs.Trees.{IsTree, node_below, node_uses}
 use Rattle.rtree_shape.specs.Stock.{View, rows_form, spare_in, view}
 use Rattle.rtree_shape.proofs.Frames.{slots-frame}
+use Rattle.rtree_shape.proofs.Heights.{none_or}
 use Rattle.rtree_nodes.specs.Pages.{node_of}
 use Rattle.node_rows.specs.Rows.{AreFilled, Bytes, bytes_in, bytes_of}
 use Rattle.irtree_shape.specs.Words.{joined}
@@ -25,9 +26,6 @@ use Rattle.store_tables.specs.Holding.{IsSameMap}
 use Rattle.store_tables.proofs.FrameLemmas.{map-frame}
 use Rattle.store_meaning.specs.Stands.{TablesStandFor, TreeStands}
 use Rattle.store_meaning.proofs.Tables.{ArePagesKept}
-
-none_or : (n : ℕ) → (n ≡ 0) ⊎ (0 < n)
-none_or n = grind arith
 
 -- ---- pages that stayed
 

@@ -1,5 +1,5 @@
 -- Keys, words and numbers are ordered as the numbers that their bytes spell.
-use Rattle.std.proofs.Common.{◌≡◌, ℕ, zero, suc, ◌+◌, ◌-◌, ◌/◌, ◌<◌, ◌≤◌, ◌^◌, Bool, true, false, cond, ltb, ◌&&◌, ⊎_elim, List, [], ◌∷◌, ◌++◌, length, replicate, refl, sym, subst, ◌∙◌, arith}
+use Rattle.std.proofs.Common.{◌≡◌, ℕ, zero, suc, ◌+◌, ◌-◌, ◌/◌, ◌<◌, ◌≤◌, ◌^◌, true, false, cond, ltb, ⊎_elim, List, [], ◌∷◌, ◌++◌, length, replicate, refl, sym, subst, ◌∙◌, arith}
 use Rattle.std.proofs.Math.Utf8.{encode, encodes, next, scalar, scalars, scalar_cases}
 use Rattle.std.proofs.lemmas.Bool.{ltb-true}
 use Rattle.std.proofs.lemmas.List.{length-append, length-replicate}
@@ -14,7 +14,9 @@ use Rattle.term_impacts.specs.Form.{IsWordText, word_form}
 use Rattle.term_impacts.proofs.FormLemmas.{slice_cmp-word_form}
 use Rattle.page_face.specs.Number.{number}
 use Rattle.btree_nodes.proofs.Numbers.{AreBytes, compare_numbers}
+use Rattle.btree_nodes.proofs.Checks.{and-true}
 use Rattle.row_codec.specs.Counted.{number_bytes}
+use Rattle.row_codec.proofs.ValueLemmas.{length-word_form}
 use Rattle.store_tables.specs.Entries.{word_cmp}
 use Rattle.store_tables.specs.Coded.{key_code, word_code}
 
@@ -50,19 +52,11 @@ encode-bytes c small =
       ] refl
     ] refl
 
-first_holds : (a b : Bool) → (a && b) ≡ true → a ≡ true
-first_holds true b e = refl
-first_holds false b e = absurd (cc)
-
-second_holds : (a b : Bool) → (a && b) ≡ true → b ≡ true
-second_holds true b e = e
-second_holds false b e = absurd (cc)
-
 encodes-bytes : (cs : List ℕ) → scalars cs ≡ true → AreBytes (encodes cs)
 encodes-bytes [] all = none
 encodes-bytes (c ∷ cs) all =
-    let here : c < 1114112 = ⊎_elim (λ (l : c < 55296). omega arith) (λ (h : (57344 ≤ c) × (c < 1114112)). h.1) (scalar_cases c (first_holds (scalar c) (scalars cs) all)) in
-    both (encode c) (encodes cs) (encode-bytes c here) (encodes-bytes cs (second_holds (scalar c) (scalars cs) all))
+    let here : c < 1114112 = ⊎_elim (λ (l : c < 55296). omega arith) (λ (h : (57344 ≤ c) × (c < 1114112)). h.1) (scalar_cases c (and-true (scalar c) (scalars cs) all).0) in
+    both (encode c) (encodes cs) (encode-bytes c here) (encodes-bytes cs (and-true (scalar c) (scalars cs) all).1)
 
 -- a text's bytes are bytes
 utf8-bytes : (text : List ℕ) → IsUtf8 text → AreBytes text
@@ -108,12 +102,6 @@ word-bytes word is =
     let few = is.fits in
     both word (replicate (32 - length word) 0 ++ length word ∷ []) (utf8-bytes word (IsUtf8-had word is.utf8))
     (both (replicate (32 - length word) 0) (length word ∷ []) (zeros (32 - length word)) (one (length word) [] (omega arith) none))
-
--- a word's form has 33 bytes
-pub length-word_form : (word : List ℕ) → IsWordText word → length (word_form word) ≡ 33
-length-word_form word is =
-    let few = is.fits in
-    omega (arith, length-append word (replicate (32 - length word) 0 ++ length word ∷ []), length-append (replicate (32 - length word) 0) (length word ∷ []), length-replicate {A = ℕ} (32 - length word) 0)
 
 -- words are ordered as the numbers of their forms
 pub word-order : (a b : List ℕ) → IsWordText a → IsWordText b → word_cmp a b ≡ nat_cmp (word_code a) (word_code b)

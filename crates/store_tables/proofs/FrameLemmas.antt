@@ -7,7 +7,8 @@ use Rattle.btree_nodes.specs.Rows.{Row}
 use Rattle.btree_nodes.specs.Supply.{Moves, View, spare_in, view}
 use Rattle.btree_nodes.specs.Tree.{IsMap, IsTree, level_of, map_uses, rows_at, uses}
 use Rattle.btree_nodes.proofs.Frames.{tree-frame}
-use Rattle.btree_nodes.proofs.Supplies.{moves-as, moves-beside, moves-further, one_at-same}
+use Rattle.btree_nodes.proofs.Supplies.{moves-as, moves-beside, moves-further}
+use Rattle.btree_nodes.proofs.Walks.{uses-self}
 use Rattle.spatial_base.specs.Key.{Name}
 use Rattle.row_codec.specs.declared.counted.Counted.{Counted}
 use Rattle.row_codec.specs.declared.stored.Stored.{Stored}
@@ -16,16 +17,12 @@ use Rattle.paged_map.specs.Maps.{HasBecome, IsKept}
 use Rattle.store_tables.specs.Entries.{Entries}
 use Rattle.store_tables.specs.Holding.{Holds, HoldsMap, HoldsNumbers, HoldsPlaces, HoldsTexts, IsApart, IsChanged, IsSameMap, numbers_form, places_form, texts_form}
 
-uses-root : (form : Form) (pages : PageMap) (level page : ℕ) → 0 < uses form pages level page page
-uses-root form pages zero page = let one = one_at-same page in omega arith
-uses-root form pages (suc level) page = let one = one_at-same page in omega arith
-
 -- a map of which each page stayed is the same map
 pub map-frame : (form : Form) (old new : PageMap) (root : ℕ) → IsMap form old root → ((n : ℕ) → 0 < map_uses form old root n → new n ≡ old n) → IsSameMap form old new root
 map-frame form old new zero tree same = record { tree = tt; rows = refl; uses = λ n. refl; height = refl }
 map-frame form old new (suc m) tree same =
     let level : ℕ = level_of (old (suc m)) in
-    let here : new (suc m) ≡ old (suc m) = same (suc m) (uses-root form old level (suc m)) in
+    let here : new (suc m) ≡ old (suc m) = same (suc m) (uses-self form old level (suc m)) in
     let r = tree-frame form (least_of_root level) old new level (suc m) 0 (256 ^ form.key) tree same in
     let level_is : level_of (new (suc m)) ≡ level = ap level_of here in
     record {

@@ -1,7 +1,6 @@
 -- The tree's entries give to a query what the places give that they stand for.
-use Rattle.std.proofs.Common.{◌≡◌, ℕ, List, [], ◌∷◌, ◌++◌, All, map, sum_by, take, refl, sym, ap, subst, ◌∙◌, arith}
+use Rattle.std.proofs.Common.{◌≡◌, ℕ, List, [], ◌∷◌, ◌++◌, All, map, take, refl, sym, ap, subst, ◌∙◌}
 use Rattle.std.proofs.lemmas.List.Elements.{All-head, All-tail}
-use Rattle.std.proofs.lemmas.List.Sums.{sum_by-cons}
 use Rattle.std.specs.List.{flat_map}
 use Rattle.spatial_base.specs.Key.{Name, form_of}
 use Rattle.term_impacts.specs.Pairs as texts
@@ -40,20 +39,16 @@ use Rattle.tree_answers.specs.Answers.{cut_by, hits_by, IsAnswer}
 use Rattle.tree_answers.proofs.Kept.{AreKept}
 use Rattle.tree_answers.proofs.Impacts.{word-impact}
 use Rattle.tree_answers.proofs.Words.{AgreeAmong, agree-by, agree-weighed}
+use Rattle.collective_query.proofs.Products.{weight-mapped}
 
 -- the item of an entry of the place table
 abbrev pub item_at : Name × Stored → Item
 item_at e = entry_at e.0 e.1
 
--- a sum over what a list's members become
-sum-mapped : {X Y : Type 0} (f : Y → ℕ) (g : X → Y) (xs : List X) → sum_by f (map g xs) ≡ sum_by (λ x. f (g x)) xs
-sum-mapped f g [] = refl
-sum-mapped f g (x ∷ xs) = omega (arith, sum_by-cons f (g x) (map g xs), sum_by-cons (λ y. f (g y)) x xs, sum-mapped f g xs)
-
 -- a tree's entries are the places' where all sums over them are
 pub same-entries : (nodes : NodeMap) (root : ℕ) (places : List (Name × Stored)) → ((f : Item → ℕ) → tree_sum nodes root f ≡ entry_sum f places)
     → SameMembers (map item_at places) (tree_places nodes root)
-same-entries nodes root places are f = sym (tree-sum nodes f root) ∙ are f ∙ sym (sum-mapped f item_at places)
+same-entries nodes root places are f = sym (tree-sum nodes f root) ∙ are f ∙ sym (weight-mapped f item_at places)
 
 -- what each member gives the one way it gives the other way
 pub given-same : {X Y Z A : Type 0} (p : X → Y) (q : X → Z) (g : Y → List A) (h : Z → List A) (P : X → Type 0) → ((x : X) → P x → g (p x) ≡ h (q x))

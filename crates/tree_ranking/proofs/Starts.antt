@@ -29,9 +29,6 @@ unfolding some_below
 below-false zero test h = refl
 below-false (suc n) test h = or-none (test n) (some_below n test) (h n (omega arith)) (below-false n test (λ i l. h i (omega arith)))
 
-below-at : (n : ℕ) (test : ℕ → Bool) → some_below n test ≡ false → (i : ℕ) → i < n → test i ≡ false
-below-at n test h i l = none-below n test h i l
-
 below-same : (n : ℕ) (f g : ℕ → Bool) → ((i : ℕ) → i < n → f i ≡ g i) → some_below n f ≡ some_below n g
 unfolding some_below
 below-same zero f g h = refl
@@ -53,7 +50,7 @@ pub other-some : (mask : ℕ) → mask < 2 ^ 32 → (mask ≡ 0 → ⊥) → som
 other-some mask l ne = ⊎_elim
     (λ (t : some_below 32 (λ i. has_slot mask i) ≡ true). t)
     (λ (f : some_below 32 (λ i. has_slot mask i) ≡ false).
-    absurd (ne (same_from_bits_below 32 mask 0 l (lit< tt) (λ i k. no-bit (bit_at mask i) (bit_at-lt mask i) (below-at 32 (λ j. has_slot mask j) f i k) ∙ sym (bit_at-zero i)))))
+    absurd (ne (same_from_bits_below 32 mask 0 l (lit< tt) (λ i k. no-bit (bit_at mask i) (bit_at-lt mask i) (none-below 32 (λ j. has_slot mask j) f i k) ∙ sym (bit_at-zero i)))))
     (cases_Bool (some_below 32 (λ i. has_slot mask i)))
 
 zero-of : (n : ℕ) → (n == 0) ≡ true → n ≡ 0

@@ -1,5 +1,5 @@
 -- The items of pages, joined with the bytes of their rows.
-use Rattle.std.proofs.Common.{◌≡◌, ℕ, ℤ, zero, suc, ◌+◌, ◌<◌, ◌≤◌, Bool, true, false, ◌&&◌, List, Option, Some, None, refl, sym, ap, ◌∙◌, subst, arith, ⊎_elim}
+use Rattle.std.proofs.Common.{◌≡◌, ℕ, ℤ, zero, suc, ◌+◌, ◌<◌, ◌≤◌, true, false, List, Option, Some, None, refl, sym, ap, ◌∙◌, subst, arith, ⊎_elim}
 use Rattle.std.specs.Prelude.{option_map, unsigned_abs}
 use Rattle.std.proofs.lemmas.Bool.{cases_Bool}
 use Rattle.std.proofs.lemmas.Int.{ints, clamps}
@@ -20,6 +20,7 @@ use Rattle.tree_entries.proofs.Agreements.{point-back, joined-impact}
 use Rattle.tree_ranking.specs.declared.ask.Ask.{Ask}
 use Rattle.tree_ranking.specs.Openings.{given_by, given_at, spread}
 use Rattle.tree_ranking.specs.Belows.{IsPlaceItem}
+use Rattle.node_rows.proofs.Counts.{and-left}
 
 sides : (z : ℤ) → unsigned_abs z ≤ 1800000000 → below_top z + above_bottom z ≡ 4294967296
 sides z l = omega (arith, ints, clamps)
@@ -34,12 +35,8 @@ place-item b i p key on =
       north = sides p.y north;
     }
 
-and-first : (a b : Bool) → (a && b) ≡ true → a ≡ true
-and-first true b h = refl
-and-first false b h = absurd (cc)
-
 cell-item : (b : ℕ → ℕ → ℕ) (i level : ℕ) (cell : List ℕ) → level ≡ 0 → has_form level cell ≡ true → IsPlaceItem (joined_item b i (item_in level cell))
-cell-item b i zero cell e h = place-item b i (cell_point cell) (cell_key cell) (map-from (int_at 0 cell) (int_at 4 cell) (and-first (is_on_map (int_at 0 cell) (int_at 4 cell)) (is_key_form (cell_key cell)) h))
+cell-item b i zero cell e h = place-item b i (cell_point cell) (cell_key cell) (map-from (int_at 0 cell) (int_at 4 cell) (and-left (is_on_map (int_at 0 cell) (int_at 4 cell)) (is_key_form (cell_key cell)) h))
 cell-item b i (suc level) cell e h = absurd (omega arith)
 
 -- what stands in a leaf's slots are places

@@ -1,29 +1,25 @@
 -- A tree that changed leaves the counted pages told.
-use Rattle.std.proofs.Common.{◌≡◌, ℕ, zero, suc, ◌<◌, ◌≤◌, ⊎_elim, List, length, arith, refl, Option}
+use Rattle.std.proofs.Common.{◌≡◌, ℕ, zero, suc, ◌<◌, ◌≤◌, ⊎_elim, length, arith, refl, Option}
 use Rattle.std.proofs.lemmas.Bool.{cases_lt}
 use Rattle.page_face.specs.FreeList.{PageMap}
 use Rattle.btree_nodes.specs.Damages.{AreTold}
-use Rattle.rtree_shape.specs.Slots.{Item, filled}
+use Rattle.rtree_shape.specs.Slots.{Item}
 use Rattle.rtree_shape.specs.Trees.{root_least}
 use Rattle.rtree_shape.specs.Stock.{View}
 use Rattle.rtree_shape.proofs.Heights.{root-some}
 use Rattle.rtree_nodes.specs.Pages.{node_of}
-use Rattle.rtree_find.proofs.Subtrees.{some-read}
+use Rattle.rtree_find.proofs.Subtrees.{node-tells}
 use Rattle.irtree_shape.specs.Made.{nodes_in}
 use Rattle.irtree_shape.specs.Whole.{IsWell, level_at, tree_uses}
 use Rattle.irtree_shape.proofs.Tolds.{node-none, told-moved}
 use Rattle.irtree_shape.specs.Regrown.{IsRegrown}
-
--- a page that holds a node with a slot is told
-node_tells : (page : List ℕ) → 0 < filled (node_of page).slots → 0 < length page
-node_tells page some = (some-read page some).told
 
 -- a page that isn't told is none of a tree
 tree_silent : (pages : PageMap) (rows root n : ℕ) → length (pages n) ≡ 0 → IsWell (nodes_in node_of pages rows) root → tree_uses (nodes_in node_of pages rows) root n ≡ 0
 tree_silent pages rows zero n silent well = refl
 tree_silent pages rows (suc m) n silent well =
     let level : ℕ = level_at (nodes_in node_of pages rows) (suc m) in
-    node-none node_of node_tells pages rows n silent (root_least level) level (suc m) (root-some level) well
+    node-none node_of node-tells pages rows n silent (root_least level) level (suc m) (root-some level) well
 
 -- a tree that changed leaves the counted pages told
 pub told-regrown : (before : View) (pages : PageMap) (rows count first old_root root : ℕ) (taken put : Option Item)

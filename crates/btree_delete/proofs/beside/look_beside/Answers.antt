@@ -9,8 +9,8 @@ use Rattle.btree_nodes.specs.Damages.{AsksOnly}
 use Rattle.btree_nodes.proofs.Trees.{tree-size}
 use Rattle.btree_nodes.proofs.Harms.{asked-here, asks-here, asks-nothing}
 use Rattle.btree_delete.specs.declared.settling.Beside.{Beside}
-use Rattle.btree_nodes.proofs.Walks.{same-fault, told-read, uses-self, asks-read, damage-link, uses-below, tree-below, damage-below}
-use Rattle.btree_delete.proofs.Walks.{named-refused, named-page, damage-rule}
+use Rattle.btree_nodes.proofs.Walks.{same-fault, told-read, uses-self, asks-read, damage-link, uses-below, tree-below, damage-below, named-refused}
+use Rattle.btree_delete.proofs.Walks.{named-page, damage-rule}
 use Rattle.btree_delete.proofs.beside.look_beside.Goals as goal
 
 pub returns-in_err-page-clause-damaged : goal.returns-in_err-page-clause-damaged

@@ -20,8 +20,8 @@ use Rattle.btree_delete.specs.Removal.{HasRemoved, Lessens, IsOut, IsLess}
 use Rattle.btree_delete.specs.Mended.{IsBeside}
 use Rattle.btree_delete.proofs.Settles.{half_some}
 use Rattle.btree_delete.proofs.Rises.{rise, child-claim}
-use Rattle.btree_nodes.proofs.Walks.{same-fault, told-read, uses-self, asks-read, damage-link, uses-below, tree-below, damage-below, lookup-below}
-use Rattle.btree_delete.proofs.Walks.{read-looked, uses-most, named-refused, asked-child, beside-is, own-looked, own-below, damage-looked, damage-in_tree}
+use Rattle.btree_nodes.proofs.Walks.{same-fault, told-read, uses-self, asks-read, damage-link, uses-below, tree-below, damage-below, lookup-below, named-refused}
+use Rattle.btree_delete.proofs.Walks.{read-looked, uses-most, asked-child, beside-is, own-looked, own-below, damage-looked, damage-in_tree}
 use Rattle.btree_delete.proofs.remove.+remove_in.Goals as goal
 
 pub returns-then-level-eq0-clause-removed : goal.returns-then-level-eq0-clause-removed

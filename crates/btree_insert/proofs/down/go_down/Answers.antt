@@ -9,8 +9,9 @@ use Rattle.btree_nodes.specs.Damages.{AsksOnly}
 use Rattle.btree_nodes.proofs.Harms.{asked-here, asks-here}
 use Rattle.btree_nodes.proofs.Walks.{same-fault, named-read, uses-self, asks-read, damage-link, uses-below, damage-below}
 use Rattle.btree_insert.specs.declared.down.Step.{Step}
-use Rattle.btree_insert.proofs.Grows.{same-damage, damage-inner}
+use Rattle.btree_insert.proofs.Grows.{damage-inner}
 use Rattle.btree_insert.proofs.down.go_down.Goals as goal
+use Rattle.btree_search.proofs.Descents.{same-damage}
 
 pub returns-in-Err-clause-damaged : goal.returns-in-Err-clause-damaged
 returns-in-Err-clause-damaged g c = λ is damage e.

@@ -7,9 +7,9 @@ use Rattle.btree_nodes.specs.Rows.{IsWithin}
 use Rattle.btree_nodes.specs.Bounds.{upper_of}
 use Rattle.btree_nodes.specs.Damages.{BreaksLeaf}
 use Rattle.btree_insert.specs.declared.leaf.Grown.{Grown}
-use Rattle.btree_insert.proofs.Grows.{same-damage}
 use Rattle.btree_insert.proofs.Readings.{ok-any}
 use Rattle.btree_insert.proofs.leaf.put_leaf.Goals as goal
+use Rattle.btree_search.proofs.Descents.{same-damage}
 
 pub returns-in-Ok-clause-grown : goal.returns-in-Ok-clause-grown
 returns-in-Ok-clause-grown g c = λ free supplied once.

@@ -2,10 +2,9 @@ use Rattle.std.proofs.Common.{arith, ◌≡◌, ◌+◌, ◌-◌, ◌*◌, ◌<�
 use Rattle.page_face.specs.Number.{number}
 use Rattle.page_face.specs.Nodes.{count_of}
 use Rattle.page_face.specs.Cells.{IsPlace, key_at}
-use Rattle.btree_nodes.specs.Nodes.{rows_in}
+use Rattle.btree_nodes.specs.Nodes.{rows_in, rows_of}
 use Rattle.btree_nodes.specs.Rows.{IsMade, put}
 use Rattle.btree_nodes.proofs.Finds.{place_as}
-use Rattle.btree_insert.proofs.Leaves.{rows_of}
 use Rattle.btree_insert.proofs.PutLeaf.{put_cells, put-had}
 use Rattle.std.proofs.lemmas.Result.{err_from_is_err_and}
 use Rattle.btree_nodes.proofs.Walks.{same-fault}

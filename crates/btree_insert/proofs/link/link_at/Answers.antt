@@ -1,7 +1,7 @@
 use Rattle.std.proofs.Common.{arith, ◌≡◌, ◌+◌, ◌*◌, ℕ, ◌∙◌, ap, take, drop, length, List, subst}
 use Rattle.page_face.specs.Number.{number}
 use Rattle.btree_nodes.specs.Tree.{with_low}
-use Rattle.btree_insert.proofs.Inners.{entries_of}
+use Rattle.btree_nodes.specs.Nodes.{entries_of}
 use Rattle.btree_insert.proofs.Links.{linked-cells, linked-first}
 use Rattle.btree_insert.proofs.Readings.{StoreClaim}
 use Rattle.btree_insert.proofs.link.link_at.Goals as goal

@@ -4,11 +4,11 @@ use Rattle.std.proofs.lemmas.List.{take_at, length-replicate, take-append-le, le
 use Rattle.std.proofs.lemmas.Result.{err_from_is_err_and}
 use Rattle.btree_nodes.proofs.Supplies.{take-honest, refused-same}
 use Rattle.btree_nodes.proofs.Tolds.{image_told}
+use Rattle.btree_nodes.proofs.Numbers.{number-zeros}
 use Rattle.btree_insert.proofs.Keeps.{told-taken}
 use Rattle.page_face.specs.Number.{number}
 use Rattle.btree_nodes.specs.Build.{image}
 use Rattle.page_face.specs.FreeList.{PageMap, with_page}
-use Rattle.btree_insert.proofs.Inners.{number-zeros}
 use Rattle.btree_insert.proofs.Roots.{root_of, root-entries}
 use Rattle.btree_insert.proofs.root.grow_root.Goals as goal
 

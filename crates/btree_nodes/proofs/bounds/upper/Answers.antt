@@ -4,7 +4,7 @@ use Rattle.page_face.specs.Cells.{key_at}
 use Rattle.btree_nodes.specs.Nodes.{entries_in}
 use Rattle.btree_nodes.specs.Bounds.{upper_of}
 use Rattle.btree_nodes.proofs.Checks.{upper-some}
-use Rattle.btree_nodes.proofs.Spots.{fits_at, entry-key, length-entries_in}
+use Rattle.btree_nodes.proofs.Spots.{entry-key, length-entries_in, fits_at}
 use Rattle.btree_nodes.proofs.Fans.{no_entry, next_key-at, next_key-end}
 use Rattle.btree_nodes.proofs.bounds.upper.Goals as goal
 

@@ -1,8 +1,9 @@
 use Rattle.std.proofs.Common.{arith, ◌≡◌, ◌<◌, ◌≤◌, ◌+◌, ⊎_elim, ℕ, subst, sym, ◌∙◌}
 use Rattle.std.proofs.lemmas.Bool.{cases_lt}
 use Rattle.page_face.specs.Cells.{key_at}
-use Rattle.btree_nodes.proofs.Overlaps.{fits_at, if-less, less-if}
+use Rattle.btree_nodes.proofs.Overlaps.{if-less, less-if}
 use Rattle.btree_nodes.proofs.pairs.ascends_by_pairs.Goals as goal
+use Rattle.btree_nodes.proofs.Spots.{fits_at}
 
 pub pair_of-next-requires-clause-fits : goal.pair_of-next-requires-clause-fits
 pair_of-next-requires-clause-fits c = fits_at c.args.width (c.loop-at.at + 1) c.args.count (omega arith) c.requires.fits

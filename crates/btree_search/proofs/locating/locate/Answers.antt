@@ -12,13 +12,13 @@ use Rattle.btree_nodes.specs.Tree.{IsTree, uses, map_uses, level_of}
 use Rattle.btree_nodes.specs.Damages.{AreTold, AskedSince, AsksOnly}
 use Rattle.btree_nodes.proofs.Trees.{tree-size}
 use Rattle.btree_nodes.proofs.Harms.{asks-more, asks-nothing}
-use Rattle.btree_nodes.proofs.Walks.{same-fault, told-read, uses-self, asks-read}
+use Rattle.btree_nodes.proofs.Walks.{same-fault, told-read, uses-self, asks-read, named-refused}
 use Rattle.btree_search.specs.Steps.{low_of, high_of}
 use Rattle.btree_search.specs.Below.{LiesBelow}
 use Rattle.btree_search.specs.Leaves.{IsLeafOf}
 use Rattle.btree_search.specs.Ways.{IsWay, IsWayOf}
 use Rattle.btree_search.specs.declared.locating.Leaf.{Leaf}
-use Rattle.btree_search.proofs.Roots.{named-first, enter, map-tree, map-uses, leaf-of}
+use Rattle.btree_search.proofs.Roots.{enter, map-tree, map-uses, leaf-of}
 use Rattle.btree_search.proofs.locating.locate.Goals as goal
 
 pub descend_to_leaf-requires-clause-to : goal.descend_to_leaf-requires-clause-to
@@ -65,7 +65,7 @@ returns-in-Ok-clause-own g c = λ told.
 pub returns-in-Err-clause-named : goal.returns-in-Err-clause-named
 returns-in-Err-clause-named g c = λ told damage e.
     let was = c.in-Err.is ∙ ap Err (same-fault {T = Leaf} _ _ e) in
-    named-first (g.P.Pages.asked c.args.pages.now) (g.P.Pages.asked c.look.new.self) c.args.root c.look.result damage c.look.ensures.asked was
+    named-refused (g.P.Pages.asked c.args.pages.now) (g.P.Pages.asked c.look.new.self) c.args.root c.look.result damage c.look.ensures.asked was
     (ap (λ (d : Damage). d.page) (c.look.ensures.damaged damage was).0)
 
 pub returns-in-Err-clause-own : goal.returns-in-Err-clause-own

@@ -6,8 +6,9 @@ use Rattle.place_map.specs.Group.{farthest}
 use Rattle.place_map.specs.Search.{lists_in}
 use Rattle.collective_query.specs.Picks.{AreMeasured}
 use Rattle.collective_query.proofs.Fronts.{missed}
-use Rattle.collective_query.proofs.Members.{all-among, contains-map}
+use Rattle.collective_query.proofs.Members.{contains-map}
 use Rattle.collective_query.proofs.costing.each_goes_on.Goals as goal
+use Rattle.boolean_queries.proofs.Histories.{all-contained}
 
 pub returns-then-not-one_goes_on : goal.returns-then-not-one_goes_on
 returns-then-not-one_goes_on c = λ _ at far wide sorted choice one.
@@ -18,5 +19,5 @@ returns-then-not-one_goes_on c = λ _ at far wide sorted choice one.
     let misses : AllByRecursion (λ (pick : Pick). c.args.bound ≤ max c.args.far pick.dist + max c.args.wide (farthest pick.point front)) list.items =
     subst (AllByRecursion (λ (pick : Pick). c.args.bound ≤ max c.args.far pick.dist + max c.args.wide (farthest pick.point front))) c.deref.ensures.value (c.one_goes_on.ensures c.if-not-one_goes_on.true) in
     missed at front c.args.far c.args.wide c.args.bound (lists_in lists) list.items choice far wide
-    (all-among (λ (l : Vec Pick Global). AreMeasured at l.items) lists list sorted among) misses
+    (all-contained (λ (l : Vec Pick Global). AreMeasured at l.items) lists list sorted among) misses
     (contains-map (λ (l : Vec Pick Global). l.items) lists list among) one

@@ -8,10 +8,11 @@ use Rattle.collective_query.specs.Fronts.{Completes, IsNext, HasLeastKeys}
 use Rattle.collective_query.specs.Picks.{AreMeasured}
 use Rattle.collective_query.proofs.Costs.{far-pushed, wide-pushed}
 use Rattle.collective_query.proofs.Fronts.{completes-met}
-use Rattle.collective_query.proofs.Members.{all-among, contains-later}
+use Rattle.collective_query.proofs.Members.{contains-later}
 use Rattle.best_first.proofs.Histories.{contains_head as contains-here}
 use Rattle.collective_query.proofs.Nexts.{has-least}
 use Rattle.collective_query.proofs.keys.+least_keys.Goals as goal
+use Rattle.boolean_queries.proofs.Histories.{all-contained}
 
 abbrev Each : Position → List (Vec Pick Global) → Type 0
 Each at lists = AllByRecursion (λ (list : Vec Pick Global). AreMeasured at list.items) lists
@@ -30,7 +31,7 @@ returns-in-None-clause-none t c = λ _ at far wide sorted firsts own done.
     let among : Contains (lists_in lists) list = subst (Contains (lists_in lists)) (sym c.deref.ensures.value) (mine c.in-Some.list.now.items (contains-here c.in-Some.list.now.items (lists_in c.in-Some.others.now))) in
     let met = completes-met at (lists_in lists) c.args.most front list among done in
     let none = subst (IsNext at (lists_in lists) c.args.most front list) c.in-None.is (c.in_ok-pick.ensures.next at far wide sorted measured) in
-    all-among (λ pick. Completes at (lists_in lists) c.args.most (front ++ pick ∷ []) → ⊥) list met.0 none met.1 met.2
+    all-contained (λ pick. Completes at (lists_in lists) c.args.most (front ++ pick ∷ []) → ⊥) list met.0 none met.1 met.2
 
 pub returns-clause-found : goal.returns-clause-found
 returns-clause-found t c = λ found at far wide sorted firsts done.
@@ -42,7 +43,7 @@ returns-clause-found t c = λ found at far wide sorted firsts done.
     let split = subst (Each at) c.in-Some.ensures.cases.0 firsts in
     let measured : AreMeasured at list = subst (AreMeasured at) (sym c.deref.ensures.value) split.0 in
     let next : IsNext at (lists_in lists) c.args.most front list (Some pick) = subst (IsNext at (lists_in lists) c.args.most front list) c.in-Some-2.is (c.in_ok-pick.ensures.next at far wide sorted measured) in
-    let dist = all-among (λ (p : Pick). p.dist ≡ distance at p.point) list pick measured next.0 in
+    let dist = all-contained (λ (p : Pick). p.dist ≡ distance at p.point) list pick measured next.0 in
     let longer = c.in_ok-push.ensures.items ∙ ap (λ l. l ++ pick ∷ []) c.in_ok-pick.ensures.same in
     let further = far-pushed at c.push.new.self.items front pick c.args.far c.max-further.result longer far dist c.max-further.ensures in
     let wider = wide-pushed c.push.new.self.items c.deref-2.result.now front pick c.args.wide c.farthest_of.result c.max-wider.result longer (c.deref-2.ensures.value ∙ c.in_ok-pick.ensures.same) wide c.farthest_of.ensures.value c.max-wider.ensures in
@@ -61,7 +62,7 @@ returns-clause-none t c = λ found at far wide sorted firsts own done.
     let mine = subst (Own lists) c.in-Some.ensures.cases.0 own in
     let measured : AreMeasured at list = subst (AreMeasured at) (sym c.deref.ensures.value) split.0 in
     let next : IsNext at (lists_in lists) c.args.most front list (Some pick) = subst (IsNext at (lists_in lists) c.args.most front list) c.in-Some-2.is (c.in_ok-pick.ensures.next at far wide sorted measured) in
-    let dist = all-among (λ (p : Pick). p.dist ≡ distance at p.point) list pick measured next.0 in
+    let dist = all-contained (λ (p : Pick). p.dist ≡ distance at p.point) list pick measured next.0 in
     let longer = c.in_ok-push.ensures.items ∙ ap (λ l. l ++ pick ∷ []) c.in_ok-pick.ensures.same in
     let further = far-pushed at c.push.new.self.items front pick c.args.far c.max-further.result longer far dist c.max-further.ensures in
     let wider = wide-pushed c.push.new.self.items c.deref-2.result.now front pick c.args.wide c.farthest_of.result c.max-wider.result longer (c.deref-2.ensures.value ∙ c.in_ok-pick.ensures.same) wide c.farthest_of.ensures.value c.max-wider.ensures in

@@ -7,8 +7,8 @@ use Rattle.place_map.specs.declared.query.Pick.{Pick}
 use Rattle.place_map.specs.Group.{farthest, diameter}
 use Rattle.place_map.specs.Search.{lists_in}
 use Rattle.collective_query.specs.Fronts.{IsNext}
-use Rattle.collective_query.proofs.Members.{all-among}
 use Rattle.collective_query.proofs.keys.least_next.Goals as goal
+use Rattle.boolean_queries.proofs.Histories.{all-contained}
 
 pub loop-pick-preserved : goal.loop-pick-preserved
 loop-pick-preserved c =
@@ -27,6 +27,6 @@ loop-pick-preserved c =
           subst (λ (l : List Pick). IsNext at (lists_in lists) c.args.most front l c.in_ok-next.next) (sym taken)
           (subst (λ (f : List Pick). IsNext at (lists_in lists) c.args.most f (take i list ++ pick ∷ []) c.in_ok-next.next) h.same
           (c.in_ok-next.ensures.next at (far ∙ ap (farthest at) (sym h.same)) (wide ∙ ap diameter (sym h.same)) sorted
-          (all-among (λ (p : Pick). p.dist ≡ distance at p.point) list pick measured among) (take i list)
+          (all-contained (λ (p : Pick). p.dist ≡ distance at p.point) list pick measured among) (take i list)
           (subst (λ (f : List Pick). IsNext at (lists_in lists) c.args.most f (take i list) c.loop-pick.next) (sym h.same) (h.next at far wide sorted measured))));
     }

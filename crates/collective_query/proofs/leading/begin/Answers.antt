@@ -8,8 +8,8 @@ use Rattle.tree_ranking.specs.Fits.{nodes_at}
 use Rattle.collective_query.specs.Leads.{led_by, AreLeads, IsWanted, Betters}
 use Rattle.collective_query.specs.Opened.{FindsPicks}
 use Rattle.collective_query.specs.TreePicks.{tree_lists}
-use Rattle.collective_query.proofs.Members.{all-among}
 use Rattle.collective_query.proofs.leading.begin.Goals as goal
+use Rattle.boolean_queries.proofs.Histories.{all-contained}
 
 pub returns-in-Some-clause-chosen : goal.returns-in-Some-clause-chosen
 returns-in-Some-clause-chosen g c = λ fits same leads was before known has takes start.
@@ -24,7 +24,7 @@ returns-in-Some-clause-chosen g c = λ fits same leads was before known has take
     let old : PageMap = P.pages c.args.pages.now in
     let all : List (List Pick) = tree_lists ids at (nodes_at old tree) tree.root words in
     let member : Contains c.args.leads.now lead = search rules in
-    let one : AreLeads all own (lead ∷ []) = record { inside = leads.inside; among = (all-among (Contains (get_or all own [])) c.args.leads.now lead leads.among member, tt) } in
+    let one : AreLeads all own (lead ∷ []) = record { inside = leads.inside; among = (all-contained (Contains (get_or all own [])) c.args.leads.now lead leads.among member, tt) } in
     on_ok_weaker c.try_beside.result
     (λ (h : Betters at all (IsWanted at lead None) (led_by own lead all) c.args.best.now new × FindsPicks old tree ids at words before (P.asked c.try_beside.new.pages) (known ++ new.picks)). (h.0.chosen, h.1))
     (c.try_beside.ensures.tried fits same one was before known has (takes lead member) start)

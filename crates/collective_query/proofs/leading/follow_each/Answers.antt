@@ -12,10 +12,10 @@ use Rattle.collective_query.specs.TreePicks.{tree_lists, first_lists}
 use Rattle.collective_query.specs.Tried.{IsChosen}
 use Rattle.collective_query.proofs.Behind.{behind-follows, still-among}
 use Rattle.collective_query.proofs.Leads.{none-follows, follows-then}
-use Rattle.collective_query.proofs.Members.{all-among}
 use Rattle.best_first.proofs.Histories.{contains_head as contains-here}
 use Rattle.collective_query.proofs.Searches.{searches-give, searches-refused, searches-then}
 use Rattle.collective_query.proofs.leading.follow_each.Goals as goal
+use Rattle.boolean_queries.proofs.Histories.{all-contained}
 
 pub loop-lead-init : goal.loop-lead-init
 loop-lead-init g c = record {
@@ -76,7 +76,7 @@ loop-lead-preserved g c =
       followed = λ fits same are was before known has each start.
           let still : FitsTree (P.pages c.loop-lead.pages) (P.count c.loop-lead.pages) (P.first c.loop-lead.pages) tree = rw (f.pages, f.count, f.first) fits in
           let so_far = h.followed fits same are was before known has each start in
-          let one : AreLeads (all old) own (lead ∷ []) = record { inside = are.inside; among = (all-among (Contains (get_or (all old) own [])) leads lead are.among member, tt) } in
+          let one : AreLeads (all old) own (lead ∷ []) = record { inside = are.inside; among = (all-contained (Contains (get_or (all old) own [])) leads lead are.among member, tt) } in
           let step : Follows from (all old) own (lead ∷ []) best new × FindsPicks old tree ids from words before after (known ++ new.picks) =
           subst (λ (p : PageMap). Follows from (all p) own (lead ∷ []) best new × FindsPicks p tree ids from words before after (known ++ new.picks)) f.pages
           (c.in-Ok.ensures.followed still

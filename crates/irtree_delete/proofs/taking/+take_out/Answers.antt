@@ -13,6 +13,7 @@ use Rattle.rtree_shape.specs.Slots.{Slots, Item, Held, filled}
 use Rattle.rtree_shape.specs.Stock.{View, view, plain}
 use Rattle.rtree_shape.specs.Loose.{Loose, with_opt, IsAt}
 use Rattle.rtree_shape.proofs.Climbs.{view-same}
+use Rattle.rtree_shape.proofs.Outs.{some-filled}
 use Rattle.rtree_nodes.specs.Pages.{node_of, is_form, slots_in, level_in}
 use Rattle.rtree_nodes.specs.Reach.{item_of, is_place}
 use Rattle.rtree_nodes.specs.declared.content.Slot.{Slot}
@@ -33,7 +34,7 @@ use Rattle.irtree_shape.proofs.Harms.{tree-later}
 use Rattle.irtree_shape.proofs.Outs.{take_child, child_apart, own-page, own-unspared}
 use Rattle.irtree_delete.specs.Clears.{KeepsWords, cleared}
 use Rattle.irtree_delete.specs.Orphans.{loose_in, IsMisplaced, IsOffPath}
-use Rattle.irtree_delete.proofs.Forms.{in-place, on-path, place-level, child-level, left-filled, at-some, ok-from}
+use Rattle.irtree_delete.proofs.Forms.{in-place, on-path, place-level, child-level, left-filled, ok-from}
 use Rattle.irtree_insert.proofs.Loads.{form-level}
 use Rattle.rtree_nodes.proofs.Laws.{form-bytes as form-told}
 use Rattle.irtree_delete.proofs.Takes.{leads-at, joined-some, taking-some, taking-form, taking-level, taking-least, taking-counted, child-at, left-at, look-changes}
@@ -776,7 +777,7 @@ returns-clause-gone g t c = λ one.
     let form : is_form c.looked.result.now ≡ true = c.in-Ok-check_node.ensures.form in
     let here : slots_in c.looked.result.now c.from-at.result ≡ Some (item_of c.in-Ok-slot_on_path.old) = c.in-Ok-slot_on_path.ensures.item form in
     let up : 0 < c.args.level = let a = child-level (level_in c.looked.result.now) c.in-Ok-slot_on_path.old c.in-Ok-slot_on_path.ensures.fits (ap is_place c.in-Child.is) in let b = c.in-Ok-check_node.ensures.level in omega arith in
-    let some = at-some (slots_in c.looked.result.now) c.from-at.result (item_of c.in-Ok-slot_on_path.old) (c.in-Ok-slot_on_path.ensures.within, here) in
+    let some = some-filled (slots_in c.looked.result.now) c.from-at.result (item_of c.in-Ok-slot_on_path.old) (c.in-Ok-slot_on_path.ensures.within, here) in
     let two : 1 < filled (slots_in c.looked.result.now) = omega (arith, c.in-Ok-check_node.ensures.several up) in
     let left : 1 ≤ filled (slots_in c.set_slot-is_changed.new.bytes) = left-filled 1 c.from-at.result (item_of c.in-Ok-slot_on_path.old) (option_map item_of c.in-Ok-take_out.left) (slots_in c.looked.result.now) (slots_in c.set_slot-is_changed.new.bytes)
     (c.in-Ok-slot_on_path.ensures.within, here) (c.set_slot-is_changed.ensures.slots form (here ∙ ap (λ (s : Slot). Some (item_of s)) c.in-Child.is)) two in

@@ -364,3 +364,9 @@ returns-then-is_new-3-clause-stays g c = λ other. c.in_ok-put_entry.ensures.fai
 
 pub returns-else-is_new-3-clause-stays : goal.returns-else-is_new-3-clause-stays
 returns-else-is_new-3-clause-stays g c = λ other. c.in_ok-put_entry.ensures.fails.hides_none ∙ c.in_ok-new.ensures.fails.hides_none ∙ c.in_ok-old.ensures.fails.hides_none
+
+pub returns-then-is_new-3-clause-stored : goal.returns-then-is_new-3-clause-stored
+returns-then-is_new-3-clause-stored g c = λ is. absurd (cc)
+
+pub returns-else-is_new-3-clause-stored : goal.returns-else-is_new-3-clause-stored
+returns-else-is_new-3-clause-stored g c = λ is. absurd (cc)

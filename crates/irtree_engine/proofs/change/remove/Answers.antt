@@ -258,3 +258,6 @@ returns-in_err-take_entry-clause-stays g c = λ other.
 
 pub returns-clause-stays : goal.returns-clause-stays
 returns-clause-stays g c = λ other. c.in_ok-take_entry.ensures.fails.hides_none ∙ c.in_ok-remove_place.ensures.fails.hides_none ∙ c.in_ok-old.ensures.fails.hides_none
+
+pub returns-clause-absent : goal.returns-clause-absent
+returns-clause-absent g c = λ is. absurd (cc)

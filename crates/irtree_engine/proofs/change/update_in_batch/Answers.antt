@@ -1,4 +1,5 @@
 use Rattle.std.proofs.Common.{◌≡◌, ℕ, ◌+◌, ◌≤◌, List, [], ◌∷◌, Option, option_map, Ok, IfErr, IfOk, refl, sym, ap, subst, arith}
+use Rattle.std.proofs.lemmas.Result.{IfOk-weaker}
 use Rattle.spatial_base.specs.Key.{Name}
 use Rattle.place_map.specs.declared.update.Update.{Update}
 use Rattle.place_map.specs.declared.update.Update.TheVariants.{Put}
@@ -82,3 +83,6 @@ pub returns-in-Remove-clause-numbers : goal.returns-in-Remove-clause-numbers
 returns-in-Remove-clause-numbers g c = λ left are.
     let numbers : Option (List (List ℕ × ℕ)) = option_map (λ numbers. numbers.entries) c.args.held.now in
     c.remove.ensures.numbers left (subst (λ (u : Update). AreNumbersAhead numbers (u ∷ left) c.args.head.now) c.in-Remove.is are)
+
+pub returns-in-Put-clause-absent : goal.returns-in-Put-clause-absent
+returns-in-Put-clause-absent g c = IfOk-weaker c.put.result _ _ (λ applied stored is. absurd (stored is)) c.put.ensures.stored

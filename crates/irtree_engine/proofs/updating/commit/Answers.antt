@@ -1,6 +1,8 @@
-use Rattle.std.proofs.Common.{◌≡◌, inl, inr, sym, ap, subst, ◌∙◌}
+use Rattle.std.proofs.Common.{◌≡◌, inl, inr, sym, ap, subst, ◌∙◌, arith}
 use Rattle.disk_model.specs.World.{LeavesOnly}
 use Rattle.page_journal.specs.Record.{applied}
+use Rattle.page_face.specs.declared.head.Head.{Head}
+use Rattle.page_store.specs.Store.{Rests, rests_still}
 use Rattle.page_store.specs.declared.superblock.Superblock.{Superblock}
 use Rattle.page_store.specs.Contents.{Contents, HoldsOneOf, contents_in, contents_of}
 use Rattle.irtree_engine.specs.Changes.{block_with}
@@ -52,3 +54,16 @@ returns-in-Ok-clause-new_head g c = inl (ap (λ (b : Superblock). b.head) (c.com
 
 pub returns-in-Err-clause-new_head : goal.returns-in-Err-clause-new_head
 returns-in-Err-clause-new_head g c = inr (ap (λ (b : Superblock). b.head) (c.abandon-in-Err.ensures.current ∙ c.in-Err.ensures.kept ∙ c.set_head.ensures.last))
+
+-- ---- nothing to commit
+
+pub returns-then-head-clause-idle : goal.returns-then-head-clause-idle
+returns-then-head-clause-idle g c = λ t same.
+    let old = g.D.Disk.world c.args.store.now.disk.now in
+    subst (λ disk. Rests old (g.D.Disk.world disk)) (λ i. (sym c.abandon.ensures.disk i).now) (rests_still old)
+
+pub returns-in-Ok-clause-idle : goal.returns-in-Ok-clause-idle
+returns-in-Ok-clause-idle g c = λ t same. absurd (omega (arith, same, c.if-head.false, ap (λ (h : Head). h.number) c.head.ensures))
+
+pub returns-in-Err-clause-idle : goal.returns-in-Err-clause-idle
+returns-in-Err-clause-idle g c = λ t same. absurd (omega (arith, same, c.if-head.false, ap (λ (h : Head). h.number) c.head.ensures))

@@ -1,8 +1,9 @@
-use Rattle.std.proofs.Common.{◌≡◌, ℕ, [], List, OnOk, refl, sym, subst, ◌∙◌}
+use Rattle.std.proofs.Common.{◌≡◌, ℕ, max, [], List, OnOk, refl, sym, subst, ◌∙◌, arith}
 use Rattle.std.specs.Prelude.{Option, Result, Err, IfErr, option_map, string_bytes}
 use Rattle.disk_model.specs.World.{LeavesOnly}
+use Rattle.disk_model.proofs.Replays.{on_ok_from}
 use Rattle.load_run.specs.Loading.{EndsLoad}
-use Rattle.run_protocol.specs.Causes.{IsEngineEnd}
+use Rattle.run_protocol.specs.Causes.{IsEngineEnd, LacksRoomIn}
 use Rattle.run_protocol.specs.Left.{LeftByLoad}
 use Rattle.run_protocol.specs.declared.ended.Ended.{Ended}
 use Rattle.run_protocol.specs.Load.{GivesItems, IsTaken, ReachesLimit}
@@ -11,7 +12,6 @@ use Rattle.command_words.specs.declared.job.Action.{Action}
 use Rattle.command_words.specs.declared.job.Action.TheVariants as actions
 use Rattle.irtree_top.specs.Run.{IsInputEnd, IsLimitOf, IsWholeInput, LacksRoomFor, LeavesInput, ReachesLimitBy}
 use Rattle.load_run.proofs.Causes.{job-of-engine}
-use Rattle.load_run.proofs.Outcomes.{on_ok-held}
 use Rattle.irtree_top.proofs.Asking.{script-opens}
 use Rattle.irtree_top.proofs.Crashes.{load-left, make-left, script-left}
 use Rattle.irtree_top.proofs.Jobs.{engine-unread, load-ends, make-ends, script-ends}
@@ -109,7 +109,7 @@ returns-in-Make-clause-input g c = λ tells fault is.
 pub returns-in-Make-clause-whole : goal.returns-in-Make-clause-whole
 returns-in-Make-clause-whole g c = λ tells.
     let input = g.S.Source.left c.args.source.now in
-    on_ok-held c.run_make.result (subst (λ (a : Action). LeavesInput a input input × IsWholeInput a (option_map string_bytes c.args.job.now.text) input) (sym c.in-Make.is) (refl, tt))
+    on_ok_from c.run_make.result (subst (λ (a : Action). LeavesInput a input input × IsWholeInput a (option_map string_bytes c.args.job.now.text) input) (sym c.in-Make.is) (refl, tt))
 
 pub returns-in-Make-clause-limits : goal.returns-in-Make-clause-limits
 returns-in-Make-clause-limits g c = λ fault is. subst (λ (a : Action). IsLimitOf a fault) (sym c.in-Make.is) tt
@@ -138,14 +138,18 @@ returns-in-Make-clause-met g c = λ runs tells told reads. let makes : actions.M
 pub returns-in-Run-clause-lacks : goal.returns-in-Run-clause-lacks
 returns-in-Run-clause-lacks g c = λ told is.
     let disk = c.run_script.new.engine.store.disk.now in
-    subst (λ (a : Action). LacksRoomFor a (g.T.Disk.room_of disk) (g.T.Disk.world disk).seen) (sym c.in-Run.is) (c.run_script.ensures.lacks told is)
+    subst (λ (a : Action). LacksRoomFor a c.args.job.now.batch (g.T.Disk.room_of disk) (g.T.Disk.world disk).seen) (sym c.in-Run.is) (c.run_script.ensures.lacks told is)
 
 pub returns-in-Load-clause-lacks : goal.returns-in-Load-clause-lacks
 returns-in-Load-clause-lacks g c = λ told is.
     let disk = c.run_load.new.engine.store.disk.now in
-    subst (λ (a : Action). LacksRoomFor a (g.T.Disk.room_of disk) (g.T.Disk.world disk).seen) (sym c.in-Load.is) (c.run_load.ensures.lacks told is)
+    let some : max c.args.job.now.batch 1 ≡ c.args.job.now.batch = omega (arith, c.requires.some) in
+    subst (λ (a : Action). LacksRoomFor a c.args.job.now.batch (g.T.Disk.room_of disk) (g.T.Disk.world disk).seen) (sym c.in-Load.is)
+    (subst (λ (n : ℕ). LacksRoomIn n (g.T.Disk.room_of disk) (g.T.Disk.world disk).seen) some (c.run_load.ensures.lacks told is))
 
 pub returns-in-Make-clause-lacks : goal.returns-in-Make-clause-lacks
 returns-in-Make-clause-lacks g c = λ told is.
     let disk = c.run_make.new.engine.store.disk.now in
-    subst (λ (a : Action). LacksRoomFor a (g.T.Disk.room_of disk) (g.T.Disk.world disk).seen) (sym c.in-Make.is) (c.run_make.ensures.lacks told is)
+    let some : max c.args.job.now.batch 1 ≡ c.args.job.now.batch = omega (arith, c.requires.some) in
+    subst (λ (a : Action). LacksRoomFor a c.args.job.now.batch (g.T.Disk.room_of disk) (g.T.Disk.world disk).seen) (sym c.in-Make.is)
+    (subst (λ (n : ℕ). LacksRoomIn n (g.T.Disk.room_of disk) (g.T.Disk.world disk).seen) some (c.run_make.ensures.lacks told is))

@@ -161,7 +161,7 @@ returns-in-Err-clause-lacks g c = λ told is. absurd (ends-otherwise g (goal.at.
 
 pub returns-clause-lacks : goal.returns-clause-lacks
 returns-clause-lacks g c = λ told is.
-    given-back (λ disk. LacksRoomFor c.args.job.now.action (g.T.Disk.room_of disk) (g.T.Disk.world disk).seen) c.serve-end.new.engine.store.disk.now _ (search rules) (c.serve-end.ensures.lacks told is)
+    given-back (λ disk. LacksRoomFor c.args.job.now.action c.args.job.now.batch (g.T.Disk.room_of disk) (g.T.Disk.world disk).seen) c.serve-end.new.engine.store.disk.now _ (search rules) (c.serve-end.ensures.lacks told is)
 
 -- ---- what is left
 

@@ -85,7 +85,7 @@ pub returns-in-Ok-clause-lacks : goal.returns-in-Ok-clause-lacks
 returns-in-Ok-clause-lacks g c = λ told is.
     let mid = c.act-end.new.engine.store.disk.now in
     let new = c.settle.new.engine.store.disk.now in
-    lacks-settled c.args.job.now.action (g.T.Disk.room_of mid) (g.T.Disk.room_of new) (g.T.Disk.world mid).seen (g.T.Disk.world new).seen c.settle.ensures.room (c.in-Ok.ensures.alike told) (c.act-end.ensures.lacks told is)
+    lacks-settled c.args.job.now.action c.args.job.now.batch (g.T.Disk.room_of mid) (g.T.Disk.room_of new) (g.T.Disk.world mid).seen (g.T.Disk.world new).seen c.settle.ensures.room (c.in-Ok.ensures.alike told) (c.act-end.ensures.lacks told is)
 
 pub returns-in-Err-clause-lacks : goal.returns-in-Err-clause-lacks
 returns-in-Err-clause-lacks g c = λ told is. absurd (cc)

@@ -143,7 +143,7 @@ returns-in-Ok-clause-lacks g c = λ asked wants told is.
     let same : asked_of c.in-Ok.job ≡ asked = cc (c.in-Ok.ensures.reading) in
     let named : IsErrOf c.run_job.result (ends.Limit limits.NoRoom) = cc in
     let station = c.run_job.new.station in
-    subst (λ (a : Asked). LacksRoomFor a.action (g.T.Disk.room_of station) (g.T.Disk.world station).seen) same (c.run_job.ensures.lacks told named)
+    subst (λ (a : Asked). LacksRoomFor a.action a.batch (g.T.Disk.room_of station) (g.T.Disk.world station).seen) same (c.run_job.ensures.lacks told named)
 
 pub returns-in-Ok-run_job-clause-unopened : goal.returns-in-Ok-run_job-clause-unopened
 returns-in-Ok-run_job-clause-unopened g c = c.run_job.ensures.unopened

@@ -65,7 +65,7 @@ returns-in-Err-clause-lacks g c = λ told is.
     let new = c.apply_batch.new.self in
     let apart : c.in-Err.fault ≡ engine.Disk → ⊥ = λ e. let both : engine.NoRoom ≡ engine.Disk = sym no ∙ e in absurd (cc) in
     let on = sym new.stops ∙ was.goes_on (λ e. apart (cc)) ∙ c.requires.on in
-    lacks-image (length c.args.updates.now) 10000 _ _ c.args.engine.now.store.current g.T.Disk.tells (g.T.Disk.world new.store.disk.now) new.store.current new.store.last new.store.overlay new.store.end told c.requires.few was.room (was.as_before (ap Err no))
+    lacks-image (length c.args.updates.now) (length c.args.updates.now) _ _ c.args.engine.now.store.current g.T.Disk.tells (g.T.Disk.world new.store.disk.now) new.store.current new.store.last new.store.overlay new.store.end told (omega arith) was.room (was.as_before (ap Err no))
     new.clean new.settled (new.store.ready told on) (was.room_left (ap Err no)) (was.free_left (ap Err no))
 
 pub returns-in-Err-clause-goes_on : goal.returns-in-Err-clause-goes_on

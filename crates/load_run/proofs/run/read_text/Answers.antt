@@ -1,6 +1,7 @@
 use Rattle.std.proofs.Common.{◌++◌, length, take, drop, refl, sym, ap, ◌∙◌, arith}
-use Rattle.load_run.proofs.Outcomes.{read-whole, read-more, read-long, take-over}
+use Rattle.load_run.proofs.Outcomes.{read-whole, read-more, read-long}
 use Rattle.load_run.proofs.run.read_text.Goals as goal
+use Rattle.run_protocol.proofs.Lists.{take-over}
 
 pub returns-then-n-eq0-clause-told : goal.returns-then-n-eq0-clause-told
 returns-then-n-eq0-clause-told g c = λ tells.

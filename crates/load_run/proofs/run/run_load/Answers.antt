@@ -1,6 +1,7 @@
 use Rattle.std.proofs.Common.{◌+◌, ◌∙◌, map, subst, arith}
 use Rattle.std.specs.Prelude.{Result, IfErr, option_copied}
 use Rattle.disk_model.proofs.Moments.{started}
+use Rattle.disk_model.proofs.Replays.{on_ok_from}
 use Rattle.geojson_points.specs.Takes.{item_of}
 use Rattle.run_protocol.specs.Causes.{IsEngineEnd}
 use Rattle.run_protocol.specs.Load.{places_among}
@@ -8,7 +9,7 @@ use Rattle.run_protocol.specs.declared.ended.Ended.{Ended}
 use Rattle.load_run.specs.Loading.{IsLimitAt}
 use Rattle.load_run.proofs.Causes.{job-of-engine}
 use Rattle.load_run.proofs.Numbers.{limit-reaches}
-use Rattle.load_run.proofs.Outcomes.{load_max-is, on_ok-held, read-items, refused-ends, refused-input, refused-limit, taken-ends, taken-left, unread-ends, unread-input, unread-limit}
+use Rattle.load_run.proofs.Outcomes.{load_max-is, read-items, refused-ends, refused-input, refused-limit, taken-ends, taken-left, unread-ends, unread-input, unread-limit}
 use Rattle.run_protocol.proofs.Going.{on-behind}
 use Rattle.load_run.proofs.run.run_load.Goals as goal
 
@@ -62,7 +63,7 @@ pub returns-in-Ok-take-clause-whole : goal.returns-in-Ok-take-clause-whole
 returns-in-Ok-take-clause-whole g c = λ tells.
     let read = c.in-Ok.ensures.told tells in
     let taken = read-items (option_copied c.args.only) (g.S.Source.left c.args.source.now) c.deref.result.now (map item_of c.in-Ok-take.items.items) (c.deref.ensures.value ∙ read.0) (omega (arith, load_max-is, c.deref.ensures.len, c.in-Ok.ensures.short)) c.in-Ok-take.ensures.outcome in
-    on_ok-held c.store_items.result (read.1, (map item_of c.in-Ok-take.items.items, taken))
+    on_ok_from c.store_items.result (read.1, (map item_of c.in-Ok-take.items.items, taken))
 
 pub returns-in-Ok-take-clause-limit : goal.returns-in-Ok-take-clause-limit
 returns-in-Ok-take-clause-limit g c = λ tells fault is.

@@ -1,10 +1,11 @@
 use Rattle.std.specs.Prelude.{Err}
-use Rattle.std.proofs.Common.{◌≡◌, ◌+◌, List, length, map, refl, sym, subst, ap, ◌∙◌, arith}
+use Rattle.std.proofs.Common.{◌≡◌, ℕ, ◌+◌, max, List, length, map, refl, sym, subst, ap, ◌∙◌, arith}
 use Rattle.std.specs.List.{All}
 use Rattle.std.specs.Vec.Iter.{into_iter_items}
 use Rattle.std.proofs.lemmas.List.Elements.{All-tail}
 use Rattle.geojson_points.specs.Takes.{HasTextKey, item_of}
 use Rattle.geojson_points.specs.declared.taken.Taken.{Taken}
+use Rattle.run_protocol.specs.Causes.{LacksRoomIn}
 use Rattle.run_protocol.specs.Load.{places_among, says_loaded}
 use Rattle.load_run.specs.Loading.{stage_at_start}
 use Rattle.load_run.proofs.Causes.{engine-none, engine-then}
@@ -27,6 +28,7 @@ loop-item-init g c =
       few = omega (arith, gives.1, c.requires.count, c.new-load.ensures.none);
       on = c.requires.on;
       loan = refl;
+      batch = c.new-load.ensures.batch;
       waits = c.new-load.ensures.waits;
       keys = subst (λ (xs : List Taken). All (λ item. HasTextKey (item_of item)) xs) (sym gives.0) c.requires.keys;
       told = λ told state holds.
@@ -46,6 +48,7 @@ loop-item-preserved g c =
       few = omega (arith, c.loop-item.invariant.few, c.in-Some.ensures.steps.1, c.in-Ok.ensures.count);
       on = c.in-Ok.ensures.goes_on;
       loan = c.in-Ok.ensures.same_loan ∙ c.loop-item.invariant.loan;
+      batch = c.in-Ok.ensures.batch ∙ c.loop-item.invariant.batch;
       waits = c.in-Ok.ensures.waits;
       keys = All-tail (λ (item : Taken). HasTextKey (item_of item)) _ _ keys;
       told = λ told state holds.
@@ -83,3 +86,13 @@ returns-in-Err-clause-rises g c =
 
 pub returns-clause-rises : goal.returns-clause-rises
 returns-clause-rises g c = rises-last _ _ (into_iter_items c.loop-item.item-iterator) _ _ _ c.end.result c.loop-item.invariant.rises c.end.ensures.rises
+
+pub returns-in-Err-clause-lacks : goal.returns-in-Err-clause-lacks
+returns-in-Err-clause-lacks g c = λ told is.
+    let disk = c.take_item.new.engine.store.disk.now in
+    subst (λ (batch : ℕ). LacksRoomIn (max batch 1) (g.T.Disk.room_of disk) (g.T.Disk.world disk).seen) c.loop-item.invariant.batch (c.in-Err.ensures.lacks told is)
+
+pub returns-clause-lacks : goal.returns-clause-lacks
+returns-clause-lacks g c = λ told is.
+    let disk = c.end.new.engine.store.disk.now in
+    subst (λ (batch : ℕ). LacksRoomIn (max batch 1) (g.T.Disk.room_of disk) (g.T.Disk.world disk).seen) c.loop-item.invariant.batch (c.end.ensures.lacks told is)

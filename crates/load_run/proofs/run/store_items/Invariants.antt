@@ -18,6 +18,7 @@ invariant-loop-item g l = record {
   few : acted_on l.load + into_iter_len l.item-iterator < 2 ^ 32;
   on : l.engine.stopped ≡ false;
   loan : l.engine.store.disk.ghost_name ≡ l.fn.engine.store.disk.ghost_name;
+  batch : l.load.batch ≡ l.fn.batch;
   waits : CanWait l.load;
   keys : All (λ item. HasTextKey (item_of item)) (into_iter_items l.item-iterator);
   told : IsTrue g.T.Disk.tells → (state : Contents) → HoldsState (g.T.Disk.world l.fn.engine.store.disk.now) state

@@ -2,12 +2,13 @@ use Rattle.std.proofs.Common.{◌≡◌, sym, ap, ◌∙◌, arith}
 use Rattle.std.proofs.lemmas.Bool.{false≢true}
 use Rattle.std.specs.Prelude.{Err}
 use Rattle.page_store.specs.declared.superblock.Superblock.{Superblock}
-use Rattle.run_protocol.proofs.Reading.{RefusedRead, read-goes_on, refused-read-cause, rests-still}
+use Rattle.page_store.specs.Store.{rests_still}
+use Rattle.run_protocol.proofs.Reading.{RefusedRead, read-goes_on, refused-read-cause, refused-room}
 use Rattle.run_protocol.specs.declared.ended.Ended.TheVariants as ends
 use Rattle.run_protocol.specs.declared.ended.LimitFault.TheVariants as limits
 use Rattle.load_run.proofs.Causes.{engine-lacks}
 use Rattle.make_run.specs.declared.found.Found.{Found}
-use Rattle.make_run.proofs.Ends.{refused-asking, refused-limit, refused-room}
+use Rattle.make_run.proofs.Ends.{refused-asking, refused-limit}
 use Rattle.make_run.proofs.Hits.{counts-answer}
 use Rattle.make_run.proofs.asking.ask.Given as given
 use Rattle.make_run.proofs.asking.ask.Goals.{After-ended_by}
@@ -30,7 +31,7 @@ refused g c = record {
 -- ---- want of memory
 
 pub returns-in-Err-clause-rests : goal.returns-in-Err-clause-rests
-returns-in-Err-clause-rests g c = λ told. rests-still (g.T.Disk.world c.args.engine.now.store.disk.now)
+returns-in-Err-clause-rests g c = λ told. rests_still (g.T.Disk.world c.args.engine.now.store.disk.now)
 
 pub returns-in-Err-clause-cause : goal.returns-in-Err-clause-cause
 returns-in-Err-clause-cause g c = engine-lacks g.T.Disk.tells (g.T.Disk.world c.args.engine.now.store.disk.now) Found
@@ -64,7 +65,7 @@ returns-clause-cause g c =
 pub returns-clause-rises : goal.returns-clause-rises
 returns-clause-rises g c = record { live = tt; number = tt; limit = rw c.ended_by.ensures (refused-limit _ _ c.in-Err-answer.fault c.in-Err-answer.ensures.causes) }
 
-pub returns-clause-lacks : goal.returns-clause-lacks
-returns-clause-lacks g c = λ told is.
+pub returns-clause-room : goal.returns-clause-room
+returns-clause-room g c = λ is.
     let ended : c.ended_by.result ≡ ends.Limit limits.NoRoom = cc in
     absurd (refused-room c.in-Err-answer.fault c.in-Err-answer.ensures.causes (sym c.ended_by.ensures ∙ ended))

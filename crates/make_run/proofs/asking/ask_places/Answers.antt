@@ -2,13 +2,14 @@ use Rattle.std.proofs.Common.{◌≡◌, ℕ, refl, subst, ◌∙◌, arith}
 use Rattle.std.specs.Prelude.{Result, Ok, Err}
 use Rattle.run_protocol.specs.declared.ended.Ended.{Ended}
 use Rattle.run_protocol.proofs.Counts.{keeps-done}
-use Rattle.run_protocol.proofs.Reading.{holds-same, rests-still, rests-then}
+use Rattle.run_protocol.proofs.Reading.{holds-same}
 use Rattle.load_run.proofs.Causes.{engine-lacks, engine-none, engine-then}
 use Rattle.load_run.proofs.Numbers.{rises-then}
 use Rattle.make_run.specs.declared.found.Found.{Found}
 use Rattle.make_run.specs.Asking.{Counts, found_in}
 use Rattle.make_run.proofs.Hits.{counts-more, counts-none}
 use Rattle.make_run.proofs.asking.ask_places.Goals as goal
+use Rattle.page_store.specs.Store.{rests_still, rests_then}
 
 -- a call that ended well
 abbrev done : Result (Unit {0}) Ended
@@ -24,7 +25,7 @@ loop-number-init g c =
       on = c.requires.on;
       loan = refl;
       told = λ told state holds. counts-none state c.args.seed _ refl refl;
-      rests = λ told. rests-still old;
+      rests = λ told. rests_still old;
       rises = record { live = omega arith; number = omega arith; limit = tt };
       cause = engine-none g.T.Disk.tells old (Unit {0}) tt;
     }
@@ -46,7 +47,7 @@ loop-number-preserved g c =
       told = λ told state holds.
           counts-more state seed n _ c.loop-number.found c.in-Ok-ask.here _ (c.in-Ok.ensures.place seed n i.at) (i.told told state holds)
           (c.in-Ok-ask.ensures.told told state (holds-same first now state (i.rests told).seen holds)) refl refl;
-      rests = λ told. rests-then (i.rests told) (c.in-Ok-ask.ensures.rests told);
+      rests = λ told. rests_then (i.rests told) (c.in-Ok-ask.ensures.rests told);
       rises = rises-then 0 0 0 c.args.engine.now.store.current.head tt 0 0 c.loop-number.engine.store.current.head c.ask.new.engine.store.current.head done i.rises
           (record { live = c.in-Ok-ask.ensures.rises.live; number = c.in-Ok-ask.ensures.rises.number; limit = tt });
       cause = engine-then i.cause done (record { faults = asked.faults; sink = asked.sink; keeps = keeps-done now _ c.in-Ok-ask.here done asked.keeps; stands = asked.stands; cause = tt });
@@ -63,7 +64,7 @@ returns-in-Err-clause-rises g c = record { live = tt; number = tt; limit = tt }
 -- ---- a query that is refused
 
 pub returns-in-Err-ask-clause-rests : goal.returns-in-Err-ask-clause-rests
-returns-in-Err-ask-clause-rests g c = λ told. rests-then (c.loop-number.invariant.rests told) (c.in-Err-ask.ensures.rests told)
+returns-in-Err-ask-clause-rests g c = λ told. rests_then (c.loop-number.invariant.rests told) (c.in-Err-ask.ensures.rests told)
 
 pub returns-in-Err-ask-clause-ends : goal.returns-in-Err-ask-clause-ends
 returns-in-Err-ask-clause-ends g c = λ told state holds.

@@ -1,5 +1,6 @@
-use Rattle.std.proofs.Common.{◌+◌, subst, arith}
+use Rattle.std.proofs.Common.{ℕ, ◌+◌, max, subst, arith}
 use Rattle.std.specs.Prelude.{Err}
+use Rattle.run_protocol.specs.Causes.{LacksRoomIn}
 use Rattle.load_run.specs.Loading.{Concludes, Stage}
 use Rattle.load_run.proofs.Causes.{engine-then}
 use Rattle.load_run.proofs.Numbers.{rises-then, rises-within}
@@ -28,3 +29,11 @@ pub returns-clause-told : goal.returns-clause-told
 returns-clause-told g c = λ told state holds.
     let closing = says_made c.args.seed c.args.count in
     subst (λ (at : Stage). Concludes {T = Unit {0}} at (g.T.Disk.world c.args.engine.now.store.disk.now) (g.T.Disk.world c.store_places.new.engine.store.disk.now) (Err c.in-Err.end)) (c.new-load.ensures.stage closing state (items_from c.args.seed 0 c.args.count)) (c.in-Err.ensures.told told closing state holds)
+
+pub returns-in-Ok-clause-lacks : goal.returns-in-Ok-clause-lacks
+returns-in-Ok-clause-lacks g c = λ told is. absurd (c.conclude.ensures.room is)
+
+pub returns-clause-lacks : goal.returns-clause-lacks
+returns-clause-lacks g c = λ told is.
+    let disk = c.store_places.new.engine.store.disk.now in
+    subst (λ (batch : ℕ). LacksRoomIn (max batch 1) (g.T.Disk.room_of disk) (g.T.Disk.world disk).seen) c.new-load.ensures.batch (c.in-Err.ensures.lacks told is)

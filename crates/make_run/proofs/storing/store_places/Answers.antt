@@ -1,6 +1,7 @@
-use Rattle.std.proofs.Common.{◌≡◌, ◌+◌, ◌-◌, ℕ, List, length, refl, sym, ap, subst, ◌∙◌, arith}
+use Rattle.std.proofs.Common.{◌≡◌, ◌+◌, ◌-◌, ℕ, max, List, length, refl, sym, ap, subst, ◌∙◌, arith}
 use Rattle.std.specs.Prelude.{Err}
 use Rattle.geojson_points.specs.Takes.{HasTextKey, Item, Placed, place_of}
+use Rattle.run_protocol.specs.Causes.{LacksRoomIn}
 use Rattle.load_run.specs.Loading.{stage_before}
 use Rattle.load_run.proofs.Causes.{engine-lacks, engine-none, engine-then}
 use Rattle.load_run.proofs.Numbers.{rises-then, rises-within}
@@ -18,6 +19,7 @@ loop-number-init g c =
       acted = c.requires.fresh;
       on = c.requires.on;
       loan = refl;
+      batch = refl;
       waits = c.requires.waits;
       told = λ told closing state holds.
           (state, goes-as _ _ old (ap (λ n. stage_before closing c.args.load.now state (items_from c.args.seed 0 n)) (sym all)) holds);
@@ -40,6 +42,7 @@ loop-number-preserved g c =
       acted = c.in-Ok-place.ensures.count ∙ ap (λ k. k + 1) i.acted;
       on = c.in-Ok-place.ensures.goes_on;
       loan = c.in-Ok-place.ensures.same_loan ∙ i.loan;
+      batch = c.in-Ok-place.ensures.batch ∙ i.batch;
       waits = c.in-Ok-place.ensures.waits;
       told = λ told closing state holds.
           let sofar = i.told told closing state holds in
@@ -105,3 +108,13 @@ returns-clause-rises g c =
     let n : ℕ = c.loop-number._number in
     let rises = rises-then n 0 _ _ tt 0 0 _ c.store_rest.new.engine.store.current.head c.store_rest.result i.rises c.store_rest.ensures.rises in
     rises-within (n + 0) 0 0 _ c.args.count 0 c.store_rest.new.engine.store.current.head c.store_rest.result (omega arith) rises
+
+pub returns-in-Err-place-clause-lacks : goal.returns-in-Err-place-clause-lacks
+returns-in-Err-place-clause-lacks g c = λ told is.
+    let disk = c.place.new.engine.store.disk.now in
+    subst (λ (batch : ℕ). LacksRoomIn (max batch 1) (g.T.Disk.room_of disk) (g.T.Disk.world disk).seen) c.loop-number.invariant.batch (c.in-Err-place.ensures.lacks told is)
+
+pub returns-clause-lacks : goal.returns-clause-lacks
+returns-clause-lacks g c = λ told is.
+    let disk = c.store_rest.new.engine.store.disk.now in
+    subst (λ (batch : ℕ). LacksRoomIn (max batch 1) (g.T.Disk.room_of disk) (g.T.Disk.world disk).seen) c.loop-number.invariant.batch (c.store_rest.ensures.lacks told is)

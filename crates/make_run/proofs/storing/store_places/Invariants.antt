@@ -15,6 +15,7 @@ invariant-loop-number g l = record {
   acted : acted_on l.load ≡ l._number;
   on : l.engine.stopped ≡ false;
   loan : l.engine.store.disk.ghost_name ≡ l.fn.engine.store.disk.ghost_name;
+  batch : l.load.batch ≡ l.fn.load.batch;
   waits : CanWait l.load;
   told : IsTrue g.T.Disk.tells → (closing : Closing) (state : Contents) → HoldsState (g.T.Disk.world l.fn.engine.store.disk.now) state
       → (now : Contents) × Goes (stage_before closing l.fn.load state (items_from l.seed 0 l.count)) (stage_before closing l.load now (items_from l.seed l._number (l.count - l._number)))

@@ -5,8 +5,9 @@ use Rattle.std.specs.declared.alloc.Global.{Global}
 use Rattle.disk_model.specs.World.{Image}
 use Rattle.disk_model.specs.declared.disk.Area.TheVariants.{Pages}
 use Rattle.disk_model.proofs.Moments.{keeps_at_write}
+use Rattle.disk_model.proofs.Replays.{on_ok_from}
 use Rattle.page_journal.specs.Record.{batch_of, kept, with_batch, AllButPages}
-use Rattle.page_journal.proofs.Batches.{page_first, outside, with_empty, on_ok_from}
+use Rattle.page_journal.proofs.Batches.{page_first, outside, with_empty}
 use Rattle.page_journal.proofs.checkpointing.install.Goals as goal
 
 pub returns-in_err-write-clause-keeps : goal.returns-in_err-write-clause-keeps

@@ -1,7 +1,7 @@
 use Rattle.std.proofs.Common.{ap, ◌∙◌, arith}
 use Rattle.disk_model.specs.World.{Image}
 use Rattle.disk_model.specs.declared.disk.Area.TheVariants.{Journal}
-use Rattle.page_journal.proofs.Batches.{on_ok_from}
+use Rattle.disk_model.proofs.Replays.{on_ok_from}
 use Rattle.page_journal.proofs.gate.set_gate.Goals as goal
 
 pub returns-clause-done : goal.returns-clause-done

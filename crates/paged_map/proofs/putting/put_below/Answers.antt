@@ -17,9 +17,9 @@ use Rattle.btree_nodes.proofs.Trees.{tree-size}
 use Rattle.btree_nodes.proofs.Harms.{asks-more, asks-nothing}
 use Rattle.paged_map.specs.declared.putting.Rooted.{Rooted}
 use Rattle.paged_map.specs.Maps.{HasBecome}
-use Rattle.btree_nodes.proofs.Walks.{same-fault, told-read, uses-self, asks-read, damage-link}
+use Rattle.btree_nodes.proofs.Walks.{same-fault, told-read, uses-self, asks-read, damage-link, named-refused}
 use Rattle.btree_search.specs.Steps.{low_of, high_of}
-use Rattle.btree_search.proofs.Roots.{enter, named-first}
+use Rattle.btree_search.proofs.Roots.{enter}
 use Rattle.btree_insert.proofs.Roots.{to-root, rooted}
 use Rattle.paged_map.proofs.Behind.{stays-behind}
 use Rattle.paged_map.proofs.Maps.{map-damage, map-undamaged, kept-counted, becomes}
@@ -67,7 +67,7 @@ returns-in-Err-clause-damaged g c =
     let d = c.look.ensures.damaged damage was in
     inl (
       map-damage form old count root damage some (damage-link form old count damage (least_of_root lv) lv root 0 (256 ^ form.key) d.0 d.1),
-      named-first (g.P.Pages.asked c.args.pages.now) (g.P.Pages.asked c.look.new.self) root c.look.result damage c.look.ensures.asked was (ap (λ (x : Damage). x.page) d.0),
+      named-refused (g.P.Pages.asked c.args.pages.now) (g.P.Pages.asked c.look.new.self) root c.look.result damage c.look.ensures.asked was (ap (λ (x : Damage). x.page) d.0),
     ))
 
 pub returns-in-Err-clause-stays : goal.returns-in-Err-clause-stays

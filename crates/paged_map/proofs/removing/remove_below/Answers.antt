@@ -17,8 +17,7 @@ use Rattle.btree_nodes.proofs.Harms.{asked-here, asks-here, asks-further, asks-m
 use Rattle.btree_delete.specs.Removal.{HasRemoved, IsOut, IsSame, Lessens}
 use Rattle.paged_map.specs.declared.putting.Rooted.{Rooted}
 use Rattle.paged_map.specs.Maps.{HasBecome}
-use Rattle.btree_nodes.proofs.Walks.{same-fault, told-read, uses-self, asks-read, damage-link}
-use Rattle.paged_map.proofs.Rows.{named-first}
+use Rattle.btree_nodes.proofs.Walks.{same-fault, told-read, uses-self, asks-read, damage-link, named-refused}
 use Rattle.paged_map.proofs.Maps.{enter, map-damage, map-undamaged, kept-counted}
 use Rattle.btree_search.proofs.Roots.{map-uses}
 use Rattle.btree_search.proofs.Roots.{map-rows}
@@ -72,7 +71,7 @@ returns-in_err-bytes-clause-damaged g c =
     let was = c.in_err-bytes.was ∙ ap Err (same-fault {T = Rooted} _ _ e) in
     let d = c.read.ensures.damaged damage was in (
       map-damage form old count root damage some (damage-link form old count damage (least_of_root lv) lv root 0 (256 ^ form.key) d.0 d.1),
-      named-first (g.P.Pages.asked c.args.pages.now) (g.P.Pages.asked c.read.new.self) root c.read.result damage c.read.ensures.asked was (ap (λ (x : Damage). x.page) d.0),
+      named-refused (g.P.Pages.asked c.args.pages.now) (g.P.Pages.asked c.read.new.self) root c.read.result damage c.read.ensures.asked was (ap (λ (x : Damage). x.page) d.0),
     ))
 
 pub returns-in_err-bytes-clause-stays : goal.returns-in_err-bytes-clause-stays

@@ -9,16 +9,16 @@ use Rattle.query_lang.specs.Plain.{plain_line}
 use Rattle.run_protocol.specs.Asking.{IsAsking, ReadsForLine}
 use Rattle.run_protocol.specs.Reading.{IsReading}
 use Rattle.script_run.specs.Lines.{RepliesTo}
-use Rattle.run_protocol.proofs.Reading.{rests-still}
 use Rattle.script_run.proofs.Asking.{line-unread}
 use Rattle.script_run.proofs.Replies.{read-replies}
 use Rattle.script_run.proofs.line.answer.Goals as goal
+use Rattle.page_store.specs.Store.{rests_still}
 
 pub returns-in-Nothing-clause-told : goal.returns-in-Nothing-clause-told
 unfolding reply_of
 returns-in-Nothing-clause-told g c = λ told state holds.
     subst (λ (l : Line). RepliesTo state (Ok l) (g.T.Disk.world c.args.engine.now.store.disk.now) (g.T.Disk.world c.args.engine.now.store.disk.now) (Ok replies.Nothing)) (sym c.in-Nothing.is)
-    (read-replies state (Ok lines.Nothing) _ _ replies.Nothing (rests-still _) holds refl refl)
+    (read-replies state (Ok lines.Nothing) _ _ replies.Nothing (rests_still _) holds refl refl)
 
 pub returns-in-Do-clause-told : goal.returns-in-Do-clause-told
 returns-in-Do-clause-told g c = λ told state holds.
@@ -36,7 +36,7 @@ pub returns-in-Count-clause-told : goal.returns-in-Count-clause-told
 unfolding reply_of
 returns-in-Count-clause-told g c = λ told state holds.
     subst (λ (l : Line). RepliesTo state (Ok l) (g.T.Disk.world c.args.engine.now.store.disk.now) (g.T.Disk.world c.args.engine.now.store.disk.now) (Ok (replies.Count c.count.result))) (sym c.in-Count.is)
-    (read-replies state (Ok lines.Count) _ _ (replies.Count c.count.result) (rests-still _) holds refl (ap (λ n. text_of_reply (replies.Count n)) (c.count.ensures.counted told c.requires.on state holds)))
+    (read-replies state (Ok lines.Count) _ _ (replies.Count c.count.result) (rests_still _) holds refl (ap (λ n. text_of_reply (replies.Count n)) (c.count.ensures.counted told c.requires.on state holds)))
 
 pub returns-in-Nothing-clause-reads : goal.returns-in-Nothing-clause-reads
 returns-in-Nothing-clause-reads g c = λ told state holds asks. line-unread state (Ok (plain_line c.args.line)) (g.T.Disk.world c.args.engine.now.store.disk.now)

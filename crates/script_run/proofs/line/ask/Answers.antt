@@ -12,8 +12,8 @@ use Rattle.run_protocol.specs.declared.ended.Ended.TheVariants as ends
 use Rattle.run_protocol.specs.declared.ended.LimitFault.TheVariants as limits
 use Rattle.script_run.specs.Lines.{IsLineEnd, RepliesTo}
 use Rattle.script_run.proofs.Asking.{asked-reads}
-use Rattle.script_run.proofs.Ends.{read-ends, read-full}
-use Rattle.run_protocol.proofs.Reading.{RefusedRead, met-engine, refused-read-cause}
+use Rattle.script_run.proofs.Ends.{read-ends}
+use Rattle.run_protocol.proofs.Reading.{RefusedRead, met-engine, refused-read-cause, refused-room}
 use Rattle.script_run.proofs.Replies.{read-replies, refused-read}
 use Rattle.run_protocol.proofs.Going.{on-behind}
 use Rattle.script_run.proofs.line.ask.Goals as goal
@@ -77,7 +77,7 @@ returns-in-Err-clause-kept g c = λ told.
 pub returns-in-Err-clause-lacks : goal.returns-in-Err-clause-lacks
 returns-in-Err-clause-lacks g c = λ told is.
     let ended : c.ended_by.result ≡ ends.Limit limits.NoRoom = cc in
-    absurd (read-full c.in-Err.fault c.in-Err.ensures.causes (sym c.ended_by.ensures ∙ ended))
+    absurd (refused-room c.in-Err.fault c.in-Err.ensures.causes (sym c.ended_by.ensures ∙ ended))
 
 pub returns-in-Err-clause-goes_on : goal.returns-in-Err-clause-goes_on
 returns-in-Err-clause-goes_on g c = on-behind _ c.ended_by.result (c.in-Err.ensures.goes_on ∙ c.requires.on)

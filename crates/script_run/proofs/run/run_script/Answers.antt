@@ -1,13 +1,15 @@
 use Rattle.std.proofs.Common.{◌≡◌, ℕ, ◌++◌, [], length, drop, refl, sym, ap, ◌∙◌, arith}
 use Rattle.std.specs.Prelude.{Err}
 use Rattle.disk_model.proofs.Moments.{started}
+use Rattle.disk_model.proofs.Replays.{on_ok_from}
 use Rattle.run_protocol.specs.Script.{cut, script}
 use Rattle.run_protocol.specs.declared.ended.Ended.TheVariants as ends
 use Rattle.run_protocol.specs.declared.ended.LimitFault.TheVariants as limits
 use Rattle.run_protocol.proofs.Counts.{keeps-done, keeps-none}
+use Rattle.run_protocol.proofs.Lists.{none-behind}
 use Rattle.script_run.proofs.Causes.{job-still, job-by-engine, job-then, job-failed, job-valued}
-use Rattle.script_run.proofs.Ends.{left-counts, line-input, line-limit, on_ok-held, piece-input, piece-limit}
-use Rattle.script_run.proofs.Fronts.{piece-came, none-behind}
+use Rattle.script_run.proofs.Ends.{left-counts, line-input, line-limit, piece-input, piece-limit}
+use Rattle.script_run.proofs.Fronts.{piece-came}
 use Rattle.script_run.proofs.Lines.{rest-EndsNoLine}
 use Rattle.script_run.proofs.Reading.{keeps-failed}
 use Rattle.script_run.proofs.Untouched.{untouched-ends, untouched-fed, untouched-piece, untouched-start, untouched-still}
@@ -206,7 +208,7 @@ pub returns-then-n-eq0-clause-whole : goal.returns-then-n-eq0-clause-whole
 returns-then-n-eq0-clause-whole g c = λ tells.
     let given = c.in-Ok-read.ensures.told tells in
     let none : g.S.Source.left c.pieces.source ≡ [] = given.ends c.if-n-eq0.true in
-    on_ok-held c.end.result (none-behind _ (g.S.Source.left c.read.new.self) (sym given.given ∙ none), omega (arith, c.pieces.invariant.came tells, c.pieces.invariant.taken, ap length none, input_max-is))
+    on_ok_from c.end.result (none-behind _ (g.S.Source.left c.read.new.self) (sym given.given ∙ none), omega (arith, c.pieces.invariant.came tells, c.pieces.invariant.taken, ap length none, input_max-is))
 
 pub returns-then-n-eq0-clause-limit : goal.returns-then-n-eq0-clause-limit
 returns-then-n-eq0-clause-limit g c = λ fault is. line-limit c.end.result fault c.end.ensures.ends is

@@ -1,10 +1,10 @@
-use Rattle.std.proofs.Common.{◌∙◌, ap, sym, subst}
+use Rattle.std.proofs.Common.{◌≡◌, ◌∙◌, ap, sym, subst}
 use Rattle.disk_model.specs.World.{LeavesOnly}
 use Rattle.page_journal.specs.Record.{applied}
 use Rattle.page_face.specs.FreeList.{PageMap}
 use Rattle.page_face.specs.declared.head.Head.{Head}
 use Rattle.page_store.specs.declared.superblock.Superblock.{Superblock}
-use Rattle.page_store.specs.Store.{Kept}
+use Rattle.page_store.specs.Store.{Kept, Rests, rests_then}
 use Rattle.page_store.specs.Takes.{counts_of}
 use Rattle.page_store.specs.Contents.{Overlay, counted_pages, shown}
 use Rattle.place_map.specs.Update.{effect_of}
@@ -131,3 +131,11 @@ update-requires-clause-numbers g c = subst AreHeadNumbers (sym (c.head-head.ensu
 pub returns-in-Err-update-clause-no_head : goal.returns-in-Err-update-clause-no_head
 returns-in-Err-update-clause-no_head g c = λ t damage is.
     c.in-Err-update.ensures.no_head (λ p. store-told g.D.Disk.tells (applied (g.D.Disk.world p.disk.now).seen) p.overlay p.current.counted t p.sized) damage is
+
+pub returns-in-Ok-commit-clause-absent : goal.returns-in-Ok-commit-clause-absent
+returns-in-Ok-commit-clause-absent g c = λ t is.
+    let new = g.D.Disk.world c.commit.new.store.disk.now in
+    let follows = c.update.ensures.frame.follows in
+    let same : c.update.new.head ≡ c.update.new.pages.current.head = c.in-Ok-update.ensures.absent is ∙ c.head-head.ensures ∙ ap (λ (k : Kept). k.head) (sym follows.kept) in
+    subst (λ disk. Rests (g.D.Disk.world disk) new) (λ i. (c.begin.ensures.disk i).now)
+    (rests_then (follows.rests t) (c.commit.ensures.idle t (ap (λ (h : Head). h.number) same)))

@@ -19,3 +19,6 @@ returns-in-Ok-clause-cause g c = engine-then c.in-Ok.ensures.cause _ c.conclude.
 pub returns-in-Ok-clause-rises : goal.returns-in-Ok-clause-rises
 returns-in-Ok-clause-rises g c =
     rises-then 0 (length c.args.self.now.waiting.items) 0 c.args.engine.now.store.current.head tt 0 0 c.store_rest.new.engine.store.current.head c.conclude.new.engine.store.current.head c.conclude.result c.in-Ok.ensures.rises c.conclude.ensures.rises
+
+pub returns-in-Ok-clause-lacks : goal.returns-in-Ok-clause-lacks
+returns-in-Ok-clause-lacks g c = λ told is. absurd (c.conclude.ensures.room is)

@@ -1,6 +1,7 @@
-use Rattle.std.proofs.Common.{◌≡◌, ◌≤◌, ◌<◌, List, [], ◌∷◌, ◌++◌, length, length-append, ap, ◌∙◌, arith, rules}
+use Rattle.std.proofs.Common.{◌≡◌, ◌≤◌, ◌<◌, max, List, [], ◌∷◌, ◌++◌, length, length-append, ap, ◌∙◌, arith, rules}
 use Rattle.geojson_points.specs.Takes.{Placed, place_of}
 use Rattle.run_protocol.specs.Load.{Step, Store, put_of, steps}
+use Rattle.run_protocol.proofs.Rooms.{lacks-more}
 use Rattle.load_run.specs.declared.load.Load.{Load}
 use Rattle.load_run.specs.Loading.{stage, stage_before}
 use Rattle.load_run.proofs.Stages.{goes-as, lacks-memory}
@@ -61,3 +62,12 @@ returns-clause-rises g c =
     let mid : Load = record s { waiting = c.replace-updates.new.dest } in
     rises-stored (length c.deref.result.now) (length s.waiting.items) c.args.engine.now.store.current.head c.store.new.engine.store.current.head mid c.store.new.self c.store.result (omega (arith, more, ap length same)) empty c.store.ensures.counts
     c.store.ensures.rises
+
+-- ---- how many are stored at a time
+
+pub returns-clause-lacks : goal.returns-clause-lacks
+returns-clause-lacks g c = λ told is.
+    let disk = c.store.new.engine.store.disk.now in
+    let same : c.replace-updates.result.items ≡ c.args.self.now.waiting.items = search rules in
+    let more = ap length (c.deref.ensures.value ∙ c.in-Ok-push.ensures.items) ∙ length-append c.replace-updates.result.items _ in
+    lacks-more (length c.deref.result.now) (max c.args.self.now.batch 1) (g.T.Disk.room_of disk) (g.T.Disk.world disk).seen (omega (arith, more, ap length same, c.requires.waits.few)) (c.store.ensures.lacks told is)

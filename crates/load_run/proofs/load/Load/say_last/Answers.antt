@@ -21,5 +21,5 @@ returns-in-Ok-clause-rises g c = rises-said 0 0 0 c.args.engine.now.store.curren
 pub returns-in-Err-clause-rises : goal.returns-in-Err-clause-rises
 returns-in-Err-clause-rises g c = record { live = tt; number = tt; limit = tt }
 
-pub returns-in-Ok-clause-lacks : goal.returns-in-Ok-clause-lacks
-returns-in-Ok-clause-lacks g c = λ told is. absurd (said-room c.say_text.result c.say_text.ensures.ends is)
+pub returns-in-Ok-clause-room : goal.returns-in-Ok-clause-room
+returns-in-Ok-clause-room g c = λ is. absurd (said-room c.say_text.result c.say_text.ensures.ends is)

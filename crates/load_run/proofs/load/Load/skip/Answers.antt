@@ -37,5 +37,5 @@ returns-clause-rises g c =
     rises-said 0 waits waits c.args.engine.now.store.current.head c.args.engine.now.store.current.head c.say_text.new.engine.store.current.head c.say_text.result
     (omega arith) (omega arith) (ap (λ (b : Superblock). b.head) c.say_text.ensures.head) c.say_text.ensures.ends
 
-pub returns-clause-lacks : goal.returns-clause-lacks
-returns-clause-lacks g c = λ told is. absurd (said-room c.say_text.result c.say_text.ensures.ends is)
+pub returns-clause-room : goal.returns-clause-room
+returns-clause-room g c = λ is. absurd (said-room c.say_text.result c.say_text.ensures.ends is)

@@ -1,9 +1,10 @@
-use Rattle.std.proofs.Common.{◌≡◌, List, [], ◌∷◌, length, sym, ap, ◌∙◌, arith, rules}
+use Rattle.std.proofs.Common.{◌≡◌, max, List, [], ◌∷◌, length, sym, ap, ◌∙◌, arith, rules}
 use Rattle.run_protocol.specs.Load.{Step, Store, steps}
+use Rattle.run_protocol.proofs.Rooms.{lacks-more}
+use Rattle.run_protocol.proofs.Lists.{none-left, some-left}
 use Rattle.load_run.specs.declared.load.Load.{Load}
 use Rattle.load_run.specs.Loading.{stage, stage_before}
 use Rattle.load_run.proofs.Causes.{engine-none}
-use Rattle.load_run.proofs.Lists.{none-left, some-left}
 use Rattle.load_run.proofs.Moves.{moves-as}
 use Rattle.load_run.proofs.Numbers.{rises-within}
 use Rattle.load_run.proofs.Stages.{goes-as}
@@ -36,3 +37,10 @@ returns-clause-rises g c =
     let same : c.replace-updates.result.items ≡ c.args.self.now.waiting.items = search rules in
     let counts = ap length (c.deref.ensures.value ∙ same) in
     rises-within (length c.deref.result.now) 0 0 c.args.engine.now.store.current.head 0 (length c.args.self.now.waiting.items) c.store.new.engine.store.current.head c.store.result (omega (arith, counts)) c.store.ensures.rises
+
+pub returns-clause-lacks : goal.returns-clause-lacks
+returns-clause-lacks g c = λ told is.
+    let disk = c.store.new.engine.store.disk.now in
+    let same : c.replace-updates.result.items ≡ c.args.self.now.waiting.items = search rules in
+    let counts = ap length (c.deref.ensures.value ∙ same) in
+    lacks-more (length c.deref.result.now) (max c.args.self.now.batch 1) (g.T.Disk.room_of disk) (g.T.Disk.world disk).seen (omega (arith, counts, c.requires.waits.few)) (c.store.ensures.lacks told is)

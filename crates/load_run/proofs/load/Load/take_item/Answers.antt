@@ -26,3 +26,6 @@ pub returns-in-Skipped-clause-rises : goal.returns-in-Skipped-clause-rises
 returns-in-Skipped-clause-rises g c =
     subst (λ (item : Taken). RisesBy (places_among (item_of item ∷ [])) (length c.args.self.now.waiting.items) (length c.skip.new.self.waiting.items) c.args.engine.now.store.current.head c.skip.new.engine.store.current.head c.skip.result) (sym c.in-Skipped.is)
     c.skip.ensures.rises
+
+pub returns-in-Skipped-clause-lacks : goal.returns-in-Skipped-clause-lacks
+returns-in-Skipped-clause-lacks g c = λ told is. absurd (c.skip.ensures.room is)
