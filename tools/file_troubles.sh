@@ -168,7 +168,7 @@ ask count "$work/shut/g.store" "${nobody[@]}"
 gave "a store that was there, in a folder that can't be read" 0 "" "count 1"
 
 # Rights.
-rights='Permission denied (os error 13); make the file and its folder writable, or name another store'
+rights='Permission denied (os error 13); make the file and its folder writable and each folder above it searchable, or name another store'
 ask "$add" "$work/h.store" "${nobody[@]}"
 gave "a folder that can't be written" 3 "irtree: disk: $work/h.store: $rights" ""
 ask count "$work/near.store" "${nobody[@]}"

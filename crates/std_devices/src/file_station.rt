@@ -193,6 +193,7 @@ impl<'a, R: Files<File = F>, W: Write + Drop, F: StoreFile> Station for FileStat
         ensures cause { HasSinkCause (untold self.old.faults self.old.sink_faults) (untold self.new.faults self.new.sink_faults) result }
         ensures bytes { WriteAppends (W.contents self.old.output) (W.contents self.new.output) result bytes.now }
         ensures trouble { self.new.trouble ≡ self.old.trouble }
+        ensures files { self.new.files ≡ self.old.files }
     {
         match write_some(&mut self.output, bytes) {
             Some(n) => Ok(n),

@@ -65,7 +65,7 @@ fn one_line(alloc: Global, path: &str) -> Result<String, Memory> {
 fn advice_for(kind: ErrorKind) -> &'static str {
     match kind {
         ErrorKind::PermissionDenied => {
-            "make the file and its folder writable, or name another store"
+            "make the file and its folder writable and each folder above it searchable, or name another store"
         }
         ErrorKind::ReadOnlyFilesystem => "name a store on a file system that can be written",
         ErrorKind::StorageFull | ErrorKind::QuotaExceeded => "make room on its disk, and run again",
