@@ -1,7 +1,7 @@
 #!/usr/bin/env python3
 """Lists what stands in two places where one would do: run at the top, it changes nothing.
 
-- lemmas of one statement in two crates, or in two files of one crate, where the first could be imported by the second:
+- lemmas of one statement, whatever their variables are called, in two crates or in two files of one crate, where the first could be imported by the second:
   a lemma stands once, in the lowest crate that can hold it;
 - libraries that crates.txt lists of a crate that names none of theirs, and those that it names without listing them.
 """
