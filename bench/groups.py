@@ -2,7 +2,7 @@
 """Group queries over a store on this disk, of places like a user's (places.py): for 2, 3, 5 and 8 words that many, some and few places hold, or of each
 kind in turn, how many are answered a second, and the slowest of them. A line is written and its reply read before the next, so a pipe's time is in each.
 With `one-point` all places lie at one point.
-The program must be built (./irtree builds it).
+The program must be built (./irtree-build builds it).
 usage: bench/groups.py [PLACES] [QUERIES] [CACHE] [POLICY] [one-point]    (works in a folder of its own beside the repository)"""
 import os
 import random

@@ -1,6 +1,6 @@
 #!/usr/bin/env bash
 # Kills a load of 100,000 places (kill -9) after each of some delays, and asks the store how many places it has: as many as the last
-# line `stored N` that was said, or one batch of 1,000 more. The program must be built (./irtree builds it).
+# line `stored N` that was said, or one batch of 1,000 more. The program must be built (./irtree-build builds it).
 # usage: bench/kill_in_a_load.sh [SECONDS ..]
 set -euo pipefail
 top=$(cd "$(dirname "$0")/.." && pwd)

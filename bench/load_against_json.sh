@@ -1,6 +1,6 @@
 #!/usr/bin/env bash
 # `irtree - load` of a GeoJSON file of some 60 MB of points, against Python's json.load and a dict from ids to places in the
-# same run: seconds, kilobytes at most, and memory as a multiple of the file. The program must be built (./irtree builds it).
+# same run: seconds, kilobytes at most, and memory as a multiple of the file. The program must be built (./irtree-build builds it).
 set -euo pipefail
 top=$(cd "$(dirname "$0")/.." && pwd)
 work=$(mktemp -d)

@@ -2,7 +2,7 @@
 # Lines of mixed queries over places, against the plain Python scan of the same lines (bench/scan.py): once by the scan of place_map
 # over a map in memory, with query_lang around it, in a program that this script makes, proves and builds in a folder of its own;
 # and once by `irtree - run`, which reads the place table for each query. The replies have to agree byte for byte; seconds and ratios.
-# The program irtree must be built (./irtree builds it).
+# The program irtree must be built (./irtree-build builds it).
 # usage: bench/queries_against_scan.sh [PLACES [QUERIES [SEED [QUERIES_OF_THE_PROGRAM]]]]
 set -euo pipefail
 top=$(cd "$(dirname "$0")/.." && pwd)

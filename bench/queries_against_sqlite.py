@@ -5,7 +5,7 @@ that of a place. SQLite answers each kind in the better of two ways: by the word
 grow). It has no group query. Both sides are timed warm: SQLite in a second pass over some of the same queries, irtree in a second and third pass
 over all. The keys of the hits are compared, automatic ones left out; those of `top` aren't, since SQLite ranks by bm25, and of two at the same distance
 either may be the last of a `nearest`.
-The program must be built (./irtree builds it).
+The program must be built (./irtree-build builds it).
 usage: bench/queries_against_sqlite.py [PLACES] [QUERIES] [CACHE] [POLICY]    (works in a folder of its own beside the repository)"""
 import os
 import random

@@ -1,6 +1,6 @@
 #!/usr/bin/env bash
 # A script of 200,000 adds and 100 nearest queries through a pipe, against `sort` on the same lines in the same run:
-# seconds and kilobytes at most of each, and their ratios. The program must be built (./irtree builds it).
+# seconds and kilobytes at most of each, and their ratios. The program must be built (./irtree-build builds it).
 set -euo pipefail
 top=$(cd "$(dirname "$0")/.." && pwd)
 lines=$(mktemp)

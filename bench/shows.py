@@ -1,7 +1,7 @@
 #!/usr/bin/env python3
 """Loads places like a user's (places.py) into a store on this disk, then shows random keys of it: places a second of the load, shows a
 second, warm (the same keys once before), and the reads of the device that a second run of the same lines makes, by strace.
-The program must be built (./irtree builds it).
+The program must be built (./irtree-build builds it).
 usage: bench/shows.py [PLACES] [SHOWS]    (works in a folder of its own beside the repository and leaves nothing)"""
 import os
 import random

@@ -2,7 +2,7 @@
 # A store on this disk against SQLite (R*Tree and FTS5 tables, WAL, synchronous=FULL) on the same places in one run, which are like a
 # user's (places.py): durable adds a second, one transaction each, and places a second of a load of 100,000 in batches of 1,000; what an add
 # to a store of 1,000, 10,000 and 100,000 places costs, counted by strace: reads, writes, bytes written and syncs; and how long it takes to
-# open a store after a crash with a long journal. The program must be built (./irtree builds it).
+# open a store after a crash with a long journal. The program must be built (./irtree-build builds it).
 # usage: bench/store_against_sqlite.sh [ADDS] [PLACES]    (works in a folder of its own beside the repository and leaves nothing)
 set -euo pipefail
 top=$(cd "$(dirname "$0")/.." && pwd)

@@ -1,6 +1,6 @@
 """What an add, a removal and a replacement cost over stores of places like a user's (places.py): reads, writes, syncs and bytes written, counted
 by strace over 200 of them, the checkpoint at the end included, and processor time without strace. A replacement gives a place another
-text and moves it by a quarter of a degree. The program must be built (./irtree builds it; IRTREE names another one).
+text and moves it by a quarter of a degree. The program must be built (./irtree-build builds it; IRTREE names another one).
 
 usage: python3 bench/update_costs.py [WORDS [COUNT..]]    (WORDS: how many each text has, 0 for those of a user; the counts of places: 1000 10000 100000)
 """

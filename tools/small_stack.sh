@@ -1,7 +1,7 @@
 #!/usr/bin/env bash
 # A store whose place map has 256 levels, under a small stack (`ulimit -s`): what is looked up there is answered in 64 KB, as over a map of two
 # levels, and a place that is put into a full leaf in 160 KB. tools/deep_store.py writes the store.
-# It needs python3, and the program built (./irtree builds it).
+# It needs python3, and the program built (./irtree-build builds it).
 # usage: tools/small_stack.sh
 set -euo pipefail
 top=$(cd "$(dirname "$0")/.." && pwd)

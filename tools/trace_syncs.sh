@@ -2,7 +2,7 @@
 # Looks by strace whether each reply comes after what it says is safe: over a script, a load, and openings after a kill at each
 # call that writes or syncs. tools/check_trace.awk has the rules. Then it takes out each sync of the traces, one at a time, and
 # each real sync of a run (strace answers in its place), and each time the rules must be broken.
-# It needs strace, and the program built (./irtree builds it).
+# It needs strace, and the program built (./irtree-build builds it).
 # usage: tools/trace_syncs.sh
 set -euo pipefail
 top=$(cd "$(dirname "$0")/.." && pwd)

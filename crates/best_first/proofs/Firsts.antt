@@ -2,12 +2,12 @@
 use Rattle.std.proofs.Common.{◌≡◌, ℕ, ◌≤◌, List, [], ◌∷◌, ◌++◌, length, take, refl, sym, ap, ◌∙◌, arith, false, append_assoc}
 use Rattle.std.specs.List.{AllByRecursion}
 use Rattle.std.proofs.lemmas.List.{append-nil, take-append-le, take_all, length-take}
-use Rattle.ranking.specs.First.{placed, ranked, first, IsRanked}
-use Rattle.ranking.specs.Laws.{first_push, ranked_is, taken_ranked, all_placed}
-use Rattle.ranking.specs.Members.{ranked_own, ranked_least}
-use Rattle.place_map.specs.declared.hit.Hit.{Hit}
-use Rattle.place_map.specs.Hit.{comes_before, hits_linear}
-use Rattle.best_first.proofs.Lists.{all_append, all_taken}
+use Rattle.place_values.specs.First.{placed, ranked, first, IsRanked}
+use Rattle.place_values.specs.Laws.{first_push, ranked_is, taken_ranked, all_placed}
+use Rattle.place_values.specs.Members.{ranked_own, ranked_least}
+use Rattle.place_values.specs.declared.hit.Hit.{Hit}
+use Rattle.place_values.specs.Hit.{comes_before, hits_linear}
+use Rattle.best_first.specs.Lists.{all_append, all_taken}
 
 -- the first k are in order
 pub first_ranked : (k : ℕ) (hs : List Hit) → IsRanked comes_before (first comes_before k hs)

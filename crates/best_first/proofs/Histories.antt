@@ -5,20 +5,20 @@ use Rattle.std.proofs.lemmas.List.{append-nil}
 use Rattle.std.proofs.lemmas.List.Elements.{Contains-append_left, Contains-append_right, Contains-append_cases}
 use Rattle.page_face.specs.FreeList.{PageMap}
 use Rattle.btree_nodes.specs.Damages.{AskedSince}
-use Rattle.ranking.specs.First.{first, IsRanked}
-use Rattle.place_map.specs.declared.hit.Hit.{Hit}
-use Rattle.place_map.specs.Hit.{comes_before}
+use Rattle.place_values.specs.First.{first, IsRanked}
+use Rattle.place_values.specs.declared.hit.Hit.{Hit}
+use Rattle.place_values.specs.Hit.{comes_before}
 use Rattle.best_first.specs.declared.item.Item.{Item}
 use Rattle.best_first.specs.declared.item.Item.TheVariants.{Node, Place}
 use Rattle.best_first.specs.Items.{nodes_of, places_of, pages_of, IsGivenAt, IsRootAlone}
 use Rattle.best_first.specs.Leads.{below, reached, leads, IsAhead, Bounds, IsBound, BoundsBelow}
 use Rattle.best_first.specs.Queue.{IsNext}
 use Rattle.best_first.specs.Openings.{AsksNodes, Opening, pages_opened, given_by, IsFromLeaf, Told, last_cost, cheaper, Opened}
-use Rattle.best_first.proofs.Lists.{all_weaker, all_append, all_flat, all_moved, all_in}
-use Rattle.best_first.proofs.Costs.{cheaper_kept, last_above}
+use Rattle.best_first.specs.Lists.{all_weaker, all_append, all_flat, all_moved, all_in}
+use Rattle.best_first.proofs.CostLaws.{cheaper_kept, last_above}
 use Rattle.best_first.proofs.Firsts.{all_first}
 use Rattle.best_first.proofs.Steps.{Searching, below_leads, all_nodes, all_places, items_ahead}
-use Rattle.best_first.proofs.Logs.{asked_sooner, asked_before, asks_wider, asks_then}
+use Rattle.best_first.specs.Logs.{asked_sooner, asked_before, asks_wider, asks_then}
 
 -- a list contains its head
 pub contains_head : {X : Type 0} (x : X) (xs : List X) → Contains (x ∷ xs) x

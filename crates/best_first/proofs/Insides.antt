@@ -5,7 +5,7 @@ use Rattle.std.proofs.lemmas.List.{append-nil}
 use Rattle.best_first.specs.declared.item.Item.{Item}
 use Rattle.best_first.specs.Items.{nodes_of}
 use Rattle.best_first.specs.Queue.{IsNext}
-use Rattle.best_first.proofs.Lists.{all_append, all_moved}
+use Rattle.best_first.specs.Lists.{all_append, all_moved}
 use Rattle.best_first.proofs.Steps.{all_nodes}
 
 -- of the nodes among the first items

@@ -10,8 +10,8 @@ use Rattle.best_first.specs.Levels.{IsGivenBelow}
 use Rattle.best_first.specs.Openings.{AsksNodes}
 use Rattle.best_first.specs.Queue.{IsNext}
 use Rattle.best_first.proofs.Insides.{first_inside, next_inside, opened_inside}
-use Rattle.best_first.proofs.Lists.{all_weaker}
-use Rattle.best_first.proofs.Logs.{asked_before}
+use Rattle.best_first.specs.Lists.{all_weaker}
+use Rattle.best_first.specs.Logs.{asked_before}
 
 module _ (stands : List ℕ → ℕ → Item → Type 0) (has_level : List ℕ → ℕ → Type 0) (pages : PageMap) where
   -- a node's page has its level, or it was given below a parent

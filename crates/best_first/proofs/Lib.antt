@@ -1,10 +1,13 @@
-pub mod Lists
-pub mod Costs
+pub mod CostLaws
 pub mod Firsts
 pub mod Queues
 pub mod Queued
 pub mod Steps
-pub mod Logs
 pub mod Histories
 pub mod Insides
 pub mod Levels
+pub mod Sides
+pub mod Spreads
+pub mod Asking
+pub mod Outcomes
+pub mod Starts

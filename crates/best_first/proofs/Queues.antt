@@ -10,7 +10,7 @@ use Rattle.best_first.specs.declared.item.Item.{Item}
 use Rattle.best_first.specs.declared.queue.Waiting.{Waiting}
 use Rattle.best_first.specs.Items.{bound_of}
 use Rattle.best_first.specs.Queue.{item_of, waiting, IsNext}
-use Rattle.best_first.proofs.Costs.{not_less}
+use Rattle.best_first.proofs.CostLaws.{not_less}
 
 -- by bound, then by level and page
 abbrev pub waiting_cmp : Waiting → Waiting → Ordering

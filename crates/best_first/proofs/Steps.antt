@@ -5,18 +5,18 @@ use Rattle.std.proofs.lemmas.List.{append-nil}
 use Rattle.std.proofs.lemmas.Grind.{flat_map-append}
 use Rattle.std.proofs.lemmas.List.Sums.{sum_by-cons, sum_by-append}
 use Rattle.std.proofs.lemmas.List.Sorted.{sum_by-IsPermutation, IsPermutation-sym}
-use Rattle.ranking.specs.First.{first, IsRanked}
-use Rattle.ranking.specs.Members.{SameMembers, ranked_same}
-use Rattle.place_map.specs.declared.hit.Hit.{Hit}
-use Rattle.place_map.specs.Hit.{comes_before, hits_linear}
+use Rattle.place_values.specs.First.{first, IsRanked}
+use Rattle.place_values.specs.Members.{SameMembers, ranked_same}
+use Rattle.place_values.specs.declared.hit.Hit.{Hit}
+use Rattle.place_values.specs.Hit.{comes_before, hits_linear}
 use Rattle.best_first.specs.declared.item.Item.{Item}
 use Rattle.best_first.specs.declared.item.Item.TheVariants.{Node, Place}
 use Rattle.best_first.specs.Items.{nodes_of, places_of, bound_of, IsGivenAt}
 use Rattle.best_first.specs.Leads.{led, at_node, below, reached, leads, IsAhead, IsBound, AreBounds, BoundsBelow, Bounds}
 use Rattle.best_first.specs.Queue.{IsNext}
 use Rattle.best_first.specs.Openings.{cheaper}
-use Rattle.best_first.proofs.Lists.{all_weaker, all_append, flat_all, all_moved, flat_map_same}
-use Rattle.best_first.proofs.Costs.{all_cheaper, cheaper_some, below_cost}
+use Rattle.best_first.specs.Lists.{all_weaker, all_append, flat_all, all_moved, flat_map_same}
+use Rattle.best_first.proofs.CostLaws.{all_cheaper, cheaper_some, below_cost}
 use Rattle.best_first.proofs.Firsts.{first_own, first_absorbed, first_front}
 
 module _ (opens : ℕ → ℕ → List Item) where

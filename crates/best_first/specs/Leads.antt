@@ -1,7 +1,7 @@
 -- The places that items lead to, and what their nodes' bounds promise.
 use Rattle.std.specs.Prelude.{ℕ, zero, suc, ◌≤◌, List, [], ◌∷◌}
 use Rattle.std.specs.List.{AllByRecursion, flat_map}
-use Rattle.place_map.specs.declared.hit.Hit.{Hit}
+use Rattle.place_values.specs.declared.hit.Hit.{Hit}
 use Rattle.best_first.specs.declared.item.Item.{Item}
 use Rattle.best_first.specs.declared.item.Item.TheVariants.{Node, Place}
 

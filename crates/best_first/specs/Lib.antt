@@ -4,3 +4,14 @@ pub mod Queue
 pub mod Openings
 pub mod Levels
 pub mod Faults
+pub mod Asks
+pub mod NodeOpenings
+pub mod Harms
+pub mod Fits
+pub mod Weighed
+pub mod Belows
+pub mod Trees
+pub mod Leaves
+pub mod Laws
+pub mod Lists
+pub mod Logs

@@ -1,5 +1,5 @@
 //! What an opener gives.
-use place_map::Hit;
+use place_values::Hit;
 
 /// A node that may be opened, or a place.
 #[derive(Clone, Copy, Debug, PartialEq, Eq)]

@@ -27,7 +27,7 @@ pub struct Queue {
 }
 
 impl Queue {
-    /// No node waits.
+    /// Makes a queue in which no node waits.
     pub fn new(alloc: Global) -> Queue
         ensures { waiting (heap_items result.heap) ≡ [] }
     {
@@ -36,7 +36,7 @@ impl Queue {
         }
     }
 
-    /// One node more waits.
+    /// Adds a node that waits.
     #[inline(always)]
     pub fn put(&mut self, node: Waiting) -> Result<(), AllocError>
         ensures { OnOk result (IsPermutation (item_of node ∷ waiting (heap_items self.old.heap)) (waiting (heap_items self.new.heap))) }

@@ -15,8 +15,8 @@ use crate::Item;
 use page_face::{Damage, PageFault, Pages};
 use std::alloc::Global;
 
-/// Opens the nodes of a tree over pages for one query: it decides which nodes may hold an answer, bounds what the places below each
-/// node cost, and turns the entries of a leaf into hits.
+/// Opens the nodes of a tree over pages for one query. It decides which nodes may hold an answer, bounds what the places below each node
+/// cost, and turns the entries of a leaf into hits.
 ///
 /// A node's bound, and whether it is given at all, come from its parent, so that a node which isn't opened costs no page.
 pub trait Ranked<P: Pages> {
@@ -27,16 +27,17 @@ pub trait Ranked<P: Pages> {
     /// Whether the pages hold a tree as it has to be.
     ghost fits: { Self → P → Type 0 };
 
-    /// Whether the pages tell their bytes, as they don't over files. What is said of damage and of the pages asked for is said of told ones.
+    /// Whether the contracts know the bytes of the pages, as they don't over files. What the trait states of damage and of the pages
+    /// requested holds for known bytes.
     ghost told: { Self → P → Type 0 };
 
-    /// What `start` gives where the pages fit.
+    /// What `start` gives if the pages fit.
     ghost starts: { Self → P → List Item };
 
-    /// Whether a node of the tree, of this level, stands at a page.
+    /// Whether a node of the tree, of this level, is at a page.
     ghost has_node: { Self → P → ℕ → ℕ → Type 0 };
 
-    /// What `open` gives for a node's page and level where the pages fit.
+    /// What `open` gives for a node's page and level if the pages fit.
     ghost opens: { Self → P → ℕ → ℕ → List Item };
 
     /// The root's page.
@@ -45,19 +46,19 @@ pub trait Ranked<P: Pages> {
     /// Whether a page is a tree's node, and none that the opener reads beside the nodes.
     ghost is_node: { Self → P → ℕ → Type 0 };
 
-    /// Whether an item stands in the bytes of a page as a node of a level.
+    /// Whether an item is in the bytes of a page as a node of a level.
     ghost stands: { List ℕ → ℕ → Item → Type 0 };
 
-    /// Whether the bytes of a page are told, and say that its node is of a level.
+    /// Whether the bytes of a page are readable, and its node is of a level by them.
     ghost has_level: { List ℕ → ℕ → Type 0 };
 
-    /// What a damage says of the pages that were asked for between two logs.
+    /// What a damage means for the pages that were requested between two logs.
     ghost harms: { Self → P → List ℕ → List ℕ → Damage → Type 0 };
 
-    /// The last fault other than want of memory.
+    /// The last fault other than running out of memory.
     ghost held: { Self → Option PageFault };
 
-    /// Gives the root, or nothing where no place below it can be an answer. Where the pages fit, the root is asked for only if it is given.
+    /// Returns the root, or nothing if no place below it can be an answer. If the pages fit, the root is requested only if it is given.
     ///
     /// Refuses `Damaged`, `Disk`, `Stopped` and `Memory`.
     fn start(&mut self, alloc: Global, pages: &mut P) -> Result<Vec<Item>, PageFault>
@@ -67,7 +68,7 @@ pub trait Ranked<P: Pages> {
         ensures asks { told self.old pages.old → AsksNodes (is_node self.old pages.old) (root self.old ∷ []) (P.asked pages.old) (P.asked pages.new) }
         ensures asks_given { fits self.old pages.old → IfOk result (λ items. AsksNodes (is_node self.old pages.old) (pages_of items.items) (P.asked pages.old) (P.asked pages.new)) }
         ensures damaged { told self.old pages.old → (damage : Damage) → IsErrOf result (PageFault.Damaged damage) → harms self.old pages.old (P.asked pages.old) (P.asked pages.new) damage }
-        ensures honest { fits self.old pages.old → (damage : Damage) → result ≢ Err (PageFault.Damaged damage) }
+        ensures no_false_damage { fits self.old pages.old → (damage : Damage) → result ≢ Err (PageFault.Damaged damage) }
         ensures fails { FailsReading P.Pages pages.old pages.new result }
         ensures frame { Reads P.Pages pages.old pages.new }
         ensures held { held self.new ≡ held_after result (held self.old) }
@@ -80,9 +81,10 @@ pub trait Ranked<P: Pages> {
         ensures same_nodes { (page : ℕ) → is_node self.old pages.old page → is_node self.new pages.new page }
         ensures same_root { root self.new ≡ root self.old };
 
-    /// Opens a node: gives the places of a leaf that may be answers, and of every other node the children below which one may be, each with its bound.
+    /// Opens a node: gives the places of a leaf that may be answers, and of every other node the children below which one may be, each with
+    /// its bound.
     ///
-    /// Refuses `Damaged`, with `Level` also where the node's page isn't of the level that it is opened with; `Disk`, `Stopped` and `Memory`.
+    /// Refuses `Damaged`, with `Level` also if the node's page isn't of the level that it is opened with; `Disk`, `Stopped` and `Memory`.
     fn open(
         &mut self,
         alloc: Global,
@@ -99,7 +101,7 @@ pub trait Ranked<P: Pages> {
         ensures asks { told self.old pages.old → AsksNodes (is_node self.old pages.old) (node ∷ []) (P.asked pages.old) (P.asked pages.new) }
         ensures damaged { told self.old pages.old → (damage : Damage) → IsErrOf result (PageFault.Damaged damage) → harms self.old pages.old (P.asked pages.old) (P.asked pages.new) damage
             ⊎ ((damage ≡ record { page = node; rule = Level }) × IsOffLevel has_level (P.pages pages.old) (P.asked pages.old) (P.asked pages.new) node level) }
-        ensures honest { fits self.old pages.old → has_node self.old pages.old node level → (damage : Damage) → result ≢ Err (PageFault.Damaged damage) }
+        ensures no_false_damage { fits self.old pages.old → has_node self.old pages.old node level → (damage : Damage) → result ≢ Err (PageFault.Damaged damage) }
         ensures fails { FailsReading P.Pages pages.old pages.new result }
         ensures frame { Reads P.Pages pages.old pages.new }
         ensures held { held self.new ≡ held_after result (held self.old) }
@@ -112,19 +114,19 @@ pub trait Ranked<P: Pages> {
         ensures same_nodes { (page : ℕ) → is_node self.old pages.old page → is_node self.new pages.new page }
         ensures same_root { root self.new ≡ root self.old };
 
-    /// Where the pages fit, no place costs less than the bound of a node that leads to it.
+    /// If the pages fit, no place costs less than the bound of a node that leads to it.
     ghost starts_bounded: { (s : Self) (p : P) → fits s p → Bounds (opens s p) (starts s p) };
 
-    /// Where the pages fit, `start` gives a node of the tree.
+    /// If the pages fit, `start` gives a node of the tree.
     ghost starts_in: { (s : Self) (p : P) → fits s p → AllByRecursion (OfNode (has_node s p)) (starts s p) };
 
-    /// So does `open` for one.
+    /// So does `open` for such a node.
     ghost opens_in: { (s : Self) (p : P) (page level : ℕ) → fits s p → has_node s p page level → AllByRecursion (OfNode (has_node s p)) (opens s p page level) };
 
-    /// What a damage says of the pages asked for last, it says of all that were asked for.
+    /// What holds of a damage for the pages requested last holds of it for all that were requested.
     ghost harms_sooner: { (s : Self) (p : P) (old more new : List ℕ) (damage : Damage) → harms s p (old ++ more) new damage → harms s p old new damage };
 
-    /// The rule `Level` may be told of a page that was given below another one, and hasn't the level that it was given with.
+    /// The rule `Level` may be given for a page that came from another one above it, and hasn't the level that it was given with.
     ghost mislevelled: { (s : Self) (p : P) (old new : List ℕ) (page level : ℕ) → IsGivenBelow stands has_level (P.pages p) old new page level
         → IsOffLevel has_level (P.pages p) old new page level → harms s p old new (record { page = page; rule = Level }) };
 }

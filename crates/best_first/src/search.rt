@@ -3,8 +3,8 @@ ghost use Rattle.std.specs.Prelude.{◌≡◌, ◌≢◌, ◌⊎◌, ◌≤◌, 
 ghost use Rattle.std.specs.BinaryHeap.{heap_items};
 ghost use Rattle.page_face.specs.Calls.{Reads, FailsReading};
 ghost use Rattle.page_face.specs.declared.fault.Damage.{Damage};
-ghost use Rattle.ranking.specs.First.{first, IsRanked};
-ghost use Rattle.place_map.specs.Hit.{comes_before};
+ghost use Rattle.place_values.specs.First.{first, IsRanked};
+ghost use Rattle.place_values.specs.Hit.{comes_before};
 ghost use Rattle.best_first.specs.Items.{node_alone, place_alone, nodes_of, places_of};
 ghost use Rattle.best_first.specs.Leads.{leads};
 ghost use Rattle.best_first.specs.Queue.{waiting};
@@ -14,7 +14,7 @@ use crate::best::{is_settled, keep};
 use crate::queue::{Queue, Waiting};
 use crate::{Item, Ranked};
 use page_face::{PageFault, Pages};
-use place_map::Hit;
+use place_values::Hit;
 use std::alloc::{AllocError, Global};
 
 // Puts a node into the queue, and a place among the best k.
@@ -40,7 +40,7 @@ fn sort_one(
     }
 }
 
-// Does so with each item.
+// Sorts each item as `sort_one` does.
 fn sort_each(
     items: &[Item],
     queue: &mut Queue,
@@ -58,7 +58,7 @@ fn sort_each(
     Ok(())
 }
 
-// Does so, with the fault of a search.
+// Sorts each item, and returns a search's fault.
 #[inline(always)]
 fn sort_in(
     items: &[Item],
@@ -80,8 +80,8 @@ fn sort_in(
 
 /// Returns the first k places that an opener leads to, by cost and then by key.
 ///
-/// A node is opened only while fewer than k places were found that cost less than its bound, so a node goes before a place of equal
-/// cost. It refuses the fault that the opener then holds, or `Memory`.
+/// A node is opened only while fewer than k places were found that cost less than its bound, so a node goes before a place of equal cost.
+/// It refuses the fault that the opener then holds, or `Memory`.
 ///
 /// Each opened node takes one call of the opener, and each place at most k comparisons.
 pub fn first_k<P: Pages, R: Ranked<P>>(
@@ -99,7 +99,7 @@ pub fn first_k<P: Pages, R: Ranked<P>>(
     ensures cause { IfErr result (λ fault. (fault ≡ PageFault.Memory) ⊎ (R.held ranked.new ≡ Some fault)) }
     ensures damaged { R.told ranked.old pages.old → (damage : Damage) → IsErrOf result (PageFault.Damaged damage)
         → R.harms ranked.old pages.old (P.asked pages.old) (P.asked pages.new) damage }
-    ensures honest { R.fits ranked.old pages.old → (damage : Damage) → result ≢ Err (PageFault.Damaged damage) }
+    ensures no_false_damage { R.fits ranked.old pages.old → (damage : Damage) → result ≢ Err (PageFault.Damaged damage) }
     ensures fails { FailsReading P.Pages pages.old pages.new result }
     ensures frame { Reads P.Pages pages.old pages.new }
 {

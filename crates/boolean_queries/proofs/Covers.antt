@@ -7,11 +7,11 @@ use Rattle.page_face.specs.FreeList.{PageMap}
 use Rattle.spatial_base.specs.Point.{Position, IsOnMap, distance}
 use Rattle.spatial_base.specs.Rect.{Holds, mindist_of}
 use Rattle.spatial_base.specs.Laws.{mindist-below}
-use Rattle.place_map.specs.declared.query.Expr.{Expr}
-use Rattle.place_map.specs.declared.query.Expr.TheVariants.{Has, Not', And', Or'}
-use Rattle.rtree_shape.specs.Slots.{Item, NodeView, NodeMap, got, Held, Each}
-use Rattle.rtree_shape.specs.Trees.{below, IsItem, reach_of}
-use Rattle.rtree_shape.proofs.Heights.{tops-at, amount-nothing}
+use Rattle.place_values.specs.declared.query.Expr.{Expr}
+use Rattle.place_values.specs.declared.query.Expr.TheVariants.{Has, Not', And', Or'}
+use Rattle.rtree_nodes.specs.Slots.{Item, NodeView, NodeMap, got, Held, Each}
+use Rattle.rtree_nodes.specs.Trees.{below, IsItem, reach_of}
+use Rattle.rtree_nodes.proofs.Heights.{tops-at, amount-nothing}
 use Rattle.rtree_nodes.specs.Cells.{is_on_map}
 use Rattle.rtree_nodes.specs.Reach.{place_item}
 use Rattle.rtree_nodes.specs.Pages.{level_in, is_used, is_form, stored_in, node_of}
@@ -21,9 +21,9 @@ use Rattle.rtree_nodes.proofs.Cells.{map-from, int-le, le-int}
 use Rattle.node_rows.specs.Rows.{bytes_in}
 use Rattle.irtree_shape.specs.Words.{joined_item}
 use Rattle.irtree_shape.specs.Made.{nodes_in}
-use Rattle.tree_entries.specs.Entries.{point_of, rect_of_item}
-use Rattle.tree_entries.specs.Numbers.{Numbers, number_of, by_number, impact_of}
-use Rattle.tree_entries.specs.Filters.{meets as meets_words, may_meet, admits_by}
+use Rattle.node_filter.specs.Entries.{point_of, rect_of_item}
+use Rattle.node_filter.specs.Numbers.{Numbers, number_of, by_number, impact_of}
+use Rattle.node_filter.specs.Filters.{meets as meets_words, may_meet, admits_by}
 use Rattle.boolean_queries.specs.declared.region.Region.{Region}
 use Rattle.boolean_queries.specs.declared.region.Region.TheVariants.{Within, Inside}
 use Rattle.boolean_queries.specs.Regions.{meets, has_point, IsOnTheMap}

@@ -4,11 +4,11 @@ use Rattle.page_face.specs.FreeList.{PageMap}
 use Rattle.page_face.specs.Causes.{IsUncounted}
 use Rattle.page_face.specs.declared.fault.Rule.{Rule}
 use Rattle.page_face.specs.declared.fault.Rule.TheVariants.{Head, Link, Kind, Fill, Order, Spare, Level, Value, Shared, Rect, Row, Entry, Words, Counts}
-use Rattle.rtree_shape.specs.Slots.{NodeView}
+use Rattle.rtree_nodes.specs.Slots.{NodeView}
 use Rattle.rtree_nodes.specs.Pages.{node_of}
-use Rattle.rtree_find.specs.Subtrees.{IsNodeAt}
-use Rattle.rtree_find.specs.Harms.{BreaksAlone, BreaksPlace}
-use Rattle.rtree_find.proofs.Subtrees.{IsRead, values-form}
+use Rattle.rtree_nodes.specs.Subtrees.{IsNodeAt}
+use Rattle.rtree_nodes.specs.Harms.{BreaksAlone, BreaksPlace}
+use Rattle.rtree_nodes.proofs.Subtrees.{IsRead, values-form}
 use Rattle.irtree_shape.specs.Made.{nodes_in}
 use Rattle.boolean_queries.proofs.Opened.{joined-read}
 

@@ -8,17 +8,17 @@ use Rattle.page_face.specs.FreeList.{PageMap}
 use Rattle.page_face.specs.declared.fault.Rule.TheVariants.{Level}
 use Rattle.page_face.specs.declared.fault.Damage.{Damage}
 use Rattle.btree_nodes.specs.Damages.{AskedSince}
-use Rattle.place_map.specs.declared.hit.Hit.{Hit}
-use Rattle.rtree_shape.specs.Slots.{IsChildAt}
-use Rattle.rtree_shape.proofs.Heights.{none_or}
+use Rattle.place_values.specs.declared.hit.Hit.{Hit}
+use Rattle.rtree_nodes.specs.Slots.{IsChildAt}
+use Rattle.rtree_nodes.proofs.Heights.{none_or}
 use Rattle.rtree_nodes.specs.Pages.{level_in, stored_in}
-use Rattle.rtree_find.specs.Harms.{BreaksAlone, BreaksPlace, IfTold, IsMislevelled, HasWrongLevel, IsHarm}
+use Rattle.rtree_nodes.specs.Harms.{BreaksAlone, BreaksPlace, IfReadable, IsMislevelled, HasWrongLevel, IsHarm}
 use Rattle.best_first.specs.declared.item.Item.{Item}
 use Rattle.best_first.specs.declared.item.Item.TheVariants.{Node, Place}
 use Rattle.best_first.specs.Items.{nodes_of, places_of, IsGivenAt}
 use Rattle.best_first.specs.Openings.{Opening, pages_opened, given_by, IsFromLeaf}
-use Rattle.best_first.proofs.Lists.{all_weaker, all_append, all_parts, all_in, all_moved}
-use Rattle.best_first.proofs.Logs.{asked_sooner, asked_before}
+use Rattle.best_first.specs.Lists.{all_weaker, all_append, all_parts, all_in, all_moved}
+use Rattle.best_first.specs.Logs.{asked_sooner, asked_before}
 use Rattle.best_first.proofs.Steps.{all_nodes}
 use Rattle.best_first.proofs.Histories.{contains_head as contains-head, places_from as places-from}
 use Rattle.boolean_queries.specs.declared.region.Region.{Region}
@@ -136,7 +136,7 @@ module _ (region : Region) (pages : PageMap) (mine : ℕ → ℕ) (fits : Type 0
       }
 
   -- a child of an opened node that isn't of its level
-  mislevelled : (old new : List ℕ) (page level bound : ℕ) → IfTold pages page (λ bytes. level_in bytes ≢ level) → IsSource old new (Node page level bound) → IsMislevelled pages old new page
+  mislevelled : (old new : List ℕ) (page level bound : ℕ) → IfReadable pages page (λ bytes. level_in bytes ≢ level) → IsSource old new (Node page level bound) → IsMislevelled pages old new page
   mislevelled old new page level bound wrong s = ⊎_elim
       (λ (none : length (pages s.opening.page) ≡ 0).
       record { parent = s.opening.page; at = 0; asked = s.read; names = λ some. absurd (omega arith); level = λ some there. absurd (omega arith) })
@@ -152,14 +152,14 @@ module _ (region : Region) (pages : PageMap) (mine : ℕ → ℕ) (fits : Type 0
       (none_or (length (pages s.opening.page)))
 
   -- the root, looked at as of another level than it was found to have
-  misread : (page level bound : ℕ) → IfTold pages root (λ bytes. level_in bytes ≡ root_level) → IfTold pages page (λ bytes. level_in bytes ≢ level) → Node page level bound ≡ Node root root_level 0 → IfTold pages page (λ bytes. 9 < level_in bytes)
+  misread : (page level bound : ℕ) → IfReadable pages root (λ bytes. level_in bytes ≡ root_level) → IfReadable pages page (λ bytes. level_in bytes ≢ level) → Node page level bound ≡ Node root root_level 0 → IfReadable pages page (λ bytes. 9 < level_in bytes)
   misread page level bound right wrong e some =
       let p : page ≡ root = ap page-in e in
       let l : level ≡ root_level = ap level-in e in
-      absurd (wrong some (subst (λ (n : ℕ). IfTold pages n (λ bytes. level_in bytes ≡ root_level)) (sym p) right some ∙ sym l))
+      absurd (wrong some (subst (λ (n : ℕ). IfReadable pages n (λ bytes. level_in bytes ≡ root_level)) (sym p) right some ∙ sym l))
 
   module _ (rows count : ℕ) (old mid new : List ℕ) (page level bound : ℕ) (queue rest : List Item) (found : List Hit) (damage : Damage) where
-    wrong-level : IfTold pages root (λ bytes. level_in bytes ≡ root_level) → Contains queue (Node page level bound) → AskedSince mid new page → IfTold pages page (λ bytes. level_in bytes ≢ level) → Underway old mid found queue → HasWrongLevel pages root old new page
+    wrong-level : IfReadable pages root (λ bytes. level_in bytes ≡ root_level) → Contains queue (Node page level bound) → AskedSince mid new page → IfReadable pages page (λ bytes. level_in bytes ≢ level) → Underway old mid found queue → HasWrongLevel pages root old new page
     wrong-level right among a wrong u =
         let t = u.told in
         let item = Node page level bound in
@@ -173,7 +173,7 @@ module _ (region : Region) (pages : PageMap) (mine : ℕ → ℕ) (fits : Type 0
         (source old new t.start item t.openings t.stood t.children read (all-contained (Contains (given_by t.start t.openings)) queue item u.queued among))
 
     -- the damage of a node that waited
-    pub harm-node : queue ≡ rest ++ Node page level bound ∷ [] → IfTold pages root (λ bytes. level_in bytes ≡ root_level) → IsNodeHarm pages count rows level page mid new damage → Underway old mid found queue → IsQueryHarm pages count rows root old new damage
+    pub harm-node : queue ≡ rest ++ Node page level bound ∷ [] → IfReadable pages root (λ bytes. level_in bytes ≡ root_level) → IsNodeHarm pages count rows level page mid new damage → Underway old mid found queue → IsQueryHarm pages count rows root old new damage
     harm-node q right h u =
         let more = u.told.log.more in
         let log = u.told.log.log in
@@ -185,7 +185,7 @@ module _ (region : Region) (pages : PageMap) (mine : ℕ → ℕ) (fits : Type 0
         inl (record {
           asked = subst (λ (n : ℕ). AskedSince old new n) same asked;
           breaks = subst (λ (n : ℕ). BreaksAlone damage.rule pages count n ⊎ ((damage.rule ≡ Level) × HasWrongLevel pages root old new n)) same
-              (⊎_elim (λ (alone : BreaksAlone damage.rule pages count page). inl alone) (λ (at_level : (damage.rule ≡ Level) × IfTold pages page (λ bytes. level_in bytes ≢ level)). inr (at_level.0, wrong-level right among d.1 at_level.1 u)) d.2);
+              (⊎_elim (λ (alone : BreaksAlone damage.rule pages count page). inl alone) (λ (at_level : (damage.rule ≡ Level) × IfReadable pages page (λ bytes. level_in bytes ≢ level)). inr (at_level.0, wrong-level right among d.1 at_level.1 u)) d.2);
         }))
         (λ (m : IsRowsDamage pages count rows mid new damage). inr (m.0, asked_sooner old more new damage.page (subst (λ (l : List ℕ). AskedSince l new damage.page) log m.1)))
         h
@@ -237,7 +237,7 @@ harm-sooner pages count rows root old more mid new damage e h =
           (λ (at_level : (damage.rule ≡ Level) × HasWrongLevel pages root mid new damage.page).
           inr (
             at_level.0,
-            ⊎_elim (λ (first : (damage.page ≡ root) × IfTold pages damage.page (λ bytes. 9 < level_in bytes)). inl first)
+            ⊎_elim (λ (first : (damage.page ≡ root) × IfReadable pages damage.page (λ bytes. 9 < level_in bytes)). inl first)
                 (λ (m : IsMislevelled pages mid new damage.page). inr (record { parent = m.parent; at = m.at; asked = sooner m.parent m.asked; names = m.names; level = m.level })) at_level.1,
           )) harm.breaks;
     }))

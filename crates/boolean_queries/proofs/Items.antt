@@ -3,12 +3,12 @@ use Rattle.std.proofs.Common.{◌≡◌, ℕ, zero, suc, ◌+◌, ◌*◌, ◌-�
 use Rattle.std.specs.Prelude.{if◌then◌else◌}
 use Rattle.std.proofs.lemmas.Bool.{eqb-true, eqb-false, lt-ltb, le-ltb}
 use Rattle.std.proofs.lemmas.Bool.Decides.{nat_tests}
-use Rattle.rtree_shape.specs.Slots.{Item}
-use Rattle.rtree_shape.proofs.Amounts.{same_or}
+use Rattle.rtree_nodes.specs.Slots.{Item}
+use Rattle.rtree_nodes.proofs.Amounts.{same_or}
 use Rattle.spatial_base.specs.Key.{Name, IsName, form_of}
 use Rattle.spatial_base.specs.Point.{Position, IsOnMap}
 use Rattle.spatial_base.specs.Rect.{Bounds, IsRect}
-use Rattle.place_map.specs.declared.hit.Hit.{Hit}
+use Rattle.place_values.specs.declared.hit.Hit.{Hit}
 use Rattle.rtree_nodes.specs.Reach.{place_item, child_item, item_of, is_place}
 use Rattle.rtree_nodes.specs.declared.content.Slot.{Slot}
 use Rattle.rtree_nodes.specs.declared.content.Slot.TheVariants as slots
@@ -18,10 +18,10 @@ use Rattle.rtree_nodes.proofs.Formed.{stored-used}
 use Rattle.rtree_nodes.proofs.Children.{leaf-item, point_from}
 use Rattle.best_first.specs.declared.item.Item as best
 use Rattle.best_first.specs.declared.item.Item.TheVariants.{Node, Place}
-use Rattle.tree_entries.specs.Masks.{has_slot}
-use Rattle.tree_entries.proofs.Marking.{slot-none}
-use Rattle.tree_entries.specs.Entries.{point_of, rect_of_item, name_of}
-use Rattle.tree_ranking.proofs.Sides.{place-point, child-rect}
+use Rattle.node_filter.specs.Masks.{has_slot}
+use Rattle.node_filter.proofs.Marking.{slot-none}
+use Rattle.node_filter.specs.Entries.{point_of, rect_of_item, name_of}
+use Rattle.best_first.proofs.Sides.{place-point, child-rect}
 use Rattle.boolean_queries.specs.declared.region.Region.{Region}
 use Rattle.boolean_queries.specs.Regions.{meets, has_point, hit_in}
 use Rattle.boolean_queries.specs.Near.{near_item, is_near, alone_in, listed, touches, given}

@@ -4,31 +4,31 @@ use Rattle.std.specs.Prelude.{if◌then◌else◌}
 use Rattle.std.specs.List.{flat_map}
 use Rattle.std.proofs.lemmas.List.{append-nil}
 use Rattle.page_face.specs.FreeList.{PageMap}
-use Rattle.ranking.specs.Members.{SameMembers}
-use Rattle.place_map.specs.declared.hit.Hit.{Hit}
-use Rattle.place_map.specs.declared.query.Expr.{Expr}
-use Rattle.rtree_shape.specs.Slots.{Item, Slots, NodeMap, got, amount, Held}
-use Rattle.rtree_shape.specs.Trees.{below, IsItem, node_below}
-use Rattle.rtree_shape.proofs.Sums.{sum-same}
+use Rattle.place_values.specs.Members.{SameMembers}
+use Rattle.place_values.specs.declared.hit.Hit.{Hit}
+use Rattle.place_values.specs.declared.query.Expr.{Expr}
+use Rattle.rtree_nodes.specs.Slots.{Item, Slots, NodeMap, got, amount, Held}
+use Rattle.rtree_nodes.specs.Trees.{below, IsItem, node_below}
+use Rattle.rtree_nodes.proofs.Sums.{sum-same}
 use Rattle.rtree_nodes.specs.Pages.{node_of}
-use Rattle.rtree_find.specs.Subtrees.{IsNodeAt}
-use Rattle.rtree_find.proofs.Subtrees.{child-node}
+use Rattle.rtree_nodes.specs.Subtrees.{IsNodeAt}
+use Rattle.rtree_nodes.proofs.Subtrees.{child-node}
 use Rattle.irtree_shape.specs.Made.{nodes_in}
 use Rattle.irtree_shape.specs.Whole.{level_at}
 use Rattle.best_first.specs.declared.item.Item as best
 use Rattle.best_first.specs.declared.item.Item.TheVariants.{Node, Place}
 use Rattle.best_first.specs.Leads as under
 use Rattle.best_first.specs.Leads.{led}
-use Rattle.tree_entries.specs.Entries.{point_of, tree_places}
-use Rattle.tree_entries.specs.Numbers.{Numbers, impact_of}
-use Rattle.tree_entries.specs.Filters.{admits_by}
-use Rattle.tree_entries.proofs.Places.{tree-sum}
+use Rattle.node_filter.specs.Entries.{point_of, tree_places}
+use Rattle.node_filter.specs.Numbers.{Numbers, impact_of}
+use Rattle.node_filter.specs.Filters.{admits_by}
+use Rattle.node_filter.proofs.Places.{tree-sum}
 use Rattle.boolean_queries.specs.declared.region.Region.{Region}
 use Rattle.boolean_queries.specs.declared.region.Region.TheVariants.{Within, Inside}
 use Rattle.boolean_queries.specs.Regions.{has_point, IsOnTheMap}
 use Rattle.boolean_queries.specs.Near.{in_order, listed, touches}
 use Rattle.boolean_queries.specs.Opens.{hits_in, gives, opens_in}
-use Rattle.best_first.proofs.Lists.{sum_by-flat_map}
+use Rattle.best_first.specs.Lists.{sum_by-flat_map}
 use Rattle.boolean_queries.proofs.Lists.{in-order-sum, in-order-flat}
 use Rattle.boolean_queries.proofs.Covers.{leaf-places, below-nothing, region-without, filter-without}
 use Rattle.node_rows.proofs.Bytes.{and_false}

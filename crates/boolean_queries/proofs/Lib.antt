@@ -9,3 +9,12 @@ pub mod Histories
 pub mod Subtrees
 pub mod Covers
 pub mod Leads
+pub mod OpenedLists
+pub mod BoundingItems
+pub mod Belows
+pub mod Chains
+pub mod Rankings
+pub mod Searches
+pub mod OpenedWalks
+pub mod Behinds
+pub mod Words

@@ -4,8 +4,8 @@ use Rattle.std.specs.List.{AllByRecursion, flat_map}
 use Rattle.std.proofs.lemmas.List.{length-append}
 use Rattle.std.proofs.lemmas.Grind.{flat_map-append}
 use Rattle.std.proofs.lemmas.List.Sums.{sum_by-append}
-use Rattle.rtree_shape.specs.Slots.{sum_to}
-use Rattle.best_first.proofs.Lists.{all_append}
+use Rattle.rtree_nodes.specs.Slots.{sum_to}
+use Rattle.best_first.specs.Lists.{all_append}
 use Rattle.boolean_queries.specs.Near.{in_order}
 
 -- no list

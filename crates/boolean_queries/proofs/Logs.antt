@@ -4,7 +4,7 @@ use Rattle.std.specs.List.{Contains}
 use Rattle.btree_nodes.specs.Supply.{one_at}
 use Rattle.btree_nodes.proofs.Supplies.{one_at-is}
 use Rattle.btree_nodes.specs.Damages.{AsksOnly}
-use Rattle.best_first.proofs.Lists.{all_weaker, all_append, all_in}
+use Rattle.best_first.specs.Lists.{all_weaker, all_append, all_in}
 use Rattle.boolean_queries.specs.Walked.{AsksFor}
 
 -- other nodes may be asked for, too

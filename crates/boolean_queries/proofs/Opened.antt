@@ -5,22 +5,22 @@ use Rattle.std.specs.List.{AllByRecursion, flat_map}
 use Rattle.std.specs.Int.{bit_at}
 use Rattle.std.proofs.lemmas.Bool.{lt-ltb}
 use Rattle.page_face.specs.FreeList.{PageMap}
-use Rattle.place_map.specs.declared.query.Expr.{Expr}
-use Rattle.rtree_shape.specs.Slots.{Item, Slots, got, one, filled}
-use Rattle.rtree_shape.proofs.Amounts.{amount-same}
+use Rattle.place_values.specs.declared.query.Expr.{Expr}
+use Rattle.rtree_nodes.specs.Slots.{Item, Slots, got, one, filled}
+use Rattle.rtree_nodes.proofs.Amounts.{amount-same}
 use Rattle.rtree_nodes.specs.Pages.{level_in, stored_in, node_of}
-use Rattle.rtree_find.specs.Subtrees.{IsNodeAt}
-use Rattle.rtree_find.proofs.Subtrees.{IsRead, some-read}
+use Rattle.rtree_nodes.specs.Subtrees.{IsNodeAt}
+use Rattle.rtree_nodes.proofs.Subtrees.{IsRead, some-read}
 use Rattle.node_rows.specs.Rows.{bytes_in}
 use Rattle.irtree_shape.specs.Words.{joined_item, words_on}
 use Rattle.irtree_shape.specs.Made.{nodes_in}
 use Rattle.irtree_shape.proofs.Relinks.{word-reach}
 use Rattle.best_first.specs.declared.item.Item as best
 use Rattle.best_first.specs.Items.{IsGivenAt}
-use Rattle.tree_entries.specs.Masks.{has_slot, Marks}
-use Rattle.tree_entries.proofs.Marking.{slot-none}
-use Rattle.tree_entries.specs.Numbers.{Numbers, impact_by, impact_of, byte_of}
-use Rattle.tree_entries.specs.Filters.{admits_by}
+use Rattle.node_filter.specs.Masks.{has_slot, Marks}
+use Rattle.node_filter.proofs.Marking.{slot-none}
+use Rattle.node_filter.specs.Numbers.{Numbers, impact_by, impact_of, byte_of}
+use Rattle.node_filter.specs.Filters.{admits_by}
 use Rattle.boolean_queries.specs.declared.region.Region.{Region}
 use Rattle.boolean_queries.specs.declared.near.Near.{Near}
 use Rattle.boolean_queries.specs.Near.{in_order, listed, is_near, touches, given, near_item, numbered, near_slot, nears, kept_one, kept}

@@ -4,24 +4,24 @@ use Rattle.std.specs.Prelude.{if◌then◌else◌}
 use Rattle.std.specs.List.{AllByRecursion}
 use Rattle.page_face.specs.FreeList.{PageMap}
 use Rattle.btree_nodes.proofs.Supplies.{uncounted-past}
-use Rattle.place_map.specs.declared.query.Expr.{Expr}
-use Rattle.rtree_shape.specs.Slots.{Item, NodeMap}
-use Rattle.rtree_shape.specs.Trees.{root_least}
-use Rattle.rtree_shape.specs.Stock.{view}
-use Rattle.rtree_shape.proofs.Heights.{root-some, node-level}
+use Rattle.place_values.specs.declared.query.Expr.{Expr}
+use Rattle.rtree_nodes.specs.Slots.{Item, NodeMap}
+use Rattle.rtree_nodes.specs.Trees.{root_least}
+use Rattle.rtree_nodes.specs.Stock.{view}
+use Rattle.rtree_nodes.proofs.Heights.{root-some, node-level}
 use Rattle.rtree_nodes.specs.Pages.{level_in, node_of}
-use Rattle.rtree_find.specs.Subtrees.{IsNodeAt, AreCounted}
-use Rattle.rtree_find.proofs.Subtrees.{child-node, child-counted}
+use Rattle.rtree_nodes.specs.Subtrees.{IsNodeAt, AreCounted}
+use Rattle.rtree_nodes.proofs.Subtrees.{child-node, child-counted}
 use Rattle.paged_map.proofs.Maps.{kept-counted}
 use Rattle.irtree_shape.specs.Made.{nodes_in}
 use Rattle.irtree_shape.specs.Whole.{IsWell, level_at, tree_uses}
 use Rattle.best_first.specs.declared.item.Item as best
 use Rattle.best_first.specs.declared.item.Item.TheVariants.{Node, Place}
 use Rattle.best_first.specs.Items.{nodes_of}
-use Rattle.best_first.proofs.Lists.{all_append, all_parts}
+use Rattle.best_first.specs.Lists.{all_append, all_parts}
 use Rattle.best_first.proofs.Steps.{all_nodes}
-use Rattle.tree_entries.specs.Numbers.{Numbers, impact_of}
-use Rattle.tree_entries.specs.Filters.{admits_by}
+use Rattle.node_filter.specs.Numbers.{Numbers, impact_of}
+use Rattle.node_filter.specs.Filters.{admits_by}
 use Rattle.boolean_queries.specs.declared.region.Region.{Region}
 use Rattle.boolean_queries.specs.Near.{listed, touches, given}
 use Rattle.boolean_queries.specs.Opens.{Fits, IsGood, gives, opens_in, starts_at}

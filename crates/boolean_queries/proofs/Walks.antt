@@ -4,8 +4,8 @@ use Rattle.std.specs.List.{AllByRecursion}
 use Rattle.std.proofs.lemmas.List.{append-nil}
 use Rattle.std.proofs.lemmas.Grind.{flat_map-append}
 use Rattle.std.proofs.lemmas.List.Sums.{sum_by-cons, sum_by-append}
-use Rattle.ranking.specs.Members.{SameMembers}
-use Rattle.place_map.specs.declared.hit.Hit.{Hit}
+use Rattle.place_values.specs.Members.{SameMembers}
+use Rattle.place_values.specs.declared.hit.Hit.{Hit}
 use Rattle.best_first.specs.declared.item.Item.{Item}
 use Rattle.best_first.specs.declared.item.Item.TheVariants.{Node, Place}
 use Rattle.best_first.specs.Items.{nodes_of, places_of, IsGivenAt}

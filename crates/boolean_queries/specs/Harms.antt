@@ -3,7 +3,7 @@ use Rattle.std.specs.Prelude.{◌≡◌, ◌≢◌, ◌⊎◌, ℕ, List}
 use Rattle.page_face.specs.FreeList.{PageMap}
 use Rattle.page_face.specs.declared.fault.Damage.{Damage}
 use Rattle.btree_nodes.specs.Damages.{AskedSince}
-use Rattle.rtree_find.specs.Harms.{BreaksPlace, IsHarm}
+use Rattle.rtree_nodes.specs.Harms.{BreaksPlace, IsHarm}
 use Rattle.node_rows.specs.Damages.{IsRowsDamage}
 
 -- the page of a node, looked at as one of this level, breaks a rule, or a page of the rows' map does

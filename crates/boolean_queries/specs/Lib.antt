@@ -4,3 +4,7 @@ pub mod Waiting
 pub mod Opens
 pub mod Walked
 pub mod Harms
+pub mod BoundingItems
+pub mod Bounds
+pub mod Logs
+pub mod Words

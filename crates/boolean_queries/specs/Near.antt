@@ -2,10 +2,10 @@
 use Rattle.std.specs.Prelude.{ℕ, zero, suc, Bool, false, ◌==◌, ◌&&◌, nat_lt, map, if◌then◌else◌, List, [], ◌∷◌, ◌++◌, Option, Some, None}
 use Rattle.std.specs.List.{flat_map}
 use Rattle.std.specs.Int.{bit_at}
-use Rattle.rtree_shape.specs.Slots.{Item, Slots}
+use Rattle.rtree_nodes.specs.Slots.{Item, Slots}
 use Rattle.best_first.specs.declared.item.Item as best
 use Rattle.best_first.specs.declared.item.Item.TheVariants.{Node, Place}
-use Rattle.tree_entries.specs.Entries.{point_of, rect_of_item, name_of}
+use Rattle.node_filter.specs.Entries.{point_of, rect_of_item, name_of}
 use Rattle.boolean_queries.specs.declared.region.Region.{Region}
 use Rattle.boolean_queries.specs.declared.near.Near.{Near}
 use Rattle.boolean_queries.specs.Regions.{meets, has_point, hit_in}

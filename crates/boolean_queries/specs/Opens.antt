@@ -2,21 +2,21 @@
 use Rattle.std.specs.Prelude.{ℕ, zero, suc, ◌&&◌, if◌then◌else◌, List, [], ◌∷◌, Option, Some, None}
 use Rattle.std.specs.Borrow.{Bor}
 use Rattle.page_face.specs.FreeList.{PageMap}
-use Rattle.place_map.specs.declared.hit.Hit.{Hit}
-use Rattle.place_map.specs.declared.query.Expr.{Expr}
-use Rattle.rtree_shape.specs.Slots.{Item, NodeMap}
+use Rattle.place_values.specs.declared.hit.Hit.{Hit}
+use Rattle.place_values.specs.declared.query.Expr.{Expr}
+use Rattle.rtree_nodes.specs.Slots.{Item, NodeMap}
 use Rattle.btree_nodes.specs.Tree.{IsMap, map_uses}
 use Rattle.paged_map.specs.Maps.{AreCounted as AreRowsCounted}
-use Rattle.rtree_shape.specs.Stock.{view, rows_form}
-use Rattle.rtree_find.specs.Subtrees.{IsNodeAt, AreCounted}
+use Rattle.rtree_nodes.specs.Stock.{view, rows_form}
+use Rattle.rtree_nodes.specs.Subtrees.{IsNodeAt, AreCounted}
 use Rattle.irtree_shape.specs.Made.{nodes_in}
 use Rattle.rtree_nodes.specs.Pages.{node_of}
 use Rattle.irtree_shape.specs.Whole.{IsWhole, level_at}
 use Rattle.best_first.specs.declared.item.Item as best
 use Rattle.best_first.specs.declared.item.Item.TheVariants.{Node}
-use Rattle.tree_entries.specs.Numbers.{Numbers, impact_of}
-use Rattle.tree_entries.specs.Filters.{admits_by}
-use Rattle.tree_entries.specs.Hits.{range_item, box_item}
+use Rattle.node_filter.specs.Numbers.{Numbers, impact_of}
+use Rattle.node_filter.specs.Filters.{admits_by}
+use Rattle.node_filter.specs.Hits.{range_item, box_item}
 use Rattle.boolean_queries.specs.declared.region.Region.{Region}
 use Rattle.boolean_queries.specs.declared.region.Region.TheVariants.{Within, Inside}
 use Rattle.boolean_queries.specs.Near.{in_order, listed, touches, given}

@@ -3,7 +3,7 @@ use Rattle.std.specs.Prelude.{ℕ, ℤ, Bool, ◌&&◌, nat_le, int_le}
 use Rattle.spatial_base.specs.Key.{Name}
 use Rattle.spatial_base.specs.Point.{Position, IsOnMap, distance}
 use Rattle.spatial_base.specs.Rect.{Bounds, IsRect, holds_point, mindist_of}
-use Rattle.place_map.specs.declared.hit.Hit.{Hit}
+use Rattle.place_values.specs.declared.hit.Hit.{Hit}
 use Rattle.boolean_queries.specs.declared.region.Region.{Region}
 use Rattle.boolean_queries.specs.declared.region.Region.TheVariants.{Within, Inside}
 

@@ -3,8 +3,8 @@ use Rattle.std.specs.Prelude.{◌≡◌, ◌⊎◌, ℕ, ◌<◌, true, List, �
 use Rattle.std.specs.List.{AllByRecursion, Contains}
 use Rattle.page_face.specs.FreeList.{PageMap}
 use Rattle.btree_nodes.specs.Damages.{AskedSince}
-use Rattle.place_map.specs.declared.hit.Hit.{Hit}
-use Rattle.rtree_shape.specs.Slots.{Item}
+use Rattle.place_values.specs.declared.hit.Hit.{Hit}
+use Rattle.rtree_nodes.specs.Slots.{Item}
 use Rattle.rtree_nodes.specs.Pages.{level_in, stored_in}
 use Rattle.best_first.specs.declared.item.Item as best
 use Rattle.best_first.specs.Items.{IsGivenAt, IsRootAlone}

@@ -5,12 +5,12 @@ ghost use Rattle.page_face.specs.declared.fault.Rule.TheVariants.{Level as Wrong
 ghost use Rattle.btree_nodes.specs.Damages.{AskedSince, AsksOnly};
 ghost use Rattle.btree_nodes.specs.Supply.{one_at};
 ghost use Rattle.rtree_nodes.specs.Pages.{level_in};
-ghost use Rattle.rtree_find.specs.Harms.{BreaksPlace};
+ghost use Rattle.rtree_nodes.specs.Harms.{BreaksPlace};
 
 use btree_nodes::damaged;
+use node_filter::enter;
 use page_face::{Damage, PageFault, Pages, Rule};
-use rtree_shape::LEVEL_MAX;
-use tree_entries::enter;
+use rtree_nodes::LEVEL_MAX;
 
 /// Looks at a root, and returns its level, which is at most `LEVEL_MAX`.
 ///

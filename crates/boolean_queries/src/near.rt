@@ -1,22 +1,21 @@
-//! The slots of a node that touch a region, read where they lie in the page.
+//! The slots of a node that touch a region, read in place in the page.
 ghost use Rattle.std.specs.Prelude.{◌≡◌, ◌≢◌, ◌⊎◌, ◌||◌, ℕ, ◌<◌, ◌≤◌, ◌+◌, ◌==◌, [], ◌++◌, map, true, false, IfOk, IfErr, OnOk, IsOk};
 ghost use Rattle.page_face.specs.declared.fault.Rule.TheVariants.{Value};
 ghost use Rattle.rtree_nodes.specs.Numbers.{int_at, number_at};
 ghost use Rattle.rtree_nodes.specs.Breaks.{BreaksNode};
 ghost use Rattle.rtree_nodes.specs.Pages.{level_in, is_form, is_used as is_used_in, stored_in};
 ghost use Rattle.rtree_nodes.specs.Reach.{item_of, is_place};
-ghost use Rattle.tree_entries.specs.Masks.{has_slot, Marks};
+ghost use Rattle.node_filter.specs.Masks.{has_slot, Marks};
 ghost use Rattle.boolean_queries.specs.Near.{near_item, is_near, nears, numbered, listed, alone_in};
 
 use crate::region::Region;
 use best_first::Item;
 use btree_nodes::damaged;
 use page_face::{Page, PageFault, Rule};
-use rtree_nodes::{Slot, slot_at};
-use rtree_shape::SLOTS;
+use rtree_nodes::{SLOTS, Slot, slot_at};
 use spatial_base::Point;
 
-// Where the first slot of a node's page begins, behind its header.
+// The offset of the first slot of a node's page, after its header.
 const SLOTS_AT: usize = 16;
 
 // The bytes of a place: two coordinates of 4 bytes, and a key's form of 66.
@@ -56,7 +55,7 @@ fn is_used(page: &Page, at: usize) -> bool
     (number(page, 4) >> at) & 1 == 1
 }
 
-// Whether a leaf's slot may hold a place in the region, by its point alone: the key behind it isn't looked at.
+// Whether a leaf's slot may hold a place in the region, by its point alone: the key after it isn't looked at.
 fn may_have(page: &Page, at: usize, region: &Region) -> bool
     requires { at < 32 }
     ensures far { result ≡ false → level_in page.now ≡ 0 → listed (near_item region.now 0) (stored_in page.now at) ≡ [] }
@@ -85,7 +84,7 @@ fn item_in(slot: &Slot, level: u8, region: &Region) -> Option<Item>
             }
         }
         Slot::Child { rect, page } => {
-            // Its sides are on the map: `west` says so.
+            // Its sides are on the map, by the contract of `west`.
             let _west = rect.west();
             if region.meets(rect) {
                 Some(Item::Node {

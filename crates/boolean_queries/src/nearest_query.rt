@@ -2,37 +2,37 @@
 ghost use Rattle.std.specs.Prelude.{◌≡◌, ◌≢◌, Err, IfOk, IsErrOf};
 ghost use Rattle.std.specs.List.{flat_map};
 ghost use Rattle.page_face.specs.Calls.{Reads, FailsReading};
-ghost use Rattle.btree_nodes.specs.Damages.{AreTold};
-ghost use Rattle.ranking.specs.First.{first};
-ghost use Rattle.place_map.specs.Hit.{comes_before};
+ghost use Rattle.btree_nodes.specs.Damages.{AreReadable};
+ghost use Rattle.place_values.specs.First.{first};
+ghost use Rattle.place_values.specs.Hit.{comes_before};
 ghost use Rattle.node_rows.specs.Rows.{bytes_in};
 ghost use Rattle.best_first.specs.Openings.{Opened};
-ghost use Rattle.tree_entries.specs.Entries.{tree_places};
-ghost use Rattle.tree_entries.specs.Hits.{near_item};
-ghost use Rattle.tree_ranking.specs.declared.ask.Ask.TheVariants.{Nearest};
-ghost use Rattle.tree_ranking.specs.Fits.{FitsTree, nodes_at};
-ghost use Rattle.tree_ranking.specs.Harms.{IsHarm, IsNodePage};
-ghost use Rattle.tree_ranking.specs.Openings.{StandsIn, opened_in, started_in};
+ghost use Rattle.node_filter.specs.Entries.{tree_places};
+ghost use Rattle.node_filter.specs.Hits.{near_item};
+ghost use Rattle.best_first.specs.declared.ask.Ask.TheVariants.{Nearest};
+ghost use Rattle.best_first.specs.Fits.{FitsTree, nodes_at};
+ghost use Rattle.best_first.specs.Harms.{IsHarm, IsNodePage};
+ghost use Rattle.best_first.specs.NodeOpenings.{StandsIn, opened_in, started_in};
 ghost use Rattle.boolean_queries.specs.Opens.{filter_in};
 
-use best_first::first_k;
+use best_first::{Ranking, first_k};
+use node_filter::Ids;
 use node_inverted::Tree;
 use page_face::{Damage, PageFault, Pages};
-use place_map::{Expr, Hit};
+use place_values::{Expr, Hit};
 use spatial_base::Point;
 use std::alloc::Global;
-use tree_entries::Ids;
-use tree_ranking::Ranking;
 
-/// Returns the k places of a tree that are nearest to a point and pass the filter, by distance (in degrees times 10^7) and then by key; all
-/// of them where there are fewer. Without a filter every place passes. `ids` are the numbers of the filter's words that the store knows.
+/// Returns the k places of a tree that are nearest to a point and pass the filter, by distance (in degrees times 10^7) and then by key.
+/// Returns all of them if there are fewer. Without a filter every place passes. `ids` are the numbers of the filter's words that the store
+/// knows.
 ///
-/// Returns `Damaged` with a rule that a page read in this call breaks, and never over a well-formed tree. Returns also `Disk`, `Stopped`, and
-/// `Memory` if it runs out of memory. The tree is as before in any case.
+/// Returns `Damaged` with a rule that a page read in this call breaks, and never over a well-formed tree. Returns also `Disk`, `Stopped`,
+/// and `Memory` if it runs out of memory. The tree is as before in any case.
 ///
 /// Looks at the root's rows first, and at the rows and the page of each node that it opens: one row a word of the filter that the store
-/// knows. A node is opened only where a place below it may pass the filter, and only while fewer than k places were found that are nearer
-/// than its rectangle.
+/// knows. A node is opened only if a place below it may pass the filter, and only while fewer than k places were found that are nearer than
+/// its rectangle.
 pub fn nearest<P: Pages>(
     alloc: Global,
     pages: &mut P,
@@ -44,14 +44,14 @@ pub fn nearest<P: Pages>(
 ) -> Result<Vec<Hit>, PageFault>
     ensures found { FitsTree (P.pages pages.old) (P.count pages.old) (P.first pages.old) tree.now → IfOk result (λ found. found.items
         ≡ first comes_before k (flat_map (near_item ids.now at.now (filter_in filter.entry)) (tree_places (nodes_at (P.pages pages.old) tree.now) tree.now.root))) }
-    ensures opened { AreTold (P.pages pages.old) (P.count pages.old) → IfOk result (λ found.
+    ensures opened { AreReadable (P.pages pages.old) (P.count pages.old) → IfOk result (λ found.
         Opened StandsIn (P.pages pages.old) (IsNodePage (P.pages pages.old) tree.now.rows) (FitsTree (P.pages pages.old) (P.count pages.old) (P.first pages.old) tree.now)
         (opened_in ids.now at.now (Nearest filter.entry) (nodes_at (P.pages pages.old) tree.now))
         (started_in ids.now (Nearest filter.entry) (nodes_at (P.pages pages.old) tree.now) (bytes_in (P.pages pages.old) tree.now.rows) tree.now.root)
         tree.now.root (P.asked pages.old) (P.asked pages.new) k found.items) }
-    ensures damaged { AreTold (P.pages pages.old) (P.count pages.old) → (damage : Damage) → IsErrOf result (PageFault.Damaged damage)
+    ensures damaged { AreReadable (P.pages pages.old) (P.count pages.old) → (damage : Damage) → IsErrOf result (PageFault.Damaged damage)
         → IsHarm (P.pages pages.old) (P.count pages.old) tree.now.rows (P.asked pages.old) (P.asked pages.new) damage }
-    ensures honest { FitsTree (P.pages pages.old) (P.count pages.old) (P.first pages.old) tree.now → (damage : Damage) → result ≢ Err (PageFault.Damaged damage) }
+    ensures no_false_damage { FitsTree (P.pages pages.old) (P.count pages.old) (P.first pages.old) tree.now → (damage : Damage) → result ≢ Err (PageFault.Damaged damage) }
     ensures fails { FailsReading P.Pages pages.old pages.new result }
     ensures frame { Reads P.Pages pages.old pages.new }
 {

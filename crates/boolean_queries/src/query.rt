@@ -1,7 +1,7 @@
-//! What is asked of a tree.
+//! A query of a tree: a region and a filter.
 use crate::region::Region;
-use place_map::Expr;
-use tree_entries::Ids;
+use node_filter::Ids;
+use place_values::Expr;
 
 /// A region, and a filter on the words of its places. Without a filter every place passes.
 #[derive(Drop)]

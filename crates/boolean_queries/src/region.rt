@@ -1,18 +1,18 @@
-//! A region of the map in which places are asked for.
+//! A region of the map in which a query looks for places.
 ghost use Rattle.std.specs.Prelude.{◌≡◌};
 ghost use Rattle.spatial_base.specs.Key.{IsName};
 ghost use Rattle.spatial_base.specs.Point.{IsOnMap};
 ghost use Rattle.boolean_queries.specs.Regions.{have_common, overlaps, meets, has_point, hit_in};
 
-use place_map::Hit;
+use place_values::Hit;
 use spatial_base::{Key, Point, Rect, dist};
 
-/// A region of the map in which places are asked for, its border included.
+/// A region of the map in which a query looks for places, its border included.
 #[derive(Clone, Copy, Debug)]
 pub(crate) enum Region {
     /// The points at most so far from a point.
     Within {
-        /// From where distances are taken.
+        /// The point from which distances are taken.
         at: Point,
         /// The greatest distance, in degrees times 10^7.
         radius: u64,
@@ -55,7 +55,7 @@ impl Region {
         ensures has { result ≡ has_point self.now point.now }
         ensures on { IsOnMap point.now.x point.now.y }
     {
-        // Its point is on the map: `x` and `y` say so.
+        // Its point is on the map, by the contracts of `x` and `y`.
         let (_x, _y) = (point.x(), point.y());
         match self {
             Region::Within { at, radius } => dist(at, point) <= *radius,
@@ -63,12 +63,12 @@ impl Region {
         }
     }
 
-    /// The hit of a place: a place in a rectangle costs nothing, any other its distance.
+    /// Returns the hit of a place: a place in a rectangle costs nothing, any other its distance.
     pub(crate) fn hit(&self, point: &Point, key: &Key) -> Hit
         ensures hit { result ≡ hit_in self.now point.now key.now }
         ensures name { IsName key.now }
     {
-        // A key's text is one: `bytes` says so.
+        // A key's text is well formed, by the contract of `bytes`.
         let _bytes = key.bytes();
         let dist = match self {
             Region::Within { at, .. } => dist(at, point),

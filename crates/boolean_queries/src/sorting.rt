@@ -8,7 +8,7 @@ ghost use Rattle.boolean_queries.specs.Waiting.{waits};
 use crate::near::Near;
 use best_first::Item;
 use page_face::PageFault;
-use place_map::Hit;
+use place_values::Hit;
 use std::alloc::AllocError;
 
 /// A node that is to be opened.
@@ -18,7 +18,7 @@ pub(crate) struct Waiting {
     pub page: u32,
     /// Its level, 0 for a leaf.
     pub level: u8,
-    /// What no place below it costs less than.
+    /// The bound that no place below it costs less than.
     pub bound: u64,
 }
 
@@ -29,7 +29,7 @@ fn is_set(mask: u32, slot: usize) -> bool
     slot < 32 && (mask >> slot) & 1 == 1
 }
 
-// Puts a slot's child to those that wait, and its hit to those that were found, if the mask has the slot.
+// Adds a slot's child to the nodes that wait, and its hit to those that were found, if the mask has the slot.
 fn sort_one(
     near: &Near,
     mask: u32,
@@ -49,7 +49,7 @@ fn sort_one(
     Ok(())
 }
 
-// Does so with each slot.
+// Sorts each slot as `sort_one` does.
 fn sort_each(
     near: &[Near],
     mask: u32,
@@ -65,7 +65,7 @@ fn sort_each(
     Ok(())
 }
 
-/// Puts the children in the slots of a mask to those that wait, and the hits in them to those that were found.
+/// Adds the children in the slots of a mask to the nodes that wait, and the hits in them to those that were found.
 ///
 /// Refuses `Memory`.
 pub(crate) fn sort_near(

@@ -12,10 +12,10 @@ use Rattle.btree_nodes.specs.declared.form.Form.{Form}
 use Rattle.page_face.specs.Nodes.{count_of}
 use Rattle.btree_nodes.specs.Tree.{IsTree, uses}
 use Rattle.btree_nodes.specs.Bounds.{child_of}
-use Rattle.btree_nodes.specs.Damages.{BreaksLeaf, BreaksInner, IsDamaged, AreTold, AskedSince, AsksOnly}
+use Rattle.btree_nodes.specs.Damages.{BreaksLeaf, BreaksInner, IsDamaged, AreReadable, AskedSince, AsksOnly}
 use Rattle.btree_delete.specs.Removal.{BreaksAt}
 use Rattle.btree_delete.specs.Mended.{IsBeside}
-use Rattle.btree_delete.specs.Looks.{HasLooked, TellsBeside, HasBeside}
+use Rattle.btree_delete.specs.Looks.{HasLooked, ReadableBeside, HasBeside}
 use Rattle.btree_delete.specs.declared.settling.Beside.{Beside}
 use Rattle.btree_nodes.proofs.Trees.{child-uses}
 use Rattle.btree_nodes.proofs.Harms.{asked-from, asked-here, asks-here, asks-further, asks-more}
@@ -45,7 +45,7 @@ pub asked-child : (before asked new : List ℕ) (page child : ℕ) → AskedSinc
 asked-child before asked new page child a e = asked-from before asked new page child a (asked-here asked new child e)
 
 -- the neighbour's bytes are those of its page, where that is told and stays
-pub beside-is : (form : Form) (pages old mid : PageMap) (counted below : ℕ) (bytes : List ℕ) (at count cells : ℕ) (o : Option Beside) → pages ≡ old → HasLooked form counted below bytes at count cells o → TellsBeside form pages bytes o
+pub beside-is : (form : Form) (pages old mid : PageMap) (counted below : ℕ) (bytes : List ℕ) (at count cells : ℕ) (o : Option Beside) → pages ≡ old → HasLooked form counted below bytes at count cells o → ReadableBeside form pages bytes o
     → ((near : ℕ) → IsBeside at count near → (0 < length (old (child_of form bytes near))) × (mid (child_of form bytes near) ≡ old (child_of form bytes near))) → HasBeside form mid bytes o
 beside-is form pages old mid counted below bytes at count cells None e l t h = tt
 beside-is form pages old mid counted below bytes at count cells (Some b) e l t h =
@@ -64,19 +64,19 @@ own-looked form old pages level l page at child bytes a0 a1 a2 up is small e sam
 
 -- and below the child
 pub own-below : (form : Form) (old pages : PageMap) (count count' level l page at child : ℕ) (bytes below a0 a2 a3 : List ℕ) → level ≡ suc l → bytes ≡ old page → at < count_of bytes → child ≡ child_of form bytes at → pages ≡ old → count' ≡ count
-    → AreTold old count → below ≡ old child → AsksOnly (uses form old level page) a0 a2 → (AreTold pages count' → below ≡ pages child → AsksOnly (uses form pages l child) a2 a3) → AsksOnly (uses form old level page) a0 a3
+    → AreReadable old count → below ≡ old child → AsksOnly (uses form old level page) a0 a2 → (AreReadable pages count' → below ≡ pages child → AsksOnly (uses form pages l child) a2 a3) → AsksOnly (uses form old level page) a0 a3
 own-below form old pages count count' level l page at child bytes below a0 a2 a3 up is small e same more told there first deeper =
     let mine : ℕ → ℕ = uses form old level page in
-    let b : AsksOnly (uses form old l child) a2 a3 = subst (λ (n : ℕ). AreTold old n → below ≡ old child → AsksOnly (uses form old l child) a2 a3) more
-    (subst (λ (q : PageMap). AreTold q count' → below ≡ q child → AsksOnly (uses form q l child) a2 a3) same deeper) told there in
+    let b : AsksOnly (uses form old l child) a2 a3 = subst (λ (n : ℕ). AreReadable old n → below ≡ old child → AsksOnly (uses form old l child) a2 a3) more
+    (subst (λ (q : PageMap). AreReadable q count' → below ≡ q child → AsksOnly (uses form q l child) a2 a3) same deeper) told there in
     asks-further mine a0 a2 a3 first (asks-more (uses form old l child) mine a2 a3 (λ n h. uses-below form old bytes level l page at up is small child n e h) b)
 
 -- a neighbour's damage is the page's
-pub damage-looked : (form : Form) (old pages : PageMap) (count count' level l page least low high : ℕ) (bytes : List ℕ) (damage : Damage) → level ≡ suc l → pages ≡ old → count' ≡ count → AreTold old count → bytes ≡ old page
-    → (AreTold pages count' → bytes ≡ pages page → IsDamaged form pages count' damage least (suc l) page low high) → IsDamaged form old count damage least level page low high
+pub damage-looked : (form : Form) (old pages : PageMap) (count count' level l page least low high : ℕ) (bytes : List ℕ) (damage : Damage) → level ≡ suc l → pages ≡ old → count' ≡ count → AreReadable old count → bytes ≡ old page
+    → (AreReadable pages count' → bytes ≡ pages page → IsDamaged form pages count' damage least (suc l) page low high) → IsDamaged form old count damage least level page low high
 damage-looked form old pages count count' level l page least low high bytes damage up same more told is d =
-    let b : IsDamaged form old count damage least (suc l) page low high = subst (λ (n : ℕ). AreTold old n → bytes ≡ old page → IsDamaged form old n damage least (suc l) page low high) more
-    (subst (λ (q : PageMap). AreTold q count' → bytes ≡ q page → IsDamaged form q count' damage least (suc l) page low high) same d) told is in
+    let b : IsDamaged form old count damage least (suc l) page low high = subst (λ (n : ℕ). AreReadable old n → bytes ≡ old page → IsDamaged form old n damage least (suc l) page low high) more
+    (subst (λ (q : PageMap). AreReadable q count' → bytes ≡ q page → IsDamaged form q count' damage least (suc l) page low high) same d) told is in
     subst (λ (k : ℕ). IsDamaged form old count damage least k page low high) (sym up) b
 
 -- the same in a well-formed tree

@@ -23,9 +23,9 @@ HasLooked form counted below bytes at count cells None = half_of form below < ce
 HasLooked form counted below bytes at count cells (Some beside) = IsNeighbour form counted below bytes at count beside
 
 -- the neighbour's bytes, where they are told
-abbrev pub TellsBeside : Form → PageMap → List ℕ → Option Beside → Type 0
-TellsBeside form pages bytes None = Unit {0}
-TellsBeside form pages bytes (Some beside) = 0 < length (pages (child_of form bytes beside.at)) → beside.bytes ≡ pages (child_of form bytes beside.at)
+abbrev pub ReadableBeside : Form → PageMap → List ℕ → Option Beside → Type 0
+ReadableBeside form pages bytes None = Unit {0}
+ReadableBeside form pages bytes (Some beside) = 0 < length (pages (child_of form bytes beside.at)) → beside.bytes ≡ pages (child_of form bytes beside.at)
 
 -- the neighbour's bytes are those of its page
 abbrev pub HasBeside : Form → PageMap → List ℕ → Option Beside → Type 0

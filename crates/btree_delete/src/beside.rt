@@ -7,16 +7,16 @@ ghost use Rattle.page_face.specs.Nodes.{count_of};
 ghost use Rattle.btree_nodes.specs.Nodes.{width_of, half_of};
 ghost use Rattle.btree_nodes.specs.Tree.{IsTree, uses};
 ghost use Rattle.btree_nodes.specs.Bounds.{upper_of, child_of};
-ghost use Rattle.btree_nodes.specs.Damages.{IsDamaged, AreTold, AskedSince, AsksOnly};
+ghost use Rattle.btree_nodes.specs.Damages.{IsDamaged, AreReadable, AskedSince, AsksOnly};
 ghost use Rattle.btree_delete.specs.Mended.{IsBeside};
-ghost use Rattle.btree_delete.specs.Looks.{HasLooked, TellsBeside};
+ghost use Rattle.btree_delete.specs.Looks.{HasLooked, ReadableBeside};
 
 use crate::node::{check_child, count_in};
 use crate::settling::Beside;
 use btree_nodes::{Form, Found, child_at, damaged, least_at, lower, upper};
 use page_face::{Damage, Page, PageFault, Pages};
 
-// The place next to this one: the one behind it, or before it where it is the last one.
+// The place next to this one: the next, or the one before it if this is the last.
 fn next_to(found: Found) -> usize
     requires at { found.at < found.count }
     requires some { 2 ≤ found.count }
@@ -29,7 +29,7 @@ fn next_to(found: Found) -> usize
     }
 }
 
-/// The neighbour of the child at this place of an inner page, whose bytes were read.
+/// Reads the neighbour of the child at this place of an inner page, whose bytes were read.
 ///
 /// Refuses as `read` does, and `Damaged` with the rule that the neighbour breaks in its place.
 #[tactic(auto, using(crate::proofs::Settles::half_some))]
@@ -53,7 +53,7 @@ pub fn look_beside<P: Pages>(
     ensures counted { IfOk result (λ b. ¬ IsUncounted (P.count pages.old) (child_of form bytes.now b.at)) }
     ensures count { IfOk result (λ b. (b.count ≡ count_of b.bytes) × (half_of form below ≤ b.count) × (16 + width_of form below * b.count ≤ 4096)) }
 
-    ensures damaged { (page least : ℕ) → AreTold (P.pages pages.old) (P.count pages.old) → bytes.now ≡ P.pages pages.old page
+    ensures damaged { (page least : ℕ) → AreReadable (P.pages pages.old) (P.count pages.old) → bytes.now ≡ P.pages pages.old page
         → (damage : Damage) → IsErrOf result (PageFault.Damaged damage)
         → IsDamaged form (P.pages pages.old) (P.count pages.old) damage least (suc below) page (number low.now) (upper_of form.key high.now) }
     ensures in_tree { (page least : ℕ) → bytes.now ≡ P.pages pages.old page
@@ -86,7 +86,7 @@ pub fn look_beside<P: Pages>(
     }
 }
 
-/// The neighbour of a child that would have too few cells if it lost one, and `None` where it has enough.
+/// Reads the neighbour of a child that would have too few cells if it lost one. Returns `None` if the child has enough.
 ///
 /// `child` are the child's bytes. Refuses as [`look_beside`].
 pub fn look_if_low<P: Pages>(
@@ -106,9 +106,9 @@ pub fn look_if_low<P: Pages>(
     requires low { length low.now ≡ form.key }
     requires high { 0 < length high.now → length high.now ≡ form.key }
     ensures looked { IfOk result (HasLooked form (P.count pages.old) below bytes.now found.at found.count (count_of child.now)) }
-    ensures tells { IfOk result (TellsBeside form (P.pages pages.old) bytes.now) }
+    ensures readable { IfOk result (ReadableBeside form (P.pages pages.old) bytes.now) }
 
-    ensures damaged { (page least : ℕ) → AreTold (P.pages pages.old) (P.count pages.old) → bytes.now ≡ P.pages pages.old page
+    ensures damaged { (page least : ℕ) → AreReadable (P.pages pages.old) (P.count pages.old) → bytes.now ≡ P.pages pages.old page
         → (damage : Damage) → IsErrOf result (PageFault.Damaged damage)
         → IsDamaged form (P.pages pages.old) (P.count pages.old) damage least (suc below) page (number low.now) (upper_of form.key high.now) }
     ensures in_tree { (page least : ℕ) → bytes.now ≡ P.pages pages.old page

@@ -6,7 +6,7 @@ ghost use Rattle.btree_delete.specs.Body.{headed, cells_in, without_cell, with_k
 use btree_nodes::{Form, Shape, body, build, splice};
 use page_face::Page;
 
-// The key of the first of a page's cells behind those of another page: in an inner page it is what parted the two.
+// The key of the first of a page's cells when they follow those of another page: in an inner page it is the key that parted the two.
 fn first_key<'a>(form: Form, level: u8, cells: &'a [u8], parting: &'a [u8]) -> &'a [u8]
     requires cells { form.key ≤ length cells.now }
     requires parting { length parting.now ≡ form.key }
@@ -19,7 +19,7 @@ fn first_key<'a>(form: Form, level: u8, cells: &'a [u8], parting: &'a [u8]) -> &
     parting
 }
 
-/// Writes the cells of two neighbours into `out`, one behind the other.
+/// Writes the cells of two neighbours into `out`, one after the other.
 pub fn gather(form: Form, level: u8, front: &[u8], parting: &[u8], back: &[u8], out: &mut [u8])
     requires back { form.key ≤ length back.now }
     requires parting { length parting.now ≡ form.key }

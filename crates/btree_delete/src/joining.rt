@@ -7,7 +7,7 @@ ghost use Rattle.btree_nodes.specs.Supply.{IsSupplied, view, spare, one_at};
 ghost use Rattle.page_face.specs.Nodes.{count_of};
 ghost use Rattle.btree_nodes.specs.Nodes.{width_of, half_of};
 ghost use Rattle.btree_nodes.specs.Tree.{IsTree, rows_at, uses};
-ghost use Rattle.btree_nodes.specs.Damages.{AreTold};
+ghost use Rattle.btree_nodes.specs.Damages.{AreReadable};
 ghost use Rattle.btree_delete.specs.Body.{IsBody, body_rows, body_uses};
 ghost use Rattle.btree_delete.specs.Mended.{Becomes, joined};
 
@@ -54,7 +54,7 @@ fn join_in<P: Pages>(
         (P.pages pages.new) (P.count pages.new) (P.first pages.new) level low high
         (body_rows form (P.pages pages.old) level left_count left_cells.now ++ body_rows form (P.pages pages.old) level right_count right_cells.now)
         (joined merged low left right (number middle.new))) }
-    ensures told { AreTold (P.pages pages.old) (P.count pages.old) → OnOk result (AreTold (P.pages pages.new) (P.count pages.new)) }
+    ensures told { AreReadable (P.pages pages.old) (P.count pages.old) → OnOk result (AreReadable (P.pages pages.new) (P.count pages.new)) }
 
     ensures damaged { (damage : Damage) → result ≢ Err (PageFault.Damaged damage) }
     ensures fails { FailsWriting P.Pages pages.old result }
@@ -76,7 +76,7 @@ fn join_in<P: Pages>(
 
 /// Merges two neighbouring pages into the left one, or gives each half of their cells.
 ///
-/// `parting` is the key between them. Answers whether they were merged, the right page being given back then; if not,
+/// `parting` is the key between them. Returns whether they were merged, and then the right page is given back. If not,
 /// the key that parts them now is left in `middle`. Refuses `Stopped` and `Memory`.
 pub fn join<P: Pages>(
     pages: &mut P,
@@ -111,7 +111,7 @@ pub fn join<P: Pages>(
         (P.pages pages.new) (P.count pages.new) (P.first pages.new) level low high
         (rows_at form (P.pages pages.old) level left ++ rows_at form (P.pages pages.old) level right)
         (joined merged low left right (number middle.new))) }
-    ensures told { AreTold (P.pages pages.old) (P.count pages.old) → OnOk result (AreTold (P.pages pages.new) (P.count pages.new)) }
+    ensures told { AreReadable (P.pages pages.old) (P.count pages.old) → OnOk result (AreReadable (P.pages pages.new) (P.count pages.new)) }
 
     ensures damaged { (damage : Damage) → result ≢ Err (PageFault.Damaged damage) }
     ensures fails { FailsWriting P.Pages pages.old result }

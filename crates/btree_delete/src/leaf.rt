@@ -10,16 +10,16 @@ ghost use Rattle.page_face.specs.Nodes.{count_of};
 ghost use Rattle.btree_nodes.specs.Nodes.{rows_in};
 ghost use Rattle.btree_delete.specs.Removal.{IsOut, HasRemoved, Lessens, IsSame};
 ghost use Rattle.btree_nodes.specs.Bounds.{upper_of};
-ghost use Rattle.btree_nodes.specs.Damages.{AreTold, BreaksLeaf};
+ghost use Rattle.btree_nodes.specs.Damages.{AreReadable, BreaksLeaf};
 
 use crate::cells::without;
 use crate::node::has_key;
 use btree_nodes::{Form, check_leaf, damaged, place};
 use page_face::{Damage, Page, PageFault, Pages};
 
-/// Takes the row at this place out of a leaf, and gives the page back where it was the only one.
+/// Takes the row at this place out of a leaf, and gives the page back if it was the only row. Returns how many rows are left.
 ///
-/// Answers how many rows are left. Refuses `Stopped` and `Memory`.
+/// Refuses `Stopped` and `Memory`.
 pub fn take_out<P: Pages>(
     pages: &mut P,
     form: Form,
@@ -42,7 +42,7 @@ pub fn take_out<P: Pages>(
         → IfOk result (IsOut form (view (P.pages pages.old) (P.count pages.old) (P.first pages.old) free) (one_at page)
         (P.pages pages.new) (P.count pages.new) (P.first pages.new) 0 page low high (number key.now) (rows_in form bytes.old) bytes.new) }
     ensures less { IfOk result (λ left. (left + 1 ≡ count) × (0 < left → left ≡ count_of bytes.new)) }
-    ensures told { AreTold (P.pages pages.old) (P.count pages.old) → OnOk result (AreTold (P.pages pages.new) (P.count pages.new)) }
+    ensures told { AreReadable (P.pages pages.old) (P.count pages.old) → OnOk result (AreReadable (P.pages pages.new) (P.count pages.new)) }
 
     ensures damaged { (damage : Damage) → result ≢ Err (PageFault.Damaged damage) }
     ensures fails { FailsWriting P.Pages pages.old result }
@@ -57,11 +57,10 @@ pub fn take_out<P: Pages>(
     Ok(count - 1)
 }
 
-/// Takes the row at a key out of a leaf, whose bytes were read.
+/// Takes the row at a key out of a leaf, whose bytes were read. Returns how many rows are left, or `None` if no row has the key.
 ///
-/// `bytes` are the page's bytes, before and after. Answers how many rows are left, and `None` where no row has the key;
-/// where none is left the page is given back. Refuses `Damaged` with the rule that the page breaks between these bounds,
-/// `Stopped` and `Memory`.
+/// `bytes` are the page's bytes, before and after. If no row is left, the page is given back. Refuses `Damaged` with the rule that the
+/// page breaks between these bounds, `Stopped` and `Memory`.
 pub fn remove_leaf<P: Pages>(
     pages: &mut P,
     form: Form,
@@ -86,7 +85,7 @@ pub fn remove_leaf<P: Pages>(
         (P.pages pages.new) (P.count pages.new) (P.first pages.new) 0 page (number low.now) (upper_of form.key high.now) (number key.now) (rows_in form bytes.old) bytes.new) }
     ensures less { IfOk result (Lessens form 0 least bytes.old bytes.new) }
     ensures same { IfOk result (IsSame (P.pages pages.old) (P.pages pages.new) (P.first pages.old) (P.first pages.new)) }
-    ensures told { AreTold (P.pages pages.old) (P.count pages.old) → OnOk result (AreTold (P.pages pages.new) (P.count pages.new)) }
+    ensures told { AreReadable (P.pages pages.old) (P.count pages.old) → OnOk result (AreReadable (P.pages pages.new) (P.count pages.new)) }
 
     ensures damaged { (damage : Damage) → IsErrOf result (PageFault.Damaged damage)
         → (damage.page ≡ page) × BreaksLeaf damage.rule form least (number low.now) (upper_of form.key high.now) bytes.old }

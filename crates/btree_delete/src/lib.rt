@@ -1,8 +1,12 @@
-//! The way of a row out of a paged map: pages that have become too empty share their cells with a neighbour.
+//! The removal of a row from a paged map: a page that has become too empty shares its cells with a neighbour.
 //!
-//! A page other than the root holds at least half of the cells that fit. Where a page has fewer after a row was taken
-//! out, its cells and those of a neighbour are gathered. Where they fit in one page they become one, and the other page
-//! is given back; else each of the two gets half of them.
+//! On a well-formed tree and free list, after a removal that succeeds the tree's rows are those before without the row at the key.
+//!
+//! A page other than the root holds at least half of the cells that fit. If a page has fewer after a row was taken
+//! out, its cells and those of a neighbour are gathered. If they fit in one page they become one, and the other page
+//! is given back; otherwise each of the two gets half of them.
+//!
+//! Tests: `page_tests/src/paged_map_tests.rt`, through `paged_map`.
 #![tactic(auto)]
 
 mod beside;

@@ -8,7 +8,7 @@ ghost use Rattle.btree_nodes.specs.Nodes.{IsInner, entries_in, width_of, half_of
 ghost use Rattle.btree_nodes.specs.Tree.{uses, total, with_low};
 ghost use Rattle.btree_nodes.specs.Bounds.{child_of};
 ghost use Rattle.btree_nodes.specs.Store.{below_rows};
-ghost use Rattle.btree_nodes.specs.Damages.{AreTold};
+ghost use Rattle.btree_nodes.specs.Damages.{AreReadable};
 ghost use Rattle.btree_delete.specs.Mended.{Becomes, HasPair};
 
 use crate::cells::{rekeyed, without};
@@ -58,7 +58,7 @@ fn mend_in<P: Pages>(
     ensures bytes { OnOk result (bytes.new ≡ P.pages pages.new page) }
     ensures counted { IfOk result (λ left. left ≡ count_of bytes.new) }
     ensures range { IfOk result (λ left. (1 ≤ left) × (left ≤ count) × (count ≤ left + 1)) }
-    ensures told { AreTold (P.pages pages.old) (P.count pages.old) → OnOk result (AreTold (P.pages pages.new) (P.count pages.new)) }
+    ensures told { AreReadable (P.pages pages.old) (P.count pages.old) → OnOk result (AreReadable (P.pages pages.new) (P.count pages.new)) }
 
     ensures damaged { (damage : Damage) → result ≢ Err (PageFault.Damaged damage) }
     ensures fails { FailsWriting P.Pages pages.old result }
@@ -92,9 +92,9 @@ fn mend_in<P: Pages>(
 }
 
 /// Joins the children at this place and at the next one of an inner page, one of which has too few cells, and writes the
-/// page anew.
+/// page anew. Returns how many entries it then has.
 ///
-/// `bytes` are the page's bytes, before and after. Answers how many entries it has then. Refuses `Stopped` and `Memory`.
+/// `bytes` are the page's bytes, before and after. Refuses `Stopped` and `Memory`.
 pub fn mend<P: Pages>(
     pages: &mut P,
     form: Form,
@@ -133,7 +133,7 @@ pub fn mend<P: Pages>(
     ensures bytes { OnOk result (bytes.new ≡ P.pages pages.new page) }
     ensures counted { IfOk result (λ left. left ≡ count_of bytes.new) }
     ensures range { IfOk result (λ left. (1 ≤ left) × (left ≤ count) × (count ≤ left + 1)) }
-    ensures told { AreTold (P.pages pages.old) (P.count pages.old) → OnOk result (AreTold (P.pages pages.new) (P.count pages.new)) }
+    ensures told { AreReadable (P.pages pages.old) (P.count pages.old) → OnOk result (AreReadable (P.pages pages.new) (P.count pages.new)) }
 
     ensures damaged { (damage : Damage) → result ≢ Err (PageFault.Damaged damage) }
     ensures fails { FailsWriting P.Pages pages.old result }

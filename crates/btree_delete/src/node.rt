@@ -27,7 +27,7 @@ pub fn has_key(page: &Page, form: Form, count: usize, at: usize, key: &[u8]) -> 
     }
 }
 
-/// How many cells a page says that it has.
+/// The number of cells in a page's header.
 #[tactic(auto, unfolding(page_face::specs::Nodes::count_of))]
 pub fn count_in(page: &Page) -> usize
     ensures { result ≡ count_of page.now }

@@ -4,7 +4,7 @@ ghost use Rattle.page_face.specs.Calls.{FailsWriting, Writes};
 ghost use Rattle.page_face.specs.Causes.{IsUncounted};
 ghost use Rattle.btree_nodes.specs.Build.{image};
 ghost use Rattle.btree_nodes.specs.Supply.{IsSupplied, view, spare, one_at};
-ghost use Rattle.btree_nodes.specs.Damages.{AreTold};
+ghost use Rattle.btree_nodes.specs.Damages.{AreReadable};
 ghost use Rattle.btree_delete.specs.Mended.{IsMerged, IsHalved};
 
 use btree_nodes::{Shape, store_one};
@@ -28,7 +28,7 @@ pub fn merge<P: Pages>(
         → ((n : ℕ) → one_at left n + one_at right n + spare free (P.count pages.old) n ≤ 1)
         → OnOk result (IsMerged (view (P.pages pages.old) (P.count pages.old) (P.first pages.old) free) (P.pages pages.new) (P.count pages.new) (P.first pages.new) left right
         (image shape.number shape.kind shape.level count cells.now)) }
-    ensures told { AreTold (P.pages pages.old) (P.count pages.old) → OnOk result (AreTold (P.pages pages.new) (P.count pages.new)) }
+    ensures told { AreReadable (P.pages pages.old) (P.count pages.old) → OnOk result (AreReadable (P.pages pages.new) (P.count pages.new)) }
 
     ensures damaged { (damage : Damage) → result ≢ Err (PageFault.Damaged damage) }
     ensures fails { FailsWriting P.Pages pages.old result }
@@ -60,7 +60,7 @@ pub fn halve<P: Pages>(
         → ((n : ℕ) → one_at left n + one_at right n + spare free (P.count pages.old) n ≤ 1)
         → OnOk result (IsHalved (view (P.pages pages.old) (P.count pages.old) (P.first pages.old) free) (P.pages pages.new) (P.count pages.new) (P.first pages.new) left right
         (image shape.number shape.kind shape.level count front.now) (image shape.number shape.kind shape.level rest back.now)) }
-    ensures told { AreTold (P.pages pages.old) (P.count pages.old) → OnOk result (AreTold (P.pages pages.new) (P.count pages.new)) }
+    ensures told { AreReadable (P.pages pages.old) (P.count pages.old) → OnOk result (AreReadable (P.pages pages.new) (P.count pages.new)) }
 
     ensures damaged { (damage : Damage) → result ≢ Err (PageFault.Damaged damage) }
     ensures fails { FailsWriting P.Pages pages.old result }

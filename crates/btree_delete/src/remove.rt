@@ -7,7 +7,7 @@ ghost use Rattle.btree_nodes.specs.Supply.{IsSupplied, view, spare};
 ghost use Rattle.btree_nodes.specs.Nodes.{least_of_root};
 ghost use Rattle.btree_nodes.specs.Tree.{IsTree, rows_at, uses};
 ghost use Rattle.btree_nodes.specs.Bounds.{upper_of};
-ghost use Rattle.btree_nodes.specs.Damages.{IsDamaged, AreTold, AskedSince, AsksOnly};
+ghost use Rattle.btree_nodes.specs.Damages.{IsDamaged, AreReadable, AskedSince, AsksOnly};
 ghost use Rattle.btree_delete.specs.Removal.{HasRemoved, Lessens, IsSame};
 
 use crate::beside::look_if_low;
@@ -16,12 +16,12 @@ use crate::settling::settle_if_low;
 use btree_nodes::{Form, child_at, damaged, find_place, least_at, lower, upper};
 use page_face::{Damage, Page, PageFault, Pages};
 
-/// Takes the row at a key out of the tree below a page, which was read.
+/// Takes the row at a key out of the tree below a page, which was read. Returns how many cells the page has left, or `None` if no row
+/// has the key; then nothing is written.
 ///
-/// `bytes` are the page's bytes, before and after. Answers how many cells the page has left, and `None` where no row has
-/// the key; nothing is written then. A leaf without a row is given back. All reads come before all writes: a neighbour is
-/// read on the way down, where a child has no more than half of the cells that fit. Refuses `Damaged` with a rule that a
-/// page of the tree breaks, `Disk`, `Stopped` and `Memory`.
+/// `bytes` are the page's bytes, before and after. A leaf without a row is given back. All reads come before all writes: a neighbour is
+/// read on the way down, if a child has no more than half of the cells that fit. Refuses `Damaged` with a rule that a page of the tree
+/// breaks, `Disk`, `Stopped` and `Memory`.
 pub fn remove_in<P: Pages>(
     pages: &mut P,
     form: Form,
@@ -49,13 +49,13 @@ pub fn remove_in<P: Pages>(
         (rows_at form (P.pages pages.old) level page) bytes.new) }
     ensures less { IfOk result (Lessens form level least bytes.old bytes.new) }
     ensures same { IfOk result (IsSame (P.pages pages.old) (P.pages pages.new) (P.first pages.old) (P.first pages.new)) }
-    ensures told { AreTold (P.pages pages.old) (P.count pages.old) → OnOk result (AreTold (P.pages pages.new) (P.count pages.new)) }
+    ensures told { AreReadable (P.pages pages.old) (P.count pages.old) → OnOk result (AreReadable (P.pages pages.new) (P.count pages.new)) }
 
-    ensures damaged { AreTold (P.pages pages.old) (P.count pages.old) → bytes.old ≡ P.pages pages.old page
+    ensures damaged { AreReadable (P.pages pages.old) (P.count pages.old) → bytes.old ≡ P.pages pages.old page
         → (damage : Damage) → IsErrOf result (PageFault.Damaged damage)
         → IsDamaged form (P.pages pages.old) (P.count pages.old) damage least level page (number low.now) (upper_of form.key high.now) }
 
-    // Of a well-formed tree whatever is told of other pages.
+    // On a well-formed tree, whether or not the bytes of other pages are readable.
     ensures in_tree { bytes.old ≡ P.pages pages.old page
         → IsTree form least (P.pages pages.old) level page (number low.now) (upper_of form.key high.now)
         → (damage : Damage) → IsErrOf result (PageFault.Damaged damage)
@@ -65,7 +65,7 @@ pub fn remove_in<P: Pages>(
     ensures stays { (damage : Damage) → IsErrOf result (PageFault.Damaged damage) → P.pages pages.new ≡ P.pages pages.old }
     ensures named { (before : List ℕ) → AskedSince before (P.asked pages.old) page
         → (damage : Damage) → IsErrOf result (PageFault.Damaged damage) → AskedSince before (P.asked pages.new) damage.page }
-    ensures own { AreTold (P.pages pages.old) (P.count pages.old) → bytes.old ≡ P.pages pages.old page
+    ensures own { AreReadable (P.pages pages.old) (P.count pages.old) → bytes.old ≡ P.pages pages.old page
         → AsksOnly (uses form (P.pages pages.old) level page) (P.asked pages.old) (P.asked pages.new) }
     ensures fails { FailsReading P.Pages pages.old pages.new result }
     ensures frame { TakesNone P.Pages pages.old pages.new }

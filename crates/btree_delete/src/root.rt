@@ -6,13 +6,13 @@ ghost use Rattle.btree_nodes.specs.Supply.{IsSupplied, view, spare};
 ghost use Rattle.page_face.specs.Nodes.{count_of};
 ghost use Rattle.btree_nodes.specs.Nodes.{half_of};
 ghost use Rattle.btree_nodes.specs.Tree.{IsTree, rows_at, uses};
-ghost use Rattle.btree_nodes.specs.Damages.{AreTold};
+ghost use Rattle.btree_nodes.specs.Damages.{AreReadable};
 ghost use Rattle.btree_delete.specs.Mended.{Becomes};
 
 use btree_nodes::{Form, child_at};
 use page_face::{Damage, Page, PageFault, Pages};
 
-/// Gives an inner root with one entry back. Its child, which is the root then, is answered.
+/// Gives an inner root with one entry back, and returns its child, which is then the root.
 ///
 /// Refuses `Stopped` and `Memory`.
 pub fn lower_root<P: Pages>(
@@ -30,7 +30,7 @@ pub fn lower_root<P: Pages>(
         → IfOk result (λ root. Becomes form (half_of form below) (view (P.pages pages.old) (P.count pages.old) (P.first pages.old) free)
         (uses form (P.pages pages.old) (suc below) page) (P.pages pages.new) (P.count pages.new) (P.first pages.new) below low high
         (rows_at form (P.pages pages.old) (suc below) page) ((low, root) ∷ [])) }
-    ensures told { AreTold (P.pages pages.old) (P.count pages.old) → OnOk result (AreTold (P.pages pages.new) (P.count pages.new)) }
+    ensures told { AreReadable (P.pages pages.old) (P.count pages.old) → OnOk result (AreReadable (P.pages pages.new) (P.count pages.new)) }
 
     ensures damaged { (damage : Damage) → result ≢ Err (PageFault.Damaged damage) }
     ensures fails { FailsWriting P.Pages pages.old result }

@@ -8,7 +8,7 @@ ghost use Rattle.btree_nodes.specs.Nodes.{IsInner, entries_in, width_of, half_of
 ghost use Rattle.btree_nodes.specs.Tree.{uses, total, with_low};
 ghost use Rattle.btree_nodes.specs.Bounds.{child_of};
 ghost use Rattle.btree_nodes.specs.Store.{below_rows};
-ghost use Rattle.btree_nodes.specs.Damages.{AreTold};
+ghost use Rattle.btree_nodes.specs.Damages.{AreReadable};
 ghost use Rattle.btree_delete.specs.Mended.{Becomes, HasLow, IsBeside};
 ghost use Rattle.btree_delete.specs.Looks.{HasLooked, HasBeside};
 
@@ -27,9 +27,9 @@ pub struct Beside {
     pub bytes: Page,
 }
 
-/// Joins a child that has `left` cells with its neighbour where these are too few.
+/// Joins a child that has `left` cells with its neighbour if these are too few. Returns how many entries the page then has.
 ///
-/// `bytes` are the page's bytes, before and after. Answers how many entries it has then. Refuses `Stopped` and `Memory`.
+/// `bytes` are the page's bytes, before and after. Refuses `Stopped` and `Memory`.
 pub fn settle<P: Pages>(
     pages: &mut P,
     form: Form,
@@ -66,7 +66,7 @@ pub fn settle<P: Pages>(
     ensures bytes { bytes.old ≡ P.pages pages.old page → IfOk result (λ n. bytes.new ≡ P.pages pages.new page) }
     ensures counted { IfOk result (λ n. n ≡ count_of bytes.new) }
     ensures range { IfOk result (λ n. (1 ≤ n) × (n ≤ found.count) × (found.count ≤ n + 1)) }
-    ensures told { AreTold (P.pages pages.old) (P.count pages.old) → OnOk result (AreTold (P.pages pages.new) (P.count pages.new)) }
+    ensures told { AreReadable (P.pages pages.old) (P.count pages.old) → OnOk result (AreReadable (P.pages pages.new) (P.count pages.new)) }
 
     ensures damaged { (damage : Damage) → result ≢ Err (PageFault.Damaged damage) }
     ensures fails { FailsWriting P.Pages pages.old result }
@@ -107,8 +107,8 @@ pub fn settle<P: Pages>(
     Ok(entries)
 }
 
-/// Joins a child that has `left` cells with its neighbour where these are too few, as [`settle`]. Where no neighbour was
-/// read they are enough.
+/// Joins a child that has `left` cells with its neighbour if these are too few, as [`settle`]. If no neighbour was
+/// read, they are enough.
 pub fn settle_if_low<P: Pages>(
     pages: &mut P,
     form: Form,
@@ -142,7 +142,7 @@ pub fn settle_if_low<P: Pages>(
     ensures bytes { bytes.old ≡ P.pages pages.old page → IfOk result (λ n. bytes.new ≡ P.pages pages.new page) }
     ensures counted { IfOk result (λ n. n ≡ count_of bytes.new) }
     ensures range { IfOk result (λ n. (1 ≤ n) × (n ≤ found.count) × (found.count ≤ n + 1)) }
-    ensures told { AreTold (P.pages pages.old) (P.count pages.old) → OnOk result (AreTold (P.pages pages.new) (P.count pages.new)) }
+    ensures told { AreReadable (P.pages pages.old) (P.count pages.old) → OnOk result (AreReadable (P.pages pages.new) (P.count pages.new)) }
 
     ensures damaged { (damage : Damage) → result ≢ Err (PageFault.Damaged damage) }
     ensures fails { FailsWriting P.Pages pages.old result }

@@ -5,7 +5,7 @@ ghost use Rattle.page_face.specs.Causes.{IsUncounted};
 ghost use Rattle.page_face.specs.Number.{number};
 ghost use Rattle.btree_nodes.specs.Supply.{IsSupplied, view, spare, one_at};
 ghost use Rattle.btree_nodes.specs.Nodes.{width_of, half_of};
-ghost use Rattle.btree_nodes.specs.Damages.{AreTold};
+ghost use Rattle.btree_nodes.specs.Damages.{AreReadable};
 ghost use Rattle.btree_delete.specs.Body.{kind_of, IsBody, body_rows, body_uses, cleared};
 ghost use Rattle.btree_delete.specs.Mended.{Becomes, joined};
 
@@ -26,7 +26,7 @@ pub fn shape_at(form: Form, level: u8) -> Shape
     form.inner(level)
 }
 
-// Makes the cells from this place on the first ones of a page: in an inner page the first key is zeros.
+// Makes the cells from this place on the first ones of a page: in an inner page the first key becomes zeros.
 fn clear_first(cells: &mut [u8], at: usize, form: Form, level: u8)
     requires fits { at + form.key ≤ length cells.old }
     ensures front { take at cells.new ≡ take at cells.old }
@@ -39,7 +39,7 @@ fn clear_first(cells: &mut [u8], at: usize, form: Form, level: u8)
 
 /// Writes the cells of two neighbours into the left one, which leaves the right one free, or half of them into each.
 ///
-/// Answers whether they were merged. If not, the right one's least key is left in `middle`. Refuses `Stopped` and
+/// Returns whether they were merged. If not, the right one's least key is left in `middle`. Refuses `Stopped` and
 /// `Memory`.
 pub fn share<P: Pages>(
     pages: &mut P,
@@ -65,7 +65,7 @@ pub fn share<P: Pages>(
         (λ n. one_at left n + one_at right n + body_uses form (P.pages pages.old) level count cells.old n)
         (P.pages pages.new) (P.count pages.new) (P.first pages.new) level low high
         (body_rows form (P.pages pages.old) level count cells.old) (joined merged low left right (number middle.new))) }
-    ensures told { AreTold (P.pages pages.old) (P.count pages.old) → OnOk result (AreTold (P.pages pages.new) (P.count pages.new)) }
+    ensures told { AreReadable (P.pages pages.old) (P.count pages.old) → OnOk result (AreReadable (P.pages pages.new) (P.count pages.new)) }
 
     ensures damaged { (damage : Damage) → result ≢ Err (PageFault.Damaged damage) }
     ensures fails { FailsWriting P.Pages pages.old result }

@@ -14,7 +14,7 @@ use Rattle.btree_insert.specs.Steps.{StepsAt}
 use Rattle.btree_insert.specs.Keeps.{KeepsAbove}
 use Rattle.page_face.specs.Causes.{IsUncounted}
 use Rattle.std.specs.Option.{is_some}
-use Rattle.btree_nodes.specs.Damages.{IsDamaged, AreTold, AsksOnly, BreaksLeaf, BreaksInner}
+use Rattle.btree_nodes.specs.Damages.{IsDamaged, AreReadable, AsksOnly, BreaksLeaf, BreaksInner}
 use Rattle.btree_nodes.specs.Store.{IsGrown}
 use Rattle.btree_nodes.proofs.Spots.{length-entries_in}
 use Rattle.btree_nodes.proofs.Trees.{tree-size, child-uses}
@@ -83,7 +83,7 @@ module _ {form : Form} {mid : PageMap} {count count' first first' level at key c
       (subst (λ (n : ℕ). IsDamaged form old n damage least' l child lo hi) count_same (subst (λ (p : PageMap). IsDamaged form p count' damage least' l child lo hi) pages_same d))
 
   -- what is told was lent
-  pub mid-told : AreTold old count → (IsUncounted count child → ⊥) → AreTold mid count' × (below ≡ mid child)
+  pub mid-told : AreReadable old count → (IsUncounted count child → ⊥) → AreReadable mid count' × (below ≡ mid child)
   mid-told told counted = rw (pages_same, count_same) (told, gives (told-read old count child told counted))
 
   -- what was asked for below the child

@@ -7,7 +7,7 @@ use Rattle.btree_nodes.specs.declared.form.Form.{Form}
 use Rattle.btree_nodes.specs.Build.{image}
 use Rattle.btree_nodes.specs.Nodes.{IsLeaf, IsInner}
 use Rattle.btree_nodes.specs.Tree.{level_of}
-use Rattle.btree_nodes.specs.Damages.{AreTold}
+use Rattle.btree_nodes.specs.Damages.{AreReadable}
 use Rattle.btree_nodes.proofs.Tolds.{image_told}
 use Rattle.btree_nodes.proofs.Supplies.{with-same, with-other}
 use Rattle.btree_insert.specs.Keeps.{KeepsOthers, KeepsAbove}
@@ -21,7 +21,7 @@ page-told old bytes page n some told =
     (cases_eq n page)
 
 -- one page was written
-pub one-kept : (number kind level cells_count page count count' : ℕ) (cells : List ℕ) (old new : PageMap) → AreTold old count → new ≡ with_page page (image number kind level cells_count cells) old → count' ≡ count
+pub one-kept : (number kind level cells_count page count count' : ℕ) (cells : List ℕ) (old new : PageMap) → AreReadable old count → new ≡ with_page page (image number kind level cells_count cells) old → count' ≡ count
     → KeepsOthers page old count new count'
 one-kept number kind level cells_count page count count' cells old new told is same =
     let bytes : List ℕ = image number kind level cells_count cells in
@@ -40,9 +40,9 @@ before-take count more first next page isnew isfree n a f =
     (cases_lt 0 first)
 
 -- a page was taken and written
-pub told-taken : (old taken new : PageMap) (count more count' first next page : ℕ) (bytes : List ℕ) → AreTold old count
+pub told-taken : (old taken new : PageMap) (count more count' first next page : ℕ) (bytes : List ℕ) → AreReadable old count
     → (first ≡ 0 → (page ≡ count) × (more ≡ count + 1) × (next ≡ 0)) → (0 < first → (page ≡ first) × (more ≡ count)) → ((n : ℕ) → (n ≡ page → ⊥) → taken n ≡ old n)
-    → new ≡ with_page page bytes taken → count' ≡ more → 0 < length bytes → AreTold new count'
+    → new ≡ with_page page bytes taken → count' ≡ more → 0 < length bytes → AreReadable new count'
 told-taken old taken new count more count' first next page bytes told isnew isfree others is same some n a b =
     subst (λ (p : PageMap). 0 < length (p n)) (sym is)
     (page-told taken bytes page n some (λ f. subst (λ (x : List ℕ). 0 < length x) (sym (others n f)) (told n a (before-take count more first next page isnew isfree n (omega arith) f))))
@@ -52,7 +52,7 @@ module _ (old taken first_written new : PageMap) (count more first next page rig
     (inside : first < count) (takeable : 0 < first → 0 < length (old first) → IsTakeable old count first)
     (others : (n : ℕ) → (n ≡ right → ⊥) → taken n ≡ old n)
     (one : first_written ≡ with_page page front taken) (two : new ≡ with_page right back first_written) (same : count' ≡ more)
-    (some : 0 < length front) (some_too : 0 < length back) (told : AreTold old count) where
+    (some : 0 < length front) (some_too : 0 < length back) (told : AreReadable old count) where
   -- a page that was taken was free, or isn't counted before
   not-taken : (n : ℕ) → n < count → slice_index (old n) 0 ≢ 4 → n ≡ right → ⊥
   not-taken n a f e =

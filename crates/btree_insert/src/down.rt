@@ -7,11 +7,10 @@ ghost use Rattle.page_face.specs.Nodes.{count_of};
 ghost use Rattle.btree_nodes.specs.Nodes.{IsInner};
 ghost use Rattle.btree_nodes.specs.Tree.{uses};
 ghost use Rattle.btree_nodes.specs.Damages.{BreaksInner, IsDamaged, AskedSince, AsksOnly};
-ghost use Rattle.btree_search.specs.Steps.{low_of, high_of};
+ghost use Rattle.btree_nodes.specs.Steps.{low_of, high_of};
 ghost use Rattle.btree_insert.specs.Steps.{StepsAt};
 
-use btree_nodes::{Form, child_at, damaged};
-use btree_search::{Bounds, inner_count, place_in};
+use btree_nodes::{Bounds, Form, child_at, damaged, inner_count, place_in};
 use page_face::{Damage, Page, PageFault, Pages, Rule};
 
 /// A step from an inner page to a child.

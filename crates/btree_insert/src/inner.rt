@@ -7,7 +7,7 @@ ghost use Rattle.page_face.specs.Cells.{chop};
 ghost use Rattle.btree_nodes.specs.Supply.{IsSupplied, view, spare, one_at};
 ghost use Rattle.btree_nodes.specs.Nodes.{entry_of, half_of};
 ghost use Rattle.btree_nodes.specs.Tree.{IsFan, IsTree, uses, total, with_low};
-ghost use Rattle.btree_nodes.specs.Damages.{AreTold, IsRefusedTake};
+ghost use Rattle.btree_nodes.specs.Damages.{AreReadable, IsRefusedTake};
 ghost use Rattle.btree_nodes.specs.Store.{IsGrown, below_rows};
 ghost use Rattle.btree_insert.specs.Keeps.{KeepsOthers};
 
@@ -15,8 +15,7 @@ use crate::split::split_page;
 use btree_nodes::{Form, Shape, clear_key, copy_key, store_one};
 use page_face::{Damage, PageFault, Pages};
 
-/// Writes an inner page of these entries, or two. The page that was split off is answered, or 0, and its least key is
-/// left in `middle`.
+/// Writes an inner page of these entries, or two. Returns the page that was split off, or 0, and leaves its least key in `middle`.
 pub fn store_inner<P: Pages>(
     pages: &mut P,
     form: Form,
@@ -42,8 +41,8 @@ pub fn store_inner<P: Pages>(
         (P.pages pages.new) (P.count pages.new) (P.first pages.new) (suc below) page low high
         (below_rows form (P.pages pages.old) below (with_low low (map (entry_of form.key) (chop (form.key + 4) count cells.old)))) more (number middle.new)) }
 
-    ensures kept { AreTold (P.pages pages.old) (P.count pages.old) → IfOk result (λ more. KeepsOthers page (P.pages pages.old) (P.count pages.old) (P.pages pages.new) (P.count pages.new)) }
-    ensures honest { (free : List ℕ) → IsSupplied (view (P.pages pages.old) (P.count pages.old) (P.first pages.old) free) → (damage : Damage) → result ≢ Err (PageFault.Damaged damage) }
+    ensures kept { AreReadable (P.pages pages.old) (P.count pages.old) → IfOk result (λ more. KeepsOthers page (P.pages pages.old) (P.count pages.old) (P.pages pages.new) (P.count pages.new)) }
+    ensures no_false_damage { (free : List ℕ) → IsSupplied (view (P.pages pages.old) (P.count pages.old) (P.first pages.old) free) → (damage : Damage) → result ≢ Err (PageFault.Damaged damage) }
     ensures damaged { (damage : Damage) → IsErrOf result (PageFault.Damaged damage) → IsRefusedTake (P.pages pages.new) (P.count pages.new) (P.first pages.new) damage }
     ensures takes { TakesAtMost P.Pages 1 pages.old pages.new result }
     ensures fails { FailsChanging P.Pages pages.old pages.new result }

@@ -9,13 +9,14 @@ ghost use Rattle.btree_nodes.specs.Rows.{Row, IsWithin, IsMade, lookup, put};
 ghost use Rattle.page_face.specs.Nodes.{count_of};
 ghost use Rattle.btree_nodes.specs.Nodes.{row_of, rows_in, IsLeaf};
 ghost use Rattle.btree_nodes.specs.Bounds.{upper_of};
-ghost use Rattle.btree_nodes.specs.Damages.{AreTold, BreaksLeaf, IsRefusedTake};
+ghost use Rattle.btree_nodes.specs.Damages.{AreReadable, BreaksLeaf, IsRefusedTake};
 ghost use Rattle.btree_nodes.specs.Store.{IsGrown};
 ghost use Rattle.btree_insert.specs.Keeps.{KeepsOthers};
 
 use crate::split::split_page;
-use btree_nodes::{Form, Shape, body, compare, damaged, key_of, place, splice, store_one};
-use btree_search::leaf_count;
+use btree_nodes::{
+    Form, Shape, body, compare, damaged, key_of, leaf_count, place, splice, store_one,
+};
 use page_face::{Damage, Page, PageFault, Pages};
 use std::cmp::Ordering;
 
@@ -28,8 +29,7 @@ pub struct Grown {
     pub had: bool,
 }
 
-// Writes a leaf of these rows, or two. The page that was split off is answered, or 0, and its first key is left in
-// `middle`.
+// Writes a leaf of these rows, or two. Returns the page that was split off, or 0, and leaves its first key in `middle`.
 fn store_leaf<P: Pages>(
     pages: &mut P,
     form: Form,
@@ -50,8 +50,8 @@ fn store_leaf<P: Pages>(
         → IfOk result (λ right. IsGrown form least (view (P.pages pages.old) (P.count pages.old) (P.first pages.old) free) (one_at page) (P.pages pages.new) (P.count pages.new) (P.first pages.new)
         0 page low high (map (row_of form.key) (chop (form.key + form.value) count cells.now)) right (number middle.new)) }
 
-    ensures kept { AreTold (P.pages pages.old) (P.count pages.old) → IfOk result (λ right. KeepsOthers page (P.pages pages.old) (P.count pages.old) (P.pages pages.new) (P.count pages.new)) }
-    ensures honest { (free : List ℕ) → IsSupplied (view (P.pages pages.old) (P.count pages.old) (P.first pages.old) free) → (damage : Damage) → result ≢ Err (PageFault.Damaged damage) }
+    ensures kept { AreReadable (P.pages pages.old) (P.count pages.old) → IfOk result (λ right. KeepsOthers page (P.pages pages.old) (P.count pages.old) (P.pages pages.new) (P.count pages.new)) }
+    ensures no_false_damage { (free : List ℕ) → IsSupplied (view (P.pages pages.old) (P.count pages.old) (P.first pages.old) free) → (damage : Damage) → result ≢ Err (PageFault.Damaged damage) }
     ensures damaged { (damage : Damage) → IsErrOf result (PageFault.Damaged damage) → IsRefusedTake (P.pages pages.new) (P.count pages.new) (P.first pages.new) damage }
     ensures takes { TakesAtMost P.Pages 1 pages.old pages.new result }
     ensures fails { FailsChanging P.Pages pages.old pages.new result }
@@ -84,7 +84,7 @@ fn store_leaf<P: Pages>(
     Ok(right)
 }
 
-// 1 where the row at this place has the key, and else 0.
+// 1 if the row at this place has the key, and 0 otherwise.
 fn gone_at(bytes: &Page, form: Form, count: usize, at: usize, key: &[u8]) -> usize
     requires fits { 16 + (form.key + form.value) * count ≤ 4096 }
     requires key { length key.now ≡ form.key }
@@ -101,8 +101,8 @@ fn gone_at(bytes: &Page, form: Form, count: usize, at: usize, key: &[u8]) -> usi
     }
 }
 
-// Puts a row into the leaf looked at, of `count` rows, at this place, in place of as many as are gone. The page that was split off
-// is returned, or 0.
+// Puts a row into the leaf looked at, of `count` rows, at this place, replacing the `gone` rows there. Returns the page that was split
+// off, or 0.
 fn put_at<P: Pages>(
     pages: &mut P,
     form: Form,
@@ -131,8 +131,8 @@ fn put_at<P: Pages>(
         → IfOk result (λ right. IsGrown form least (view (P.pages pages.old) (P.count pages.old) (P.first pages.old) free) (one_at page) (P.pages pages.new) (P.count pages.new) (P.first pages.new)
         0 page low high (put (number key.now) value.now rows) right (number middle.new)) }
 
-    ensures kept { AreTold (P.pages pages.old) (P.count pages.old) → IfOk result (λ right. KeepsOthers page (P.pages pages.old) (P.count pages.old) (P.pages pages.new) (P.count pages.new)) }
-    ensures honest { (free : List ℕ) → IsSupplied (view (P.pages pages.old) (P.count pages.old) (P.first pages.old) free) → (damage : Damage) → result ≢ Err (PageFault.Damaged damage) }
+    ensures kept { AreReadable (P.pages pages.old) (P.count pages.old) → IfOk result (λ right. KeepsOthers page (P.pages pages.old) (P.count pages.old) (P.pages pages.new) (P.count pages.new)) }
+    ensures no_false_damage { (free : List ℕ) → IsSupplied (view (P.pages pages.old) (P.count pages.old) (P.first pages.old) free) → (damage : Damage) → result ≢ Err (PageFault.Damaged damage) }
     ensures damaged { (damage : Damage) → IsErrOf result (PageFault.Damaged damage) → IsRefusedTake (P.pages pages.new) (P.count pages.new) (P.first pages.new) damage }
     ensures takes { TakesAtMost P.Pages 1 pages.old pages.new result }
     ensures fails { FailsChanging P.Pages pages.old pages.new result }
@@ -151,7 +151,7 @@ fn put_at<P: Pages>(
     store_leaf(pages, form, least, page, count + 1 - gone, cells, middle)
 }
 
-// The bytes of the cells of a leaf with one row put among them.
+// The number of bytes of a leaf's cells after a row was put, replacing `gone` rows.
 fn room_for(form: Form, count: usize, gone: usize) -> usize
     requires fits { 16 + (form.key + form.value) * count ≤ 4096 }
     requires gone { gone ≤ count + 1 }
@@ -161,7 +161,7 @@ fn room_for(form: Form, count: usize, gone: usize) -> usize
     (form.key + form.value) * (count + 1 - gone)
 }
 
-// Puts a row into the leaf looked at, of `count` rows. Where it is split, the first key of the page that was split off is left in
+// Puts a row into the leaf looked at, of `count` rows. If it is split, the first key of the page that was split off is left in
 // `middle`.
 fn put_row<P: Pages>(
     pages: &mut P,
@@ -187,8 +187,8 @@ fn put_row<P: Pages>(
     ensures had { (low high : ℕ) → IsWithin low high (rows_in form (P.looked pages.old)) → low ≤ number key.now → number key.now < high
         → IfOk result (λ grown. grown.had ≡ is_some (lookup (number key.now) (rows_in form (P.looked pages.old)))) }
 
-    ensures kept { AreTold (P.pages pages.old) (P.count pages.old) → IfOk result (λ grown. KeepsOthers page (P.pages pages.old) (P.count pages.old) (P.pages pages.new) (P.count pages.new)) }
-    ensures honest { (free : List ℕ) → IsSupplied (view (P.pages pages.old) (P.count pages.old) (P.first pages.old) free) → (damage : Damage) → result ≢ Err (PageFault.Damaged damage) }
+    ensures kept { AreReadable (P.pages pages.old) (P.count pages.old) → IfOk result (λ grown. KeepsOthers page (P.pages pages.old) (P.count pages.old) (P.pages pages.new) (P.count pages.new)) }
+    ensures no_false_damage { (free : List ℕ) → IsSupplied (view (P.pages pages.old) (P.count pages.old) (P.first pages.old) free) → (damage : Damage) → result ≢ Err (PageFault.Damaged damage) }
     ensures damaged { (damage : Damage) → IsErrOf result (PageFault.Damaged damage) → IsRefusedTake (P.pages pages.new) (P.count pages.new) (P.first pages.new) damage }
     ensures takes { TakesAtMost P.Pages 1 pages.old pages.new result }
     ensures fails { FailsChanging P.Pages pages.old pages.new result }
@@ -219,7 +219,7 @@ fn put_row<P: Pages>(
     })
 }
 
-/// Puts a row into the leaf looked at, which is `page`. Where it is split, the first key of the page that was split off is left in
+/// Puts a row into the leaf looked at, which is `page`. If it is split, the first key of the page that was split off is left in
 /// `middle`.
 ///
 /// Refuses the rule that the page breaks between these bounds, and what a `take` refuses. Its cells are copied once into a buffer,
@@ -252,7 +252,7 @@ pub fn put_leaf<P: Pages>(
     ensures had { IfOk result (λ grown. grown.had ≡ is_some (lookup (number key.now) (rows_in form (P.looked pages.old)))) }
 
     ensures sound { IfOk result (λ grown. IsLeaf form least (P.looked pages.old)) }
-    ensures kept { AreTold (P.pages pages.old) (P.count pages.old) → IfOk result (λ grown. KeepsOthers page (P.pages pages.old) (P.count pages.old) (P.pages pages.new) (P.count pages.new)) }
+    ensures kept { AreReadable (P.pages pages.old) (P.count pages.old) → IfOk result (λ grown. KeepsOthers page (P.pages pages.old) (P.count pages.old) (P.pages pages.new) (P.count pages.new)) }
     ensures supplied { (free : List ℕ) → IsSupplied (view (P.pages pages.old) (P.count pages.old) (P.first pages.old) free) → (damage : Damage) → IsErrOf result (PageFault.Damaged damage)
         → (damage.page ≡ page) × BreaksLeaf damage.rule form least (number low.now) (upper_of form.key high.now) (P.looked pages.old) }
     ensures damaged { (damage : Damage) → IsErrOf result (PageFault.Damaged damage)

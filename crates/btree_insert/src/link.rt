@@ -8,16 +8,15 @@ ghost use Rattle.page_face.specs.Nodes.{count_of};
 ghost use Rattle.btree_nodes.specs.Supply.{IsSupplied, view, spare, one_at};
 ghost use Rattle.btree_nodes.specs.Nodes.{Entry, entries_in, entry_of, half_of, IsInner};
 ghost use Rattle.btree_nodes.specs.Tree.{IsTree, IsFan, uses, total};
-ghost use Rattle.btree_nodes.specs.Damages.{AreTold, AsksOnly, IsRefusedTake};
+ghost use Rattle.btree_nodes.specs.Damages.{AreReadable, AsksOnly, IsRefusedTake};
 ghost use Rattle.btree_nodes.specs.Store.{IsGrown, below_rows, linked};
 ghost use Rattle.btree_insert.specs.Keeps.{KeepsOthers};
 
 use crate::inner::store_inner;
-use btree_nodes::{Form, Found, body, damaged, splice};
-use btree_search::count;
+use btree_nodes::{Form, Found, body, count, damaged, splice};
 use page_face::{Damage, Page, PageFault, Pages, Rule};
 
-// The bytes of the cells of an inner page with one more entry.
+// The number of bytes of an inner page's cells with one more entry.
 fn room_for(form: Form, count: usize) -> usize
     requires { 16 + (form.key + 4) * count ≤ 4096 }
     ensures is { result ≡ (form.key + 4) * (count + 1) }
@@ -26,8 +25,7 @@ fn room_for(form: Form, count: usize) -> usize
     (form.key + 4) * (count + 1)
 }
 
-// Puts an entry into the cells of the inner page looked at, behind the one at this place. The page that was split off is returned,
-// or 0.
+// Puts an entry into the cells of the inner page looked at, after the entry at this place. Returns the page that was split off, or 0.
 fn link_at<P: Pages>(
     pages: &mut P,
     form: Form,
@@ -56,8 +54,8 @@ fn link_at<P: Pages>(
         (P.pages pages.new) (P.count pages.new) (P.first pages.new) (suc below) page low high
         (below_rows form (P.pages pages.old) below (linked low es found.at right (number middle.old))) more (number middle.new)) }
 
-    ensures kept { AreTold (P.pages pages.old) (P.count pages.old) → IfOk result (λ more. KeepsOthers page (P.pages pages.old) (P.count pages.old) (P.pages pages.new) (P.count pages.new)) }
-    ensures honest { (free : List ℕ) → IsSupplied (view (P.pages pages.old) (P.count pages.old) (P.first pages.old) free) → (damage : Damage) → result ≢ Err (PageFault.Damaged damage) }
+    ensures kept { AreReadable (P.pages pages.old) (P.count pages.old) → IfOk result (λ more. KeepsOthers page (P.pages pages.old) (P.count pages.old) (P.pages pages.new) (P.count pages.new)) }
+    ensures no_false_damage { (free : List ℕ) → IsSupplied (view (P.pages pages.old) (P.count pages.old) (P.first pages.old) free) → (damage : Damage) → result ≢ Err (PageFault.Damaged damage) }
     ensures damaged { (damage : Damage) → IsErrOf result (PageFault.Damaged damage) → IsRefusedTake (P.pages pages.new) (P.count pages.new) (P.first pages.new) damage }
     ensures takes { TakesAtMost P.Pages 1 pages.old pages.new result }
     ensures fails { FailsChanging P.Pages pages.old pages.new result }
@@ -86,7 +84,7 @@ fn link_at<P: Pages>(
     )
 }
 
-// Puts an entry behind the one at this place of the inner page looked at. The page that was split off is returned, or 0.
+// Puts an entry after the one at this place of the inner page looked at. Returns the page that was split off, or 0.
 fn link<P: Pages>(
     pages: &mut P,
     form: Form,
@@ -112,8 +110,8 @@ fn link<P: Pages>(
         (P.pages pages.new) (P.count pages.new) (P.first pages.new) (suc below) page low high
         (below_rows form (P.pages pages.old) below (linked low (entries_in form (P.looked pages.old)) found.at right (number middle.old))) more (number middle.new)) }
 
-    ensures kept { AreTold (P.pages pages.old) (P.count pages.old) → IfOk result (λ more. KeepsOthers page (P.pages pages.old) (P.count pages.old) (P.pages pages.new) (P.count pages.new)) }
-    ensures honest { (free : List ℕ) → IsSupplied (view (P.pages pages.old) (P.count pages.old) (P.first pages.old) free) → (damage : Damage) → result ≢ Err (PageFault.Damaged damage) }
+    ensures kept { AreReadable (P.pages pages.old) (P.count pages.old) → IfOk result (λ more. KeepsOthers page (P.pages pages.old) (P.count pages.old) (P.pages pages.new) (P.count pages.new)) }
+    ensures no_false_damage { (free : List ℕ) → IsSupplied (view (P.pages pages.old) (P.count pages.old) (P.first pages.old) free) → (damage : Damage) → result ≢ Err (PageFault.Damaged damage) }
     ensures damaged { (damage : Damage) → IsErrOf result (PageFault.Damaged damage) → IsRefusedTake (P.pages pages.new) (P.count pages.new) (P.first pages.new) damage }
     ensures takes { TakesAtMost P.Pages 1 pages.old pages.new result }
     ensures fails { FailsChanging P.Pages pages.old pages.new result }
@@ -135,7 +133,7 @@ fn link<P: Pages>(
     )
 }
 
-// The entry at this place of a page, unless the page has none there or says more entries than fit.
+// The entry at this place of a page, unless the page has none there or its header counts more entries than fit.
 fn found_at(page: &Page, form: Form, at: usize) -> Option<Found>
     ensures found { IfSome result (λ found. (found.at ≡ at) × (at < found.count) × (found.count ≡ count_of page.now) × (16 + (form.key + 4) * found.count ≤ 4096)) }
     ensures none { result ≡ None → at < count_of page.now → 16 + (form.key + 4) * count_of page.now ≤ 4096 → ⊥ }
@@ -150,11 +148,11 @@ fn found_at(page: &Page, form: Form, at: usize) -> Option<Found>
     Some(Found { at, count })
 }
 
-/// Looks at an inner page again and puts an entry behind the one at this place. The page that was split off is returned, or 0, and
-/// its least key is left in `middle`.
+/// Looks at an inner page again and puts an entry after the one at this place. Returns the page that was split off, or 0, and leaves
+/// its least key in `middle`.
 ///
-/// Refuses `Damaged` with `Fill` at the page if what is lent has no entry at the place, as only a page that has changed meanwhile
-/// can; as `look` and `take` do. Looks at one page, copies its cells once into a buffer, and writes it, or takes one and writes two.
+/// Refuses as `look` and `take` do, and `Damaged` with `Fill` at the page if what is lent has no entry at the place. That happens only if
+/// the page has changed meanwhile. Looks at one page, copies its cells once into a buffer, and writes it, or takes one and writes two.
 #[inline(never)]
 pub fn relink<P: Pages>(
     pages: &mut P,
@@ -178,10 +176,10 @@ pub fn relink<P: Pages>(
         (P.pages pages.new) (P.count pages.new) (P.first pages.new) (suc below) page low high
         (below_rows form (P.pages pages.old) below (linked low (entries_in form bytes) at right (number middle.old))) more (number middle.new)) }
 
-    ensures kept { AreTold (P.pages pages.old) (P.count pages.old) → IfOk result (λ more. KeepsOthers page (P.pages pages.old) (P.count pages.old) (P.pages pages.new) (P.count pages.new)) }
+    ensures kept { AreReadable (P.pages pages.old) (P.count pages.old) → IfOk result (λ more. KeepsOthers page (P.pages pages.old) (P.count pages.old) (P.pages pages.new) (P.count pages.new)) }
 
-    // A page that is told, and has the entry, isn't refused.
-    ensures honest { (free : List ℕ) → IsInner form least (suc below) (P.pages pages.old page) → at < count_of (P.pages pages.old page)
+    // A page whose bytes are readable, and which has the entry, isn't refused.
+    ensures no_false_damage { (free : List ℕ) → IsInner form least (suc below) (P.pages pages.old page) → at < count_of (P.pages pages.old page)
         → IsSupplied (view (P.pages pages.old) (P.count pages.old) (P.first pages.old) free) → (damage : Damage) → result ≢ Err (PageFault.Damaged damage) }
     ensures damaged { IsInner form least (suc below) (P.pages pages.old page) → at < count_of (P.pages pages.old page)
         → (damage : Damage) → IsErrOf result (PageFault.Damaged damage) → IsRefusedTake (P.pages pages.new) (P.count pages.new) (P.first pages.new) damage }

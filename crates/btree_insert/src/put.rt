@@ -7,28 +7,29 @@ ghost use Rattle.btree_nodes.specs.Supply.{IsSupplied, view, spare};
 ghost use Rattle.btree_nodes.specs.Rows.{lookup, put};
 ghost use Rattle.btree_nodes.specs.Nodes.{least_of_root};
 ghost use Rattle.btree_nodes.specs.Tree.{IsTree, rows_at, uses};
-ghost use Rattle.btree_nodes.specs.Damages.{IsDamaged, IsRefusedTake, AreTold, AskedSince, AsksOnly};
+ghost use Rattle.btree_nodes.specs.Damages.{IsDamaged, IsRefusedTake, AreReadable, AskedSince, AsksOnly};
 ghost use Rattle.btree_nodes.specs.Store.{IsGrown};
-ghost use Rattle.btree_search.specs.Steps.{low_of, high_of};
+ghost use Rattle.btree_nodes.specs.Steps.{low_of, high_of};
 ghost use Rattle.btree_insert.specs.Keeps.{KeepsAbove};
 
 use crate::down::go_down;
 use crate::leaf::{Grown, put_leaf};
 use crate::link::relink;
-use btree_nodes::{Form, least_at};
-use btree_search::Bounds;
+use btree_nodes::{Bounds, Form, least_at};
 use page_face::{Damage, PageFault, Pages};
 
 /// Puts a row below `page`, which is the page looked at last and whose bounds are in `bounds`: the value at the key is this one from
-/// now on. If the page is split, the least key of the page that was split off is left in `middle`; else `middle` may hold anything,
-/// and so may `bounds` in either case.
+/// now on.
+///
+/// If the page is split, the least key of the page that was split off is left in `middle`; otherwise `middle` may hold anything. After
+/// the call `bounds` may hold anything.
 ///
 /// Refuses with `Damaged` and the rule that a page breaks in its place, or as a `take` refused it; with `Disk`, `NoRoom`, `Stopped` or
 /// `Memory`. Pages may have changed then.
 ///
-/// Looks at one page for each level below this one, and once more at each page whose child was split. A page is checked whole only if
-/// it isn't sealed yet. It writes one page, or two for each page that is split, for which it takes one. Its cells are the one copy
-/// of a page that it holds.
+/// Looks at one page for each level below this one, and once more at each page whose child was split. A page is checked whole only if it
+/// isn't sealed yet. It writes one page, or two for each page that is split, for which it takes one. The cells of one page are the only
+/// copy that it holds.
 pub fn put_in<P: Pages>(
     pages: &mut P,
     form: Form,
@@ -59,8 +60,8 @@ pub fn put_in<P: Pages>(
         → IsTree form least (P.pages pages.old) level page (low_of form bounds.old) (high_of form bounds.old)
         → IfOk result (λ grown. grown.had ≡ is_some (lookup (number key.now) (rows_at form (P.pages pages.old) level page))) }
 
-    // On pages that tell, whatever they hold, the inner pages above stay.
-    ensures kept { AreTold (P.pages pages.old) (P.count pages.old) → P.looked pages.old ≡ P.pages pages.old page
+    // On pages whose bytes are readable, whatever they hold, the inner pages above stay.
+    ensures kept { AreReadable (P.pages pages.old) (P.count pages.old) → P.looked pages.old ≡ P.pages pages.old page
         → IfOk result (λ grown. KeepsAbove level (P.pages pages.old) (P.count pages.old) (P.pages pages.new) (P.count pages.new)) }
 
     // On a tree with a free list that ends at 0, no take is refused as damaged.
@@ -71,18 +72,18 @@ pub fn put_in<P: Pages>(
         → (damage : Damage) → IsErrOf result (PageFault.Damaged damage)
         → IsDamaged form (P.pages pages.old) (P.count pages.old) damage least level page (low_of form bounds.old) (high_of form bounds.old) }
     ensures damaged { (before : List ℕ) → P.asked pages.old ≡ before ++ page ∷ []
-        → AreTold (P.pages pages.old) (P.count pages.old) → P.looked pages.old ≡ P.pages pages.old page
+        → AreReadable (P.pages pages.old) (P.count pages.old) → P.looked pages.old ≡ P.pages pages.old page
         → (damage : Damage) → IsErrOf result (PageFault.Damaged damage)
         → (IsDamaged form (P.pages pages.old) (P.count pages.old) damage least level page (low_of form bounds.old) (high_of form bounds.old) × AskedSince before (P.asked pages.new) damage.page)
         ⊎ IsRefusedTake (P.pages pages.new) (P.count pages.new) (P.first pages.new) damage }
 
     // Each check comes before a page is written.
-    ensures stays { AreTold (P.pages pages.old) (P.count pages.old) → P.looked pages.old ≡ P.pages pages.old page
+    ensures stays { AreReadable (P.pages pages.old) (P.count pages.old) → P.looked pages.old ≡ P.pages pages.old page
         → (damage : Damage) → IsErrOf result (PageFault.Damaged damage)
         → ((P.pages pages.new ≡ P.pages pages.old) × (P.count pages.new ≡ P.count pages.old))
         ⊎ IsRefusedTake (P.pages pages.new) (P.count pages.new) (P.first pages.new) damage }
     ensures own { (before : List ℕ) → P.asked pages.old ≡ before ++ page ∷ []
-        → AreTold (P.pages pages.old) (P.count pages.old) → P.looked pages.old ≡ P.pages pages.old page
+        → AreReadable (P.pages pages.old) (P.count pages.old) → P.looked pages.old ≡ P.pages pages.old page
         → AsksOnly (uses form (P.pages pages.old) level page) before (P.asked pages.new) }
     ensures takes { TakesAtMost P.Pages (level + 1) pages.old pages.new result }
     ensures fails { FailsChanging P.Pages pages.old pages.new result }

@@ -9,7 +9,7 @@ ghost use Rattle.btree_nodes.specs.Build.{image};
 ghost use Rattle.btree_nodes.specs.Supply.{IsSupplied, view, spare};
 ghost use Rattle.btree_nodes.specs.Nodes.{half_of};
 ghost use Rattle.btree_nodes.specs.Tree.{IsFan, IsTree, uses, total};
-ghost use Rattle.btree_nodes.specs.Damages.{AreTold, IsRefusedTake};
+ghost use Rattle.btree_nodes.specs.Damages.{AreReadable, IsRefusedTake};
 ghost use Rattle.btree_nodes.specs.Store.{IsGrown, below_rows};
 ghost use Rattle.btree_insert.specs.Starts.{no_page};
 
@@ -61,9 +61,9 @@ fn write_root<P: Pages>(
     store_one(pages, shape, root, 2, cells)
 }
 
-/// Takes a page for a root above two pages, the right one of which has the least key `middle`. The root is answered.
+/// Takes a page for a root above two pages, the right one of which has the least key `middle`. Returns the root.
 ///
-/// Refuses `Damaged` as the `take` answered it, `Disk`, `NoRoom`, `Stopped` and `Memory`. It takes a page and writes it.
+/// Refuses `Damaged` as the `take` returned it, `Disk`, `NoRoom`, `Stopped` and `Memory`. It takes a page and writes it.
 pub fn grow_root<P: Pages>(
     pages: &mut P,
     form: Form,
@@ -82,9 +82,9 @@ pub fn grow_root<P: Pages>(
         (P.pages pages.new) (P.count pages.new) (P.first pages.new) (suc below) root 0 high
         (below_rows form (P.pages pages.old) below ((0, left) ∷ ((number middle.now, right) ∷ []))) 0 0) }
     ensures some { IfOk result (λ root. 0 < root) }
-    ensures told { AreTold (P.pages pages.old) (P.count pages.old) → OnOk result (AreTold (P.pages pages.new) (P.count pages.new)) }
+    ensures told { AreReadable (P.pages pages.old) (P.count pages.old) → OnOk result (AreReadable (P.pages pages.new) (P.count pages.new)) }
 
-    ensures honest { (free : List ℕ) → IsSupplied (view (P.pages pages.old) (P.count pages.old) (P.first pages.old) free) → (damage : Damage) → result ≢ Err (PageFault.Damaged damage) }
+    ensures no_false_damage { (free : List ℕ) → IsSupplied (view (P.pages pages.old) (P.count pages.old) (P.first pages.old) free) → (damage : Damage) → result ≢ Err (PageFault.Damaged damage) }
     ensures damaged { (damage : Damage) → IsErrOf result (PageFault.Damaged damage) → IsRefusedTake (P.pages pages.new) (P.count pages.new) (P.first pages.new) damage }
     ensures takes { TakesAtMost P.Pages 1 pages.old pages.new result }
     ensures fails { FailsChanging P.Pages pages.old pages.new result }
@@ -137,9 +137,9 @@ fn write_leaf<P: Pages>(
     store_one(pages, shape, root, 1, cells)
 }
 
-/// Takes a page for the first leaf of a map, with one row. The leaf, which is the map's root then, is answered.
+/// Takes a page for the first leaf of a map, with one row. Returns that leaf, which is then the map's root.
 ///
-/// Refuses `Damaged` as the `take` answered it, `Disk`, `NoRoom`, `Stopped` and `Memory`. It takes a page and writes it.
+/// Refuses `Damaged` as the `take` returned it, `Disk`, `NoRoom`, `Stopped` and `Memory`. It takes a page and writes it.
 pub fn first_leaf<P: Pages>(
     pages: &mut P,
     form: Form,
@@ -153,9 +153,9 @@ pub fn first_leaf<P: Pages>(
         → IfOk result (λ root. IsGrown form 1 (view (P.pages pages.old) (P.count pages.old) (P.first pages.old) free) no_page
         (P.pages pages.new) (P.count pages.new) (P.first pages.new) 0 root 0 (256 ^ form.key) ((number key.now, value.now) ∷ []) 0 0) }
     ensures some { IfOk result (λ root. 0 < root) }
-    ensures told { AreTold (P.pages pages.old) (P.count pages.old) → OnOk result (AreTold (P.pages pages.new) (P.count pages.new)) }
+    ensures told { AreReadable (P.pages pages.old) (P.count pages.old) → OnOk result (AreReadable (P.pages pages.new) (P.count pages.new)) }
 
-    ensures honest { (free : List ℕ) → IsSupplied (view (P.pages pages.old) (P.count pages.old) (P.first pages.old) free) → (damage : Damage) → result ≢ Err (PageFault.Damaged damage) }
+    ensures no_false_damage { (free : List ℕ) → IsSupplied (view (P.pages pages.old) (P.count pages.old) (P.first pages.old) free) → (damage : Damage) → result ≢ Err (PageFault.Damaged damage) }
     ensures damaged { (damage : Damage) → IsErrOf result (PageFault.Damaged damage) → IsRefusedTake (P.pages pages.new) (P.count pages.new) (P.first pages.new) damage }
     ensures takes { TakesAtMost P.Pages 1 pages.old pages.new result }
     ensures fails { FailsChanging P.Pages pages.old pages.new result }

@@ -5,15 +5,15 @@ ghost use Rattle.page_face.specs.Causes.{IsUncounted};
 ghost use Rattle.btree_nodes.specs.Build.{image};
 ghost use Rattle.btree_nodes.specs.Supply.{IsSupplied, view, spare, one_at};
 ghost use Rattle.btree_nodes.specs.Store.{IsSplit};
-ghost use Rattle.btree_nodes.specs.Damages.{AreTold, IsRefusedTake};
+ghost use Rattle.btree_nodes.specs.Damages.{AreReadable, IsRefusedTake};
 ghost use Rattle.btree_insert.specs.Keeps.{KeepsOthers};
 
 use btree_nodes::{Shape, store_one};
 use page_face::{Damage, PageFault, Pages};
 
-/// Writes the front of the cells into a counted page and the others into one that it takes. That page is returned.
+/// Writes the first of the cells into a counted page and the others into one that it takes. Returns the page that it took.
 ///
-/// Refuses as `take` does. After a `Damaged` the pages are as the take met them. It takes one page and writes two.
+/// Refuses as `take` does. After a `Damaged` the pages are as the take found them. It takes one page and writes two.
 pub fn split_page<P: Pages>(
     pages: &mut P,
     shape: Shape,
@@ -32,9 +32,9 @@ pub fn split_page<P: Pages>(
         (image shape.number shape.kind shape.level count front.now) (image shape.number shape.kind shape.level rest back.now)) }
     ensures some { IfOk result (λ right. 0 < right) }
 
-    // On pages that tell, whatever they hold, only free ones change beside this one.
-    ensures kept { AreTold (P.pages pages.old) (P.count pages.old) → IfOk result (λ right. KeepsOthers page (P.pages pages.old) (P.count pages.old) (P.pages pages.new) (P.count pages.new)) }
-    ensures honest { (free : List ℕ) → IsSupplied (view (P.pages pages.old) (P.count pages.old) (P.first pages.old) free)
+    // On pages whose bytes are readable, whatever they hold, only free ones change beside this one.
+    ensures kept { AreReadable (P.pages pages.old) (P.count pages.old) → IfOk result (λ right. KeepsOthers page (P.pages pages.old) (P.count pages.old) (P.pages pages.new) (P.count pages.new)) }
+    ensures no_false_damage { (free : List ℕ) → IsSupplied (view (P.pages pages.old) (P.count pages.old) (P.first pages.old) free)
         → (damage : Damage) → result ≢ Err (PageFault.Damaged damage) }
     ensures damaged { (damage : Damage) → IsErrOf result (PageFault.Damaged damage)
         → IsRefusedTake (P.pages pages.new) (P.count pages.new) (P.first pages.new) damage }

@@ -20,3 +20,7 @@ pub mod Firsts
 pub mod Checks
 pub mod Walks
 pub mod Tolds
+pub mod Soundness
+pub mod Roots
+pub mod Places
+pub mod Descents

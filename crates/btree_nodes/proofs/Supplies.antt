@@ -166,9 +166,9 @@ next-counted pages count first [] some s = omega (arith, s)
 next-counted pages count first (page ∷ rest) some s = let e = s.0 in let l = s.2 in omega arith
 
 -- no take of a free list that ends at 0 is refused for its first page
-pub take-honest : (pages : PageMap) (count first : ℕ) (free : List ℕ) (damage : Damage) → IsSupplied (view pages count first free) → IsRefusedTake pages count first damage → ⊥
-take-honest pages count first [] damage s r = let z : first ≡ 0 = s in let p = r.0 in absurd (omega arith)
-take-honest pages count first (page ∷ rest) damage s r =
+pub take-no_false_damage : (pages : PageMap) (count first : ℕ) (free : List ℕ) (damage : Damage) → IsSupplied (view pages count first free) → IsRefusedTake pages count first damage → ⊥
+take-no_false_damage pages count first [] damage s r = let z : first ≡ 0 = s in let p = r.0 in absurd (omega arith)
+take-no_false_damage pages count first (page ∷ rest) damage s r =
     let e : first ≡ page = s.0 in
     let form : IsFreePage (pages first) = subst (λ (k : ℕ). IsFreePage (pages k)) (sym e) s.3 in
     let l = s.2 in

@@ -3,7 +3,7 @@ use Rattle.std.proofs.Common.{◌≡◌, ℕ, zero, suc, ◌+◌, ◌<◌, ◌�
 use Rattle.std.proofs.lemmas.Bool.{cases_eq, cases_lt}
 use Rattle.page_face.specs.FreeList.{PageMap, with_page, IsFreeList, IsFreePage, next_free}
 use Rattle.btree_nodes.specs.Build.{image}
-use Rattle.btree_nodes.specs.Damages.{AreTold}
+use Rattle.btree_nodes.specs.Damages.{AreReadable}
 use Rattle.btree_nodes.specs.declared.form.Form.{Form}
 use Rattle.btree_nodes.specs.Nodes.{Entry, entries_in, half_of, least_of_root}
 use Rattle.btree_nodes.specs.Supply.{View, Moves, one_at, spare_in, times, uncounted}
@@ -17,14 +17,14 @@ unfolding image
 image_told number kind level count cells = omega arith
 
 -- a page is written
-pub told_written : (old new : PageMap) (bytes : List ℕ) (page count count' : ℕ) → new ≡ with_page page bytes old → count' ≡ count → 0 < length bytes → AreTold old count → AreTold new count'
+pub told_written : (old new : PageMap) (bytes : List ℕ) (page count count' : ℕ) → new ≡ with_page page bytes old → count' ≡ count → 0 < length bytes → AreReadable old count → AreReadable new count'
 told_written old new bytes page count count' e same long told n some few = elim (cases_eq n page) [
   | inl k ↦ let a : length (new n) ≡ length bytes = ap (λ (p : PageMap). length (p n)) e ∙ ap (λ (m : ℕ). length (with_page page bytes old m)) k ∙ ap length (with-same old bytes page) in omega arith
   | inr k ↦ let a : length (new n) ≡ length (old n) = ap (λ (p : PageMap). length (p n)) e ∙ ap length (with-other old bytes page n k) in let b = told n some (omega arith) in omega arith
 ]
 
 -- a page is given back
-pub told_given : (old new : PageMap) (page count count' : ℕ) → IsFreePage (new page) → ((n : ℕ) → (n ≡ page → ⊥) → new n ≡ old n) → count' ≡ count → AreTold old count → AreTold new count'
+pub told_given : (old new : PageMap) (page count count' : ℕ) → IsFreePage (new page) → ((n : ℕ) → (n ≡ page → ⊥) → new n ≡ old n) → count' ≡ count → AreReadable old count → AreReadable new count'
 told_given old new page count count' free others same told n some few = elim (cases_eq n page) [
   | inl k ↦ let a : length (new n) ≡ length (new page) = ap (λ (m : ℕ). length (new m)) k in let b = free-told (new page) free in omega arith
   | inr k ↦ let a : length (new n) ≡ length (old n) = ap length (others n k) in let b = told n some (omega arith) in omega arith
@@ -67,7 +67,7 @@ counted_from : (count n : ℕ) → uncounted count n ≡ 0 → n < count
 counted_from count n none = ⊎_elim (λ (lt : n < count). lt) (λ (le : count ≤ n). let past = uncounted-past count n le in absurd (omega arith)) (cases_lt n count)
 
 -- Pages that became others leave the counted pages told, if those that they became are told.
-pub told-moved : {before after : View} {mine ours : ℕ → ℕ} → Moves before after mine ours → ((n : ℕ) → 0 < n → 0 < ours n → 0 < length (after.pages n)) → AreTold before.pages before.count → AreTold after.pages after.count
+pub told-moved : {before after : View} {mine ours : ℕ → ℕ} → Moves before after mine ours → ((n : ℕ) → 0 < n → 0 < ours n → 0 < length (after.pages n)) → AreReadable before.pages before.count → AreReadable after.pages after.count
 told-moved {before = before} {after = after} {mine = mine} {ours = ours} moves made told n some few =
     let kept = moves.kept n in
     let counted = counted-none after.count n few in

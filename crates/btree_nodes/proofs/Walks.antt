@@ -14,7 +14,7 @@ use Rattle.page_face.specs.Nodes.{count_of}
 use Rattle.btree_nodes.specs.Nodes.{entries_in, half_of}
 use Rattle.btree_nodes.specs.Tree.{IsTree, IsPlaceFor, rows_at, uses}
 use Rattle.btree_nodes.specs.Bounds.{low_at, high_at, child_of}
-use Rattle.btree_nodes.specs.Damages.{IsDamaged, AreTold, AskedSince, AsksOnly}
+use Rattle.btree_nodes.specs.Damages.{IsDamaged, AreReadable, AskedSince, AsksOnly}
 use Rattle.btree_nodes.proofs.Spots.{length-entries_in}
 use Rattle.btree_nodes.proofs.Trees.{tree-child, child-uses, child-damage, place-lookup}
 use Rattle.btree_nodes.proofs.Harms.{asked-here, asked-sooner, asks-here, asks-further}
@@ -37,7 +37,7 @@ named-read {T = T} before asked new page child result damage a n e same =
     (n ∙ ap (λ (r : Result T PageFault). asked_after r child asked) e ∙ ap (λ (x : List ℕ). x ++ child ∷ []) a ∙ ap (λ (p : ℕ). (before ++ page ∷ []) ++ p ∷ []) (sym same)))
 
 -- a page that is read of those that are told
-pub told-read : (pages : PageMap) (count page : ℕ) → AreTold pages count → (IsUncounted count page → ⊥) → 0 < length (pages page)
+pub told-read : (pages : PageMap) (count page : ℕ) → AreReadable pages count → (IsUncounted count page → ⊥) → 0 < length (pages page)
 told-read pages count page told counted =
     told page
     (⊎_elim (λ (l : page < 1). absurd (counted (inl (omega arith)))) (λ (l : 1 ≤ page). l) (cases_lt page 1))

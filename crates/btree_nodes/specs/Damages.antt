@@ -56,8 +56,8 @@ IsDamaged form pages count damage least (suc level) page low high =
     ⊎ SomeChild (IsDamaged form pages count damage (half_of form level) level) high (with_low low (entries_in form (pages page)))
 
 -- the bytes of each counted page are told
-abbrev pub AreTold : PageMap → ℕ → Type 0
-AreTold pages count = (n : ℕ) → 0 < n → n < count → 0 < length (pages n)
+abbrev pub AreReadable : PageMap → ℕ → Type 0
+AreReadable pages count = (n : ℕ) → 0 < n → n < count → 0 < length (pages n)
 
 -- the page was asked for since these were
 pub record AskedSince (before after : List ℕ) (page : ℕ) : Type 0 where

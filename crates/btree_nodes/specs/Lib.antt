@@ -7,3 +7,7 @@ pub mod Tree
 pub mod Bounds
 pub mod Damages
 pub mod Store
+pub mod Steps
+pub mod Below
+pub mod Leaves
+pub mod Ways

@@ -1,4 +1,4 @@
-//! The bounds of a page's keys. A lower bound is a key. An upper bound is a key too, or empty where there is none.
+//! The bounds of a page's keys. A lower bound is a key. An upper bound is a key too, or empty if there is none.
 ghost use Rattle.std.specs.Prelude.{◌≡◌, ◌↔◌, ℕ, ◌+◌, ◌*◌, ◌<◌, ◌≤◌, length, take, drop, IsTrue};
 ghost use Rattle.page_face.specs.Number.{number};
 ghost use Rattle.std.specs.Int.{from_be_bytes, w32};
@@ -25,7 +25,7 @@ pub fn is_below(key: &[u8], high: &[u8]) -> bool
     }
 }
 
-// The page's number in four bytes from this one on.
+// The page's number in the four bytes from this offset on.
 fn number_at(page: &Page, from: usize) -> u32
     requires { from + 4 ≤ 4096 }
     ensures { result ≡ from_be_bytes w32 (take 4 (drop from page.now)) }
@@ -42,7 +42,7 @@ pub fn child_at(page: &Page, form: Form, at: usize) -> u32
     number_at(page, 16 + (form.key + 4) * at + form.key)
 }
 
-/// The lower bound of the child at this place, where the page's own one is `low`.
+/// The lower bound of the child at this place, if the page's own one is `low`.
 pub fn lower<'a>(page: &'a Page, form: Form, at: usize, low: &'a [u8]) -> &'a [u8]
     requires at { at < count_of page.now }
     requires fits { 16 + (form.key + 4) * count_of page.now ≤ 4096 }
@@ -57,7 +57,7 @@ pub fn lower<'a>(page: &'a Page, form: Form, at: usize, low: &'a [u8]) -> &'a [u
     key_of(page, form.key, form.key + 4, at)
 }
 
-/// The upper bound of the child at this place of an inner page with `count` entries, where the page's own one is `high`.
+/// The upper bound of the child at this place of an inner page with `count` entries, if the page's own one is `high`.
 pub fn upper<'a>(page: &'a Page, form: Form, count: usize, at: usize, high: &'a [u8]) -> &'a [u8]
     requires at { at < count }
     requires count { count ≡ count_of page.now }

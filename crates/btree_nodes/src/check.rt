@@ -14,14 +14,14 @@ use crate::{Form, Shape, ascends, compare, key_of};
 use page_face::{Page, Rule};
 use std::cmp::Ordering;
 
-// The greater of two bytes, which is zero where both are.
+// The greater of two bytes, which is zero if both are.
 fn greater(one: u8, other: u8) -> u8
     ensures { (result == 0) ≡ ((one == 0) && (other == 0)) }
 {
     if other > one { other } else { one }
 }
 
-// Whether all bytes are zero. The greatest is taken of all of them, with no early end, so that many are compared at once: most
+// Whether all bytes are zero. The greatest of all of them is taken, with no early end, so that many are compared at once: most
 // pages have hundreds of spare bytes, which are zero.
 fn are_zero(bytes: &[u8]) -> bool
     ensures { result ≡ is_clear bytes.now }
@@ -41,7 +41,7 @@ fn is_least(key: &[u8]) -> bool
 }
 
 #[tactic(auto, unfolding(page_face::specs::Nodes::count_of))]
-// How many cells a page says that it has.
+// The number of cells in a page's header.
 fn count(page: &Page) -> usize
     ensures is { result ≡ count_of page.now }
     ensures small { result < 65536 }
@@ -49,7 +49,7 @@ fn count(page: &Page) -> usize
     u16::from_be_bytes([page[2], page[3]]) as usize
 }
 
-/// The level that a page says that it has.
+/// The level in a page's header.
 pub fn level(page: &Page) -> u8
     ensures { result ≡ level_of page.now }
 {
@@ -86,7 +86,7 @@ pub fn root_least(level: u8) -> usize
     if level == 0 { 1 } else { 2 }
 }
 
-// The count of a page of this shape with at least so many cells, whatever their order.
+// The count of a page of this shape with at least `least` cells, whatever their order.
 fn check(page: &Page, shape: Shape, least: usize) -> Result<usize, Rule>
     requires some { 1 ≤ shape.width }
     requires short { shape.width ≤ 1020 }

@@ -10,7 +10,7 @@ ghost use Rattle.btree_nodes.specs.Damages.{BreaksInner};
 use crate::{Form, check_inner, place};
 use page_face::{Damage, Page, PageFault, Rule};
 
-/// The place of the entry that a key belongs to, among so many.
+/// The place of the entry that a key belongs to, and how many entries there are.
 #[derive(Clone, Copy, Debug, PartialEq, Eq)]
 pub struct Found {
     /// The entry's place.

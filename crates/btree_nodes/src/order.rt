@@ -23,7 +23,7 @@ fn is_less(page: &Page, key: usize, width: usize, first: usize, second: usize) -
     }
 }
 
-// The same by a comparison of each key's bytes.
+// Whether the keys ascend, found by a comparison of each key's bytes.
 fn ascends_by_bytes(page: &Page, key: usize, width: usize, from: usize, count: usize) -> bool
     requires wide { key ≤ width }
     requires fits { 16 + width * count ≤ 4096 }
@@ -38,7 +38,7 @@ fn ascends_by_bytes(page: &Page, key: usize, width: usize, from: usize, count: u
     true
 }
 
-/// Whether the keys of the cells from `from` up to `count` ascend strictly. Two loads a key where it has 8 to 16 bytes.
+/// Whether the keys of the cells from `from` up to `count` ascend strictly. Costs two loads a key if keys have 8 to 16 bytes.
 pub fn ascends(page: &Page, key: usize, width: usize, from: usize, count: usize) -> bool
     requires wide { key ≤ width }
     requires fits { 16 + width * count ≤ 4096 }

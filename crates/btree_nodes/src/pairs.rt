@@ -54,7 +54,7 @@ fn is_less(one: Pair, other: Pair) -> bool
     one.front < other.front || (one.front == other.front && one.back < other.back)
 }
 
-/// Whether the keys of the cells from `from` up to `count` ascend strictly. Two loads a key.
+/// Whether the keys of the cells from `from` up to `count` ascend strictly. Costs two loads a key.
 pub(crate) fn ascends_by_pairs(
     page: &Page,
     key: usize,

@@ -11,7 +11,7 @@ ghost use Rattle.btree_nodes.specs.Damages.{IsRefusedTake};
 use crate::{Shape, build};
 use page_face::{Damage, PageFault, Pages};
 
-/// Writes a page of these cells. Its condition is a counted page.
+/// Writes a page of these cells. It must be counted.
 ///
 /// Refuses `Stopped` and `Memory`.
 pub fn store_one<P: Pages>(
@@ -34,9 +34,9 @@ pub fn store_one<P: Pages>(
     pages.write(page, &bytes)
 }
 
-/// Writes the front of the cells into a counted page and the others into one that it takes.
+/// Writes the first of the cells into a counted page and the others into one that it takes.
 ///
-/// Refuses as `take` does. After a `Damaged` the pages are as the take met them.
+/// Refuses as `take` does. After a `Damaged` the pages are as the take found them.
 pub fn store_two<P: Pages>(
     pages: &mut P,
     shape: Shape,
@@ -55,7 +55,7 @@ pub fn store_two<P: Pages>(
         (image shape.number shape.kind shape.level count front.now) (image shape.number shape.kind shape.level rest back.now)) }
     ensures some { IfOk result (λ right. 0 < right) }
 
-    ensures honest { (free : List ℕ) → IsSupplied (view (P.pages pages.old) (P.count pages.old) (P.first pages.old) free)
+    ensures no_false_damage { (free : List ℕ) → IsSupplied (view (P.pages pages.old) (P.count pages.old) (P.first pages.old) free)
         → (damage : Damage) → result ≢ Err (PageFault.Damaged damage) }
     ensures damaged { (damage : Damage) → IsErrOf result (PageFault.Damaged damage)
         → IsRefusedTake (P.pages pages.new) (P.count pages.new) (P.first pages.new) damage }

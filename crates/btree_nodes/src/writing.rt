@@ -1,4 +1,4 @@
-//! Pages that are made of cells, and cells that are put among others.
+//! Pages that are built of cells, and a cell that is put among others.
 ghost use Rattle.std.specs.Prelude.{◌≡◌, ◌≤◌, ◌+◌, ◌-◌, ◌++◌, length, take, drop, replicate};
 ghost use Rattle.btree_nodes.specs.Build.{image};
 
@@ -29,7 +29,7 @@ pub fn copy_key(cells: &[u8], at: usize, out: &mut [u8])
     out.copy_from_slice(&cells[at..at + out.len()]);
 }
 
-/// Makes the key at this place, of so many bytes, the least one: all of them zero.
+/// Makes the key at this place, of `key` bytes, the least one: all of them zero.
 pub fn clear_key(cells: &mut [u8], at: usize, key: usize)
     requires short { key ≤ 255 }
     requires fits { at + key ≤ length cells.old }
@@ -40,8 +40,8 @@ pub fn clear_key(cells: &mut [u8], at: usize, key: usize)
     write_at(cells, at, &zeros[..key]);
 }
 
-/// A page of these cells, whose bytes are spare from their end on: byte 0 is the kind, byte 1 the map's number, bytes 2
-/// and 3 the count, byte 4 the level.
+/// A page of these cells, with spare bytes after them. Byte 0 is the kind, byte 1 the map's number, bytes 2 and 3 the count, byte 4 the
+/// level.
 pub fn build(number: u8, kind: u8, level: u8, count: u16, cells: &[u8]) -> Page
     requires fits { 16 + length cells.now ≤ 4096 }
     ensures { result ≡ image number kind level count cells.now }
@@ -54,7 +54,7 @@ pub fn build(number: u8, kind: u8, level: u8, count: u16, cells: &[u8]) -> Page
     page
 }
 
-/// Writes the cells into `out`, with a new one, in two pieces, in place of those from `at` up to `until`.
+/// Writes the cells into `out`, with a new cell, in two pieces, replacing those from `at` up to `until`.
 pub fn splice(cells: &[u8], at: usize, until: usize, first: &[u8], second: &[u8], out: &mut [u8])
     requires at { at ≤ until }
     requires until { until ≤ length cells.now }

@@ -3,16 +3,16 @@ use Rattle.std.proofs.Common.{◌≡◌, ℕ, nat_lt, if◌then◌else◌, List,
 use Rattle.spatial_base.specs.Key.{Name, IsName, form_of}
 use Rattle.spatial_base.specs.Point.{Position, IsOnMap, distance}
 use Rattle.term_impacts.specs.Pairs.{impact_in}
-use Rattle.place_map.specs.declared.place.Place.{Place}
-use Rattle.place_map.specs.Filter.{has_word}
-use Rattle.place_map.specs.Group.{pick_of, word_picks}
-use Rattle.rtree_shape.specs.Slots.{Item}
+use Rattle.place_values.specs.declared.place.Place.{Place}
+use Rattle.place_values.specs.Filter.{has_word}
+use Rattle.place_values.specs.Group.{pick_of, word_picks}
+use Rattle.rtree_nodes.specs.Slots.{Item}
 use Rattle.rtree_nodes.specs.Reach.{place_item}
 use Rattle.rtree_nodes.proofs.Keys.{named}
 use Rattle.irtree_shape.specs.Words.{worded}
-use Rattle.tree_entries.specs.Numbers.{Numbers, impact_of}
-use Rattle.tree_entries.specs.Entries.{point_of, name_of}
-use Rattle.tree_entries.proofs.Agreements.{point-back}
+use Rattle.node_filter.specs.Numbers.{Numbers, impact_of}
+use Rattle.node_filter.specs.Entries.{point_of, name_of}
+use Rattle.node_filter.proofs.Agreements.{point-back}
 use Rattle.collective_query.specs.TreePicks.{pick_in, pick_item}
 
 -- by the impact of the word

@@ -7,11 +7,11 @@ use Rattle.std.specs.List.{Contains}
 use Rattle.std.specs.Ordering.{nat_cmp, is_lt, ordering_then}
 use Rattle.std.specs.declared.cmp.Ordering.{Ordering}
 use Rattle.std.specs.declared.cmp.Ordering.TheVariants.{Less, Equal, Greater}
-use Rattle.best_first.proofs.Lists.{all_append}
+use Rattle.best_first.specs.Lists.{all_append}
 use Rattle.spatial_base.specs.Point.{Position, distance}
-use Rattle.place_map.specs.declared.query.Pick.{Pick}
-use Rattle.place_map.specs.declared.query.Chosen.{Chosen}
-use Rattle.place_map.specs.Group.{farthest, diameter, choice_cost, pick_cmp, is_cheaper}
+use Rattle.place_values.specs.declared.query.Pick.{Pick}
+use Rattle.place_values.specs.declared.query.Chosen.{Chosen}
+use Rattle.place_values.specs.Group.{farthest, diameter, choice_cost, pick_cmp, is_cheaper}
 use Rattle.collective_query.specs.Choices.{IsChoice}
 use Rattle.collective_query.specs.Leads.{led_by, IsBehind, Follows}
 use Rattle.collective_query.specs.Tried.{IsFirst}
@@ -82,39 +82,39 @@ comes-behind at xs ys same after =
     not-then (nat_cmp (choice_cost at xs) (choice_cost at ys)) (slice_cmp pick_cmp xs ys) (ap is_lt (sym (nat_cmp_is (choice_cost at xs) (choice_cost at ys) Equal costs))) after
 
 -- a choice with a lead, and the one with another pick at its point in its place, which it comes behind
-instead : (from : Position) (lists : List (List Pick)) (own : ℕ) (lead other : Pick) (choice : List Pick) → IsBehind lead other → IsChoice (led_by own lead lists) choice
+instead : (from : Position) (lists : List (List Pick)) (own : ℕ) (anchor other : Pick) (choice : List Pick) → IsBehind anchor other → IsChoice (led_by own anchor lists) choice
     → (new : List Pick) × IsChoice (led_by own other lists) new × AreAt choice new × (is_lt (slice_cmp pick_cmp choice new) ≡ false)
-instead from [] own lead other choice behind is = (choice, is, at-itself choice, list-itself from choice)
-instead from (list ∷ lists) zero lead other [] behind is = absurd is
-instead from (list ∷ lists) zero lead other (y ∷ ys) behind is = ⊎_elim
-    (λ (one : lead ≡ y). (
+instead from [] own anchor other choice behind is = (choice, is, at-itself choice, list-itself from choice)
+instead from (list ∷ lists) zero anchor other [] behind is = absurd is
+instead from (list ∷ lists) zero anchor other (y ∷ ys) behind is = ⊎_elim
+    (λ (one : anchor ≡ y). (
       other ∷ ys,
       (contains-here other [], is.1),
       (subst (λ (p : Pick). p.point ≡ other.point) one behind.0, at-itself ys),
       not-then (pick_cmp y other) (slice_cmp pick_cmp ys ys) (subst (λ (p : Pick). is_lt (pick_cmp p other) ≡ false) one behind.1) (list-itself from ys),
     ))
     (λ (later : Contains [] y). absurd (contains-none y later))
-    (contains-cases lead [] y is.0)
-instead from (list ∷ lists) (suc own) lead other [] behind is = absurd is
-instead from (list ∷ lists) (suc own) lead other (y ∷ ys) behind is =
-    let rest = instead from lists own lead other ys behind is.1 in
+    (contains-cases anchor [] y is.0)
+instead from (list ∷ lists) (suc own) anchor other [] behind is = absurd is
+instead from (list ∷ lists) (suc own) anchor other (y ∷ ys) behind is =
+    let rest = instead from lists own anchor other ys behind is.1 in
     (y ∷ rest.0, (is.0, rest.1), (refl, rest.2), not-then (pick_cmp y y) (slice_cmp pick_cmp ys rest.0) (pick-itself from y) rest.3)
 
 -- so no choice with it comes before the best one, where none with the other does
-behind-first : (at : Position) (lists : List (List Pick)) (own : ℕ) (lead other : Pick) (best : Chosen) → IsBehind lead other → IsFirst at (led_by own other lists) best → IsFirst at (led_by own lead lists) best
-behind-first at lists own lead other best behind first choice is =
-    let new = instead at lists own lead other choice behind is in
+behind-first : (at : Position) (lists : List (List Pick)) (own : ℕ) (anchor other : Pick) (best : Chosen) → IsBehind anchor other → IsFirst at (led_by own other lists) best → IsFirst at (led_by own anchor lists) best
+behind-first at lists own anchor other best behind first choice is =
+    let new = instead at lists own anchor other choice behind is in
     chained at new.0 best.picks choice (first new.0 new.1) (comes-behind at choice new.0 new.2 new.3)
 
 -- and so it is followed with that one
-pub behind-follows : (at : Position) (lists : List (List Pick)) (own : ℕ) (some : List Pick) (lead : Pick) (last : Option Pick) (old best : Chosen) → IfSome last (Contains some)
-    → IsSomeAnd last (IsBehind lead) → Follows at lists own some old best → Follows at lists own (some ++ lead ∷ []) old best
-behind-follows at lists own some lead None old best among is follows = absurd is
-behind-follows at lists own some lead (Some other) old best among is follows = record {
+pub behind-follows : (at : Position) (lists : List (List Pick)) (own : ℕ) (some : List Pick) (anchor : Pick) (last : Option Pick) (old best : Chosen) → IfSome last (Contains some)
+    → IsSomeAnd last (IsBehind anchor) → Follows at lists own some old best → Follows at lists own (some ++ anchor ∷ []) old best
+behind-follows at lists own some anchor None old best among is follows = absurd is
+behind-follows at lists own some anchor (Some other) old best among is follows = record {
   chosen = follows.chosen;
   after = follows.after;
-  first = all_append (λ pick. IsFirst at (led_by own pick lists) best) some (lead ∷ []) follows.first
-      (behind-first at lists own lead other best is (all-contained (λ pick. IsFirst at (led_by own pick lists) best) some other follows.first among), tt);
+  first = all_append (λ pick. IsFirst at (led_by own pick lists) best) some (anchor ∷ []) follows.first
+      (behind-first at lists own anchor other best is (all-contained (λ pick. IsFirst at (led_by own pick lists) best) some other follows.first among), tt);
 }
 
 -- the last one that was followed is still among them when there are more

@@ -3,8 +3,8 @@ use Rattle.std.proofs.Common.{◌≡◌, ℕ, ◌+◌, max, List, [], ◌∷◌,
 use Rattle.std.proofs.lemmas.List.Sums.{fold_push}
 use Rattle.spatial_base.specs.Laws.{distance-comm}
 use Rattle.spatial_base.specs.Point.{Position, distance}
-use Rattle.place_map.specs.declared.query.Pick.{Pick}
-use Rattle.place_map.specs.Group.{farthest, diameter, choice_cost}
+use Rattle.place_values.specs.declared.query.Pick.{Pick}
+use Rattle.place_values.specs.Group.{farthest, diameter, choice_cost}
 
 -- the greatest distance to one more
 pub farthest-push : (point : Position) (front : List Pick) (pick : Pick) → farthest point (front ++ pick ∷ []) ≡ max (farthest point front) (distance point pick.point)

@@ -2,12 +2,12 @@
 use Rattle.std.proofs.Common.{◌≡◌, false, List, [], ◌∷◌, ◌++◌, Some, sym, subst, ◌∙◌, ⊎_elim}
 use Rattle.std.proofs.lemmas.List.Elements.{Contains-append_left, Contains-append_right, Contains-append_cases}
 use Rattle.std.specs.List.{AllByRecursion, Contains}
-use Rattle.best_first.proofs.Lists.{all_in, all_weaker}
+use Rattle.best_first.specs.Lists.{all_in, all_weaker}
 use Rattle.spatial_base.specs.Point.{Position}
-use Rattle.place_map.specs.declared.query.Pick.{Pick}
-use Rattle.place_map.specs.declared.query.Chosen.{Chosen}
-use Rattle.place_map.specs.Group.{is_cheaper, least_of}
-use Rattle.place_map.specs.GroupLaws.{choices_linear, least_cost}
+use Rattle.place_values.specs.declared.query.Pick.{Pick}
+use Rattle.place_values.specs.declared.query.Chosen.{Chosen}
+use Rattle.place_values.specs.Group.{is_cheaper, least_of}
+use Rattle.place_values.specs.GroupLaws.{choices_linear, least_cost}
 use Rattle.collective_query.specs.Choices.{IsChoice, IsCut, AreCut}
 use Rattle.collective_query.proofs.Least.{costed, least-among, least-first, least-some, least-is}
 use Rattle.collective_query.proofs.Joins.{choice-meets}

@@ -3,20 +3,20 @@ use Rattle.std.proofs.Common.{◌≡◌, ℕ, ◌<◌, ◌≤◌, Bool, true, fa
 use Rattle.std.proofs.lemmas.List.{length-map, length-take, length-drop, take-append-drop}
 use Rattle.std.proofs.lemmas.List.Elements.{Contains-append_right, Contains-append_cases}
 use Rattle.std.specs.List.{AllByRecursion, Contains}
-use Rattle.ranking.specs.First.{ranked, first, IsRanked}
-use Rattle.ranking.specs.Laws.{ranked_is}
+use Rattle.place_values.specs.First.{ranked, first, IsRanked}
+use Rattle.place_values.specs.Laws.{ranked_is}
 use Rattle.spatial_base.specs.Point.{Position, distance}
-use Rattle.best_first.proofs.Costs.{upto_cost}
-use Rattle.best_first.proofs.Lists.{all_in, all_weaker, all_taken, flat_all}
-use Rattle.place_map.specs.declared.hit.Hit.{Hit}
-use Rattle.place_map.specs.declared.query.Expr.TheVariants.{Has}
-use Rattle.place_map.specs.declared.query.Pick.{Pick}
-use Rattle.place_map.specs.declared.query.Chosen.{Chosen}
-use Rattle.place_map.specs.Hit.{comes_before, hits_linear}
-use Rattle.rtree_shape.specs.Slots.{NodeMap}
-use Rattle.tree_entries.specs.Numbers.{Numbers, impact_of}
-use Rattle.tree_entries.specs.Entries.{tree_places}
-use Rattle.tree_entries.specs.Hits.{hit_near, near_item}
+use Rattle.best_first.proofs.CostLaws.{upto_cost}
+use Rattle.best_first.specs.Lists.{all_in, all_weaker, all_taken, flat_all}
+use Rattle.place_values.specs.declared.hit.Hit.{Hit}
+use Rattle.place_values.specs.declared.query.Expr.TheVariants.{Has}
+use Rattle.place_values.specs.declared.query.Pick.{Pick}
+use Rattle.place_values.specs.declared.query.Chosen.{Chosen}
+use Rattle.place_values.specs.Hit.{comes_before, hits_linear}
+use Rattle.rtree_nodes.specs.Slots.{NodeMap}
+use Rattle.node_filter.specs.Numbers.{Numbers, impact_of}
+use Rattle.node_filter.specs.Entries.{tree_places}
+use Rattle.node_filter.specs.Hits.{hit_near, near_item}
 use Rattle.collective_query.specs.Choices.{IsChoice, IsWithin, IsCut, AreCut}
 use Rattle.collective_query.specs.Picks.{GoesBeyond}
 use Rattle.collective_query.specs.TreePicks.{tree_picks, tree_lists, pick_from, word_hits, first_picks, first_lists}

@@ -4,8 +4,8 @@ use Rattle.std.proofs.lemmas.List.{append_assoc, take_more}
 use Rattle.std.proofs.lemmas.List.Elements.{Contains-append_left, Contains-append_right, Contains-append_cases}
 use Rattle.std.specs.List.{AllByRecursion, Contains}
 use Rattle.spatial_base.specs.Point.{Position, distance}
-use Rattle.place_map.specs.declared.query.Pick.{Pick}
-use Rattle.place_map.specs.Group.{farthest, diameter, choice_cost}
+use Rattle.place_values.specs.declared.query.Pick.{Pick}
+use Rattle.place_values.specs.Group.{farthest, diameter, choice_cost}
 use Rattle.collective_query.specs.Choices.{IsChoice}
 use Rattle.collective_query.specs.Fronts.{Completes}
 use Rattle.collective_query.specs.Picks.{AreMeasured}

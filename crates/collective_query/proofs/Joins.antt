@@ -6,12 +6,12 @@ use Rattle.std.proofs.lemmas.Int.{ints}
 use Rattle.std.proofs.lemmas.List.Elements.{All-contains, All-contains_itself, All-filter, All-from_recursion, recursion_from_All}
 use Rattle.std.proofs.lemmas.List.Folds.{list_any_at}
 use Rattle.std.specs.List.{AllByRecursion, Contains, filter, list_any}
-use Rattle.best_first.proofs.Lists.{all_in}
+use Rattle.best_first.specs.Lists.{all_in}
 use Rattle.spatial_base.specs.Laws.{distance-comm, root-zero}
 use Rattle.spatial_base.specs.Point.{Position, distance, gap}
 use Rattle.spatial_base.specs.Root.{root}
-use Rattle.place_map.specs.declared.query.Pick.{Pick}
-use Rattle.place_map.specs.Group.{farthest, diameter, choice_cost}
+use Rattle.place_values.specs.declared.query.Pick.{Pick}
+use Rattle.place_values.specs.Group.{farthest, diameter, choice_cost}
 use Rattle.collective_query.specs.Choices.{IsChoice}
 use Rattle.collective_query.specs.Joins.{may_join, joined_by}
 use Rattle.collective_query.specs.Picks.{AreMeasured}

@@ -4,12 +4,12 @@ use Rattle.std.proofs.lemmas.Bool.{cases_Bool, cases_lt, eqb-true, eqb-false}
 use Rattle.std.proofs.lemmas.List.Elements.{Contains-get_or}
 use Rattle.std.specs.List.{AllByRecursion, Contains}
 use Rattle.std.specs.Ordering.{is_lt}
-use Rattle.best_first.proofs.Lists.{all_in, all_weaker, all_append}
+use Rattle.best_first.specs.Lists.{all_in, all_weaker, all_append}
 use Rattle.spatial_base.specs.Point.{Position, distance}
-use Rattle.place_map.specs.declared.query.Pick.{Pick}
-use Rattle.place_map.specs.declared.query.Chosen.{Chosen}
-use Rattle.place_map.specs.Group.{product, choice_cost, is_cheaper, least_of}
-use Rattle.place_map.specs.GroupLaws.{choices_linear, least_cost}
+use Rattle.place_values.specs.declared.query.Pick.{Pick}
+use Rattle.place_values.specs.declared.query.Chosen.{Chosen}
+use Rattle.place_values.specs.Group.{product, choice_cost, is_cheaper, least_of}
+use Rattle.place_values.specs.GroupLaws.{choices_linear, least_cost}
 use Rattle.collective_query.specs.Choices.{IsChoice, IsWithin, IsCut, AreCut}
 use Rattle.collective_query.specs.Leads.{led_by, IsBeside, IsWanted, Betters, Follows}
 use Rattle.collective_query.specs.Tried.{IsChosen, IsFirst}
@@ -100,12 +100,12 @@ dear at lists best choice chosen more = let costs = chosen.cost in ap is_lt (dea
 pub all-within : (at : Position) (most : ℕ) (choice : List Pick) → choice_cost at choice ≤ most → AllByRecursion (IsWithin at most) choice
 all-within at most choice cheap = all_weaker (Contains choice) (IsWithin at most) (λ pick c. let far = member-far at choice pick c in omega arith) choice (all_in choice)
 
-all-beside : (at : Position) (most : ℕ) (lead : Pick) (choice : List Pick) → Contains choice lead → choice_cost at choice ≤ most → AllByRecursion (IsBeside at lead most) choice
-all-beside at most lead choice takes cheap = all_weaker (Contains choice) (IsBeside at lead most)
+all-beside : (at : Position) (most : ℕ) (anchor : Pick) (choice : List Pick) → Contains choice anchor → choice_cost at choice ≤ most → AllByRecursion (IsBeside at anchor most) choice
+all-beside at most anchor choice takes cheap = all_weaker (Contains choice) (IsBeside at anchor most)
     (λ pick c.
     let far = member-far at choice pick c in
-    let also = member-far at choice lead takes in
-    let wide = member-wide choice lead pick takes c in
+    let also = member-far at choice anchor takes in
+    let wide = member-wide choice anchor pick takes c in
     (omega arith, omega arith))
     choice (all_in choice)
 
@@ -151,53 +151,53 @@ none-better at lists counts others best was none = record {
 }
 
 -- one lead pick is followed
-pub betters-follows : (at : Position) (lists : List (List Pick)) (own : ℕ) (lead : Pick) (old new : Chosen) → own < length lists → IsChosen at lists old → Betters at lists (IsWanted at lead (Some old.cost)) (led_by own lead lists) old new
-    → Follows at lists own (lead ∷ []) old new
-betters-follows at lists own lead old new inside was better = record {
+pub betters-follows : (at : Position) (lists : List (List Pick)) (own : ℕ) (anchor : Pick) (old new : Chosen) → own < length lists → IsChosen at lists old → Betters at lists (IsWanted at anchor (Some old.cost)) (led_by own anchor lists) old new
+    → Follows at lists own (anchor ∷ []) old new
+betters-follows at lists own anchor old new inside was better = record {
   chosen = better.chosen;
   after = better.after;
   first = (
     λ choice is. ⊎_elim
         (λ (more : old.cost < choice_cost at choice). chained at old.picks new.picks choice better.after (dear at lists old choice was more))
-        (λ (cheap : choice_cost at choice ≤ old.cost). better.first choice is (all-beside at old.cost lead choice (led-takes own lead lists choice inside is) cheap))
+        (λ (cheap : choice_cost at choice ≤ old.cost). better.first choice is (all-beside at old.cost anchor choice (led-takes own anchor lists choice inside is) cheap))
         (cases_lt old.cost (choice_cost at choice)),
     tt,
   );
 }
 
 -- one that is farther than the best choice costs needn't be
-pub far-follows : (at : Position) (lists : List (List Pick)) (own : ℕ) (lead : Pick) (best : Chosen) → own < length lists → IsChosen at lists best → lead.dist ≡ distance at lead.point → best.cost < lead.dist
-    → Follows at lists own (lead ∷ []) best best
-far-follows at lists own lead best inside was measured far = record {
+pub far-follows : (at : Position) (lists : List (List Pick)) (own : ℕ) (anchor : Pick) (best : Chosen) → own < length lists → IsChosen at lists best → anchor.dist ≡ distance at anchor.point → best.cost < anchor.dist
+    → Follows at lists own (anchor ∷ []) best best
+far-follows at lists own anchor best inside was measured far = record {
   chosen = was;
   after = itself at best.picks;
   first = (
     λ choice is.
-        let away = member-far at choice lead (led-takes own lead lists choice inside is) in
+        let away = member-far at choice anchor (led-takes own anchor lists choice inside is) in
         dear at lists best choice was (omega arith),
     tt,
   );
 }
 
 -- nor one with which each choice costs more
-pub dear-follows : (at : Position) (lists : List (List Pick)) (own : ℕ) (lead : Pick) (best : Chosen) → IsChosen at lists best → ((choice : List Pick) → IsChoice (led_by own lead lists) choice → best.cost < choice_cost at choice)
-    → Follows at lists own (lead ∷ []) best best
-dear-follows at lists own lead best was more = record { chosen = was; after = itself at best.picks; first = (λ choice is. dear at lists best choice was (more choice is), tt) }
+pub dear-follows : (at : Position) (lists : List (List Pick)) (own : ℕ) (anchor : Pick) (best : Chosen) → IsChosen at lists best → ((choice : List Pick) → IsChoice (led_by own anchor lists) choice → best.cost < choice_cost at choice)
+    → Follows at lists own (anchor ∷ []) best best
+dear-follows at lists own anchor best was more = record { chosen = was; after = itself at best.picks; first = (λ choice is. dear at lists best choice was (more choice is), tt) }
 
 -- where the lead is taken for a word, or all picks that count are, a choice with the lead has one of them
-pub companion-met : (at : Position) (lists : List (List Pick)) (own index : ℕ) (lead : Pick) (most : ℕ) (all picks choice : List Pick) (alone : Bool) → own < length lists → index < length lists
-    → get_or lists index [] ≡ all → (alone ≡ false → index ≢ own) → IsCut (IsWanted at lead (Some most)) (if alone then lead ∷ [] else all) picks
-    → IsChoice (led_by own lead lists) choice → choice_cost at choice ≤ most → (pick : Pick) × Contains choice pick × Contains picks pick
-companion-met at lists own index lead most all picks choice true inside within is other cut one cheap =
-    let takes = led-takes own lead lists choice inside one in
-    (lead, takes, cut.whole lead (contains-here lead []) (all-contained (IsBeside at lead most) choice lead (all-beside at most lead choice takes cheap) takes))
-companion-met at lists own index lead most all picks choice false inside within is other cut one cheap =
-    let takes = led-takes own lead lists choice inside one in
-    let led : List (List Pick) = led_by own lead lists in
-    let there : index < length led = omega (arith, led-length own lead lists) in
-    let list_is : get_or led index [] ≡ all = led-other own index lead lists (other refl) ∙ is in
+pub companion-met : (at : Position) (lists : List (List Pick)) (own index : ℕ) (anchor : Pick) (most : ℕ) (all picks choice : List Pick) (alone : Bool) → own < length lists → index < length lists
+    → get_or lists index [] ≡ all → (alone ≡ false → index ≢ own) → IsCut (IsWanted at anchor (Some most)) (if alone then anchor ∷ [] else all) picks
+    → IsChoice (led_by own anchor lists) choice → choice_cost at choice ≤ most → (pick : Pick) × Contains choice pick × Contains picks pick
+companion-met at lists own index anchor most all picks choice true inside within is other cut one cheap =
+    let takes = led-takes own anchor lists choice inside one in
+    (anchor, takes, cut.whole anchor (contains-here anchor []) (all-contained (IsBeside at anchor most) choice anchor (all-beside at most anchor choice takes cheap) takes))
+companion-met at lists own index anchor most all picks choice false inside within is other cut one cheap =
+    let takes = led-takes own anchor lists choice inside one in
+    let led : List (List Pick) = led_by own anchor lists in
+    let there : index < length led = omega (arith, led-length own anchor lists) in
+    let list_is : get_or led index [] ≡ all = led-other own index anchor lists (other refl) ∙ is in
     let met = choice-meets led choice (get_or led index []) one (Contains-get_or led index [] there) in
-    (met.0, met.1, cut.whole met.0 (subst (λ (l : List Pick). Contains l met.0) list_is met.2) (all-contained (IsBeside at lead most) choice met.0 (all-beside at most lead choice takes cheap) met.1))
+    (met.0, met.1, cut.whole met.0 (subst (λ (l : List Pick). Contains l met.0) list_is met.2) (all-contained (IsBeside at anchor most) choice met.0 (all-beside at most anchor choice takes cheap) met.1))
 
 -- none is followed
 pub none-follows : (at : Position) (lists : List (List Pick)) (own : ℕ) (best : Chosen) → IsChosen at lists best → Follows at lists own [] best best
@@ -208,8 +208,8 @@ pub follows-then : (at : Position) (lists : List (List Pick)) (own : ℕ) (some 
 follows-then at lists own some more old mid new a b = record {
   chosen = b.chosen;
   after = chained at mid.picks new.picks old.picks b.after a.after;
-  first = all_append (λ lead. IsFirst at (led_by own lead lists) new) some more
-      (all_weaker (λ lead. IsFirst at (led_by own lead lists) mid) (λ lead. IsFirst at (led_by own lead lists) new) (λ lead first choice is. chained at mid.picks new.picks choice b.after (first choice is)) some a.first)
+  first = all_append (λ anchor. IsFirst at (led_by own anchor lists) new) some more
+      (all_weaker (λ anchor. IsFirst at (led_by own anchor lists) mid) (λ anchor. IsFirst at (led_by own anchor lists) new) (λ anchor first choice is. chained at mid.picks new.picks choice b.after (first choice is)) some a.first)
       b.first;
 }
 
@@ -222,7 +222,7 @@ follows-all at lists own leads old new inside was cut follows choice is =
     (λ (more : old.cost < choice_cost at choice). chained at old.picks new.picks choice follows.after (dear at lists old choice was more))
     (λ (cheap : choice_cost at choice ≤ old.cost).
     let far = member-far at choice led.0 led.2 in
-    all-contained (λ lead. IsFirst at (led_by own lead lists) new) leads led.0 follows.first (cut.whole led.0 led.1 (omega arith)) choice led.3)
+    all-contained (λ anchor. IsFirst at (led_by own anchor lists) new) leads led.0 follows.first (cut.whole led.0 led.1 (omega arith)) choice led.3)
     (cases_lt old.cost (choice_cost at choice))
 
 -- and so it is where a choice of lists that have all picks that are no farther is the first of these lists

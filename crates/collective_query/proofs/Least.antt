@@ -6,15 +6,15 @@ use Rattle.std.specs.Cmp.Lexicographic.{slice_cmp}
 use Rattle.std.specs.List.{AllByRecursion, Contains}
 use Rattle.std.specs.Ordering.{ordering_then}
 use Rattle.std.specs.declared.cmp.Ordering.TheVariants.{Greater}
-use Rattle.ranking.specs.First.{ranked, IsRanked}
-use Rattle.ranking.specs.Laws.{ranked_is}
-use Rattle.ranking.specs.Members.{SameMembers, ranked_same}
-use Rattle.best_first.proofs.Lists.{all_in}
+use Rattle.place_values.specs.First.{ranked, IsRanked}
+use Rattle.place_values.specs.Laws.{ranked_is}
+use Rattle.place_values.specs.Members.{SameMembers, ranked_same}
+use Rattle.best_first.specs.Lists.{all_in}
 use Rattle.spatial_base.specs.Point.{Position}
-use Rattle.place_map.specs.declared.query.Pick.{Pick}
-use Rattle.place_map.specs.declared.query.Chosen.{Chosen}
-use Rattle.place_map.specs.Group.{choice_cost, choice_cmp, pick_cmp, is_cheaper, head_of, least_of}
-use Rattle.place_map.specs.GroupLaws.{choices_linear}
+use Rattle.place_values.specs.declared.query.Pick.{Pick}
+use Rattle.place_values.specs.declared.query.Chosen.{Chosen}
+use Rattle.place_values.specs.Group.{choice_cost, choice_cmp, pick_cmp, is_cheaper, head_of, least_of}
+use Rattle.place_values.specs.GroupLaws.{choices_linear}
 use Rattle.collective_query.proofs.Members.{all-ranked, ranked-all, among-ranked, contains-none}
 use Rattle.boolean_queries.proofs.Histories.{all-contained}
 

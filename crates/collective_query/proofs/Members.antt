@@ -3,9 +3,9 @@ use Rattle.std.proofs.Common.{◌≡◌, ◌⊎◌, zero, suc, Bool, true, false
 use Rattle.std.proofs.lemmas.Bool.{cases_Bool}
 use Rattle.std.proofs.lemmas.List.Elements.{Contains-append_left, Contains-append_right}
 use Rattle.std.specs.List.{AllByRecursion, Contains, flat_map}
-use Rattle.ranking.specs.First.{IsLinear, placed, ranked}
-use Rattle.ranking.specs.Laws.{all_placed}
-use Rattle.best_first.proofs.Lists.{all_in}
+use Rattle.place_values.specs.First.{IsLinear, placed, ranked}
+use Rattle.place_values.specs.Laws.{all_placed}
+use Rattle.best_first.specs.Lists.{all_in}
 use Rattle.best_first.proofs.Histories.{contains_head as contains-here}
 use Rattle.boolean_queries.proofs.Histories.{all-contained}
 

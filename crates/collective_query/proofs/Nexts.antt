@@ -7,13 +7,13 @@ use Rattle.std.specs.Cmp.Lexicographic.{slice_cmp}
 use Rattle.std.specs.Ordering.{is_lt, ordering_then}
 use Rattle.std.specs.declared.cmp.Ordering.{Ordering}
 use Rattle.std.specs.declared.cmp.Ordering.TheVariants.{Less, Equal, Greater}
-use Rattle.ranking.specs.First.{IsLinear}
-use Rattle.ranking.specs.Laws.{linear_from_total}
-use Rattle.best_first.proofs.Lists.{all_append, all_weaker}
+use Rattle.place_values.specs.First.{IsLinear}
+use Rattle.place_values.specs.Laws.{linear_from_total}
+use Rattle.best_first.specs.Lists.{all_append, all_weaker}
 use Rattle.spatial_base.specs.Point.{Position}
-use Rattle.place_map.specs.declared.query.Pick.{Pick}
-use Rattle.place_map.specs.Group.{pick_cmp}
-use Rattle.place_map.specs.GroupLaws.{pick_cmp_total, pick_cmp_same}
+use Rattle.place_values.specs.declared.query.Pick.{Pick}
+use Rattle.place_values.specs.Group.{pick_cmp}
+use Rattle.place_values.specs.GroupLaws.{pick_cmp_total, pick_cmp_same}
 use Rattle.collective_query.specs.Choices.{IsChoice}
 use Rattle.collective_query.specs.Fronts.{Completes, IsNext, HasLeastKeys}
 use Rattle.collective_query.proofs.Fronts.{completes-front}

@@ -8,37 +8,37 @@ use Rattle.std.specs.declared.alloc.Global.{Global}
 use Rattle.page_face.specs.FreeList.{PageMap}
 use Rattle.btree_nodes.specs.Tree.{map_uses}
 use Rattle.spatial_base.specs.Point.{Position, IsOnMap, distance}
-use Rattle.ranking.specs.First.{first}
-use Rattle.place_map.specs.declared.hit.Hit.{Hit}
-use Rattle.place_map.specs.declared.query.Expr.{Expr}
-use Rattle.place_map.specs.declared.query.Expr.TheVariants.{Has}
-use Rattle.place_map.specs.declared.query.Query.TheVariants as asked_for
-use Rattle.place_map.specs.declared.query.Pick.{Pick}
-use Rattle.place_map.specs.declared.query.Chosen.{Chosen}
-use Rattle.place_map.specs.Group.{product, least_of}
-use Rattle.place_map.specs.Hit.{comes_before}
-use Rattle.place_map.specs.Search.{lists_in}
-use Rattle.rtree_shape.specs.Slots.{Item, NodeMap}
-use Rattle.rtree_shape.specs.Stock.{rows_form}
+use Rattle.place_values.specs.First.{first}
+use Rattle.place_values.specs.declared.hit.Hit.{Hit}
+use Rattle.place_values.specs.declared.query.Expr.{Expr}
+use Rattle.place_values.specs.declared.query.Expr.TheVariants.{Has}
+use Rattle.place_values.specs.declared.query.Query.TheVariants as asked_for
+use Rattle.place_values.specs.declared.query.Pick.{Pick}
+use Rattle.place_values.specs.declared.query.Chosen.{Chosen}
+use Rattle.place_values.specs.Group.{product, least_of}
+use Rattle.place_values.specs.Hit.{comes_before}
+use Rattle.place_values.specs.Search.{lists_in}
+use Rattle.rtree_nodes.specs.Slots.{Item, NodeMap}
+use Rattle.rtree_nodes.specs.Stock.{rows_form}
 use Rattle.node_rows.specs.declared.roots.Tree.{Tree}
 use Rattle.node_rows.specs.Rows.{bytes_in}
 use Rattle.best_first.specs.Openings.{Opened}
-use Rattle.tree_entries.specs.Entries.{point_of, tree_places}
-use Rattle.tree_entries.specs.Hits.{hit_near, near_item, range_item}
-use Rattle.tree_entries.specs.Numbers.{Numbers, impact_of}
-use Rattle.tree_ranking.specs.declared.ask.Ask.TheVariants.{Nearest}
-use Rattle.tree_ranking.specs.Fits.{FitsTree, nodes_at}
-use Rattle.tree_ranking.specs.Harms.{IsNodePage}
-use Rattle.tree_ranking.specs.Openings.{StandsIn, opened_in, started_in}
+use Rattle.node_filter.specs.Entries.{point_of, tree_places}
+use Rattle.node_filter.specs.Hits.{hit_near, near_item, range_item}
+use Rattle.node_filter.specs.Numbers.{Numbers, impact_of}
+use Rattle.best_first.specs.declared.ask.Ask.TheVariants.{Nearest}
+use Rattle.best_first.specs.Fits.{FitsTree, nodes_at}
+use Rattle.best_first.specs.Harms.{IsNodePage}
+use Rattle.best_first.specs.NodeOpenings.{StandsIn, opened_in, started_in}
 use Rattle.boolean_queries.specs.Opens.{Fits, filter_in, opens_in, starts_at}
 use Rattle.boolean_queries.specs.Regions.{circle}
 use Rattle.boolean_queries.specs.Walked.{Walked}
 use Rattle.boolean_queries.proofs.Histories.{all-contained}
-use Rattle.opened_nodes.specs.Logs.{OpensFew}
-use Rattle.opened_nodes.proofs.Searches.{nearest-few}
-use Rattle.opened_nodes.proofs.Walks.{range-few}
-use Rattle.best_first.proofs.Lists.{all_in}
-use Rattle.opened_nodes.proofs.Words.{few-fewer, few-then, few-made, nearest-calls, range-calls}
+use Rattle.boolean_queries.specs.Logs.{OpensFew}
+use Rattle.boolean_queries.proofs.Searches.{nearest-few}
+use Rattle.boolean_queries.proofs.OpenedWalks.{range-few}
+use Rattle.best_first.specs.Lists.{all_in}
+use Rattle.boolean_queries.proofs.Words.{few-fewer, few-then, few-made, nearest-calls, range-calls}
 use Rattle.collective_query.specs.Choices.{IsChoice}
 use Rattle.collective_query.specs.Opened.{FindsPicks, given_to}
 use Rattle.collective_query.specs.Picks.{picks_of}

@@ -2,10 +2,10 @@
 use Rattle.std.proofs.Common.{ℕ, sum_by, arith, ◌∙◌, ◌≡◌, List, [], ◌∷◌, ◌++◌, map, refl, subst, ⊎_elim}
 use Rattle.std.proofs.lemmas.List.Sums.{sum_by-cons, sum_by-append}
 use Rattle.std.specs.List.{AllByRecursion, Contains, flat_map}
-use Rattle.ranking.specs.Members.{SameMembers}
-use Rattle.best_first.proofs.Lists.{flat_map_same}
-use Rattle.best_first.proofs.Lists.{all_in, all_weaker, flat_all}
-use Rattle.place_map.specs.Group.{product}
+use Rattle.place_values.specs.Members.{SameMembers}
+use Rattle.best_first.specs.Lists.{flat_map_same}
+use Rattle.best_first.specs.Lists.{all_in, all_weaker, flat_all}
+use Rattle.place_values.specs.Group.{product}
 use Rattle.collective_query.specs.Choices.{IsChoice}
 use Rattle.collective_query.proofs.Members.{contains-none, contains-cases, contains-flat, contains-map}
 use Rattle.best_first.proofs.Histories.{contains_head as contains-here}

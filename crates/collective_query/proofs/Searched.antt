@@ -8,13 +8,13 @@ use Rattle.std.specs.List.{AllByRecursion, Contains}
 use Rattle.std.specs.Ordering.{is_lt, ordering_then}
 use Rattle.std.specs.declared.alloc.Global.{Global}
 use Rattle.std.specs.declared.cmp.Ordering.TheVariants.{Equal}
-use Rattle.best_first.proofs.Lists.{all_in, all_weaker}
+use Rattle.best_first.specs.Lists.{all_in, all_weaker}
 use Rattle.spatial_base.specs.Point.{Position}
-use Rattle.place_map.specs.declared.query.Pick.{Pick}
-use Rattle.place_map.specs.declared.query.Chosen.{Chosen}
-use Rattle.place_map.specs.Group.{product, choice_cost, is_cheaper, least_of, pick_cmp}
-use Rattle.place_map.specs.GroupLaws.{cost_front, least_cost}
-use Rattle.place_map.specs.Search.{lists_in}
+use Rattle.place_values.specs.declared.query.Pick.{Pick}
+use Rattle.place_values.specs.declared.query.Chosen.{Chosen}
+use Rattle.place_values.specs.Group.{product, choice_cost, is_cheaper, least_of, pick_cmp}
+use Rattle.place_values.specs.GroupLaws.{cost_front, least_cost}
+use Rattle.place_values.specs.Search.{lists_in}
 use Rattle.collective_query.specs.Choices.{IsChoice}
 use Rattle.collective_query.specs.Fronts.{Completes, HasLeastKeys}
 use Rattle.collective_query.specs.Picks.{AreMeasured}

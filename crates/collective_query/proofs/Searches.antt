@@ -8,14 +8,14 @@ use Rattle.page_face.specs.declared.fault.PageFault.{PageFault}
 use Rattle.page_face.specs.declared.fault.PageFault.TheVariants.{Damaged}
 use Rattle.page_face.specs.declared.pages.Pages.{Ghosts}
 use Rattle.page_face.proofs.Frames.{reads_then}
-use Rattle.btree_nodes.specs.Damages.{AreTold}
+use Rattle.btree_nodes.specs.Damages.{AreReadable}
 use Rattle.btree_nodes.proofs.Walks.{same-fault}
 use Rattle.node_rows.specs.declared.roots.Tree.{Tree}
-use Rattle.tree_ranking.specs.Harms.{IsHarm}
-use Rattle.tree_ranking.specs.Laws.{harm-sooner as ranked-sooner}
+use Rattle.best_first.specs.Harms.{IsHarm}
+use Rattle.best_first.specs.Laws.{harm-sooner as ranked-sooner}
 use Rattle.boolean_queries.specs.Harms.{IsQueryHarm}
 use Rattle.boolean_queries.proofs.Histories.{harm-sooner}
-use Rattle.tree_entries.proofs.Rows.{fails-ok}
+use Rattle.node_filter.proofs.Rows.{fails-ok}
 use Rattle.collective_query.specs.Searches.{IsSearchHarm, GoesOn, Searches}
 
 -- the damage of a later search is one of the searches together
@@ -31,7 +31,7 @@ goes-then old mid new a b = record { more = a.more ++ b.more; is = b.is ∙ ap (
 -- the same searches, and another answer
 pub searches-ok : {P X Y : Type 0} (g : Ghosts P) (tree : Tree) (a b : P) (x : X) (y : Y) → Searches g tree a b (Ok x) → Searches g tree a b (Ok y)
 searches-ok g tree a b x y s = record {
-  honest = λ fits damage e. absurd (cc);
+  no_false_damage = λ fits damage e. absurd (cc);
   damaged = λ told damage e. absurd (cc);
   log = s.log;
   fails = fails-ok g a b y s.fails.hides_none;
@@ -49,7 +49,7 @@ searches-refused {P} {X} {Y} g tree a b r fault is s =
     let refused = subst (Searches g tree a b) is s in
     let f = s.fails in
     record {
-      honest = λ fits damage e. s.honest fits damage (same (Damaged damage) e);
+      no_false_damage = λ fits damage e. s.no_false_damage fits damage (same (Damaged damage) e);
       damaged = λ told damage e. s.damaged told damage (same (Damaged damage) e);
       log = λ told. tt;
       fails = record { disk = λ e. f.disk (same _ e); hides_none = refused.fails.hides_none; room_left = λ e. f.room_left (same _ e); stopped = λ e. f.stopped (same _ e) };
@@ -61,10 +61,10 @@ pub searches-then : {P X Y : Type 0} (g : Ghosts P) (further : (a b c : P) → g
     (tree : Tree) (a b c : P) (x : X) (r : Result Y PageFault) → Searches g tree a b (Ok x) → Searches g tree b c r → Searches g tree a c r
 searches-then {Y = Y} g further more tree a b c x r s k =
     let f = s.frame in
-    let still : AreTold (g.pages a) (g.count a) → AreTold (g.pages b) (g.count b) = λ told. rw (f.pages, f.count) told in
+    let still : AreReadable (g.pages a) (g.count a) → AreReadable (g.pages b) (g.count b) = λ told. rw (f.pages, f.count) told in
     let l = k.fails in
     record {
-      honest = λ fits. k.honest (rw (f.pages, f.count, f.first) fits);
+      no_false_damage = λ fits. k.no_false_damage (rw (f.pages, f.count, f.first) fits);
       damaged = λ told damage e. harm-later (g.pages a) (g.count a) tree (g.asked a) (g.asked b) (g.asked c) damage (s.log told)
           (subst (λ (n : ℕ). IsSearchHarm (g.pages a) n tree (g.asked b) (g.asked c) damage) f.count (subst (λ (q : PageMap). IsSearchHarm q (g.count b) tree (g.asked b) (g.asked c) damage) f.pages (k.damaged (still told) damage e)));
       log = λ told. logs r (s.log told) (k.log (still told));

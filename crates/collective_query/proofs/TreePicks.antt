@@ -4,15 +4,15 @@ use Rattle.std.proofs.lemmas.Bool.Decides.{nat_tests}
 use Rattle.std.proofs.lemmas.List.{map-append}
 use Rattle.std.specs.List.{AllByRecursion, Contains, flat_map}
 use Rattle.spatial_base.specs.Point.{Position, distance}
-use Rattle.best_first.proofs.Lists.{all_in, all_weaker, flat_all}
-use Rattle.place_map.specs.declared.hit.Hit.{Hit}
-use Rattle.place_map.specs.declared.query.Expr.TheVariants.{Has}
-use Rattle.place_map.specs.declared.query.Pick.{Pick}
-use Rattle.place_map.specs.Hit.{hits_linear}
-use Rattle.rtree_shape.specs.Slots.{Item, NodeMap}
-use Rattle.tree_entries.specs.Numbers.{Numbers, impact_of}
-use Rattle.tree_entries.specs.Entries.{point_of, tree_places}
-use Rattle.tree_entries.specs.Hits.{hit_near, near_item, range_item}
+use Rattle.best_first.specs.Lists.{all_in, all_weaker, flat_all}
+use Rattle.place_values.specs.declared.hit.Hit.{Hit}
+use Rattle.place_values.specs.declared.query.Expr.TheVariants.{Has}
+use Rattle.place_values.specs.declared.query.Pick.{Pick}
+use Rattle.place_values.specs.Hit.{hits_linear}
+use Rattle.rtree_nodes.specs.Slots.{Item, NodeMap}
+use Rattle.node_filter.specs.Numbers.{Numbers, impact_of}
+use Rattle.node_filter.specs.Entries.{point_of, tree_places}
+use Rattle.node_filter.specs.Hits.{hit_near, near_item, range_item}
 use Rattle.collective_query.specs.Choices.{IsWithin, IsCut}
 use Rattle.collective_query.specs.TreePicks.{pick_in, pick_item, tree_picks, pick_from, word_hits, hits_within, near_picks}
 use Rattle.collective_query.proofs.Members.{contains-flat, contains-map, all-ranked, among-ranked}

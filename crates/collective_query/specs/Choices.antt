@@ -2,7 +2,7 @@
 use Rattle.std.specs.Prelude.{ℕ, ◌≤◌, List, [], ◌∷◌}
 use Rattle.std.specs.List.{Contains}
 use Rattle.spatial_base.specs.Point.{Position, distance}
-use Rattle.place_map.specs.declared.query.Pick.{Pick}
+use Rattle.place_values.specs.declared.query.Pick.{Pick}
 
 -- one member of each list, in the lists' order
 abbrev pub IsChoice : {X : Type 0} → List (List X) → List X → Type 0

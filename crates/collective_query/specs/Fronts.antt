@@ -4,8 +4,8 @@ use Rattle.std.specs.Cmp.Lexicographic.{slice_cmp}
 use Rattle.std.specs.List.{AllByRecursion, Contains}
 use Rattle.std.specs.Ordering.{is_lt}
 use Rattle.spatial_base.specs.Point.{Position}
-use Rattle.place_map.specs.declared.query.Pick.{Pick}
-use Rattle.place_map.specs.Group.{choice_cost, pick_cmp}
+use Rattle.place_values.specs.declared.query.Pick.{Pick}
+use Rattle.place_values.specs.Group.{choice_cost, pick_cmp}
 use Rattle.collective_query.specs.Choices.{IsChoice}
 
 -- a front can go on with a pick of each list and cost at most so much

@@ -2,7 +2,7 @@
 use Rattle.std.specs.Prelude.{ℕ, ◌+◌, max, nat_le, Bool, List}
 use Rattle.std.specs.List.{filter, list_any}
 use Rattle.spatial_base.specs.Point.{distance}
-use Rattle.place_map.specs.declared.query.Pick.{Pick}
+use Rattle.place_values.specs.declared.query.Pick.{Pick}
 
 -- a choice with both may cost at most so much: the distance to the farther of the two, and the one between them
 abbrev pub may_join : ℕ → Pick → Pick → Bool

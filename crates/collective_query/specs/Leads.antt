@@ -4,10 +4,10 @@ use Rattle.std.specs.List.{AllByRecursion, Contains}
 use Rattle.std.specs.Ordering.{is_lt}
 use Rattle.std.specs.declared.alloc.Global.{Global}
 use Rattle.spatial_base.specs.Point.{Position, distance}
-use Rattle.place_map.specs.declared.query.Pick.{Pick}
-use Rattle.place_map.specs.declared.query.Chosen.{Chosen}
-use Rattle.place_map.specs.Group.{pick_cmp, is_cheaper}
-use Rattle.place_map.specs.Search.{lists_in}
+use Rattle.place_values.specs.declared.query.Pick.{Pick}
+use Rattle.place_values.specs.declared.query.Chosen.{Chosen}
+use Rattle.place_values.specs.Group.{pick_cmp, is_cheaper}
+use Rattle.place_values.specs.Search.{lists_in}
 use Rattle.collective_query.specs.Choices.{IsChoice, AreCut}
 use Rattle.collective_query.specs.Tried.{IsChosen, IsFirst}
 use Rattle.collective_query.specs.Picks.{picks_of}
@@ -29,12 +29,12 @@ IsBehind pick other = (pick.point ≡ other.point) × (is_lt (pick_cmp pick othe
 
 -- A pick in a cut round a lead place: a choice with both may cost at most so much, by the distance to the point of either and that between them.
 abbrev pub IsBeside : Position → Pick → ℕ → Pick → Type 0
-IsBeside from lead most pick = (distance from pick.point ≤ most) × (distance from lead.point + distance lead.point pick.point ≤ most)
+IsBeside from anchor most pick = (distance from pick.point ≤ most) × (distance from anchor.point + distance anchor.point pick.point ≤ most)
 
 -- so it is where a cost is given; where none is, no pick has to be there
 abbrev pub IsWanted : Position → Pick → Option ℕ → Pick → Type 0
-IsWanted from lead None pick = ⊥
-IsWanted from lead (Some most) pick = IsBeside from lead most pick
+IsWanted from anchor None pick = ⊥
+IsWanted from anchor (Some most) pick = IsBeside from anchor most pick
 
 -- the lists cut to what counts; or nothing, and then in no choice of the lists each pick counts
 abbrev pub AreGathered : (Pick → Type 0) → List (List Pick) → Option (Vec (Vec Pick Global) Global) → Type 0
@@ -63,4 +63,4 @@ pub record Betters (from : Position) (lists : List (List Pick)) (counts : Pick �
 pub record Follows (from : Position) (lists : List (List Pick)) (at : ℕ) (leads : List Pick) (old new : Chosen) : Type 0 where
   pub chosen : IsChosen from lists new
   pub after : is_cheaper from old.picks new.picks ≡ false
-  pub first : AllByRecursion (λ lead. IsFirst from (led_by at lead lists) new) leads
+  pub first : AllByRecursion (λ anchor. IsFirst from (led_by at anchor lists) new) leads

@@ -3,14 +3,14 @@ use Rattle.std.specs.Prelude.{ℕ, ◌<◌, List, [], Option, Some, None}
 use Rattle.page_face.specs.FreeList.{PageMap}
 use Rattle.btree_nodes.specs.Tree.{map_uses}
 use Rattle.spatial_base.specs.Point.{Position}
-use Rattle.place_map.specs.declared.query.Pick.{Pick}
-use Rattle.place_map.specs.declared.query.Chosen.{Chosen}
-use Rattle.rtree_shape.specs.Slots.{Item}
-use Rattle.rtree_shape.specs.Stock.{rows_form}
+use Rattle.place_values.specs.declared.query.Pick.{Pick}
+use Rattle.place_values.specs.declared.query.Chosen.{Chosen}
+use Rattle.rtree_nodes.specs.Slots.{Item}
+use Rattle.rtree_nodes.specs.Stock.{rows_form}
 use Rattle.node_rows.specs.declared.roots.Tree.{Tree}
-use Rattle.tree_entries.specs.Numbers.{Numbers}
-use Rattle.tree_ranking.specs.Fits.{nodes_at}
-use Rattle.opened_nodes.specs.Words.{OpensFewForWords}
+use Rattle.node_filter.specs.Numbers.{Numbers}
+use Rattle.best_first.specs.Fits.{nodes_at}
+use Rattle.boolean_queries.specs.Words.{OpensFewForWords}
 use Rattle.collective_query.specs.TreePicks.{pick_item}
 
 -- the picks of a choice, where there is one

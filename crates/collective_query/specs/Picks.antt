@@ -3,7 +3,7 @@ use Rattle.std.specs.Prelude.{◌≡◌, ◌⊎◌, ℕ, ◌<◌, ◌≤◌, Lis
 use Rattle.std.specs.List.{AllByRecursion, Contains, flat_map}
 use Rattle.std.specs.declared.alloc.Global.{Global}
 use Rattle.spatial_base.specs.Point.{Position, distance}
-use Rattle.place_map.specs.declared.query.Pick.{Pick}
+use Rattle.place_values.specs.declared.query.Pick.{Pick}
 
 -- no pick is farther than two points of the map can be apart
 abbrev pub AreNear : List Pick → Type 0

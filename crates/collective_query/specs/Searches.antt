@@ -6,10 +6,10 @@ use Rattle.page_face.specs.declared.fault.Damage.{Damage}
 use Rattle.page_face.specs.declared.fault.PageFault.{PageFault}
 use Rattle.page_face.specs.declared.fault.PageFault.TheVariants.{Damaged}
 use Rattle.page_face.specs.declared.pages.Pages.{Ghosts}
-use Rattle.btree_nodes.specs.Damages.{AreTold}
+use Rattle.btree_nodes.specs.Damages.{AreReadable}
 use Rattle.node_rows.specs.declared.roots.Tree.{Tree}
-use Rattle.tree_ranking.specs.Fits.{FitsTree}
-use Rattle.tree_ranking.specs.Harms.{IsHarm}
+use Rattle.best_first.specs.Fits.{FitsTree}
+use Rattle.best_first.specs.Harms.{IsHarm}
 use Rattle.boolean_queries.specs.Harms.{IsQueryHarm}
 
 -- a page of the tree or of its rows of words that was asked for breaks a rule, as a walk says it or as a ranked search does
@@ -24,9 +24,9 @@ pub record GoesOn (old new : List ℕ) : Type 0 where
 
 -- Over a whole tree no page is damaged. A page that is damaged was asked for in this call and breaks a rule.
 pub record Searches {P X : Type 0} (g : Ghosts P) (tree : Tree) (old new : P) (result : Result X PageFault) : Type 0 where
-  pub honest : FitsTree (g.pages old) (g.count old) (g.first old) tree → (damage : Damage) → result ≢ Err (Damaged damage)
-  pub damaged : AreTold (g.pages old) (g.count old) → (damage : Damage) → IsErrOf result (Damaged damage)
+  pub no_false_damage : FitsTree (g.pages old) (g.count old) (g.first old) tree → (damage : Damage) → result ≢ Err (Damaged damage)
+  pub damaged : AreReadable (g.pages old) (g.count old) → (damage : Damage) → IsErrOf result (Damaged damage)
       → IsSearchHarm (g.pages old) (g.count old) tree (g.asked old) (g.asked new) damage
-  pub log : AreTold (g.pages old) (g.count old) → OnOk result (GoesOn (g.asked old) (g.asked new))
+  pub log : AreReadable (g.pages old) (g.count old) → OnOk result (GoesOn (g.asked old) (g.asked new))
   pub fails : FailsReading g old new result
   pub frame : Reads g old new

@@ -1,17 +1,17 @@
 -- What the entries of a tree give to a group query, as the places of a map do.
 use Rattle.std.specs.Prelude.{ℕ, nat_lt, if◌then◌else◌, List, [], ◌∷◌, map, Some}
 use Rattle.std.specs.List.{flat_map}
-use Rattle.ranking.specs.First.{ranked, first}
+use Rattle.place_values.specs.First.{ranked, first}
 use Rattle.spatial_base.specs.Point.{Position, distance}
-use Rattle.place_map.specs.declared.hit.Hit.{Hit}
-use Rattle.place_map.specs.declared.query.Expr.TheVariants.{Has}
-use Rattle.place_map.specs.declared.query.Pick.{Pick}
-use Rattle.place_map.specs.Group.{product}
-use Rattle.place_map.specs.Hit.{comes_before}
-use Rattle.rtree_shape.specs.Slots.{Item, NodeMap}
-use Rattle.tree_entries.specs.Numbers.{Numbers, impact_of}
-use Rattle.tree_entries.specs.Entries.{point_of, name_of, tree_places}
-use Rattle.tree_entries.specs.Hits.{near_item, range_item}
+use Rattle.place_values.specs.declared.hit.Hit.{Hit}
+use Rattle.place_values.specs.declared.query.Expr.TheVariants.{Has}
+use Rattle.place_values.specs.declared.query.Pick.{Pick}
+use Rattle.place_values.specs.Group.{product}
+use Rattle.place_values.specs.Hit.{comes_before}
+use Rattle.rtree_nodes.specs.Slots.{Item, NodeMap}
+use Rattle.node_filter.specs.Numbers.{Numbers, impact_of}
+use Rattle.node_filter.specs.Entries.{point_of, name_of, tree_places}
+use Rattle.node_filter.specs.Hits.{near_item, range_item}
 
 -- a place's item as the pick for a word
 abbrev pub pick_in : Position → List ℕ → Item → Pick

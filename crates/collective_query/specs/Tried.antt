@@ -3,9 +3,9 @@ use Rattle.std.specs.Prelude.{◌≡◌, false, List, [], Option, Some, None, Ve
 use Rattle.std.specs.List.{Contains}
 use Rattle.std.specs.declared.alloc.Global.{Global}
 use Rattle.spatial_base.specs.Point.{Position}
-use Rattle.place_map.specs.declared.query.Pick.{Pick}
-use Rattle.place_map.specs.declared.query.Chosen.{Chosen}
-use Rattle.place_map.specs.Group.{choice_cost, is_cheaper}
+use Rattle.place_values.specs.declared.query.Pick.{Pick}
+use Rattle.place_values.specs.declared.query.Chosen.{Chosen}
+use Rattle.place_values.specs.Group.{choice_cost, is_cheaper}
 use Rattle.collective_query.specs.Choices.{IsChoice}
 
 -- a choice of the lists, or nothing where one of them is empty

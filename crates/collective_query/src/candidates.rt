@@ -3,8 +3,8 @@ ghost use Rattle.std.specs.Prelude.{◌≡◌, ◌<◌, ◌++◌, ℕ, List, tru
 ghost use Rattle.std.specs.List.{AllByRecursion, Contains};
 ghost use Rattle.std.specs.declared.alloc.Global.{Global};
 ghost use Rattle.spatial_base.specs.Point.{Position};
-ghost use Rattle.place_map.specs.declared.query.Pick.{Pick};
-ghost use Rattle.tree_ranking.specs.Fits.{FitsTree, nodes_at};
+ghost use Rattle.place_values.specs.declared.query.Pick.{Pick};
+ghost use Rattle.best_first.specs.Fits.{FitsTree, nodes_at};
 ghost use Rattle.collective_query.specs.Choices.{IsInBoth, IsCut};
 ghost use Rattle.collective_query.specs.Opened.{FindsPicks};
 ghost use Rattle.collective_query.specs.Picks.{AreNear, AreMeasured, GoesBeyond, picks_of};
@@ -14,16 +14,16 @@ ghost use Rattle.collective_query.specs.TreePicks.{tree_picks, first_picks, near
 use crate::nearest::NEAREST;
 use crate::picks::picks_from;
 use boolean_queries::range;
+use node_filter::Ids;
 use node_inverted::Tree;
 use page_face::{PageFault, Pages};
-use place_map::{Expr, Pick};
+use place_values::{Expr, Pick};
 use spatial_base::Point;
 use std::alloc::Global;
 use term_impacts::Word;
-use tree_entries::Ids;
 
-/// Returns the picks for a word that are at most `radius` (in degrees times 10^7) from a centre, the nearest to it first. Their distances are
-/// those from the query's point.
+/// Returns the picks for a word that are at most `radius` (in degrees times 10^7) from a centre, the nearest to it first. Their distances
+/// are those from the query's point.
 ///
 /// Returns an error, and looks at pages, as a range query does.
 pub(crate) fn near_with<P: Pages>(
@@ -63,9 +63,9 @@ pub(crate) fn reaches(picks: &[Pick], radius: u64) -> bool
     picks.len() < NEAREST as usize || picks.iter().any(|pick| pick.dist > radius)
 }
 
-/// Returns candidates for a word: picks of places that hold it, among them all that are at most `most` (in degrees times 10^7) from the
-/// query's point and at most `radius` from a centre. They are its nearest picks, if these have all that are so near to the point, or those that
-/// a range query round the centre finds.
+/// Returns candidates for a word: picks of places that hold it. Among them are all that are at most `most` (in degrees times 10^7) from the
+/// query's point and at most `radius` from a centre. They are its nearest picks, if these have all that are so near to the point, or those
+/// that a range query round the centre finds.
 ///
 /// Returns an error, and looks at pages, as this range query does.
 pub(crate) fn candidates<P: Pages>(
@@ -102,7 +102,7 @@ pub(crate) fn candidates<P: Pages>(
     near_with(alloc, pages, tree, ids, at, centre, radius, word)
 }
 
-/// Returns the picks of one of several lists; none where there are fewer lists.
+/// Returns the picks of one of several lists, or none if there are fewer lists.
 pub(crate) fn list_at(lists: &[Vec<Pick>], at: usize) -> &[Pick]
     requires { AllByRecursion (λ (list : Vec Pick Global). AreNear list.items) lists.now }
     ensures list { at < length lists.now → (d : Vec Pick Global) → result.now ≡ (get_or lists.now at d).items }

@@ -3,14 +3,14 @@ ghost use Rattle.std.specs.Prelude.{◌≡◌, ◌++◌, ◌≤◌, ◌<◌, ◌
 ghost use Rattle.std.specs.List.{AllByRecursion};
 ghost use Rattle.std.specs.declared.alloc.Global.{Global};
 ghost use Rattle.spatial_base.specs.Point.{Position};
-ghost use Rattle.place_map.specs.declared.query.Pick.{Pick};
-ghost use Rattle.place_map.specs.Group.{farthest, diameter, choice_cost};
-ghost use Rattle.place_map.specs.Search.{lists_in};
+ghost use Rattle.place_values.specs.declared.query.Pick.{Pick};
+ghost use Rattle.place_values.specs.Group.{farthest, diameter, choice_cost};
+ghost use Rattle.place_values.specs.Search.{lists_in};
 ghost use Rattle.collective_query.specs.Choices.{IsChoice};
 ghost use Rattle.collective_query.specs.Fronts.{Completes};
 ghost use Rattle.collective_query.specs.Picks.{AreNear, AreMeasured};
 
-use place_map::Pick;
+use place_values::Pick;
 use spatial_base::{Point, dist};
 use std::alloc::AllocError;
 
@@ -26,7 +26,7 @@ pub(crate) fn farthest_of(point: &Point, picks: &[Pick]) -> u64
     most
 }
 
-// Whether a front that a pick goes on costs less than so much. `far` is the greatest distance to a pick of the front and `wide` the greatest
+// Whether `front` with a pick added costs less than `bound`. `far` is the greatest distance to a pick of `front` and `wide` the greatest
 // one between two.
 fn goes_on(pick: &Pick, front: &[Pick], far: u64, wide: u64, bound: u64) -> bool
     requires near { pick.now.dist ≤ 4024922359 }
@@ -38,7 +38,7 @@ fn goes_on(pick: &Pick, front: &[Pick], far: u64, wide: u64, bound: u64) -> bool
     further + wide < bound && further + wide.max(farthest_of(&pick.point, front)) < bound
 }
 
-// Whether a front that one of the picks goes on costs less than so much.
+// Whether `front` with one of the picks added costs less than `bound`.
 fn one_goes_on(list: &[Pick], front: &[Pick], far: u64, wide: u64, bound: u64) -> bool
     requires near { AreNear list.now }
     requires far { far ≤ 4024922359 }
@@ -53,7 +53,7 @@ fn one_goes_on(list: &[Pick], front: &[Pick], far: u64, wide: u64, bound: u64) -
     false
 }
 
-// Whether each list has a pick that goes on a front so that it costs less than so much. If not, no choice that begins so does.
+// Whether each list has a pick with which `front` costs less than `bound`. If not, no choice that begins so does.
 fn each_goes_on(lists: &[Vec<Pick>], front: &[Pick], far: u64, wide: u64, bound: u64) -> bool
     requires near { AllByRecursion (λ (list : Vec Pick Global). AreNear list.items) lists.now }
     requires far { far ≤ 4024922359 }
@@ -70,9 +70,9 @@ fn each_goes_on(lists: &[Vec<Pick>], front: &[Pick], far: u64, wide: u64, bound:
     true
 }
 
-/// Returns what the cheapest choice costs that begins with a front and goes on with a pick of each list, if it is less than `bound`; or else
-/// `bound`. Once a cost is no greater than `floor` no lesser one is looked for. `far` is the greatest distance to a pick of the front and
-/// `wide` the greatest one between two.
+/// Returns the cost of the cheapest choice that begins with `front` and goes on with a pick of each list, if it is less than `bound`; else
+/// returns `bound`. Once a cost is no greater than `floor` no lesser one is looked for. `far` is the greatest distance to a pick of `front`
+/// and `wide` the greatest one between two.
 pub(crate) fn least_cost(
     lists: &[Vec<Pick>],
     front: &mut Vec<Pick>,

@@ -4,18 +4,18 @@ ghost use Rattle.std.specs.List.{AllByRecursion, Contains};
 ghost use Rattle.std.specs.Ordering.{is_lt};
 ghost use Rattle.std.specs.declared.alloc.Global.{Global};
 ghost use Rattle.spatial_base.specs.Point.{Position, distance};
-ghost use Rattle.place_map.specs.declared.query.Pick.{Pick};
-ghost use Rattle.place_map.specs.Group.{farthest, diameter, pick_cmp};
-ghost use Rattle.place_map.specs.Search.{lists_in};
+ghost use Rattle.place_values.specs.declared.query.Pick.{Pick};
+ghost use Rattle.place_values.specs.Group.{farthest, diameter, pick_cmp};
+ghost use Rattle.place_values.specs.Search.{lists_in};
 ghost use Rattle.collective_query.specs.Fronts.{Completes, IsNext, HasLeastKeys};
 ghost use Rattle.collective_query.specs.Picks.{AreNear, AreMeasured};
 
 use crate::costing::{farthest_of, least_cost};
-use place_map::Pick;
+use place_values::Pick;
 use std::alloc::AllocError;
 use std::cmp::Ordering;
 
-// Whether a pick comes before another, if there is another.
+// Whether a pick comes before another, or there is no other.
 fn comes_first(pick: &Pick, other: &Option<Pick>) -> bool
     ensures before { result ≡ true → IfSome other.now (λ other. is_lt (pick_cmp pick.now other) ≡ true) }
     ensures after { result ≡ false → IsSomeAnd other.now (λ other. is_lt (pick_cmp pick.now other) ≡ false) }
@@ -26,7 +26,7 @@ fn comes_first(pick: &Pick, other: &Option<Pick>) -> bool
     }
 }
 
-// Whether a front can go on with a pick, and then with one of each list, and cost at most so much.
+// Whether `front` can go on with a pick, and then with one of each list, and cost at most `most`.
 fn completes(
     lists: &[Vec<Pick>],
     front: &mut Vec<Pick>,
@@ -56,7 +56,8 @@ fn completes(
     Ok(least <= most)
 }
 
-// The least of the next pick so far and one more, if a front can go on with it, and then with one of each of the lists, and cost at most so much.
+// The lesser of the next pick so far and one more. The one more counts only if `front` can go on with it, and then with one of each of the
+// lists, and cost at most `most`.
 fn next_of(
     pick: &Pick,
     next: Option<Pick>,
@@ -87,7 +88,7 @@ fn next_of(
     Ok(next)
 }
 
-// The least pick of a list that a front can go on with, and then with one of each of the lists, and cost at most so much.
+// The least pick of a list that `front` can go on with, and then with one of each of the lists, and cost at most `most`.
 fn least_next(
     list: &[Pick],
     lists: &[Vec<Pick>],
@@ -114,8 +115,8 @@ fn least_next(
     Ok(next)
 }
 
-/// Goes on a front with the least pick of each of the first lists in turn that lets it go on with one of each of `lists`, and cost at most `most`.
-/// Returns whether there are such picks.
+/// Adds to `front` the least pick of each of the first lists in turn that lets it go on with one of each of `lists`, and cost at most
+/// `most`. Returns whether there are such picks.
 pub(crate) fn least_keys(
     firsts: &[Vec<Pick>],
     lists: &[Vec<Pick>],

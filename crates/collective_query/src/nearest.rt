@@ -2,9 +2,9 @@
 ghost use Rattle.std.specs.Prelude.{◌≡◌, ℕ, List, Vec, IfOk};
 ghost use Rattle.std.specs.List.{AllByRecursion, Contains};
 ghost use Rattle.std.specs.declared.alloc.Global.{Global};
-ghost use Rattle.place_map.specs.declared.query.Pick.{Pick};
-ghost use Rattle.place_map.specs.Search.{lists_in};
-ghost use Rattle.tree_ranking.specs.Fits.{FitsTree, nodes_at};
+ghost use Rattle.place_values.specs.declared.query.Pick.{Pick};
+ghost use Rattle.place_values.specs.Search.{lists_in};
+ghost use Rattle.best_first.specs.Fits.{FitsTree, nodes_at};
 ghost use Rattle.collective_query.specs.Opened.{FindsPicks};
 ghost use Rattle.collective_query.specs.Picks.{AreNear, AreMeasured, picks_of};
 ghost use Rattle.collective_query.specs.Searches.{Searches};
@@ -12,18 +12,18 @@ ghost use Rattle.collective_query.specs.TreePicks.{first_picks, first_lists};
 
 use crate::picks::picks_from;
 use boolean_queries::nearest;
+use node_filter::Ids;
 use node_inverted::Tree;
 use page_face::{PageFault, Pages};
-use place_map::{Expr, Pick};
+use place_values::{Expr, Pick};
 use spatial_base::Point;
 use std::alloc::Global;
 use term_impacts::Word;
-use tree_entries::Ids;
 
 /// How many picks are looked for first for each word. Mostly they have the least choice among them, and all that are as near as it costs.
 pub(crate) const NEAREST: u16 = 5;
 
-/// Returns the picks for a word that are nearest to a centre, the nearest first: [`NEAREST`] of them, or all where there are fewer. Their
+/// Returns the picks for a word that are nearest to a centre, the nearest first: [`NEAREST`] of them, or all if there are fewer. Their
 /// distances are those from the query's point.
 ///
 /// Returns an error, and looks at pages, as a nearest query does.
@@ -45,7 +45,7 @@ pub(crate) fn nearest_picks<P: Pages>(
     ensures search { Searches P.Pages tree.now pages.old pages.new result }
 {
     let filter = Expr::Has(*word);
-    // The centre is on the map: `x` and `y` say so.
+    // The centre is on the map, by the contracts of `x` and `y`.
     let (_x, _y) = (centre.x(), centre.y());
     let hits = match nearest(alloc, pages, tree, ids, centre, NEAREST, Some(&filter)) {
         Ok(hits) => hits,
@@ -57,8 +57,8 @@ pub(crate) fn nearest_picks<P: Pages>(
     }
 }
 
-/// Returns for each word the picks of the places that hold it and are nearest to a point, by distance and then by key: [`NEAREST`] of them,
-/// or all where there are fewer.
+/// Returns for each word the picks of the places that hold it and are nearest to a point, by distance and then by key. There are
+/// [`NEAREST`] of them, or all if there are fewer.
 ///
 /// Returns an error, and looks at pages, as a nearest query does for each word.
 pub(crate) fn nearest_each<P: Pages>(

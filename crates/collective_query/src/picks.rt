@@ -3,7 +3,7 @@ ghost use Rattle.std.specs.Prelude.{◌≡◌, ◌≤◌, map, IfOk};
 ghost use Rattle.collective_query.specs.Picks.{AreNear, AreMeasured};
 ghost use Rattle.collective_query.specs.TreePicks.{pick_from};
 
-use place_map::{Hit, Pick};
+use place_values::{Hit, Pick};
 use spatial_base::{Point, dist};
 use std::alloc::{AllocError, Global};
 use term_impacts::Word;

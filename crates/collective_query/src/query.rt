@@ -3,27 +3,27 @@ ghost use Rattle.std.specs.Prelude.{◌≡◌, ◌≢◌, ◌≤◌, Err, Vec, I
 ghost use Rattle.std.specs.List.{AllByRecursion};
 ghost use Rattle.std.specs.declared.alloc.Global.{Global};
 ghost use Rattle.page_face.specs.Calls.{Reads, FailsReading};
-ghost use Rattle.btree_nodes.specs.Damages.{AreTold};
-ghost use Rattle.place_map.specs.declared.query.Pick.{Pick};
-ghost use Rattle.place_map.specs.Group.{least_of};
-ghost use Rattle.place_map.specs.Search.{lists_in};
-ghost use Rattle.tree_ranking.specs.Fits.{FitsTree, nodes_at};
+ghost use Rattle.btree_nodes.specs.Damages.{AreReadable};
+ghost use Rattle.place_values.specs.declared.query.Pick.{Pick};
+ghost use Rattle.place_values.specs.Group.{least_of};
+ghost use Rattle.place_values.specs.Search.{lists_in};
+ghost use Rattle.best_first.specs.Fits.{FitsTree, nodes_at};
 ghost use Rattle.collective_query.specs.Opened.{FindsPicks, picks_in};
 ghost use Rattle.collective_query.specs.Picks.{AreNear, AreMeasured};
 ghost use Rattle.collective_query.specs.Searches.{IsSearchHarm};
 ghost use Rattle.collective_query.specs.TreePicks.{tree_choices};
 ghost use Rattle.collective_query.specs.Tried.{IsTaken, IsLeast};
 
-use crate::leading::{lead_among, search_by_lead};
+use crate::anchoring::{lead_among, search_by_anchor};
 use crate::nearest::nearest_each;
 use crate::search::{cost_of, least_choice};
+use node_filter::Ids;
 use node_inverted::Tree;
 use page_face::{Damage, PageFault, Pages};
-use place_map::{Chosen, Pick, Picks};
+use place_values::{Chosen, Pick, Picks};
 use spatial_base::Point;
 use std::alloc::{AllocError, Global};
 use term_impacts::Word;
-use tree_entries::Ids;
 
 // The first pick of each list, if each has one.
 fn firsts(alloc: Global, lists: &[Vec<Pick>]) -> Result<Option<Vec<Pick>>, AllocError>
@@ -57,21 +57,24 @@ fn least_among(alloc: Global, at: &Point, lists: &[Vec<Pick>]) -> Result<Option<
     Ok(Some(best))
 }
 
-/// Returns the choice of a place for each word that costs least, and of those of equal cost the one whose keys are least in the words' order;
-/// `None` if a word has no place. A choice costs the greatest distance from the point to one of its places plus the greatest distance between
-/// two of them, in degrees times 10^7. `ids` has the numbers of the words that the store knows.
+/// Returns the choice of a place for each word that costs least, or `None` if a word has no place. Of those of equal cost it is the one
+/// whose keys are least in the words' order. A choice costs the greatest distance from the point to one of its places plus the greatest
+/// distance between two of them, in degrees times 10^7. `ids` has the numbers of the words that the store knows.
 ///
-/// Refuses `Damaged` with a rule that a page read in this call breaks, never over a whole tree; `Disk`, `Stopped`, and `Memory` if it runs out
-/// of memory. The tree is as before in any case.
+/// Refuses `Damaged` with a rule that a page read in this call breaks, never over a whole tree; `Disk`, `Stopped`, and `Memory` if it runs
+/// out of memory. The tree is as before in any case.
 ///
-/// Searches the tree for the five nearest places of each word. Between these the choices are searched, in memory. If the five places of a word
-/// all lie at most as far from the point as the least of these choices costs, the word whose nearest place is farthest leads: one search for
-/// each other word finds its places nearest to that place, and at most one more the lead's places that are no farther than the least choice
-/// costs by then. Round each of their points the other words whose five places all lie as near as that are searched for, in a circle of the rest
-/// of the cost: where a word is frequent there, first those that aren't; and then, if these let a choice cost so little, each of them once, as
-/// long as the words before it have a place there. A node is opened only where one of the words is held below it, or if it is the root.
+/// Searches the tree for the five nearest places of each word, and then in memory the choices between these. A word leads only if the five
+/// places of some word all lie at most as far from the point as the least of these choices costs. Then the word whose nearest place is
+/// farthest leads. One search for each other word finds its places nearest to that place. At most one more finds the lead's places that are
+/// no farther than the least choice costs by then.
 ///
-/// It keeps the places found round one lead at a time. In the worst case the search among them goes through as many choices as there are: where
+/// Round each of their points the other words whose five places all lie as near as that are searched for, in a circle of the rest of the
+/// cost. If a word is frequent there, those that aren't come first. Then, if these let a choice cost so little, each of them is searched
+/// for once, as long as the words before it have a place there. A node is opened only if one of the words is held below it, or if it is the
+/// root.
+///
+/// It keeps the places found round one lead at a time. In the worst case the search among them goes through all choices. This happens if
 /// places of any two words lie near enough to each other and those of three or more don't.
 pub fn group<P: Pages>(
     alloc: Global,
@@ -85,9 +88,9 @@ pub fn group<P: Pages>(
         ≡ least_of at.now (tree_choices ids.now at.now (nodes_at (P.pages pages.old) tree.now) tree.now.root words.now)) }
     ensures opened { FitsTree (P.pages pages.old) (P.count pages.old) (P.first pages.old) tree.now
         → IfOk result (λ chosen. FindsPicks (P.pages pages.old) tree.now ids.now at.now words.now (P.asked pages.old) (P.asked pages.new) (picks_in chosen)) }
-    ensures damaged { AreTold (P.pages pages.old) (P.count pages.old) → (damage : Damage) → IsErrOf result (PageFault.Damaged damage)
+    ensures damaged { AreReadable (P.pages pages.old) (P.count pages.old) → (damage : Damage) → IsErrOf result (PageFault.Damaged damage)
         → IsSearchHarm (P.pages pages.old) (P.count pages.old) tree.now (P.asked pages.old) (P.asked pages.new) damage }
-    ensures honest { FitsTree (P.pages pages.old) (P.count pages.old) (P.first pages.old) tree.now → (damage : Damage) → result ≢ Err (PageFault.Damaged damage) }
+    ensures no_false_damage { FitsTree (P.pages pages.old) (P.count pages.old) (P.first pages.old) tree.now → (damage : Damage) → result ≢ Err (PageFault.Damaged damage) }
     ensures fails { FailsReading P.Pages pages.old pages.new result }
     ensures frame { Reads P.Pages pages.old pages.new }
 {
@@ -103,7 +106,7 @@ pub fn group<P: Pages>(
     let Some(own) = lead_among(&nearest, best.cost) else {
         return Ok(Some(best));
     };
-    match search_by_lead(alloc, pages, tree, ids, at, words, &nearest, own, &mut best) {
+    match search_by_anchor(alloc, pages, tree, ids, at, words, &nearest, own, &mut best) {
         Ok(()) => Ok(Some(best)),
         Err(fault) => Err(fault),
     }

@@ -5,15 +5,15 @@ ghost use Rattle.std.specs.Cmp.Lexicographic.{slice_cmp};
 ghost use Rattle.std.specs.Ordering.{nat_cmp, ordering_then};
 ghost use Rattle.std.specs.declared.alloc.Global.{Global};
 ghost use Rattle.spatial_base.specs.Point.{Position};
-ghost use Rattle.place_map.specs.declared.query.Pick.{Pick};
-ghost use Rattle.place_map.specs.Group.{product, diameter, choice_cost, pick_cmp, least_of};
-ghost use Rattle.place_map.specs.Search.{lists_in};
+ghost use Rattle.place_values.specs.declared.query.Pick.{Pick};
+ghost use Rattle.place_values.specs.Group.{product, diameter, choice_cost, pick_cmp, least_of};
+ghost use Rattle.place_values.specs.Search.{lists_in};
 ghost use Rattle.collective_query.specs.Picks.{AreNear, AreMeasured};
 
 use crate::costing::{farthest_of, least_cost};
 use crate::joining::{by_length, joined_lists};
 use crate::keys::least_keys;
-use place_map::{Chosen, Pick, Picks};
+use place_values::{Chosen, Pick, Picks};
 use spatial_base::Point;
 use std::alloc::{AllocError, Global};
 use std::cmp::Ordering;
@@ -58,8 +58,8 @@ fn offer(alloc: Global, picks: &[Pick], cost: u64, best: &mut Chosen) -> Result<
 
 /// Leaves the least of the best choice so far and all choices of one pick of each list.
 ///
-/// Drops first the picks that can't be in a choice of the best one's cost with any pick of the shortest list. Then the least cost is looked for
-/// with the shortest lists first, and last the least picks with which a choice costs no more, in the lists' order.
+/// Drops first the picks that can't be in a choice of the best one's cost with any pick of the shortest list. Then the least cost is looked
+/// for with the shortest lists first. Last come the least picks with which a choice costs no more, in the lists' order.
 pub(crate) fn least_choice(
     alloc: Global,
     lists: &[Vec<Pick>],

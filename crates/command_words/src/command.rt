@@ -1,4 +1,4 @@
-//! The command line as a command of `clap`.
+//! The command line, as a command of `clap`.
 ghost use Rattle.std.specs.Prelude.{◌≡◌, ◌≢◌, [], false, map, IfOk, IfErr, OnOk};
 ghost use Rattle.clap.specs.Words.{app_of, found_of, kind_of, rows_of, rule_of};
 ghost use Rattle.command_words.specs.Command.{HasNumbers, action_rule, batch_rule, cache_rule, count_rule, from_rule, policy_rule, program, refusals, store_rule, text_rule, values_on};
@@ -8,31 +8,31 @@ use clap::error::ErrorKind;
 use clap::{Arg, ArgMatches, Command, Error};
 use std::alloc::{AllocError, Global};
 
-/// The program's name, which stands first on a line.
+/// The program's name, the first word of a line.
 pub(crate) const PROGRAM: &str = "irtree";
 
-/// The name of the store's word.
+/// The name of the argument for the store.
 pub(crate) const STORE: &str = "STORE";
 
-/// The name of the action's word.
+/// The name of the argument for the action.
 pub(crate) const ACTION: &str = "ACTION";
 
-/// The option of a batch.
+/// The option for how many places are stored at a time.
 pub(crate) const BATCH: &str = "batch";
 
-/// The option of the page cache.
+/// The option for how many pages are cached.
 pub(crate) const CACHE: &str = "cache";
 
-/// The option of the one property that is read.
+/// The option for the one property that is read.
 pub(crate) const TEXT: &str = "text";
 
-/// The option of the policy that splits the tree's full nodes.
+/// The option for the policy that splits the tree's full nodes.
 pub(crate) const POLICY: &str = "policy";
 
-/// The option of the seed that places are made from.
+/// The option for the seed that places are made from.
 pub(crate) const FROM: &str = "from";
 
-/// The option of how many places are made.
+/// The option for how many places are made.
 pub(crate) const COUNT: &str = "count";
 
 fn store<'a>(alloc: Global) -> Arg<'a>
@@ -117,7 +117,7 @@ fn count<'a>(alloc: Global) -> Arg<'a>
         .help("How many places are made, 1000 if absent")
 }
 
-// The command with all that may stand on a line.
+// The command, with all the arguments that a line can have.
 fn program<'a>(alloc: Global) -> Result<Command<'a>, AllocError>
     ensures { IfOk result (λ command. app_of command ≡ program) }
 {
@@ -132,7 +132,7 @@ fn program<'a>(alloc: Global) -> Result<Command<'a>, AllocError>
         .arg(count(alloc))
 }
 
-/// Returns what stands on a line, of which the first word is the program's name, or the explanation of its refusal.
+/// Returns the arguments of a line, whose first word is the program's name, or the error that explains why the line is refused.
 pub(crate) fn parse<'a>(alloc: Global, line: &'a [&'a str]) -> Result<ArgMatches<'a>, Error>
     ensures taken { OnOk result (refusals (map (λ word. word.now) line.entry.now) ≡ []) }
     ensures values { IfOk result (λ matches. rows_of (found_of matches) ≡ values_on (map (λ word. word.now) line.entry.now)) }

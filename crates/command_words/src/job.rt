@@ -1,4 +1,4 @@
-//! A job, and why words are refused.
+//! A job, and why command words are refused.
 ghost use Rattle.std.specs.Prelude.{◌≡◌};
 ghost use Rattle.command_words.specs.Job.{uses};
 ghost use Rattle.command_words.specs.declared.job.WordsFault.TheVariants as faults;
@@ -7,14 +7,14 @@ use crate::command::{BATCH, CACHE, COUNT, FROM, POLICY, TEXT};
 use std::alloc::AllocError;
 use std::fmt;
 
-/// What the program is to do.
+/// What the program does.
 #[derive(Clone, Copy, Debug, PartialEq, Eq)]
 pub enum Action {
-    /// A script from the source.
+    /// Runs a script from the source.
     Run,
-    /// The places of a GeoJSON text from the source.
+    /// Loads the places of a GeoJSON text from the source.
     Load,
-    /// Places made from a seed, and queries over them.
+    /// Makes places from a seed, and asks queries over them.
     Make,
 }
 
@@ -58,10 +58,10 @@ pub enum PolicyName {
     Halving,
 }
 
-/// What the words ask for.
+/// What the command words ask for.
 #[derive(Debug, Drop)]
 pub struct Job {
-    /// The store: a path, or `-` for one that ends with the run. It has at least one byte.
+    /// The store: a path, or `-` for a store that ends with the run. It has at least one byte.
     pub store: String,
     /// What to do.
     pub action: Action,
@@ -69,7 +69,7 @@ pub struct Job {
     pub batch: u32,
     /// How many pages of the store are kept in memory: 0 to 65,536.
     pub cache: u32,
-    /// The name of the one property that a load reads, or `None` if it reads all properties with a text.
+    /// The name of the one property that a load reads, or `None` if it reads all properties that have a text.
     pub text: Option<String>,
     /// How a full node of the tree is split.
     pub policy: PolicyName,
@@ -79,13 +79,13 @@ pub struct Job {
     pub count: u32,
 }
 
-/// Why words are refused. If several causes apply, the one with the least number is returned.
+/// Why command words are refused. If several causes apply, the one with the least number is returned.
 #[derive(Clone, Copy, Debug, PartialEq, Eq)]
 pub enum WordsFault {
-    /// They are no command: a word is missing, one too many or unknown, an option stands twice or has no value, or a value is out of its
-    /// range.
+    /// They are not a command: a word is missing, unknown or one too many, an option has no value or is given twice, or a value is out
+    /// of range.
     Line = 1,
-    /// An option stands there that the action doesn't use.
+    /// The action does not use an option that is given.
     Unused = 2,
     /// Memory ran out.
     Memory,

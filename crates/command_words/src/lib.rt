@@ -1,8 +1,10 @@
-//! The words of the command line, `irtree STORE ACTION [options]`, read as a job.
+//! Reads the words of the command line, `irtree STORE ACTION [options]`, as a job.
 //!
-//! The line is one simple command of the crate `clap`; `specs/Command.antt` has its rules, and `specs/Job.antt` the job that they give.
-//! [`read_words`] promises just that job, with the values that stand on the line and the stated ones for absent options, and says
-//! exactly when words are refused. [`explain_words`] tells a person what is wrong with which word.
+//! The line is one simple command of the crate `clap`. `specs/Command.antt` has its rules, and `specs/Job.antt` the job that they give.
+//! [`read_words`] promises exactly that job: the values on the line, and the documented defaults for absent options. Its contract also
+//! says exactly when words are refused. [`explain_words`] gives a person a text that names the wrong word and what is wrong with it.
+//!
+//! Tests: `text_tests/src/command_words_tests.rt`.
 #![tactic(auto)]
 
 mod command;

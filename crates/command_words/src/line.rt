@@ -1,4 +1,4 @@
-//! The words behind the program's name, read as a job.
+//! Reads the words after the program's name as a job.
 ghost use Rattle.std.specs.Prelude.{◌≡◌, ◌≤◌, ◌∷◌, ◌↔◌, codes, map, string_bytes, IfOk, IsErr, IsSome};
 ghost use Rattle.clap.specs.Words.{found_of, rows_of};
 ghost use Rattle.command_words.specs.Job.{IsReading, asked_among, reading};
@@ -11,7 +11,7 @@ use clap::error::ErrorKind;
 use clap::{ArgMatches, Error};
 use std::alloc::{AllocError, Global};
 
-// The line that the words stand on: the program's name, and the words behind it.
+// The line as `clap` reads it: the program's name, and the words after it.
 fn line_of<'a>(alloc: Global, words: &'a [String]) -> Result<Vec<&'a str>, AllocError>
     ensures { IfOk result (λ line. map (λ word. word.now) line.items ≡ codes "irtree" ∷ map string_bytes words.entry.now) }
 {
@@ -23,13 +23,14 @@ fn line_of<'a>(alloc: Global, words: &'a [String]) -> Result<Vec<&'a str>, Alloc
     Ok(line)
 }
 
-/// Reads the words behind the program's name: a store, an action and options, in any order but that the store stands before the action.
+/// Reads the words after the program's name: a store, an action and options, in any order except that the store is before the action.
 ///
-/// Returns the job with the values that stand there. An absent option means a batch of 1,000 places, a cache of 1,024 pages, all
-/// properties, the quadratic policy, the seed 0, or 1,000 places that are made. Refuses, the first that applies:
+/// Returns the job with the values on the line. The defaults for absent options are a batch of 1,000 places, a cache of 1,024 pages,
+/// all properties, the quadratic policy, the seed 0, and 1,000 made places. Refuses with the first that applies:
 ///
-/// - `Line` if the command line refuses the words (`specs/Command.antt`), or the action or the policy is unknown. `-h` and `--help` are refused so.
-/// - `Unused` if an option stands there that the action doesn't use.
+/// - `Line` if the command line refuses the words (`specs/Command.antt`), or the action or the policy is unknown. This includes `-h`
+///   and `--help`.
+/// - `Unused` if the action does not use an option that is given.
 ///
 /// Returns `Memory` in place of any of these if memory runs out.
 pub fn read_words(alloc: Global, words: &[String]) -> Result<Job, WordsFault>
@@ -48,7 +49,7 @@ pub fn read_words(alloc: Global, words: &[String]) -> Result<Job, WordsFault>
     }
 }
 
-// The first lines of a text, up to an empty one, as one line without the `error: ` that begins it.
+// The first lines of a text, up to an empty one, as one line without its leading `error: `.
 fn in_one_line(alloc: Global, text: &str) -> Result<String, AllocError> {
     let mut line = String::new(alloc);
     for part in text.lines() {
@@ -64,7 +65,7 @@ fn in_one_line(alloc: Global, text: &str) -> Result<String, AllocError> {
     Ok(line)
 }
 
-// What a person is told of a line that the command refuses: of a request for help all of it, else one line.
+// The text for a person on a line that the command refuses: all of the help if it was requested, and otherwise one line.
 fn told_of(alloc: Global, error: &Error) -> Result<String, AllocError> {
     let text = format!(in alloc; "{error}")?;
     if error.use_stderr() {
@@ -74,7 +75,7 @@ fn told_of(alloc: Global, error: &Error) -> Result<String, AllocError> {
     }
 }
 
-// What a person is told of what stands on a line, if it is no job.
+// The text for a person on the arguments of a line, or `None` if they are a job.
 fn told_of_values(alloc: Global, matches: &ArgMatches<'_>) -> Result<Option<String>, AllocError>
     ensures { IfOk result (λ text. IsSome text ↔ IsErr (asked_among (rows_of (found_of matches.now)))) }
 {
@@ -84,9 +85,9 @@ fn told_of_values(alloc: Global, matches: &ArgMatches<'_>) -> Result<Option<Stri
     }
 }
 
-/// Returns what is wrong with which word if the words behind the program's name are refused, and `None` if they are accepted.
+/// Returns what is wrong with which word if the words after the program's name are refused, and `None` if they are accepted.
 ///
-/// The text is for a person. It is one line without its LF, or for a request for help the help itself, of many lines.
+/// The text is for a person. It is one line without its LF, or the help of many lines if the words request it.
 pub fn explain_words(alloc: Global, words: &[String]) -> Result<Option<String>, AllocError>
     ensures { IfOk result (λ text. IsSome text ↔ IsErr (reading (map string_bytes words.now))) }
 {

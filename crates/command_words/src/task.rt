@@ -1,4 +1,4 @@
-//! The store and the action that stand on a line, and why they are no task.
+//! The store and the action on a line, or why they are not a task.
 ghost use Rattle.std.specs.Prelude.{◌≡◌, ◌&&◌, not, find, is_some, IfErr, IfOk, Ok, Err, Some, None, option_map};
 ghost use Rattle.clap.specs.Words.{first_of, found_of, rows_of};
 ghost use Rattle.command_words.specs.Job.{action_of, asked_among, asked_with, has_unused, policy_among, policy_of, uses};
@@ -20,23 +20,23 @@ pub(crate) struct Task<'a> {
     pub(crate) policy: PolicyName,
 }
 
-/// Why what stands on a line is no task. Its `Display` is the text for a person.
+/// Why the arguments of a line are not a task. Its `Display` is the text for a person.
 #[derive(Clone, Copy)]
 pub(crate) enum Refusal<'a> {
-    /// No store stands there.
+    /// The line has no store.
     NoStore,
-    /// No action stands there.
+    /// The line has no action.
     NoAction,
-    /// The word names no action.
+    /// The word is not the name of an action.
     NotAnAction(&'a str),
-    /// The word names no policy.
+    /// The word is not the name of a policy.
     NotAPolicy(&'a str),
     /// The action doesn't use the option.
     Unused(Action, &'static str),
 }
 
 impl Refusal<'_> {
-    /// Returns the fault that the refusal is.
+    /// Returns the fault that the refusal is reported as.
     pub(crate) fn fault(&self) -> WordsFault
         ensures { result ≡ fault_of self.now }
     {
@@ -65,14 +65,14 @@ impl fmt::Display for Refusal<'_> {
     }
 }
 
-/// Returns the first value of an argument that stands on the line.
+/// Returns the first value of an argument on the line, or `None` if it has none.
 pub(crate) fn value_of<'a>(matches: &ArgMatches<'a>, name: &str) -> Option<&'a str>
     ensures { option_map (λ value. value.now) result ≡ first_of name.now (rows_of (found_of matches.now)) }
 {
     matches.get_str(name)
 }
 
-// The action of a word.
+// The action with this name.
 fn action_of(word: &str) -> Option<Action>
     ensures { result ≡ action_of word.now }
 {
@@ -87,7 +87,7 @@ fn action_of(word: &str) -> Option<Action>
     }
 }
 
-// The policy of a word.
+// The policy with this name.
 fn policy_of(word: &str) -> Option<PolicyName>
     ensures { result ≡ policy_of word.now }
 {
@@ -100,7 +100,7 @@ fn policy_of(word: &str) -> Option<PolicyName>
     }
 }
 
-// The policy that stands on the line, quadratic if none does.
+// The policy on the line, or quadratic if there is none.
 fn policy_on<'a>(matches: &ArgMatches<'a>) -> Result<PolicyName, Refusal<'a>>
     ensures policy { IfOk result (λ policy. policy_among (rows_of (found_of matches.now)) ≡ Some policy) }
     ensures refused { IfErr result (λ refusal. (policy_among (rows_of (found_of matches.now)) ≡ None) × (fault_of refusal ≡ faults.Line)) }
@@ -114,14 +114,14 @@ fn policy_on<'a>(matches: &ArgMatches<'a>) -> Result<PolicyName, Refusal<'a>>
     }
 }
 
-// Whether an option stands on the line and the action doesn't use it.
+// Whether an option is on the line and the action does not use it.
 fn is_unused(matches: &ArgMatches<'_>, action: Action, option: &str) -> bool
     ensures { result ≡ (is_some (first_of option.now (rows_of (found_of matches.now))) && not (uses action option.now)) }
 {
     value_of(matches, option).is_some() && !action.uses(option)
 }
 
-// The first of the options that stands on the line and that the action doesn't use.
+// The first of these options that is on the line and that the action does not use.
 fn unused_among<'o, 'a>(
     matches: &ArgMatches<'_>,
     action: Action,
@@ -134,14 +134,14 @@ fn unused_among<'o, 'a>(
         .find(|option| is_unused(matches, action, option))
 }
 
-// The first option that stands on the line and that the action doesn't use.
+// The first option that is on the line and that the action does not use.
 fn unused(matches: &ArgMatches<'_>, action: Action) -> Option<&'static str>
     ensures { is_some result ≡ has_unused action (rows_of (found_of matches.now)) }
 {
     unused_among(matches, action, OPTIONS.as_slice()).copied()
 }
 
-/// Returns the task that stands on a line.
+/// Returns the task on a line, or why there is none.
 pub(crate) fn task_of<'a>(matches: &ArgMatches<'a>) -> Result<Task<'a>, Refusal<'a>>
     ensures task { IfOk result (λ task. asked_among (rows_of (found_of matches.now)) ≡ Ok (asked_with (rows_of (found_of matches.now)) task.store.now task.action task.policy)) }
     ensures refused { IfErr result (λ refusal. asked_among (rows_of (found_of matches.now)) ≡ Err (fault_of refusal)) }

@@ -1,4 +1,4 @@
-//! The values that stand on a line, as a job.
+//! The values on a line, as a job.
 ghost use Rattle.std.specs.Prelude.{◌≡◌, ◌≤◌, IfOk, IfSome, option_map, string_bytes};
 ghost use Rattle.clap.specs.Words.{IsUnsignedIn, found_of, one_of, rows_of};
 ghost use Rattle.command_words.specs.Command.{HasNumbers};
@@ -10,20 +10,20 @@ use crate::{Job, WordsFault};
 use clap::ArgMatches;
 use std::alloc::{AllocError, Global};
 
-// How many places are stored at a time if no option says another number.
+// How many places are stored at a time if the line has no such option.
 const BATCH_ABSENT: u64 = 1_000;
 
-// How many pages of the store are kept if no option says another number: 4 MiB, enough for the upper levels of every map of a large
+// How many pages of the store are kept if the line has no such option: 4 MiB, enough for the upper levels of every map of a large
 // store.
 const CACHE_ABSENT: u64 = 1_024;
 
-// The seed that places are made from if no option says another one.
+// The seed that places are made from if the line has no such option.
 const FROM_ABSENT: u64 = 0;
 
-// How many places are made if no option says another number.
+// How many places are made if the line has no such option.
 const COUNT_ABSENT: u64 = 1_000;
 
-// The number of an option that stands on the line, or the one for an absent option.
+// The number of an option on the line, or `absent` if the option is not there.
 fn number_of(matches: &ArgMatches<'_>, name: &str, absent: u64) -> u64
     requires fits { IfSome (one_of name.now (rows_of (found_of matches.now))) (IsUnsignedIn 0 18446744073709551615) }
     ensures { result ≡ number_or absent (one_of name.now (rows_of (found_of matches.now))) }
@@ -64,7 +64,7 @@ fn job_with(alloc: Global, matches: &ArgMatches<'_>, task: &Task<'_>) -> Result<
     })
 }
 
-/// Returns the job that stands on a line.
+/// Returns the job on a line, or why there is none.
 pub(crate) fn job_of(alloc: Global, matches: &ArgMatches<'_>) -> Result<Job, WordsFault>
     requires numbers { HasNumbers (rows_of (found_of matches.now)) }
     ensures reading { IsReading result (asked_among (rows_of (found_of matches.now))) }

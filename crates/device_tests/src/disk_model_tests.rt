@@ -3,7 +3,7 @@ use crate::calls::gives;
 use disk_model::{Area, CallKind, Disk, Fail, Failed, MemorySource, MemoryStation, Station, Tear};
 use std::test::Fail as Failure;
 
-// Whether the first bytes of the pages are these after a crash.
+// Whether the pages begin with these bytes after a crash.
 fn leaves(station: &MemoryStation, tear: Tear, wanted: &[u8; 4]) -> bool {
     let mut bytes = [9; 4];
     match station.crashed(tear) {
@@ -12,7 +12,7 @@ fn leaves(station: &MemoryStation, tear: Tear, wanted: &[u8; 4]) -> bool {
     }
 }
 
-// Whether they are these with the pages kept, lost or filled with 7s.
+// Whether they begin with these with the pending ranges kept, lost, and filled with 7s.
 fn leaves_each(station: &MemoryStation, wanted: &[[u8; 4]; 3]) -> bool {
     leaves(station, Tear::Kept, &wanted[0])
         && leaves(station, Tear::Lost, &wanted[1])
@@ -51,7 +51,7 @@ static FAILS: [Fail; 2] = [
     },
 ];
 
-// Whether the first sync and the second say fail, and no other.
+// Whether the first sync and the second `say` fail, and no other call does.
 fn fails_as_listed(station: &mut MemoryStation) -> bool {
     station.sync(Area::Pages) == Err(Failed)
         && station.sync(Area::Pages) == Ok(())
@@ -66,7 +66,7 @@ fn stops(station: &mut MemoryStation) -> bool {
         && station.read(Area::Journal, 8, &mut byte) == Err(Failed)
 }
 
-// Whether the calls above are counted, and those of them that failed, and only the first piece was said.
+// Whether the calls above are counted, and so are those that failed, and only the first piece was written to the sink.
 fn has_counted(station: &MemoryStation) -> bool {
     station.calls() == 6
         && station.reads() == 2
@@ -86,7 +86,7 @@ fn a_call_fails_where_it_is_listed_or_past_the_stop(rt: HostRuntime) -> Result<(
     Ok(())
 }
 
-// What each read gives: how many bytes, or none where it fails, and the bytes.
+// What each read gives: how many bytes, or a failure, and the bytes.
 static PIECES: [(Result<usize, Failed>, &[u8]); 5] = [
     (Ok(2), b"ab"),
     (Err(Failed), b""),

@@ -1,4 +1,4 @@
-//! What a station keeps in files, and how it fails.
+//! Tests what a station keeps in files, and how it fails.
 ghost use Rattle.std.specs.Prelude.{◌+◌, ◌<◌, ◌^◌};
 
 use crate::calls::{fills, holds};
@@ -27,7 +27,7 @@ fn link_of(rt: &HostRuntime, store: &str) -> Result<String, AllocError> {
     format!(in rt.alloc(); "{store}.link")
 }
 
-// Removes what stands at and beside a store's path.
+// Removes the files of a store, and what is beside them.
 fn clear(rt: &HostRuntime, store: &str) -> Result<(), AllocError> {
     for end in ["", ".journal", ".journal.journal", ".link", ".link.journal"] {
         let path = format!(in rt.alloc(); "{store}{end}")?;
@@ -36,7 +36,7 @@ fn clear(rt: &HostRuntime, store: &str) -> Result<(), AllocError> {
     Ok(())
 }
 
-// Whether the station's line on its first failure holds these words; at "" whether no call failed.
+// Whether the station's line on its first failure contains `words`, or no call failed if `words` is empty.
 fn says<R: Files<File = F>, W: Write + Drop, F: StoreFile>(
     rt: &HostRuntime,
     station: &FileStation<'_, R, W, F>,
@@ -49,7 +49,7 @@ fn says<R: Files<File = F>, W: Write + Drop, F: StoreFile>(
     }
 }
 
-// Whether a store that is opened now fails with a line that holds these words.
+// Whether opening a store now fails with a line that contains these words, or succeeds if there are none.
 fn opens_so(rt: &HostRuntime, store: &str, words: &str) -> bool {
     match FileStation::new(rt.alloc(), rt, store, Vec::new(rt.alloc())) {
         Ok(mut station) => station.sync(Area::Journal).is_ok() == words.is_empty()
@@ -58,7 +58,7 @@ fn opens_so(rt: &HostRuntime, store: &str, words: &str) -> bool {
     }
 }
 
-// Whether a store is filled.
+// Whether a store can be filled.
 fn is_filled(rt: &HostRuntime, store: &str) -> bool {
     match FileStation::new(rt.alloc(), rt, store, Vec::new(rt.alloc())) {
         Ok(mut station) => fills(&mut station),
@@ -66,7 +66,7 @@ fn is_filled(rt: &HostRuntime, store: &str) -> bool {
     }
 }
 
-// Whether a store has these pages.
+// Whether the pages of a store have these bytes at this offset.
 fn has_pages(rt: &HostRuntime, store: &str, at: u64, bytes: &[u8; 6]) -> bool
     requires { at + 6 < 2 ^ 48 }
 {
@@ -80,7 +80,7 @@ const TAKEN: &str = ": another process has the store open; wait for it to end";
 
 const JOURNAL_TAKEN: &str = ".journal: another process has the store open; wait for it to end";
 
-// Whether a store that is filled can't be opened by anyone else meanwhile.
+// Whether a store can be filled, and no other station can open it meanwhile.
 fn fills_alone(rt: &HostRuntime, store: &str, journal: &str) -> Result<bool, Memory> {
     let mut station = FileStation::new(rt.alloc(), rt, store, Vec::new(rt.alloc()))?;
     Ok(
@@ -92,13 +92,13 @@ fn fills_alone(rt: &HostRuntime, store: &str, journal: &str) -> Result<bool, Mem
     )
 }
 
-// Whether a store can't be opened while its journal is open as a store of its own.
+// Whether a store cannot be opened while its journal is open as a store of its own.
 fn bars_its_store(rt: &HostRuntime, store: &str, journal: &str) -> Result<bool, Memory> {
     let mut station = FileStation::new(rt.alloc(), rt, journal, Vec::new(rt.alloc()))?;
     Ok(holds(&mut station, Area::Pages, 0, b"jk\0\0\0\0") && opens_so(rt, store, JOURNAL_TAKEN))
 }
 
-// Whether a store is filled while no one else has it, and is kept in a file of pages and a journal.
+// Whether a store is filled while no other station has it, and is kept in a file of pages and a journal.
 fn is_kept(rt: &HostRuntime, store: &str) -> Result<bool, Memory> {
     let journal = journal_of(rt.alloc(), store)?;
     let journal = journal.as_str();
@@ -125,7 +125,7 @@ fn is_journal(rt: &HostRuntime, path: &str) -> bool {
     }
 }
 
-// Whether a store that is filled through a link has its journal beside itself, and not beside the link.
+// Whether a store that is filled through a link has its journal beside the store itself, and not beside the link.
 fn fills_through(rt: &HostRuntime, store: &str, link: &str) -> Result<bool, Memory> {
     let journal = journal_of(rt.alloc(), store)?;
     let other = journal_of(rt.alloc(), link)?;
@@ -139,7 +139,7 @@ fn fills_through(rt: &HostRuntime, store: &str, link: &str) -> Result<bool, Memo
 
 const LINKED: &str = ".journal: it is a symbolic link; put the journal itself beside its store";
 
-// Whether a store whose journal is moved beside the link, and linked from its place, is refused.
+// Whether a store is refused if its journal was moved beside the link and a link was put in its place.
 fn refuses_a_linked_journal(rt: &HostRuntime, store: &str, link: &str) -> Result<bool, Memory> {
     let journal = journal_of(rt.alloc(), store)?;
     let moved = journal_of(rt.alloc(), link)?;
@@ -173,7 +173,7 @@ fn a_store_with_two_names_is_refused(rt: HostRuntime) -> Result<(), Fail> {
     Ok(clear(&rt, store)?)
 }
 
-// Paths at which no store can stand, and words of the line on that.
+// Paths at which no store can be, and words of the line that reports it.
 static NO_STORES: [(&str, &str); 3] = [
     (
         "/tmp",
@@ -196,7 +196,7 @@ fn what_is_no_file_is_refused(rt: HostRuntime) {
     }
 }
 
-// What becomes of a store that is open.
+// What happens to a store that is open.
 #[derive(Clone, Copy)]
 enum Loss {
     PagesAreCut,
@@ -209,7 +209,7 @@ fn cut(rt: &HostRuntime, path: &str, len: u64) -> io::Result<()> {
     File::options().write(true).open(rt, path)?.set_len(len)
 }
 
-// Lets this become of a store that was filled.
+// Makes this loss happen to a store that was filled.
 fn lose(rt: &HostRuntime, store: &str, loss: Loss) -> Result<(), Fail> {
     match loss {
         Loss::PagesAreCut => Ok(cut(rt, store, 5)?),
@@ -218,7 +218,7 @@ fn lose(rt: &HostRuntime, store: &str, loss: Loss) -> Result<(), Fail> {
     }
 }
 
-// Whether a call that comes upon the loss succeeds.
+// Whether a call that meets the loss succeeds.
 fn goes_on<D: Disk>(disk: &mut D, loss: Loss) -> bool {
     let mut bytes = [9; 6];
     match loss {
@@ -228,7 +228,7 @@ fn goes_on<D: Disk>(disk: &mut D, loss: Loss) -> bool {
     }
 }
 
-// Whether a call that comes upon the loss fails with a line that holds these words.
+// Whether a call that meets the loss fails with a line that contains these words.
 fn misses(rt: &HostRuntime, store: &str, loss: Loss, words: &str) -> Result<bool, Fail> {
     let mut station = FileStation::new(rt.alloc(), rt, store, Vec::new(rt.alloc()))?;
     if !fills(&mut station) {
@@ -254,8 +254,8 @@ fn a_file_that_is_cut_or_removed_is_a_fault(rt: HostRuntime) -> Result<(), Fail>
     Ok(())
 }
 
-// Each line: a call that fails, how many such calls there are up to it, the system's error, or 0 for a write that takes nothing,
-// whether the store is new or old, and words of the line on the failure, or none where it is passed over.
+// Each line is a case: the call that fails and its number among such calls, and then the system's error, or 0 for a write that takes
+// nothing. Then whether the store is new or old, and words of the line on the failure, or none if the failure is ignored.
 static CASES: &str = "\
 rp 1 4 new|
 wp 2 4 new|
@@ -300,7 +300,8 @@ fn read_case(line: &'static str) -> Option<Case> {
     })
 }
 
-// Whether a store is filled at "", and else a call fails with a line that holds these words and no later one succeeds.
+// If `words` is empty, whether a store can be filled. Otherwise, whether a call fails with a line that contains these words and no
+// later one succeeds.
 fn ends_so<R: Files<File = F>, W: Write + Drop, F: StoreFile>(
     rt: &HostRuntime,
     station: &mut FileStation<'_, R, W, F>,
@@ -312,7 +313,7 @@ fn ends_so<R: Files<File = F>, W: Write + Drop, F: StoreFile>(
         && says(rt, station, words)
 }
 
-// Whether a case goes as it says. After a failure no call reaches a file.
+// Whether a case has the stated result. After a failure no call reaches a file.
 fn goes_so(rt: &HostRuntime, store: &str, case: &Case) -> Result<bool, Memory> {
     let notes = Notes::new(Vec::new(rt.alloc()), case.plan);
     let watched = Watched { rt, notes: &notes };
@@ -334,7 +335,7 @@ fn each_call_that_fails_is_passed_over_or_named(rt: HostRuntime) -> Result<(), F
     Ok(())
 }
 
-// Whether a store is filled with just these calls.
+// Whether a store is filled with exactly these calls.
 fn calls_so(rt: &HostRuntime, store: &str, calls: &str) -> Result<bool, Memory> {
     let none = Plan {
         call: "",

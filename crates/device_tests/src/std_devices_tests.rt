@@ -1,12 +1,12 @@
-//! What the devices do with readers and writers that give and take little at a time.
+//! Tests the devices with readers and writers that give and take little at a time.
 use crate::calls::{fills, gives, holds};
 use disk_model::{Area, Failed, Station};
 use std::io::{self, ErrorKind, Read, Write};
 use std::test::Fail;
 use std_devices::{ScratchStation, StdSource};
 
-// A reader and a writer of at most two bytes a call. A signal interrupts the second call, the fourth one fails, and the sixth
-// write takes nothing.
+// A reader and a writer of at most two bytes a call. A signal interrupts the second call, the fourth call fails, and the sixth write
+// takes nothing.
 #[derive(Drop)]
 struct Halting {
     bytes: Vec<u8>,
@@ -53,7 +53,7 @@ impl Write for Halting {
     }
 }
 
-// What each read gives: how many bytes, or none where it fails, and the bytes.
+// What each read gives: how many bytes, or a failure, and the bytes.
 static READ: [(Result<usize, Failed>, &[u8]); 5] = [
     (Ok(2), b"ab"),
     (Ok(2), b"cd"),
@@ -75,7 +75,7 @@ fn a_source_gives_what_its_reader_gives(rt: HostRuntime) -> Result<(), Fail> {
     Ok(())
 }
 
-// Pieces, and how many bytes of each are said.
+// Pieces, and how many bytes of each are written.
 static SAID: [(&[u8], Result<usize, Failed>); 5] = [
     (b"one", Ok(2)),
     (b"e", Ok(1)),

@@ -1,4 +1,4 @@
-//! The system's files, which note each call and fail where a test says.
+//! The system's files, with a record of each call and one call that a test makes fail.
 use std::alloc::Allocator;
 use std::cell::{Cell, RefCell};
 use std::fs::{File, Metadata, OpenFile, OpenOptions, Permissions};
@@ -10,9 +10,9 @@ use std::path::PathBuf;
 use std::rt::Files;
 use std_devices::StoreFile;
 
-// One call that fails: its two letters, how many such calls there are up to it, and the system's error, or 0 for a write that
-// takes nothing. The first letter is the call: open, lock, read, write or sync. The second is the file: pages, journal, or the
-// directory of both.
+// The call that fails: its two letters, its number among such calls, and the system's error, or 0 for a write that takes nothing.
+//
+// The first letter is the call: open, lock, read, write or sync. The second is the file: pages, journal, or the directory of both.
 #[derive(Clone, Copy)]
 pub(crate) struct Plan {
     pub(crate) call: &'static str,
@@ -20,7 +20,7 @@ pub(crate) struct Plan {
     pub(crate) code: i32,
 }
 
-// The calls made, two letters each, and the one that fails.
+// The calls made, two letters each, and the call that fails.
 #[derive(Drop)]
 pub(crate) struct Notes {
     calls: RefCell<Vec<u8>>,
@@ -37,7 +37,7 @@ impl Notes {
         }
     }
 
-    // Notes a call, and gives the system's error where it is the one that fails.
+    // Notes a call, and returns the system's error if it is the call that fails.
     fn note(&self, kind: u8, of: u8) -> io::Result<Option<i32>> {
         if let Ok(mut calls) = self.calls.try_borrow_mut() {
             calls.extend_from_slice(&[kind, of, b' '])?;
@@ -50,7 +50,7 @@ impl Notes {
         Ok((met == self.plan.nth).then_some(self.plan.code))
     }
 
-    // Notes a call, and fails where it is to.
+    // Notes a call, and fails if it is the call that fails.
     fn call(&self, kind: u8, of: u8) -> io::Result<()> {
         match self.note(kind, of)? {
             Some(code) => Err(io::Error::from_raw_os_error(code)),
@@ -58,7 +58,7 @@ impl Notes {
         }
     }
 
-    // Whether just these calls were made.
+    // Whether exactly these calls were made.
     pub(crate) fn are(&self, calls: &str) -> bool {
         match self.calls.try_borrow() {
             Ok(made) => made.as_slice() == calls.as_bytes(),
@@ -75,7 +75,7 @@ impl Notes {
     }
 }
 
-// The files of a runtime.
+// The files of a runtime, watched.
 #[derive(Drop)]
 pub(crate) struct Watched<'a, R: Files<File = File>> {
     pub(crate) rt: &'a R,

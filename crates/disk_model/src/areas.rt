@@ -7,14 +7,14 @@ ghost use Rattle.disk_model.specs.Stored.{image_of, bytes_of, stored, Put};
 use crate::Area;
 use std::alloc::{AllocError, Global};
 
-// Each area is the bytes kept, followed by zeros without end.
+// Each area is the stored bytes, followed by zeros without end.
 #[derive(Drop)]
 pub(crate) struct Areas {
     pub(crate) pages: Vec<u8>,
     pub(crate) journal: Vec<u8>,
 }
 
-// Zeros up to a length change nothing.
+// Extends the bytes with zeros up to a length, which changes no byte that is read.
 fn grow(bytes: &mut Vec<u8>, len: usize) -> Result<(), AllocError>
     ensures len { OnOk result (len ≤ length bytes.new.items) }
     ensures same { (i : ℕ) → slice_index bytes.new.items i ≡ slice_index bytes.old.items i }
@@ -39,7 +39,7 @@ fn fill(to: &mut Vec<u8>, at: usize, len: usize, byte: u8)
     to[at..at + len].fill(byte);
 }
 
-// The bytes from a place on, zeros past the end.
+// Copies the bytes from offset `at` on, with zeros past the end.
 fn copy_out(from: &[u8], at: usize, buf: &mut [u8])
     ensures { (i : ℕ) → i < length buf.new → slice_index buf.new i ≡ slice_index from.now (at + i) }
 {
@@ -53,7 +53,7 @@ fn copy_out(from: &[u8], at: usize, buf: &mut [u8])
 }
 
 impl Areas {
-    // Zeros alone.
+    // Returns areas of zeros only.
     pub(crate) fn empty(alloc: Global) -> Areas
         ensures { image_of result ≡ stored [] [] }
     {
@@ -63,7 +63,7 @@ impl Areas {
         }
     }
 
-    // Areas that begin with these bytes.
+    // Returns areas that begin with these bytes.
     pub(crate) fn of(alloc: Global, pages: &[u8], journal: &[u8]) -> Result<Areas, AllocError>
         ensures { IfOk result (λ areas. image_of areas ≡ stored pages.now journal.now) }
     {
@@ -79,7 +79,7 @@ impl Areas {
         Areas::of(alloc, &self.pages, &self.journal)
     }
 
-    // The bytes kept of an area.
+    // Returns the stored bytes of an area.
     pub(crate) fn bytes(&self, area: Area) -> &[u8]
         ensures { result.now ≡ bytes_of self.now area }
     {
@@ -89,7 +89,7 @@ impl Areas {
         }
     }
 
-    // Fills a buffer from a place on.
+    // Fills a buffer with the bytes from offset `at` on.
     pub(crate) fn read(&self, area: Area, at: usize, buf: &mut [u8])
         ensures { (i : ℕ) → i < length buf.new → slice_index buf.new i ≡ image_of self.now area (at + i) }
     {
@@ -99,7 +99,7 @@ impl Areas {
         }
     }
 
-    // Keeps so many bytes of an area at least.
+    // Stores at least `len` bytes of an area.
     pub(crate) fn reserve(&mut self, area: Area, len: usize) -> Result<(), AllocError>
         ensures len { OnOk result (len ≤ length (bytes_of self.new area)) }
         ensures same { image_of self.new ≡ image_of self.old }
@@ -110,7 +110,7 @@ impl Areas {
         }
     }
 
-    // Writes within the bytes kept.
+    // Writes within the stored bytes.
     pub(crate) fn write(&mut self, area: Area, at: usize, bytes: &[u8])
         requires { at + length bytes.now ≤ length (bytes_of self.old area) }
         ensures { image_of self.new ≡ overwritten (range_of area at (length bytes.now)) bytes.now (image_of self.old) }
@@ -121,7 +121,7 @@ impl Areas {
         }
     }
 
-    // Fills a range within the bytes kept.
+    // Fills a range within the stored bytes with one byte.
     pub(crate) fn fill(&mut self, area: Area, at: usize, len: usize, byte: u8)
         requires { at + len ≤ length (bytes_of self.old area) }
         ensures { image_of self.new ≡ filled (range_of area at len ∷ []) byte (image_of self.old) }
@@ -132,7 +132,7 @@ impl Areas {
         }
     }
 
-    // Takes an area over from others.
+    // Copies an area from other areas.
     pub(crate) fn take_over(
         &mut self,
         alloc: Global,

@@ -1,7 +1,7 @@
 //! The calls of a station.
 use crate::Area;
 
-/// The kinds of call that may be made to fail.
+/// The kinds of call that can be made to fail.
 #[derive(Clone, Copy, Debug, PartialEq, Eq)]
 pub enum CallKind {
     /// A read of an area.
@@ -10,7 +10,7 @@ pub enum CallKind {
     Write,
     /// A sync of an area.
     Sync,
-    /// A piece said.
+    /// A write to the sink.
     Say,
 }
 
@@ -23,15 +23,15 @@ pub struct Fail {
     pub nth: u64,
 }
 
-// A call in the record of a station in memory.
+// A call in a memory station's record.
 #[derive(Drop)]
 pub(crate) enum Call {
-    // area, place and length
+    // area, offset and length
     Read(Area, u64, usize),
-    // area, place and bytes, and whether the write succeeded
+    // area, offset and bytes, and whether the write succeeded
     Write(Area, u64, Vec<u8>, bool),
     // area, and whether the sync succeeded
     Sync(Area, bool),
-    // the piece, and how many bytes of it were said
+    // the piece, and how many bytes of it were written to the sink
     Say(Vec<u8>, usize),
 }

@@ -1,4 +1,4 @@
-//! What a crash leaves of a station in memory.
+//! What a memory station holds after a crash.
 ghost use Rattle.std.specs.Prelude.{◌≡◌, OnOk, IfOk, cond, length};
 ghost use Rattle.disk_model.specs.Crash.{left_by, torn_by, torn_over};
 ghost use Rattle.disk_model.specs.Replay.{State, MayLeave, step, overwritten, range_of};
@@ -10,18 +10,18 @@ use crate::{Area, MemoryStation};
 use spatial_base::Memory;
 use std::alloc::{AllocError, Global};
 
-/// What becomes of the ranges that were written since the last sync of their area.
+/// What happens to the ranges that were written since the last sync of their area.
 #[derive(Clone, Copy, Debug, PartialEq, Eq)]
 pub enum Tear {
-    /// They hold what reads give.
+    /// They hold what a read before the crash gives.
     Kept,
-    /// They hold what they held at that sync, or at first.
+    /// They hold what they held at that sync, or at the start if there was none.
     Lost,
-    /// They hold this byte throughout.
+    /// Every byte of them is this one.
     Filled(u8),
 }
 
-// Takes what the areas hold over a write.
+// Applies a write to what the areas hold.
 fn follow_write(
     held: &mut Areas,
     area: Area,
@@ -41,7 +41,7 @@ fn follow_write(
     Ok(())
 }
 
-// Takes what a crash leaves over a write: the old bytes where none is given, else this byte.
+// Applies a write to what a crash leaves: the range keeps its old bytes if `byte` is `None`, and is filled with that byte otherwise.
 fn tear_write(
     left: &mut Areas,
     area: Area,
@@ -60,7 +60,7 @@ fn tear_write(
     Ok(())
 }
 
-// Takes what the areas hold, and what a crash leaves of them, over one call.
+// Applies one call to what the areas hold, and to what a crash leaves of them.
 fn follow(
     alloc: Global,
     call: &Call,
@@ -90,9 +90,10 @@ fn follow(
 impl MemoryStation {
     ghost use Rattle.disk_model.specs.Memory.{holds, state_of, IsFresh, room_in};
 
-    /// A station of the same room that holds one image that a crash may leave now: the ranges that are pending are
-    /// kept, lost, or filled with one byte. Nothing is pending in it, nothing was said, no call is counted, and no
-    /// call is to fail. The cost is that of the calls made.
+    /// Returns a station of the same room that holds one image that a crash may leave now.
+    ///
+    /// The pending ranges are kept, lost, or filled with one byte. In the new station nothing is pending, nothing was written to the
+    /// sink, no call is counted, and no call is set to fail. The cost is that of the calls made so far.
     pub fn crashed(&self, tear: Tear) -> Result<MemoryStation, Memory>
         ensures may { IfOk result (λ station. MayLeave (state_of self.now) (holds station)) }
         ensures left { IfOk result (λ station. holds station ≡ left_by tear (state_of self.now)) }
@@ -102,7 +103,7 @@ impl MemoryStation {
         self.after_crash(tear).map_err(|_| Memory)
     }
 
-    // What a crash leaves of the station, as a station.
+    // Returns what a crash leaves of the station, as a station.
     fn after_crash(&self, tear: Tear) -> Result<MemoryStation, AllocError>
         ensures left { IfOk result (λ station. holds station ≡ left_by tear (state_of self.now)) }
         ensures fresh { IfOk result IsFresh }
@@ -117,7 +118,7 @@ impl MemoryStation {
         self.with_areas(&left)
     }
 
-    // A station of the same room that holds these areas.
+    // Returns a station of the same room that holds these areas.
     fn with_areas(&self, areas: &Areas) -> Result<MemoryStation, AllocError>
         ensures holds { IfOk result (λ station. holds station ≡ image_of areas.now) }
         ensures fresh { IfOk result IsFresh }
@@ -131,7 +132,7 @@ impl MemoryStation {
         )
     }
 
-    // What the calls leave where the pending ranges are lost, or filled with a byte.
+    // Returns what the calls leave if the pending ranges are lost, or filled with a byte.
     fn torn(&self, byte: Option<u8>) -> Result<Areas, AllocError>
         ensures { IfOk result (λ left. image_of left ≡ torn_by byte (state_of self.now)) }
     {

@@ -1,9 +1,12 @@
-//! The outside: a source of input, a disk of two areas that may crash, and a station, which is a disk that also says bytes.
+//! The outside of the program: a source of input, a disk of two areas that may crash, and a station, which is a disk with a sink for
+//! output.
 //!
-//! Contracts see of a disk one [`World`](../specs/World.antt): what a read gives, the bytes said, the reads taken, the
-//! counts of faults, the images that a crash may leave now, and those that it may have left since an earlier moment.
-//! [`MemoryStation`] meets them over memory, with faults and crashes on demand. [`Source`] is what a program reads, once and
-//! in pieces; [`MemorySource`] meets it over memory.
+//! Contracts see a disk as a [`World`](../specs/World.antt): what a read gives, the bytes written to the sink, the reads made and the
+//! counts of faults. It also has the images that a crash may leave now, and those that it may have left since an earlier moment.
+//! [`MemoryStation`] implements a station over memory, with faults and crashes on demand. [`Source`] is input that a program reads
+//! once, in pieces, and [`MemorySource`] implements it over memory.
+//!
+//! Tests: `device_tests/src/disk_model_tests.rt`.
 #![tactic(auto)]
 
 mod areas;

@@ -8,7 +8,7 @@ use spatial_base::Memory;
 use std::alloc::Global;
 use std::marker::Model;
 
-/// A source that gives bytes held in memory, a bounded piece a read, and fails at the reads that it was told to.
+/// A source that gives bytes held in memory, at most a fixed number of them a read. The reads that a test lists fail.
 #[derive(Drop)]
 pub struct MemorySource {
     bytes: Vec<u8>,
@@ -31,10 +31,9 @@ impl Model for MemorySource {
 }
 
 impl MemorySource {
-    /// A source of these bytes that gives at most `piece` of them a read. The reads with the numbers of `fails`, from 1,
-    /// fail and give nothing.
+    /// Returns a source of these bytes that gives at most `piece` of them a read.
     ///
-    /// Refuses `Memory` alone.
+    /// The reads whose numbers, counted from 1, are in `fails` fail and give nothing. Refuses only with `Memory`.
     pub fn new(
         alloc: Global,
         bytes: &[u8],
@@ -56,13 +55,13 @@ impl MemorySource {
 }
 
 impl Source for MemorySource {
-    ghost tells = { true };
+    ghost readable = { true };
 
     ghost left = { λ source. source.left };
 
     ghost faults = { λ source. source.faults };
 
-    // It fails exactly where it is listed to, and gives as much as the buffer, the piece and the bytes left allow.
+    // It fails exactly if the read is listed, and otherwise gives as much as the buffer, the piece and the bytes left allow.
     fn read(&mut self, buf: &mut [u8]) -> Result<usize, Failed>
         requires { 0 < length buf.old }
         ensures count { IfOk result (λ n. n ≤ length buf.new) }

@@ -1,4 +1,4 @@
-//! A station in memory. It keeps what it held at first and a record of its calls, from which its past is told.
+//! A station in memory. It keeps its first content and a record of its calls, and its past is computed from these.
 ghost use Rattle.std.specs.Prelude.{◌≡◌, ◌≤◌, ◌<◌, ◌+◌, ◌++◌, [], ◌∷◌, length, OnOk, OnErr, IfOk};
 ghost use Rattle.disk_model.specs.World.{LeavesOnlySeen, Rose};
 ghost use Rattle.disk_model.specs.Plan.{once_more};
@@ -12,12 +12,12 @@ use crate::{Area, CallKind, Disk, Fail, Failed, Station};
 use spatial_base::Memory;
 use std::alloc::{AllocError, Global};
 
-/// A station over memory that tells its content. Calls fail where a test lists them, and [`MemoryStation::crashed`]
-/// gives what a crash may leave.
+/// A station over memory whose content contracts know. The calls that a test lists fail, and [`MemoryStation::crashed`] gives what a
+/// crash may leave.
 ///
-/// A call fails exactly where it is a listed one, comes after the stop, or finds no memory for the record of calls.
-/// Each failure is counted. The record has each call that found memory for it, a failed one too. It keeps what was written and said, so the
-/// memory grows by that.
+/// A call fails exactly if it is listed, comes after the stop, or finds no memory for the record of calls. Each failure is counted. The
+/// record has each call for which there was memory, failed calls included. It keeps all bytes that were written to the areas and to the
+/// sink, so the memory grows by that.
 #[derive(Drop)]
 pub struct MemoryStation {
     pub(crate) alloc: Global,
@@ -43,7 +43,7 @@ fn note(made: &mut Vec<Call>, call: Call) -> Result<(), AllocError>
     Ok(())
 }
 
-// Adds a piece to what was said.
+// Adds a piece to the bytes written to the sink.
 fn append(said: &mut Vec<u8>, bytes: &[u8]) -> Result<(), AllocError>
     ensures ok { OnOk result (said.new.items ≡ said.old.items ++ bytes.now) }
     ensures err { OnErr result (said.new.items ≡ said.old.items) }
@@ -61,7 +61,7 @@ fn failing(faults: &mut u64) -> Failed
     Failed
 }
 
-// Counts a fault for want of memory.
+// Counts a fault, and that memory ran out.
 fn lacking(lacks: &mut u64, faults: &mut u64) -> Failed
     ensures lacks { Rose lacks.old lacks.new }
     ensures counted { faults.new ≡ once_more faults.old }
@@ -76,7 +76,8 @@ impl MemoryStation {
     ghost use Rattle.disk_model.specs.Memory.{holds, state_of, past_of, memory_world, said_of, faults_of, lacks_of, plan_of, listed_of, IsFresh, room_in};
     ghost use Rattle.disk_model.specs.Plan.{calls_of};
 
-    /// A station whose areas are zeros, with room for so many pages. Nothing was said, and no call is to fail.
+    /// Returns a station whose areas are zeros, with room for `room` pages. Nothing was written to the sink, and no call is set to
+    /// fail.
     pub fn new(alloc: Global, room: u32) -> MemoryStation
         ensures holds { holds result ≡ stored [] [] }
         ensures fresh { IsFresh result }
@@ -85,7 +86,7 @@ impl MemoryStation {
         MemoryStation::over(alloc, Areas::empty(alloc), Areas::empty(alloc), room)
     }
 
-    /// A station whose areas begin with these bytes, all of them safe on the disk.
+    /// Returns a station whose areas begin with these bytes, all of them safe on the disk.
     pub fn with_image(
         alloc: Global,
         pages: &[u8],
@@ -99,7 +100,7 @@ impl MemoryStation {
         MemoryStation::holding(alloc, pages, journal, room).map_err(|_| Memory)
     }
 
-    // A station whose areas begin with these bytes.
+    // Returns a station whose areas begin with these bytes.
     pub(crate) fn holding(
         alloc: Global,
         pages: &[u8],
@@ -135,43 +136,42 @@ impl MemoryStation {
         }
     }
 
-    /// The bytes said so far.
+    /// Returns the bytes written to the sink so far.
     pub fn said(&self) -> &[u8]
         ensures { result.now ≡ said_of self.now }
     {
         &self.said
     }
 
-    /// The counts of disk faults and of sink faults.
+    /// Returns the counts of disk faults and of sink faults.
     pub fn faults(&self) -> (u64, u64)
         ensures { result ≡ faults_of self.now }
     {
         (self.faults, self.sink_faults)
     }
 
-    /// How many calls of `read`, `write`, `sync` and `say` were made, failed ones included.
+    /// Returns how many calls of `read`, `write`, `sync` and `say` were made, failed ones included.
     pub fn calls(&self) -> u64
         ensures { result ≡ calls_of (plan_of self.now) }
     {
         self.plan.calls()
     }
 
-    /// How many calls of `read` were made, failed ones included.
+    /// Returns how many calls of `read` were made, failed ones included.
     pub fn reads(&self) -> u64
         ensures { result ≡ (plan_of self.now).reads }
     {
         self.plan.reads
     }
 
-    /// How many calls found no memory.
+    /// Returns how many calls failed because memory ran out.
     pub fn lacks(&self) -> u64
         ensures { result ≡ lacks_of self.now }
     {
         self.lacks
     }
 
-    /// Lets every call after the first `calls` ones fail, counted from the making of the station. A second stop
-    /// takes the place of the first.
+    /// Makes every call after the first `calls` ones fail, counted from when the station was made. A second stop replaces the first.
     pub fn stop_after(&mut self, calls: u64)
         ensures stop { plan_of self.new ≡ record (plan_of self.old) { stop = Some calls } }
         ensures past { past_of self.new ≡ past_of self.old }
@@ -184,8 +184,9 @@ impl MemoryStation {
         self.plan.stop = Some(calls);
     }
 
-    /// Lets the listed calls fail, beside those listed before. Calls are counted from the making of the station.
-    /// After `Memory` all is as before.
+    /// Makes the listed calls fail, in addition to those listed before. Calls are counted from when the station was made.
+    ///
+    /// After `Memory` the station is as before.
     pub fn fail_at(&mut self, fails: &[Fail]) -> Result<(), Memory>
         ensures listed { OnOk result (listed_of self.new ≡ listed_of self.old ++ fails.now) }
         ensures kept { OnErr result (listed_of self.new ≡ listed_of self.old) }
@@ -210,7 +211,7 @@ impl Disk for MemoryStation {
     ghost use Rattle.disk_model.specs.World.{HasRead, HasWritten, HasSynced, HasDiskCause};
     ghost use Rattle.disk_model.specs.Memory.{memory_world, room_in, FailsAsPlanned};
 
-    ghost tells = { true };
+    ghost readable = { true };
 
     ghost world = { λ m. world_of (first_state m.first) m.made.items m.faults m.sink_faults };
 

@@ -1,4 +1,4 @@
-//! Which calls of a station in memory fail, and how many of each kind have been made.
+//! Which calls of a memory station fail, and how many calls of each kind were made.
 ghost use Rattle.std.specs.Prelude.{◌≡◌, [], Some, None};
 ghost use Rattle.disk_model.specs.Plan.{is_due, counted, count_of, calls_of, is_listed as is_listed_in, is_past as is_past_stop};
 
@@ -15,7 +15,7 @@ pub(crate) struct Plan {
     pub(crate) says: u64,
 }
 
-// Whether the call of a kind that has this number is listed.
+// Whether the call of this kind with this number is listed.
 fn is_listed(kind: CallKind, nth: u64, fails: &[Fail]) -> bool
     ensures { result ≡ is_listed_in kind nth fails.now }
 {
@@ -24,7 +24,7 @@ fn is_listed(kind: CallKind, nth: u64, fails: &[Fail]) -> bool
         .any(|fail| fail.kind == kind && fail.nth == nth)
 }
 
-// Whether the calls made are past the stop.
+// Whether more calls were made than the stop allows.
 fn is_past(stop: Option<u64>, calls: u64) -> bool
     ensures { result ≡ is_past_stop stop calls }
 {
@@ -35,7 +35,7 @@ fn is_past(stop: Option<u64>, calls: u64) -> bool
 }
 
 impl Plan {
-    // No call was made, and none is to fail.
+    // Returns the plan before any call, in which no call fails.
     pub(crate) fn new(alloc: Global) -> Plan
         ensures fails { result.fails.items ≡ [] }
         ensures stop { result.stop ≡ None }
@@ -54,7 +54,7 @@ impl Plan {
         }
     }
 
-    // How many calls were made.
+    // Returns how many calls were made.
     pub(crate) fn calls(&self) -> u64
         ensures { result ≡ calls_of self.now }
     {
@@ -64,7 +64,7 @@ impl Plan {
             .saturating_add(self.says)
     }
 
-    // Counts a call of this kind, and answers its number.
+    // Counts a call of this kind, and returns its number.
     fn count(&mut self, kind: CallKind) -> u64
         ensures counted { self.new ≡ counted kind self.old }
         ensures nth { result ≡ count_of kind self.new }
@@ -89,7 +89,7 @@ impl Plan {
         }
     }
 
-    // Counts a call of this kind, and answers whether it is to fail.
+    // Counts a call of this kind, and returns whether it fails.
     pub(crate) fn next(&mut self, kind: CallKind) -> bool
         ensures counted { self.new ≡ counted kind self.old }
         ensures due { result ≡ is_due kind self.old }

@@ -1,10 +1,10 @@
-//! Decimal degrees as whole numbers: a coordinate is its exact decimal value times 10^7, rounded to the
-//! nearest whole number, halves away from zero.
+//! Decimal degrees as whole numbers: the exact decimal value times 10^7, rounded to the nearest whole number, halves away from zero.
 //!
-//! [`read_fixed`] reads any JSON number ([RFC 8259](https://www.rfc-editor.org/rfc/rfc8259#section-6),
-//! section 6) of at most 64 bytes, whatever its exponent is, and says why a text has no value.
-//! [`longitude`] and [`latitude`] also hold the value to its range, and [`write_fixed`] writes a value
-//! as degrees again. No call takes memory, and no work grows with the exponent.
+//! [`read_fixed`] reads any JSON number ([RFC 8259](https://www.rfc-editor.org/rfc/rfc8259#section-6), section 6) of at most 64 bytes,
+//! whatever its exponent is, or returns why the text has no value. [`longitude`] and [`latitude`] also check the value's range, and
+//! [`write_fixed`] writes a value as degrees again. No call allocates memory, and the work does not grow with the exponent.
+//!
+//! Tests: `text_tests/src/fixed_coords_tests.rt`.
 #![tactic(auto)]
 
 mod fault;

@@ -1,4 +1,4 @@
-//! The parts of a number, as they stand in its text.
+//! The parts of a number, as its text has them.
 
 ghost use Rattle.std.specs.Prelude.{◌≡◌, ◌↔◌, IfSome, IfNone, IsTrue, min, length, take_while, drop};
 ghost use Rattle.std.specs.Str.Parse.{digits_value};
@@ -16,17 +16,17 @@ pub struct Number<'a> {
     pub exponent: Exponent,
 }
 
-/// A power of ten. Its size stands still at [`EXPONENT_MOST`].
+/// A power of ten. Its size is never more than [`EXPONENT_MOST`]: a greater one is stored as that.
 #[derive(Clone, Copy, Drop)]
 pub struct Exponent {
     pub negative: bool,
     pub size: usize,
 }
 
-/// An exponent this far from 0 moves the point past all the digits of a spelling.
+/// The greatest size of an exponent that is stored. It already moves the point past all the digits of a spelling.
 pub const EXPONENT_MOST: usize = 1000;
 
-/// The parts of the number that the text is, if it is one.
+/// Returns the parts of the number that the text is, or `None` if it is not a number.
 pub fn number_of(text: &[u8]) -> Option<Number<'_>>
     ensures none { IfNone result (IsNumber text.now → ⊥) }
     ensures some { IfSome result (λ number. (parts : Parts) × IsMadeOf text.now parts × IsNumberOf number parts) }
@@ -46,7 +46,7 @@ pub fn number_of(text: &[u8]) -> Option<Number<'_>>
     })
 }
 
-/// Whether `-` stands first, and what follows it.
+/// Returns whether the text begins with `-`, and what follows it.
 fn split_minus(text: &[u8]) -> (bool, &[u8])
     ensures minus { first_minus text.now ≡ minus_of result.0 }
     ensures rest { result.1.now ≡ after_minus text.now }
@@ -57,7 +57,7 @@ fn split_minus(text: &[u8]) -> (bool, &[u8])
     }
 }
 
-/// The digits that stand first, and what follows them.
+/// Returns the digits that the text begins with, and what follows them.
 fn split_digits(text: &[u8]) -> (&[u8], &[u8])
     ensures digits { result.0.now ≡ first_digits text.now }
     ensures rest { result.1.now ≡ after_digits text.now }
@@ -65,14 +65,14 @@ fn split_digits(text: &[u8]) -> (&[u8], &[u8])
     text.split_at(digit_count(text))
 }
 
-/// How many digits stand first.
+/// Returns how many digits the text begins with.
 fn digit_count(text: &[u8]) -> usize
     ensures { result ≡ length (take_while is_ascii_digit text.now) }
 {
     text.iter().take_while(|byte| byte.is_ascii_digit()).count()
 }
 
-/// Whether digits may stand before the point: `0` alone, or digits that don't begin with it.
+/// Returns whether these digits may come before the point: `0` alone, or digits that do not begin with `0`.
 fn is_whole(digits: &[u8]) -> bool
     requires { AreDigits digits.now }
     ensures { IsTrue result ↔ IsInt digits.now }
@@ -84,8 +84,9 @@ fn is_whole(digits: &[u8]) -> bool
     }
 }
 
-/// The digits after a point that stands first, or none where no point does, and what follows them.
-/// `None` where no digit follows the point.
+/// Returns the digits after a leading point, and what follows them. If there is no leading point, there are no digits.
+///
+/// Returns `None` if no digit follows the point.
 fn split_fraction(text: &[u8]) -> Option<(&[u8], &[u8])>
     ensures none { IfNone result (IsFrac (first_frac text.now) → ⊥) }
     ensures frac { IfSome result (λ split. IsFrac (first_frac text.now)) }
@@ -105,7 +106,8 @@ fn split_fraction(text: &[u8]) -> Option<(&[u8], &[u8])>
     }
 }
 
-/// The exponent that the text writes, its letter included; 0 for no text. `None` where it writes none.
+/// Returns the exponent that the text gives, its letter included, or 0 if the text is empty. Returns `None` if the text is not an
+/// exponent.
 fn exponent_of(text: &[u8]) -> Option<Exponent>
     ensures none { IfNone result (IsExp text.now → ⊥) }
     ensures exp { IfSome result (λ exponent. IsExp text.now) }
@@ -123,7 +125,7 @@ fn exponent_of(text: &[u8]) -> Option<Exponent>
     }
 }
 
-/// The exponent of these digits and this sign.
+/// Returns the exponent with these digits and this sign, or `None` if they are not digits or there are none.
 fn signed_exponent(negative: bool, digits: &[u8]) -> Option<Exponent>
     ensures none { IfNone result (IsDigits digits.now → ⊥) }
     ensures digits { IfSome result (λ exponent. IsDigits digits.now) }

@@ -1,4 +1,4 @@
-//! Reading a spelling as units of 10^-7.
+//! Reads a spelling as units of 10^-7.
 
 ghost use Rattle.std.specs.Prelude.{◌≡◌, ℕ, ◌^◌, ◌<◌, ◌≤◌, ℤ, pos, neg_ℤ, List, Result, if◌then◌else◌};
 ghost use Rattle.fixed_coords.specs.Fixed.{IsReading, IsReadingWithin};
@@ -16,12 +16,18 @@ const LONGITUDE_MAX: u64 = 1_800_000_000;
 /// The greatest latitude, in units of 10^-7 degrees.
 const LATITUDE_MAX: u64 = 900_000_000;
 
-/// The exact value of a JSON number ([RFC 8259](https://www.rfc-editor.org/rfc/rfc8259#section-6),
-/// section 6) times 10^7, rounded to the nearest whole number, halves away from zero.
+/// Reads a JSON number times 10^7, rounded to the nearest whole number, halves away from zero.
 ///
-/// It refuses `TooLong` exactly for more than 64 bytes, before all else; `NotANumber` exactly where the
-/// text is no number of RFC 8259; `TooBig` exactly where the rounded value is beyond plus or minus 10^12.
-/// Its work is one pass over the spelling, whatever the exponent is.
+/// The value is exact before it is rounded. The grammar is that of [RFC 8259](https://www.rfc-editor.org/rfc/rfc8259#section-6),
+/// section 6.
+///
+/// Refuses with:
+///
+/// - `TooLong` exactly if the text has more than 64 bytes; this is checked first.
+/// - `NotANumber` exactly if the text, of at most 64 bytes, is not a number of RFC 8259.
+/// - `TooBig` exactly if the rounded value is more than 10^12 from 0.
+///
+/// The work is one pass over the spelling, whatever the exponent is.
 pub fn read_fixed(spelling: &str) -> Result<i64, NumberFault>
     ensures { IsReading spelling.now result }
 {
@@ -37,8 +43,8 @@ pub fn read_fixed(spelling: &str) -> Result<i64, NumberFault>
     Ok(signed(number.negative, size))
 }
 
-/// A spelling has one reading, so the clauses of [`read_fixed`], [`longitude`] and [`latitude`] pin their
-/// answers. The call does nothing: its contract is the law.
+/// A spelling has only one reading, so the clauses of [`read_fixed`], [`longitude`] and [`latitude`] fix their results. The call does
+/// nothing: its contract is the law.
 pub fn reading_is_one()
     ensures number { (bytes : List ℕ) (one other : Result ℤ NumberFault) →
         IsReading bytes one → IsReading bytes other → one ≡ other }
@@ -46,25 +52,25 @@ pub fn reading_is_one()
         IsReadingWithin most bytes one → IsReadingWithin most bytes other → one ≡ other }
 {}
 
-/// The longitude that the spelling writes, in units of 10^-7 degrees, from -1,800,000,000 to
-/// 1,800,000,000. It refuses as [`read_fixed`], and `OutOfRange` exactly where the value was read and
-/// is out of this range.
+/// Reads a longitude in units of 10^-7 degrees, from -1,800,000,000 to 1,800,000,000.
+///
+/// Refuses as [`read_fixed`] does, and with `OutOfRange` exactly if the value was read but is out of this range.
 pub fn longitude(spelling: &str) -> Result<i32, NumberFault>
     ensures { IsReadingWithin 1_800_000_000 spelling.now result }
 {
     within(spelling, LONGITUDE_MAX)
 }
 
-/// The latitude that the spelling writes, in units of 10^-7 degrees, from -900,000,000 to 900,000,000.
-/// It refuses as [`read_fixed`], and `OutOfRange` exactly where the value was read and is out of this
-/// range.
+/// Reads a latitude in units of 10^-7 degrees, from -900,000,000 to 900,000,000.
+///
+/// Refuses as [`read_fixed`] does, and with `OutOfRange` exactly if the value was read but is out of this range.
 pub fn latitude(spelling: &str) -> Result<i32, NumberFault>
     ensures { IsReadingWithin 900_000_000 spelling.now result }
 {
     within(spelling, LATITUDE_MAX)
 }
 
-/// The value that the spelling writes, at most so many units to each side of 0.
+/// Reads a value of at most `most` units on either side of 0.
 fn within(spelling: &str, most: u64) -> Result<i32, NumberFault>
     requires { most < 2 ^ 31 }
     ensures { IsReadingWithin most spelling.now result }
@@ -76,7 +82,7 @@ fn within(spelling: &str, most: u64) -> Result<i32, NumberFault>
     Ok(value as i32)
 }
 
-/// The size with its sign.
+/// Returns the size with its sign.
 fn signed(negative: bool, size: u64) -> i64
     requires { size ≤ 10 ^ 12 }
     ensures { result ≡ (if negative then neg_ℤ (pos size) else pos size) }

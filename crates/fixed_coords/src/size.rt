@@ -1,4 +1,4 @@
-//! The size of a number in units of 10^-7, by its digits. No power of ten above 10^12 is formed.
+//! The size of a number in units of 10^-7, computed from its digits. No power of ten above 10^12 is formed.
 
 ghost use Rattle.std.specs.Prelude.{◌≡◌, ◌+◌, ◌*◌, ◌^◌, ◌≤◌, ◌<◌, ◌++◌, min, length};
 ghost use Rattle.std.specs.Option.{SomeIff};
@@ -8,14 +8,13 @@ ghost use Rattle.fixed_coords.specs.Placed.{round_up as rounding, placed, moved_
 
 use crate::number::{Exponent, Number};
 
-/// The greatest size that is read.
+/// The greatest size that is accepted, in units of 10^-7.
 pub const SIZE_MAX: u64 = 1_000_000_000_000;
 
-/// The decimal places of a unit.
+/// How many decimal places a unit is: 10^-7.
 const PLACES: usize = 7;
 
-/// The number's size times 10^7, rounded to the nearest whole number, halves up; `None` where that is
-/// above [`SIZE_MAX`].
+/// Returns the number's size times 10^7, rounded to the nearest whole number, halves up, or `None` if that is above [`SIZE_MAX`].
 pub fn size_of(number: &Number) -> Option<u64>
     requires whole { AreDigits number.now.whole.now }
     requires fraction { AreDigits number.now.fraction.now }
@@ -31,8 +30,9 @@ pub fn size_of(number: &Number) -> Option<u64>
     }
 }
 
-/// How many of the digits stand before the point once the number is multiplied; `None` where the point
-/// moves to the front of them and further.
+/// Returns how many of the digits are before the point once the number is multiplied by 10^7.
+///
+/// Returns `None` if the point moves before the first of them.
 fn point_of(whole: usize, exponent: Exponent) -> Option<usize>
     requires short { whole ≤ 64 }
     requires exponent { exponent.size ≤ 1000 }
@@ -45,7 +45,7 @@ fn point_of(whole: usize, exponent: Exponent) -> Option<usize>
     }
 }
 
-/// The digits of both parts with the point after so many of them, rounded.
+/// Returns the digits of both parts with the point after the first `point` of them, rounded.
 fn rounded(whole: &[u8], fraction: &[u8], point: usize) -> Option<u64>
     requires whole { AreDigits whole.now }
     requires fraction { AreDigits fraction.now }
@@ -61,7 +61,7 @@ fn rounded(whole: &[u8], fraction: &[u8], point: usize) -> Option<u64>
     within(size + round_up(if back.is_empty() { rest } else { back }))
 }
 
-/// The number that the digits write behind those of `front`, or one above [`SIZE_MAX`] if it is greater.
+/// Returns the number that `front` and these digits after it write, or [`SIZE_MAX`] plus 1 if it is greater than [`SIZE_MAX`].
 fn append(front: u64, digits: &[u8]) -> u64
     requires digits { AreDigits digits.now }
     requires front { front ≤ 10 ^ 12 + 1 }
@@ -74,7 +74,7 @@ fn append(front: u64, digits: &[u8]) -> u64
     size
 }
 
-/// 1 where the digits cut off are half of the last place kept, or more.
+/// Returns 1 if the digits cut off are half of the last kept place or more, and 0 otherwise.
 fn round_up(cut: &[u8]) -> u64
     ensures { result ≡ rounding cut.now }
 {
@@ -84,14 +84,14 @@ fn round_up(cut: &[u8]) -> u64
     }
 }
 
-/// The size, if it isn't too big.
+/// Returns the size, or `None` if it is above [`SIZE_MAX`].
 fn within(size: u64) -> Option<u64>
     ensures { SomeIff result (size ≤ 10 ^ 12) size }
 {
     if size <= SIZE_MAX { Some(size) } else { None }
 }
 
-/// The size with so many zeros behind it, if it isn't too big.
+/// Returns the size with `zeros` zeros after it, or `None` if that is above [`SIZE_MAX`].
 fn shifted(size: u64, zeros: usize) -> Option<u64>
     requires { size ≤ 10 ^ 12 + 1 }
     ensures { SomeIff result (size * 10 ^ zeros ≤ 10 ^ 12) (size * 10 ^ zeros) }

@@ -1,4 +1,4 @@
-//! Writing units of 10^-7 as degrees.
+//! Writes units of 10^-7 as degrees.
 
 ghost use Rattle.std.specs.Prelude.{◌≡◌, ◌+◌, ◌%◌, ◌^◌, ◌≤◌, ◌++◌, length, take, drop, unsigned_abs};
 ghost use Rattle.fixed_coords.specs.Degrees.{last_digits, fixed_text};
@@ -7,13 +7,13 @@ ghost use Rattle.fixed_coords.specs.Spelled.{minus_of};
 
 use itoa::Buffer;
 
-/// The units of a degree.
+/// How many units a degree has.
 const UNITS: u64 = 10_000_000;
 
-/// Writes a value in units of 10^-7 as degrees to the front of `out`, and answers how many bytes these
-/// are: a `-` for a negative value, the whole degrees without leading zeros, a point and seven digits.
-/// The bytes of `out` behind them stay. Within plus or minus 10^12 reading what was written gives the
-/// value back.
+/// Writes a value in units of 10^-7 as degrees to the beginning of `out`, and returns how many bytes it wrote.
+///
+/// They are a `-` for a negative value, the whole degrees without leading zeros, a point and seven digits. The later bytes of `out` do
+/// not change. If the value is within 10^12 of 0, reading the text gives the value back.
 pub fn write_fixed(value: i64, out: &mut [u8; 24]) -> usize
     ensures length { result ≤ 24 }
     ensures text { take result out.new ≡ fixed_text value }
@@ -28,7 +28,7 @@ pub fn write_fixed(value: i64, out: &mut [u8; 24]) -> usize
     put(out, fraction, &seven_digits(size))
 }
 
-/// Writes `-` to the front for a negative value, and answers where the sign ends.
+/// Writes `-` to the beginning of `out` for a negative value, and returns the offset after the sign.
 fn put_sign(out: &mut [u8; 24], negative: bool) -> usize
     ensures end { result ≤ 1 }
     ensures text { take result out.new ≡ minus_of negative }
@@ -37,7 +37,7 @@ fn put_sign(out: &mut [u8; 24], negative: bool) -> usize
     if negative { put(out, 0, b"-") } else { 0 }
 }
 
-/// Writes the bytes from this place on, and answers where they end.
+/// Writes the bytes at offset `at`, and returns the offset after them.
 fn put(out: &mut [u8; 24], at: usize, bytes: &[u8]) -> usize
     requires { at + length bytes.now ≤ 24 }
     ensures end { result ≡ at + length bytes.now }
@@ -49,7 +49,7 @@ fn put(out: &mut [u8; 24], at: usize, bytes: &[u8]) -> usize
     end
 }
 
-/// The last seven decimal digits.
+/// Returns the last seven decimal digits.
 #[tactic(auto, unfolding(crate::specs::Degrees::last_digits))]
 fn seven_digits(n: u64) -> [u8; 7]
     ensures { result ≡ last_digits 7 n }
@@ -65,7 +65,7 @@ fn seven_digits(n: u64) -> [u8; 7]
     ]
 }
 
-/// The last decimal digit.
+/// Returns the last decimal digit.
 fn last_digit(n: u64) -> u8
     ensures { result ≡ 48 + n % 10 }
 {

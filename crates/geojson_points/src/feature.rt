@@ -1,4 +1,4 @@
-//! What one item gives.
+//! Reads one item.
 ghost use Rattle.std.specs.Prelude.{◌≡◌, Ok, Err, MatchOption, MatchResult, option_copied};
 ghost use Rattle.json_spelled.specs.View.{json_of, jsons_of};
 ghost use Rattle.geojson_points.specs.Feature.{geometry_of, pair_of, pair_in, pair_within, is_unread, IsPositionOf, key_of, id_of};
@@ -12,7 +12,7 @@ use json_spelled::Tree;
 use spatial_base::{Key, Point};
 use std::alloc::{AllocError, Global};
 
-/// Why there is no draft of an item.
+/// Why an item gives no draft.
 #[derive(Drop)]
 pub(crate) enum ItemFault {
     Skip(SkipReason),
@@ -41,7 +41,7 @@ impl From<AllocError> for ItemFault {
     }
 }
 
-/// The place of an item, or the first reason why it gives none. The text is copied last, and only then.
+/// Returns the place of an item, or the first reason why it gives none. The text is copied last, and only if the item gives a place.
 pub(crate) fn draft(alloc: Global, item: &Tree, only: Option<&str>) -> Result<Draft, ItemFault>
     ensures { GivesSo (option_copied only.entry) (json_of item.now) result }
 {
@@ -51,7 +51,7 @@ pub(crate) fn draft(alloc: Global, item: &Tree, only: Option<&str>) -> Result<Dr
     Ok(Draft { id, point, text })
 }
 
-/// Where an item is, if it is a Feature with a Point on the map.
+/// The position of an item, if it is a Feature with a Point on the map.
 fn point(item: &Tree) -> Result<Point, SkipReason>
     ensures { IsPositionOf (pair_within (geometry_of (json_of item.now))) result }
 {
@@ -73,7 +73,7 @@ fn geometry(item: &Tree) -> Result<&Tree, SkipReason>
     }
 }
 
-/// The longitude and the latitude of a geometry as they are spelled, if it is a Point that has them.
+/// The longitude and the latitude of a geometry, as they are spelled, if it is a Point that has them.
 fn coordinates(geometry: &Tree) -> Result<(&str, &str), SkipReason>
     ensures { MatchResult result (λ pair. pair_in (json_of geometry.now) ≡ Ok (pair.0.now, pair.1.now))
         (λ reason. pair_in (json_of geometry.now) ≡ Err reason) }
@@ -90,7 +90,7 @@ fn coordinates(geometry: &Tree) -> Result<(&str, &str), SkipReason>
     pair(numbers).ok_or(SkipReason::BadPosition)
 }
 
-/// The two numbers that an array begins with. What follows them isn't looked at.
+/// The two numbers that an array begins with. What follows them is not looked at.
 fn pair(numbers: &[Tree]) -> Option<(&str, &str)>
     ensures { MatchOption result (pair_of (jsons_of numbers.now) ≡ None) (λ pair. pair_of (jsons_of numbers.now) ≡ Some (pair.0.now, pair.1.now)) }
 {
@@ -100,8 +100,9 @@ fn pair(numbers: &[Tree]) -> Option<(&str, &str)>
     }
 }
 
-/// The position of two coordinates. Both are read before either is refused, since an unread one goes before one that is off
-/// the map.
+/// The position with these two coordinates.
+///
+/// Both are read before either is refused, since a coordinate that cannot be read is reported before one that is off the map.
 fn position(east: &str, north: &str) -> Result<Point, SkipReason>
     ensures { IsPositionOf (Ok (east.now, north.now)) result }
 {
@@ -115,7 +116,7 @@ fn position(east: &str, north: &str) -> Result<Point, SkipReason>
     }
 }
 
-/// Whether a coordinate is no number, or has too many bytes.
+/// Whether a coordinate is not a number, or has too many bytes.
 fn is_unread(coordinate: Result<i32, NumberFault>) -> bool
     ensures { result ≡ is_unread coordinate }
 {
@@ -125,7 +126,7 @@ fn is_unread(coordinate: Result<i32, NumberFault>) -> bool
     )
 }
 
-/// The key of an item, if it names one.
+/// The key of an item, if it has an identifier.
 fn id(item: &Tree) -> Result<Option<Key>, SkipReason>
     ensures { result ≡ id_of (json_of item.now) }
 {
@@ -137,7 +138,7 @@ fn id(item: &Tree) -> Result<Option<Key>, SkipReason>
     }
 }
 
-/// The key of a text.
+/// The key with this text.
 fn key(text: &str) -> Result<Option<Key>, SkipReason>
     ensures { result ≡ key_of text.now }
 {

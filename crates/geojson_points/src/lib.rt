@@ -1,8 +1,10 @@
 //! Places from a GeoJSON text ([RFC 7946](https://www.rfc-editor.org/rfc/rfc7946)).
 //!
-//! [`take`] reads a Feature or a FeatureCollection and answers what each item gives: a place, or why it gives none.
-//! `specs/Takes.antt` says which outcome a text has, [`outcome_is_some`] that each has one, and [`outcome_is_one`] that it
-//! has no other. Numbers are read from their spelling, so no coordinate passes through floating point.
+//! [`take`] reads a Feature or a FeatureCollection and returns what each item gives: a place, or why it gives none. `specs/Takes.antt`
+//! defines the outcome of a text. [`outcome_is_some`] promises that each text has one, and [`outcome_is_one`] that it has no other.
+//! Numbers are read from their spelling, so no coordinate passes through floating point.
+//!
+//! Tests: `text_tests/src/geojson_points_tests.rt`.
 #![tactic(auto)]
 
 mod fault;

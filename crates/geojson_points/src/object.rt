@@ -1,4 +1,4 @@
-//! What an object's members are, where names may be repeated: the last member of a name counts.
+//! The members of an object. If a name is repeated, the last member with that name counts.
 ghost use Rattle.std.specs.Prelude.{◌≡◌, reverse, find, option_map, option_copied, string_bytes, bytes_eq};
 ghost use Rattle.json_spelled.specs.Json.{no_members, members_onto};
 ghost use Rattle.json_spelled.specs.View.{json_of, jsons_of, entries_of};
@@ -6,7 +6,7 @@ ghost use Rattle.geojson_points.specs.Object.{last_of, member_of, string_of, spe
 
 use json_spelled::Tree;
 
-/// The member of a name; `None` where the value isn't an object, or has no such member.
+/// Returns the member with a name, or `None` if the value is not an object or has no such member.
 pub(crate) fn member<'a>(tree: &'a Tree, name: &str) -> Option<&'a Tree>
     ensures { option_map json_of (option_copied result) ≡ member_of name.now (json_of tree.now) }
 {
@@ -16,7 +16,7 @@ pub(crate) fn member<'a>(tree: &'a Tree, name: &str) -> Option<&'a Tree>
     }
 }
 
-/// The value of the last member of a name.
+/// The value of the last member with a name.
 fn last<'a>(members: &'a [(String, Tree)], name: &str) -> Option<&'a Tree>
     ensures { option_map json_of (option_copied result) ≡ last_of name.now (members_onto (entries_of members.now) no_members) }
 {
@@ -26,14 +26,14 @@ fn last<'a>(members: &'a [(String, Tree)], name: &str) -> Option<&'a Tree>
     }
 }
 
-/// The last member of a name, with it.
+/// The last member with a name, the name included.
 fn last_member<'a>(members: &'a [(String, Tree)], name: &str) -> Option<&'a (String, Tree)>
     ensures { option_copied result ≡ find (λ m. bytes_eq (string_bytes m.0) name.now) (reverse members.now) }
 {
     members.iter().rev().find(|m| m.0.as_str() == name)
 }
 
-/// What a string says.
+/// Returns the content of a string, or `None` if the value is not a string.
 pub(crate) fn string(tree: &Tree) -> Option<&str>
     ensures { option_copied result ≡ string_of (json_of tree.now) }
 {
@@ -43,7 +43,7 @@ pub(crate) fn string(tree: &Tree) -> Option<&str>
     }
 }
 
-/// How a number is spelled.
+/// Returns the spelling of a number, or `None` if the value is not a number.
 pub(crate) fn spelling(tree: &Tree) -> Option<&str>
     ensures { option_copied result ≡ spelling_of (json_of tree.now) }
 {
@@ -53,7 +53,7 @@ pub(crate) fn spelling(tree: &Tree) -> Option<&str>
     }
 }
 
-/// The elements of an array.
+/// Returns the elements of an array, or `None` if the value is not an array.
 pub(crate) fn array(tree: &Tree) -> Option<&[Tree]>
     ensures { option_map jsons_of (option_copied result) ≡ array_of (json_of tree.now) }
 {
@@ -63,7 +63,7 @@ pub(crate) fn array(tree: &Tree) -> Option<&[Tree]>
     }
 }
 
-/// Whether the value is an object whose `type` is this text.
+/// Returns whether the value is an object whose `type` is this text.
 pub(crate) fn has_type(tree: &Tree, name: &str) -> bool
     ensures { result ≡ has_type name.now (json_of tree.now) }
 {

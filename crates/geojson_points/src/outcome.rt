@@ -11,7 +11,7 @@ use json_spelled::{JsonFault, Tree, read_tree};
 use std::alloc::{AllocError, Global};
 use std::slice;
 
-/// A text has one outcome, so the clauses of [`take`] pin its answer. The call does nothing: its contract is the law.
+/// A text has only one outcome, so the clauses of [`take`] fix its result. The call does nothing: its contract is the law.
 pub fn outcome_is_one()
     ensures { (bytes : List ℕ) (only : Option (List ℕ)) (one other : Result (List Item) LoadFault) →
         Takes bytes only one → Takes bytes only other → one ≡ other }
@@ -22,27 +22,27 @@ pub fn outcome_is_some()
     ensures { (bytes : List ℕ) (only : Option (List ℕ)) → (outcome : Result (List Item) LoadFault) × Takes bytes only outcome }
 {}
 
-/// What a GeoJSON text gives, item by item in their order: a place, or the first reason why there is none.
+/// Returns what a GeoJSON text gives, item by item in their order: a place, or the first reason why there is none.
 ///
-/// The text is a Feature, which is the one item, or a FeatureCollection, whose items are the elements of `features`
-/// ([RFC 7946](https://www.rfc-editor.org/rfc/rfc7946), sections 3, 3.2 and 3.3). Where an object repeats a name, its last
-/// member of that name counts and the others are as if absent. The text of a place is the strings among the members of
-/// `properties`, in their order, joined by LF; with `only`, it is that member's string alone.
+/// The text is a Feature, which is the one item, or a FeatureCollection, whose items are the elements of `features` ([RFC
+/// 7946](https://www.rfc-editor.org/rfc/rfc7946), sections 3, 3.2 and 3.3). If an object repeats a name, its last member with that name
+/// counts, and the others are as if absent. The text of a place is the strings among the members of `properties`, in their order,
+/// joined by LF. With `only`, it is the string of that member alone.
 ///
-/// It refuses [`LoadFault::Json`] exactly where the bytes are no JSON text as [`json_spelled::read_tree`] reads it, with the
-/// first offence, and [`LoadFault::NotFeatures`] exactly where they are a JSON text, but neither a Feature nor a
-/// FeatureCollection whose `features` is an array. Only [`LoadFault::Memory`] is tied to no cause.
+/// Refuses with [`LoadFault::Json`] exactly if the bytes are not a JSON text as [`json_spelled::read_tree`] reads it, with the first
+/// offence. Refuses with [`LoadFault::NotFeatures`] exactly if they are a JSON text, but neither a Feature nor a FeatureCollection
+/// whose `features` is an array. Only [`LoadFault::Memory`] is tied to no cause.
 ///
-/// Its work is near the number of bytes: each coordinate is read once, no name is compared with all others, and no text is
-/// copied but those of the answer.
+/// The work is near the number of bytes: each coordinate is read once, no name is compared with all others, and the only texts that are
+/// copied are those of the result.
 pub fn take(alloc: Global, bytes: &[u8], only: Option<&str>) -> Result<Vec<Taken>, LoadFault>
     requires { length bytes.now < 2 ^ 32 }
 
-    // The answer is the outcome of the text, unless memory runs out.
+    // The result is the outcome of the text, unless memory runs out.
     ensures outcome { MatchResult result (λ taken. Takes bytes.now (option_copied only.entry) (Ok (map item_of taken.items)))
         (λ fault. fault ≢ LoadFault.Memory → Takes bytes.now (option_copied only.entry) (Err fault)) }
 
-    // Each place names a text key or none, and there are no more items than bytes.
+    // Each place has a text key or none, and there are no more items than bytes.
     ensures keys { IfOk result (λ taken. All (λ taken. HasTextKey (item_of taken)) taken.items) }
     ensures few { IfOk result (λ taken. length taken.items ≤ length bytes.now) }
 {
@@ -60,7 +60,7 @@ pub fn take(alloc: Global, bytes: &[u8], only: Option<&str>) -> Result<Vec<Taken
     }
 }
 
-/// The items of a text.
+/// The items of a text, or `None` if it is neither a Feature nor a FeatureCollection whose `features` is an array.
 fn items(tree: &Tree) -> Option<&[Tree]>
     ensures { option_map jsons_of (option_copied result) ≡ items_of (json_of tree.now) }
 {
@@ -73,7 +73,7 @@ fn items(tree: &Tree) -> Option<&[Tree]>
     array(member(tree, "features")?)
 }
 
-/// What is said of each item, in their order.
+/// What each item gives, in their order.
 fn each(alloc: Global, items: &[Tree], only: Option<&str>) -> Result<Vec<Taken>, AllocError>
     requires { length items.now < 2 ^ 32 }
     ensures said { IfOk result (λ taken. SaysEach (option_copied only.entry) 0 (jsons_of items.now) (map item_of taken.items)) }
@@ -86,7 +86,7 @@ fn each(alloc: Global, items: &[Tree], only: Option<&str>) -> Result<Vec<Taken>,
     Ok(taken)
 }
 
-/// What is said of the item of an index.
+/// What the item with this index gives.
 fn said(alloc: Global, index: u32, item: &Tree, only: Option<&str>) -> Result<Taken, AllocError>
     ensures { IfOk result (λ taken. Says (option_copied only.entry) index (json_of item.now) (item_of taken)) }
 {

@@ -1,4 +1,4 @@
-//! The text of an item.
+//! Makes the text of an item.
 ghost use Rattle.std.specs.Prelude.{◌≡◌, map, IfOk, OnOk, option_copied, string_bytes};
 ghost use Rattle.json_spelled.specs.Json.{Members, member, no_members, members_onto};
 ghost use Rattle.json_spelled.specs.View.{json_of, entries_of};
@@ -11,7 +11,7 @@ use json_spelled::Tree;
 use std::alloc::{AllocError, Global};
 use std::collections::BTreeSet;
 
-/// The strings among an item's properties, or the string of the one that is asked for.
+/// Returns the strings among an item's properties joined by LF, or the string of the one property that `only` names.
 pub(crate) fn text(alloc: Global, item: &Tree, only: Option<&str>) -> Result<String, AllocError>
     ensures { IfOk result (λ text. string_bytes text ≡ text_of (option_copied only.entry) (json_of item.now)) }
 {
@@ -24,7 +24,7 @@ pub(crate) fn text(alloc: Global, item: &Tree, only: Option<&str>) -> Result<Str
     }
 }
 
-/// The string of a member; nothing where there is none.
+/// The string of a member, or the empty text if there is none.
 fn line<'a>(properties: &'a Tree, name: &str) -> &'a str
     ensures { result.now ≡ line_of name.now (json_of properties.now) }
 {
@@ -44,7 +44,7 @@ fn lines(alloc: Global, properties: &Tree) -> Result<String, AllocError>
     }
 }
 
-/// The strings among the members, in their order, without those behind which their name comes again.
+/// The strings among the members, in their order, except of those whose name comes again later.
 fn strings<'a>(alloc: Global, members: &'a [(String, Tree)]) -> Result<Vec<&'a str>, AllocError>
     ensures { IfOk result (λ texts. map (λ t. t.now) texts.items ≡ strings_of (members_onto (entries_of members.now) no_members)) }
 {
@@ -60,17 +60,18 @@ fn strings<'a>(alloc: Global, members: &'a [(String, Tree)]) -> Result<Vec<&'a s
     Ok(strings)
 }
 
-/// The last members of an object, gathered from the last to the first. The set of their names keeps the work near their number:
-/// no name is compared with all others.
+/// The last members of an object, gathered from the last to the first.
+///
+/// The set of their names keeps the work near their number: no name is compared with all others.
 #[derive(Drop)]
 struct Gathered<'a> {
     names: BTreeSet<&'a str>,
-    /// The strings that count, the last of them first.
+    /// The strings that count, in reverse order.
     strings: Vec<&'a str>,
 }
 
 impl<'a> Gathered<'a> {
-    /// Gathers the member before them, whose string counts where its name is new.
+    /// Gathers the member before those gathered. Its string counts if its name is new.
     fn put_before(&mut self, name: &'a str, value: &'a Tree) -> Result<(), AllocError>
         ensures { (members : Members) → Gathers members self.old.names self.old.strings.items
             → OnOk result (Gathers (member name.now (json_of value.now) members) self.new.names self.new.strings.items) }

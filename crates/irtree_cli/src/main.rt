@@ -1,11 +1,17 @@
 //! The program `irtree`: the words of the command line, standard input, standard output and the files of a store for
 //! `irtree_top::run`.
 //!
-//! Its exit status is that of the end, whose line goes to standard error. That the system's streams and files meet the traits
-//! of a source and a station is the premise of the program; what is read, kept and said is `run`'s to prove.
+//! Its exit status is that of the end. On standard error the end's fixed line comes first and alone; one or two lines of advice
+//! follow, except after a run that is done. That the system's streams and files meet the traits of a source and a station is the
+//! premise of the program; what is read, kept and printed is `run`'s to prove.
+//!
+//! Tests: `tools/file_troubles.sh` runs the built program; `irtree_tests/src` runs the same top call over stations in memory.
 #![tactic(auto)]
 
-use irtree_top::{Ended, PolicyName, WordsFault, explain_words, read_words, run};
+mod advice;
+
+use crate::advice::{Task, advice_on, on_foreign_word};
+use irtree_top::{Action, Ended, PolicyName, WordsFault, read_words, run};
 use spatial_base::Memory;
 use split_policy::{Halving, Quadratic, SplitPolicy};
 use std::alloc::Global;
@@ -13,14 +19,14 @@ use std::io::{ErrorKind, Write};
 use std::process::ExitCode;
 use std_devices::{FileStation, ScratchStation, StdSource};
 
-// How a run ended, and what else its line on standard error says, or nothing.
+// How a run ended, and the lines that follow the end's own on standard error, if any.
 #[derive(Drop)]
-struct Told {
+struct Outcome {
     end: Ended,
-    why: Option<String>,
+    advice: Option<String>,
 }
 
-// The words behind the program's own name. Words that are no UTF-8 are refused, as words that are no command are.
+// The words after the program's own name. A word that isn't UTF-8 is refused, as words that are no command are.
 fn words(rt: &HostRuntime) -> Result<Vec<String>, Ended> {
     let given = std::env::args(rt).map_err(|error| match error.kind() {
         ErrorKind::OutOfMemory => Ended::Memory,
@@ -33,136 +39,144 @@ fn words(rt: &HostRuntime) -> Result<Vec<String>, Ended> {
     Ok(words)
 }
 
-// What words choose: the store, where it is one of files, and the policy of its tree.
+// What words choose: the store if it is a file, what to do with it, and the policy of its tree.
 #[derive(Drop)]
 struct Choice {
     store: Option<String>,
+    action: Action,
     policy: PolicyName,
 }
 
-// What words choose. Where they are refused, that is no store and the quadratic policy.
+// What words choose. If they are refused, that is a run on a store in memory by the quadratic policy, which ends at once.
 fn choice_of(alloc: Global, words: &[String]) -> Result<Choice, Memory> {
     match read_words(alloc, words) {
         Ok(job) if job.store.as_str() != "-" => Ok(Choice {
+            action: job.action,
             policy: job.policy,
             store: Some(job.store),
         }),
         Ok(job) => Ok(Choice {
+            action: job.action,
             policy: job.policy,
             store: None,
         }),
         Err(WordsFault::Line) | Err(WordsFault::Unused) => Ok(Choice {
-            store: None,
+            action: Action::Run,
             policy: PolicyName::Quadratic,
+            store: None,
         }),
         Err(WordsFault::Memory) => Err(Memory),
     }
 }
 
-// Runs over the files of a store. Where a call on them failed it says with which one, why, and what to do.
+// The outcome of an end with its advice, or without if no memory is left for it.
+fn advised(alloc: Global, end: Ended, task: Task<'_>) -> Outcome {
+    Outcome {
+        end,
+        advice: advice_on(alloc, end, task).unwrap_or(None),
+    }
+}
+
+// An end whose own line is all that is printed.
+fn plain(end: Ended) -> Outcome {
+    Outcome { end, advice: None }
+}
+
+// Runs over the files of a store. If a call on them failed, the advice is their station's.
 fn run_on_files(
     rt: &HostRuntime,
-    words: &[String],
+    task: Task<'_>,
     store: &str,
     policy: Box<dyn SplitPolicy>,
-) -> Result<Told, Memory> {
+) -> Result<Outcome, Memory> {
     let mut source = StdSource::new(rt.stdin());
     let mut station = FileStation::new(rt.alloc(), rt, store, rt.stdout())?;
-    let end = run(rt.alloc(), words, &mut source, &mut station, policy);
-    let why = match end {
-        // Where memory is wanting for it, the end's line stands alone.
-        Ended::Disk => station.trouble_line(rt.alloc()).unwrap_or(None),
-        _ => None,
-    };
-    Ok(Told { end, why })
+    let end = run(rt.alloc(), task.words, &mut source, &mut station, policy);
+    Ok(match end {
+        Ended::Disk => Outcome {
+            end,
+            advice: station.trouble_line(rt.alloc()).unwrap_or(None),
+        },
+        end => advised(rt.alloc(), end, task),
+    })
 }
 
-// Runs over a store in memory, which ends with the run. If the words are refused, it says what is wrong with which of them.
-fn run_in_memory(rt: &HostRuntime, words: &[String], policy: Box<dyn SplitPolicy>) -> Told {
+// Runs over a store in memory, which ends with the run.
+fn run_in_memory(rt: &HostRuntime, task: Task<'_>, policy: Box<dyn SplitPolicy>) -> Outcome {
     let mut source = StdSource::new(rt.stdin());
     let mut station = ScratchStation::new(rt.alloc(), rt.stdout());
-    let end = run(rt.alloc(), words, &mut source, &mut station, policy);
-    let why = match end {
-        // If no memory is left for it, the end's line stands alone.
-        Ended::Words => explain_words(rt.alloc(), words).unwrap_or(None),
+    let end = run(rt.alloc(), task.words, &mut source, &mut station, policy);
+    advised(rt.alloc(), end, task)
+}
+
+// The outcome if the words can't be read.
+fn unread(alloc: Global, end: Ended) -> Outcome {
+    let advice = match end {
+        Ended::Words => on_foreign_word(alloc).ok(),
         _ => None,
     };
-    Told { end, why }
+    Outcome { end, advice }
 }
 
-// An end of which its own line says all.
-fn plain(end: Ended) -> Told {
-    Told { end, why: None }
-}
-
-// The end of words that aren't read.
-fn unread(alloc: Global, end: Ended) -> Result<Told, Memory> {
-    let why = match end {
-        Ended::Words => {
-            Some(String::from_str(alloc, "a word that was given isn't UTF-8").map_err(|_| Memory)?)
-        }
-        _ => None,
-    };
-    Ok(Told { end, why })
-}
-
-// Runs over the standard streams and a store, of files where one is named, by a policy.
-fn run_over(
+// Runs over the standard streams and the store of the task, by a policy.
+fn run_task(
     rt: &HostRuntime,
-    words: &[String],
-    store: Option<&str>,
+    task: Task<'_>,
     policy: Box<dyn SplitPolicy>,
-) -> Result<Told, Memory> {
-    match store {
-        Some(store) => run_on_files(rt, words, store, policy),
-        None => Ok(run_in_memory(rt, words, policy)),
+) -> Result<Outcome, Memory> {
+    match task.store {
+        Some(store) => run_on_files(rt, task, store, policy),
+        None => Ok(run_in_memory(rt, task, policy)),
     }
 }
 
 // Runs on the words given, over the standard streams and the store that they name, by the policy that they name.
-fn run_words(rt: &HostRuntime) -> Result<Told, Memory> {
+fn run_words(rt: &HostRuntime) -> Result<Outcome, Memory> {
     let words = match words(rt) {
         Ok(words) => words,
-        Err(end) => return unread(rt.alloc(), end),
+        Err(end) => return Ok(unread(rt.alloc(), end)),
     };
     let choice = choice_of(rt.alloc(), &words)?;
-    let store = choice.store.as_deref();
-    match choice.policy {
+    let policy_name = choice.policy;
+    let task = Task {
+        words: &words,
+        store: choice.store.as_deref(),
+        action: choice.action,
+    };
+    match policy_name {
         PolicyName::Quadratic => {
             let policy = Box::new(rt.alloc(), Quadratic::new()).map_err(|_| Memory)?;
-            run_over(rt, &words, store, policy)
+            run_task(rt, task, policy)
         }
         PolicyName::Halving => {
             let policy = Box::new(rt.alloc(), Halving::new()).map_err(|_| Memory)?;
-            run_over(rt, &words, store, policy)
+            run_task(rt, task, policy)
         }
     }
 }
 
-// The end's line with what else it says behind it, on standard error. What has several lines, as help, stands on lines of its own.
-fn tell(alloc: Global, told: &Told, err: &mut impl Write) -> Result<(), Memory> {
-    let mut line = Vec::new(alloc);
-    told.end.write_text(&mut line)?;
-    if let Some(why) = &told.why {
-        if !why.contains('\n') {
-            let _lf = line.pop();
-            line.extend_from_slice(b": ").map_err(|_| Memory)?;
-        }
-        line.extend_from_slice(why.as_bytes()).map_err(|_| Memory)?;
-        if !why.ends_with('\n') {
-            line.push(b'\n').map_err(|_| Memory)?;
+// Prints the end's fixed line, alone, and then the advice, on standard error.
+fn report(alloc: Global, outcome: &Outcome, err: &mut impl Write) -> Result<(), Memory> {
+    let mut lines = Vec::new(alloc);
+    outcome.end.write_text(&mut lines)?;
+    if let Some(advice) = &outcome.advice {
+        lines
+            .extend_from_slice(advice.as_bytes())
+            .map_err(|_| Memory)?;
+        if !advice.ends_with('\n') {
+            lines.push(b'\n').map_err(|_| Memory)?;
         }
     }
-    // Where standard error takes nothing, the status alone tells.
-    let _ = err.write_all(&line);
+    // If standard error can't be written, only the status is left.
+    let _ = err.write_all(&lines);
     Ok(())
 }
 
 fn main(rt: HostRuntime) -> ExitCode {
-    let told = run_words(&rt).unwrap_or(plain(Ended::Memory));
-    let _ = match tell(rt.alloc(), &told, &mut rt.stderr()) {
+    let outcome = run_words(&rt).unwrap_or(plain(Ended::Memory));
+    let _ = match report(rt.alloc(), &outcome, &mut rt.stderr()) {
         Ok(()) => Ok(()),
-        Err(Memory) => tell(rt.alloc(), &plain(told.end), &mut rt.stderr()),
+        Err(Memory) => report(rt.alloc(), &plain(outcome.end), &mut rt.stderr()),
     };
-    ExitCode::from(told.end.status())
+    ExitCode::from(outcome.end.status())
 }

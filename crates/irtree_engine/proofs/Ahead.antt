@@ -5,17 +5,17 @@ use Rattle.page_face.specs.declared.head.Head.{Head}
 use Rattle.page_store.specs.Superblock.{IsInRange}
 use Rattle.page_store.specs.declared.superblock.Superblock.{Superblock}
 use Rattle.btree_nodes.specs.Supply.{view}
-use Rattle.place_map.specs.declared.update.Update.{Update}
-use Rattle.place_map.specs.State as states
+use Rattle.place_values.specs.declared.update.Update.{Update}
+use Rattle.place_values.specs.State as states
 use Rattle.store_tables.specs.declared.tables.Tables.{Tables}
 use Rattle.store_tables.specs.Holding.{IsApart, IsChanged, numbers_form, places_form, texts_form}
-use Rattle.store_meaning.specs.Ahead.{AreCountedWords, CanHoldAhead, StandAhead, held_ahead, puts_in, times_counted, word_count}
-use Rattle.store_meaning.specs.Stands.{PagesStand, at_number, tables_in}
+use Rattle.store_model.specs.Ahead.{AreCountedWords, CanHoldAhead, StandAhead, held_ahead, puts_in, times_counted, word_count}
+use Rattle.store_model.specs.Stands.{PagesStand, at_number, tables_in}
 use Rattle.store_tables.specs.Words.{holders}
-use Rattle.store_meaning.proofs.Batches.{next-ahead, puts-most, room-ahead, stand-begun}
-use Rattle.store_meaning.proofs.Gathered.{can-hold-all, few-counted}
-use Rattle.store_meaning.proofs.Tables.{ascending}
-use Rattle.store_meaning.proofs.Trees.{root-used}
+use Rattle.store_model.proofs.Batches.{next-ahead, puts-most, room-ahead, stand-begun}
+use Rattle.store_model.proofs.Gathered.{can-hold-all, few-counted}
+use Rattle.store_model.proofs.Tables.{ascending}
+use Rattle.store_model.proofs.Trees.{root-used}
 use Rattle.irtree_engine.specs.Changes.{block_with, head_at}
 use Rattle.irtree_engine.proofs.Effects.{used-counted}
 

@@ -5,18 +5,18 @@ use Rattle.disk_model.proofs.Moments.{within}
 use Rattle.page_face.specs.FreeList.{PageMap}
 use Rattle.page_store.specs.declared.superblock.Superblock.{Superblock}
 use Rattle.spatial_base.specs.Key.{Name}
-use Rattle.place_map.specs.declared.place.Place.{Place}
-use Rattle.place_map.specs.declared.update.Applied.{Applied}
-use Rattle.place_map.specs.declared.update.Applied.TheVariants.{Gone, New, Replaced, Absent}
-use Rattle.place_map.specs.declared.update.Update.{Update}
-use Rattle.place_map.specs.declared.update.Update.TheVariants.{Put, Remove}
-use Rattle.place_map.specs.declared.update.UpdateFault.{UpdateFault}
-use Rattle.place_map.specs.declared.update.UpdateFault.TheVariants as faults
-use Rattle.place_map.specs.State.{Contents, place_at, with_place, without_place}
-use Rattle.place_map.specs.Update.{Effect, effect_of, key_for, put_at, refuses, removed_at, serial_after}
-use Rattle.store_meaning.specs.Ahead.{StandAhead}
-use Rattle.store_meaning.specs.Stands.{PagesStand, Stands}
-use Rattle.store_meaning.proofs.Batches.{stand-ended}
+use Rattle.place_values.specs.declared.place.Place.{Place}
+use Rattle.place_values.specs.declared.update.Applied.{Applied}
+use Rattle.place_values.specs.declared.update.Applied.TheVariants.{Gone, New, Replaced, Absent}
+use Rattle.place_values.specs.declared.update.Update.{Update}
+use Rattle.place_values.specs.declared.update.Update.TheVariants.{Put, Remove}
+use Rattle.place_values.specs.declared.update.UpdateFault.{UpdateFault}
+use Rattle.place_values.specs.declared.update.UpdateFault.TheVariants as faults
+use Rattle.place_values.specs.State.{Contents, place_at, with_place, without_place}
+use Rattle.place_values.specs.Update.{Effect, effect_of, key_for, put_at, refuses, removed_at, serial_after}
+use Rattle.store_model.specs.Ahead.{StandAhead}
+use Rattle.store_model.specs.Stands.{PagesStand, Stands}
+use Rattle.store_model.proofs.Batches.{stand-ended}
 use Rattle.irtree_engine.specs.declared.fault.EngineFault.{EngineFault}
 use Rattle.irtree_engine.specs.declared.fault.EngineFault.TheVariants.{Disk, NotAStore, BadJournal, Damaged, Full, Worn, NoRoom, Stopped, Memory}
 use Rattle.irtree_engine.specs.Updates.{IsDueTo, IsLater, LeavesAllOrNone, LeavesOneOf, StandForOutcome, StandsForOutcome, accepted, state_after_all}

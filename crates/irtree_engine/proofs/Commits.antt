@@ -7,9 +7,9 @@ use Rattle.page_store.specs.Contents.{Contents, HoldsContents, HoldsOneOf, IsCom
 use Rattle.page_store.specs.Store.{Rests}
 use Rattle.page_store.specs.Superblock.{IsInRange}
 use Rattle.page_store.specs.declared.superblock.Superblock.{Superblock}
-use Rattle.place_map.specs.State as states
-use Rattle.store_meaning.specs.Stands.{PagesStand, Stands}
-use Rattle.store_meaning.proofs.Images.{area-one}
+use Rattle.place_values.specs.State as states
+use Rattle.store_model.specs.Stands.{PagesStand, Stands}
+use Rattle.store_model.proofs.Images.{area-one}
 use Rattle.irtree_engine.specs.Updates.{LeavesOneOf}
 
 -- an image whose contents stand for a state stands for it
@@ -49,9 +49,9 @@ commit-leaves block at old new contents before after committed stands stand leav
 ))
 
 -- pages that are told stand for what they stand for
-pub told-stand : (tells : Bool) (area : ℕ → ℕ) (overlay : Overlay) (block : Superblock) (state : states.Contents) → tells ≡ true
-    → PagesStand block (counted_pages block.counted (shown tells area overlay)) state → PagesStand block (counted_pages block.counted (shown true area overlay)) state
-told-stand tells area overlay block state told stand = subst (λ (b : Bool). PagesStand block (counted_pages block.counted (shown b area overlay)) state) told stand
+pub told-stand : (readable : Bool) (area : ℕ → ℕ) (overlay : Overlay) (block : Superblock) (state : states.Contents) → readable ≡ true
+    → PagesStand block (counted_pages block.counted (shown readable area overlay)) state → PagesStand block (counted_pages block.counted (shown true area overlay)) state
+told-stand readable area overlay block state told stand = subst (λ (b : Bool). PagesStand block (counted_pages block.counted (shown b area overlay)) state) told stand
 
 -- what stands for a state does so after calls that only read
 pub rest-stands : (old mid : World) (state : states.Contents) → Rests old mid → Stands old.seen state → Stands mid.seen state

@@ -5,9 +5,9 @@ use Rattle.std.specs.List.{AllByRecursion}
 use Rattle.disk_model.specs.World.{World, Range}
 use Rattle.page_store.specs.Contents as stores
 use Rattle.page_store.specs.Store.{IsReadOf, ReadsOnly}
-use Rattle.place_map.specs.Answer.{answer_of}
-use Rattle.place_map.specs.State.{Contents}
-use Rattle.place_map.specs.declared.query.Query.{Query}
+use Rattle.place_values.specs.Answer.{answer_of}
+use Rattle.place_values.specs.State.{Contents}
+use Rattle.place_values.specs.declared.query.Query.{Query}
 use Rattle.irtree_engine.specs.Queries.{EachRead, IsFoundByFew, IsReadForQuery}
 
 -- each has what follows from what it had

@@ -9,18 +9,18 @@ use Rattle.page_face.specs.declared.head.Head.{Head}
 use Rattle.page_store.specs.Superblock.{IsInRange}
 use Rattle.page_store.specs.declared.superblock.Superblock.{Superblock}
 use Rattle.btree_nodes.specs.Supply.{view}
-use Rattle.place_map.specs.declared.place.Place.{Place}
-use Rattle.place_map.specs.declared.update.Applied.TheVariants.{New, Replaced, Gone, Absent}
-use Rattle.place_map.specs.declared.update.Update.{Update}
-use Rattle.place_map.specs.declared.update.Update.TheVariants.{Put, Remove}
-use Rattle.place_map.specs.declared.update.UpdateFault.TheVariants.{Full, Worn}
-use Rattle.place_map.specs.State.{IsSerialAbove}
-use Rattle.place_map.specs.State as states
-use Rattle.place_map.specs.Update.{Effect, put_at, refuses, removed_at}
+use Rattle.place_values.specs.declared.place.Place.{Place}
+use Rattle.place_values.specs.declared.update.Applied.TheVariants.{New, Replaced, Gone, Absent}
+use Rattle.place_values.specs.declared.update.Update.{Update}
+use Rattle.place_values.specs.declared.update.Update.TheVariants.{Put, Remove}
+use Rattle.place_values.specs.declared.update.UpdateFault.TheVariants.{Full, Worn}
+use Rattle.place_values.specs.State.{IsSerialAbove}
+use Rattle.place_values.specs.State as states
+use Rattle.place_values.specs.Update.{Effect, put_at, refuses, removed_at}
 use Rattle.row_codec.specs.declared.stored.Stored.{Stored}
 use Rattle.node_rows.specs.declared.roots.Tree.{Tree}
-use Rattle.rtree_shape.specs.Slots.{Item}
-use Rattle.rtree_shape.specs.Stock as stock
+use Rattle.rtree_nodes.specs.Slots.{Item}
+use Rattle.rtree_nodes.specs.Stock as stock
 use Rattle.rtree_nodes.specs.Pages.{node_of}
 use Rattle.irtree_shape.specs.Entries.{entry_at}
 use Rattle.irtree_shape.specs.Regrown.{IsRegrown}
@@ -28,14 +28,14 @@ use Rattle.store_tables.specs.declared.tables.Tables.{Tables}
 use Rattle.store_tables.specs.Entries.{place_of_key, without_place}
 use Rattle.store_tables.specs.Holding.{IsApart, IsChanged, numbers_form, places_form, table_uses, texts_form}
 use Rattle.store_tables.proofs.ToldLemmas.{apart-counted}
-use Rattle.store_meaning.specs.Ahead.{StandAhead, after_put_by, last_number, next_by, pairs_by}
-use Rattle.store_meaning.specs.Stands.{PagesStandFor, at_number, tables_in}
-use Rattle.store_meaning.specs.Updates.{after_remove, by_number, stored_with}
-use Rattle.store_meaning.proofs.Batches.{last-put, last-remove, next-by, stand-put-by, stand-remove-by}
-use Rattle.store_meaning.proofs.Changes.{lives-before, live-before}
-use Rattle.store_meaning.proofs.Places.{length-without_place}
+use Rattle.store_model.specs.Ahead.{StandAhead, after_put_by, last_number, next_by, pairs_by}
+use Rattle.store_model.specs.Stands.{PagesStandFor, at_number, tables_in}
+use Rattle.store_model.specs.Updates.{after_remove, by_number, stored_with}
+use Rattle.store_model.proofs.Batches.{last-put, last-remove, next-by, stand-put-by, stand-remove-by}
+use Rattle.store_model.proofs.Changes.{lives-before, live-before}
+use Rattle.store_model.proofs.Places.{length-without_place}
 use Rattle.irtree_engine.specs.Changes.{block_with, head_with, tree_in}
-use Rattle.store_meaning.proofs.Trees.{root-used}
+use Rattle.store_model.proofs.Trees.{root-used}
 use Rattle.irtree_engine.proofs.Trees.{regrown-range}
 
 -- ---- the same pages

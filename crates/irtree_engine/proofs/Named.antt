@@ -2,10 +2,10 @@
 use Rattle.std.proofs.Common.{◌≡◌, ℕ, ◌+◌, ◌≤◌, List, Option, Some, None, sym, ap, ◌∙◌, arith}
 use Rattle.spatial_base.specs.Key.{Name, Text, Auto}
 use Rattle.spatial_base.specs.Point.{Position}
-use Rattle.place_map.specs.declared.update.Update.{Update}
-use Rattle.place_map.specs.declared.update.Update.TheVariants.{Put}
-use Rattle.place_map.specs.State.{Contents, IsSerialAbove}
-use Rattle.place_map.specs.Update.{NamesText, effect_of, key_for, put_at, serial_after}
+use Rattle.place_values.specs.declared.update.Update.{Update}
+use Rattle.place_values.specs.declared.update.Update.TheVariants.{Put}
+use Rattle.place_values.specs.State.{Contents, IsSerialAbove}
+use Rattle.place_values.specs.Update.{NamesText, effect_of, key_for, put_at, serial_after}
 
 -- a Put's effect is that of putting its place at the key that it is for
 pub put-effect : (state : Contents) (update : Update) (key : Option Name) (point : Position) (words : List (List ℕ × ℕ)) (name : Name) (serial : ℕ) → update ≡ Put key point words → name ≡ key_for state key → serial ≡ serial_after state key

@@ -4,9 +4,9 @@ use Rattle.std.specs.Prelude.{MatchOption}
 use Rattle.page_face.specs.FreeList.{PageMap}
 use Rattle.page_face.specs.declared.fault.Damage.{Damage}
 use Rattle.page_face.specs.declared.fault.Rule.TheVariants.{Head}
-use Rattle.btree_nodes.specs.Damages.{AreTold}
+use Rattle.btree_nodes.specs.Damages.{AreReadable}
 use Rattle.node_rows.specs.declared.roots.Tree.{Tree}
-use Rattle.rtree_shape.specs.Stock.{rows_form}
+use Rattle.rtree_nodes.specs.Stock.{rows_form}
 use Rattle.irtree_shape.specs.Damages.{IsTreeHarm}
 use Rattle.spatial_base.specs.Key.{Name}
 use Rattle.spatial_base.specs.Point.{Position}
@@ -15,11 +15,11 @@ use Rattle.store_tables.specs.declared.tables.Tables.{Tables}
 use Rattle.store_tables.specs.Holding.{texts_form}
 use Rattle.store_tables.proofs.Heads.{map-spares_head, number-spares_head, place-spares_head, take-spares_head, words-spares_head}
 use Rattle.irtree_shape.specs.Regrown.{IsMissing}
-use Rattle.tree_answers.specs.Damages.{IsAnswerHarm}
+use Rattle.query_execution.specs.Damages.{IsAnswerHarm}
 use Rattle.irtree_engine.specs.Damages.{IsShownDamage}
 
 -- that of a change of a tree, where the counted pages are told
-pub tree-spares_head : (pages : PageMap) (count first rows : ℕ) (before after : List ℕ) (damage : Damage) → AreTold pages count → first < count → IsTreeHarm pages count first rows before after damage → damage.rule ≢ Head
+pub tree-spares_head : (pages : PageMap) (count first rows : ℕ) (before after : List ℕ) (damage : Damage) → AreReadable pages count → first < count → IsTreeHarm pages count first rows before after damage → damage.rule ≢ Head
 tree-spares_head pages count first rows before after damage told counted harm e =
     ⊎_elim
     (λ node. ⊎_elim (λ alone. (rw e at alone)) (λ below. (let is = below.0 in cc)) node.breaks)

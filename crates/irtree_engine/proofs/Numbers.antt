@@ -4,10 +4,10 @@ use Rattle.std.specs.Option.{IsSome}
 use Rattle.spatial_base.specs.Key.{Name}
 use Rattle.spatial_base.specs.Point.{Position}
 use Rattle.page_face.specs.declared.head.Head.{Head}
-use Rattle.place_map.specs.declared.update.Update.{Update}
-use Rattle.place_map.specs.declared.update.Update.TheVariants.{Put, Remove}
-use Rattle.store_meaning.specs.Ahead.{last_number, puts_in}
-use Rattle.store_meaning.proofs.Batches.{puts-most}
+use Rattle.place_values.specs.declared.update.Update.{Update}
+use Rattle.place_values.specs.declared.update.Update.TheVariants.{Put, Remove}
+use Rattle.store_model.specs.Ahead.{last_number, puts_in}
+use Rattle.store_model.proofs.Batches.{puts-most}
 use Rattle.irtree_engine.specs.Changes.{AreHeadNumbers, AreNumbersAhead}
 
 -- what is there after a map was there before it

@@ -5,8 +5,8 @@ use Rattle.disk_model.specs.World.{World, Image, LeavesOnly}
 use Rattle.disk_model.specs.declared.disk.Area.TheVariants.{Journal}
 use Rattle.disk_model.proofs.Moments.{within}
 use Rattle.page_journal.specs.Record.{StandsFor, StandsAlike, LeavesPages, IsBad, IsFirstFault, IsJournal, IsRecordAt, applied, batch_at, gate_of, next_gate, record_count}
-use Rattle.place_map.specs.State.{Contents}
-use Rattle.store_meaning.specs.Stands.{Stands}
+use Rattle.place_values.specs.State.{Contents}
+use Rattle.store_model.specs.Stands.{Stands}
 use Rattle.irtree_engine.specs.Holding.{HoldsState, LeavesState, StandsForNone}
 
 -- an image of the same pages stands for the same state

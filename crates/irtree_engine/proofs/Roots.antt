@@ -2,11 +2,11 @@
 use Rattle.std.proofs.Common.{◌≡◌, ℕ, refl, sym}
 use Rattle.page_face.specs.FreeList.{PageMap}
 use Rattle.page_face.specs.declared.head.Head.{Head}
-use Rattle.place_map.specs.State.{Contents}
+use Rattle.place_values.specs.State.{Contents}
 use Rattle.node_rows.specs.declared.roots.Tree.{Tree}
 use Rattle.store_tables.specs.declared.tables.Tables.{Tables}
-use Rattle.store_meaning.specs.Stands.{PagesStand, tables_in}
-use Rattle.tree_answers.specs.Standing.{RootsStand}
+use Rattle.store_model.specs.Stands.{PagesStand, tables_in}
+use Rattle.query_execution.specs.Standing.{RootsStand}
 use Rattle.irtree_engine.specs.Changes.{block_with, tree_in}
 
 -- page 0's fields stand with the tables and the tree that they name

@@ -12,7 +12,7 @@ use Rattle.page_face.specs.FreeList.{PageMap}
 use Rattle.page_face.specs.declared.fault.Damage.{Damage}
 use Rattle.page_face.specs.declared.fault.PageFault.{PageFault}
 use Rattle.page_face.specs.declared.fault.PageFault.TheVariants as pages
-use Rattle.btree_nodes.specs.Damages.{AreTold}
+use Rattle.btree_nodes.specs.Damages.{AreReadable}
 use Rattle.btree_nodes.specs.Supply.{view}
 use Rattle.paged_map.specs.Maps.{AreCounted}
 use Rattle.spatial_base.specs.Key.{Name}
@@ -23,41 +23,41 @@ use Rattle.row_codec.specs.Stored.{held_pairs}
 use Rattle.store_tables.specs.Entries.{word_of_number}
 use Rattle.store_tables.specs.Holding.{table_uses}
 use Rattle.store_tables.proofs.ToldLemmas.{apart-counted}
-use Rattle.store_meaning.specs.Updates.{has_pair}
-use Rattle.store_meaning.proofs.Places.{known-each}
-use Rattle.place_updates.specs.Known.{AreKnown, AreAllKnown}
+use Rattle.store_model.specs.Updates.{has_pair}
+use Rattle.store_model.proofs.Places.{known-each}
+use Rattle.table_updates.specs.Known.{AreKnown, AreAllKnown}
 use Rattle.irtree_engine.specs.declared.fault.EngineFault.TheVariants.{Damaged}
 use Rattle.irtree_engine.specs.Faults.{fault_of_pages}
 use Rattle.irtree_engine.specs.Queries.{contents_held}
-use Rattle.place_map.specs.State as states
-use Rattle.store_meaning.specs.Stands.{PagesStand, PagesStandFor, Stands, tables_in}
-use Rattle.store_meaning.proofs.Images.{area-one}
+use Rattle.place_values.specs.State as states
+use Rattle.store_model.specs.Stands.{PagesStand, PagesStandFor, Stands, tables_in}
+use Rattle.store_model.proofs.Images.{area-one}
 
 -- where nothing waits to be committed, the pages stand for what the image stands for
-pub committed-stand : (tells : Bool) (world : World) (overlay : Overlay) (current last : Superblock) (end : ℕ) (state : states.Contents) → tells ≡ true → overlay.entries ≡ [] → current ≡ last → IsCommitted last end world → Stands world.seen state
-    → PagesStand current (counted_pages current.counted (shown tells (applied world.seen) overlay)) state
-committed-stand tells world overlay current last end state told none settled committed stands =
+pub committed-stand : (readable : Bool) (world : World) (overlay : Overlay) (current last : Superblock) (end : ℕ) (state : states.Contents) → readable ≡ true → overlay.entries ≡ [] → current ≡ last → IsCommitted last end world → Stands world.seen state
+    → PagesStand current (counted_pages current.counted (shown readable (applied world.seen) overlay)) state
+committed-stand readable world overlay current last end state told none settled committed stands =
     let area = area-one world.seen stands.holds.area (applied world.seen) stands.holds.stands (committed.ready.journal, refl) in
     let is : stands.contents ≡ contents_of (applied world.seen) overlay last =
     sym stands.holds.holds ∙ ap contents_in area ∙ sym (cleared_contents overlay (applied world.seen) last none committed.head) in
-    subst (λ (b : Superblock). PagesStand b (counted_pages b.counted (shown tells (applied world.seen) overlay)) state) (sym settled)
+    subst (λ (b : Superblock). PagesStand b (counted_pages b.counted (shown readable (applied world.seen) overlay)) state) (sym settled)
     (subst (λ (b : Bool). PagesStand last (counted_pages last.counted (shown b (applied world.seen) overlay)) state) (sym told)
     (subst (λ (c : Contents). PagesStand c.block c.pages state) is stands.stand))
 
 -- where nothing waits to be committed, page 0's fields as they stand and the pages are what the image holds
-pub committed-held : (tells : Bool) (world : World) (overlay : Overlay) (current last : Superblock) (end : ℕ) → tells ≡ true → overlay.entries ≡ [] → current ≡ last → IsCommitted last end world
-    → ◌≡◌ {A = Contents} (record { block = current; pages = counted_pages current.counted (shown tells (applied world.seen) overlay) }) (contents_held world.seen)
-committed-held tells world overlay current last end told none settled committed =
-    ap (λ (b : Superblock). record { block = b; pages = counted_pages b.counted (shown tells (applied world.seen) overlay) }) settled
+pub committed-held : (readable : Bool) (world : World) (overlay : Overlay) (current last : Superblock) (end : ℕ) → readable ≡ true → overlay.entries ≡ [] → current ≡ last → IsCommitted last end world
+    → ◌≡◌ {A = Contents} (record { block = current; pages = counted_pages current.counted (shown readable (applied world.seen) overlay) }) (contents_held world.seen)
+committed-held readable world overlay current last end told none settled committed =
+    ap (λ (b : Superblock). record { block = b; pages = counted_pages b.counted (shown readable (applied world.seen) overlay) }) settled
     ∙ ap (λ (b : Bool). record { block = last; pages = counted_pages last.counted (shown b (applied world.seen) overlay) }) told
     ∙ cleared_contents overlay (applied world.seen) last none committed.head
 
 -- each counted page of a store is told
-pub store-told : (tells : Bool) (area : ℕ → ℕ) (overlay : Overlay) (count : ℕ) → tells ≡ true → IsSized overlay → AreTold (counted_pages count (shown tells area overlay)) count
-store-told tells area overlay count told sized n some lt =
+pub store-told : (readable : Bool) (area : ℕ → ℕ) (overlay : Overlay) (count : ℕ) → readable ≡ true → IsSized overlay → AreReadable (counted_pages count (shown readable area overlay)) count
+store-told readable area overlay count told sized n some lt =
     let not_0 : (n == 0) ≡ false = ne_eqb n 0 (λ e. omega arith) in
     let counted : nat_lt n count ≡ true = lt-ltb n count lt in
-    let size : length (counted_pages count (shown tells area overlay) n) ≡ 4096 = rw (not_0, counted, told) (long (page_in overlay n) refl) in
+    let size : length (counted_pages count (shown readable area overlay) n) ≡ 4096 = rw (not_0, counted, told) (long (page_in overlay n) refl) in
     omega (arith, size)
   where
     long : (page : Option (List ℕ)) → page_in overlay n ≡ page → length (first_of (page_in overlay n) (page_bytes area n)) ≡ 4096

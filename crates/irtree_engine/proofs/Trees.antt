@@ -6,10 +6,10 @@ use Rattle.page_face.specs.declared.head.Head.{Head}
 use Rattle.page_store.specs.Superblock.{IsInRange}
 use Rattle.page_store.specs.declared.superblock.Superblock.{Superblock}
 use Rattle.btree_nodes.specs.Supply.{spare, view}
-use Rattle.place_map.specs.State as states
+use Rattle.place_values.specs.State as states
 use Rattle.row_codec.specs.declared.stored.Stored.{Stored}
-use Rattle.rtree_shape.specs.Slots.{Item}
-use Rattle.rtree_shape.specs.Stock as stock
+use Rattle.rtree_nodes.specs.Slots.{Item}
+use Rattle.rtree_nodes.specs.Stock as stock
 use Rattle.rtree_nodes.specs.Pages.{node_of}
 use Rattle.irtree_shape.specs.Made.{nodes_in}
 use Rattle.irtree_shape.specs.Whole.{IsWhole}
@@ -19,11 +19,11 @@ use Rattle.node_rows.specs.declared.roots.Tree.{Tree}
 use Rattle.store_tables.specs.declared.tables.Tables.{Tables}
 use Rattle.store_tables.specs.Entries.{Entries, place_of_key}
 use Rattle.store_tables.specs.Holding.{IsChanged}
-use Rattle.store_meaning.specs.Stands.{PagesStandFor, TreeStands, at_number, tables_in}
-use Rattle.store_meaning.proofs.Maps.{ascending-holds}
-use Rattle.store_meaning.proofs.Sums.{place-has}
-use Rattle.store_meaning.proofs.Tables.{others-apart}
-use Rattle.store_meaning.proofs.Trees.{stands-whole, tree-kept, whole-root, whole-rows}
+use Rattle.store_model.specs.Stands.{PagesStandFor, TreeStands, at_number, tables_in}
+use Rattle.store_model.proofs.Maps.{ascending-holds}
+use Rattle.store_model.proofs.Sums.{place-has}
+use Rattle.store_model.proofs.Tables.{others-apart}
+use Rattle.store_model.proofs.Trees.{stands-whole, tree-kept, whole-root, whole-rows}
 use Rattle.irtree_engine.specs.Changes.{block_with, head_with, tree_in}
 
 module _ {claims : ℕ → ℕ → ℕ} {last : ℕ} (old : Superblock) (pages : PageMap) (state : states.Contents) (stand : PagesStandFor claims last old pages state) (between : PageMap) (count first : ℕ) (tables : Tables) (entries : Entries)

@@ -3,9 +3,9 @@ use Rattle.std.specs.Prelude.{ℕ, ◌+◌, ◌*◌, ◌≤◌, ◌^◌, List, [
 use Rattle.node_rows.specs.declared.roots.Tree.{Tree}
 use Rattle.page_face.specs.declared.head.Head.{Head}
 use Rattle.page_store.specs.declared.superblock.Superblock.{Superblock}
-use Rattle.place_map.specs.declared.update.Update.{Update}
+use Rattle.place_values.specs.declared.update.Update.{Update}
 use Rattle.store_tables.specs.declared.tables.Tables.{Tables}
-use Rattle.store_meaning.specs.Ahead.{HaveNumbers, last_number}
+use Rattle.store_model.specs.Ahead.{HaveNumbers, last_number}
 
 -- page 0's fields: the pages counted, the first free page and the head
 abbrev pub block_with : ℕ → ℕ → Head → Superblock

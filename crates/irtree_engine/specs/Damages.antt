@@ -8,9 +8,9 @@ use Rattle.page_store.specs.declared.superblock.Superblock.{Superblock}
 use Rattle.spatial_base.specs.Key.{Name}
 use Rattle.store_tables.specs.Broken.{IsPlaceDamage}
 use Rattle.store_tables.specs.declared.tables.Tables.{Tables}
-use Rattle.store_meaning.specs.Stands.{tables_in}
-use Rattle.tree_answers.specs.Damages.{IsAnswerHarm}
-use Rattle.place_updates.specs.Known.{IsHeldDamage}
+use Rattle.store_model.specs.Stands.{tables_in}
+use Rattle.query_execution.specs.Damages.{IsAnswerHarm}
+use Rattle.table_updates.specs.Known.{IsHeldDamage}
 use Rattle.irtree_engine.specs.Changes.{tree_in}
 use Rattle.irtree_engine.specs.Queries.{contents_held}
 

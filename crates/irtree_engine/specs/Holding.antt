@@ -4,8 +4,8 @@ use Rattle.disk_model.specs.World.{World, Image}
 use Rattle.page_journal.specs.Record.{StandsFor}
 use Rattle.page_store.specs.Contents.{page_bytes}
 use Rattle.page_store.specs.Superblock.{is_zero, HasMagic, KeepsHead}
-use Rattle.place_map.specs.State.{Contents}
-use Rattle.store_meaning.specs.Stands.{Stands}
+use Rattle.place_values.specs.State.{Contents}
+use Rattle.store_model.specs.Stands.{Stands}
 
 -- What reads give stands for a state.
 abbrev pub HoldsState : World → Contents → Type 0

@@ -4,8 +4,7 @@ use Rattle.page_journal.specs.Record.{StandsFor, IsReady, applied}
 use Rattle.irtree_engine.specs.declared.fault.EngineFault.{EngineFault}
 use Rattle.irtree_engine.specs.declared.fault.EngineFault.TheVariants.{NotAStore, BadJournal, Damaged}
 
--- The journal is recovered, and nothing else was done: nothing is pending, the journal is at its front, and the disk stands for the pages
--- that it stood for before.
+-- The journal is recovered: nothing is pending, the journal is at its beginning, and the disk holds the pages that it held before.
 pub record IsRecovered (old new : World) : Type 0 where
   pub ready : IsReady 0 new
   pub stands : StandsFor old.seen (applied new.seen)

@@ -7,14 +7,14 @@ use Rattle.page_journal.specs.Record.{applied}
 use Rattle.page_store.specs.Contents as stores
 use Rattle.page_store.specs.Store.{IsReadOf}
 use Rattle.page_store.specs.declared.superblock.Superblock.{Superblock}
-use Rattle.place_map.specs.Answer.{answer_of}
-use Rattle.place_map.specs.State.{Contents}
-use Rattle.place_map.specs.declared.query.Query.{Query}
-use Rattle.place_map.specs.declared.query.Query.TheVariants as queries
-use Rattle.place_map.specs.declared.query.Answer.{Answer}
-use Rattle.place_map.specs.declared.query.Answer.TheVariants.{Hits, Group}
-use Rattle.store_meaning.specs.Stands.{tables_in}
-use Rattle.tree_answers.specs.Opened.{AreFewOpened, AreFewOpenedForGroup}
+use Rattle.place_values.specs.Answer.{answer_of}
+use Rattle.place_values.specs.State.{Contents}
+use Rattle.place_values.specs.declared.query.Query.{Query}
+use Rattle.place_values.specs.declared.query.Query.TheVariants as queries
+use Rattle.place_values.specs.declared.query.Answer.{Answer}
+use Rattle.place_values.specs.declared.query.Answer.TheVariants.{Hits, Group}
+use Rattle.store_model.specs.Stands.{tables_in}
+use Rattle.query_execution.specs.Opened.{AreFewOpened, AreFewOpenedForGroup}
 use Rattle.irtree_engine.specs.Changes.{tree_in}
 
 -- the query asks for hits: it is of another kind than group

@@ -1,10 +1,10 @@
 -- What is shown of a key over any image.
 use Rattle.std.specs.Prelude.{Option}
 use Rattle.page_store.specs.Contents as stores
-use Rattle.place_map.specs.declared.place.Place.{Place}
+use Rattle.place_values.specs.declared.place.Place.{Place}
 use Rattle.spatial_base.specs.Key.{Name}
-use Rattle.store_meaning.specs.Stands.{tables_in}
-use Rattle.place_updates.specs.Shown.{IsPlaceFound}
+use Rattle.store_model.specs.Stands.{tables_in}
+use Rattle.table_updates.specs.Shown.{IsPlaceFound}
 
 -- the place, or none, that the tables of these pages have at a key, by ways on which each page keeps the rules in its place
 abbrev pub IsShownBy : stores.Contents → Name → Option Place → Type 0

@@ -3,13 +3,13 @@ use Rattle.std.specs.Prelude.{◌≡◌, ◌⊎◌, ℕ, ◌+◌, ◌*◌, ◌�
 use Rattle.disk_model.specs.World.{World, Image}
 use Rattle.page_face.specs.FreeList.{PageMap, IsFreeList}
 use Rattle.page_store.specs.declared.superblock.Superblock.{Superblock}
-use Rattle.place_map.specs.State.{Contents}
-use Rattle.place_map.specs.Update.{effect_of}
-use Rattle.place_map.specs.declared.update.Applied.{Applied}
-use Rattle.place_map.specs.declared.update.Update.{Update}
-use Rattle.place_map.specs.declared.update.UpdateFault.{UpdateFault}
-use Rattle.place_map.specs.declared.update.UpdateFault.TheVariants as updates
-use Rattle.store_meaning.specs.Stands.{PagesStand, Stands}
+use Rattle.place_values.specs.State.{Contents}
+use Rattle.place_values.specs.Update.{effect_of}
+use Rattle.place_values.specs.declared.update.Applied.{Applied}
+use Rattle.place_values.specs.declared.update.Update.{Update}
+use Rattle.place_values.specs.declared.update.UpdateFault.{UpdateFault}
+use Rattle.place_values.specs.declared.update.UpdateFault.TheVariants as updates
+use Rattle.store_model.specs.Stands.{PagesStand, Stands}
 use Rattle.irtree_engine.specs.declared.fault.EngineFault.{EngineFault}
 use Rattle.irtree_engine.specs.declared.fault.EngineFault.TheVariants.{Disk, Damaged, Full, Worn, NoRoom, Stopped, Memory}
 

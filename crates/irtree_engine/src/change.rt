@@ -2,14 +2,14 @@
 ghost use Rattle.std.specs.Prelude.{◌≡◌, ◌≤◌, ◌<◌, ◌+◌, ◌^◌, ◌↔◌, List, ◌∷◌, Option, Ok, Err, IsTrue, IfOk, IfErr, OnOk, IsErrOf, length, option_map, ◌≢◌};
 ghost use Rattle.std.specs.List.{AllByRecursion};
 ghost use Rattle.page_face.specs.Calls.{Changes};
-ghost use Rattle.btree_nodes.specs.Damages.{AreTold};
-ghost use Rattle.place_map.specs.State.{Contents, IsSerialAbove};
+ghost use Rattle.btree_nodes.specs.Damages.{AreReadable};
+ghost use Rattle.place_values.specs.State.{Contents, IsSerialAbove};
 ghost use Rattle.spatial_base.specs.Key.{Name};
-ghost use Rattle.place_map.specs.declared.update.Update.{Update};
-ghost use Rattle.place_map.specs.declared.update.Update.TheVariants.{Put, Remove};
-ghost use Rattle.place_map.specs.Update.{effect_of, key_for, put_at, removed_at, serial_after, NamesText};
-ghost use Rattle.store_meaning.specs.Ahead.{StandAhead};
-ghost use Rattle.store_meaning.specs.Stands.{PagesStand, tables_in};
+ghost use Rattle.place_values.specs.declared.update.Update.{Update};
+ghost use Rattle.place_values.specs.declared.update.Update.TheVariants.{Put, Remove};
+ghost use Rattle.place_values.specs.Update.{effect_of, key_for, put_at, removed_at, serial_after, NamesText};
+ghost use Rattle.store_model.specs.Ahead.{StandAhead};
+ghost use Rattle.store_model.specs.Stands.{PagesStand, tables_in};
 ghost use Rattle.irtree_engine.specs.Updates.{IsUpdateFault, IsDueTo, IsAtLimit, StandForOutcome, state_after_all};
 ghost use Rattle.irtree_engine.specs.Calls.{FailsUpdating};
 ghost use Rattle.irtree_engine.specs.Changes.{block_with, head_at, head_with, tree_in, AreHeadNumbers, AreNumbersAhead};
@@ -19,19 +19,19 @@ use crate::fault::broken_by_head;
 use indexmap::IndexMap;
 use node_inverted::Tree;
 use page_face::{Damage, Head, Pages, Rule};
-use place_map::{Applied, NUMBER_MAX, PLACES_MAX, Update};
-use place_updates::{gather_words, hold_words, put_in_batch, remove_place};
+use place_values::{Applied, NUMBER_MAX, PLACES_MAX, Update};
 use row_codec::PAIRS_MAX;
 use spatial_base::{Key, Point};
+use split_condense::{put_entry, take_entry};
 use split_policy::SplitPolicy;
 use std::alloc::Global;
 use store_tables::Tables;
+use table_updates::{gather_words, hold_words, put_in_batch, remove_place};
 use term_impacts::{Word, Words};
-use tree_updates::{put_entry, take_entry};
 
 /// Changes the tables, the tree and page 0's fields by one update. A key that a Put names is a text key.
 ///
-/// Refuses `Full`, `Worn` and what the tables and the tree refuse, and `Damaged` with the rule Counts where page 0 counts no place and one
+/// Refuses `Full`, `Worn` and what the tables and the tree refuse. Refuses `Damaged` with the rule Counts if page 0 counts no place and one
 /// is removed. After a refusal the fields are as before, and pages may have changed.
 pub(crate) fn update<P: Pages>(
     alloc: Global,
@@ -46,9 +46,9 @@ pub(crate) fn update<P: Pages>(
         → IfOk result (λ applied. ((effect_of state update.now).answer ≡ Ok applied)
         × PagesStand (block_with (P.count pages.new) (P.first pages.new) head.new) (P.pages pages.new) (effect_of state update.now).state) }
     ensures due { (state : Contents) → PagesStand (block_with (P.count pages.old) (P.first pages.old) head.old) (P.pages pages.old) state
-        → AreTold (P.pages pages.old) (P.count pages.old) → IfErr result (IsDueTo (effect_of state update.now).answer) }
+        → AreReadable (P.pages pages.old) (P.count pages.old) → IfErr result (IsDueTo (effect_of state update.now).answer) }
     ensures numbers { OnOk result (AreHeadNumbers head.new) }
-    ensures no_head { ((p : P) → AreTold (P.pages p) (P.count p)) → (damage : Damage) → IsErrOf result (EngineFault.Damaged damage) → damage.rule ≢ Rule.Head }
+    ensures no_head { ((p : P) → AreReadable (P.pages p) (P.count p)) → (damage : Damage) → IsErrOf result (EngineFault.Damaged damage) → damage.rule ≢ Rule.Head }
     ensures limits { IfErr result (IsAtLimit head.old.live head.old.number) }
     ensures causes { IfErr result IsUpdateFault }
     ensures one_more { (head.new.live ≤ head.old.live + 1) × (head.new.number ≤ head.old.number + 1) }
@@ -64,8 +64,8 @@ pub(crate) fn update<P: Pages>(
 ///
 /// Refuses as [`update`], for the first one that is refused.
 ///
-/// Holds the words of all Puts first, each once by as many places as are to hold it, unless a place or an update number may be wanting.
-/// So a word of a batch costs a look-up by text, a look-up by number and one or two puts, however many places hold it.
+/// Holds the words of all Puts first, each once for all the places that are to hold it, unless places or update numbers may run out. So a
+/// word of a batch costs a look-up by text, a look-up by number and one or two puts, however many places hold it.
 pub(crate) fn update_all<P: Pages>(
     alloc: Global,
     pages: &mut P,
@@ -78,9 +78,9 @@ pub(crate) fn update_all<P: Pages>(
     ensures updated { (state : Contents) → PagesStand (block_with (P.count pages.old) (P.first pages.old) head.old) (P.pages pages.old) state
         → OnOk result (StandForOutcome (state_after_all state updates.now) (block_with (P.count pages.new) (P.first pages.new) head.new) (P.pages pages.new)) }
     ensures due { (state : Contents) → PagesStand (block_with (P.count pages.old) (P.first pages.old) head.old) (P.pages pages.old) state
-        → ((p : P) → AreTold (P.pages p) (P.count p)) → IfErr result (IsDueTo (state_after_all state updates.now)) }
+        → ((p : P) → AreReadable (P.pages p) (P.count p)) → IfErr result (IsDueTo (state_after_all state updates.now)) }
     ensures numbers { OnOk result (AreHeadNumbers head.new) }
-    ensures no_head { ((p : P) → AreTold (P.pages p) (P.count p)) → (damage : Damage) → IsErrOf result (EngineFault.Damaged damage) → damage.rule ≢ Rule.Head }
+    ensures no_head { ((p : P) → AreReadable (P.pages p) (P.count p)) → (damage : Damage) → IsErrOf result (EngineFault.Damaged damage) → damage.rule ≢ Rule.Head }
     ensures limits { IfErr result (IsAtLimit (head.old.live + length updates.now) (head.old.number + length updates.now)) }
     ensures causes { IfErr result IsUpdateFault }
     ensures one_more_each { (head.new.live ≤ head.old.live + length updates.now) × (head.new.number ≤ head.old.number + length updates.now) }
@@ -97,8 +97,8 @@ pub(crate) fn update_all<P: Pages>(
     Ok(())
 }
 
-// As `update`, for one update of a batch: `held` has the numbers of the words of this update and of those behind it, where they were
-// held ahead.
+// Does what `update` does, for one update of a batch. If words were held ahead, `held` has the numbers of those of this update and of the
+// updates after it.
 fn update_in_batch<P: Pages>(
     alloc: Global,
     pages: &mut P,
@@ -113,9 +113,9 @@ fn update_in_batch<P: Pages>(
         → IfOk result (λ applied. ((effect_of state update.now).answer ≡ Ok applied)
         × StandAhead (option_map (λ numbers. numbers.entries) held.now) left (block_with (P.count pages.new) (P.first pages.new) head.new) (P.pages pages.new) (effect_of state update.now).state) }
     ensures due { (state : Contents) (left : List Update) → StandAhead (option_map (λ numbers. numbers.entries) held.now) (update.now ∷ left) (block_with (P.count pages.old) (P.first pages.old) head.old) (P.pages pages.old) state
-        → AreTold (P.pages pages.old) (P.count pages.old) → IfErr result (IsDueTo (effect_of state update.now).answer) }
+        → AreReadable (P.pages pages.old) (P.count pages.old) → IfErr result (IsDueTo (effect_of state update.now).answer) }
     ensures numbers { (left : List Update) → AreNumbersAhead (option_map (λ numbers. numbers.entries) held.now) (update.now ∷ left) head.old → OnOk result (AreNumbersAhead (option_map (λ numbers. numbers.entries) held.now) left head.new) }
-    ensures no_head { ((p : P) → AreTold (P.pages p) (P.count p)) → (damage : Damage) → IsErrOf result (EngineFault.Damaged damage) → damage.rule ≢ Rule.Head }
+    ensures no_head { ((p : P) → AreReadable (P.pages p) (P.count p)) → (damage : Damage) → IsErrOf result (EngineFault.Damaged damage) → damage.rule ≢ Rule.Head }
     ensures limits { IfErr result (IsAtLimit head.old.live head.old.number) }
     ensures causes { IfErr result IsUpdateFault }
     ensures one_more { (head.new.live ≤ head.old.live + 1) × (head.new.number ≤ head.old.number + 1) }
@@ -135,7 +135,7 @@ fn update_in_batch<P: Pages>(
     }
 }
 
-// Whether there are a place and an update number for each of so many updates, so that none is refused for want of them.
+// Whether a place and an update number are left for each of so many updates, so that none is refused because they ran out.
 fn has_room_for(head: &Head, updates: usize) -> bool
     ensures { IsTrue result ↔ ((head.now.live + updates ≤ 200000) × (head.now.number + updates ≤ 2 ^ 40)) }
 {
@@ -144,7 +144,7 @@ fn has_room_for(head: &Head, updates: usize) -> bool
         && head.number <= NUMBER_MAX - updates as u64
 }
 
-// Holds the words of the Puts ahead, where there is room for all updates, and answers the words' numbers then.
+// Holds the words of the Puts ahead if there is room for all updates, and then returns the words' numbers.
 fn hold_ahead<P: Pages>(
     alloc: Global,
     pages: &mut P,
@@ -155,9 +155,9 @@ fn hold_ahead<P: Pages>(
     ensures begun { (state : Contents) → PagesStand (block_with (P.count pages.old) (P.first pages.old) head.old) (P.pages pages.old) state
         → IfOk result (λ held. StandAhead (option_map (λ numbers. numbers.entries) held) updates.now (block_with (P.count pages.new) (P.first pages.new) head.new) (P.pages pages.new) state) }
     ensures due { (state : Contents) → PagesStand (block_with (P.count pages.old) (P.first pages.old) head.old) (P.pages pages.old) state
-        → AreTold (P.pages pages.old) (P.count pages.old) → IfErr result (IsDueTo (state_after_all state updates.now)) }
+        → AreReadable (P.pages pages.old) (P.count pages.old) → IfErr result (IsDueTo (state_after_all state updates.now)) }
     ensures numbers { IfOk result (λ held. AreNumbersAhead (option_map (λ numbers. numbers.entries) held) updates.now head.new) }
-    ensures no_head { ((p : P) → AreTold (P.pages p) (P.count p)) → (damage : Damage) → IsErrOf result (EngineFault.Damaged damage) → damage.rule ≢ Rule.Head }
+    ensures no_head { ((p : P) → AreReadable (P.pages p) (P.count p)) → (damage : Damage) → IsErrOf result (EngineFault.Damaged damage) → damage.rule ≢ Rule.Head }
     ensures limits { IfErr result (IsAtLimit (head.old.live + length updates.now) (head.old.number + length updates.now)) }
     ensures causes { IfErr result IsUpdateFault }
     ensures same { (head.new.live ≡ head.old.live) × (head.new.number ≡ head.old.number) }
@@ -188,7 +188,7 @@ fn head_between(head: &Head, tables: &Tables) -> Head
     }
 }
 
-// The key under which a place is put, and the next serial then.
+// The key under which a place is put, and the next serial after that.
 fn named(head: &Head, key: &Option<Key>) -> (Key, u64)
     requires serial { head.now.serial ≤ head.now.number + 1 }
     requires number { head.now.number ≤ 2 ^ 40 }
@@ -241,7 +241,7 @@ fn head_after(head: &Head, tables: &Tables, tree: &Tree, live: u32, serial: u64)
     }
 }
 
-// Puts a place at a key, and its entry into the tree in place of the old one, and leaves this next serial.
+// Puts a place at a key, puts its entry into the tree in place of the old one, and sets the next serial.
 fn put<P: Pages>(
     alloc: Global,
     pages: &mut P,
@@ -260,9 +260,9 @@ fn put<P: Pages>(
         → IfOk result (λ applied. ((put_at state key.now serial (record { point = point; words = words.now })).answer ≡ Ok applied)
         × StandAhead (option_map (λ numbers. numbers.entries) held.now) left (block_with (P.count pages.new) (P.first pages.new) head.new) (P.pages pages.new) (put_at state key.now serial (record { point = point; words = words.now })).state) }
     ensures due { (state : Contents) (name : Option Name) (left : List Update) → StandAhead (option_map (λ numbers. numbers.entries) held.now) (Put name point words.now ∷ left) (block_with (P.count pages.old) (P.first pages.old) head.old) (P.pages pages.old) state
-        → AreTold (P.pages pages.old) (P.count pages.old) → IfErr result (IsDueTo (put_at state key.now serial (record { point = point; words = words.now })).answer) }
+        → AreReadable (P.pages pages.old) (P.count pages.old) → IfErr result (IsDueTo (put_at state key.now serial (record { point = point; words = words.now })).answer) }
     ensures numbers { (name : Option Name) (left : List Update) → AreNumbersAhead (option_map (λ numbers. numbers.entries) held.now) (Put name point words.now ∷ left) head.old → OnOk result (AreNumbersAhead (option_map (λ numbers. numbers.entries) held.now) left head.new) }
-    ensures no_head { ((p : P) → AreTold (P.pages p) (P.count p)) → (damage : Damage) → IsErrOf result (EngineFault.Damaged damage) → damage.rule ≢ Rule.Head }
+    ensures no_head { ((p : P) → AreReadable (P.pages p) (P.count p)) → (damage : Damage) → IsErrOf result (EngineFault.Damaged damage) → damage.rule ≢ Rule.Head }
     ensures limits { IfErr result (IsAtLimit head.old.live head.old.number) }
     ensures causes { IfErr result IsUpdateFault }
     ensures one_more { (head.new.live ≤ head.old.live + 1) × (head.new.number ≤ head.old.number + 1) }
@@ -317,9 +317,9 @@ fn remove<P: Pages>(
         → IfOk result (λ applied. ((removed_at state key.now).answer ≡ Ok applied)
         × StandAhead (option_map (λ numbers. numbers.entries) held.now) left (block_with (P.count pages.new) (P.first pages.new) head.new) (P.pages pages.new) (removed_at state key.now).state) }
     ensures due { (state : Contents) (left : List Update) → StandAhead (option_map (λ numbers. numbers.entries) held.now) (Remove key.now ∷ left) (block_with (P.count pages.old) (P.first pages.old) head.old) (P.pages pages.old) state
-        → AreTold (P.pages pages.old) (P.count pages.old) → IfErr result (IsDueTo (removed_at state key.now).answer) }
+        → AreReadable (P.pages pages.old) (P.count pages.old) → IfErr result (IsDueTo (removed_at state key.now).answer) }
     ensures numbers { (left : List Update) → AreNumbersAhead (option_map (λ numbers. numbers.entries) held.now) (Remove key.now ∷ left) head.old → OnOk result (AreNumbersAhead (option_map (λ numbers. numbers.entries) held.now) left head.new) }
-    ensures no_head { ((p : P) → AreTold (P.pages p) (P.count p)) → (damage : Damage) → IsErrOf result (EngineFault.Damaged damage) → damage.rule ≢ Rule.Head }
+    ensures no_head { ((p : P) → AreReadable (P.pages p) (P.count p)) → (damage : Damage) → IsErrOf result (EngineFault.Damaged damage) → damage.rule ≢ Rule.Head }
     ensures limits { IfErr result (IsAtLimit head.old.live head.old.number) }
     ensures causes { IfErr result IsUpdateFault }
     ensures one_more { (head.new.live ≤ head.old.live + 1) × (head.new.number ≤ head.old.number + 1) }

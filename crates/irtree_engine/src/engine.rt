@@ -1,10 +1,10 @@
-//! The engine, its count, and what it says.
+//! The engine, its count, and its output.
 ghost use Rattle.std.specs.Prelude.{◌≡◌, ◌≢◌, ◌≤◌, ◌<◌, true, false, IsTrue, IfOk, IfErr, OnOk, OnErr, IsErrOf, ◌↔◌, ℕ, [], length};
 ghost use Rattle.disk_model.specs.World.{LeavesOnly, HasSaid, HasSinkCause, ReadsJournalOnly, Rose};
 ghost use Rattle.page_journal.specs.Record.{IsBad, applied};
 ghost use Rattle.page_store.specs.Contents.{IsCommitted};
 ghost use Rattle.page_store.specs.Opening.{SaysNothingReadsHead, head_damage};
-ghost use Rattle.place_map.specs.State.{Contents};
+ghost use Rattle.place_values.specs.State.{Contents};
 ghost use Rattle.irtree_engine.specs.Holding.{HasBrokenHead, HoldsState, IsForeign, LeavesState, StandsForNone};
 ghost use Rattle.irtree_engine.specs.Faults.{IsOpenFault, IsSettleFault};
 ghost use Rattle.page_store.specs.Superblock.{IsInRange};
@@ -19,8 +19,8 @@ use std::alloc::Global;
 
 /// A store of places on a station that it borrows, and the policy that shapes its tree.
 ///
-/// Between calls nothing waits to be committed: where the engine isn't stopped, the station's image stands for its state. The policy is
-/// a box of any [`SplitPolicy`]; it decides the tree's shape, and no answer.
+/// Between calls nothing waits to be committed: unless the engine is stopped, the station's image holds its state. The policy is a box of
+/// any [`SplitPolicy`]. It decides the tree's shape, and no answer.
 #[derive(Drop)]
 pub struct Engine<'d, D: Station, P: Drop = Box<dyn SplitPolicy>> {
     pub(crate) alloc: Global,
@@ -35,12 +35,12 @@ pub struct Engine<'d, D: Station, P: Drop = Box<dyn SplitPolicy>> {
 }
 
 impl<'d, D: Station> Engine<'d, D> {
-    /// Recovers the journal and reads page 0. `cache` is the number of pages that the cache may hold; 0 is none. The tree changes under
-    /// the policy, which a store doesn't keep: another may be handed in at each opening.
+    /// Recovers the journal and reads page 0. `cache` is the number of pages that the cache may hold; 0 is none. The tree changes under the
+    /// policy, which a store doesn't keep: another may be handed in at each opening.
     ///
-    /// Refuses as [`recover_superblock`] does, and costs as much; the policy is dropped then. The contract of [`recover_superblock`] says
-    /// what a refusal leaves: a journal that is bad is left alone, and a store that is refused is recovered, and nothing else of it is
-    /// written.
+    /// Refuses as [`recover_superblock`] does, and costs as much; the policy is dropped then. The contract of [`recover_superblock`] gives
+    /// what a refusal leaves. A bad journal is left alone. For a store that is refused the journal is recovered, and the disk holds the
+    /// pages that it held before.
     pub fn open(
         alloc: Global,
         disk: &'d mut D,
@@ -48,20 +48,20 @@ impl<'d, D: Station> Engine<'d, D> {
         policy: Box<dyn SplitPolicy>,
     ) -> Result<Engine<'d, D>, EngineFault>
         ensures same_loan { IfOk result (λ engine. engine.store.disk.ghost_name ≡ disk.entry.ghost_name) }
-        ensures holds { IsTrue D.tells → (state : Contents) → HoldsState (D.world disk.old) state → IfOk result (λ engine. HoldsState (D.world engine.store.disk.now) state) }
-        ensures any_moment { IsTrue D.tells → (state : Contents) → HoldsState (D.world disk.old) state
+        ensures holds { IsTrue D.readable → (state : Contents) → HoldsState (D.world disk.old) state → IfOk result (λ engine. HoldsState (D.world engine.store.disk.now) state) }
+        ensures any_moment { IsTrue D.readable → (state : Contents) → HoldsState (D.world disk.old) state
             → IfOk result (λ engine. LeavesOnly (D.world disk.old) (D.world engine.store.disk.now) (LeavesState state (D.world disk.old))) }
         ensures fresh { IfOk result (λ engine. engine.stopped ≡ false) }
         ensures policy { IfOk result (λ engine. engine.policy ≡ policy) }
-        ensures not_a_store { IsTrue D.tells → IsErrOf result EngineFault.NotAStore → StandsForNone (D.world disk.old).seen }
-        ensures bad { IsTrue D.tells → (at : ℕ) → IsErrOf result (EngineFault.BadJournal at) → IsBad (D.world disk.old).seen at × StandsForNone (D.world disk.old).seen }
+        ensures not_a_store { IsTrue D.readable → IsErrOf result EngineFault.NotAStore → StandsForNone (D.world disk.old).seen }
+        ensures bad { IsTrue D.readable → (at : ℕ) → IsErrOf result (EngineFault.BadJournal at) → IsBad (D.world disk.old).seen at × StandsForNone (D.world disk.old).seen }
         ensures damaged { (damage : Damage) → IsErrOf result (EngineFault.Damaged damage)
-            → (damage ≡ head_damage) × (IsTrue D.tells → StandsForNone (D.world disk.old).seen) }
-        ensures foreign { IsTrue D.tells → IsErrOf result EngineFault.NotAStore → IsForeign (D.world disk.old).seen }
-        ensures broken_head { IsTrue D.tells → (damage : Damage) → IsErrOf result (EngineFault.Damaged damage) → HasBrokenHead (D.world disk.old).seen }
+            → (damage ≡ head_damage) × (IsTrue D.readable → StandsForNone (D.world disk.old).seen) }
+        ensures foreign { IsTrue D.readable → IsErrOf result EngineFault.NotAStore → IsForeign (D.world disk.old).seen }
+        ensures broken_head { IsTrue D.readable → (damage : Damage) → IsErrOf result (EngineFault.Damaged damage) → HasBrokenHead (D.world disk.old).seen }
         ensures causes { IfErr result IsOpenFault }
 
-        ensures quiet { IsTrue D.tells → IfOk result (λ engine. SaysNothingReadsHead (D.world disk.old) (D.world engine.store.disk.now)) }
+        ensures quiet { IsTrue D.readable → IfOk result (λ engine. SaysNothingReadsHead (D.world disk.old) (D.world engine.store.disk.now)) }
         ensures later { IfOk result (λ engine. (D.world disk.old).faults ≤ (D.world engine.store.disk.now).faults) }
         ensures sink { IfOk result (λ engine. (D.world engine.store.disk.now).sink_faults ≡ (D.world disk.old).sink_faults) }
         ensures room { IfOk result (λ engine. D.room_of engine.store.disk.now ≡ D.room_of disk.old) }
@@ -72,8 +72,8 @@ impl<'d, D: Station> Engine<'d, D> {
         }
     }
 
-    /// The engine over a disk for which [`recover_superblock`] has returned this superblock, with a cache of at most `cache` pages; with
-    /// none if it runs out of memory for it. Its tree changes under the policy. Makes no call of the disk.
+    /// Makes the engine over a disk for which [`recover_superblock`] has returned this superblock. The cache has at most `cache` pages, or
+    /// none if it runs out of memory for it. The tree changes under the policy. Makes no call of the disk.
     pub fn over(
         alloc: Global,
         disk: &'d mut D,
@@ -82,7 +82,7 @@ impl<'d, D: Station> Engine<'d, D> {
         policy: Box<dyn SplitPolicy>,
     ) -> Engine<'d, D>
         requires in_range { IsInRange block }
-        requires committed { IsTrue D.tells → IsCommitted block 0 (D.world disk.old) }
+        requires committed { IsTrue D.readable → IsCommitted block 0 (D.world disk.old) }
         ensures same_loan { result.store.disk.ghost_name ≡ disk.entry.ghost_name }
         ensures disk { result.store.disk.now ≡ disk.old }
         ensures block { result.store.last ≡ block }
@@ -111,8 +111,8 @@ impl<'d, D: Station> Engine<'d, D> {
         store.into_disk()
     }
 
-    /// Lets the tree change under another policy from now on, and drops the one before. All else stays: the store, its tree, and whether
-    /// the engine is stopped. Makes no call of the disk.
+    /// Lets the tree change under another policy from now on, and drops the old one. All else stays: the store, its tree, and whether the
+    /// engine is stopped. Makes no call of the disk.
     pub fn set_policy(&mut self, policy: Box<dyn SplitPolicy>)
         ensures same_loan { self.new.store.disk.ghost_name ≡ self.old.store.disk.ghost_name }
         ensures store { self.new.store ≡ self.old.store }
@@ -122,28 +122,27 @@ impl<'d, D: Station> Engine<'d, D> {
         self.policy = policy;
     }
 
-    /// How many splits the policy has made, as it counts them. Makes no call of the disk.
+    /// Returns how many splits the policy has made, as it counts them. Makes no call of the disk.
     pub fn splits(&self) -> u64
         ensures { result ≡ count self.now.policy }
     {
         self.policy.splits()
     }
 
-    /// How many places live. Makes no call of the disk.
+    /// Returns how many places live. Makes no call of the disk.
     pub fn count(&self) -> u32
         ensures live { result ≡ self.now.store.current.head.live }
-        ensures counted { IsTrue D.tells → self.now.stopped ≡ false → (state : Contents) → HoldsState (D.world self.now.store.disk.now) state → result ≡ length state.places }
+        ensures counted { IsTrue D.readable → self.now.stopped ≡ false → (state : Contents) → HoldsState (D.world self.now.store.disk.now) state → result ≡ length state.places }
     {
         self.store.head().live
     }
 
-    /// Passes a piece, which isn't empty, to the station, in one call, and changes nothing that the store holds. Answers as the
-    /// station does.
+    /// Passes a piece, which isn't empty, to the station, in one call. Changes nothing that the store holds. Returns what the station does.
     pub fn say(&mut self, bytes: &[u8]) -> Result<usize, Failed>
         requires { 0 < length bytes.now }
         ensures same_loan { self.new.store.disk.ghost_name ≡ self.old.store.disk.ghost_name }
         ensures count { IfOk result (λ n. (0 < n) × (n ≤ length bytes.now)) }
-        ensures told { IsTrue D.tells → HasSaid bytes.now (D.world self.old.store.disk.now) (D.world self.new.store.disk.now) result }
+        ensures told { IsTrue D.readable → HasSaid bytes.now (D.world self.old.store.disk.now) (D.world self.new.store.disk.now) result }
         ensures cause { HasSinkCause (D.world self.old.store.disk.now) (D.world self.new.store.disk.now) result }
         ensures room { D.room_of self.new.store.disk.now ≡ D.room_of self.old.store.disk.now }
         ensures goes_on { self.new.stopped ≡ self.old.stopped }
@@ -153,8 +152,8 @@ impl<'d, D: Station> Engine<'d, D> {
         self.store.say(bytes)
     }
 
-    /// The numbers of the pages that the last answer, show, apply or apply_batch asked for, the last one last. Each read of
-    /// the device that an answer or a show makes is of one of these pages. Makes no call of the disk.
+    /// Returns the numbers of the pages that the last answer, show, apply or apply_batch requested, in order. Each read of the device that
+    /// an answer or a show makes is of one of these pages. Makes no call of the disk.
     pub fn read_log(&self) -> &[u32]
         ensures { result.now ≡ self.now.store.asked.items }
     {
@@ -163,18 +162,20 @@ impl<'d, D: Station> Engine<'d, D> {
 
     /// Brings what the journal holds to its place, and changes no place.
     ///
-    /// Refuses `Stopped` exactly where an earlier commit of this engine failed, before all else; `Disk`, and then the engine is
-    /// stopped and the store is to be opened again. The image stands for the same state at any moment. Takes no memory. Costs a
-    /// checkpoint: a write for each page of the journal, one of a byte, and two syncs; and no call of the disk if the journal holds no record.
+    /// Refuses `Stopped` exactly if an earlier commit of this engine failed, before all else. Refuses `Disk`: then the engine is stopped,
+    /// and the store is to be opened again. The image holds the same state at any moment. Takes no memory.
+    ///
+    /// Costs a checkpoint: a write for each page of the journal, one of a byte, and two syncs. Makes no call of the disk if the journal
+    /// holds no record.
     pub fn settle(&mut self) -> Result<(), EngineFault>
         ensures same_loan { self.new.store.disk.ghost_name ≡ self.old.store.disk.ghost_name }
-        ensures holds { IsTrue D.tells → (state : Contents) → HoldsState (D.world self.old.store.disk.now) state → OnOk result (HoldsState (D.world self.new.store.disk.now) state) }
-        ensures any_moment { IsTrue D.tells → (state : Contents) → HoldsState (D.world self.old.store.disk.now) state
+        ensures holds { IsTrue D.readable → (state : Contents) → HoldsState (D.world self.old.store.disk.now) state → OnOk result (HoldsState (D.world self.new.store.disk.now) state) }
+        ensures any_moment { IsTrue D.readable → (state : Contents) → HoldsState (D.world self.old.store.disk.now) state
             → LeavesOnly (D.world self.old.store.disk.now) (D.world self.new.store.disk.now) (LeavesState state (D.world self.old.store.disk.now)) }
-        ensures same { IsTrue D.tells → OnOk result (applied (D.world self.new.store.disk.now).seen ≡ applied (D.world self.old.store.disk.now).seen) }
+        ensures same { IsTrue D.readable → OnOk result (applied (D.world self.new.store.disk.now).seen ≡ applied (D.world self.old.store.disk.now).seen) }
         ensures front { OnOk result (self.new.store.end ≡ 0) }
         ensures at_rest { self.old.store.end ≡ 0 → self.new.store.disk ≡ self.old.store.disk }
-        ensures reads { IsTrue D.tells → ReadsJournalOnly (D.world self.old.store.disk.now) (D.world self.new.store.disk.now) }
+        ensures reads { IsTrue D.readable → ReadsJournalOnly (D.world self.old.store.disk.now) (D.world self.new.store.disk.now) }
         ensures stopped { IsErrOf result EngineFault.Stopped ↔ IsTrue self.old.stopped }
         ensures causes { IfErr result IsSettleFault }
         ensures disk { IsErrOf result EngineFault.Disk → Rose (D.world self.old.store.disk.now).faults (D.world self.new.store.disk.now).faults }
@@ -183,7 +184,7 @@ impl<'d, D: Station> Engine<'d, D> {
         ensures stops { IsErrOf result EngineFault.Disk → self.new.stopped ≡ true }
         ensures goes_on { result ≢ Err EngineFault.Disk → self.new.stopped ≡ self.old.stopped }
         ensures untouched { result ≢ Err EngineFault.Disk → OnErr result (self.new.store.disk ≡ self.old.store.disk) }
-        ensures silent { IsTrue D.tells → (D.world self.new.store.disk.now).said ≡ (D.world self.old.store.disk.now).said }
+        ensures silent { IsTrue D.readable → (D.world self.new.store.disk.now).said ≡ (D.world self.old.store.disk.now).said }
         ensures later { (D.world self.old.store.disk.now).faults ≤ (D.world self.new.store.disk.now).faults }
         ensures sink { (D.world self.new.store.disk.now).sink_faults ≡ (D.world self.old.store.disk.now).sink_faults }
         ensures refused { self.new.store.refused ≡ self.old.store.refused }

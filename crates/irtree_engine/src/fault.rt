@@ -10,7 +10,7 @@ pub enum EngineFault {
     Disk,
     /// Page 0 of the recovered store is neither all zero nor begins with the magic.
     NotAStore,
-    /// An open gate stands before bytes that are no record: the offset of the field that breaks its form.
+    /// An open gate is followed by bytes that are no record. The number is the offset of the field that breaks its form.
     BadJournal(u64),
     /// A page breaks a rule, so the image is no well-formed store.
     Damaged(Damage),
@@ -18,11 +18,11 @@ pub enum EngineFault {
     Full,
     /// The update number is 2^40, and the update would change the map.
     Worn,
-    /// No page is free, and as many are counted as there is room for.
+    /// No page is free, and there is room for no more pages than are counted.
     NoRoom,
     /// An earlier commit of this engine failed: the store is to be opened again.
     Stopped,
-    /// Want of memory, or a change that would take more pages than it is allowed.
+    /// Out of memory, or a change that would take more pages than it is allowed.
     Memory,
 }
 

@@ -1,30 +1,30 @@
 //! The answer to a query, over any pages.
 ghost use Rattle.std.specs.Prelude.{◌≡◌, ◌≢◌, Err, IfOk, IsErrOf};
 ghost use Rattle.page_face.specs.Calls.{Reads, FailsReading};
-ghost use Rattle.btree_nodes.specs.Damages.{AreTold};
-ghost use Rattle.place_map.specs.Answer.{answer_of};
-ghost use Rattle.place_map.specs.Group.{group_of};
-ghost use Rattle.place_map.specs.Query.{IsWithinLimits};
-ghost use Rattle.place_map.specs.State.{Contents};
-ghost use Rattle.store_meaning.specs.Stands.{PagesStand};
+ghost use Rattle.btree_nodes.specs.Damages.{AreReadable};
+ghost use Rattle.place_values.specs.Answer.{answer_of};
+ghost use Rattle.place_values.specs.Group.{group_of};
+ghost use Rattle.place_values.specs.Query.{IsWithinLimits};
+ghost use Rattle.place_values.specs.State.{Contents};
+ghost use Rattle.store_model.specs.Stands.{PagesStand};
 ghost use Rattle.irtree_engine.specs.Changes.{block_with};
 ghost use Rattle.irtree_engine.specs.Damages.{IsQueryDamage};
 ghost use Rattle.irtree_engine.specs.Queries.{AsksForHits, IsFoundByFew};
 
 use crate::change::{tables_of, tree_of};
 use page_face::{Damage, Head, PageFault, Pages};
-use place_map::{Answer, Hits, Query};
+use place_values::{Answer, Hits, Query};
+use query_execution::{chosen, hits};
 use spatial_base::Point;
 use std::alloc::Global;
 use term_impacts::Word;
-use tree_answers::{chosen, hits};
 
-/// Returns the answer to a query over the places that the pages stand for with page 0's fields, by their tree.
+/// Returns the answer to a query over the places that the pages hold with page 0's fields, by their tree.
 ///
-/// Refuses `Damaged` by a rule that a page breaks, and `Disk`, `Stopped` and `Memory` as the pages do. No page is damaged where the pages
-/// stand for a state.
+/// Refuses `Damaged` by a rule that a page breaks, and `Disk`, `Stopped` and `Memory` as the pages do. No page is damaged if the pages hold
+/// a state.
 ///
-/// Costs what [`tree_answers::hits`] does, and for a group query what [`tree_answers::chosen`] does.
+/// Costs what [`query_execution::hits`] does, and for a group query what [`query_execution::chosen`] does.
 pub(crate) fn answer_in<P: Pages>(
     alloc: Global,
     pages: &mut P,
@@ -33,13 +33,13 @@ pub(crate) fn answer_in<P: Pages>(
 ) -> Result<Answer, PageFault>
     requires { IsWithinLimits query.now }
     ensures answered { (state : Contents) → PagesStand (block_with (P.count pages.old) (P.first pages.old) head.now) (P.pages pages.old) state
-        → AreTold (P.pages pages.old) (P.count pages.old) → IfOk result (λ answer. answer ≡ answer_of state query.now) }
+        → AreReadable (P.pages pages.old) (P.count pages.old) → IfOk result (λ answer. answer ≡ answer_of state query.now) }
     ensures opened { (state : Contents) → PagesStand (block_with (P.count pages.old) (P.first pages.old) head.now) (P.pages pages.old) state
-        → AreTold (P.pages pages.old) (P.count pages.old)
+        → AreReadable (P.pages pages.old) (P.count pages.old)
         → IfOk result (IsFoundByFew (P.pages pages.old) (block_with (P.count pages.old) (P.first pages.old) head.now) query.now (P.asked pages.old) (P.asked pages.new)) }
-    ensures honest { (state : Contents) → PagesStand (block_with (P.count pages.old) (P.first pages.old) head.now) (P.pages pages.old) state
-        → AreTold (P.pages pages.old) (P.count pages.old) → (damage : Damage) → result ≢ Err (PageFault.Damaged damage) }
-    ensures damaged { AreTold (P.pages pages.old) (P.count pages.old) → (damage : Damage) → IsErrOf result (PageFault.Damaged damage)
+    ensures no_false_damage { (state : Contents) → PagesStand (block_with (P.count pages.old) (P.first pages.old) head.now) (P.pages pages.old) state
+        → AreReadable (P.pages pages.old) (P.count pages.old) → (damage : Damage) → result ≢ Err (PageFault.Damaged damage) }
+    ensures damaged { AreReadable (P.pages pages.old) (P.count pages.old) → (damage : Damage) → IsErrOf result (PageFault.Damaged damage)
         → IsQueryDamage (P.pages pages.old) (block_with (P.count pages.old) (P.first pages.old) head.now) (P.asked pages.old) (P.asked pages.new) damage }
     ensures fails { FailsReading P.Pages pages.old pages.new result }
     ensures frame { Reads P.Pages pages.old pages.new }
@@ -51,7 +51,7 @@ pub(crate) fn answer_in<P: Pages>(
     }
 }
 
-// The answer to a query that asks for hits.
+// The answer to a query for hits.
 fn hits_in<P: Pages>(
     alloc: Global,
     pages: &mut P,
@@ -61,13 +61,13 @@ fn hits_in<P: Pages>(
     requires limits { IsWithinLimits query.now }
     requires hits { AsksForHits query.now }
     ensures answered { (state : Contents) → PagesStand (block_with (P.count pages.old) (P.first pages.old) head.now) (P.pages pages.old) state
-        → AreTold (P.pages pages.old) (P.count pages.old) → IfOk result (λ answer. answer ≡ answer_of state query.now) }
+        → AreReadable (P.pages pages.old) (P.count pages.old) → IfOk result (λ answer. answer ≡ answer_of state query.now) }
     ensures opened { (state : Contents) → PagesStand (block_with (P.count pages.old) (P.first pages.old) head.now) (P.pages pages.old) state
-        → AreTold (P.pages pages.old) (P.count pages.old)
+        → AreReadable (P.pages pages.old) (P.count pages.old)
         → IfOk result (IsFoundByFew (P.pages pages.old) (block_with (P.count pages.old) (P.first pages.old) head.now) query.now (P.asked pages.old) (P.asked pages.new)) }
-    ensures honest { (state : Contents) → PagesStand (block_with (P.count pages.old) (P.first pages.old) head.now) (P.pages pages.old) state
-        → AreTold (P.pages pages.old) (P.count pages.old) → (damage : Damage) → result ≢ Err (PageFault.Damaged damage) }
-    ensures damaged { AreTold (P.pages pages.old) (P.count pages.old) → (damage : Damage) → IsErrOf result (PageFault.Damaged damage)
+    ensures no_false_damage { (state : Contents) → PagesStand (block_with (P.count pages.old) (P.first pages.old) head.now) (P.pages pages.old) state
+        → AreReadable (P.pages pages.old) (P.count pages.old) → (damage : Damage) → result ≢ Err (PageFault.Damaged damage) }
+    ensures damaged { AreReadable (P.pages pages.old) (P.count pages.old) → (damage : Damage) → IsErrOf result (PageFault.Damaged damage)
         → IsQueryDamage (P.pages pages.old) (block_with (P.count pages.old) (P.first pages.old) head.now) (P.asked pages.old) (P.asked pages.new) damage }
     ensures fails { FailsReading P.Pages pages.old pages.new result }
     ensures frame { Reads P.Pages pages.old pages.new }
@@ -89,13 +89,13 @@ fn choice_in<P: Pages>(
     words: &[Word],
 ) -> Result<Answer, PageFault>
     ensures answered { (state : Contents) → PagesStand (block_with (P.count pages.old) (P.first pages.old) head.now) (P.pages pages.old) state
-        → AreTold (P.pages pages.old) (P.count pages.old) → IfOk result (λ answer. answer ≡ Answer.Group (group_of state.places at.now words.now)) }
+        → AreReadable (P.pages pages.old) (P.count pages.old) → IfOk result (λ answer. answer ≡ Answer.Group (group_of state.places at.now words.now)) }
     ensures opened { (state : Contents) → PagesStand (block_with (P.count pages.old) (P.first pages.old) head.now) (P.pages pages.old) state
-        → AreTold (P.pages pages.old) (P.count pages.old)
+        → AreReadable (P.pages pages.old) (P.count pages.old)
         → IfOk result (IsFoundByFew (P.pages pages.old) (block_with (P.count pages.old) (P.first pages.old) head.now) (Query.Group at.now words.now) (P.asked pages.old) (P.asked pages.new)) }
-    ensures honest { (state : Contents) → PagesStand (block_with (P.count pages.old) (P.first pages.old) head.now) (P.pages pages.old) state
-        → AreTold (P.pages pages.old) (P.count pages.old) → (damage : Damage) → result ≢ Err (PageFault.Damaged damage) }
-    ensures damaged { AreTold (P.pages pages.old) (P.count pages.old) → (damage : Damage) → IsErrOf result (PageFault.Damaged damage)
+    ensures no_false_damage { (state : Contents) → PagesStand (block_with (P.count pages.old) (P.first pages.old) head.now) (P.pages pages.old) state
+        → AreReadable (P.pages pages.old) (P.count pages.old) → (damage : Damage) → result ≢ Err (PageFault.Damaged damage) }
+    ensures damaged { AreReadable (P.pages pages.old) (P.count pages.old) → (damage : Damage) → IsErrOf result (PageFault.Damaged damage)
         → IsQueryDamage (P.pages pages.old) (block_with (P.count pages.old) (P.first pages.old) head.now) (P.asked pages.old) (P.asked pages.new) damage }
     ensures fails { FailsReading P.Pages pages.old pages.new result }
     ensures frame { Reads P.Pages pages.old pages.new }

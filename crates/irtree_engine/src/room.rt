@@ -5,7 +5,7 @@ ghost use Rattle.page_face.specs.FreeList.{IsFreeList};
 
 use page_face::{PageFault, Pages, free_next};
 
-/// Whether the free list ends within so many pages.
+/// Returns whether the free list ends within `most` pages.
 pub(crate) fn ends_within<P: Pages>(pages: &mut P, most: u64) -> Result<bool, PageFault>
     ensures few { IfOk result (λ ends. IsTrue ends → (free : List ℕ) → IsFreeList (P.pages pages.old) (P.count pages.old) (P.first pages.old) free → length free ≤ most) }
     ensures fails { FailsReading P.Pages pages.old pages.new result }

@@ -6,9 +6,9 @@ ghost use Rattle.disk_model.specs.World as worlds;
 ghost use Rattle.page_face.specs.Causes.{Rose};
 ghost use Rattle.page_face.specs.FreeList.{IsFreeList};
 ghost use Rattle.page_store.specs.Store.{Rests};
-ghost use Rattle.place_map.specs.State.{Contents};
-ghost use Rattle.place_map.specs.Update.{NamesText, effect_of};
-ghost use Rattle.store_meaning.specs.Stands.{PagesStand};
+ghost use Rattle.place_values.specs.State.{Contents};
+ghost use Rattle.place_values.specs.Update.{NamesText, effect_of};
+ghost use Rattle.store_model.specs.Stands.{PagesStand};
 ghost use Rattle.irtree_engine.specs.Changes.{block_with};
 ghost use Rattle.irtree_engine.specs.Holding.{HoldsState};
 ghost use Rattle.irtree_engine.specs.Updates.{LeavesOneOf, LeavesAllOrNone, StandsForOutcome, IsUpdateFault, IsCommitFault, IsDueTo, IsAtLimit, IsLater, LacksPages, LacksRoom, most_takes, state_after_all};
@@ -18,9 +18,9 @@ use crate::{Engine, EngineFault, change};
 use disk_model::Station;
 use page_face::{Damage, Head, PageFault, Pages, Rule};
 use page_store::Store;
-use place_map::{Applied, Update};
+use place_values::{Applied, Update};
 
-// How many takes of a page are allowed to a commit, to each of its updates besides, and for each page counted.
+// How many takes of a page are allowed to a commit. The next two constants add to it for each update and for each page counted.
 const TAKES: u64 = 65_536;
 
 const TAKES_AN_UPDATE: u64 = 128;
@@ -28,37 +28,39 @@ const TAKES_AN_UPDATE: u64 = 128;
 const TAKES_A_PAGE: u64 = 8;
 
 impl<'d, D: Station> Engine<'d, D> {
-    /// Stores one update in one commit, in the place table and in the tree. A removal of a key at which no place lives makes none. A key that a Put
-    /// names is a text key.
+    /// Stores one update in one commit, in the place table and in the tree. A removal of a key at which no place lives makes none. A key
+    /// that a Put names is a text key.
     ///
-    /// Refuses `Stopped` exactly where an earlier commit of this engine failed, before all else; `Full` exactly where 200,000 or
-    /// more places live and a Put's key is new; `Worn` exactly where the update number is 2^40 and the update would change the
-    /// map; `NoRoom`, where no page is left for it: then the free pages, and those that the disk has room for beside the pages counted, are
-    /// together no more than an update is allowed to take; `Disk`; `Damaged`, never where the image stands for a state or with the rule Head;
-    /// `Memory`, which also stops an update that would take more pages than it is allowed. After `Disk` in the commit the engine is stopped,
-    /// and the store is to be opened again. After every other refusal the map is as before.
+    /// Refuses `Stopped` exactly if an earlier commit of this engine failed, before all else. Refuses `Full` exactly if 200,000 or more
+    /// places live and a Put's key is new. Refuses `Worn` exactly if the update number is 2^40 and the update would change the map. Refuses
+    /// `NoRoom` if no page is left for it. Then the free pages, and those that the disk has room for beside the pages counted, are together
+    /// no more than an update is allowed to take. Refuses `Disk`, and `Damaged`, never if the image holds a state or with the rule Head.
+    /// Refuses `Memory`, which also stops an update that would take more pages than it is allowed. After `Disk` in the commit the engine is
+    /// stopped, and the store is to be opened again. After every other refusal the map is as before.
     ///
-    /// Where no page is left, each page of the free list is looked at, and no more of them than an update is allowed to take. Else it costs a look-up of the key, a put or a removal in the place table, for each word that the update changes a look-up and a
-    /// put in the tables of words, and one commit of the pages that changed: two writes and two syncs. From time to time a checkpoint comes
+    /// If no page is left, looks at each page of the free list, and at no more of them than an update is allowed to take. Else an update
+    /// costs a look-up of the key, and a put or a removal in the place table. Each word that the update changes costs a look-up and a put
+    /// in the tables of words. One commit of the pages that changed costs two writes and two syncs. From time to time a checkpoint comes
     /// first, which writes each page of the journal to its place, with two syncs more.
     ///
-    /// In the tree a new place costs one way down: for each level a page and a row for each of the place's words are read, and those
-    /// that change are written. A place that moves or whose words change costs also a search for its old entry, through each node whose
-    /// rectangle holds the old point, and the rows of its way; a removal costs such a search and its rows; where a node is left with fewer
-    /// than 12 entries, a way down for each of them. A place that is put where it was with the words that it had costs nothing there.
+    /// In the tree a new place costs one way down. For each level a page and a row for each of the place's words are read, and those that
+    /// change are written. A place that moves or whose words change also costs a search for its old entry and the rows of its way. The
+    /// search goes through each node whose rectangle holds the old point. A removal costs such a search and its rows. A node that is left
+    /// with fewer than 12 entries costs a way down for each of them. A place that is put where it was with the words that it had costs
+    /// nothing there.
     pub fn apply(&mut self, update: &Update) -> Result<Applied, EngineFault>
         requires { NamesText update.now }
         ensures same_loan { self.new.store.disk.ghost_name ≡ self.old.store.disk.ghost_name }
-        ensures applied { IsTrue D.tells → (state : Contents) → HoldsState (D.world self.old.store.disk.now) state
+        ensures applied { IsTrue D.readable → (state : Contents) → HoldsState (D.world self.old.store.disk.now) state
             → IfOk result (λ applied. ((effect_of state update.now).answer ≡ Ok applied) × HoldsState (D.world self.new.store.disk.now) (effect_of state update.now).state) }
 
         // A crash at any moment leaves the state before the update or the one after it.
-        ensures any_moment { IsTrue D.tells → (state : Contents) → HoldsState (D.world self.old.store.disk.now) state
+        ensures any_moment { IsTrue D.readable → (state : Contents) → HoldsState (D.world self.old.store.disk.now) state
             → LeavesOnly (D.world self.old.store.disk.now) (D.world self.new.store.disk.now) (LeavesOneOf state (effect_of state update.now).state (D.world self.old.store.disk.now)) }
 
-        ensures due { IsTrue D.tells → (state : Contents) → HoldsState (D.world self.old.store.disk.now) state → IfErr result (IsDueTo (effect_of state update.now).answer) }
+        ensures due { IsTrue D.readable → (state : Contents) → HoldsState (D.world self.old.store.disk.now) state → IfErr result (IsDueTo (effect_of state update.now).answer) }
         ensures limits { IfErr result (IsAtLimit self.old.store.current.head.live self.old.store.current.head.number) }
-        ensures no_head { IsTrue D.tells → (damage : Damage) → IsErrOf result (EngineFault.Damaged damage) → damage.rule ≢ Rule.Head }
+        ensures no_head { IsTrue D.readable → (damage : Damage) → IsErrOf result (EngineFault.Damaged damage) → damage.rule ≢ Rule.Head }
         ensures stopped { IsErrOf result EngineFault.Stopped ↔ IsTrue self.old.stopped }
         ensures causes { IfErr result IsUpdateFault }
         ensures disk { IsErrOf result EngineFault.Disk → worlds.Rose (D.world self.old.store.disk.now).faults (D.world self.new.store.disk.now).faults }
@@ -68,11 +70,12 @@ impl<'d, D: Station> Engine<'d, D> {
         ensures free_left { IsErrOf result EngineFault.NoRoom → LacksPages 1 (D.room_of self.old.store.disk.now) (⟦<Store<'d, D> as Pages>⟧.pages self.new.store) self.old.store.current.counted self.old.store.current.first_free }
         ensures as_before { IsErrOf result EngineFault.NoRoom → self.new.store.current ≡ self.old.store.current }
 
-        // After a refusal that doesn't stop the engine the image is as before; and nothing is committed for a key that isn't there to be removed.
-        ensures rests { IsTrue D.tells → OnErr result (self.new.stopped ≡ self.old.stopped → Rests (D.world self.old.store.disk.now) (D.world self.new.store.disk.now)) }
-        ensures absent { IsTrue D.tells → IfOk result (λ applied. applied ≡ Applied.Absent → Rests (D.world self.old.store.disk.now) (D.world self.new.store.disk.now)) }
+        // After a refusal that doesn't stop the engine the image is as before. Nothing is committed for a removal of a key that isn't
+        // there.
+        ensures rests { IsTrue D.readable → OnErr result (self.new.stopped ≡ self.old.stopped → Rests (D.world self.old.store.disk.now) (D.world self.new.store.disk.now)) }
+        ensures absent { IsTrue D.readable → IfOk result (λ applied. applied ≡ Applied.Absent → Rests (D.world self.old.store.disk.now) (D.world self.new.store.disk.now)) }
         ensures goes_on { result ≢ Err EngineFault.Disk → self.new.stopped ≡ self.old.stopped }
-        ensures silent { IsTrue D.tells → (D.world self.new.store.disk.now).said ≡ (D.world self.old.store.disk.now).said }
+        ensures silent { IsTrue D.readable → (D.world self.new.store.disk.now).said ≡ (D.world self.old.store.disk.now).said }
         ensures later { (D.world self.old.store.disk.now).faults ≤ (D.world self.new.store.disk.now).faults }
         ensures sink { (D.world self.new.store.disk.now).sink_faults ≡ (D.world self.old.store.disk.now).sink_faults }
         ensures refused { self.old.store.refused ≤ self.new.store.refused }
@@ -106,27 +109,29 @@ impl<'d, D: Station> Engine<'d, D> {
         }
     }
 
-    /// Stores all updates in one commit, or none. There are at most 10,000, and a key that a Put names is a text key; of none nothing is stored.
+    /// Stores all updates in one commit, or none. There are at most 10,000, and a key that a Put names is a text key. An empty batch stores
+    /// nothing.
     ///
     /// Refuses as [`Engine::apply`], for the first update that meets a cause; then none is stored. A batch is allowed to take 128 pages
-    /// more for each of its updates than an empty one. Costs in the place table and in the
-    /// tree as much as each update by itself, with one commit of the pages that changed. A word of the batch costs a look-up and one or
-    /// two puts in the tables of words, however many of its places hold it, and each word of a place that is replaced or removed a
-    /// look-up and a put.
+    /// more for each of its updates than an empty one.
+    ///
+    /// Costs in the place table and in the tree as much as each update by itself, with one commit of the pages that changed. A word of the
+    /// batch costs a look-up and one or two puts in the tables of words, however many of its places hold it. Each word of a place that is
+    /// replaced or removed costs a look-up and a put.
     pub fn apply_batch(&mut self, updates: &[Update]) -> Result<(), EngineFault>
         requires few { length updates.now ≤ 10000 }
         requires keys { AllByRecursion NamesText updates.now }
         ensures same_loan { self.new.store.disk.ghost_name ≡ self.old.store.disk.ghost_name }
-        ensures applied { IsTrue D.tells → (state : Contents) → HoldsState (D.world self.old.store.disk.now) state
+        ensures applied { IsTrue D.readable → (state : Contents) → HoldsState (D.world self.old.store.disk.now) state
             → OnOk result (StandsForOutcome (state_after_all state updates.now) (D.world self.new.store.disk.now).seen) }
 
         // A crash at any moment leaves the state before the updates or the one after all of them.
-        ensures any_moment { IsTrue D.tells → (state : Contents) → HoldsState (D.world self.old.store.disk.now) state
+        ensures any_moment { IsTrue D.readable → (state : Contents) → HoldsState (D.world self.old.store.disk.now) state
             → LeavesOnly (D.world self.old.store.disk.now) (D.world self.new.store.disk.now) (LeavesAllOrNone state updates.now (D.world self.old.store.disk.now)) }
 
-        ensures due { IsTrue D.tells → (state : Contents) → HoldsState (D.world self.old.store.disk.now) state → IfErr result (IsDueTo (state_after_all state updates.now)) }
+        ensures due { IsTrue D.readable → (state : Contents) → HoldsState (D.world self.old.store.disk.now) state → IfErr result (IsDueTo (state_after_all state updates.now)) }
         ensures limits { IfErr result (IsAtLimit (self.old.store.current.head.live + length updates.now) (self.old.store.current.head.number + length updates.now)) }
-        ensures no_head { IsTrue D.tells → (damage : Damage) → IsErrOf result (EngineFault.Damaged damage) → damage.rule ≢ Rule.Head }
+        ensures no_head { IsTrue D.readable → (damage : Damage) → IsErrOf result (EngineFault.Damaged damage) → damage.rule ≢ Rule.Head }
         ensures stopped { IsErrOf result EngineFault.Stopped ↔ IsTrue self.old.stopped }
         ensures causes { IfErr result IsUpdateFault }
         ensures disk { IsErrOf result EngineFault.Disk → worlds.Rose (D.world self.old.store.disk.now).faults (D.world self.new.store.disk.now).faults }
@@ -137,9 +142,9 @@ impl<'d, D: Station> Engine<'d, D> {
         ensures as_before { IsErrOf result EngineFault.NoRoom → self.new.store.current ≡ self.old.store.current }
 
         // After a refusal that doesn't stop the engine the image is as before.
-        ensures rests { IsTrue D.tells → OnErr result (self.new.stopped ≡ self.old.stopped → Rests (D.world self.old.store.disk.now) (D.world self.new.store.disk.now)) }
+        ensures rests { IsTrue D.readable → OnErr result (self.new.stopped ≡ self.old.stopped → Rests (D.world self.old.store.disk.now) (D.world self.new.store.disk.now)) }
         ensures goes_on { result ≢ Err EngineFault.Disk → self.new.stopped ≡ self.old.stopped }
-        ensures silent { IsTrue D.tells → (D.world self.new.store.disk.now).said ≡ (D.world self.old.store.disk.now).said }
+        ensures silent { IsTrue D.readable → (D.world self.new.store.disk.now).said ≡ (D.world self.old.store.disk.now).said }
         ensures later { (D.world self.old.store.disk.now).faults ≤ (D.world self.new.store.disk.now).faults }
         ensures sink { (D.world self.new.store.disk.now).sink_faults ≡ (D.world self.old.store.disk.now).sink_faults }
         ensures refused { self.old.store.refused ≤ self.new.store.refused }
@@ -173,7 +178,7 @@ impl<'d, D: Station> Engine<'d, D> {
     }
 }
 
-// How many takes so many updates in one commit are allowed, where so many pages are counted.
+// How many takes so many updates in one commit are allowed, if so many pages are counted.
 fn takes_for(updates: usize, counted: u32) -> u64
     requires few { updates ≤ 10000 }
     ensures { result ≡ most_takes updates counted }
@@ -181,8 +186,8 @@ fn takes_for(updates: usize, counted: u32) -> u64
     TAKES + TAKES_AN_UPDATE * updates as u64 + TAKES_A_PAGE * counted as u64
 }
 
-// Empties the log of reads, and allows the takes for so many updates. Refuses `Stopped` exactly where the engine is stopped, and `Memory`
-// where no further refusal of a take would be counted.
+// Empties the log of reads, and allows the takes for so many updates. Refuses `Stopped` exactly if the engine is stopped, and `Memory` if
+// no further refusal of a take would be counted.
 fn begin<'d, D: Station>(
     store: &mut Store<'d, D>,
     stopped: bool,
@@ -213,8 +218,8 @@ fn begin<'d, D: Station>(
     }
 }
 
-// Why a change stops for which a take found no page, and before which so many pages were counted: `NoRoom` only where the free list ends within
-// the pages that the change was still allowed to take, and else `Memory` or `Disk`. Drops the change.
+// Why a change stops after a take found no page, if so many pages were counted before the change. It is `NoRoom` only if the free list ends
+// within the pages that the change was still allowed to take, and else `Memory` or `Disk`. Drops the change.
 fn want_room<'d, D: Station>(store: &mut Store<'d, D>, counted: u32, updates: usize) -> EngineFault
     requires few { updates ≤ 10000 }
     requires more { counted ≤ store.old.current.counted }
@@ -229,8 +234,8 @@ fn want_room<'d, D: Station>(store: &mut Store<'d, D>, counted: u32, updates: us
     ensures free_left { result ≡ EngineFault.NoRoom → (free : List ℕ)
         → IsFreeList (⟦<Store<'d, D> as Pages>⟧.pages store.new) store.new.current.counted store.new.current.first_free free
         → store.old.current.counted + length free ≤ counted + most_takes updates counted }
-    ensures rests { IsTrue D.tells → Rests (D.world store.old.disk.now) (D.world store.new.disk.now) }
-    ensures silent { IsTrue D.tells → (D.world store.new.disk.now).said ≡ (D.world store.old.disk.now).said }
+    ensures rests { IsTrue D.readable → Rests (D.world store.old.disk.now) (D.world store.new.disk.now) }
+    ensures silent { IsTrue D.readable → (D.world store.new.disk.now).said ≡ (D.world store.old.disk.now).said }
     ensures later { (D.world store.old.disk.now).faults ≤ (D.world store.new.disk.now).faults }
     ensures sink { (D.world store.new.disk.now).sink_faults ≡ (D.world store.old.disk.now).sink_faults }
     ensures refused { store.new.refused ≡ store.old.refused }
@@ -246,8 +251,8 @@ fn want_room<'d, D: Station>(store: &mut Store<'d, D>, counted: u32, updates: us
     }
 }
 
-// Makes what changed safe in one commit, with this head. Where the update number hasn't risen there is nothing to commit. After a
-// refusal what changed is dropped. After `Disk` the store is stopped, and so is the engine.
+// Makes what changed safe in one commit, with this head. If the update number hasn't risen there is nothing to commit. After a refusal what
+// changed is dropped. After `Disk` the store is stopped, and so is the engine.
 fn commit<'d, D: Station>(
     store: &mut Store<'d, D>,
     stopped: &mut bool,
@@ -257,13 +262,13 @@ fn commit<'d, D: Station>(
     requires going { stopped.old ≡ false }
     requires head { store.old.current.head ≡ store.old.last.head }
     ensures same_loan { store.new.disk.ghost_name ≡ store.old.disk.ghost_name }
-    ensures stored { IsTrue D.tells → (before after : Contents) → HoldsState (D.world store.old.disk.now) before
+    ensures stored { IsTrue D.readable → (before after : Contents) → HoldsState (D.world store.old.disk.now) before
         → PagesStand (block_with store.old.current.counted store.old.current.first_free head.now) (⟦<Store<'d, D> as Pages>⟧.pages store.old) after → IsLater before after
         → OnOk result (HoldsState (D.world store.new.disk.now) after) }
-    ensures any_moment { IsTrue D.tells → (before after : Contents) → HoldsState (D.world store.old.disk.now) before
+    ensures any_moment { IsTrue D.readable → (before after : Contents) → HoldsState (D.world store.old.disk.now) before
         → PagesStand (block_with store.old.current.counted store.old.current.first_free head.now) (⟦<Store<'d, D> as Pages>⟧.pages store.old) after
         → LeavesOnly (D.world store.old.disk.now) (D.world store.new.disk.now) (LeavesOneOf before after (D.world store.old.disk.now)) }
-    ensures idle { IsTrue D.tells → head.now.number ≡ store.old.current.head.number → Rests (D.world store.old.disk.now) (D.world store.new.disk.now) }
+    ensures idle { IsTrue D.readable → head.now.number ≡ store.old.current.head.number → Rests (D.world store.old.disk.now) (D.world store.new.disk.now) }
     ensures clean { store.new.overlay.entries ≡ [] }
     ensures settled { store.new.current ≡ store.new.last }
     ensures causes { IfErr result IsCommitFault }
@@ -273,7 +278,7 @@ fn commit<'d, D: Station>(
     ensures as_the_store { stopped.new ≡ store.new.stopped }
     ensures goes_on { result ≢ Err EngineFault.Disk → store.new.stopped ≡ false }
     ensures untouched { result ≢ Err EngineFault.Disk → OnErr result (store.new.disk ≡ store.old.disk) }
-    ensures silent { IsTrue D.tells → (D.world store.new.disk.now).said ≡ (D.world store.old.disk.now).said }
+    ensures silent { IsTrue D.readable → (D.world store.new.disk.now).said ≡ (D.world store.old.disk.now).said }
     ensures later { (D.world store.old.disk.now).faults ≤ (D.world store.new.disk.now).faults }
     ensures sink { (D.world store.new.disk.now).sink_faults ≡ (D.world store.old.disk.now).sink_faults }
     ensures refused { store.new.refused ≡ store.old.refused }

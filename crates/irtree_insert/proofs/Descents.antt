@@ -6,9 +6,9 @@ use Rattle.page_face.specs.Causes.{IsUncounted}
 use Rattle.spatial_base.specs.Rect.{Bounds}
 use Rattle.btree_nodes.specs.Supply.{one_at}
 use Rattle.btree_nodes.proofs.Supplies.{one_at-same, uncounted-past}
-use Rattle.rtree_shape.specs.Slots.{Item, Slots, NodeView, got, one, filled, IsChildAt, IsUsed}
-use Rattle.rtree_shape.specs.Trees.{with_slot}
-use Rattle.rtree_shape.specs.Stock.{View, view, spare_in}
+use Rattle.rtree_nodes.specs.Slots.{Item, Slots, NodeView, got, one, filled, IsChildAt, IsUsed}
+use Rattle.rtree_nodes.specs.Trees.{with_slot}
+use Rattle.rtree_nodes.specs.Stock.{View, view, spare_in}
 use Rattle.rtree_nodes.specs.Reach.{reach_of, child_item}
 use Rattle.rtree_nodes.specs.Pages.{node_of, slots_in, level_in, mask_of, is_form}
 use Rattle.rtree_nodes.proofs.Formed.{form-slots}
@@ -20,7 +20,7 @@ use Rattle.node_rows.specs.Known.{AreRowsAt}
 use Rattle.node_rows.proofs.Known.{known-same}
 use Rattle.irtree_shape.specs.Words.{joined, worded, words_on}
 use Rattle.irtree_shape.specs.Made.{nodes_in, IsReady, IsOpen, Makes, Puts}
-use Rattle.irtree_shape.specs.Steps.{Steps, crowned_in, relinked}
+use Rattle.irtree_shape.specs.Steps.{Steps, bounding_child_in, relinked}
 use Rattle.irtree_shape.proofs.Climbs.{open_some, open_here, put_here}
 use Rattle.irtree_shape.proofs.Linking.{link_open, link_apart, link_spare, link_held, link_kept, link_rest, link_theirs, link_ready, link_put}
 use Rattle.irtree_shape.proofs.Words.{words-filled}
@@ -83,7 +83,7 @@ module _ (before : View) (least l page goal : ℕ) (words : List (ℕ × ℕ)) (
   child-apart e = link_apart node_of before least l page goal words x opened low at within (node_of draft.bytes) (ap node_of is) found.item found.is (e ∙ sym found.to_is)
 
   module _ (mid : PageMap) (rows count first : ℕ) (m : Option Beside) (rect : Bounds) (rise : ℕ → Type 0)
-      (put : Puts node_of before mid rows count first 12 l found.item.to goal (worded (impact_in words) x) (crowned_in (nodes_in node_of mid rows) (option_map beside_item m)) (reach_of rect) rise) where
+      (put : Puts node_of before mid rows count first 12 l found.item.to goal (worded (impact_in words) x) (bounding_child_in (nodes_in node_of mid rows) (option_map beside_item m)) (reach_of rect) rise) where
     -- once the child has changed, the parent's page isn't spare
     pub parent-spare : spare_in (view mid rows count first put.free) page ≡ 0
     parent-spare = link_spare node_of before least l page goal words x opened low at within (node_of draft.bytes) (ap node_of is) found.item found.is mid rows count first m beside_item (reach_of rect) rise put
@@ -119,13 +119,13 @@ module _ (before : View) (least l page goal : ℕ) (words : List (ℕ × ℕ)) (
 
       -- its slots may be written
       pub parent-ready : IsReady node_of (view linked rows2 count2 first2 steps.free) least (suc l) page
-          (joined (record { level = suc l; slots = with_slot at (child_item rect child) (slots_in draft.bytes) }) (bytes_in linked rows2 page)) (crowned_in (nodes_in node_of linked rows2) (option_map beside_item m))
+          (joined (record { level = suc l; slots = with_slot at (child_item rect child) (slots_in draft.bytes) }) (bytes_in linked rows2 page)) (bounding_child_in (nodes_in node_of linked rows2) (option_map beside_item m))
       parent-ready = link_ready node_of before least l page goal words x opened low at within (node_of draft.bytes) (ap node_of is) found.item found.is mid rows count first m beside_item (reach_of rect) rise put
           linked rows2 count2 first2 steps (suc l) (with_slot at (child_item rect child) (slots_in draft.bytes)) level_is t_is
 
       -- they were, and the item is put in
       pub parent-put : (new : PageMap) (rows' count' first' : ℕ) (more' : Option Item) (told' : ℕ → ℕ) (rise' rise2 : ℕ → Type 0) → ((a b : ℕ) → rise a → rise' b → rise2 (a + b))
-          → Makes node_of (view linked rows2 count2 first2 steps.free) new rows' count' first' least (suc l) page (words_on (bytes_in linked rows2 page) (with_slot at (child_item rect child) (slots_in draft.bytes))) (crowned_in (nodes_in node_of linked rows2) (option_map beside_item m)) more' told' rise'
+          → Makes node_of (view linked rows2 count2 first2 steps.free) new rows' count' first' least (suc l) page (words_on (bytes_in linked rows2 page) (with_slot at (child_item rect child) (slots_in draft.bytes))) (bounding_child_in (nodes_in node_of linked rows2) (option_map beside_item m)) more' told' rise'
           → Puts node_of before new rows' count' first' least (suc l) page goal (worded (impact_in words) x) more' told' rise2
       parent-put = link_put node_of before least l page goal words x opened low at within (node_of draft.bytes) (ap node_of is) found.item found.is mid rows count first m beside_item (reach_of rect) rise put
           linked rows2 count2 first2 steps (suc l) (with_slot at (child_item rect child) (slots_in draft.bytes)) level_is t_is

@@ -3,12 +3,12 @@ use Rattle.std.proofs.Common.{◌≡◌, ℕ, zero, suc, ◌+◌, ◌<◌, true,
 use Rattle.std.specs.Int.{bit_at}
 use Rattle.std.proofs.lemmas.Bool.Decides.{nat_tests}
 use Rattle.std.proofs.lemmas.Nat.Bits.{bit_at-lt}
-use Rattle.rtree_shape.specs.Slots.{Item, Slots, filled, IsFull, IsPart}
-use Rattle.rtree_shape.specs.Slots as shape
-use Rattle.rtree_shape.specs.Trees.{IsPutFree}
-use Rattle.rtree_shape.specs.Masks as masks
-use Rattle.rtree_shape.specs.Masks.{kept_of, moved_of}
-use Rattle.rtree_shape.proofs.Parts.{room-free, part_moved, part_kept}
+use Rattle.rtree_nodes.specs.Slots.{Item, Slots, filled, IsFull, IsPart}
+use Rattle.rtree_nodes.specs.Slots as shape
+use Rattle.rtree_nodes.specs.Trees.{IsPutFree}
+use Rattle.rtree_nodes.specs.Masks as masks
+use Rattle.rtree_nodes.specs.Masks.{kept_of, moved_of}
+use Rattle.rtree_nodes.proofs.TreeParts.{room-free, part_moved, part_kept}
 use Rattle.split_policy.specs.Masks as policy
 use Rattle.split_policy.specs.Masks.{IsMask}
 

@@ -9,7 +9,7 @@ use Rattle.page_face.specs.declared.fault.Rule.TheVariants.{Level}
 use Rattle.page_face.specs.declared.fault.Damage.{Damage}
 use Rattle.btree_nodes.specs.Damages.{AskedSince, AsksOnly}
 use Rattle.btree_nodes.proofs.Harms.{asked-before, asks-keep}
-use Rattle.rtree_shape.specs.Slots.{IsChildAt}
+use Rattle.rtree_nodes.specs.Slots.{IsChildAt}
 use Rattle.rtree_nodes.specs.Numbers.{number_at}
 use Rattle.rtree_nodes.specs.Cells.{cell_start, has_rect}
 use Rattle.rtree_nodes.specs.Pages.{level_in, mask_of, is_used, cell_at, has_values, has_rects, stored_in}
@@ -18,7 +18,7 @@ use Rattle.rtree_nodes.proofs.Formed.{not_or_made, values-at}
 use Rattle.rtree_nodes.proofs.Masks.{slot-bit}
 use Rattle.rtree_nodes.proofs.Children.{child-read}
 use Rattle.rtree_nodes.proofs.Bounding.{form-rect}
-use Rattle.rtree_find.specs.Harms.{IfTold, IsMislevelled}
+use Rattle.rtree_nodes.specs.Harms.{IfReadable, IsMislevelled}
 use Rattle.node_rows.specs.Damages.{IsRowsHarm}
 use Rattle.node_rows.proofs.Harms.{harm-later}
 use Rattle.irtree_shape.specs.Damages.{IsBroken, IsNodeHarm, IsTreeHarm}
@@ -54,19 +54,19 @@ pub high-harm : (rows : ℕ) (old new : PageMap) (count first : ℕ) (before aft
     → (0 < length (old page) → bytes ≡ old page) → level ≡ level_in bytes → 9 < level → IsTreeHarm new count first rows before after damage
 high-harm rows old new count first before after page level bytes damage same is asked told level_is high = subst (λ (d : Damage). IsTreeHarm new count first rows before after d) (sym is) (inl (record {
   asked = asked;
-  breaks = inl (subst (λ (p : PageMap). IfTold p page (λ b. 9 < level_in b)) (sym same) (λ some. let e = level_is ∙ ap level_in (told some) in omega arith));
+  breaks = inl (subst (λ (p : PageMap). IfReadable p page (λ b. 9 < level_in b)) (sym same) (λ some. let e = level_is ∙ ap level_in (told some) in omega arith));
 }))
 
 -- a child's damage
 pub child-harm : (rows : ℕ) (old mid new : PageMap) (c1 c2 first : ℕ) (before asked0 asked1 asked2 bytes : List ℕ) (l page at child : ℕ) (damage : Damage)
     → mid ≡ old → new ≡ mid → c2 ≡ c1 → bytes ≡ old page → level_in bytes ≡ suc l → IsChildAt (stored_in bytes) at child
     → AskedSince before asked0 page → AsksOnly (λ _. 1) asked0 asked1 → AsksOnly (λ _. 1) asked1 asked2
-    → (damage.page ≡ child) × AskedSince asked1 asked2 child × (IsBroken damage.rule mid c1 child ⊎ ((damage.rule ≡ Level) × IfTold mid child (λ b. level_in b ≢ l)))
+    → (damage.page ≡ child) × AskedSince asked1 asked2 child × (IsBroken damage.rule mid c1 child ⊎ ((damage.rule ≡ Level) × IfReadable mid child (λ b. level_in b ≢ l)))
     → IsTreeHarm new c2 first rows before asked2 damage
 child-harm rows old mid new c1 c2 first before asked0 asked1 asked2 bytes l page at child damage same0 same1 counted is level kept asked more0 more1 d =
     let is' : bytes ≡ mid page = is ∙ ap (λ (p : PageMap). p page) (sym same0) in
     let here : child ≡ damage.page = sym d.0 in
-    let mislevelled : IfTold mid child (λ b. level_in b ≢ l) → IsMislevelled mid before asked2 child = λ wrong. record {
+    let mislevelled : IfReadable mid child (λ b. level_in b ≢ l) → IsMislevelled mid before asked2 child = λ wrong. record {
       parent = page;
       at = at;
       asked = asks-keep (λ _. 1) asked1 asked2 more1 before page (asks-keep (λ _. 1) asked0 asked1 more0 before page asked);

@@ -2,17 +2,17 @@
 use Rattle.std.proofs.Common.{◌≡◌, ℕ, suc, ◌<◌, ◌∷◌, Option, Some, None, Result, Ok, Err, sym, ap, ◌∙◌, subst, option_map, true}
 use Rattle.std.specs.Result.{IfOk}
 use Rattle.page_face.specs.FreeList.{PageMap}
-use Rattle.rtree_shape.specs.Slots.{Item, NodeMap}
-use Rattle.rtree_shape.specs.Trees.{root_least, stand_uses}
-use Rattle.rtree_shape.specs.Heads.{stand_heads}
-use Rattle.rtree_shape.specs.Stock.{View}
-use Rattle.rtree_shape.specs.Made.{Rises}
-use Rattle.rtree_shape.specs.Loose.{Loose}
+use Rattle.rtree_nodes.specs.Slots.{Item, NodeMap}
+use Rattle.rtree_nodes.specs.Trees.{root_least, stand_uses}
+use Rattle.rtree_nodes.specs.Heads.{stand_heads}
+use Rattle.rtree_nodes.specs.Stock.{View}
+use Rattle.rtree_nodes.specs.Made.{Rises}
+use Rattle.rtree_nodes.specs.Loose.{Loose}
 use Rattle.rtree_nodes.specs.declared.content.Slot.{Slot}
 use Rattle.rtree_nodes.specs.Reach.{is_place}
 use Rattle.rtree_nodes.specs.Pages.{node_of}
 use Rattle.irtree_shape.specs.Stock.{IsSupplied}
-use Rattle.irtree_shape.specs.Steps.{crowned, crowned_in}
+use Rattle.irtree_shape.specs.Steps.{bounding_child, bounding_child_in}
 use Rattle.irtree_shape.specs.Made.{IsOpen, IsMade, IsRaised, Puts, nodes_in}
 use Rattle.irtree_shape.specs.Whole.{IsWhole, IsPlanted, level_at}
 use Rattle.irtree_shape.specs.Loose.{IsStanding}
@@ -47,12 +47,12 @@ puts-as {v = v} {pages = pages} {rows = rows} {count = count} {first = first} {l
     (subst (λ (k : ℕ). Puts node_of v pages rows count first least level page k x more told rise) e put)
 
 -- the node beside a root, by the one that was returned
-pub beside-is : (nodes : NodeMap) (more : Option Beside) (b : Beside) → more ≡ Some b → crowned_in nodes (option_map beside_item more) ≡ Some (crowned nodes (beside_item b))
-beside-is nodes more b e = ap (λ (m : Option Beside). crowned_in nodes (option_map beside_item m)) e
+pub beside-is : (nodes : NodeMap) (more : Option Beside) (b : Beside) → more ≡ Some b → bounding_child_in nodes (option_map beside_item more) ≡ Some (bounding_child nodes (beside_item b))
+beside-is nodes more b e = ap (λ (m : Option Beside). bounding_child_in nodes (option_map beside_item m)) e
 
 -- no node was made beside it
-pub beside-none : (nodes : NodeMap) (more : Option Beside) → more ≡ None → crowned_in nodes (option_map beside_item more) ≡ None
-beside-none nodes more e = ap (λ (m : Option Beside). crowned_in nodes (option_map beside_item m)) e
+pub beside-none : (nodes : NodeMap) (more : Option Beside) → more ≡ None → bounding_child_in nodes (option_map beside_item more) ≡ None
+beside-none nodes more e = ap (λ (m : Option Beside). bounding_child_in nodes (option_map beside_item m)) e
 
 -- a root that was split, of the same level by another name
 pub raised-of-level : {v : View} {least level level' root : ℕ} {y : Item} {sums : (Item → ℕ) → ℕ} {reach told : ℕ → ℕ} → level ≡ level' → IsRaised node_of v least level root y sums reach told → IsRaised node_of v least level' root y sums reach told

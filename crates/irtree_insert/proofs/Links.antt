@@ -7,10 +7,10 @@ use Rattle.spatial_base.proofs.Rects.{bounds_same}
 use Rattle.std.specs.Int.{bit_at}
 use Rattle.page_face.specs.FreeList.{PageMap, with_page}
 use Rattle.spatial_base.specs.Rect.{Bounds}
-use Rattle.rtree_shape.specs.Slots.{Item, Slots, NodeView, one, got, tops, filled, IsChildAt}
-use Rattle.rtree_shape.specs.Trees.{with_slot}
-use Rattle.rtree_shape.specs.Stock.{View, view, spare_in}
-use Rattle.rtree_shape.proofs.Amounts.{amount-at}
+use Rattle.rtree_nodes.specs.Slots.{Item, Slots, NodeView, one, got, tops, filled, IsChildAt}
+use Rattle.rtree_nodes.specs.Trees.{with_slot}
+use Rattle.rtree_nodes.specs.Stock.{View, view, spare_in}
+use Rattle.rtree_nodes.proofs.Amounts.{amount-at}
 use Rattle.btree_nodes.proofs.Supplies.{one_at-same}
 use Rattle.node_rows.specs.Rows.{bytes_in}
 use Rattle.irtree_shape.specs.Words.{joined, words_on}
@@ -52,8 +52,8 @@ link-node bytes t below form level t_is = ap (λ (s : Slots). record { level = s
 -- A node stands at its page, in memory as in the page, with the rows as they are.
 module _ (before : View) (least below page : ℕ) (t : Slots) (told : ℕ → ℕ)
     (ready : IsReady node_of before least (suc below) page (joined (record { level = suc below; slots = t }) (bytes_in before.pages before.rows page)) None) where
-  tells-words : ((d : ℕ) → told d ≡ tops d t) → (d : ℕ) → d < 4 → told d ≡ tops d (words_on (bytes_in before.pages before.rows page) t)
-  tells-words told_is d l = told_is d ∙ sym (sides (bytes_in before.pages before.rows page) t d l)
+  readable-words : ((d : ℕ) → told d ≡ tops d t) → (d : ℕ) → d < 4 → told d ≡ tops d (words_on (bytes_in before.pages before.rows page) t)
+  readable-words told_is d l = told_is d ∙ sym (sides (bytes_in before.pages before.rows page) t d l)
 
   -- no byte stands at an unused slot of it
   blank-of : (n : NodeView) → n ≡ record { level = suc below; slots = t } → (w i : ℕ) → n.slots i ≡ None → bytes_in before.pages before.rows page w i ≡ 0
@@ -65,7 +65,7 @@ module _ (before : View) (least below page : ℕ) (t : Slots) (told : ℕ → �
   link-still bytes same form level t_is told_is =
       let is : node_of (before.pages page) ≡ record { level = suc below; slots = t } = ap node_of same ∙ sym (link-node bytes t below form level (sym t_is)) in
       made_one node_of before before.pages before.rows before.count before.first before.free least (suc below) page (joined (record { level = suc below; slots = t }) (bytes_in before.pages before.rows page)) ready
-      (moves-none ready.supplied) (ap (λ (v : NodeView). joined v (bytes_in before.pages before.rows page)) is) (blank-of (node_of (before.pages page)) is) told (tells-words told_is) (λ n. n ≡ 0) refl
+      (moves-none ready.supplied) (ap (λ (v : NodeView). joined v (bytes_in before.pages before.rows page)) is) (blank-of (node_of (before.pages page)) is) told (readable-words told_is) (λ n. n ≡ 0) refl
 
 -- the node was written
 pub link-wrote : (old : PageMap) (rows count first : ℕ) (free : List ℕ) (least below page : ℕ) (bytes : List ℕ) (t : Slots) (told : ℕ → ℕ) → 0 < page → is_form bytes ≡ true → level_in bytes ≡ suc below → slots_in bytes ≡ t → ((d : ℕ) → told d ≡ tops d t)
@@ -82,4 +82,4 @@ link-wrote old rows count first free least below page bytes t told away form lev
     made_one node_of before new rows count' first' steps.free least (suc below) page (joined (record { level = suc below; slots = t }) (bytes_in old rows page)) ready steps.moves
     (ap (λ (v : NodeView). joined v (bytes_in new rows page)) held ∙ joined-same (record { level = suc below; slots = t }) (bytes_in new rows page) (bytes_in old rows page) same)
     (λ v i none. same v i ∙ blank-of before least below page t told ready (node_of (new page)) held v i none)
-    told (tells-words before least below page t told ready told_is) (λ n. n ≡ 0) refl
+    told (readable-words before least below page t told ready told_is) (λ n. n ≡ 0) refl

@@ -5,10 +5,10 @@ use Rattle.std.specs.Int.{bit_at}
 use Rattle.std.proofs.lemmas.Bool.Decides.{nat_tests}
 use Rattle.std.proofs.lemmas.Bool.{cases_Bool}
 use Rattle.spatial_base.specs.Rect.{Bounds}
-use Rattle.rtree_shape.specs.Slots.{Item, Slots, NodeView, got, one, filled, Held}
+use Rattle.rtree_nodes.specs.Slots.{Item, Slots, NodeView, got, one, filled, Held}
 use Rattle.std.proofs.Math.Path.{fun_ext}
-use Rattle.rtree_shape.specs.Trees.{with_slot}
-use Rattle.rtree_shape.proofs.Amounts.{same_or, with_slot-same, with_slot-other}
+use Rattle.rtree_nodes.specs.Trees.{with_slot}
+use Rattle.rtree_nodes.proofs.Amounts.{same_or, with_slot-same, with_slot-other}
 use Rattle.rtree_nodes.specs.Reach.{reach_of, origin_rect, child_item}
 use Rattle.rtree_nodes.specs.Pages.{level_in, mask_of, is_used, is_form, stored_in, slots_in, node_of}
 use Rattle.rtree_nodes.specs.Breaks.{BreaksHeader}

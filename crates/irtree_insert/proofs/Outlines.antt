@@ -7,11 +7,11 @@ use Rattle.std.proofs.lemmas.Bool.Decides.{nat_tests}
 use Rattle.std.proofs.lemmas.List.{get_or-set_same, get_or-set_other}
 use Rattle.std.proofs.lemmas.Nat.Bits.{bit_at_set_same, bit_at_set_other, bit_at_and, bit_at_not, bit_at-lt}
 use Rattle.spatial_base.specs.Rect.{Bounds}
-use Rattle.rtree_shape.specs.Slots.{Item, Slots, got, one, top_to, tops, amount, filled}
-use Rattle.rtree_shape.specs.Trees.{reach_of as reach_at, with_slot}
-use Rattle.rtree_shape.specs.Masks.{kept_of, moved_of}
-use Rattle.rtree_shape.proofs.Sums.{sum-same, sum-zero}
-use Rattle.rtree_shape.proofs.Amounts.{same_or, with_slot-same, with_slot-other}
+use Rattle.rtree_nodes.specs.Slots.{Item, Slots, got, one, top_to, tops, amount, filled}
+use Rattle.rtree_nodes.specs.Trees.{reach_of as reach_at, with_slot}
+use Rattle.rtree_nodes.specs.Masks.{kept_of, moved_of}
+use Rattle.rtree_nodes.proofs.Sums.{sum-same, sum-zero}
+use Rattle.rtree_nodes.proofs.Amounts.{same_or, with_slot-same, with_slot-other}
 use Rattle.rtree_nodes.specs.Reach.{reach_of, joined_both, origin_rect}
 use Rattle.rtree_nodes.proofs.Reaches.{joined-reach}
 use Rattle.irtree_insert.specs.Drafts.{IsOutlined, AreOutlined, reach_or}

@@ -1,9 +1,9 @@
 -- How often a policy was asked, over several steps.
 use Rattle.std.proofs.Common.{◌≡◌, ℕ, ◌+◌, arith, Option}
 use Rattle.page_face.specs.FreeList.{PageMap}
-use Rattle.rtree_shape.specs.Slots.{Item}
-use Rattle.rtree_shape.specs.Stock.{View}
-use Rattle.rtree_shape.specs.Made.{Reads, Rises}
+use Rattle.rtree_nodes.specs.Slots.{Item}
+use Rattle.rtree_nodes.specs.Stock.{View}
+use Rattle.rtree_nodes.specs.Made.{Reads, Rises}
 use Rattle.irtree_shape.specs.Made.{IsMade}
 use Rattle.irtree_shape.specs.Whole.{IsPlanted}
 

@@ -3,8 +3,8 @@ use Rattle.std.proofs.Common.{◌≡◌, ℕ, ◌+◌, Bool, true, false, Some, 
 use Rattle.page_face.specs.FreeList.{PageMap}
 use Rattle.btree_nodes.specs.Supply.{one_at}
 use Rattle.btree_nodes.proofs.Supplies.{one_at-same}
-use Rattle.rtree_shape.specs.Slots.{Item, Slots, tops, IsFull, IsPart}
-use Rattle.rtree_shape.specs.Stock.{View, view, spare_in}
+use Rattle.rtree_nodes.specs.Slots.{Item, Slots, tops, IsFull, IsPart}
+use Rattle.rtree_nodes.specs.Stock.{View, view, spare_in}
 use Rattle.rtree_nodes.specs.Pages.{node_of, slots_in}
 use Rattle.split_policy.specs.Masks.{IsMask}
 use Rattle.node_rows.specs.Rows.{bytes_in}
@@ -13,7 +13,7 @@ use Rattle.node_rows.specs.Impacts.{raised}
 use Rattle.irtree_shape.specs.Words.{joined, worded, words_on}
 use Rattle.irtree_shape.specs.Stock.{IsSupplied}
 use Rattle.irtree_shape.specs.Made.{nodes_in, IsReady, Makes}
-use Rattle.irtree_shape.specs.Steps.{Steps, IsPaired, crowned}
+use Rattle.irtree_shape.specs.Steps.{Steps, IsPaired, bounding_child}
 use Rattle.irtree_shape.proofs.Words.{words-full}
 use Rattle.irtree_shape.proofs.Adding.{moved_made, kept_made}
 use Rattle.irtree_insert.specs.Parts.{AreParted, IsParted}
@@ -51,14 +51,14 @@ module _ (before : View) (least level page at_level : ℕ) (s : Slots) (x : Item
     (front_level : (node_of front).level ≡ at_level) (back_level : (node_of back).level ≡ at_level)
     (full : IsFull s) (is : IsMask mask) (parted : IsParted mask moves goes at s x (slots_in front) (slots_in back)) where
   pub split-made : (z : Item) → z.to ≡ right → ((e : ℕ) → z.reach e ≡ tops e (slots_in back)) → (told : ℕ → ℕ) → ((d : ℕ) → told d ≡ tops d (slots_in front)) → (rise : ℕ → Type 0) → rise 1
-      → Makes node_of before new rows count first least level page (words_on (bytes_in before.pages before.rows page) s) (Some (worded f x)) (Some (crowned (nodes_in node_of new rows) z)) told rise
-  split-made z to reach told tells rise risen =
+      → Makes node_of before new rows count first least level page (words_on (bytes_in before.pages before.rows page) s) (Some (worded f x)) (Some (bounding_child (nodes_in node_of new rows) z)) told rise
+  split-made z to reach told readable rise risen =
       let b : ℕ → ℕ → ℕ = bytes_in before.pages before.rows page in
       let all = words-full (bytes_in before.pages before.rows page) s full in
       elim goes as (λ g. goes ≡ g → AreParted g moves at s x (slots_in front) (slots_in back)
-      → Makes node_of before new rows count first least level page (words_on (bytes_in before.pages before.rows page) s) (Some (worded f x)) (Some (crowned (nodes_in node_of new rows) z)) told rise) [
+      → Makes node_of before new rows count first least level page (words_on (bytes_in before.pages before.rows page) s) (Some (worded f x)) (Some (bounding_child (nodes_in node_of new rows) z)) told rise) [
         | true ↦ λ e are. moved_made node_of before least level page at_level s x f ready mid new rows c0 f0 count first right moves at front back goes pair part front_level back_level
-            e are.0 are.1.free are.1.is (λ t put. halves-moved mask moves parted.same is (words_on b s) all t (worded f x) (parted.goes ∙ e) put) z to reach told tells rise risen
+            e are.0 are.1.free are.1.is (λ t put. halves-moved mask moves parted.same is (words_on b s) all t (worded f x) (parted.goes ∙ e) put) z to reach told readable rise risen
         | false ↦ λ e are. kept_made node_of before least level page at_level s x f ready mid new rows c0 f0 count first right moves at front back goes pair part front_level back_level
-            e are.0.free are.0.is are.1 (λ t put. halves-kept mask moves parted.same is (words_on b s) all t (worded f x) (parted.goes ∙ e) put) z to reach told tells rise risen
+            e are.0.free are.0.is are.1 (λ t put. halves-kept mask moves parted.same is (words_on b s) all t (worded f x) (parted.goes ∙ e) put) z to reach told readable rise risen
       ] refl parted.are

@@ -1,9 +1,9 @@
 -- Roots whose level a page says.
 use Rattle.std.proofs.Common.{◌≡◌, ℕ, ◌≤◌, ◌^◌, Option, arith, subst}
 use Rattle.page_face.specs.FreeList.{PageMap}
-use Rattle.rtree_shape.specs.Slots.{Item}
-use Rattle.rtree_shape.specs.Stock.{View}
-use Rattle.rtree_shape.proofs.Heights.{node-level}
+use Rattle.rtree_nodes.specs.Slots.{Item}
+use Rattle.rtree_nodes.specs.Stock.{View}
+use Rattle.rtree_nodes.proofs.Heights.{node-level}
 use Rattle.rtree_nodes.specs.Pages.{node_of}
 use Rattle.irtree_shape.specs.Made.{IsOpen, Puts, nodes_in}
 

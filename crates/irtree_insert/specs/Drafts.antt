@@ -2,7 +2,7 @@
 use Rattle.std.specs.Prelude.{◌≡◌, ℕ, ◌<◌, Option, None, Some, List, slice_index_or, true}
 use Rattle.std.specs.Int.{bit_at}
 use Rattle.spatial_base.specs.Rect.{Bounds}
-use Rattle.rtree_shape.specs.Slots.{Item, Slots}
+use Rattle.rtree_nodes.specs.Slots.{Item, Slots}
 use Rattle.rtree_nodes.specs.Pages.{is_form, slots_in}
 use Rattle.rtree_nodes.specs.Reach.{reach_of, origin_rect}
 use Rattle.irtree_insert.specs.declared.draft.Draft.{Draft}

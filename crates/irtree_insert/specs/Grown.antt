@@ -1,6 +1,6 @@
 -- A node that was made beside another one.
 use Rattle.std.specs.Prelude.{ℕ, Option, None, Some}
-use Rattle.rtree_shape.specs.Slots.{Item}
+use Rattle.rtree_nodes.specs.Slots.{Item}
 use Rattle.rtree_nodes.specs.Reach.{child_item}
 use Rattle.node_rows.specs.Rows.{Bytes}
 use Rattle.node_rows.specs.Impacts.{top_at}

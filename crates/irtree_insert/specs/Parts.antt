@@ -1,9 +1,9 @@
 -- A full node and one item more, parted in two.
 use Rattle.std.specs.Prelude.{◌≡◌, ℕ, ◌^◌, ◌<◌, ◌==◌, List, Bool, true, false}
 use Rattle.std.specs.Int.{bit_at}
-use Rattle.rtree_shape.specs.Slots.{Item, Slots, IsFree}
-use Rattle.rtree_shape.specs.Trees.{with_slot}
-use Rattle.rtree_shape.specs.Masks.{kept_of, moved_of}
+use Rattle.rtree_nodes.specs.Slots.{Item, Slots, IsFree}
+use Rattle.rtree_nodes.specs.Trees.{with_slot}
+use Rattle.rtree_nodes.specs.Masks.{kept_of, moved_of}
 use Rattle.node_rows.specs.Rows.{Bytes}
 use Rattle.node_rows.specs.Counts.{IsCounted}
 

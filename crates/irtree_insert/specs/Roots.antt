@@ -1,9 +1,9 @@
 -- Loose items that are put back.
 use Rattle.std.specs.Prelude.{ℕ, List}
 use Rattle.page_face.specs.FreeList.{PageMap}
-use Rattle.rtree_shape.specs.Slots.{Item}
-use Rattle.rtree_shape.specs.Stock.{View, view}
-use Rattle.rtree_shape.specs.Loose.{Loose}
+use Rattle.rtree_nodes.specs.Slots.{Item}
+use Rattle.rtree_nodes.specs.Stock.{View, view}
+use Rattle.rtree_nodes.specs.Loose.{Loose}
 use Rattle.rtree_nodes.specs.Pages.{node_of}
 use Rattle.irtree_shape.specs.Loose.{IsStanding}
 

@@ -2,11 +2,11 @@
 ghost use Rattle.std.specs.Prelude.{◌≡◌, ◌≢◌, ◌+◌, ◌<◌, ℕ, List, Some, option_map, if◌then◌else◌, IfOk, OnOk, IsErrOf};
 ghost use Rattle.page_face.specs.Calls.{FailsChanging, Changes};
 ghost use Rattle.page_face.specs.Causes.{IsUncounted};
-ghost use Rattle.btree_nodes.specs.Damages.{AreTold, AsksOnly};
+ghost use Rattle.btree_nodes.specs.Damages.{AreReadable, AsksOnly};
 ghost use Rattle.btree_nodes.specs.Supply.{one_at};
-ghost use Rattle.rtree_shape.specs.Slots.{IsFull};
-ghost use Rattle.rtree_shape.specs.Stock.{view, spare_in};
-ghost use Rattle.rtree_shape.specs.Made.{Rises};
+ghost use Rattle.rtree_nodes.specs.Slots.{IsFull};
+ghost use Rattle.rtree_nodes.specs.Stock.{view, spare_in};
+ghost use Rattle.rtree_nodes.specs.Made.{Rises};
 ghost use Rattle.rtree_nodes.specs.Reach.{reach_of, item_of};
 ghost use Rattle.rtree_nodes.specs.Pages.{node_of, slots_in};
 ghost use Rattle.node_rows.specs.Damages.{IsRowsHarm};
@@ -16,7 +16,7 @@ ghost use Rattle.node_rows.specs.Impacts.{impact_in, raised};
 ghost use Rattle.irtree_shape.specs.Words.{joined, worded, words_on};
 ghost use Rattle.irtree_shape.specs.Stock.{IsSupplied};
 ghost use Rattle.irtree_shape.specs.Made.{nodes_in, IsReady, Makes};
-ghost use Rattle.irtree_shape.specs.Steps.{Steps, crowned_in};
+ghost use Rattle.irtree_shape.specs.Steps.{Steps, bounding_child_in};
 ghost use Rattle.irtree_insert.specs.Fits.{Fits};
 ghost use Rattle.irtree_insert.specs.Drafts.{IsDraft};
 ghost use Rattle.irtree_insert.specs.Grown.{beside_item};
@@ -51,14 +51,14 @@ fn part_words<P: Pages>(
         (raised (if is_moved then right else page) at (impact_in words.now) (moved page moves right (bytes_in (P.pages pages.old) tree.old.rows))) (P.pages pages.old)) }
     ensures root { tree.new.root ≡ tree.old.root }
 
-    ensures honest { (free : List ℕ) → IsSupplied (view (P.pages pages.old) tree.old.rows (P.count pages.old) (P.first pages.old) free)
+    ensures no_false_damage { (free : List ℕ) → IsSupplied (view (P.pages pages.old) tree.old.rows (P.count pages.old) (P.first pages.old) free)
         → spare_in (view (P.pages pages.old) tree.old.rows (P.count pages.old) (P.first pages.old) free) page ≡ 0 → spare_in (view (P.pages pages.old) tree.old.rows (P.count pages.old) (P.first pages.old) free) right ≡ 0
-        → (page ≡ right → ⊥) → HasNone (bytes_in (P.pages pages.old) tree.old.rows) right → AreTold (P.pages pages.old) (P.count pages.old)
+        → (page ≡ right → ⊥) → HasNone (bytes_in (P.pages pages.old) tree.old.rows) right → AreReadable (P.pages pages.old) (P.count pages.old)
         → (damage : Damage) → result ≢ Err (PageFault.Damaged damage) }
-    ensures damaged { AreTold (P.pages pages.old) (P.count pages.old) → (damage : Damage) → IsErrOf result (PageFault.Damaged damage)
+    ensures damaged { AreReadable (P.pages pages.old) (P.count pages.old) → (damage : Damage) → IsErrOf result (PageFault.Damaged damage)
         → IsRowsHarm (P.pages pages.new) (P.count pages.new) (P.first pages.new) tree.new.rows (P.asked pages.old) (P.asked pages.new) damage }
-    ensures told { AreTold (P.pages pages.old) (P.count pages.old) → OnOk result (AreTold (P.pages pages.new) (P.count pages.new)) }
-    ensures more { AreTold (P.pages pages.old) (P.count pages.old) → AsksOnly (λ _. 1) (P.asked pages.old) (P.asked pages.new) }
+    ensures told { AreReadable (P.pages pages.old) (P.count pages.old) → OnOk result (AreReadable (P.pages pages.new) (P.count pages.new)) }
+    ensures more { AreReadable (P.pages pages.old) (P.count pages.old) → AsksOnly (λ _. 1) (P.asked pages.old) (P.asked pages.new) }
     ensures fails { FailsChanging P.Pages pages.old pages.new result }
     ensures frame { Changes P.Pages pages.old pages.new }
 {
@@ -82,16 +82,16 @@ fn split<P: Pages>(
     ensures made { (least level : ℕ) (free : List ℕ) → IsReady node_of (view (P.pages pages.old) tree.old.rows (P.count pages.old) (P.first pages.old) free) least level page (joined (node_of draft.old.bytes) (bytes_in (P.pages pages.old) tree.old.rows page)) (Some (worded (impact_in words.now) (item_of slot.now)))
         → IsDraft draft.old → Fits level slot.now → IsFull (slots_in draft.old.bytes)
         → IfOk result (λ g. Makes node_of (view (P.pages pages.old) tree.old.rows (P.count pages.old) (P.first pages.old) free) (P.pages pages.new) tree.new.rows (P.count pages.new) (P.first pages.new) least level page
-        (words_on (bytes_in (P.pages pages.old) tree.old.rows page) (slots_in draft.old.bytes)) (Some (worded (impact_in words.now) (item_of slot.now))) (crowned_in (nodes_in node_of (P.pages pages.new) tree.new.rows) (option_map beside_item g.more)) (reach_of g.rect) (Rises ((SplitPolicy-dyn policy.old).count policy.old.1) ((SplitPolicy-dyn policy.new).count policy.new.1))) }
+        (words_on (bytes_in (P.pages pages.old) tree.old.rows page) (slots_in draft.old.bytes)) (Some (worded (impact_in words.now) (item_of slot.now))) (bounding_child_in (nodes_in node_of (P.pages pages.new) tree.new.rows) (option_map beside_item g.more)) (reach_of g.rect) (Rises ((SplitPolicy-dyn policy.old).count policy.old.1) ((SplitPolicy-dyn policy.new).count policy.new.1))) }
     ensures root { tree.new.root ≡ tree.old.root }
 
-    ensures honest { (least level : ℕ) (free : List ℕ) → IsReady node_of (view (P.pages pages.old) tree.old.rows (P.count pages.old) (P.first pages.old) free) least level page (joined (node_of draft.old.bytes) (bytes_in (P.pages pages.old) tree.old.rows page)) (Some (worded (impact_in words.now) (item_of slot.now)))
-        → IsDraft draft.old → Fits level slot.now → IsFull (slots_in draft.old.bytes) → AreTold (P.pages pages.old) (P.count pages.old)
+    ensures no_false_damage { (least level : ℕ) (free : List ℕ) → IsReady node_of (view (P.pages pages.old) tree.old.rows (P.count pages.old) (P.first pages.old) free) least level page (joined (node_of draft.old.bytes) (bytes_in (P.pages pages.old) tree.old.rows page)) (Some (worded (impact_in words.now) (item_of slot.now)))
+        → IsDraft draft.old → Fits level slot.now → IsFull (slots_in draft.old.bytes) → AreReadable (P.pages pages.old) (P.count pages.old)
         → (damage : Damage) → result ≢ Err (PageFault.Damaged damage) }
-    ensures damaged { AreTold (P.pages pages.old) (P.count pages.old) → (damage : Damage) → IsErrOf result (PageFault.Damaged damage)
+    ensures damaged { AreReadable (P.pages pages.old) (P.count pages.old) → (damage : Damage) → IsErrOf result (PageFault.Damaged damage)
         → IsRowsHarm (P.pages pages.new) (P.count pages.new) (P.first pages.new) tree.new.rows (P.asked pages.old) (P.asked pages.new) damage }
-    ensures told { AreTold (P.pages pages.old) (P.count pages.old) → OnOk result (AreTold (P.pages pages.new) (P.count pages.new)) }
-    ensures more { AreTold (P.pages pages.old) (P.count pages.old) → AsksOnly (λ _. 1) (P.asked pages.old) (P.asked pages.new) }
+    ensures told { AreReadable (P.pages pages.old) (P.count pages.old) → OnOk result (AreReadable (P.pages pages.new) (P.count pages.new)) }
+    ensures more { AreReadable (P.pages pages.old) (P.count pages.old) → AsksOnly (λ _. 1) (P.asked pages.old) (P.asked pages.new) }
     ensures fails { FailsChanging P.Pages pages.old pages.new result }
     ensures frame { Changes P.Pages pages.old pages.new }
 {
@@ -118,14 +118,14 @@ fn split<P: Pages>(
     })
 }
 
-/// Adds an item with its words to a node that stands at a counted page, in its lowest free slot, and writes it and the words' rows;
-/// or splits it if it is full.
+/// Adds an item with its words to a node at a counted page, or splits the node if it is full. The item goes into the lowest free slot, and
+/// the node and the words' rows are written.
 ///
 /// It writes one page and the rows of the words. A split goes twice through the node's rows, leaf by leaf, takes one page and writes two,
 /// and moves the rows of the entries that move, leaf by leaf.
 ///
-/// Refuses as `take`, `raise`, `like` and `move_slots` do; no page is damaged where the node may be written and the pages are told.
-/// After a failure pages may have changed: they are to be abandoned.
+/// Refuses as `take`, `raise`, `like` and `move_slots` do. No page is damaged if the node may be written and the pages are readable. After
+/// a failure pages may have changed: they are to be abandoned.
 pub(crate) fn add<P: Pages>(
     alloc: Global,
     pages: &mut P,
@@ -140,16 +140,16 @@ pub(crate) fn add<P: Pages>(
     ensures made { (least level : ℕ) (free : List ℕ) → IsReady node_of (view (P.pages pages.old) tree.old.rows (P.count pages.old) (P.first pages.old) free) least level page (joined (node_of draft.old.bytes) (bytes_in (P.pages pages.old) tree.old.rows page)) (Some (worded (impact_in words.now) (item_of slot.now)))
         → IsDraft draft.old → Fits level slot.now
         → IfOk result (λ g. Makes node_of (view (P.pages pages.old) tree.old.rows (P.count pages.old) (P.first pages.old) free) (P.pages pages.new) tree.new.rows (P.count pages.new) (P.first pages.new) least level page
-        (words_on (bytes_in (P.pages pages.old) tree.old.rows page) (slots_in draft.old.bytes)) (Some (worded (impact_in words.now) (item_of slot.now))) (crowned_in (nodes_in node_of (P.pages pages.new) tree.new.rows) (option_map beside_item g.more)) (reach_of g.rect) (Rises ((SplitPolicy-dyn policy.old).count policy.old.1) ((SplitPolicy-dyn policy.new).count policy.new.1))) }
+        (words_on (bytes_in (P.pages pages.old) tree.old.rows page) (slots_in draft.old.bytes)) (Some (worded (impact_in words.now) (item_of slot.now))) (bounding_child_in (nodes_in node_of (P.pages pages.new) tree.new.rows) (option_map beside_item g.more)) (reach_of g.rect) (Rises ((SplitPolicy-dyn policy.old).count policy.old.1) ((SplitPolicy-dyn policy.new).count policy.new.1))) }
     ensures root { tree.new.root ≡ tree.old.root }
 
-    ensures honest { (least level : ℕ) (free : List ℕ) → IsReady node_of (view (P.pages pages.old) tree.old.rows (P.count pages.old) (P.first pages.old) free) least level page (joined (node_of draft.old.bytes) (bytes_in (P.pages pages.old) tree.old.rows page)) (Some (worded (impact_in words.now) (item_of slot.now)))
-        → IsDraft draft.old → Fits level slot.now → AreTold (P.pages pages.old) (P.count pages.old)
+    ensures no_false_damage { (least level : ℕ) (free : List ℕ) → IsReady node_of (view (P.pages pages.old) tree.old.rows (P.count pages.old) (P.first pages.old) free) least level page (joined (node_of draft.old.bytes) (bytes_in (P.pages pages.old) tree.old.rows page)) (Some (worded (impact_in words.now) (item_of slot.now)))
+        → IsDraft draft.old → Fits level slot.now → AreReadable (P.pages pages.old) (P.count pages.old)
         → (damage : Damage) → result ≢ Err (PageFault.Damaged damage) }
-    ensures damaged { AreTold (P.pages pages.old) (P.count pages.old) → (damage : Damage) → IsErrOf result (PageFault.Damaged damage)
+    ensures damaged { AreReadable (P.pages pages.old) (P.count pages.old) → (damage : Damage) → IsErrOf result (PageFault.Damaged damage)
         → IsRowsHarm (P.pages pages.new) (P.count pages.new) (P.first pages.new) tree.new.rows (P.asked pages.old) (P.asked pages.new) damage }
-    ensures told { AreTold (P.pages pages.old) (P.count pages.old) → OnOk result (AreTold (P.pages pages.new) (P.count pages.new)) }
-    ensures more { AreTold (P.pages pages.old) (P.count pages.old) → AsksOnly (λ _. 1) (P.asked pages.old) (P.asked pages.new) }
+    ensures told { AreReadable (P.pages pages.old) (P.count pages.old) → OnOk result (AreReadable (P.pages pages.new) (P.count pages.new)) }
+    ensures more { AreReadable (P.pages pages.old) (P.count pages.old) → AsksOnly (λ _. 1) (P.asked pages.old) (P.asked pages.new) }
     ensures fails { FailsChanging P.Pages pages.old pages.new result }
     ensures frame { Changes P.Pages pages.old pages.new }
 {

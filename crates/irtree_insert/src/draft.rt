@@ -1,8 +1,8 @@
 //! A node that is being changed.
 ghost use Rattle.std.specs.Prelude.{◌≡◌, ◌⊎◌, ◌<◌, ℕ, true, OnOk, IfOk, IfErr, IsOk};
-ghost use Rattle.rtree_shape.specs.Slots.{filled, tops};
-ghost use Rattle.rtree_shape.specs.Trees.{with_slot};
-ghost use Rattle.rtree_shape.specs.Masks.{kept_of, moved_of};
+ghost use Rattle.rtree_nodes.specs.Slots.{filled, tops};
+ghost use Rattle.rtree_nodes.specs.Trees.{with_slot};
+ghost use Rattle.rtree_nodes.specs.Masks.{kept_of, moved_of};
 ghost use Rattle.rtree_nodes.specs.Reach.{item_of, reach_of};
 ghost use Rattle.rtree_nodes.specs.Pages.{level_in, mask_of, is_form, slots_in};
 ghost use Rattle.rtree_nodes.specs.Breaks.{BreaksHeader, BreaksNode};
@@ -26,7 +26,7 @@ pub(crate) struct Draft {
 }
 
 impl Draft {
-    /// A draft of no node, to be loaded into.
+    /// Makes a draft of no node, to be loaded into.
     pub(crate) fn blank() -> Draft {
         Draft {
             bytes: [0; 4096],

@@ -4,9 +4,9 @@ ghost use Rattle.page_face.specs.Calls.{Looks};
 ghost use Rattle.page_face.specs.Causes.{IsUncounted};
 ghost use Rattle.page_face.specs.declared.fault.Rule.TheVariants.{Level as WrongLevel};
 ghost use Rattle.btree_nodes.specs.Damages.{AskedSince, AsksOnly};
-ghost use Rattle.rtree_shape.specs.Slots.{filled};
+ghost use Rattle.rtree_nodes.specs.Slots.{filled};
 ghost use Rattle.rtree_nodes.specs.Pages.{level_in, mask_of, is_form, slots_in};
-ghost use Rattle.rtree_find.specs.Harms.{IfTold};
+ghost use Rattle.rtree_nodes.specs.Harms.{IfReadable};
 ghost use Rattle.irtree_shape.specs.Damages.{IsBroken};
 ghost use Rattle.irtree_insert.specs.Drafts.{IsDraft};
 
@@ -31,7 +31,7 @@ pub(crate) fn fetch<P: Pages>(pages: &mut P, page: u32, draft: &mut Draft) -> Re
     ensures level { IfOk result (λ level. level ≡ level_in draft.new.bytes) }
     ensures counted { OnOk result (IsUncounted (P.count pages.old) page → ⊥) }
 
-    ensures honest { (IsUncounted (P.count pages.old) page → ⊥) → 0 < filled (slots_in (P.pages pages.old page)) → (damage : Damage) → result ≢ Err (PageFault.Damaged damage) }
+    ensures no_false_damage { (IsUncounted (P.count pages.old) page → ⊥) → 0 < filled (slots_in (P.pages pages.old page)) → (damage : Damage) → result ≢ Err (PageFault.Damaged damage) }
     ensures here { OnOk result (AskedSince (P.asked pages.old) (P.asked pages.new) page) }
     ensures more { AsksOnly (λ _. 1) (P.asked pages.old) (P.asked pages.new) }
     ensures damaged { (damage : Damage) → IsErrOf result (PageFault.Damaged damage)
@@ -63,12 +63,12 @@ pub(crate) fn fetch_at<P: Pages>(
     ensures level { OnOk result (level_in draft.new.bytes ≡ level) }
     ensures counted { OnOk result (IsUncounted (P.count pages.old) page → ⊥) }
 
-    ensures honest { (IsUncounted (P.count pages.old) page → ⊥) → 0 < filled (slots_in (P.pages pages.old page)) → level_in (P.pages pages.old page) ≡ level → (damage : Damage) → result ≢ Err (PageFault.Damaged damage) }
+    ensures no_false_damage { (IsUncounted (P.count pages.old) page → ⊥) → 0 < filled (slots_in (P.pages pages.old page)) → level_in (P.pages pages.old page) ≡ level → (damage : Damage) → result ≢ Err (PageFault.Damaged damage) }
     ensures here { OnOk result (AskedSince (P.asked pages.old) (P.asked pages.new) page) }
     ensures more { AsksOnly (λ _. 1) (P.asked pages.old) (P.asked pages.new) }
     ensures damaged { (damage : Damage) → IsErrOf result (PageFault.Damaged damage)
         → (damage.page ≡ page) × AskedSince (P.asked pages.old) (P.asked pages.new) page
-        × (IsBroken damage.rule (P.pages pages.old) (P.count pages.old) page ⊎ ((damage.rule ≡ WrongLevel) × IfTold (P.pages pages.old) page (λ bytes. level_in bytes ≢ level))) }
+        × (IsBroken damage.rule (P.pages pages.old) (P.count pages.old) page ⊎ ((damage.rule ≡ WrongLevel) × IfReadable (P.pages pages.old) page (λ bytes. level_in bytes ≢ level))) }
     ensures looks { Looks P.Pages pages.old pages.new result }
 {
     match fetch(pages, page, draft) {

@@ -1,11 +1,11 @@
 //! The least rectangle round some of 32 rectangles.
 ghost use Rattle.std.specs.Prelude.{◌≡◌, ◌==◌, ◌<◌, ℕ, if◌then◌else◌, Option, Some};
 ghost use Rattle.std.specs.Int.{bit_at};
-ghost use Rattle.rtree_shape.specs.Slots.{Slots, filled, tops};
+ghost use Rattle.rtree_nodes.specs.Slots.{Slots, filled, tops};
 ghost use Rattle.rtree_nodes.specs.Reach.{reach_of, joined_both};
 ghost use Rattle.irtree_insert.specs.Drafts.{AreOutlined};
 
-use rtree_shape::SLOTS;
+use rtree_nodes::SLOTS;
 use spatial_base::Rect;
 
 /// Whether bit `at` is set.

@@ -2,12 +2,12 @@
 ghost use Rattle.std.specs.Prelude.{◌≡◌, ◌≢◌, ◌<◌, ◌++◌, ◌∷◌, [], ℕ, IfOk, OnOk, IsErrOf};
 ghost use Rattle.std.specs.Int.{bit_at};
 ghost use Rattle.page_face.specs.Calls.{Looks};
-ghost use Rattle.btree_nodes.specs.Damages.{AreTold, AsksOnly};
+ghost use Rattle.btree_nodes.specs.Damages.{AreReadable, AsksOnly};
 ghost use Rattle.btree_nodes.specs.Tree.{IsMap, map_uses};
 ghost use Rattle.paged_map.specs.Maps.{AreCounted};
-ghost use Rattle.rtree_shape.specs.Slots.{IsFull};
-ghost use Rattle.rtree_shape.specs.Stock.{rows_form};
-ghost use Rattle.rtree_shape.specs.Made.{Rises};
+ghost use Rattle.rtree_nodes.specs.Slots.{IsFull};
+ghost use Rattle.rtree_nodes.specs.Stock.{rows_form};
+ghost use Rattle.rtree_nodes.specs.Made.{Rises};
 ghost use Rattle.rtree_nodes.specs.Reach.{item_of};
 ghost use Rattle.rtree_nodes.specs.Pages.{level_in, slots_in};
 ghost use Rattle.split_policy.specs.Masks.{IsMask};
@@ -21,8 +21,7 @@ use crate::draft::Draft;
 use crate::outline::is_set;
 use node_inverted::{Tree, like};
 use page_face::{Damage, PageFault, Pages};
-use rtree_nodes::Slot;
-use rtree_shape::SLOTS;
+use rtree_nodes::{SLOTS, Slot};
 use spatial_base::Rect;
 use split_policy::SplitPolicy;
 
@@ -39,8 +38,8 @@ pub(crate) struct Parted {
     pub(crate) at: usize,
 }
 
-// Asks the policy by the rectangles of 32 slots, that of the new entry behind them, and the words that each two share. The arrays
-// have a frame of their own, since they are larger than a page.
+// Asks the policy by the rectangles of 32 slots, that of the new entry after them, and the words that each two share. The arrays have a
+// frame of their own, since they are larger than a page.
 fn ask_policy(
     policy: &mut dyn SplitPolicy,
     rects: &[Rect; 32],
@@ -56,8 +55,8 @@ fn ask_policy(
     policy.split(&entries, like)
 }
 
-/// Asks the policy which of 33 entries move: those of a full node's 32 slots, and the new one behind them. It is told how many words
-/// each two of them share. It goes through the rows of the node once.
+/// Asks the policy which of 33 entries move: those of a full node's 32 slots, and the new one after them. The policy gets the number of
+/// words that each two of them share. It goes through the rows of the node once.
 ///
 /// Refuses as `like` does. No page changes.
 pub(crate) fn ask<P: Pages>(
@@ -74,11 +73,11 @@ pub(crate) fn ask<P: Pages>(
         → IfOk result (λ mask. IsAsked (bytes_in (P.pages pages.old) tree.now.rows) page words.now ((SplitPolicy-dyn policy.old).splits_by policy.old.1 (draft.now.rects ++ add.now ∷ [])) mask) }
     ensures rise { OnOk result (Rises ((SplitPolicy-dyn policy.old).count policy.old.1) ((SplitPolicy-dyn policy.new).count policy.new.1) 1) }
 
-    ensures honest { IsMap rows_form (P.pages pages.old) tree.now.rows → AreCounted (map_uses rows_form (P.pages pages.old) tree.now.rows) (P.count pages.old)
-        → AreTold (P.pages pages.old) (P.count pages.old) → (damage : Damage) → result ≢ Err (PageFault.Damaged damage) }
-    ensures damaged { AreTold (P.pages pages.old) (P.count pages.old) → (damage : Damage) → IsErrOf result (PageFault.Damaged damage)
+    ensures no_false_damage { IsMap rows_form (P.pages pages.old) tree.now.rows → AreCounted (map_uses rows_form (P.pages pages.old) tree.now.rows) (P.count pages.old)
+        → AreReadable (P.pages pages.old) (P.count pages.old) → (damage : Damage) → result ≢ Err (PageFault.Damaged damage) }
+    ensures damaged { AreReadable (P.pages pages.old) (P.count pages.old) → (damage : Damage) → IsErrOf result (PageFault.Damaged damage)
         → IsRowsHarm (P.pages pages.new) (P.count pages.new) (P.first pages.new) tree.now.rows (P.asked pages.old) (P.asked pages.new) damage }
-    ensures more { AreTold (P.pages pages.old) (P.count pages.old) → AsksOnly (λ _. 1) (P.asked pages.old) (P.asked pages.new) }
+    ensures more { AreReadable (P.pages pages.old) (P.count pages.old) → AsksOnly (λ _. 1) (P.asked pages.old) (P.asked pages.new) }
     ensures looks { Looks P.Pages pages.old pages.new result }
 {
     let like = like(pages, tree, page, words)?;
@@ -92,8 +91,8 @@ fn low_bits(mask: u64) -> u32
     (mask & 0xFFFF_FFFF) as u32
 }
 
-/// Parts a full node and one item more by a mask of 33 entries: makes the node of those that move, each in the slot of its number,
-/// and puts the new item into the lowest free slot of the node that it goes to.
+/// Parts a full node and one item more by a mask of 33 entries. Makes the node of those that move, each in the slot of its number. Puts the
+/// new item into the lowest free slot of the node that it goes to.
 pub(crate) fn part(mask: u64, draft: &mut Draft, slot: &Slot) -> Parted
     ensures draft { IsDraft draft.old → Fits (level_in draft.old.bytes) slot.now → IsDraft draft.new }
     ensures its_draft { IsDraft draft.old → Fits (level_in draft.old.bytes) slot.now → IsDraft result.other }

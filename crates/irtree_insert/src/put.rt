@@ -2,14 +2,14 @@
 ghost use Rattle.std.specs.Prelude.{◌≡◌, ◌≢◌, ◌<◌, ℕ, suc, max, List, Option, Some, None, option_map, IfOk, OnOk, IsErrOf};
 ghost use Rattle.page_face.specs.Calls.{FailsReading, FailsWriting, FailsChanging, Reads, Writes, Changes};
 ghost use Rattle.page_face.specs.Causes.{IsUncounted};
-ghost use Rattle.btree_nodes.specs.Damages.{AreTold, AskedSince, AsksOnly};
+ghost use Rattle.btree_nodes.specs.Damages.{AreReadable, AskedSince, AsksOnly};
 ghost use Rattle.btree_nodes.specs.Supply.{one_at};
 ghost use Rattle.btree_nodes.specs.Tree.{IsMap, map_uses};
 ghost use Rattle.paged_map.specs.Maps.{AreCounted};
-ghost use Rattle.rtree_shape.specs.Slots.{IsChildAt};
-ghost use Rattle.rtree_shape.specs.Trees.{with_slot};
-ghost use Rattle.rtree_shape.specs.Stock.{view, spare_in, rows_form};
-ghost use Rattle.rtree_shape.specs.Made.{Rises};
+ghost use Rattle.rtree_nodes.specs.Slots.{IsChildAt};
+ghost use Rattle.rtree_nodes.specs.Trees.{with_slot};
+ghost use Rattle.rtree_nodes.specs.Stock.{view, spare_in, rows_form};
+ghost use Rattle.rtree_nodes.specs.Made.{Rises};
 ghost use Rattle.rtree_nodes.specs.Reach.{reach_of, item_of, child_item};
 ghost use Rattle.rtree_nodes.specs.Pages.{node_of, slots_in, level_in, mask_of};
 ghost use Rattle.split_policy.specs.Masks.{IsUsed};
@@ -20,7 +20,7 @@ ghost use Rattle.node_rows.specs.Known.{AreRowsAt};
 ghost use Rattle.irtree_shape.specs.Words.{joined, worded, words_on};
 ghost use Rattle.irtree_shape.specs.Stock.{IsSupplied};
 ghost use Rattle.irtree_shape.specs.Made.{nodes_in, IsReady, IsOpen, Makes, Puts};
-ghost use Rattle.irtree_shape.specs.Steps.{Steps, crowned, crowned_in, relinked};
+ghost use Rattle.irtree_shape.specs.Steps.{Steps, bounding_child, bounding_child_in, relinked};
 ghost use Rattle.irtree_shape.specs.Damages.{IsTreeHarm};
 ghost use Rattle.irtree_insert.specs.Fits.{Fits};
 ghost use Rattle.irtree_insert.specs.Drafts.{IsDraft};
@@ -39,8 +39,8 @@ use spatial_base::Rect;
 use split_policy::SplitPolicy;
 use std::alloc::Global;
 
-// Asks the policy which slot to go down through. It is told how many of the entry's words stand below each slot, by the node's row
-// for each of the words.
+// Asks the policy which slot to go down through. It gets the number of the entry's words that are below each slot, by the node's row for
+// each of the words.
 fn choose(policy: &mut dyn SplitPolicy, draft: &Draft, add: &Rect, known: &[[u8; 32]]) -> usize
     requires { 0 < draft.now.used }
     ensures used { IsUsed draft.now.used result }
@@ -62,11 +62,11 @@ fn words_beside<P: Pages>(
     ensures words { IsMap rows_form (P.pages pages.old) tree.now.rows
         → IfOk result (λ words. (w : ℕ) → impact_in words.items w ≡ beside_top (bytes_in (P.pages pages.old) tree.now.rows) more.now w) }
 
-    ensures honest { IsMap rows_form (P.pages pages.old) tree.now.rows → AreCounted (map_uses rows_form (P.pages pages.old) tree.now.rows) (P.count pages.old)
-        → AreTold (P.pages pages.old) (P.count pages.old) → (damage : Damage) → result ≢ Err (PageFault.Damaged damage) }
-    ensures damaged { AreTold (P.pages pages.old) (P.count pages.old) → (damage : Damage) → IsErrOf result (PageFault.Damaged damage)
+    ensures no_false_damage { IsMap rows_form (P.pages pages.old) tree.now.rows → AreCounted (map_uses rows_form (P.pages pages.old) tree.now.rows) (P.count pages.old)
+        → AreReadable (P.pages pages.old) (P.count pages.old) → (damage : Damage) → result ≢ Err (PageFault.Damaged damage) }
+    ensures damaged { AreReadable (P.pages pages.old) (P.count pages.old) → (damage : Damage) → IsErrOf result (PageFault.Damaged damage)
         → IsRowsHarm (P.pages pages.new) (P.count pages.new) (P.first pages.new) tree.now.rows (P.asked pages.old) (P.asked pages.new) damage }
-    ensures more { AreTold (P.pages pages.old) (P.count pages.old) → AsksOnly (λ _. 1) (P.asked pages.old) (P.asked pages.new) }
+    ensures more { AreReadable (P.pages pages.old) (P.count pages.old) → AsksOnly (λ _. 1) (P.asked pages.old) (P.asked pages.new) }
     ensures fails { FailsReading P.Pages pages.old pages.new result }
     ensures frame { Reads P.Pages pages.old pages.new }
 {
@@ -99,11 +99,11 @@ fn relink<P: Pages>(
         → IfOk result (λ theirs. (w : ℕ) → impact_in theirs.items w ≡ beside_top (bytes_in (P.pages pages.old) tree.old.rows) more.now w) }
     ensures root { tree.new.root ≡ tree.old.root }
 
-    ensures honest { (free : List ℕ) → IsSupplied (view (P.pages pages.old) tree.old.rows (P.count pages.old) (P.first pages.old) free) → (page ≡ child → ⊥) → AreTold (P.pages pages.old) (P.count pages.old) → (damage : Damage) → result ≢ Err (PageFault.Damaged damage) }
-    ensures damaged { AreTold (P.pages pages.old) (P.count pages.old) → (damage : Damage) → IsErrOf result (PageFault.Damaged damage)
+    ensures no_false_damage { (free : List ℕ) → IsSupplied (view (P.pages pages.old) tree.old.rows (P.count pages.old) (P.first pages.old) free) → (page ≡ child → ⊥) → AreReadable (P.pages pages.old) (P.count pages.old) → (damage : Damage) → result ≢ Err (PageFault.Damaged damage) }
+    ensures damaged { AreReadable (P.pages pages.old) (P.count pages.old) → (damage : Damage) → IsErrOf result (PageFault.Damaged damage)
         → IsRowsHarm (P.pages pages.new) (P.count pages.new) (P.first pages.new) tree.new.rows (P.asked pages.old) (P.asked pages.new) damage }
-    ensures told { AreTold (P.pages pages.old) (P.count pages.old) → OnOk result (AreTold (P.pages pages.new) (P.count pages.new)) }
-    ensures more { AreTold (P.pages pages.old) (P.count pages.old) → AsksOnly (λ _. 1) (P.asked pages.old) (P.asked pages.new) }
+    ensures told { AreReadable (P.pages pages.old) (P.count pages.old) → OnOk result (AreReadable (P.pages pages.new) (P.count pages.new)) }
+    ensures more { AreReadable (P.pages pages.old) (P.count pages.old) → AsksOnly (λ _. 1) (P.asked pages.old) (P.asked pages.new) }
     ensures fails { FailsChanging P.Pages pages.old pages.new result }
     ensures frame { Changes P.Pages pages.old pages.new }
 {
@@ -133,7 +133,7 @@ fn widen<P: Pages>(
         (words_on (bytes_in (P.pages pages.old) rows page) (with_slot at (child_item rect.now child) (slots_in draft.old.bytes))) None None (reach_of bounds) (λ n. n ≡ 0)) }
 
     ensures damaged { (damage : Damage) → result ≢ Err (PageFault.Damaged damage) }
-    ensures told { AreTold (P.pages pages.old) (P.count pages.old) → OnOk result (AreTold (P.pages pages.new) (P.count pages.new)) }
+    ensures told { AreReadable (P.pages pages.old) (P.count pages.old) → OnOk result (AreReadable (P.pages pages.new) (P.count pages.new)) }
     ensures fails { FailsWriting P.Pages pages.old result }
     ensures frame { Writes P.Pages pages.old pages.new }
 {
@@ -161,18 +161,18 @@ fn add_child<P: Pages>(
     words: &[(u64, u8)],
 ) -> Result<Grown, PageFault>
     requires counted { IsUncounted (P.count pages.old) page → ⊥ }
-    ensures made { (least below : ℕ) (free : List ℕ) → IsReady node_of (view (P.pages pages.old) tree.old.rows (P.count pages.old) (P.first pages.old) free) least (suc below) page (joined (node_of draft.old.bytes) (bytes_in (P.pages pages.old) tree.old.rows page)) (Some (crowned (nodes_in node_of (P.pages pages.old) tree.old.rows) (beside_item more.now)))
+    ensures made { (least below : ℕ) (free : List ℕ) → IsReady node_of (view (P.pages pages.old) tree.old.rows (P.count pages.old) (P.first pages.old) free) least (suc below) page (joined (node_of draft.old.bytes) (bytes_in (P.pages pages.old) tree.old.rows page)) (Some (bounding_child (nodes_in node_of (P.pages pages.old) tree.old.rows) (beside_item more.now)))
         → IsDraft draft.old → ((w : ℕ) → impact_in words.now w ≡ top_at (bytes_in (P.pages pages.old) tree.old.rows) more.now.page w)
         → IfOk result (λ g. Makes node_of (view (P.pages pages.old) tree.old.rows (P.count pages.old) (P.first pages.old) free) (P.pages pages.new) tree.new.rows (P.count pages.new) (P.first pages.new) least (suc below) page
-        (words_on (bytes_in (P.pages pages.old) tree.old.rows page) (slots_in draft.old.bytes)) (Some (crowned (nodes_in node_of (P.pages pages.old) tree.old.rows) (beside_item more.now))) (crowned_in (nodes_in node_of (P.pages pages.new) tree.new.rows) (option_map beside_item g.more)) (reach_of g.rect) (Rises ((SplitPolicy-dyn policy.old).count policy.old.1) ((SplitPolicy-dyn policy.new).count policy.new.1))) }
+        (words_on (bytes_in (P.pages pages.old) tree.old.rows page) (slots_in draft.old.bytes)) (Some (bounding_child (nodes_in node_of (P.pages pages.old) tree.old.rows) (beside_item more.now))) (bounding_child_in (nodes_in node_of (P.pages pages.new) tree.new.rows) (option_map beside_item g.more)) (reach_of g.rect) (Rises ((SplitPolicy-dyn policy.old).count policy.old.1) ((SplitPolicy-dyn policy.new).count policy.new.1))) }
     ensures root { tree.new.root ≡ tree.old.root }
 
-    ensures honest { (least below : ℕ) (free : List ℕ) → IsReady node_of (view (P.pages pages.old) tree.old.rows (P.count pages.old) (P.first pages.old) free) least (suc below) page (joined (node_of draft.old.bytes) (bytes_in (P.pages pages.old) tree.old.rows page)) (Some (crowned (nodes_in node_of (P.pages pages.old) tree.old.rows) (beside_item more.now)))
-        → IsDraft draft.old → ((w : ℕ) → impact_in words.now w ≡ top_at (bytes_in (P.pages pages.old) tree.old.rows) more.now.page w) → AreTold (P.pages pages.old) (P.count pages.old) → (damage : Damage) → result ≢ Err (PageFault.Damaged damage) }
-    ensures damaged { AreTold (P.pages pages.old) (P.count pages.old) → (damage : Damage) → IsErrOf result (PageFault.Damaged damage)
+    ensures no_false_damage { (least below : ℕ) (free : List ℕ) → IsReady node_of (view (P.pages pages.old) tree.old.rows (P.count pages.old) (P.first pages.old) free) least (suc below) page (joined (node_of draft.old.bytes) (bytes_in (P.pages pages.old) tree.old.rows page)) (Some (bounding_child (nodes_in node_of (P.pages pages.old) tree.old.rows) (beside_item more.now)))
+        → IsDraft draft.old → ((w : ℕ) → impact_in words.now w ≡ top_at (bytes_in (P.pages pages.old) tree.old.rows) more.now.page w) → AreReadable (P.pages pages.old) (P.count pages.old) → (damage : Damage) → result ≢ Err (PageFault.Damaged damage) }
+    ensures damaged { AreReadable (P.pages pages.old) (P.count pages.old) → (damage : Damage) → IsErrOf result (PageFault.Damaged damage)
         → IsRowsHarm (P.pages pages.new) (P.count pages.new) (P.first pages.new) tree.new.rows (P.asked pages.old) (P.asked pages.new) damage }
-    ensures told { AreTold (P.pages pages.old) (P.count pages.old) → OnOk result (AreTold (P.pages pages.new) (P.count pages.new)) }
-    ensures more { AreTold (P.pages pages.old) (P.count pages.old) → AsksOnly (λ _. 1) (P.asked pages.old) (P.asked pages.new) }
+    ensures told { AreReadable (P.pages pages.old) (P.count pages.old) → OnOk result (AreReadable (P.pages pages.new) (P.count pages.new)) }
+    ensures more { AreReadable (P.pages pages.old) (P.count pages.old) → AsksOnly (λ _. 1) (P.asked pages.old) (P.asked pages.new) }
     ensures fails { FailsChanging P.Pages pages.old pages.new result }
     ensures frame { Changes P.Pages pages.old pages.new }
 {
@@ -197,22 +197,22 @@ fn finish<P: Pages>(
     ensures made { (least below : ℕ) (free : List ℕ) → IsDraft draft.old → level_in draft.old.bytes ≡ suc below → P.pages pages.old page ≡ draft.old.bytes
         → IsChildAt (slots_in draft.old.bytes) at child
         → IsReady node_of (view (P.pages pages.old) tree.old.rows (P.count pages.old) (P.first pages.old) free) least (suc below) page
-        (joined (record { level = suc below; slots = with_slot at (child_item grown.now.rect child) (slots_in draft.old.bytes) }) (bytes_in (P.pages pages.old) tree.old.rows page)) (crowned_in (nodes_in node_of (P.pages pages.old) tree.old.rows) (option_map beside_item grown.now.more))
+        (joined (record { level = suc below; slots = with_slot at (child_item grown.now.rect child) (slots_in draft.old.bytes) }) (bytes_in (P.pages pages.old) tree.old.rows page)) (bounding_child_in (nodes_in node_of (P.pages pages.old) tree.old.rows) (option_map beside_item grown.now.more))
         → ((w : ℕ) → impact_in theirs.now w ≡ beside_top (bytes_in (P.pages pages.old) tree.old.rows) grown.now.more w)
         → IfOk result (λ g. Makes node_of (view (P.pages pages.old) tree.old.rows (P.count pages.old) (P.first pages.old) free) (P.pages pages.new) tree.new.rows (P.count pages.new) (P.first pages.new) least (suc below) page
-        (words_on (bytes_in (P.pages pages.old) tree.old.rows page) (with_slot at (child_item grown.now.rect child) (slots_in draft.old.bytes))) (crowned_in (nodes_in node_of (P.pages pages.old) tree.old.rows) (option_map beside_item grown.now.more)) (crowned_in (nodes_in node_of (P.pages pages.new) tree.new.rows) (option_map beside_item g.more)) (reach_of g.rect) (Rises ((SplitPolicy-dyn policy.old).count policy.old.1) ((SplitPolicy-dyn policy.new).count policy.new.1))) }
+        (words_on (bytes_in (P.pages pages.old) tree.old.rows page) (with_slot at (child_item grown.now.rect child) (slots_in draft.old.bytes))) (bounding_child_in (nodes_in node_of (P.pages pages.old) tree.old.rows) (option_map beside_item grown.now.more)) (bounding_child_in (nodes_in node_of (P.pages pages.new) tree.new.rows) (option_map beside_item g.more)) (reach_of g.rect) (Rises ((SplitPolicy-dyn policy.old).count policy.old.1) ((SplitPolicy-dyn policy.new).count policy.new.1))) }
     ensures root { tree.new.root ≡ tree.old.root }
 
-    ensures honest { (least below : ℕ) (free : List ℕ) → IsDraft draft.old → level_in draft.old.bytes ≡ suc below → P.pages pages.old page ≡ draft.old.bytes
+    ensures no_false_damage { (least below : ℕ) (free : List ℕ) → IsDraft draft.old → level_in draft.old.bytes ≡ suc below → P.pages pages.old page ≡ draft.old.bytes
         → IsChildAt (slots_in draft.old.bytes) at child
         → IsReady node_of (view (P.pages pages.old) tree.old.rows (P.count pages.old) (P.first pages.old) free) least (suc below) page
-        (joined (record { level = suc below; slots = with_slot at (child_item grown.now.rect child) (slots_in draft.old.bytes) }) (bytes_in (P.pages pages.old) tree.old.rows page)) (crowned_in (nodes_in node_of (P.pages pages.old) tree.old.rows) (option_map beside_item grown.now.more))
+        (joined (record { level = suc below; slots = with_slot at (child_item grown.now.rect child) (slots_in draft.old.bytes) }) (bytes_in (P.pages pages.old) tree.old.rows page)) (bounding_child_in (nodes_in node_of (P.pages pages.old) tree.old.rows) (option_map beside_item grown.now.more))
         → ((w : ℕ) → impact_in theirs.now w ≡ beside_top (bytes_in (P.pages pages.old) tree.old.rows) grown.now.more w)
-        → AreTold (P.pages pages.old) (P.count pages.old) → (damage : Damage) → result ≢ Err (PageFault.Damaged damage) }
-    ensures damaged { AreTold (P.pages pages.old) (P.count pages.old) → (damage : Damage) → IsErrOf result (PageFault.Damaged damage)
+        → AreReadable (P.pages pages.old) (P.count pages.old) → (damage : Damage) → result ≢ Err (PageFault.Damaged damage) }
+    ensures damaged { AreReadable (P.pages pages.old) (P.count pages.old) → (damage : Damage) → IsErrOf result (PageFault.Damaged damage)
         → IsRowsHarm (P.pages pages.new) (P.count pages.new) (P.first pages.new) tree.new.rows (P.asked pages.old) (P.asked pages.new) damage }
-    ensures told { AreTold (P.pages pages.old) (P.count pages.old) → OnOk result (AreTold (P.pages pages.new) (P.count pages.new)) }
-    ensures more { AreTold (P.pages pages.old) (P.count pages.old) → AsksOnly (λ _. 1) (P.asked pages.old) (P.asked pages.new) }
+    ensures told { AreReadable (P.pages pages.old) (P.count pages.old) → OnOk result (AreReadable (P.pages pages.new) (P.count pages.new)) }
+    ensures more { AreReadable (P.pages pages.old) (P.count pages.old) → AsksOnly (λ _. 1) (P.asked pages.old) (P.asked pages.new) }
     ensures fails { FailsChanging P.Pages pages.old pages.new result }
     ensures frame { Changes P.Pages pages.old pages.new }
 {
@@ -232,17 +232,17 @@ fn finish<P: Pages>(
     }
 }
 
-/// Puts an item with its words in below a counted page of this level, which was loaded, and returns what has become of the node at
-/// the page. Leaves have level 0; a place goes to level 0, a child to a level above. The policy chooses the way and the splits.
+/// Puts an item with its words in below a counted page of this level, which was loaded, and returns what has become of the node at the
+/// page. Leaves have level 0. A place goes to level 0, a child to a level above. The policy chooses the way and the splits.
 ///
-/// It reads each node on the way once, and the node's row for each word with [`rows_at`]. On the way back it goes down for a row again
-/// only to raise a slot by a word whose byte is too low there, and writes a node if its own slots changed. Where a child was split it
-/// also goes through the rows of the new node, of the child and of the node above for the new node's words, leaf by leaf. A leaf of rows
-/// is written once for all of its rows that change together.
+/// It reads each node on the way once, and the node's row for each word with [`rows_at`]. On the way back it goes down for a row again only
+/// to raise a slot by a word whose byte is too low there. It writes a node if its own slots changed. If a child was split it also goes
+/// through the rows of three nodes for the new node's words, leaf by leaf. These are the new node, the child and the node above. A leaf of
+/// rows is written once for all of its rows that change together.
 ///
-/// Refuses `Damaged` if a page on the way is no node of the level that its place asks, or as the rows' calls do; none of it on
-/// well-formed pages that are told. Refuses as `take` does, `Disk`, `Stopped` and `Memory`: then pages may have changed, and are to
-/// be abandoned.
+/// Refuses `Damaged` if a page on the way is no node of the level that its place requires, or as the rows' calls do. Neither happens on
+/// well-formed pages that are readable. Refuses as `take` does, `Disk`, `Stopped` and `Memory`: then pages may have changed, and are to be
+/// abandoned.
 pub(crate) fn put_below<P: Pages>(
     alloc: Global,
     pages: &mut P,
@@ -260,16 +260,16 @@ pub(crate) fn put_below<P: Pages>(
     ensures made { (least : ℕ) (free : List ℕ) → IsDraft draft.old → draft.old.used ≡ mask_of draft.old.bytes → draft.old.bytes ≡ P.pages pages.old page
         → IsOpen node_of (view (P.pages pages.old) tree.old.rows (P.count pages.old) (P.first pages.old) free) least level page goal (worded (impact_in words.now) (item_of slot.now)) → Fits goal slot.now
         → IfOk result (λ g. Puts node_of (view (P.pages pages.old) tree.old.rows (P.count pages.old) (P.first pages.old) free) (P.pages pages.new) tree.new.rows (P.count pages.new) (P.first pages.new) least level page
-        goal (worded (impact_in words.now) (item_of slot.now)) (crowned_in (nodes_in node_of (P.pages pages.new) tree.new.rows) (option_map beside_item g.more)) (reach_of g.rect) (Rises ((SplitPolicy-dyn policy.old).count policy.old.1) ((SplitPolicy-dyn policy.new).count policy.new.1))) }
+        goal (worded (impact_in words.now) (item_of slot.now)) (bounding_child_in (nodes_in node_of (P.pages pages.new) tree.new.rows) (option_map beside_item g.more)) (reach_of g.rect) (Rises ((SplitPolicy-dyn policy.old).count policy.old.1) ((SplitPolicy-dyn policy.new).count policy.new.1))) }
     ensures root { tree.new.root ≡ tree.old.root }
 
-    ensures honest { (least : ℕ) (free : List ℕ) → IsDraft draft.old → draft.old.used ≡ mask_of draft.old.bytes → draft.old.bytes ≡ P.pages pages.old page
-        → IsOpen node_of (view (P.pages pages.old) tree.old.rows (P.count pages.old) (P.first pages.old) free) least level page goal (worded (impact_in words.now) (item_of slot.now)) → Fits goal slot.now → AreTold (P.pages pages.old) (P.count pages.old) → (damage : Damage) → result ≢ Err (PageFault.Damaged damage) }
-    ensures damaged { (before : List ℕ) → AreTold (P.pages pages.old) (P.count pages.old) → draft.old.bytes ≡ P.pages pages.old page → draft.old.used ≡ mask_of draft.old.bytes → level_in draft.old.bytes ≡ level
+    ensures no_false_damage { (least : ℕ) (free : List ℕ) → IsDraft draft.old → draft.old.used ≡ mask_of draft.old.bytes → draft.old.bytes ≡ P.pages pages.old page
+        → IsOpen node_of (view (P.pages pages.old) tree.old.rows (P.count pages.old) (P.first pages.old) free) least level page goal (worded (impact_in words.now) (item_of slot.now)) → Fits goal slot.now → AreReadable (P.pages pages.old) (P.count pages.old) → (damage : Damage) → result ≢ Err (PageFault.Damaged damage) }
+    ensures damaged { (before : List ℕ) → AreReadable (P.pages pages.old) (P.count pages.old) → draft.old.bytes ≡ P.pages pages.old page → draft.old.used ≡ mask_of draft.old.bytes → level_in draft.old.bytes ≡ level
         → AskedSince before (P.asked pages.old) page → (damage : Damage) → IsErrOf result (PageFault.Damaged damage)
         → IsTreeHarm (P.pages pages.new) (P.count pages.new) (P.first pages.new) tree.new.rows before (P.asked pages.new) damage }
-    ensures told { AreTold (P.pages pages.old) (P.count pages.old) → OnOk result (AreTold (P.pages pages.new) (P.count pages.new)) }
-    ensures more { AreTold (P.pages pages.old) (P.count pages.old) → AsksOnly (λ _. 1) (P.asked pages.old) (P.asked pages.new) }
+    ensures told { AreReadable (P.pages pages.old) (P.count pages.old) → OnOk result (AreReadable (P.pages pages.new) (P.count pages.new)) }
+    ensures more { AreReadable (P.pages pages.old) (P.count pages.old) → AsksOnly (λ _. 1) (P.asked pages.old) (P.asked pages.new) }
     ensures fails { FailsChanging P.Pages pages.old pages.new result }
     ensures frame { Changes P.Pages pages.old pages.new }
 {

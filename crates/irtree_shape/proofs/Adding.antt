@@ -5,18 +5,18 @@ use Rattle.std.specs.Int.{bit_at}
 use Rattle.page_face.specs.FreeList.{PageMap}
 use Rattle.btree_nodes.specs.Supply.{one_at}
 use Rattle.btree_nodes.proofs.Supplies.{one_at-same}
-use Rattle.rtree_shape.specs.Slots.{Item, Slots, tops, IsFree, IsPart}
-use Rattle.rtree_shape.specs.Trees.{with_slot, IsPutFree}
-use Rattle.rtree_shape.specs.Masks.{kept_of, moved_of}
-use Rattle.rtree_shape.specs.Stock.{View, view, spare_in}
-use Rattle.rtree_shape.specs.Made.{Reads}
+use Rattle.rtree_nodes.specs.Slots.{Item, Slots, tops, IsFree, IsPart}
+use Rattle.rtree_nodes.specs.Trees.{with_slot, IsPutFree}
+use Rattle.rtree_nodes.specs.Masks.{kept_of, moved_of}
+use Rattle.rtree_nodes.specs.Stock.{View, view, spare_in}
+use Rattle.rtree_nodes.specs.Made.{Reads}
 use Rattle.node_rows.specs.Rows.{Bytes, bytes_in}
 use Rattle.node_rows.specs.Turns.{moved}
 use Rattle.node_rows.specs.Impacts.{raised}
 use Rattle.node_inverted.proofs.Moves.{moved-node, moved-to}
 use Rattle.irtree_shape.specs.Words.{joined, worded, words_on, AreBlank}
 use Rattle.irtree_shape.specs.Made.{nodes_in, IsBlank, IsReady, IsSplit, Makes}
-use Rattle.irtree_shape.specs.Steps.{Steps, IsPaired, crowned}
+use Rattle.irtree_shape.specs.Steps.{Steps, IsPaired, bounding_child}
 use Rattle.irtree_shape.proofs.Stocks.{moves-further}
 use Rattle.irtree_shape.proofs.Words.{kept-blank, moved-blank, placed, placed_free, raised-blank, sides, words-kept, words-moved, words-none_back, words-same, words_free}
 use Rattle.irtree_shape.proofs.Stepping.{raised-elsewhere}
@@ -57,11 +57,11 @@ module _ (reads : Reads) (before : View) (least level page at_level : ℕ) (s : 
 
     pub room_made : (told : ℕ → ℕ) → ((d : ℕ) → told d ≡ tops d (reads bytes).slots) → (rise : ℕ → Type 0) → rise 0
         → Makes reads before new rows count first least level page (words_on (bytes_in before.pages before.rows page) s) (Some (worded f x)) None told rise
-    room_made told tells rise risen =
+    room_made told readable rise risen =
         let t : Slots = words_on (bytes_in new rows page) (reads bytes).slots in
         let its_free = words_free (bytes_in before.pages before.rows page) s at free in
-        let tells' : (d : ℕ) → d < 4 → told d ≡ tops d (words_on (bytes_in new rows page) (reads bytes).slots) = λ d m. tells d ∙ sym (sides (bytes_in new rows page) (reads bytes).slots d m) in
-        made_placed reads before least level page (words_on (bytes_in before.pages before.rows page) s) at_level (worded f x) ready t at its_free is new rows count first told rise tells'
+        let readable' : (d : ℕ) → d < 4 → told d ≡ tops d (words_on (bytes_in new rows page) (reads bytes).slots) = λ d m. readable d ∙ sym (sides (bytes_in new rows page) (reads bytes).slots d m) in
+        made_placed reads before least level page (words_on (bytes_in before.pages before.rows page) s) at_level (worded f x) ready t at its_free is new rows count first told rise readable'
         (made_one reads before new rows count first wrote.free least level page (record { level = (reads bytes).level; slots = t })
         (ready_placed reads before least level page (words_on (bytes_in before.pages before.rows page) s) at_level (worded f x) ready t at its_free is (reads bytes).level l_is)
         (moves-further raise.moves wrote.moves) here blank (λ d. tops d t) (λ d m. refl) rise risen)
@@ -124,8 +124,8 @@ module _ (reads : Reads) (before : View) (least level page at_level : ℕ) (s : 
     less_or d = grind arith
 
     -- the new node's item reaches as far as its slots, words too
-    crown : (z : Item) (d : ℕ) → z.to ≡ right → ((e : ℕ) → z.reach e ≡ tops e (reads back).slots) → (crowned (nodes_in reads new rows) z).reach d ≡ tops d (words_on (bytes_in new rows right) (reads back).slots)
-    crown z d to reach = elim (less_or d) [
+    bounding : (z : Item) (d : ℕ) → z.to ≡ right → ((e : ℕ) → z.reach e ≡ tops e (reads back).slots) → (bounding_child (nodes_in reads new rows) z).reach d ≡ tops d (words_on (bytes_in new rows right) (reads back).slots)
+    bounding z d to reach = elim (less_or d) [
       | inl m ↦ let t : nat_lt d 4 ≡ true = grind (arith, nat_tests) in ap (λ (q : Bool). if q then z.reach d else tops d (nodes_in reads new rows z.to).slots) t ∙ reach d ∙ sym (sides (bytes_in new rows right) (reads back).slots d m)
       | inr m ↦ let t : nat_lt d 4 ≡ false = grind (arith, nat_tests) in ap (λ (q : Bool). if q then z.reach d else tops d (nodes_in reads new rows z.to).slots) t
           ∙ ap (λ (n : ℕ). tops d (nodes_in reads new rows n).slots) to ∙ ap (λ (b : List ℕ). tops d (words_on (bytes_in new rows right) (reads b).slots)) right_held
@@ -134,22 +134,22 @@ module _ (reads : Reads) (before : View) (least level page at_level : ℕ) (s : 
     both_made : IsPart (words_on (bytes_in before.pages before.rows page) s) (worded f x) (words_on (bytes_in new rows page) (reads front).slots) (words_on (bytes_in new rows right) (reads back).slots)
         → AreBlank (bytes_in new rows page) (reads front).slots → AreBlank (bytes_in new rows right) (reads back).slots
         → (z : Item) → z.to ≡ right → ((e : ℕ) → z.reach e ≡ tops e (reads back).slots) → (told : ℕ → ℕ) → ((d : ℕ) → told d ≡ tops d (reads front).slots) → (rise : ℕ → Type 0) → rise 1
-        → Makes reads before new rows count first least level page (words_on (bytes_in before.pages before.rows page) s) (Some (worded f x)) (Some (crowned (nodes_in reads new rows) z)) told rise
-    both_made parts here there z to reach told tells rise risen =
+        → Makes reads before new rows count first least level page (words_on (bytes_in before.pages before.rows page) s) (Some (worded f x)) (Some (bounding_child (nodes_in reads new rows) z)) told rise
+    both_made parts here there z to reach told readable rise risen =
         let a : Slots = words_on (bytes_in new rows page) (reads front).slots in
         let b : Slots = words_on (bytes_in new rows right) (reads back).slots in
-        let tells' : (d : ℕ) → d < 4 → told d ≡ tops d (words_on (bytes_in new rows page) (reads front).slots) = λ d m. tells d ∙ sym (sides (bytes_in new rows page) (reads front).slots d m) in
-        made_parted reads before least level page (words_on (bytes_in before.pages before.rows page) s) at_level (worded f x) ready a b parts new rows count first (crowned (nodes_in reads new rows) z) told rise tells'
-        (two_made reads before new rows count first least level page right (record { level = (reads front).level; slots = a }) (record { level = (reads back).level; slots = b }) (crowned (nodes_in reads new rows) z)
+        let readable' : (d : ℕ) → d < 4 → told d ≡ tops d (words_on (bytes_in new rows page) (reads front).slots) = λ d m. readable d ∙ sym (sides (bytes_in new rows page) (reads front).slots d m) in
+        made_parted reads before least level page (words_on (bytes_in before.pages before.rows page) s) at_level (worded f x) ready a b parts new rows count first (bounding_child (nodes_in reads new rows) z) told rise readable'
+        (two_made reads before new rows count first least level page right (record { level = (reads front).level; slots = a }) (record { level = (reads back).level; slots = b }) (bounding_child (nodes_in reads new rows) z)
         (two_parted reads before least level page (words_on (bytes_in before.pages before.rows page) s) at_level (worded f x) ready a b parts (reads front).level (reads back).level front_level back_level)
-        (its_split here there) to (λ d. crown z d to reach) (λ d. tops d a) (λ d m. refl) rise risen)
+        (its_split here there) to (λ d. bounding z d to reach) (λ d. tops d a) (λ d m. refl) rise risen)
 
     -- the new item moved
     pub moved_made : goes ≡ true → (reads front).slots ≡ kept_of moves s → IsFree (moved_of moves s) at → (reads back).slots ≡ with_slot at x (moved_of moves s)
         → ((b : Slots) → IsPutFree (moved_of moves (words_on (bytes_in before.pages before.rows page) s)) (worded f x) b
         → IsPart (words_on (bytes_in before.pages before.rows page) s) (worded f x) (kept_of moves (words_on (bytes_in before.pages before.rows page) s)) b)
         → (z : Item) → z.to ≡ right → ((e : ℕ) → z.reach e ≡ tops e (reads back).slots) → (told : ℕ → ℕ) → ((d : ℕ) → told d ≡ tops d (reads front).slots) → (rise : ℕ → Type 0) → rise 1
-        → Makes reads before new rows count first least level page (words_on (bytes_in before.pages before.rows page) s) (Some (worded f x)) (Some (crowned (nodes_in reads new rows) z)) told rise
+        → Makes reads before new rows count first least level page (words_on (bytes_in before.pages before.rows page) s) (Some (worded f x)) (Some (bounding_child (nodes_in reads new rows) z)) told rise
     moved_made set front_is free back_is parts =
         let go : Bytes = moved page moves right (bytes_in mid before.rows) in
         let there : (w i : ℕ) → bytes_in new rows right w i ≡ raised right at f (moved page moves right (bytes_in mid before.rows)) right w i
@@ -174,7 +174,7 @@ module _ (reads : Reads) (before : View) (least level page at_level : ℕ) (s : 
         → ((a : Slots) → IsPutFree (kept_of moves (words_on (bytes_in before.pages before.rows page) s)) (worded f x) a
         → IsPart (words_on (bytes_in before.pages before.rows page) s) (worded f x) a (moved_of moves (words_on (bytes_in before.pages before.rows page) s)))
         → (z : Item) → z.to ≡ right → ((e : ℕ) → z.reach e ≡ tops e (reads back).slots) → (told : ℕ → ℕ) → ((d : ℕ) → told d ≡ tops d (reads front).slots) → (rise : ℕ → Type 0) → rise 1
-        → Makes reads before new rows count first least level page (words_on (bytes_in before.pages before.rows page) s) (Some (worded f x)) (Some (crowned (nodes_in reads new rows) z)) told rise
+        → Makes reads before new rows count first least level page (words_on (bytes_in before.pages before.rows page) s) (Some (worded f x)) (Some (bounding_child (nodes_in reads new rows) z)) told rise
     kept_made set free front_is back_is parts =
         let go : Bytes = moved page moves right (bytes_in mid before.rows) in
         let here : (w i : ℕ) → bytes_in new rows page w i ≡ raised page at f (moved page moves right (bytes_in mid before.rows)) page w i

@@ -2,14 +2,14 @@
 use Rattle.std.proofs.Common.{◌≡◌, ℕ, ◌+◌, ◌<◌, max, arith, sym, ap, ◌∙◌, subst, Some, None, inl, inr}
 use Rattle.page_face.specs.FreeList.{PageMap}
 use Rattle.btree_nodes.specs.Supply.{one_at}
-use Rattle.rtree_shape.specs.Slots.{Item, Slots, one, amount, tops, Each, IsFree, IsPart}
-use Rattle.rtree_shape.specs.Trees.{below, uses, IsItem, with_slot}
-use Rattle.rtree_shape.specs.Heads.{heads, heads_with}
-use Rattle.rtree_shape.specs.Stock.{View}
-use Rattle.rtree_shape.specs.Made.{Reads, sums_with, uses_with, reach_with}
-use Rattle.rtree_shape.proofs.Amounts.{same_or, with_slot-other, each-set}
-use Rattle.rtree_shape.proofs.Parts.{put-sum, put-top}
-use Rattle.rtree_shape.proofs.Adds.{each-from}
+use Rattle.rtree_nodes.specs.Slots.{Item, Slots, one, amount, tops, Each, IsFree, IsPart}
+use Rattle.rtree_nodes.specs.Trees.{below, uses, IsItem, with_slot}
+use Rattle.rtree_nodes.specs.Heads.{heads, heads_with}
+use Rattle.rtree_nodes.specs.Stock.{View}
+use Rattle.rtree_nodes.specs.Made.{Reads, sums_with, uses_with, reach_with}
+use Rattle.rtree_nodes.proofs.Amounts.{same_or, with_slot-other, each-set}
+use Rattle.rtree_nodes.proofs.TreeParts.{put-sum, put-top}
+use Rattle.rtree_nodes.proofs.Adds.{each-from}
 use Rattle.irtree_shape.specs.Made.{nodes_in, IsReady, IsMade, IsTwo}
 use Rattle.irtree_shape.proofs.Stores.{made-as}
 

@@ -3,18 +3,18 @@ use Rattle.std.proofs.Common.{◌≡◌, ℕ, suc, ◌+◌, ◌-◌, ◌<◌, �
 use Rattle.page_face.specs.FreeList.{PageMap}
 use Rattle.btree_nodes.specs.Supply.{one_at}
 use Rattle.btree_nodes.proofs.Supplies.{one_at-same, one_at-other}
-use Rattle.rtree_shape.specs.Slots.{Item, Slots, NodeView, NodeMap, got, amount, tops, Held}
-use Rattle.rtree_shape.specs.Trees.{below, uses, IsItem, IsNode, Stands, node_below, node_uses, stand_uses}
-use Rattle.rtree_shape.specs.Heads.{heads, stand_heads, total_heads}
-use Rattle.rtree_shape.specs.Stock.{View, view, spare_in}
-use Rattle.rtree_shape.specs.Made.{Reads}
-use Rattle.rtree_shape.proofs.Amounts.{amount-at}
-use Rattle.rtree_shape.proofs.Frames.{SameSlots, SameItem, slots-frame, item-frame}
-use Rattle.rtree_shape.proofs.Heads.{item-heads, slots-heads, step-heads, total-append}
-use Rattle.rtree_shape.proofs.Steps.{Stepped, stepped}
+use Rattle.rtree_nodes.specs.Slots.{Item, Slots, NodeView, NodeMap, got, amount, tops, Held}
+use Rattle.rtree_nodes.specs.Trees.{below, uses, IsItem, IsNode, Stands, node_below, node_uses, stand_uses}
+use Rattle.rtree_nodes.specs.Heads.{heads, stand_heads, total_heads}
+use Rattle.rtree_nodes.specs.Stock.{View, view, spare_in}
+use Rattle.rtree_nodes.specs.Made.{Reads}
+use Rattle.rtree_nodes.proofs.Amounts.{amount-at}
+use Rattle.rtree_nodes.proofs.Frames.{SameSlots, SameItem, slots-frame, item-frame}
+use Rattle.rtree_nodes.proofs.Heads.{item-heads, slots-heads, step-heads, total-append}
+use Rattle.rtree_nodes.proofs.Steps.{Stepped, stepped}
 use Rattle.node_rows.specs.Rows.{bytes_in}
 use Rattle.irtree_shape.specs.Stock.{Moves}
-use Rattle.irtree_shape.specs.Steps.{crowned_in}
+use Rattle.irtree_shape.specs.Steps.{bounding_child_in}
 use Rattle.irtree_shape.specs.Made.{nodes_in, IsReady, IsOpen, Makes, Puts}
 use Rattle.irtree_shape.proofs.Stocks.{still, moves-as, moves-beside, moves-further}
 use Rattle.irtree_shape.proofs.Words.{words-none}
@@ -119,9 +119,9 @@ put_here reads before pages rows count first least level page goal x more told r
     subst (λ (l : ℕ). Puts reads before pages rows count first least level page l x more told rise) e made
 
 -- a child's words are the same where its node is
-pub crown-same : (a b : NodeMap) (m : Option Item) → ((y : Item) → m ≡ Some y → b y.to ≡ a y.to) → crowned_in b m ≡ crowned_in a m
-crown-same a b None h = refl
-crown-same a b (Some y) h = ap (λ (v : NodeView). Some (record y { reach = λ d. if nat_lt d 4 then y.reach d else tops d v.slots })) (h y refl)
+pub bounding-same : (a b : NodeMap) (m : Option Item) → ((y : Item) → m ≡ Some y → b y.to ≡ a y.to) → bounding_child_in b m ≡ bounding_child_in a m
+bounding-same a b None h = refl
+bounding-same a b (Some y) h = ap (λ (v : NodeView). Some (record y { reach = λ d. if nat_lt d 4 then y.reach d else tops d v.slots })) (h y refl)
 
 -- above it
 module _ (reads : Reads) (before : View) (least level page goal : ℕ) (x : Item) (opened : IsOpen reads before least (suc level) page goal x) (low : goal ≤ level)
@@ -163,7 +163,7 @@ module _ (reads : Reads) (before : View) (least level page goal : ℕ) (x : Item
   pub page_away : node_uses (nodes_in reads before.pages before.rows) level z.to page + uses (nodes_in reads before.pages before.rows) goal x page ≡ 0
   page_away = let o = opened.once page in let p = one_at-same page in let a = least_part page in omega arith
 
-  module _ (mid : PageMap) (rows count first : ℕ) (m : Option Item) (told : ℕ → ℕ) (rise : ℕ → Type 0) (put : Puts reads before mid rows count first 12 level z.to goal x (crowned_in (nodes_in reads mid rows) m) told rise) where
+  module _ (mid : PageMap) (rows count first : ℕ) (m : Option Item) (told : ℕ → ℕ) (rise : ℕ → Type 0) (put : Puts reads before mid rows count first 12 level z.to goal x (bounding_child_in (nodes_in reads mid rows) m) told rise) where
     -- nor is it spare once the child has changed
     pub page_spare : spare_in (view mid rows count first put.free) page ≡ 0
     page_spare = let e = put.moves.kept page in let a = page_away in let u = page_unspared in omega arith
@@ -178,34 +178,34 @@ module _ (reads : Reads) (before : View) (least level page goal : ℕ) (x : Item
 
     -- the rows of the child and of what was made beside it stay where the page alone changes
     pub made_same : (linked : PageMap) (rows2 count2 first2 : ℕ) (free2 : List ℕ) → Moves (view mid rows count first put.free) (view linked rows2 count2 first2 free2) (one_at page) (one_at page)
-        → (n : ℕ) → 0 < stand_uses (nodes_in reads mid rows) level z.to (crowned_in (nodes_in reads mid rows) m) n → (w i : ℕ) → bytes_in linked rows2 n w i ≡ bytes_in mid rows n w i
+        → (n : ℕ) → 0 < stand_uses (nodes_in reads mid rows) level z.to (bounding_child_in (nodes_in reads mid rows) m) n → (w i : ℕ) → bytes_in linked rows2 n w i ≡ bytes_in mid rows n w i
     made_same linked rows2 count2 first2 free2 shift n l = (let e = put.moves.kept n in let o = opened.once n in let a = least_part n in shift.others n (omega arith) (omega arith)).bytes
 
     module _ (linked : PageMap) (rows2 count2 first2 : ℕ) (free2 : List ℕ) (shift : Moves (view mid rows count first put.free) (view linked rows2 count2 first2 free2) (one_at page) (one_at page))
         (t : Slots) (z' : Item) (there : t at ≡ Some z') (same : (i : ℕ) → (i ≡ at → ⊥) → t i ≡ (nodes_in reads before.pages before.rows page).slots i) (to : z'.to ≡ z.to)
         (least_is : (d : ℕ) → z'.reach d ≡ tops d (nodes_in reads mid rows z.to).slots) (empty : (w i : ℕ) → t i ≡ None → bytes_in linked rows2 page w i ≡ 0) where
-      later : (n : ℕ) → 0 < stand_uses (nodes_in reads mid rows) level z.to (crowned_in (nodes_in reads mid rows) m) n → nodes_in reads linked rows2 n ≡ nodes_in reads mid rows n
+      later : (n : ℕ) → 0 < stand_uses (nodes_in reads mid rows) level z.to (bounding_child_in (nodes_in reads mid rows) m) n → nodes_in reads linked rows2 n ≡ nodes_in reads mid rows n
       later n l = still reads (view mid rows count first put.free) (view linked rows2 count2 first2 free2) n (let e = put.moves.kept n in let o = opened.once n in let a = least_part n in shift.others n (omega arith) (omega arith))
 
-      stood : StandsLater (nodes_in reads mid rows) (nodes_in reads linked rows2) 12 level z.to (crowned_in (nodes_in reads mid rows) m) (λ f. node_below (nodes_in reads before.pages before.rows) f level z.to + below (nodes_in reads before.pages before.rows) f goal x) (λ d. max (tops d (nodes_in reads before.pages before.rows z.to).slots) (x.reach d))
-      stood = stands-later (nodes_in reads mid rows) (nodes_in reads linked rows2) 12 level z.to _ _ (crowned_in (nodes_in reads mid rows) m) put.stands later
+      stood : StandsLater (nodes_in reads mid rows) (nodes_in reads linked rows2) 12 level z.to (bounding_child_in (nodes_in reads mid rows) m) (λ f. node_below (nodes_in reads before.pages before.rows) f level z.to + below (nodes_in reads before.pages before.rows) f goal x) (λ d. max (tops d (nodes_in reads before.pages before.rows z.to).slots) (x.reach d))
+      stood = stands-later (nodes_in reads mid rows) (nodes_in reads linked rows2) 12 level z.to _ _ (bounding_child_in (nodes_in reads mid rows) m) put.stands later
 
       child_same : nodes_in reads linked rows2 z.to ≡ nodes_in reads mid rows z.to
       child_same = later z.to (let o = one_at-same z.to in omega arith)
 
-      step : Stepped (nodes_in reads before.pages before.rows) (nodes_in reads linked rows2) (suc level) (nodes_in reads before.pages before.rows page).slots t z z' (crowned_in (nodes_in reads mid rows) m) (λ f. below (nodes_in reads before.pages before.rows) f goal x) (λ d. x.reach d)
-      step = stepped (nodes_in reads before.pages before.rows) (nodes_in reads linked rows2) level (nodes_in reads before.pages before.rows page).slots t at z z' (crowned_in (nodes_in reads mid rows) m) (λ f. below (nodes_in reads before.pages before.rows) f goal x) (λ d. x.reach d)
+      step : Stepped (nodes_in reads before.pages before.rows) (nodes_in reads linked rows2) (suc level) (nodes_in reads before.pages before.rows page).slots t z z' (bounding_child_in (nodes_in reads mid rows) m) (λ f. below (nodes_in reads before.pages before.rows) f goal x) (λ d. x.reach d)
+      step = stepped (nodes_in reads before.pages before.rows) (nodes_in reads linked rows2) level (nodes_in reads before.pages before.rows page).slots t at z z' (bounding_child_in (nodes_in reads mid rows) m) (λ f. below (nodes_in reads before.pages before.rows) f goal x) (λ d. x.reach d)
           within here there same to (λ d. least_is d ∙ ap (λ (v : NodeView). tops d v.slots) (sym child_same)) its.1
           opened.node.items (λ n. let o = opened.once n in omega arith)
           (λ n h l. let o = opened.once n in let e = put.moves.kept n in
           still reads (view mid rows count first put.free) (view linked rows2 count2 first2 free2) n (shift.others n (omega arith) (omega arith)) ∙ still reads before (view mid rows count first put.free) n (put.moves.others n (omega arith) (omega arith)))
           stood.stands
 
-      more_same : crowned_in (nodes_in reads linked rows2) m ≡ crowned_in (nodes_in reads mid rows) m
-      more_same = crown-same (nodes_in reads mid rows) (nodes_in reads linked rows2) m (λ y e. later y.to (let o = one_at-same y.to in let a = ap (λ (q : Option Item). got (λ v. uses (nodes_in reads mid rows) (suc level) v y.to) (crowned_in (nodes_in reads mid rows) q)) e in omega arith))
+      more_same : bounding_child_in (nodes_in reads linked rows2) m ≡ bounding_child_in (nodes_in reads mid rows) m
+      more_same = bounding-same (nodes_in reads mid rows) (nodes_in reads linked rows2) m (λ y e. later y.to (let o = one_at-same y.to in let a = ap (λ (q : Option Item). got (λ v. uses (nodes_in reads mid rows) (suc level) v y.to) (bounding_child_in (nodes_in reads mid rows) q)) e in omega arith))
 
       -- the slots may be written once the child has changed
-      pub ready_again : (l : ℕ) → l ≡ suc level → IsReady reads (view linked rows2 count2 first2 free2) least (suc level) page (record { level = l; slots = t }) (crowned_in (nodes_in reads linked rows2) m)
+      pub ready_again : (l : ℕ) → l ≡ suc level → IsReady reads (view linked rows2 count2 first2 free2) least (suc level) page (record { level = l; slots = t }) (bounding_child_in (nodes_in reads linked rows2) m)
       ready_again l e = subst (λ (q : Option Item). IsReady reads (view linked rows2 count2 first2 free2) least (suc level) page (record { level = l; slots = t }) q) (sym more_same) (record {
         level_is = e;
         some = let a = step.as_many in let b = opened.node.some in omega arith;
@@ -221,32 +221,32 @@ module _ (reads : Reads) (before : View) (least level page goal : ℕ) (x : Item
       })
 
       -- the nodes below the slots, and beside them
-      stepped_heads : (g : ℕ → ℕ → ℕ) → amount (λ y. heads (nodes_in reads linked rows2) g (suc level) y) t + got (λ y. heads (nodes_in reads linked rows2) g (suc level) y) (crowned_in (nodes_in reads mid rows) m)
+      stepped_heads : (g : ℕ → ℕ → ℕ) → amount (λ y. heads (nodes_in reads linked rows2) g (suc level) y) t + got (λ y. heads (nodes_in reads linked rows2) g (suc level) y) (bounding_child_in (nodes_in reads mid rows) m)
           ≡ amount (λ y. heads (nodes_in reads before.pages before.rows) g (suc level) y) (nodes_in reads before.pages before.rows page).slots + (heads (nodes_in reads before.pages before.rows) g goal x + total_heads g put.fresh)
-      stepped_heads g = step-heads (nodes_in reads before.pages before.rows) (nodes_in reads linked rows2) g level (nodes_in reads before.pages before.rows page).slots t at z z' (crowned_in (nodes_in reads mid rows) m) (heads (nodes_in reads before.pages before.rows) g goal x + total_heads g put.fresh)
+      stepped_heads g = step-heads (nodes_in reads before.pages before.rows) (nodes_in reads linked rows2) g level (nodes_in reads before.pages before.rows page).slots t at z z' (bounding_child_in (nodes_in reads mid rows) m) (heads (nodes_in reads before.pages before.rows) g goal x + total_heads g put.fresh)
           within here there same to (λ n. let o = opened.once n in omega arith)
           (λ n h l. let o = opened.once n in let e = put.moves.kept n in
           still reads (view mid rows count first put.free) (view linked rows2 count2 first2 free2) n (shift.others n (omega arith) (omega arith)) ∙ still reads before (view mid rows count first put.free) n (put.moves.others n (omega arith) (omega arith)))
-          (let a = stand-heads (nodes_in reads mid rows) (nodes_in reads linked rows2) g level z.to (crowned_in (nodes_in reads mid rows) m) later in let b = put.counts_are g in omega arith)
+          (let a = stand-heads (nodes_in reads mid rows) (nodes_in reads linked rows2) g level z.to (bounding_child_in (nodes_in reads mid rows) m) later in let b = put.counts_are g in omega arith)
 
       moved : Moves before (view linked rows2 count2 first2 free2) (λ n. node_uses (nodes_in reads before.pages before.rows) (suc level) page n + uses (nodes_in reads before.pages before.rows) goal x n)
-          (λ n. one_at page n + amount (λ y. uses (nodes_in reads linked rows2) (suc level) y n) t + got (λ y. uses (nodes_in reads linked rows2) (suc level) y n) (crowned_in (nodes_in reads mid rows) m))
+          (λ n. one_at page n + amount (λ y. uses (nodes_in reads linked rows2) (suc level) y n) t + got (λ y. uses (nodes_in reads linked rows2) (suc level) y n) (bounding_child_in (nodes_in reads mid rows) m))
       moved = moves-further
-          (moves-as {g' = λ n. one_at page n + (stand_uses (nodes_in reads mid rows) level z.to (crowned_in (nodes_in reads mid rows) m) n + (amount (λ y. uses (nodes_in reads before.pages before.rows) (suc level) y n) (nodes_in reads before.pages before.rows page).slots - uses (nodes_in reads before.pages before.rows) (suc level) z n))}
+          (moves-as {g' = λ n. one_at page n + (stand_uses (nodes_in reads mid rows) level z.to (bounding_child_in (nodes_in reads mid rows) m) n + (amount (λ y. uses (nodes_in reads before.pages before.rows) (suc level) y n) (nodes_in reads before.pages before.rows page).slots - uses (nodes_in reads before.pages before.rows) (suc level) z n))}
           (λ n. let a = least_part n in omega arith) (λ n. omega arith)
           (moves-beside (λ n. one_at page n + (amount (λ y. uses (nodes_in reads before.pages before.rows) (suc level) y n) (nodes_in reads before.pages before.rows page).slots - uses (nodes_in reads before.pages before.rows) (suc level) z n)) put.moves))
           (moves-as (λ n. omega arith)
           (λ n. let a = least_part n in let p = step.pages n in let q = stood.pages n in let u : one_at z'.to n ≡ one_at z.to n = ap (λ (v : ℕ). one_at v n) to in
           let w : amount (λ y. uses (nodes_in reads linked rows2) level y n) (nodes_in reads linked rows2 z'.to).slots ≡ amount (λ y. uses (nodes_in reads linked rows2) level y n) (nodes_in reads linked rows2 z.to).slots = ap (λ (v : ℕ). amount (λ y. uses (nodes_in reads linked rows2) level y n) (nodes_in reads linked rows2 v).slots) to in
           omega arith)
-          (moves-beside (λ n. stand_uses (nodes_in reads mid rows) level z.to (crowned_in (nodes_in reads mid rows) m) n + (amount (λ y. uses (nodes_in reads before.pages before.rows) (suc level) y n) (nodes_in reads before.pages before.rows page).slots - uses (nodes_in reads before.pages before.rows) (suc level) z n)) shift))
+          (moves-beside (λ n. stand_uses (nodes_in reads mid rows) level z.to (bounding_child_in (nodes_in reads mid rows) m) n + (amount (λ y. uses (nodes_in reads before.pages before.rows) (suc level) y n) (nodes_in reads before.pages before.rows page).slots - uses (nodes_in reads before.pages before.rows) (suc level) z n)) shift))
 
       -- the slots were written, and the item is put in
       pub put_again : (new : PageMap) (rows' count' first' : ℕ) (more' : Option Item) (told' : ℕ → ℕ) (rise' rise2 : ℕ → Type 0) → ((a b : ℕ) → rise a → rise' b → rise2 (a + b))
-          → Makes reads (view linked rows2 count2 first2 free2) new rows' count' first' least (suc level) page t (crowned_in (nodes_in reads linked rows2) m) more' told' rise'
+          → Makes reads (view linked rows2 count2 first2 free2) new rows' count' first' least (suc level) page t (bounding_child_in (nodes_in reads linked rows2) m) more' told' rise'
           → Puts reads before new rows' count' first' least (suc level) page goal x more' told' rise2
       put_again new rows' count' first' more' told' rise' rise2 join made' =
-          let made : Makes reads (view linked rows2 count2 first2 free2) new rows' count' first' least (suc level) page t (crowned_in (nodes_in reads mid rows) m) more' told' rise' =
+          let made : Makes reads (view linked rows2 count2 first2 free2) new rows' count' first' least (suc level) page t (bounding_child_in (nodes_in reads mid rows) m) more' told' rise' =
           subst (λ (q : Option Item). Makes reads (view linked rows2 count2 first2 free2) new rows' count' first' least (suc level) page t q more' told' rise') more_same made' in
           record {
             free = made.free;

@@ -5,9 +5,9 @@ use Rattle.std.proofs.lemmas.Bool.{ne_eqb}
 use Rattle.std.proofs.lemmas.Slice.Eq.{bytes_eq-Decides}
 use Rattle.spatial_base.specs.Point.{Position}
 use Rattle.spatial_base.specs.Rect.{rect_of}
-use Rattle.rtree_shape.specs.Slots.{Item}
+use Rattle.rtree_nodes.specs.Slots.{Item}
 use Rattle.rtree_nodes.specs.Reach.{place_item, reach_of}
-use Rattle.rtree_find.specs.Entries.{is_entry, is_place_of}
+use Rattle.rtree_nodes.specs.Entries.{is_entry, is_place_of}
 use Rattle.irtree_shape.specs.Words.{worded}
 use Rattle.irtree_shape.specs.Entries.{has_impact}
 use Rattle.irtree_shape.proofs.Relinks.{worded-reach}

@@ -3,14 +3,14 @@ use Rattle.std.proofs.Common.{◌≡◌, ℕ, zero, suc, ◌+◌, ◌<◌, ◌�
 use Rattle.page_face.specs.FreeList.{PageMap}
 use Rattle.btree_nodes.specs.Supply.{one_at}
 use Rattle.btree_nodes.proofs.Supplies.{one_at-same, one_at-other, none}
-use Rattle.rtree_shape.specs.Slots.{Item, NodeMap, amount, filled, Held}
-use Rattle.rtree_shape.specs.Trees.{below, uses, IsItem, IsNode, IsTree, node_below, node_uses, root_least}
-use Rattle.rtree_shape.specs.Stock.{View, view, spare_in}
-use Rattle.rtree_shape.specs.Made.{Reads}
-use Rattle.rtree_shape.specs.Loose.{Loose, AllLoose, Leads, IsAt, out_below}
-use Rattle.rtree_shape.proofs.Amounts.{same_or}
-use Rattle.rtree_shape.proofs.Frames.{item-frame}
-use Rattle.rtree_shape.proofs.Fells.{least-between, amount-single}
+use Rattle.rtree_nodes.specs.Slots.{Item, NodeMap, amount, filled, Held}
+use Rattle.rtree_nodes.specs.Trees.{below, uses, IsItem, IsNode, IsTree, node_below, node_uses, root_least}
+use Rattle.rtree_nodes.specs.Stock.{View, view, spare_in}
+use Rattle.rtree_nodes.specs.Made.{Reads}
+use Rattle.rtree_nodes.specs.Loose.{Loose, AllLoose, Leads, IsAt, out_below}
+use Rattle.rtree_nodes.proofs.Amounts.{same_or}
+use Rattle.rtree_nodes.proofs.Frames.{item-frame}
+use Rattle.rtree_nodes.proofs.Fells.{least-between, amount-single}
 use Rattle.irtree_shape.specs.Stock.{Moves}
 use Rattle.irtree_shape.specs.Made.{nodes_in, IsBlank}
 use Rattle.irtree_shape.specs.Loose.{IsTaking, TakesOut, IsStanding}

@@ -7,7 +7,7 @@ use Rattle.page_face.specs.declared.fault.Rule.TheVariants.{Head, Link, Kind, Fi
 use Rattle.page_face.specs.declared.fault.Damage.{Damage}
 use Rattle.btree_nodes.specs.Damages.{AsksOnly}
 use Rattle.btree_nodes.proofs.Harms.{asked-before}
-use Rattle.rtree_find.specs.Harms.{BreaksAlone, HasWrongLevel, IsMislevelled, IsHarm}
+use Rattle.rtree_nodes.specs.Harms.{BreaksAlone, HasWrongLevel, IsMislevelled, IsHarm}
 use Rattle.node_rows.proofs.Harms.{harm-later}
 use Rattle.irtree_shape.specs.Damages.{BreaksAnywhere, IsBroken, IsNodeHarm, IsTreeHarm}
 

@@ -5,15 +5,15 @@ use Rattle.btree_nodes.specs.Supply.{one_at}
 use Rattle.btree_nodes.proofs.Supplies.{one_at-same, one_at-other}
 use Rattle.node_rows.specs.Rows.{bytes_in}
 use Rattle.node_rows.specs.Impacts.{top_at}
-use Rattle.rtree_shape.specs.Slots.{Item, Slots, NodeMap, got, amount, Held, Each}
-use Rattle.rtree_shape.specs.Trees.{below, uses, IsItem}
-use Rattle.rtree_shape.specs.Stock.{View, view, spare_in}
-use Rattle.rtree_shape.specs.Made.{Reads}
-use Rattle.rtree_shape.specs.Loose.{Loose, total_loose, IsNodeItem, IsAt, with_opt}
-use Rattle.rtree_shape.proofs.Amounts.{amount-put, amount-at, without, without-same, without-other, each-without}
-use Rattle.rtree_shape.proofs.Frames.{item-frame, slots-frame, SameSlots}
-use Rattle.rtree_shape.proofs.Looses.{loose-frame, SameLoose}
-use Rattle.rtree_shape.proofs.Outs.{opt-sum, opt-each}
+use Rattle.rtree_nodes.specs.Slots.{Item, Slots, NodeMap, got, amount, Held, Each}
+use Rattle.rtree_nodes.specs.Trees.{below, uses, IsItem}
+use Rattle.rtree_nodes.specs.Stock.{View, view, spare_in}
+use Rattle.rtree_nodes.specs.Made.{Reads}
+use Rattle.rtree_nodes.specs.Loose.{Loose, total_loose, IsNodeItem, IsAt, with_opt}
+use Rattle.rtree_nodes.proofs.Amounts.{amount-put, amount-at, without, without-same, without-other, each-without}
+use Rattle.rtree_nodes.proofs.Frames.{item-frame, slots-frame, SameSlots}
+use Rattle.rtree_nodes.proofs.Looses.{loose-frame, SameLoose}
+use Rattle.rtree_nodes.proofs.Outs.{opt-sum, opt-each}
 use Rattle.irtree_shape.specs.Words.{AreBlank}
 use Rattle.irtree_shape.specs.Stock.{IsAsBefore, Moves}
 use Rattle.irtree_shape.specs.Made.{nodes_in}

@@ -3,16 +3,16 @@ use Rattle.std.proofs.Common.{◌≡◌, ℕ, zero, suc, ◌+◌, ◌<◌, ◌�
 use Rattle.page_face.specs.FreeList.{PageMap}
 use Rattle.btree_nodes.specs.Supply.{one_at}
 use Rattle.btree_nodes.proofs.Supplies.{none, one_at-same, one_at-other}
-use Rattle.rtree_shape.specs.Slots.{Item, Slots, NodeView, Each, one, amount, tops}
-use Rattle.rtree_shape.specs.Trees.{below, uses, IsItem, IsTree, with_slot, root_least, node_below, node_uses, stand_uses}
-use Rattle.rtree_shape.specs.Heads.{heads, node_heads, stand_heads, total_heads}
-use Rattle.rtree_shape.specs.Stock.{View, view, spare_in}
-use Rattle.rtree_shape.specs.Made.{Reads}
-use Rattle.rtree_shape.proofs.Amounts.{same_or}
-use Rattle.rtree_shape.proofs.Heads.{total-append}
-use Rattle.rtree_shape.proofs.Plants.{least-some}
-use Rattle.rtree_shape.proofs.Raises.{one-sum, one-each}
-use Rattle.rtree_shape.proofs.Heights.{none_or}
+use Rattle.rtree_nodes.specs.Slots.{Item, Slots, NodeView, Each, one, amount, tops}
+use Rattle.rtree_nodes.specs.Trees.{below, uses, IsItem, IsTree, with_slot, root_least, node_below, node_uses, stand_uses}
+use Rattle.rtree_nodes.specs.Heads.{heads, node_heads, stand_heads, total_heads}
+use Rattle.rtree_nodes.specs.Stock.{View, view, spare_in}
+use Rattle.rtree_nodes.specs.Made.{Reads}
+use Rattle.rtree_nodes.proofs.Amounts.{same_or}
+use Rattle.rtree_nodes.proofs.Heads.{total-append}
+use Rattle.rtree_nodes.proofs.Plants.{least-some}
+use Rattle.rtree_nodes.proofs.Raises.{one-sum, one-each}
+use Rattle.rtree_nodes.proofs.Heights.{none_or}
 use Rattle.node_rows.specs.Rows.{bytes_in}
 use Rattle.node_rows.specs.Impacts.{impact_in, raised}
 use Rattle.irtree_shape.specs.Words.{worded, joined, words_on}

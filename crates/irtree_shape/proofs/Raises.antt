@@ -5,37 +5,37 @@ use Rattle.std.proofs.Math.Path.{fun_ext}
 use Rattle.page_face.specs.FreeList.{PageMap}
 use Rattle.btree_nodes.specs.Supply.{one_at}
 use Rattle.btree_nodes.proofs.Supplies.{one_at-same, one_at-other}
-use Rattle.rtree_shape.specs.Slots.{Item, Slots, NodeView, NodeMap, one, amount, tops}
-use Rattle.rtree_shape.specs.Trees.{below, uses, IsItem, IsNode, with_slot, node_below, node_uses, stand_uses}
-use Rattle.rtree_shape.specs.Heads.{heads, node_heads, stand_heads}
-use Rattle.rtree_shape.specs.Stock.{View, view, spare_in}
-use Rattle.rtree_shape.specs.Made.{Reads}
-use Rattle.rtree_shape.proofs.Amounts.{same_or, with_slot-same, with_slot-other}
-use Rattle.rtree_shape.proofs.Frames.{item-frame, SameItem}
-use Rattle.rtree_shape.proofs.Heads.{item-heads}
-use Rattle.rtree_shape.proofs.Raises.{two-sum, two-top, two-each}
+use Rattle.rtree_nodes.specs.Slots.{Item, Slots, NodeView, NodeMap, one, amount, tops}
+use Rattle.rtree_nodes.specs.Trees.{below, uses, IsItem, IsNode, with_slot, node_below, node_uses, stand_uses}
+use Rattle.rtree_nodes.specs.Heads.{heads, node_heads, stand_heads}
+use Rattle.rtree_nodes.specs.Stock.{View, view, spare_in}
+use Rattle.rtree_nodes.specs.Made.{Reads}
+use Rattle.rtree_nodes.proofs.Amounts.{same_or, with_slot-same, with_slot-other}
+use Rattle.rtree_nodes.proofs.Frames.{item-frame, SameItem}
+use Rattle.rtree_nodes.proofs.Heads.{item-heads}
+use Rattle.rtree_nodes.proofs.Raises.{two-sum, two-top, two-each}
 use Rattle.node_rows.specs.Rows.{bytes_in}
 use Rattle.node_rows.specs.Impacts.{refreshed}
 use Rattle.node_rows.proofs.Impacts.{top-at-same}
 use Rattle.node_inverted.proofs.Refreshes.{refreshed-here, refreshed-beside}
 use Rattle.irtree_shape.specs.Words.{joined, joined_item, words_on}
 use Rattle.irtree_shape.specs.Stock.{Moves}
-use Rattle.irtree_shape.specs.Steps.{Steps, Takes, crowned}
+use Rattle.irtree_shape.specs.Steps.{Steps, Takes, bounding_child}
 use Rattle.irtree_shape.specs.Made.{nodes_in, IsBlank, IsMade, IsRaised}
 use Rattle.irtree_shape.proofs.Stocks.{still, moves-as, moves-beside, moves-further}
 use Rattle.irtree_shape.proofs.Stores.{blank-after}
 use Rattle.irtree_shape.proofs.Relinks.{node-top, less_or}
 
 -- a child's item with the words below it reaches as far as its node
-pub crown-reach : (nodes : NodeMap) (x : Item) → ((d : ℕ) → d < 4 → x.reach d ≡ tops d (nodes x.to).slots) → (d : ℕ) → (crowned nodes x).reach d ≡ tops d (nodes x.to).slots
-crown-reach nodes x h d = elim (less_or d) [
+pub bounding-reach : (nodes : NodeMap) (x : Item) → ((d : ℕ) → d < 4 → x.reach d ≡ tops d (nodes x.to).slots) → (d : ℕ) → (bounding_child nodes x).reach d ≡ tops d (nodes x.to).slots
+bounding-reach nodes x h d = elim (less_or d) [
   | inl l ↦ let t : nat_lt d 4 ≡ true = grind (arith, nat_tests) in ap (λ (q : Bool). if q then x.reach d else tops d (nodes x.to).slots) t ∙ h d l
   | inr l ↦ let t : nat_lt d 4 ≡ false = grind (arith, nat_tests) in ap (λ (q : Bool). if q then x.reach d else tops d (nodes x.to).slots) t
 ]
 
 -- an item whose slot's bytes are the words below its child
-pub joined-crown : (nodes : NodeMap) (b : ℕ → ℕ → ℕ) (at : ℕ) (x : Item) → ((w : ℕ) → b w at ≡ tops (4 + w) (nodes x.to).slots) → joined_item b at x ≡ crowned nodes x
-joined-crown nodes b at x h = ap (λ (r : ℕ → ℕ). record x { reach = r }) (fun_ext (λ d. elim (less_or d) [
+pub joined-bounding : (nodes : NodeMap) (b : ℕ → ℕ → ℕ) (at : ℕ) (x : Item) → ((w : ℕ) → b w at ≡ tops (4 + w) (nodes x.to).slots) → joined_item b at x ≡ bounding_child nodes x
+joined-bounding nodes b at x h = ap (λ (r : ℕ → ℕ). record x { reach = r }) (fun_ext (λ d. elim (less_or d) [
   | inl l ↦ let t : nat_lt d 4 ≡ true = grind (arith, nat_tests) in ap (λ (q : Bool). if q then x.reach d else b (d - 4) at) t ∙ sym (ap (λ (q : Bool). if q then x.reach d else tops d (nodes x.to).slots) t)
   | inr l ↦ let t : nat_lt d 4 ≡ false = grind (arith, nat_tests) in let e : 4 + (d - 4) ≡ d = omega arith in
       ap (λ (q : Bool). if q then x.reach d else b (d - 4) at) t ∙ h (d - 4) ∙ ap (λ (m : ℕ). tops m (nodes x.to).slots) e ∙ sym (ap (λ (q : Bool). if q then x.reach d else tops d (nodes x.to).slots) t)
@@ -108,7 +108,7 @@ module _ (reads : Reads) (before : View) (new : PageMap) (rows' count first : �
   }
 
 -- the steps to such a node: its page is taken and written, and the words below both children are set
-module _ (reads : Reads) (before : View) (least level root top : ℕ) (left more : Item) (sums : (Item → ℕ) → ℕ) (reach told : ℕ → ℕ) (raised : IsRaised reads before least level root (crowned (nodes_in reads before.pages before.rows) more) sums reach told)
+module _ (reads : Reads) (before : View) (least level root top : ℕ) (left more : Item) (sums : (Item → ℕ) → ℕ) (reach told : ℕ → ℕ) (raised : IsRaised reads before least level root (bounding_child (nodes_in reads before.pages before.rows) more) sums reach told)
     (left_to : left.to ≡ root) (left_reach : (d : ℕ) → left.reach d ≡ told d) (taken : PageMap) (r0 c0 f0 : ℕ) (bytes : List ℕ) (take : Takes before taken r0 c0 f0 top bytes) where
   -- its page isn't spare any more
   pub top_spare : spare_in (view taken r0 c0 f0 take.free) top ≡ 0
@@ -180,21 +180,21 @@ module _ (reads : Reads) (before : View) (least level root top : ℕ) (left more
           ]
         ]
 
-        left_is : joined_item (bytes_in m2 r2 top) 0 left ≡ crowned (nodes_in reads before.pages before.rows) left
-        left_is = joined-crown (nodes_in reads before.pages before.rows) (bytes_in m2 r2 top) 0 left (λ w. at_zero w ∙ ap (λ (m : ℕ). tops (4 + w) (nodes_in reads before.pages before.rows m).slots) (sym left_to))
+        left_is : joined_item (bytes_in m2 r2 top) 0 left ≡ bounding_child (nodes_in reads before.pages before.rows) left
+        left_is = joined-bounding (nodes_in reads before.pages before.rows) (bytes_in m2 r2 top) 0 left (λ w. at_zero w ∙ ap (λ (m : ℕ). tops (4 + w) (nodes_in reads before.pages before.rows m).slots) (sym left_to))
 
-        more_is : joined_item (bytes_in m2 r2 top) 1 more ≡ crowned (nodes_in reads before.pages before.rows) more
-        more_is = joined-crown (nodes_in reads before.pages before.rows) (bytes_in m2 r2 top) 1 more at_one
+        more_is : joined_item (bytes_in m2 r2 top) 1 more ≡ bounding_child (nodes_in reads before.pages before.rows) more
+        more_is = joined-bounding (nodes_in reads before.pages before.rows) (bytes_in m2 r2 top) 1 more at_one
 
-        slots_is : words_on (bytes_in m2 r2 top) u ≡ with_slot 1 (crowned (nodes_in reads before.pages before.rows) more) (with_slot 0 (crowned (nodes_in reads before.pages before.rows) left) (λ i. None))
+        slots_is : words_on (bytes_in m2 r2 top) u ≡ with_slot 1 (bounding_child (nodes_in reads before.pages before.rows) more) (with_slot 0 (bounding_child (nodes_in reads before.pages before.rows) left) (λ i. None))
         slots_is = fun_ext (λ i. elim (same_or i 1) [
           | inl e ↦ ap (words_on (bytes_in m2 r2 top) u) e ∙ ap (λ (o : Option Item). option_map (joined_item (bytes_in m2 r2 top) 1) o) u_one ∙ ap Some more_is
-              ∙ sym (ap (with_slot 1 (crowned (nodes_in reads before.pages before.rows) more) (with_slot 0 (crowned (nodes_in reads before.pages before.rows) left) (λ j. None))) e ∙ with_slot-same 1 (crowned (nodes_in reads before.pages before.rows) more) (with_slot 0 (crowned (nodes_in reads before.pages before.rows) left) (λ j. None)))
+              ∙ sym (ap (with_slot 1 (bounding_child (nodes_in reads before.pages before.rows) more) (with_slot 0 (bounding_child (nodes_in reads before.pages before.rows) left) (λ j. None))) e ∙ with_slot-same 1 (bounding_child (nodes_in reads before.pages before.rows) more) (with_slot 0 (bounding_child (nodes_in reads before.pages before.rows) left) (λ j. None)))
           | inr d ↦ elim (same_or i 0) [
             | inl e ↦ ap (words_on (bytes_in m2 r2 top) u) e ∙ ap (λ (o : Option Item). option_map (joined_item (bytes_in m2 r2 top) 0) o) u_zero ∙ ap Some left_is
-                ∙ sym (with_slot-other 1 (crowned (nodes_in reads before.pages before.rows) more) (with_slot 0 (crowned (nodes_in reads before.pages before.rows) left) (λ j. None)) i d ∙ ap (with_slot 0 (crowned (nodes_in reads before.pages before.rows) left) (λ j. None)) e ∙ with_slot-same 0 (crowned (nodes_in reads before.pages before.rows) left) (λ j. None))
+                ∙ sym (with_slot-other 1 (bounding_child (nodes_in reads before.pages before.rows) more) (with_slot 0 (bounding_child (nodes_in reads before.pages before.rows) left) (λ j. None)) i d ∙ ap (with_slot 0 (bounding_child (nodes_in reads before.pages before.rows) left) (λ j. None)) e ∙ with_slot-same 0 (bounding_child (nodes_in reads before.pages before.rows) left) (λ j. None))
             | inr d' ↦ ap (λ (o : Option Item). option_map (joined_item (bytes_in m2 r2 top) i) o) (ap (λ (q : Slots). q i) is_u ∙ with_slot-other 1 more t i d ∙ ap (λ (q : Slots). q i) is_t ∙ with_slot-other 0 left s i d' ∙ none i)
-                ∙ sym (with_slot-other 1 (crowned (nodes_in reads before.pages before.rows) more) (with_slot 0 (crowned (nodes_in reads before.pages before.rows) left) (λ j. None)) i d ∙ with_slot-other 0 (crowned (nodes_in reads before.pages before.rows) left) (λ j. None) i d')
+                ∙ sym (with_slot-other 1 (bounding_child (nodes_in reads before.pages before.rows) more) (with_slot 0 (bounding_child (nodes_in reads before.pages before.rows) left) (λ j. None)) i d ∙ with_slot-other 0 (bounding_child (nodes_in reads before.pages before.rows) left) (λ j. None) i d')
           ]
         ])
 
@@ -202,8 +202,8 @@ module _ (reads : Reads) (before : View) (least level root top : ℕ) (left more
         all_moves = moves-further take.moves (moves-further s1.moves s2.moves)
 
         -- and the new root stands
-        pub root_stands : (rise : ℕ → Type 0) → rise 1 → IsMade reads before m2 r2 c2 f2 2 (suc level) top (λ n. stand_uses (nodes_in reads before.pages before.rows) level root (Some (crowned (nodes_in reads before.pages before.rows) more)) n) None sums (λ g. stand_heads (nodes_in reads before.pages before.rows) g level root (Some (crowned (nodes_in reads before.pages before.rows) more))) reach reach rise
-        root_stands rise risen = root_made reads before m2 r2 c2 f2 s2.free least level root top (crowned (nodes_in reads before.pages before.rows) more) sums reach told (crowned (nodes_in reads before.pages before.rows) left) raised all_moves left_to
-            (λ d. crown-reach (nodes_in reads before.pages before.rows) left (λ e m. left_reach e ∙ raised.told_is e m ∙ ap (λ (c : ℕ). tops e (nodes_in reads before.pages before.rows c).slots) (sym left_to)) d ∙ ap (λ (c : ℕ). tops d (nodes_in reads before.pages before.rows c).slots) left_to)
-            (λ i. None) (with_slot 0 (crowned (nodes_in reads before.pages before.rows) left) (λ i. None)) (words_on (bytes_in m2 r2 top) u) (λ i. refl) refl slots_is l l_is
+        pub root_stands : (rise : ℕ → Type 0) → rise 1 → IsMade reads before m2 r2 c2 f2 2 (suc level) top (λ n. stand_uses (nodes_in reads before.pages before.rows) level root (Some (bounding_child (nodes_in reads before.pages before.rows) more)) n) None sums (λ g. stand_heads (nodes_in reads before.pages before.rows) g level root (Some (bounding_child (nodes_in reads before.pages before.rows) more))) reach reach rise
+        root_stands rise risen = root_made reads before m2 r2 c2 f2 s2.free least level root top (bounding_child (nodes_in reads before.pages before.rows) more) sums reach told (bounding_child (nodes_in reads before.pages before.rows) left) raised all_moves left_to
+            (λ d. bounding-reach (nodes_in reads before.pages before.rows) left (λ e m. left_reach e ∙ raised.told_is e m ∙ ap (λ (c : ℕ). tops e (nodes_in reads before.pages before.rows c).slots) (sym left_to)) d ∙ ap (λ (c : ℕ). tops d (nodes_in reads before.pages before.rows c).slots) left_to)
+            (λ i. None) (with_slot 0 (bounding_child (nodes_in reads before.pages before.rows) left) (λ i. None)) (words_on (bytes_in m2 r2 top) u) (λ i. refl) refl slots_is l l_is
             (ap (λ (v : NodeView). joined v (bytes_in m2 r2 top)) holds) blank rise risen

@@ -3,13 +3,13 @@ use Rattle.std.proofs.Common.{◌≡◌, ℕ, ◌+◌, ◌-◌, ◌<◌, ◌≤�
 use Rattle.std.proofs.lemmas.Bool.Decides.{nat_tests}
 use Rattle.std.proofs.Math.Path.{fun_ext}
 use Rattle.page_face.specs.FreeList.{PageMap}
-use Rattle.rtree_shape.specs.Slots.{Item, NodeMap, tops}
-use Rattle.rtree_shape.specs.Made.{Reads}
+use Rattle.rtree_nodes.specs.Slots.{Item, NodeMap, tops}
+use Rattle.rtree_nodes.specs.Made.{Reads}
 use Rattle.node_rows.specs.Rows.{Bytes, bytes_in}
 use Rattle.node_rows.specs.Impacts.{impact_in, top_at}
 use Rattle.node_inverted.proofs.Refreshes.{refreshed-here, refreshed-beside}
 use Rattle.irtree_shape.specs.Words.{worded, joined_item}
-use Rattle.irtree_shape.specs.Steps.{crowned, relinked}
+use Rattle.irtree_shape.specs.Steps.{bounding_child, relinked}
 use Rattle.irtree_shape.specs.Made.{nodes_in, IsBlank}
 use Rattle.irtree_shape.proofs.Words.{word-top, raised-at, raised-beside}
 
@@ -21,8 +21,8 @@ pub node-top : (reads : Reads) (pages : PageMap) (rows n w : ℕ) → IsBlank re
 node-top reads pages rows n w blank = word-top (bytes_in pages rows) n w (reads (pages n)).slots (λ i none. blank w i none)
 
 -- a child's item with the words that were read from its rows
-pub worded-crown : (reads : Reads) (pages : PageMap) (rows : ℕ) (f : ℕ → ℕ) (x : Item) → ((w : ℕ) → f w ≡ top_at (bytes_in pages rows) x.to w) → IsBlank reads pages rows x.to → worded f x ≡ crowned (nodes_in reads pages rows) x
-worded-crown reads pages rows f x is blank = ap (λ (r : ℕ → ℕ). record x { reach = r }) (fun_ext (λ d. elim (less_or d) [
+pub worded-bounding : (reads : Reads) (pages : PageMap) (rows : ℕ) (f : ℕ → ℕ) (x : Item) → ((w : ℕ) → f w ≡ top_at (bytes_in pages rows) x.to w) → IsBlank reads pages rows x.to → worded f x ≡ bounding_child (nodes_in reads pages rows) x
+worded-bounding reads pages rows f x is blank = ap (λ (r : ℕ → ℕ). record x { reach = r }) (fun_ext (λ d. elim (less_or d) [
   | inl l ↦ let t : nat_lt d 4 ≡ true = grind (arith, nat_tests) in ap (λ (b : Bool). if b then x.reach d else f (d - 4)) t ∙ sym (ap (λ (b : Bool). if b then x.reach d else tops d (nodes_in reads pages rows x.to).slots) t)
   | inr l ↦ let t : nat_lt d 4 ≡ false = grind (arith, nat_tests) in let e : 4 + (d - 4) ≡ d = omega arith in
       ap (λ (b : Bool). if b then x.reach d else f (d - 4)) t ∙ is (d - 4) ∙ node-top reads pages rows x.to (d - 4) blank ∙ ap (λ (m : ℕ). tops m (nodes_in reads pages rows x.to).slots) e
@@ -56,5 +56,5 @@ pub worded-reach : (f : ℕ → ℕ) (w : ℕ) (x : Item) → (worded f x).reach
 worded-reach f w x = let t : nat_lt (4 + w) 4 ≡ false = grind (arith, nat_tests) in let e : 4 + w - 4 ≡ w = omega arith in ap (λ (q : Bool). if q then x.reach (4 + w) else f (4 + w - 4)) t ∙ ap f e
 
 -- the same of a child's item with the words below it
-pub crowned-reach : (nodes : NodeMap) (w : ℕ) (x : Item) → (crowned nodes x).reach (4 + w) ≡ tops (4 + w) (nodes x.to).slots
-crowned-reach nodes w x = let t : nat_lt (4 + w) 4 ≡ false = grind (arith, nat_tests) in ap (λ (q : Bool). if q then x.reach (4 + w) else tops (4 + w) (nodes x.to).slots) t
+pub bounding_child-reach : (nodes : NodeMap) (w : ℕ) (x : Item) → (bounding_child nodes x).reach (4 + w) ≡ tops (4 + w) (nodes x.to).slots
+bounding_child-reach nodes w x = let t : nat_lt (4 + w) 4 ≡ false = grind (arith, nat_tests) in ap (λ (q : Bool). if q then x.reach (4 + w) else tops (4 + w) (nodes x.to).slots) t

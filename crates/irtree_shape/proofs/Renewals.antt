@@ -3,8 +3,8 @@ use Rattle.std.proofs.Common.{◌≡◌, ℕ, inl, inr, max, refl, sym, ap, ◌�
 use Rattle.page_face.specs.FreeList.{PageMap}
 use Rattle.btree_nodes.specs.Supply.{one_at}
 use Rattle.btree_nodes.specs.Supply as supply
-use Rattle.rtree_shape.specs.Stock.{View, plain, spare_in}
-use Rattle.rtree_shape.proofs.Amounts.{same_or}
+use Rattle.rtree_nodes.specs.Stock.{View, plain, spare_in}
+use Rattle.rtree_nodes.proofs.Amounts.{same_or}
 use Rattle.node_rows.specs.Rows.{Bytes, bytes_in}
 use Rattle.node_rows.specs.Turns.{Turns}
 use Rattle.node_rows.specs.Impacts.{impact_in, top_at, raised, refreshed}

@@ -1,13 +1,13 @@
 -- Loose items that are put back.
 use Rattle.std.proofs.Common.{ℕ, suc, ◌+◌, ◌≤◌, max, arith, refl, Some, None, ◌∷◌, ◌++◌, []}
 use Rattle.page_face.specs.FreeList.{PageMap}
-use Rattle.rtree_shape.specs.Slots.{Item, tops}
-use Rattle.rtree_shape.specs.Trees.{below, uses, IsItem, node_below, node_uses, stand_uses}
-use Rattle.rtree_shape.specs.Stock.{View, view, spare_in}
-use Rattle.rtree_shape.specs.Made.{Reads}
-use Rattle.rtree_shape.specs.Loose.{Loose, total_loose}
-use Rattle.rtree_shape.proofs.Looses.{loose-frame, pushed-total}
-use Rattle.rtree_shape.proofs.Replants.{loose-lower, popped-all}
+use Rattle.rtree_nodes.specs.Slots.{Item, tops}
+use Rattle.rtree_nodes.specs.Trees.{below, uses, IsItem, node_below, node_uses, stand_uses}
+use Rattle.rtree_nodes.specs.Stock.{View, view, spare_in}
+use Rattle.rtree_nodes.specs.Made.{Reads}
+use Rattle.rtree_nodes.specs.Loose.{Loose, total_loose}
+use Rattle.rtree_nodes.proofs.Looses.{loose-frame, pushed-total}
+use Rattle.rtree_nodes.proofs.Replants.{loose-lower, popped-all}
 use Rattle.irtree_shape.specs.Stock.{IsSupplied}
 use Rattle.irtree_shape.specs.Made.{nodes_in, IsMade, IsOpen, IsRaised, Puts}
 use Rattle.irtree_shape.specs.Loose.{IsStanding}

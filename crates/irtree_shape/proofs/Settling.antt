@@ -5,14 +5,14 @@ use Rattle.btree_nodes.specs.Supply.{one_at}
 use Rattle.btree_nodes.proofs.Supplies.{none, one_at-same, one_at-other}
 use Rattle.node_rows.specs.Rows.{bytes_in}
 use Rattle.node_rows.specs.Turns.{HasNone}
-use Rattle.rtree_shape.specs.Slots.{Item, NodeView, amount, tops, filled}
-use Rattle.rtree_shape.specs.Trees.{below, uses, IsItem, IsNode}
-use Rattle.rtree_shape.specs.Stock.{View, view, spare_in}
-use Rattle.rtree_shape.specs.Made.{Reads}
-use Rattle.rtree_shape.specs.Loose.{Loose, total_loose, AllLoose}
-use Rattle.rtree_shape.proofs.Amounts.{same_or}
-use Rattle.rtree_shape.proofs.Frames.{slots-frame, SameSlots}
-use Rattle.rtree_shape.proofs.Looses.{loose-frame}
+use Rattle.rtree_nodes.specs.Slots.{Item, NodeView, amount, tops, filled}
+use Rattle.rtree_nodes.specs.Trees.{below, uses, IsItem, IsNode}
+use Rattle.rtree_nodes.specs.Stock.{View, view, spare_in}
+use Rattle.rtree_nodes.specs.Made.{Reads}
+use Rattle.rtree_nodes.specs.Loose.{Loose, total_loose, AllLoose}
+use Rattle.rtree_nodes.proofs.Amounts.{same_or}
+use Rattle.rtree_nodes.proofs.Frames.{slots-frame, SameSlots}
+use Rattle.rtree_nodes.proofs.Looses.{loose-frame}
 use Rattle.irtree_shape.specs.Stock.{Moves}
 use Rattle.irtree_shape.specs.Made.{nodes_in, IsBlank}
 use Rattle.irtree_shape.specs.Loose.{IsLoosening, Settles}

@@ -8,18 +8,18 @@ use Rattle.node_rows.specs.Impacts.{impact_at, impact_in, top_at, refreshed}
 use Rattle.node_inverted.specs.Refreshing.{is_named}
 use Rattle.node_rows.proofs.Impacts.{top-clear}
 use Rattle.node_inverted.proofs.Refreshes.{refreshed-here, refreshed-beside}
-use Rattle.rtree_shape.specs.Slots.{Item, Slots, got, tops}
-use Rattle.rtree_shape.specs.Trees.{reach_of}
-use Rattle.rtree_shape.specs.Made.{Reads}
-use Rattle.rtree_shape.specs.Loose.{with_opt}
-use Rattle.rtree_shape.proofs.Amounts.{same_or}
-use Rattle.rtree_shape.proofs.Outs.{opt-same, opt-other}
+use Rattle.rtree_nodes.specs.Slots.{Item, Slots, got, tops}
+use Rattle.rtree_nodes.specs.Trees.{reach_of}
+use Rattle.rtree_nodes.specs.Made.{Reads}
+use Rattle.rtree_nodes.specs.Loose.{with_opt}
+use Rattle.rtree_nodes.proofs.Amounts.{same_or}
+use Rattle.rtree_nodes.proofs.Outs.{opt-same, opt-other}
 use Rattle.irtree_shape.specs.Words.{worded, joined_item, words_on, AreBlank}
 use Rattle.irtree_shape.specs.Made.{nodes_in, IsBlank}
-use Rattle.irtree_shape.specs.Steps.{crowned}
+use Rattle.irtree_shape.specs.Steps.{bounding_child}
 use Rattle.irtree_shape.proofs.Words.{words-at, words-none}
 use Rattle.irtree_shape.proofs.Relinks.{node-top, word-reach, worded-reach}
-use Rattle.irtree_shape.proofs.Raises.{joined-crown}
+use Rattle.irtree_shape.proofs.Raises.{joined-bounding}
 
 module _ (b b' : ℕ → ℕ → ℕ) (s u : Slots) (at : ℕ) (o p : Option Item) (beside : (w i : ℕ) → (i ≡ at → ⊥) → b' w i ≡ b w i) (u_is : u ≡ with_opt at o s)
     (there : option_map (joined_item b' at) o ≡ p) where
@@ -85,6 +85,6 @@ module _ (reads : Reads) (pages : PageMap) (rows page at child : ℕ) (b' : ℕ 
   pub refreshed-gone : HasNone (bytes_in pages rows) child → (w : ℕ) → b' w at ≡ 0
   refreshed-gone none w = top w ∙ top-clear (bytes_in pages rows) child w (λ i. none w i)
 
-  pub refreshed-crown : IsBlank reads pages rows child → (y : Item) → y.to ≡ child → joined_item b' at y ≡ crowned (nodes_in reads pages rows) y
-  refreshed-crown blank y to = joined-crown (nodes_in reads pages rows) b' at y
+  pub refreshed-bounding : IsBlank reads pages rows child → (y : Item) → y.to ≡ child → joined_item b' at y ≡ bounding_child (nodes_in reads pages rows) y
+  refreshed-bounding blank y to = joined-bounding (nodes_in reads pages rows) b' at y
       (λ w. top w ∙ node-top reads pages rows child w blank ∙ ap (λ (n : ℕ). tops (4 + w) (nodes_in reads pages rows n).slots) (sym to))

@@ -5,7 +5,7 @@ use Rattle.page_face.specs.FreeList.{PageMap, with_page, next_free}
 use Rattle.btree_nodes.specs.Supply.{one_at, tail}
 use Rattle.btree_nodes.specs.Supply as supply
 use Rattle.btree_nodes.proofs.Supplies.{one_at-is, one_at-other, one_at-same, with-other, with-same}
-use Rattle.rtree_shape.specs.Stock.{View, view, plain, spare_in}
+use Rattle.rtree_nodes.specs.Stock.{View, view, plain, spare_in}
 use Rattle.node_rows.specs.Rows.{Bytes, bytes_in, only}
 use Rattle.node_rows.specs.Turns.{Turns, moved}
 use Rattle.node_rows.specs.Impacts.{raised, refreshed}

@@ -12,11 +12,11 @@ use Rattle.btree_nodes.proofs.Frames.{tree-frame}
 use Rattle.btree_nodes.proofs.Supplies as supplies
 use Rattle.btree_nodes.proofs.Supplies.{none, one_at-is, one_at-same, spare-away, with-other}
 use Rattle.btree_nodes.proofs.Walks.{uses-self}
-use Rattle.rtree_shape.specs.Stock.{View, view, plain, rows_form, spare_in}
-use Rattle.rtree_shape.specs.Stock as bare
-use Rattle.rtree_shape.specs.Made.{Reads}
-use Rattle.rtree_shape.proofs.Stocks as bares
-use Rattle.rtree_shape.proofs.Heights.{none_or}
+use Rattle.rtree_nodes.specs.Stock.{View, view, plain, rows_form, spare_in}
+use Rattle.rtree_nodes.specs.Stock as bare
+use Rattle.rtree_nodes.specs.Made.{Reads}
+use Rattle.rtree_nodes.proofs.Stocks as bares
+use Rattle.rtree_nodes.proofs.Heights.{none_or}
 use Rattle.node_rows.specs.Rows.{Bytes, AreFilled, bytes_in, bytes_of}
 use Rattle.node_rows.specs.Turns.{Turns}
 use Rattle.irtree_shape.specs.Words.{joined}
@@ -71,8 +71,8 @@ supplied-plain v s = record {
 }
 
 -- no take is refused for the first free page of a free list that ends at 0
-pub take-honest : (v : View) (damage : Damage) → IsSupplied v → IsRefusedTake v.pages v.count v.first damage → ⊥
-take-honest v damage s r = supplies.take-honest v.pages v.count v.first v.free damage s.rows.kept.supplied r
+pub take-no_false_damage : (v : View) (damage : Damage) → IsSupplied v → IsRefusedTake v.pages v.count v.first damage → ⊥
+take-no_false_damage v damage s r = supplies.take-no_false_damage v.pages v.count v.first v.free damage s.rows.kept.supplied r
 
 -- rows of pages of the tree have turned into others
 pub moves-rows : (v : View) (pages : PageMap) (rows count first : ℕ) (b : Bytes) (mine : ℕ → ℕ) → IsSupplied v → (turn : Turns (plain v) v.rows pages count first rows b)

@@ -3,15 +3,15 @@ use Rattle.std.proofs.Common.{◌≡◌, ℕ, ◌+◌, ◌<◌, inl, inr, max, a
 use Rattle.page_face.specs.FreeList.{PageMap}
 use Rattle.btree_nodes.specs.Supply.{one_at}
 use Rattle.btree_nodes.proofs.Supplies.{one_at-other}
-use Rattle.rtree_shape.specs.Slots.{Item, NodeView, amount, tops}
-use Rattle.rtree_shape.specs.Trees.{below, uses}
-use Rattle.rtree_shape.specs.Heads.{heads, heads_with, total_heads}
-use Rattle.rtree_shape.specs.Stock.{View, view, spare_in}
-use Rattle.rtree_shape.specs.Made.{Reads, sums_with, uses_with, reach_with}
-use Rattle.rtree_shape.proofs.Amounts.{same_or}
-use Rattle.rtree_shape.proofs.Frames.{SameSlots, slots-frame}
-use Rattle.rtree_shape.proofs.Heads.{slots-heads}
-use Rattle.rtree_shape.proofs.Heights.{none_or}
+use Rattle.rtree_nodes.specs.Slots.{Item, NodeView, amount, tops}
+use Rattle.rtree_nodes.specs.Trees.{below, uses}
+use Rattle.rtree_nodes.specs.Heads.{heads, heads_with, total_heads}
+use Rattle.rtree_nodes.specs.Stock.{View, view, spare_in}
+use Rattle.rtree_nodes.specs.Made.{Reads, sums_with, uses_with, reach_with}
+use Rattle.rtree_nodes.proofs.Amounts.{same_or}
+use Rattle.rtree_nodes.proofs.Frames.{SameSlots, slots-frame}
+use Rattle.rtree_nodes.proofs.Heads.{slots-heads}
+use Rattle.rtree_nodes.proofs.Heights.{none_or}
 use Rattle.irtree_shape.specs.Stock.{Moves}
 use Rattle.irtree_shape.specs.Made.{nodes_in, IsBlank, IsReady, IsMade, IsTwo, IsSplit}
 use Rattle.irtree_shape.proofs.Stocks.{still, moves-beside, moves-as}
@@ -35,7 +35,7 @@ module _ (reads : Reads) (before : View) (pages : PageMap) (rows count first : �
   -- the node was written at its page
   pub made_one : (told : ℕ → ℕ) → ((d : ℕ) → d < 4 → told d ≡ tops d node.slots) → (rise : ℕ → Type 0) → rise 0
       → IsMade reads before pages rows count first least level page (uses_with (nodes_in reads before.pages before.rows) level page node.slots None) None (sums_with (nodes_in reads before.pages before.rows) level node.slots None) (λ g. heads_with (nodes_in reads before.pages before.rows) g level page node.slots None) (reach_with node.slots None) told rise
-  made_one told tells rise risen = record {
+  made_one told readable rise risen = record {
     counted = risen;
     free = free;
     fresh = [];
@@ -49,7 +49,7 @@ module _ (reads : Reads) (before : View) (pages : PageMap) (rows count first : �
       sum_is = λ f. let a = in_page (λ y. below (nodes_in reads pages rows) f level y) in let b = kept.sums f in omega arith;
       reach_is = λ d. ap (λ (v : NodeView). max (tops d v.slots) 0) here;
     };
-    told_is = λ d l. tells d l ∙ ap (λ (v : NodeView). tops d v.slots) (sym here);
+    told_is = λ d l. readable d l ∙ ap (λ (v : NodeView). tops d v.slots) (sym here);
     blank = λ n. elim (same_or n page) [
       | inl e ↦ subst (IsBlank reads pages rows) (sym e) blank
       | inr d ↦ blank-after reads before (view pages rows count first free) (one_at page) (one_at page) moves n (one_at-other page n d) (one_at-other page n d) (ready.blank n d)
@@ -79,7 +79,7 @@ module _ (reads : Reads) (before : View) (pages : PageMap) (rows count first lea
       (λ f. amount (λ z. below (nodes_in reads before.pages before.rows) f level z) a.slots + amount (λ z. below (nodes_in reads before.pages before.rows) f level z) b.slots)
       (λ g. g level page + amount (λ z. heads (nodes_in reads before.pages before.rows) g level z) a.slots + amount (λ z. heads (nodes_in reads before.pages before.rows) g level z) b.slots)
       (λ d. max (tops d a.slots) (tops d b.slots)) told rise
-  two_made told tells rise risen = record {
+  two_made told readable rise risen = record {
     counted = risen;
     free = split.free;
     fresh = (level, right) ∷ [];
@@ -97,7 +97,7 @@ module _ (reads : Reads) (before : View) (pages : PageMap) (rows count first lea
       sum_is = λ f. let i = in_a (λ z. below (nodes_in reads pages rows) f level z) in let j = in_b (λ z. below (nodes_in reads pages rows) f level z) in let p = a_kept.sums f in let l = b_kept.sums f in omega arith;
       reach_is = λ d. ap (λ (v : NodeView). max (tops d v.slots) (y.reach d)) split.here ∙ ap (max (tops d a.slots)) (reach d);
     };
-    told_is = λ d l. tells d l ∙ ap (λ (v : NodeView). tops d v.slots) (sym split.here);
+    told_is = λ d l. readable d l ∙ ap (λ (v : NodeView). tops d v.slots) (sym split.here);
     blank = λ n. elim (same_or n page) [
       | inl e ↦ subst (IsBlank reads pages rows) (sym e) split.here_blank
       | inr d ↦ elim (same_or n right) [

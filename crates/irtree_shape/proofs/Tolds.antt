@@ -1,25 +1,25 @@
 -- Counted pages whose bytes are told, after a tree and its rows have changed.
 use Rattle.std.proofs.Common.{◌≡◌, ℕ, zero, suc, ◌+◌, ◌<◌, inl, inr, arith, sym, ap, ◌∙◌, subst, Option, None, Some, List, length}
 use Rattle.page_face.specs.FreeList.{PageMap}
-use Rattle.btree_nodes.specs.Damages.{AreTold}
+use Rattle.btree_nodes.specs.Damages.{AreReadable}
 use Rattle.btree_nodes.specs.Supply.{one_at}
 use Rattle.btree_nodes.specs.Tree.{map_uses}
 use Rattle.btree_nodes.proofs.Supplies.{counted-none, one_at-is, uncounted-past}
 use Rattle.node_rows.specs.Rows.{Bytes, bytes_in}
 use Rattle.btree_nodes.proofs.Tolds.{map-told, list-told}
-use Rattle.rtree_shape.specs.Slots.{Item, Slots, got, amount, filled, Held, Each, no_slots}
-use Rattle.rtree_shape.specs.Trees.{uses, IsItem, IsNode, Stands, least_with, node_uses, stand_uses}
-use Rattle.rtree_shape.specs.Stock.{View, rows_form, spare_in}
-use Rattle.rtree_shape.specs.Made.{Reads}
-use Rattle.rtree_shape.proofs.Amounts.{amount-same, amount-none}
-use Rattle.rtree_shape.proofs.Heights.{under_or, none_or}
+use Rattle.rtree_nodes.specs.Slots.{Item, Slots, got, amount, filled, Held, Each, no_slots}
+use Rattle.rtree_nodes.specs.Trees.{uses, IsItem, IsNode, Stands, least_with, node_uses, stand_uses}
+use Rattle.rtree_nodes.specs.Stock.{View, rows_form, spare_in}
+use Rattle.rtree_nodes.specs.Made.{Reads}
+use Rattle.rtree_nodes.proofs.Amounts.{amount-same, amount-none}
+use Rattle.rtree_nodes.proofs.Heights.{under_or, none_or}
 use Rattle.irtree_shape.specs.Stock.{Moves}
 use Rattle.irtree_shape.specs.Steps.{Steps}
 use Rattle.irtree_shape.specs.Made.{nodes_in, IsMade}
 use Rattle.irtree_shape.proofs.Words.{words-filled}
 
 -- what moved leaves the counted pages told, if what it made is told
-pub told-moved : {before after : View} {mine ours : ℕ → ℕ} → Moves before after mine ours → ((n : ℕ) → 0 < n → 0 < ours n → 0 < length (after.pages n)) → AreTold before.pages before.count → AreTold after.pages after.count
+pub told-moved : {before after : View} {mine ours : ℕ → ℕ} → Moves before after mine ours → ((n : ℕ) → 0 < n → 0 < ours n → 0 < length (after.pages n)) → AreReadable before.pages before.count → AreReadable after.pages after.count
 told-moved {before = before} {after = after} {mine = mine} {ours = ours} moves made told n some few =
     let kept = moves.kept n in
     let counted = counted-none after.count n few in
@@ -39,7 +39,7 @@ told-moved {before = before} {after = after} {mine = mine} {ours = ours} moves m
 
 -- a page of the tree whose rows change stays told
 pub told-step : {before : View} {pages : PageMap} {rows count first : ℕ} (page : ℕ) {b : Bytes} → Steps before pages rows count first (one_at page) (one_at page) b before.pages → spare_in before page ≡ 0
-    → AreTold before.pages before.count → AreTold pages count
+    → AreReadable before.pages before.count → AreReadable pages count
 told-step {before = before} {pages = pages} page steps unused were = told-moved steps.moves
     (λ n away used. elim (under_or n before.count) [
       | inl l ↦ subst (λ (bytes : List ℕ). 0 < length bytes) (sym (steps.holds n used)) (were n away l)
@@ -48,14 +48,14 @@ told-step {before = before} {pages = pages} page steps unused were = told-moved 
     were
 
 -- a page that holds a node with a slot is told
-module _ (reads : Reads) (tells : (page : List ℕ) → 0 < filled (reads page).slots → 0 < length page) (pages : PageMap) (rows : ℕ) (n : ℕ) (silent : length (pages n) ≡ 0) where
+module _ (reads : Reads) (readable : (page : List ℕ) → 0 < filled (reads page).slots → 0 < length page) (pages : PageMap) (rows : ℕ) (n : ℕ) (silent : length (pages n) ≡ 0) where
   head-none : (page : ℕ) → 0 < filled (nodes_in reads pages rows page).slots → one_at page n ≡ 0
   head-none page some = elim (none_or (one_at page n)) [
     | inl e ↦ e
     | inr l ↦
         let is = one_at-is page n l in
         let a = words-filled (bytes_in pages rows page) (reads (pages page)).slots in
-        let t = tells (pages page) (omega arith) in
+        let t = readable (pages page) (omega arith) in
         let z = ap (λ (k : ℕ). length (pages k)) is in
         absurd (omega arith)
   ]
@@ -96,11 +96,11 @@ module _ (reads : Reads) (tells : (page : List ℕ) → 0 < filled (reads page).
 -- what was made at a page leaves the counted pages told
 pub told-made : (reads : Reads) → ((page : List ℕ) → 0 < filled (reads page).slots → 0 < length page)
     → {before : View} {pages : PageMap} {rows count first least level page : ℕ} {mine : ℕ → ℕ} {more : Option Item} {sums : (Item → ℕ) → ℕ} {counts : (ℕ → ℕ → ℕ) → ℕ} {reach told : ℕ → ℕ} {rise : ℕ → Type 0}
-    → 0 < least → IsMade reads before pages rows count first least level page mine more sums counts reach told rise → AreTold before.pages before.count → AreTold pages count
-told-made reads tells {pages = pages} {rows = rows} {least = least} {level = level} {page = page} {more = more} {sums = sums} {reach = reach} some made were =
+    → 0 < least → IsMade reads before pages rows count first least level page mine more sums counts reach told rise → AreReadable before.pages before.count → AreReadable pages count
+told-made reads readable {pages = pages} {rows = rows} {least = least} {level = level} {page = page} {more = more} {sums = sums} {reach = reach} some made were =
     told-moved made.moves
     (λ n away used. elim (none_or (length (pages n))) [
       | inr l ↦ l
-      | inl e ↦ let z = stand-none reads tells pages rows n e least level page more sums reach some made.stands in absurd (omega arith)
+      | inl e ↦ let z = stand-none reads readable pages rows n e least level page more sums reach some made.stands in absurd (omega arith)
     ])
     were

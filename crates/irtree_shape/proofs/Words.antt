@@ -3,17 +3,17 @@ use Rattle.std.proofs.Common.{◌≡◌, ℕ, ◌+◌, ◌-◌, ◌<◌, inl, in
 use Rattle.std.proofs.lemmas.Bool.Decides.{nat_tests}
 use Rattle.std.proofs.Math.Path.{fun_ext}
 use Rattle.std.specs.Int.{bit_at}
-use Rattle.rtree_shape.specs.Slots.{Item, Slots, NodeView, got, tops, filled, IsFull, IsFree}
-use Rattle.rtree_shape.specs.Trees.{with_slot, reach_of, IsPutFree}
-use Rattle.rtree_shape.specs.Masks.{kept_of, moved_of}
-use Rattle.rtree_shape.proofs.Sums.{top-same}
-use Rattle.rtree_shape.proofs.Amounts.{same_or, with_slot-same, with_slot-other, amount-same}
+use Rattle.rtree_nodes.specs.Slots.{Item, Slots, NodeView, got, tops, filled, IsFull, IsFree}
+use Rattle.rtree_nodes.specs.Trees.{with_slot, reach_of, IsPutFree}
+use Rattle.rtree_nodes.specs.Masks.{kept_of, moved_of}
+use Rattle.rtree_nodes.proofs.Sums.{top-same}
+use Rattle.rtree_nodes.proofs.Amounts.{same_or, with_slot-same, with_slot-other, amount-same}
 use Rattle.node_rows.specs.Rows.{Bytes}
 use Rattle.node_rows.specs.Turns.{moved}
 use Rattle.node_rows.specs.Impacts.{raised, top_at}
 use Rattle.node_inverted.proofs.Moves.{moved-node, moved-to}
 use Rattle.irtree_shape.specs.Words.{worded, joined_item, words_on, joined, AreBlank}
-use Rattle.rtree_find.proofs.Entries.{same_number}
+use Rattle.rtree_nodes.proofs.Entries.{same_number}
 
 item-same : (x : Item) (f g : ℕ → ℕ) → ((d : ℕ) → f d ≡ g d) → record x { reach = f } ≡ record x { reach = g }
 item-same x f g h = ap (λ (k : ℕ → ℕ). record x { reach = k }) (fun_ext h)

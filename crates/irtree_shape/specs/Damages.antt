@@ -6,10 +6,10 @@ use Rattle.page_face.specs.declared.fault.Rule.{Rule}
 use Rattle.page_face.specs.declared.fault.Rule.TheVariants.{Kind, Fill, Spare, Value, Level, Link}
 use Rattle.page_face.specs.declared.fault.Damage.{Damage}
 use Rattle.btree_nodes.specs.Damages.{AskedSince}
-use Rattle.rtree_shape.specs.Slots.{filled}
+use Rattle.rtree_nodes.specs.Slots.{filled}
 use Rattle.rtree_nodes.specs.Pages.{level_in, stored_in}
 use Rattle.rtree_nodes.specs.Breaks.{BreaksNode, BreaksHeader}
-use Rattle.rtree_find.specs.Harms.{IfTold, IsMislevelled}
+use Rattle.rtree_nodes.specs.Harms.{IfReadable, IsMislevelled}
 use Rattle.node_rows.specs.Damages.{IsRowsHarm}
 
 -- an inner node of one child, which would choose nothing
@@ -29,11 +29,11 @@ BreaksAnywhere _ page = ⊥
 -- the rule that a page breaks by itself: it isn't counted, or its bytes, if they are told, break the rule
 abbrev pub IsBroken : Rule → PageMap → ℕ → ℕ → Type 0
 IsBroken Link pages count page = IsUncounted count page
-IsBroken Kind pages count page = IfTold pages page (BreaksAnywhere Kind)
-IsBroken Fill pages count page = IfTold pages page (BreaksAnywhere Fill)
-IsBroken Spare pages count page = IfTold pages page (BreaksAnywhere Spare)
-IsBroken Value pages count page = IfTold pages page (BreaksAnywhere Value)
-IsBroken Level pages count page = IfTold pages page (BreaksAnywhere Level)
+IsBroken Kind pages count page = IfReadable pages page (BreaksAnywhere Kind)
+IsBroken Fill pages count page = IfReadable pages page (BreaksAnywhere Fill)
+IsBroken Spare pages count page = IfReadable pages page (BreaksAnywhere Spare)
+IsBroken Value pages count page = IfReadable pages page (BreaksAnywhere Value)
+IsBroken Level pages count page = IfReadable pages page (BreaksAnywhere Level)
 IsBroken _ pages count page = ⊥
 
 -- the damage is of a node's page that was asked for: a rule that it breaks by itself, or it isn't one level below a page that names it and was asked for

@@ -5,9 +5,9 @@ use Rattle.spatial_base.specs.Point.{Position}
 use Rattle.row_codec.specs.declared.stored.Stored.{Stored}
 use Rattle.row_codec.specs.Stored.{held_pairs}
 use Rattle.node_rows.specs.Impacts.{impact_in}
-use Rattle.rtree_shape.specs.Slots.{Item, NodeMap}
+use Rattle.rtree_nodes.specs.Slots.{Item, NodeMap}
 use Rattle.rtree_nodes.specs.Reach.{place_item}
-use Rattle.rtree_find.specs.Entries.{is_entry}
+use Rattle.rtree_nodes.specs.Entries.{is_entry}
 use Rattle.irtree_shape.specs.Words.{worded}
 use Rattle.irtree_shape.specs.Whole.{tree_sum}
 

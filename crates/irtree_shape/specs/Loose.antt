@@ -2,11 +2,11 @@
 use Rattle.std.specs.Prelude.{◌≡◌, ℕ, suc, ◌+◌, ◌≤◌, List, Option, None}
 use Rattle.page_face.specs.FreeList.{PageMap}
 use Rattle.btree_nodes.specs.Supply.{one_at}
-use Rattle.rtree_shape.specs.Slots.{Item, Slots, NodeView, got, amount, Held, Each}
-use Rattle.rtree_shape.specs.Trees.{below, uses, IsItem, IsNode}
-use Rattle.rtree_shape.specs.Stock.{View, view, spare_in}
-use Rattle.rtree_shape.specs.Made.{Reads}
-use Rattle.rtree_shape.specs.Loose.{Loose, total_loose, AllLoose, IsNodeItem, Leads, out_uses, out_below}
+use Rattle.rtree_nodes.specs.Slots.{Item, Slots, NodeView, got, amount, Held, Each}
+use Rattle.rtree_nodes.specs.Trees.{below, uses, IsItem, IsNode}
+use Rattle.rtree_nodes.specs.Stock.{View, view, spare_in}
+use Rattle.rtree_nodes.specs.Made.{Reads}
+use Rattle.rtree_nodes.specs.Loose.{Loose, total_loose, AllLoose, IsNodeItem, Leads, out_uses, out_below}
 use Rattle.node_rows.specs.Rows.{bytes_in}
 use Rattle.node_rows.specs.Turns.{HasNone}
 use Rattle.irtree_shape.specs.Words.{AreBlank}

@@ -2,11 +2,11 @@
 use Rattle.std.specs.Prelude.{◌≡◌, ℕ, ◌+◌, ◌<◌, ◌≤◌, max, List, length, Option, Some}
 use Rattle.page_face.specs.FreeList.{PageMap}
 use Rattle.btree_nodes.specs.Supply.{one_at}
-use Rattle.rtree_shape.specs.Slots.{Item, Slots, NodeView, NodeMap, got, amount, tops, filled, Held, Each}
-use Rattle.rtree_shape.specs.Trees.{below, uses, IsItem, IsNode, Stands, stand_uses, node_below, node_uses}
-use Rattle.rtree_shape.specs.Heads.{heads, node_heads, stand_heads, heads_with, total_heads}
-use Rattle.rtree_shape.specs.Stock.{View, view, spare_in}
-use Rattle.rtree_shape.specs.Made.{Reads, sums_with, uses_with, reach_with}
+use Rattle.rtree_nodes.specs.Slots.{Item, Slots, NodeView, NodeMap, got, amount, tops, filled, Held, Each}
+use Rattle.rtree_nodes.specs.Trees.{below, uses, IsItem, IsNode, Stands, stand_uses, node_below, node_uses}
+use Rattle.rtree_nodes.specs.Heads.{heads, node_heads, stand_heads, heads_with, total_heads}
+use Rattle.rtree_nodes.specs.Stock.{View, view, spare_in}
+use Rattle.rtree_nodes.specs.Made.{Reads, sums_with, uses_with, reach_with}
 use Rattle.node_rows.specs.Rows.{bytes_in}
 use Rattle.irtree_shape.specs.Words.{joined, AreBlank}
 use Rattle.irtree_shape.specs.Stock.{IsSupplied, Moves}

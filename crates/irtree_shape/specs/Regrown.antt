@@ -5,11 +5,11 @@ use Rattle.page_face.specs.declared.fault.Rule.TheVariants.{Entry as NoEntry}
 use Rattle.page_face.specs.declared.fault.Damage.{Damage}
 use Rattle.spatial_base.specs.Key.{Name, form_of}
 use Rattle.spatial_base.specs.Point.{Position}
-use Rattle.rtree_shape.specs.Slots.{Item, got}
-use Rattle.rtree_shape.specs.Stock.{View, view}
-use Rattle.rtree_shape.specs.Made.{Reads}
+use Rattle.rtree_nodes.specs.Slots.{Item, got}
+use Rattle.rtree_nodes.specs.Stock.{View, view}
+use Rattle.rtree_nodes.specs.Made.{Reads}
 use Rattle.rtree_nodes.specs.Pages.{node_of}
-use Rattle.rtree_find.specs.Entries.{is_entry}
+use Rattle.rtree_nodes.specs.Entries.{is_entry}
 use Rattle.irtree_shape.specs.Stock.{Moves}
 use Rattle.irtree_shape.specs.Made.{nodes_in}
 use Rattle.irtree_shape.specs.Whole.{IsWhole, tree_uses, tree_sum}

@@ -2,8 +2,8 @@
 use Rattle.std.specs.Prelude.{◌≡◌, ℕ, ◌+◌, ◌<◌, List, Option, None, Some, nat_lt, if◌then◌else◌}
 use Rattle.page_face.specs.FreeList.{PageMap}
 use Rattle.btree_nodes.specs.Supply.{one_at}
-use Rattle.rtree_shape.specs.Slots.{Item, NodeMap, tops}
-use Rattle.rtree_shape.specs.Stock.{View, view}
+use Rattle.rtree_nodes.specs.Slots.{Item, NodeMap, tops}
+use Rattle.rtree_nodes.specs.Stock.{View, view}
 use Rattle.node_rows.specs.Rows.{Bytes, bytes_in}
 use Rattle.node_rows.specs.Impacts.{impact_in, raised, refreshed}
 use Rattle.irtree_shape.specs.Stock.{Moves}
@@ -33,13 +33,13 @@ pub record IsPaired (before : View) (pages : PageMap) (rows count first page rig
   pub apart : page ≡ right → ⊥
 
 -- a child's item with the words below it
-abbrev pub crowned : NodeMap → Item → Item
-crowned nodes x = record x { reach = λ d. if nat_lt d 4 then x.reach d else tops d (nodes x.to).slots }
+abbrev pub bounding_child : NodeMap → Item → Item
+bounding_child nodes x = record x { reach = λ d. if nat_lt d 4 then x.reach d else tops d (nodes x.to).slots }
 
 -- the same, if there is one
-abbrev pub crowned_in : NodeMap → Option Item → Option Item
-crowned_in nodes None = None
-crowned_in nodes (Some x) = Some (crowned nodes x)
+abbrev pub bounding_child_in : NodeMap → Option Item → Option Item
+bounding_child_in nodes None = None
+bounding_child_in nodes (Some x) = Some (bounding_child nodes x)
 
 -- the bytes of a slot whose child is still one node and took in these words, or was split
 abbrev pub relinked : {X : Type 0} → Option X → ℕ → ℕ → ℕ → List (ℕ × ℕ) → Bytes → Bytes

@@ -1,6 +1,6 @@
 -- The pages in which a tree stands together with the rows of its words.
 use Rattle.std.specs.Prelude.{◌≡◌, ℕ, ◌+◌, ◌<◌}
-use Rattle.rtree_shape.specs.Stock.{View, plain, spare_in}
+use Rattle.rtree_nodes.specs.Stock.{View, plain, spare_in}
 use Rattle.node_rows.specs.Rows.{IsRows, bytes_in}
 
 -- The free list ends at 0, the rows' map is well formed and has no row of zeros, no page is in both or twice in one, and no row names a page that the tree could have.

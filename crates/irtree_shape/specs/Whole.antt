@@ -2,12 +2,12 @@
 use Rattle.std.specs.Prelude.{◌≡◌, ℕ, zero, suc, ◌+◌, ◌≤◌, List, length}
 use Rattle.page_face.specs.FreeList.{PageMap}
 use Rattle.node_rows.specs.Rows.{bytes_in}
-use Rattle.rtree_shape.specs.Slots.{Item, NodeMap}
-use Rattle.rtree_shape.specs.Trees.{IsTree, node_below, node_uses}
-use Rattle.rtree_shape.specs.Heads.{node_heads, total_heads}
-use Rattle.rtree_shape.specs.Stock.{View, view, spare_in}
+use Rattle.rtree_nodes.specs.Slots.{Item, NodeMap}
+use Rattle.rtree_nodes.specs.Trees.{IsTree, node_below, node_uses}
+use Rattle.rtree_nodes.specs.Heads.{node_heads, total_heads}
+use Rattle.rtree_nodes.specs.Stock.{View, view, spare_in}
 use Rattle.irtree_shape.specs.Stock.{IsSupplied, Moves}
-use Rattle.rtree_shape.specs.Made.{Reads}
+use Rattle.rtree_nodes.specs.Made.{Reads}
 use Rattle.irtree_shape.specs.Made.{nodes_in, IsBlank}
 
 -- the level that a root's node says; the empty tree, of root 0, has none

@@ -1,6 +1,6 @@
 -- Nodes joined with the rows of their words.
 use Rattle.std.specs.Prelude.{◌≡◌, ℕ, ◌-◌, None, nat_lt, option_map, if◌then◌else◌}
-use Rattle.rtree_shape.specs.Slots.{Item, Slots, NodeView}
+use Rattle.rtree_nodes.specs.Slots.{Item, Slots, NodeView}
 
 -- an item of these words: behind its four sides it reaches to each word as far as the word's impact
 abbrev pub worded : (ℕ → ℕ) → Item → Item

@@ -10,7 +10,7 @@ use split_policy::Quadratic;
 use std::alloc::Global;
 use std::test::Fail;
 
-// Does what a line says by the engine's own call.
+// Does what a line calls for by the engine's own call.
 fn follow(engine: &mut Engine<'_, MemoryStation>, line: Line) -> Result<(), Fail>
     requires { IsSound line }
     ensures { engine.new.store.disk.ghost_name ≡ engine.old.store.disk.ghost_name }

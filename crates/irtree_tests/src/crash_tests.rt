@@ -1,4 +1,4 @@
-//! What is found after a crash.
+//! What a store holds after a crash.
 use crate::runs::{ROOM, RUN, bytes_of, run_on, stored_by};
 use disk_model::{Area, CallKind, Fail as Planned, MemoryStation, Tear};
 use irtree_top::Ended;
@@ -17,8 +17,8 @@ static TEARS: [Tear; 5] = [
 const THREE: &[u8] =
     b"{\"type\":\"FeatureCollection\",\"features\":[{\"type\":\"Feature\",\"geometry\":{\"type\":\"Point\",\"coordinates\":[1,2]},\"properties\":{\"t\":\"x\"}},{\"type\":\"Feature\",\"geometry\":{\"type\":\"Point\",\"coordinates\":[2,3]},\"properties\":{\"t\":\"x y\"}},{\"type\":\"Feature\",\"geometry\":{\"type\":\"Point\",\"coordinates\":[3,4]}}]}";
 
-// A script that makes a store, the words and the input of a run over it, a question, and what it is answered after each of the run's
-// changes: before the first, after the first, and so on.
+// A script that makes a store, the words and the input of a run over it, and a question. Then the question's replies: before the run's
+// first change, after the first, and so on.
 struct Case {
     store: &'static [u8],
     given: &'static [&'static str],
@@ -79,7 +79,7 @@ static CASES: [Case; 6] = [
     },
 ];
 
-// How many whole lines say that a change is stored.
+// How many whole lines report that a change is stored.
 fn acknowledged(said: &[u8]) -> usize {
     let mut count: usize = 0;
     let mut is_first = true;
@@ -96,7 +96,7 @@ fn acknowledged(said: &[u8]) -> usize {
     count
 }
 
-// Whether an answer is that after as many changes as were acknowledged, or after one more.
+// Whether a reply is that after as many changes as were acknowledged, or after one more.
 fn is_answer(case: &Case, acknowledged: usize, answer: &[u8]) -> bool {
     for (changes, wanted) in case.answers.iter().enumerate() {
         let is_due = changes == acknowledged || changes == acknowledged.saturating_add(1);
@@ -107,7 +107,7 @@ fn is_answer(case: &Case, acknowledged: usize, answer: &[u8]) -> bool {
     false
 }
 
-// Whether a case's question has such an answer over what a crash leaves of a station, and once more after another crash.
+// Whether a case's question gets such a reply over what a crash leaves of a station, and once more after another crash.
 fn is_kept(
     alloc: Global,
     case: &Case,
@@ -123,7 +123,7 @@ fn is_kept(
     Ok(are_done && is_answer(case, acknowledged, once.said()) && twice.said() == once.said())
 }
 
-// Whether this is so whatever the crash does to what was pending.
+// Whether a case's question gets such a reply whatever the crash does to what was pending.
 fn is_kept_always(alloc: Global, case: &Case, station: &MemoryStation) -> Result<bool, Fail> {
     let acknowledged = acknowledged(station.said());
     for tear in &TEARS {
@@ -181,7 +181,7 @@ fn any_call_that_fails_leaves_every_acknowledged_update(rt: HostRuntime) -> Resu
     Ok(())
 }
 
-// The pages and the journal that a crash leaves after so many calls of an update; `None` where the gate isn't open then.
+// The pages and the journal that a crash leaves after so many calls of an update, or `None` if the gate isn't open then.
 fn open_gate(alloc: Global, calls: u64) -> Result<Option<(Vec<u8>, Vec<u8>)>, Fail> {
     let mut station = stored_by(alloc, &RUN, b"add a 0 0 x\n")?;
     station.stop_after(calls);
@@ -208,7 +208,7 @@ fn is_applied_or_refused(alloc: Global, pages: &[u8], journal: &[u8]) -> Result<
 
 #[test]
 fn a_journal_that_is_cut_off_is_applied_or_refused(rt: HostRuntime) -> Result<(), Fail> {
-    // The gate is open for the first time where the journal's first byte is 1.
+    // The gate is open for the first time when the journal's first byte is 1.
     for calls in 0..100 {
         let Some((pages, journal)) = open_gate(rt.alloc(), calls)? else {
             continue;

@@ -1,4 +1,4 @@
-//! What is done over stores that break a rule.
+//! Runs over stores that break a rule.
 use crate::runs::{ROOM, RUN, bytes_of, number_at, run_on, stored_by};
 use disk_model::{Area, MemoryStation};
 use irtree_top::{Ended, StoreFault};
@@ -6,8 +6,9 @@ use page_face::{Damage, Rule};
 use std::alloc::Global;
 use std::test::Fail;
 
-// A page of the store: page 0, the root of the places, which is an inner page, its first leaf, the root of the words by number, of the words
-// by text, of the rows of words or of the tree, or the page that the root names where the first byte of that leaf's number is 127.
+// A page of the store: page 0, the root of the places, which is an inner page, or its first leaf. Or it is the root of the words by number,
+// of the words by text, of the rows of words or of the tree. The last is the page that the root names if the first byte of that leaf's
+// number is 127.
 #[derive(Clone, Copy)]
 enum Spot {
     Head,
@@ -20,8 +21,8 @@ enum Spot {
     Uncounted,
 }
 
-// Eight places with two words each: `show` reads a place and its words; an update and a load put another word in their place at the first,
-// in the tree too; `top` and `group` read a word's number, the tree and the rows of words.
+// Eight places with two words each. `show` reads a place and its words. An update and a load put another word in their place at the first,
+// in the tree too. `top` and `group` read a word's number, the tree and the rows of words.
 static STORE: &[u8] =
     b"add p0 1 1 x y\nadd p1 1 1 x y\nadd p2 1 1 x y\nadd p3 1 1 x y\nadd p4 1 1 x y\nadd p5 1 1 x y\nadd p6 1 1 x y\nadd p7 1 1 x y\n";
 
@@ -57,9 +58,9 @@ static BROKEN: [(Spot, u32, u8, Spot, Rule, [bool; 5]); 14] = [
     (Spot::Leaf, 18, b'9', Spot::Leaf, Rule::Order, PLACES),
     // A spare byte isn't zero.
     (Spot::Leaf, 5, 1, Spot::Leaf, Rule::Spare, PLACES),
-    // The leaf stands on level 1.
+    // The leaf has level 1.
     (Spot::Leaf, 4, 1, Spot::Leaf, Rule::Level, PLACES),
-    // The first place stands behind 180 degrees.
+    // The first place is beyond 180 degrees.
     (Spot::Leaf, 82, 127, Spot::Leaf, Rule::Value, PLACES),
     // No action sees this: the root names page 3, its first leaf, twice, and the second time the leaf's keys are below their separator.
     (Spot::Root, 155, 3, Spot::Leaf, Rule::Order, NONE),
@@ -79,7 +80,7 @@ static BROKEN: [(Spot, u32, u8, Spot, Rule, [bool; 5]); 14] = [
 
 // The page of a spot.
 fn page_of(pages: &[u8], spot: Spot) -> Result<u32, Fail> {
-    // Where page 0 names a root: the field of the places' map, or of another one.
+    // The offset at which page 0 names a root: the field of the places' map, or of another one.
     let field = match spot {
         Spot::Head => return Ok(0),
         Spot::Root | Spot::Leaf | Spot::Uncounted => 16,
@@ -105,7 +106,7 @@ fn broken(alloc: Global, store: &[u8], page: u32, at: u32, byte: u8) -> Result<V
     Ok(pages)
 }
 
-// Whether an action over these pages ends so, and says and writes nothing if it doesn't end well.
+// Whether an action over these pages ends so, and prints and writes nothing if it doesn't end well.
 fn ends_so(
     alloc: Global,
     action: &(&[&str; 2], &[u8]),

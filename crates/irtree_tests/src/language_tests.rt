@@ -1,9 +1,9 @@
-//! What each line is answered.
+//! The reply to each line.
 use crate::runs::{RUN, ends_so, numbered};
 use irtree_top::Ended;
 use std::test::Fail;
 
-// A script, and what is said of it.
+// A script, and what it prints.
 static SCRIPTS: [(&[u8], &[u8]); 8] = [
     // A place is shown with its words in their order.
     (
@@ -58,7 +58,7 @@ fn each_line_is_answered(rt: HostRuntime) -> Result<(), Fail> {
     Ok(())
 }
 
-// Forty places stand at one point, more than a node of the tree holds.
+// Forty places are at one point, more than a node of the tree holds.
 #[test]
 fn a_tie_goes_to_the_lesser_keys(rt: HostRuntime) -> Result<(), Fail> {
     let mut script = numbered(rt.alloc(), 40, "add k# 1 1 x\n")?;

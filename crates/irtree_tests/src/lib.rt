@@ -1,4 +1,5 @@
-//! Tests of the whole library: what scripts, loads and makes say from bytes to bytes, and what a store keeps over runs, faults and crashes.
+//! Tests of the whole library: what scripts, loads and makes print from bytes to bytes, and what a store keeps over runs, faults and
+//! crashes.
 #![tactic(auto)]
 
 #[cfg(test)]

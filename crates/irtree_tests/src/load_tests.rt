@@ -1,4 +1,4 @@
-//! What loads say.
+//! What loads print.
 use crate::runs::{LOAD, ends_so};
 use irtree_top::{Ended, InputFault, LimitFault, StoreFault};
 use page_face::{Damage, Rule};
@@ -8,7 +8,7 @@ use std::test::Fail;
 pub(crate) const FOUR: &[u8] =
     b"{\"features\":[{\"type\":\"Feature\",\"id\":7,\"geometry\":{\"type\":\"Point\",\"coordinates\":[12.5683,55.6761,3.0]},\"properties\":{\"name\":\"Caf\xc3\xa9 Ny\",\"rank\":2}},{\"type\":\"Feature\",\"geometry\":{\"type\":\"Polygon\",\"coordinates\":[]},\"properties\":null},{\"type\":\"Feature\",\"geometry\":{\"type\":\"Point\",\"coordinates\":[12.57,55.68]},\"properties\":{\"name\":\"Bar\"}},{\"type\":\"Feature\",\"geometry\":null,\"properties\":{}}],\"type\":\"FeatureCollection\"}";
 
-// The words of a load, a text, and what is said of it.
+// The words of a load, a text, and what the load prints.
 static LOADS: [(&[&str], &[u8], &[u8]); 8] = [
     // A batch is stored as soon as it is full.
     (
@@ -26,7 +26,7 @@ static LOADS: [(&[&str], &[u8], &[u8]); 8] = [
         FOUR,
         b"skip 1 not-point\nskip 3 no-geometry\nstored 2\nloaded 2 skipped 2\n",
     ),
-    // Each item is stored or passed over.
+    // Each item is stored or skipped.
     (
         &["-", "load"],
         b"{\"type\":\"FeatureCollection\",\"features\":[]}",

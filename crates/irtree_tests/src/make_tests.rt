@@ -1,8 +1,8 @@
-//! What makes say.
+//! What makes print.
 use crate::runs::ends_well_under_both;
 use std::test::Fail;
 
-// Words of a make, and what it says; the sums were worked out by another program from the definitions.
+// Words of a make, and what it prints; the sums were worked out by another program from the definitions.
 static MAKES: [(&[&str], &[u8]); 6] = [
     (
         &["-", "make", "--from", "0", "--count", "1"],
@@ -30,7 +30,7 @@ static MAKES: [(&[&str], &[u8]); 6] = [
         ],
         b"stored 5\nstored 10\nstored 12\nmade 12 places 12 queries 120 hits sum 32249348081282500\n",
     ),
-    // More places than are asked for, in batches of 1,000.
+    // More places than are queried for, in batches of 1,000.
     (
         &["-", "make", "--from=7", "--count=5000"],
         b"stored 1000\nstored 2000\nstored 3000\nstored 4000\nstored 5000\nmade 5000 places 100 queries 1000 hits sum 12123419615187500\n",

@@ -1,4 +1,4 @@
-//! That the replies to the lines of a script are said before the next piece of it is read: reads and says stand in one trace.
+//! That the replies to the lines of a script are printed before the next piece of it is read: one trace has the reads and what is printed.
 ghost use Rattle.std.specs.Prelude.{◌≤◌, ◌<◌, IsTrue, false, [], length, IfOk};
 ghost use Rattle.disk_model.specs.Source.{HasGiven, HasReadCause};
 
@@ -12,7 +12,7 @@ use std::io::{self, ErrorKind, Write};
 use std::test::Fail;
 use std_devices::ScratchStation;
 
-// Scripts in pieces, and their traces: `<` for each read, the one that ends the input too, and the bytes said between them.
+// Scripts in pieces, and their traces: `<` for each read, the one that ends the input too, and the bytes printed between them.
 static TRACES: [(&[&[u8]], &[u8]); 3] = [
     (
         &[b"add a 0 0\n", b"count\n", b"nearest 0 0 1\n"],
@@ -49,7 +49,7 @@ struct Pieces<'t> {
 }
 
 impl Source for Pieces<'_> {
-    ghost tells = { false };
+    ghost readable = { false };
 
     ghost left = { λ source. [] };
 
@@ -72,7 +72,7 @@ impl Source for Pieces<'_> {
     }
 }
 
-// What is said, as a part of the trace.
+// What is printed, as a part of the trace.
 #[derive(Drop)]
 struct Sayings<'t> {
     trace: &'t RefCell<Vec<u8>>,
@@ -92,7 +92,7 @@ impl Write for Sayings<'_> {
     }
 }
 
-// Runs a script, and notes its reads and says in the trace.
+// Runs a script, and notes its reads and what it prints in the trace.
 fn follow(alloc: Global, pieces: &[&[u8]], trace: &RefCell<Vec<u8>>) -> Result<Ended, Fail> {
     let mut source = Pieces {
         pieces,

@@ -1,4 +1,4 @@
-//! What scripts say under each policy, and when a policy is let go.
+//! What scripts print under each policy, and when a policy is let go.
 use crate::runs::{ROOM, RUN, ends_under, ends_well_under_both, numbered};
 use disk_model::{MemorySource, MemoryStation};
 use irtree_engine::Engine;
@@ -72,7 +72,7 @@ fn is_refused(alloc: Global, policy: Box<dyn SplitPolicy>) -> Result<bool, Fail>
     }
 }
 
-// How many tokens there are behind an opening with the first policy, behind a change to the second one, and behind the engine's close.
+// How many tokens there are after an opening with the first policy, after a change to the second one, and after the engine's close.
 fn counts_of(
     alloc: Global,
     token: &Rc<u8, Global>,

@@ -48,7 +48,7 @@ pub(crate) fn run_on<T: Station>(
     run_under(alloc, given, &mut source, station, policy)
 }
 
-/// Whether a run on these words over an empty store ends so under a policy, and has said this.
+/// Whether a run on these words over an empty store ends so under a policy, and has printed this.
 pub(crate) fn ends_under<S: Source>(
     alloc: Global,
     given: &[&str],
@@ -62,7 +62,7 @@ pub(crate) fn ends_under<S: Source>(
     Ok(ended == end && station.said() == said)
 }
 
-/// Whether a run on these words over an empty store ends so, with an input that comes in such pieces, and has said this.
+/// Whether a run on these words over an empty store ends so, with an input that comes in such pieces, and has printed this.
 pub(crate) fn ends_so(
     alloc: Global,
     given: &[&str],
@@ -76,7 +76,7 @@ pub(crate) fn ends_so(
     ends_under(alloc, given, &mut source, policy, end, said)
 }
 
-/// Whether a run on these words over an empty store ends well under both policies, and has said this.
+/// Whether a run on these words over an empty store ends well under both policies, and has printed this.
 pub(crate) fn ends_well_under_both(
     alloc: Global,
     given: &[&str],
@@ -147,7 +147,7 @@ pub(crate) fn number_at(pages: &[u8], page: u32, at: u32) -> Result<u32, Fail> {
     }
 }
 
-/// So many copies of a text one behind the other, the copy's number in two digits in the place of each `#`.
+/// So many copies of a text one after the other, the copy's number in two digits in the place of each `#`.
 pub(crate) fn numbered(alloc: Global, count: u32, text: &str) -> Result<String, AllocError> {
     let mut copies = String::new(alloc);
     for number in 0..count {

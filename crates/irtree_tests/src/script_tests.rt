@@ -1,4 +1,4 @@
-//! What scripts say.
+//! What scripts print.
 ghost use Rattle.std.specs.Prelude.{◌≤◌, ◌<◌, false, [], length, IfOk};
 ghost use Rattle.disk_model.specs.Source.{HasReadCause};
 
@@ -8,7 +8,7 @@ use irtree_top::{Ended, INPUT_MAX, InputFault, LOAD_MAX};
 use split_policy::Quadratic;
 use std::test::Fail;
 
-// A script, and what is said of it.
+// A script, and what it prints.
 static SCRIPTS: [(&[u8], &[u8]); 9] = [
     (
         b"add a 0 0\nadd b 3 4\nnearest 0 0 2\n",
@@ -99,7 +99,7 @@ struct Spaces {
 }
 
 impl Source for Spaces {
-    ghost tells = { false };
+    ghost readable = { false };
 
     ghost left = { λ source. [] };
 
@@ -127,7 +127,7 @@ impl Source for Spaces {
 fn an_input_that_is_too_long_is_refused(rt: HostRuntime) -> Result<(), Fail> {
     let long = Ended::Input(InputFault::Long);
     let blank = Ended::Input(InputFault::Syntax(LOAD_MAX as u64));
-    // The words, whether the first line is left out, how many spaces come, how the run ends, and what it says.
+    // The words, whether the first line is left out, how many spaces come, how the run ends, and what it prints.
     for (given, begun, left, end, said) in [
         (
             &RUN,

@@ -15,7 +15,7 @@ use std_devices::ScratchStation;
 const BOTH: &[u8] =
     b"{\"type\":\"Feature\",\"id\":\"k\",\"geometry\":{\"type\":\"Point\",\"coordinates\":[1,2]},\"properties\":{\"name\":\"Bar\",\"kind\":\"pub\"}}";
 
-// The words of a run and its input, and what a script is told over the store that it made.
+// The words of a run and its input, a script over the store that it made, and what the script prints.
 static FOUND: [(&[&str], &[u8], &[u8], &[u8]); 6] = [
     // A load reads all properties or the one that is named.
     (
@@ -56,7 +56,7 @@ static FOUND: [(&[&str], &[u8], &[u8], &[u8]); 6] = [
     ),
 ];
 
-// Whether a script over a station ends so, and has said this.
+// Whether a script over a station ends so, and has printed this.
 fn script_ends(
     alloc: Global,
     station: &mut MemoryStation,
@@ -91,7 +91,7 @@ struct Ending {
     calls: &'static [Planned],
     end: Ended,
     said: &'static [u8],
-    // What `count` is answered afterwards.
+    // What `count` prints afterwards.
     counted: &'static [u8],
 }
 
@@ -117,7 +117,7 @@ static ENDINGS: [Ending; 10] = [
         said: b"",
         counted: b"count 0\n",
     },
-    // The sink fails: what was to be said is stored.
+    // The sink fails: what was to be printed is stored.
     Ending {
         given: &["-", "run"],
         input: b"add a 0 0\n",
@@ -131,7 +131,7 @@ static ENDINGS: [Ending; 10] = [
         said: b"",
         counted: b"count 1\n",
     },
-    // The second say of this load is of a feature that is passed over.
+    // The second write of this load to the sink is of a feature that is skipped.
     Ending {
         given: &["-", "load", "--batch=1"],
         input: FOUR,
@@ -361,7 +361,7 @@ fn free_pages(pages: &[u8]) -> Result<u32, Fail> {
     Err("the free list has no end".into())
 }
 
-// Whether each page but the first is free behind a load of 10,000 places in such an order and a script that takes them out in another.
+// Whether each page but the first is free after a load of 10,000 places in such an order and a script that takes them out in another.
 fn leaves_all_pages_free(alloc: Global, order: u32, other: u32) -> Result<bool, Fail> {
     let mut said = Vec::new(alloc);
     let mut station = ScratchStation::new(alloc, &mut said);

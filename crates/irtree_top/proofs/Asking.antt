@@ -7,12 +7,12 @@ use Rattle.disk_model.specs.declared.disk.Area.TheVariants.{Journal}
 use Rattle.page_journal.specs.Record.{StandsFor, applied}
 use Rattle.page_store.specs.Contents as stores
 use Rattle.page_store.specs.Opening.{IsOpeningRead, SaysNothingReadsHead}
-use Rattle.place_map.specs.State.{Contents}
+use Rattle.place_values.specs.State.{Contents}
 use Rattle.irtree_engine.specs.Queries.{EachRead, contents_held}
 use Rattle.irtree_engine.proofs.EachRead.{reads-by, reads-then}
-use Rattle.run_protocol.specs.Asking.{IsReadForOneOf, ReadsForLines}
-use Rattle.run_protocol.specs.Script.{script_lines}
-use Rattle.run_protocol.specs.declared.ended.Ended.{Ended}
+use Rattle.run_outcome.specs.Asking.{IsReadForOneOf, ReadsForLines}
+use Rattle.run_outcome.specs.Script.{script_lines}
+use Rattle.run_outcome.specs.declared.ended.Ended.{Ended}
 use Rattle.irtree_top.specs.Run.{IsAllowedRead, OpensFew}
 
 module _ (state : Contents) (input : List ℕ) where

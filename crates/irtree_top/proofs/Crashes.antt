@@ -4,15 +4,15 @@ use Rattle.std.specs.Prelude.{Ok}
 use Rattle.std.proofs.lemmas.List.{append-nil}
 use Rattle.disk_model.specs.World.{World, Image, LeavesOnly}
 use Rattle.disk_model.proofs.Moments.{within}
-use Rattle.place_map.specs.State.{Contents}
-use Rattle.place_map.specs.declared.update.Update.{Update}
-use Rattle.store_meaning.specs.Stands.{Stands}
+use Rattle.place_values.specs.State.{Contents}
+use Rattle.place_values.specs.declared.update.Update.{Update}
+use Rattle.store_model.specs.Stands.{Stands}
 use Rattle.irtree_top.specs.Prefix.{HoldsAcked}
-use Rattle.run_protocol.specs.Left.{LeftByLines, LeftByLoad}
-use Rattle.run_protocol.specs.Load.{load_transcript, says_loaded}
-use Rattle.make_run.specs.Making.{LeftByMake, items_from, make_transcript, says_made}
-use Rattle.run_protocol.specs.Script.{script_lines, script_transcript}
-use Rattle.run_protocol.specs.Turn.{Transcript}
+use Rattle.run_outcome.specs.Left.{LeftByLines, LeftByLoad}
+use Rattle.run_outcome.specs.Load.{load_transcript, says_loaded}
+use Rattle.load_run.specs.Making.{LeftByMake, items_from, make_transcript, says_made}
+use Rattle.run_outcome.specs.Script.{script_lines, script_transcript}
+use Rattle.run_outcome.specs.Turn.{Transcript}
 use Rattle.command_words.specs.declared.job.Action.{Action}
 use Rattle.command_words.specs.declared.job.Action.TheVariants.{Run, Load, Make}
 use Rattle.irtree_top.specs.Run.{HoldsPrefix, IsNear, acked}

@@ -5,7 +5,7 @@ use Rattle.std.specs.List.{count_by}
 use Rattle.std.proofs.lemmas.Bool.{cases_eq, eq-eqb, ne_eqb}
 use Rattle.std.proofs.lemmas.List.{take-append-drop}
 use Rattle.std.proofs.lemmas.List.Sums.{sum_by-append}
-use Rattle.run_protocol.specs.Script.{Cut, cut, behind}
+use Rattle.run_outcome.specs.Script.{Cut, cut, behind}
 use Rattle.irtree_top.specs.Acked.{begins_with, acked_by_script}
 
 -- ---- where lines end

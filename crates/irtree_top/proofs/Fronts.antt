@@ -3,14 +3,14 @@ use Rattle.std.proofs.Common.{◌≡◌, ℕ, ◌+◌, ⊎_elim, List, [], ◌�
 use Rattle.std.specs.Prelude.{Result, Ok, Err}
 use Rattle.std.proofs.lemmas.List.{append-nil, take_all}
 use Rattle.disk_model.specs.World.{World}
-use Rattle.place_map.specs.State.{Contents}
-use Rattle.place_map.specs.declared.update.UpdateFault.{UpdateFault}
+use Rattle.place_values.specs.State.{Contents}
+use Rattle.place_values.specs.declared.update.UpdateFault.{UpdateFault}
 use Rattle.irtree_engine.specs.Updates.{state_after_all}
-use Rattle.run_protocol.specs.Left.{StopsAtBatch, StopsAtLine, StopsBehind}
-use Rattle.run_protocol.specs.Load.{Closing, Step, Skip, Store, load, skip_line, stored_line, stores}
-use Rattle.run_protocol.specs.Said.{EndsAs, SaysFrontOf}
-use Rattle.run_protocol.specs.Script.{script, turn}
-use Rattle.run_protocol.specs.Turn.{Transcript, End}
+use Rattle.run_outcome.specs.Left.{StopsAtBatch, StopsAtLine, StopsBehind}
+use Rattle.run_outcome.specs.Load.{Closing, Step, Skip, Store, load, skip_line, stored_line, stores}
+use Rattle.run_outcome.specs.Said.{EndsAs, SaysFrontOf}
+use Rattle.run_outcome.specs.Script.{script, turn}
+use Rattle.run_outcome.specs.Turn.{Transcript, End}
 use Rattle.script_run.proofs.Fronts.{take-behind}
 
 -- nothing is a front

@@ -3,23 +3,23 @@ use Rattle.std.proofs.Common.{◌≡◌, ℕ, ⊎_elim, List, [], ◌++◌, take
 use Rattle.std.specs.Prelude.{Bool, Result, Ok, Err, IfErr}
 use Rattle.std.proofs.lemmas.List.{append-nil}
 use Rattle.disk_model.specs.World.{World}
-use Rattle.place_map.specs.State.{Contents}
+use Rattle.place_values.specs.State.{Contents}
 use Rattle.geojson_points.specs.Takes.{Item}
 use Rattle.load_run.specs.Loading.{EndsLoad, StopsItems}
 use Rattle.irtree_engine.specs.declared.fault.EngineFault.{EngineFault}
 use Rattle.irtree_engine.specs.declared.fault.EngineFault.TheVariants as engine
-use Rattle.run_protocol.specs.Causes.{IsEngineEnd, end_of_engine}
-use Rattle.run_protocol.specs.Left.{StopsAtBatch, StopsAtLine}
-use Rattle.run_protocol.specs.Load.{IsTaken, load_transcript, says_loaded, steps}
-use Rattle.make_run.specs.Making.{EndsMake, make_steps, make_transcript, says_made}
-use Rattle.run_protocol.specs.Said.{EndsAs, SaysFrontOf}
-use Rattle.run_protocol.specs.Script.{cut, script, script_lines, script_transcript}
-use Rattle.run_protocol.specs.Turn.{Transcript, End}
-use Rattle.run_protocol.specs.declared.ended.Ended.{Ended}
-use Rattle.run_protocol.specs.declared.ended.Ended.TheVariants as ends
-use Rattle.run_protocol.specs.declared.ended.InputFault.{InputFault}
-use Rattle.run_protocol.specs.declared.ended.LimitFault.{LimitFault}
-use Rattle.run_protocol.specs.declared.ended.LimitFault.TheVariants as limits
+use Rattle.run_outcome.specs.Causes.{IsEngineEnd, end_of_engine}
+use Rattle.run_outcome.specs.Left.{StopsAtBatch, StopsAtLine}
+use Rattle.run_outcome.specs.Load.{IsTaken, load_transcript, says_loaded, steps}
+use Rattle.load_run.specs.Making.{EndsMake, make_steps, make_transcript, says_made}
+use Rattle.run_outcome.specs.Said.{EndsAs, SaysFrontOf}
+use Rattle.run_outcome.specs.Script.{cut, script, script_lines, script_transcript}
+use Rattle.run_outcome.specs.Turn.{Transcript, End}
+use Rattle.run_outcome.specs.declared.ended.Ended.{Ended}
+use Rattle.run_outcome.specs.declared.ended.Ended.TheVariants as ends
+use Rattle.run_outcome.specs.declared.ended.InputFault.{InputFault}
+use Rattle.run_outcome.specs.declared.ended.LimitFault.{LimitFault}
+use Rattle.run_outcome.specs.declared.ended.LimitFault.TheVariants as limits
 use Rattle.script_run.specs.Standing.{EndsScript}
 use Rattle.command_words.specs.declared.job.Action.{Action}
 use Rattle.command_words.specs.declared.job.Action.TheVariants.{Run, Load, Make}
@@ -152,14 +152,14 @@ module _ (asked : Asked) (state : Contents) (input : List ℕ) (makes : asked.ac
   make-ends T left old new (Err ends.Words) same says = absurd says
 
 -- a call over an engine ends by no source and by no input
-pub engine-unread : (tells : Bool) (old new : World) (T : Type 0) (result : Result T Ended) → IfErr result (IsEngineEnd tells old new) → IfErr result IsUnreadEnd
-engine-unread tells old new T (Ok done) cause = tt
-engine-unread tells old new T (Err ends.Memory) cause = tt
-engine-unread tells old new T (Err ends.Disk) cause = tt
-engine-unread tells old new T (Err ends.Sink) cause = tt
-engine-unread tells old new T (Err (ends.Store fault)) cause = tt
-engine-unread tells old new T (Err (ends.Limit fault)) cause = tt
-engine-unread tells old new T (Err _) cause = absurd cause
+pub engine-unread : (readable : Bool) (old new : World) (T : Type 0) (result : Result T Ended) → IfErr result (IsEngineEnd readable old new) → IfErr result IsUnreadEnd
+engine-unread readable old new T (Ok done) cause = tt
+engine-unread readable old new T (Err ends.Memory) cause = tt
+engine-unread readable old new T (Err ends.Disk) cause = tt
+engine-unread readable old new T (Err ends.Sink) cause = tt
+engine-unread readable old new T (Err (ends.Store fault)) cause = tt
+engine-unread readable old new T (Err (ends.Limit fault)) cause = tt
+engine-unread readable old new T (Err _) cause = absurd cause
 
 -- nor does an opening that is refused
 pub fault-unread : (fault : EngineFault) → IsUnreadEnd (end_of_engine fault)

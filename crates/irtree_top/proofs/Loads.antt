@@ -8,23 +8,23 @@ use Rattle.std.proofs.Math.Nat.{add-mod_left, mod_self, zero-mod}
 use Rattle.std.proofs.Math.Seq.{take-append-add, take-append_seam}
 use Rattle.std.specs.Prelude.{nat_le, if◌then◌else◌, fold, codes, decimal, is_none, Result, Ok, Err}
 use Rattle.disk_model.specs.World.{Image}
-use Rattle.place_map.specs.State.{Contents, place_at}
-use Rattle.place_map.specs.Update.{effect_of, key_for, refuses}
-use Rattle.place_map.specs.declared.update.Applied.{Applied}
-use Rattle.place_map.specs.declared.update.Update.{Update}
-use Rattle.place_map.specs.declared.update.Update.TheVariants.{Put, Remove}
-use Rattle.place_map.specs.declared.update.UpdateFault.{UpdateFault}
-use Rattle.place_map.specs.declared.update.UpdateFault.TheVariants.{Full, Worn}
+use Rattle.place_values.specs.State.{Contents, place_at}
+use Rattle.place_values.specs.Update.{effect_of, key_for, refuses}
+use Rattle.place_values.specs.declared.update.Applied.{Applied}
+use Rattle.place_values.specs.declared.update.Update.{Update}
+use Rattle.place_values.specs.declared.update.Update.TheVariants.{Put, Remove}
+use Rattle.place_values.specs.declared.update.UpdateFault.{UpdateFault}
+use Rattle.place_values.specs.declared.update.UpdateFault.TheVariants.{Full, Worn}
 use Rattle.geojson_points.specs.Takes.{Item, Placed, Skipped}
 use Rattle.geojson_points.specs.declared.taken.SkipReason.{SkipReason}
 use Rattle.geojson_points.specs.declared.taken.SkipReason.TheVariants as reasons
-use Rattle.store_meaning.specs.Stands.{Stands}
+use Rattle.store_model.specs.Stands.{Stands}
 use Rattle.irtree_engine.specs.Updates.{accepted, state_after_all}
-use Rattle.run_protocol.specs.Left.{LeftBySteps, LeftByBatch}
-use Rattle.run_protocol.specs.Load.{Closing, Step, Skip, Store, steps, load, stores, put_of, reason_text, says_loaded, skip_line, stored_line, loaded_line}
-use Rattle.make_run.specs.Making.{made_line, says_made}
-use Rattle.run_protocol.specs.Said.{SaysFrontOf}
-use Rattle.run_protocol.specs.Script.{Cut, cut}
+use Rattle.run_outcome.specs.Left.{LeftBySteps, LeftByBatch}
+use Rattle.run_outcome.specs.Load.{Closing, Step, Skip, Store, steps, load, stores, put_of, reason_text, says_loaded, skip_line, stored_line, loaded_line}
+use Rattle.load_run.specs.Making.{made_line, says_made}
+use Rattle.run_outcome.specs.Said.{SaysFrontOf}
+use Rattle.run_outcome.specs.Script.{Cut, cut}
 use Rattle.irtree_top.specs.Acked.{number_of_digits, stored_in, acked_by_load}
 use Rattle.irtree_top.specs.Prefix.{state_after_updates, HoldsAcked, IsNearInLoad}
 use Rattle.irtree_top.proofs.Cuts.{in_line, in_line-append, cut-line, lines-append, lines-front}

@@ -4,37 +4,37 @@ use Rattle.std.proofs.lemmas.Bool.{and_left, ne_eqb}
 use Rattle.std.specs.Prelude.{Result, Ok, Err, IfErr, IsTrue}
 use Rattle.disk_model.specs.World.{World, Image, LeavesOnly, LeavesOnlySeen, Rose}
 use Rattle.page_face.specs.declared.fault.Damage.{Damage}
-use Rattle.place_map.specs.State.{Contents}
+use Rattle.place_values.specs.State.{Contents}
 use Rattle.irtree_engine.specs.Faults.{IsOpenFault}
 use Rattle.irtree_engine.specs.Holding.{HasBrokenHead, HoldsState, IsForeign, StandsForNone}
 use Rattle.irtree_engine.specs.Opening.{LeavesRefused}
 use Rattle.irtree_engine.specs.declared.fault.EngineFault.{EngineFault}
 use Rattle.irtree_engine.specs.declared.fault.EngineFault.TheVariants as engine
-use Rattle.run_protocol.specs.Causes.{end_of_engine, HasJobEnd, IsJobEnd, IsStoreEnd}
-use Rattle.run_protocol.proofs.Counts.{keeps-from}
-use Rattle.run_protocol.specs.declared.ended.LimitFault.{LimitFault}
-use Rattle.run_protocol.specs.declared.ended.StoreFault.{StoreFault}
-use Rattle.run_protocol.specs.declared.ended.StoreFault.TheVariants as stores
+use Rattle.run_outcome.specs.Causes.{end_of_engine, HasJobEnd, IsJobEnd, IsStoreEnd}
+use Rattle.run_outcome.proofs.Counts.{keeps-from}
+use Rattle.run_outcome.specs.declared.ended.LimitFault.{LimitFault}
+use Rattle.run_outcome.specs.declared.ended.StoreFault.{StoreFault}
+use Rattle.run_outcome.specs.declared.ended.StoreFault.TheVariants as stores
 use Rattle.page_journal.specs.Record.{IsBad, StandsAlike}
-use Rattle.run_protocol.specs.declared.ended.Ended.{Ended}
-use Rattle.run_protocol.specs.declared.ended.Ended.TheVariants as ends
+use Rattle.run_outcome.specs.declared.ended.Ended.{Ended}
+use Rattle.run_outcome.specs.declared.ended.Ended.TheVariants as ends
 use Rattle.page_store.specs.Opening.{IsOpened, head_damage}
 use Rattle.page_store.specs.Contents.{page_bytes}
 use Rattle.page_store.specs.Superblock.{HasMagic, IsStorePage, is_zero}
 use Rattle.page_store.specs.declared.superblock.Superblock.{Superblock}
-use Rattle.store_meaning.proofs.Images.{area-one}
+use Rattle.store_model.proofs.Images.{area-one}
 use Rattle.command_words.specs.declared.job.Action.{Action}
 use Rattle.irtree_top.specs.Run.{EndsJob, HasRunEnd, IsLimitReached, ReachesLimitBy, IsBehindOpening, IsBroken, IsCompleteEnd, IsLimitOf, IsOpenable, IsRunEnd, LeavesAlone}
 use Rattle.command_words.specs.Job.{Asked}
 use Rattle.irtree_top.proofs.Fronts.{none-said}
 
 -- what a refused opening says of the image
-pub record Refuses (tells : Bool) (old new : World) (fault : EngineFault) : Type 0 where
+pub record Refuses (readable : Bool) (old new : World) (fault : EngineFault) : Type 0 where
   pub disk : fault ≡ engine.Disk → Rose old.faults new.faults
-  pub none : IsTrue tells → (fault ≡ engine.Disk → ⊥) → StandsForNone old.seen
-  pub foreign : IsTrue tells → fault ≡ engine.NotAStore → IsForeign old.seen
-  pub bad : IsTrue tells → (at : ℕ) → fault ≡ engine.BadJournal at → IsBad old.seen at
-  pub head : IsTrue tells → (damage : Damage) → fault ≡ engine.Damaged damage → (damage ≡ head_damage) × HasBrokenHead old.seen
+  pub none : IsTrue readable → (fault ≡ engine.Disk → ⊥) → StandsForNone old.seen
+  pub foreign : IsTrue readable → fault ≡ engine.NotAStore → IsForeign old.seen
+  pub bad : IsTrue readable → (at : ℕ) → fault ≡ engine.BadJournal at → IsBad old.seen at
+  pub head : IsTrue readable → (damage : Damage) → fault ≡ engine.Damaged damage → (damage ≡ head_damage) × HasBrokenHead old.seen
 
 -- an opening that is refused for another cause than a fault of the disk says that the image stands for none
 pub none-by : {image : Image} (fault : EngineFault) → IsOpenFault fault → (fault ≡ engine.Disk → ⊥)
@@ -50,39 +50,39 @@ none-by engine.Stopped opens other none bad damaged = absurd opens
 none-by engine.Memory opens other none bad damaged = absurd opens
 
 -- the cause of a refused opening
-pub refused-cause : (tells : Bool) (source : ℕ) (old new : World) (fault : EngineFault) → IsOpenFault fault → Refuses tells old new fault → IsRunEnd tells source source old new (end_of_engine fault)
-refused-cause tells source old new engine.Disk opens refuses = refuses.disk refl
-refused-cause tells source old new engine.NotAStore opens refuses = λ t. (refuses.none t (λ e. cc), refuses.foreign t refl)
-refused-cause tells source old new (engine.BadJournal at) opens refuses = λ t. (refuses.none t (λ e. cc), refuses.bad t at refl)
-refused-cause tells source old new (engine.Damaged damage) opens refuses = λ t. (refuses.none t (λ e. cc), inl (refuses.head t damage refl))
-refused-cause tells source old new engine.Full opens refuses = absurd opens
-refused-cause tells source old new engine.Worn opens refuses = absurd opens
-refused-cause tells source old new engine.NoRoom opens refuses = absurd opens
-refused-cause tells source old new engine.Stopped opens refuses = absurd opens
-refused-cause tells source old new engine.Memory opens refuses = absurd opens
+pub refused-cause : (readable : Bool) (source : ℕ) (old new : World) (fault : EngineFault) → IsOpenFault fault → Refuses readable old new fault → IsRunEnd readable source source old new (end_of_engine fault)
+refused-cause readable source old new engine.Disk opens refuses = refuses.disk refl
+refused-cause readable source old new engine.NotAStore opens refuses = λ t. (refuses.none t (λ e. cc), refuses.foreign t refl)
+refused-cause readable source old new (engine.BadJournal at) opens refuses = λ t. (refuses.none t (λ e. cc), refuses.bad t at refl)
+refused-cause readable source old new (engine.Damaged damage) opens refuses = λ t. (refuses.none t (λ e. cc), inl (refuses.head t damage refl))
+refused-cause readable source old new engine.Full opens refuses = absurd opens
+refused-cause readable source old new engine.Worn opens refuses = absurd opens
+refused-cause readable source old new engine.NoRoom opens refuses = absurd opens
+refused-cause readable source old new engine.Stopped opens refuses = absurd opens
+refused-cause readable source old new engine.Memory opens refuses = absurd opens
 
 -- a job whose opening was refused has said nothing
-pub refused-job : (T : Type 0) (tells : Bool) → IsTrue tells → (asked : Asked) (state : Contents) (input left : List ℕ) (old new : World) → HoldsState old state → new.said ≡ old.said → (fault : EngineFault) → IsOpenFault fault → Refuses tells old new fault
+pub refused-job : (T : Type 0) (readable : Bool) → IsTrue readable → (asked : Asked) (state : Contents) (input left : List ℕ) (old new : World) → HoldsState old state → new.said ≡ old.said → (fault : EngineFault) → IsOpenFault fault → Refuses readable old new fault
     → EndsJob {T = T} asked state input left old new (Err (end_of_engine fault))
-refused-job T tells t asked state input left old new holds none engine.Disk opens refuses = λ whole is. none-said whole.turn.text old.said new.said none
-refused-job T tells t asked state input left old new holds none engine.NotAStore opens refuses = refuses.none t (λ e. cc) state holds
-refused-job T tells t asked state input left old new holds none (engine.BadJournal at) opens refuses = refuses.none t (λ e. cc) state holds
-refused-job T tells t asked state input left old new holds none (engine.Damaged damage) opens refuses = refuses.none t (λ e. cc) state holds
-refused-job T tells t asked state input left old new holds none engine.Full opens refuses = absurd opens
-refused-job T tells t asked state input left old new holds none engine.Worn opens refuses = absurd opens
-refused-job T tells t asked state input left old new holds none engine.NoRoom opens refuses = absurd opens
-refused-job T tells t asked state input left old new holds none engine.Stopped opens refuses = absurd opens
-refused-job T tells t asked state input left old new holds none engine.Memory opens refuses = absurd opens
+refused-job T readable t asked state input left old new holds none engine.Disk opens refuses = λ whole is. none-said whole.turn.text old.said new.said none
+refused-job T readable t asked state input left old new holds none engine.NotAStore opens refuses = refuses.none t (λ e. cc) state holds
+refused-job T readable t asked state input left old new holds none (engine.BadJournal at) opens refuses = refuses.none t (λ e. cc) state holds
+refused-job T readable t asked state input left old new holds none (engine.Damaged damage) opens refuses = refuses.none t (λ e. cc) state holds
+refused-job T readable t asked state input left old new holds none engine.Full opens refuses = absurd opens
+refused-job T readable t asked state input left old new holds none engine.Worn opens refuses = absurd opens
+refused-job T readable t asked state input left old new holds none engine.NoRoom opens refuses = absurd opens
+refused-job T readable t asked state input left old new holds none engine.Stopped opens refuses = absurd opens
+refused-job T readable t asked state input left old new holds none engine.Memory opens refuses = absurd opens
 
-module _ (tells : Bool) (old was new : World) (faults : was.faults ≡ old.faults) (sink : was.sink_faults ≡ old.sink_faults) (opened : IsTrue tells → IsOpenable old.seen)
-    (stands : IsTrue tells → (state : Contents) → HoldsState old state → HoldsState was state) where
+module _ (readable : Bool) (old was new : World) (faults : was.faults ≡ old.faults) (sink : was.sink_faults ≡ old.sink_faults) (opened : IsTrue readable → IsOpenable old.seen)
+    (stands : IsTrue readable → (state : Contents) → HoldsState old state → HoldsState was state) where
   -- damage that was met behind the opening
-  broken-from : (fault : StoreFault) → IsStoreEnd tells was fault → IsTrue tells → IsBroken fault old.seen
+  broken-from : (fault : StoreFault) → IsStoreEnd readable was fault → IsTrue readable → IsBroken fault old.seen
   broken-from (stores.Damaged damage) cause t = ((λ state holds. (cause t).0 state (stands t state holds)), inr ((cause t).1, opened t))
   broken-from stores.NotAStore cause t = absurd cause
   broken-from (stores.BadJournal at) cause t = absurd cause
 
-  cause-from : (source_old source_new : ℕ) (end : Ended) → IsJobEnd tells source_old source_new was new end → IsRunEnd tells source_old source_new old new end
+  cause-from : (source_old source_new : ℕ) (end : Ended) → IsJobEnd readable source_old source_new was new end → IsRunEnd readable source_old source_new old new end
   cause-from source_old source_new ends.Memory cause = tt
   cause-from source_old source_new ends.Disk cause = omega (arith, cause, faults)
   cause-from source_old source_new ends.Source cause = (cause, opened)
@@ -94,7 +94,7 @@ module _ (tells : Bool) (old was new : World) (faults : was.faults ≡ old.fault
   cause-from source_old source_new ends.Words cause = absurd cause
 
   -- a job's cause, behind the opening
-  pub job-cause : (T : Type 0) (source_old source_new : ℕ) (result : Result T Ended) → HasJobEnd tells source_old source_new was new result → HasRunEnd tells source_old source_new old new result
+  pub job-cause : (T : Type 0) (source_old source_new : ℕ) (result : Result T Ended) → HasJobEnd readable source_old source_new was new result → HasRunEnd readable source_old source_new old new result
   job-cause T source_old source_new (Ok done) cause = record {
     source = cause.source;
     faults = omega (arith, cause.faults, faults);
@@ -115,16 +115,16 @@ module _ (tells : Bool) (old was new : World) (faults : was.faults ≡ old.fault
   }
 
 -- an end behind the opening says that the image is opened
-pub behind-opening : (tells : Bool) (source_old source_new : ℕ) (old new : World) (end : Ended) → IsRunEnd tells source_old source_new old new end → IsBehindOpening end → IsTrue tells → IsOpenable old.seen
-behind-opening tells source_old source_new old new ends.Memory cause behind = absurd behind
-behind-opening tells source_old source_new old new ends.Disk cause behind = absurd behind
-behind-opening tells source_old source_new old new ends.Source cause behind = cause.1
-behind-opening tells source_old source_new old new ends.Sink cause behind = cause.1
-behind-opening tells source_old source_new old new (ends.Input fault) cause behind = cause
-behind-opening tells source_old source_new old new (ends.Store fault) cause behind = absurd behind
-behind-opening tells source_old source_new old new (ends.Limit fault) cause behind = cause
-behind-opening tells source_old source_new old new ends.Done cause behind = absurd cause
-behind-opening tells source_old source_new old new ends.Words cause behind = absurd cause
+pub behind-opening : (readable : Bool) (source_old source_new : ℕ) (old new : World) (end : Ended) → IsRunEnd readable source_old source_new old new end → IsBehindOpening end → IsTrue readable → IsOpenable old.seen
+behind-opening readable source_old source_new old new ends.Memory cause behind = absurd behind
+behind-opening readable source_old source_new old new ends.Disk cause behind = absurd behind
+behind-opening readable source_old source_new old new ends.Source cause behind = cause.1
+behind-opening readable source_old source_new old new ends.Sink cause behind = cause.1
+behind-opening readable source_old source_new old new (ends.Input fault) cause behind = cause
+behind-opening readable source_old source_new old new (ends.Store fault) cause behind = absurd behind
+behind-opening readable source_old source_new old new (ends.Limit fault) cause behind = cause
+behind-opening readable source_old source_new old new ends.Done cause behind = absurd cause
+behind-opening readable source_old source_new old new ends.Words cause behind = absurd cause
 
 -- ---- what the opening leaves
 
@@ -189,40 +189,40 @@ unopened image broken opened =
 
 module _ (old new : World) (opened : IsOpenable old.seen) where
   -- behind the opening no store is refused for its page 0 or its journal
-  end-alone : (tells : Bool) (source_old source_new : ℕ) (was after : World) (end : Ended) → IsJobEnd tells source_old source_new was after end → LeavesAlone end old new
-  end-alone tells source_old source_new was after ends.Memory cause = tt
-  end-alone tells source_old source_new was after ends.Disk cause = tt
-  end-alone tells source_old source_new was after ends.Source cause = tt
-  end-alone tells source_old source_new was after ends.Sink cause = tt
-  end-alone tells source_old source_new was after (ends.Input fault) cause = tt
-  end-alone tells source_old source_new was after (ends.Limit fault) cause = tt
-  end-alone tells source_old source_new was after (ends.Store (stores.Damaged damage)) cause = λ broken. absurd (unopened old.seen broken opened)
-  end-alone tells source_old source_new was after (ends.Store stores.NotAStore) cause = absurd cause
-  end-alone tells source_old source_new was after (ends.Store (stores.BadJournal at)) cause = absurd cause
-  end-alone tells source_old source_new was after ends.Done cause = tt
-  end-alone tells source_old source_new was after ends.Words cause = tt
+  end-alone : (readable : Bool) (source_old source_new : ℕ) (was after : World) (end : Ended) → IsJobEnd readable source_old source_new was after end → LeavesAlone end old new
+  end-alone readable source_old source_new was after ends.Memory cause = tt
+  end-alone readable source_old source_new was after ends.Disk cause = tt
+  end-alone readable source_old source_new was after ends.Source cause = tt
+  end-alone readable source_old source_new was after ends.Sink cause = tt
+  end-alone readable source_old source_new was after (ends.Input fault) cause = tt
+  end-alone readable source_old source_new was after (ends.Limit fault) cause = tt
+  end-alone readable source_old source_new was after (ends.Store (stores.Damaged damage)) cause = λ broken. absurd (unopened old.seen broken opened)
+  end-alone readable source_old source_new was after (ends.Store stores.NotAStore) cause = absurd cause
+  end-alone readable source_old source_new was after (ends.Store (stores.BadJournal at)) cause = absurd cause
+  end-alone readable source_old source_new was after ends.Done cause = tt
+  end-alone readable source_old source_new was after ends.Words cause = tt
 
-  pub job-alone : (T : Type 0) (tells : Bool) (source_old source_new : ℕ) (was after : World) (result : Result T Ended) → HasJobEnd tells source_old source_new was after result → IfErr result (λ end. LeavesAlone end old new)
-  job-alone T tells source_old source_new was after (Ok done) cause = tt
-  job-alone T tells source_old source_new was after (Err end) cause = end-alone tells source_old source_new was after end cause.cause
+  pub job-alone : (T : Type 0) (readable : Bool) (source_old source_new : ℕ) (was after : World) (result : Result T Ended) → HasJobEnd readable source_old source_new was after result → IfErr result (λ end. LeavesAlone end old new)
+  job-alone T readable source_old source_new was after (Ok done) cause = tt
+  job-alone T readable source_old source_new was after (Err end) cause = end-alone readable source_old source_new was after end cause.cause
 
 -- ---- an end by the words
 
 -- Where no count rose and the image stands for a state, a run ends by its words.
-pub complete-end : (tells : Bool) (source_old source_new : ℕ) (old new : World) (action : Action) (state : Contents) → IsTrue tells → HoldsState old state
+pub complete-end : (readable : Bool) (source_old source_new : ℕ) (old new : World) (action : Action) (state : Contents) → IsTrue readable → HoldsState old state
     → (Rose source_old source_new → ⊥) → (Rose old.faults new.faults → ⊥) → (Rose old.sink_faults new.sink_faults → ⊥)
-    → (end : Ended) → ((fault : LimitFault) → end ≡ ends.Limit fault → IsLimitOf action fault) → IsRunEnd tells source_old source_new old new end → IsCompleteEnd action end
-complete-end tells source_old source_new old new action state t holds source disk sink ends.Memory limit cause = tt
-complete-end tells source_old source_new old new action state t holds source disk sink ends.Disk limit cause = absurd (disk cause)
-complete-end tells source_old source_new old new action state t holds source disk sink ends.Source limit cause = absurd (source cause.0)
-complete-end tells source_old source_new old new action state t holds source disk sink ends.Sink limit cause = absurd (sink cause.0)
-complete-end tells source_old source_new old new action state t holds source disk sink (ends.Input fault) limit cause = tt
-complete-end tells source_old source_new old new action state t holds source disk sink (ends.Limit fault) limit cause = limit fault refl
-complete-end tells source_old source_new old new action state t holds source disk sink (ends.Store stores.NotAStore) limit cause = absurd ((cause t).0 state holds)
-complete-end tells source_old source_new old new action state t holds source disk sink (ends.Store (stores.BadJournal at)) limit cause = absurd ((cause t).0 state holds)
-complete-end tells source_old source_new old new action state t holds source disk sink (ends.Store (stores.Damaged damage)) limit cause = absurd ((cause t).0 state holds)
-complete-end tells source_old source_new old new action state t holds source disk sink ends.Done limit cause = absurd cause
-complete-end tells source_old source_new old new action state t holds source disk sink ends.Words limit cause = absurd cause
+    → (end : Ended) → ((fault : LimitFault) → end ≡ ends.Limit fault → IsLimitOf action fault) → IsRunEnd readable source_old source_new old new end → IsCompleteEnd action end
+complete-end readable source_old source_new old new action state t holds source disk sink ends.Memory limit cause = tt
+complete-end readable source_old source_new old new action state t holds source disk sink ends.Disk limit cause = absurd (disk cause)
+complete-end readable source_old source_new old new action state t holds source disk sink ends.Source limit cause = absurd (source cause.0)
+complete-end readable source_old source_new old new action state t holds source disk sink ends.Sink limit cause = absurd (sink cause.0)
+complete-end readable source_old source_new old new action state t holds source disk sink (ends.Input fault) limit cause = tt
+complete-end readable source_old source_new old new action state t holds source disk sink (ends.Limit fault) limit cause = limit fault refl
+complete-end readable source_old source_new old new action state t holds source disk sink (ends.Store stores.NotAStore) limit cause = absurd ((cause t).0 state holds)
+complete-end readable source_old source_new old new action state t holds source disk sink (ends.Store (stores.BadJournal at)) limit cause = absurd ((cause t).0 state holds)
+complete-end readable source_old source_new old new action state t holds source disk sink (ends.Store (stores.Damaged damage)) limit cause = absurd ((cause t).0 state holds)
+complete-end readable source_old source_new old new action state t holds source disk sink ends.Done limit cause = absurd cause
+complete-end readable source_old source_new old new action state t holds source disk sink ends.Words limit cause = absurd cause
 
 -- what is said of a disk is said of the one that was given back
 pub given-back : {D : Type 0} (P : D → Type 0) (was back : D) → was ≡ back → P was → P back

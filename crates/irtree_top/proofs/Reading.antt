@@ -8,25 +8,25 @@ use Rattle.irtree_engine.specs.Damages.{IsQueryDamageIn, IsShownDamageIn}
 use Rattle.irtree_engine.specs.Queries.{contents_held}
 use Rattle.irtree_engine.specs.declared.fault.EngineFault.{EngineFault}
 use Rattle.irtree_engine.specs.declared.fault.EngineFault.TheVariants as engine
-use Rattle.run_protocol.specs.Causes.{end_of_engine}
-use Rattle.run_protocol.specs.Reading.{IsMetIn}
-use Rattle.run_protocol.specs.declared.ended.Ended.{Ended}
-use Rattle.run_protocol.specs.declared.ended.Ended.TheVariants as ends
-use Rattle.run_protocol.specs.declared.ended.StoreFault.TheVariants as stores
+use Rattle.run_outcome.specs.Causes.{end_of_engine}
+use Rattle.run_outcome.specs.Reading.{IsMetIn}
+use Rattle.run_outcome.specs.declared.ended.Ended.{Ended}
+use Rattle.run_outcome.specs.declared.ended.Ended.TheVariants as ends
+use Rattle.run_outcome.specs.declared.ended.StoreFault.TheVariants as stores
 use Rattle.irtree_top.specs.Run.{NamesBrokenRule}
 use Rattle.irtree_top.proofs.Openings.{Refuses}
 
 -- a refused opening names the rule Head at page 0
-pub refused-names : (tells : Bool) (old new : World) (fault : EngineFault) → IsTrue tells → Refuses tells old new fault → NamesBrokenRule old.seen (end_of_engine fault)
-refused-names tells old new (engine.Damaged damage) told refuses = inl (refuses.head told damage refl)
-refused-names tells old new engine.Disk told refuses = tt
-refused-names tells old new engine.NotAStore told refuses = tt
-refused-names tells old new (engine.BadJournal at) told refuses = tt
-refused-names tells old new engine.Full told refuses = tt
-refused-names tells old new engine.Worn told refuses = tt
-refused-names tells old new engine.NoRoom told refuses = tt
-refused-names tells old new engine.Stopped told refuses = tt
-refused-names tells old new engine.Memory told refuses = tt
+pub refused-names : (readable : Bool) (old new : World) (fault : EngineFault) → IsTrue readable → Refuses readable old new fault → NamesBrokenRule old.seen (end_of_engine fault)
+refused-names readable old new (engine.Damaged damage) told refuses = inl (refuses.head told damage refl)
+refused-names readable old new engine.Disk told refuses = tt
+refused-names readable old new engine.NotAStore told refuses = tt
+refused-names readable old new (engine.BadJournal at) told refuses = tt
+refused-names readable old new engine.Full told refuses = tt
+refused-names readable old new engine.Worn told refuses = tt
+refused-names readable old new engine.NoRoom told refuses = tt
+refused-names readable old new engine.Stopped told refuses = tt
+refused-names readable old new engine.Memory told refuses = tt
 
 module _ (old now : World) (stands : StandsFor old.seen (applied now.seen)) where
   -- what is met behind the opening the image at the start holds, too

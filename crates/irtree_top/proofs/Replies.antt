@@ -8,14 +8,14 @@ use Rattle.json.specs.Print.{escape, escape_byte, escape_letter, quoted}
 use Rattle.fixed_coords.specs.Degrees.{fixed_text, size_text, last_digits}
 use Rattle.spatial_base.specs.Key.{Name, Text, Auto}
 use Rattle.spatial_base.specs.Point.{Position}
-use Rattle.place_map.specs.Top.{weight_sum}
-use Rattle.place_map.specs.declared.hit.Hit.{Hit}
-use Rattle.place_map.specs.declared.query.Answer.{Answer}
-use Rattle.place_map.specs.declared.query.Answer.TheVariants.{Hits, Group}
-use Rattle.place_map.specs.declared.query.Chosen.{Chosen}
-use Rattle.place_map.specs.declared.query.Pick.{Pick}
-use Rattle.place_map.specs.declared.query.Query.{Query}
-use Rattle.place_map.specs.declared.query.Query.TheVariants as queries
+use Rattle.place_values.specs.Top.{weight_sum}
+use Rattle.place_values.specs.declared.hit.Hit.{Hit}
+use Rattle.place_values.specs.declared.query.Answer.{Answer}
+use Rattle.place_values.specs.declared.query.Answer.TheVariants.{Hits, Group}
+use Rattle.place_values.specs.declared.query.Chosen.{Chosen}
+use Rattle.place_values.specs.declared.query.Pick.{Pick}
+use Rattle.place_values.specs.declared.query.Query.{Query}
+use Rattle.place_values.specs.declared.query.Query.TheVariants as queries
 use Rattle.query_replies.specs.Fault.{reason_text}
 use Rattle.query_replies.specs.Found.{score_text, pick_text, group_text, found_text}
 use Rattle.query_replies.specs.Lines.{ranked_line, ranked_lines}

@@ -3,9 +3,9 @@ use Rattle.std.proofs.Common.{◌≡◌, Bool, false}
 use Rattle.std.specs.Prelude.{Result, Ok, Err}
 use Rattle.disk_model.specs.World.{World}
 use Rattle.page_journal.specs.Record.{IsReady}
-use Rattle.run_protocol.specs.Causes.{GoesOn, GoesOnBehind}
-use Rattle.run_protocol.specs.declared.ended.Ended.{Ended}
-use Rattle.run_protocol.specs.declared.ended.Ended.TheVariants as ends
+use Rattle.run_outcome.specs.Causes.{GoesOn, GoesOnBehind}
+use Rattle.run_outcome.specs.declared.ended.Ended.{Ended}
+use Rattle.run_outcome.specs.declared.ended.Ended.TheVariants as ends
 use Rattle.irtree_top.specs.Run.{IsBehindOpening, LeavesAtRest, RestsBehind, RestsIfOpened}
 use Rattle.irtree_top.proofs.Openings.{IsOpeningEnd}
 

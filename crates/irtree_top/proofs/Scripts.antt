@@ -6,26 +6,26 @@ use Rattle.std.proofs.Math.Seq.{take-append-add, take-append_seam}
 use Rattle.std.specs.Prelude.{◌^◌, nat_le, if◌then◌else◌, Option, Some, None, is_some, is_none, Result, Ok, Err}
 use Rattle.disk_model.specs.World.{Image}
 use Rattle.spatial_base.specs.Key.{Name}
-use Rattle.place_map.specs.State.{Contents, place_at}
-use Rattle.place_map.specs.Update.{Effect, effect_of, key_for, refuses}
-use Rattle.place_map.specs.declared.place.Place.{Place}
-use Rattle.place_map.specs.declared.update.Applied.{Applied}
-use Rattle.place_map.specs.declared.update.Applied.TheVariants.{New, Replaced, Gone, Absent}
-use Rattle.place_map.specs.declared.update.Update.{Update}
-use Rattle.place_map.specs.declared.update.Update.TheVariants.{Put, Remove}
-use Rattle.place_map.specs.declared.update.UpdateFault.{UpdateFault}
-use Rattle.place_map.specs.declared.update.UpdateFault.TheVariants.{Full, Worn, Memory}
+use Rattle.place_values.specs.State.{Contents, place_at}
+use Rattle.place_values.specs.Update.{Effect, effect_of, key_for, refuses}
+use Rattle.place_values.specs.declared.place.Place.{Place}
+use Rattle.place_values.specs.declared.update.Applied.{Applied}
+use Rattle.place_values.specs.declared.update.Applied.TheVariants.{New, Replaced, Gone, Absent}
+use Rattle.place_values.specs.declared.update.Update.{Update}
+use Rattle.place_values.specs.declared.update.Update.TheVariants.{Put, Remove}
+use Rattle.place_values.specs.declared.update.UpdateFault.{UpdateFault}
+use Rattle.place_values.specs.declared.update.UpdateFault.TheVariants.{Full, Worn, Memory}
 use Rattle.query_replies.specs.Reply.{text_of_reply}
 use Rattle.query_replies.specs.declared.fault.LineFault.{LineFault}
 use Rattle.query_lang.specs.Line.{line_of}
 use Rattle.query_lang.specs.Reply.{reply_of, update_reply, show_reply}
 use Rattle.query_lang.specs.declared.line.Line.{Line}
 use Rattle.query_lang.specs.declared.line.Line.TheVariants as lines
-use Rattle.store_meaning.specs.Stands.{Stands}
-use Rattle.run_protocol.specs.Left.{LeftByLines}
-use Rattle.run_protocol.specs.Said.{SaysFrontOf}
-use Rattle.run_protocol.specs.Script.{cut, changes_by, turn, turn_of, script}
-use Rattle.run_protocol.specs.Turn.{Turn}
+use Rattle.store_model.specs.Stands.{Stands}
+use Rattle.run_outcome.specs.Left.{LeftByLines}
+use Rattle.run_outcome.specs.Said.{SaysFrontOf}
+use Rattle.run_outcome.specs.Script.{cut, changes_by, turn, turn_of, script}
+use Rattle.run_outcome.specs.Turn.{Turn}
 use Rattle.irtree_top.specs.Acked.{acked_by_script}
 use Rattle.irtree_top.specs.Prefix.{state_after_updates, HoldsAcked, IsNearInScript}
 use Rattle.irtree_top.proofs.Cuts.{is_quiet, quiet-whole, quiet-acked, acked-front, acked-append}

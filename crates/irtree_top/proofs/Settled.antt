@@ -3,19 +3,19 @@ use Rattle.std.proofs.Common.{◌≡◌, ℕ, ◌+◌, ⊎_elim, inl, inr, Bool,
 use Rattle.std.specs.Prelude.{IsTrue, Result, Ok, Err}
 use Rattle.disk_model.specs.World.{World, Image, LeavesOnly, LeavesOnlySeen}
 use Rattle.disk_model.proofs.Moments.{then, within}
-use Rattle.place_map.specs.State.{Contents}
+use Rattle.place_values.specs.State.{Contents}
 use Rattle.irtree_engine.specs.Holding.{HoldsState, LeavesState}
 use Rattle.irtree_engine.specs.Updates.{state_after_all}
-use Rattle.run_protocol.specs.Causes.{HasJobEnd, IsJobEnd}
-use Rattle.run_protocol.proofs.Counts.{keeps-on}
-use Rattle.run_protocol.specs.Left.{StopsAtBatch, StopsAtLine}
-use Rattle.run_protocol.specs.Load.{Step, Skip, Store, skip_line, steps, stored_line}
-use Rattle.run_protocol.specs.Script.{script_lines, turn}
-use Rattle.make_run.specs.Making.{make_steps}
-use Rattle.run_protocol.specs.Turn.{Transcript, End}
-use Rattle.run_protocol.specs.declared.ended.Ended.{Ended}
-use Rattle.run_protocol.specs.declared.ended.Ended.TheVariants as ends
-use Rattle.run_protocol.specs.declared.ended.LimitFault.TheVariants as limits
+use Rattle.run_outcome.specs.Causes.{HasJobEnd, IsJobEnd}
+use Rattle.run_outcome.proofs.Counts.{keeps-on}
+use Rattle.run_outcome.specs.Left.{StopsAtBatch, StopsAtLine}
+use Rattle.run_outcome.specs.Load.{Step, Skip, Store, skip_line, steps, stored_line}
+use Rattle.run_outcome.specs.Script.{script_lines, turn}
+use Rattle.load_run.specs.Making.{make_steps}
+use Rattle.run_outcome.specs.Turn.{Transcript, End}
+use Rattle.run_outcome.specs.declared.ended.Ended.{Ended}
+use Rattle.run_outcome.specs.declared.ended.Ended.TheVariants as ends
+use Rattle.run_outcome.specs.declared.ended.LimitFault.TheVariants as limits
 use Rattle.command_words.specs.declared.job.Action.{Action}
 use Rattle.command_words.specs.declared.job.Action.TheVariants.{Run, Load, Make}
 use Rattle.irtree_top.specs.Prefix.{HoldsAcked, state_after_updates}
@@ -94,8 +94,8 @@ module _ (asked : Asked) (state : Contents) (input : List ℕ) (old mid new : Wo
 
 -- ---- why the job ended
 
-module _ (tells : Bool) (source_old source_new : ℕ) (old mid new : World) (faults : new.faults ≡ mid.faults) (sink : new.sink_faults ≡ mid.sink_faults) where
-  end-settled : (end : Ended) → IsJobEnd tells source_old source_new old mid end → IsJobEnd tells source_old source_new old new end
+module _ (readable : Bool) (source_old source_new : ℕ) (old mid new : World) (faults : new.faults ≡ mid.faults) (sink : new.sink_faults ≡ mid.sink_faults) where
+  end-settled : (end : Ended) → IsJobEnd readable source_old source_new old mid end → IsJobEnd readable source_old source_new old new end
   end-settled ends.Memory cause = tt
   end-settled ends.Disk cause = omega (arith, cause, faults)
   end-settled ends.Source cause = cause
@@ -107,8 +107,8 @@ module _ (tells : Bool) (source_old source_new : ℕ) (old mid new : World) (fau
   end-settled ends.Words cause = absurd cause
 
   -- a job has the cause that it had before it was settled
-  pub cause-settled : (T : Type 0) → (IsTrue tells → (held : Contents) → HoldsState mid held → HoldsState new held) → (result : Result T Ended)
-      → HasJobEnd tells source_old source_new old mid result → HasJobEnd tells source_old source_new old new result
+  pub cause-settled : (T : Type 0) → (IsTrue readable → (held : Contents) → HoldsState mid held → HoldsState new held) → (result : Result T Ended)
+      → HasJobEnd readable source_old source_new old mid result → HasJobEnd readable source_old source_new old new result
   cause-settled T stands (Ok done) cause = record {
     source = cause.source;
     faults = omega (arith, cause.faults, faults);

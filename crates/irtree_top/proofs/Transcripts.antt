@@ -2,17 +2,17 @@
 use Rattle.std.proofs.Common.{◌≡◌, ℕ, ◌<◌, ◌≤◌, ⊎_elim, List, length, refl, sym, ap, ◌∙◌, arith}
 use Rattle.std.specs.Prelude.{Option, Result, Ok, Err}
 use Rattle.std.proofs.lemmas.Bool.{cases_lt}
-use Rattle.place_map.specs.State.{Contents}
+use Rattle.place_values.specs.State.{Contents}
 use Rattle.json_spelled.specs.declared.tree.JsonFault.TheVariants as json
 use Rattle.geojson_points.specs.Takes.{Item, Takes}
 use Rattle.geojson_points.specs.declared.fault.LoadFault.{LoadFault}
 use Rattle.geojson_points.specs.declared.fault.LoadFault.TheVariants as loads
-use Rattle.run_protocol.specs.declared.ended.InputFault.{InputFault}
-use Rattle.run_protocol.specs.declared.ended.InputFault.TheVariants as inputs
-use Rattle.run_protocol.specs.Turn.{Transcript}
-use Rattle.run_protocol.specs.Load.{load_max, IsTaken, load_transcript}
-use Rattle.run_protocol.specs.Script.{script_transcript}
-use Rattle.make_run.specs.Making.{make_transcript}
+use Rattle.run_outcome.specs.declared.ended.InputFault.{InputFault}
+use Rattle.run_outcome.specs.declared.ended.InputFault.TheVariants as inputs
+use Rattle.run_outcome.specs.Turn.{Transcript}
+use Rattle.run_outcome.specs.Load.{load_max, IsTaken, load_transcript}
+use Rattle.run_outcome.specs.Script.{script_transcript}
+use Rattle.load_run.specs.Making.{make_transcript}
 use Rattle.command_words.specs.declared.job.Action.{Action}
 use Rattle.command_words.specs.declared.job.Action.TheVariants.{Run, Load, Make}
 use Rattle.irtree_top.specs.Transcript.{IsTranscriptBy, IsTranscript}

@@ -2,7 +2,7 @@
 use Rattle.std.specs.Prelude.{ℕ, ◌+◌, ◌-◌, ◌*◌, Bool, if◌then◌else◌, List, length, take, drop, codes, fold}
 use Rattle.std.specs.List.{count_by}
 use Rattle.std.specs.Str.{bytes_eq}
-use Rattle.run_protocol.specs.Script.{cut}
+use Rattle.run_outcome.specs.Script.{cut}
 
 -- the line begins with these bytes
 abbrev pub begins_with : List ℕ → List ℕ → Bool

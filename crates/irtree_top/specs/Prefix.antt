@@ -1,10 +1,10 @@
 -- The map after a prefix of the updates that holds every acknowledged one.
 use Rattle.std.specs.Prelude.{◌≡◌, ◌⊎◌, ℕ, ◌+◌, ◌≤◌, ◌%◌, List, ◌++◌, length, take, fold}
 use Rattle.disk_model.specs.World.{Image}
-use Rattle.place_map.specs.State.{Contents}
-use Rattle.place_map.specs.Update.{effect_of}
-use Rattle.place_map.specs.declared.update.Update.{Update}
-use Rattle.store_meaning.specs.Stands.{Stands}
+use Rattle.place_values.specs.State.{Contents}
+use Rattle.place_values.specs.Update.{effect_of}
+use Rattle.place_values.specs.declared.update.Update.{Update}
+use Rattle.store_model.specs.Stands.{Stands}
 
 -- the state after updates
 abbrev pub state_after_updates : Contents → List Update → Contents

@@ -12,26 +12,26 @@ use Rattle.page_store.specs.Opening.{IsOpeningRead, head_damage}
 use Rattle.page_store.specs.Superblock.{IsStorePage, superblock_in}
 use Rattle.page_face.specs.declared.fault.Damage.{Damage}
 use Rattle.page_face.specs.declared.fault.Rule.TheVariants.{Head}
-use Rattle.place_map.specs.State.{Contents}
+use Rattle.place_values.specs.State.{Contents}
 use Rattle.geojson_points.specs.Takes.{Item}
 use Rattle.irtree_top.specs.Acked.{acked_by_script, acked_by_load}
 use Rattle.irtree_top.specs.Prefix.{HoldsAcked, IsNearInScript, IsNearInLoad}
 use Rattle.load_run.specs.Loading.{SaysNothingYet}
-use Rattle.make_run.specs.Making.{ReachLimit, make_steps}
-use Rattle.run_protocol.specs.Asking.{IsReadForOneOf}
-use Rattle.run_protocol.specs.Causes.{KeepsCounts, LacksRoomIn}
-use Rattle.run_protocol.specs.Left.{StopsAtBatch, StopsAtLine}
-use Rattle.run_protocol.specs.Load.{GivesItems, IsTaken, ReachesLimit, steps}
-use Rattle.run_protocol.specs.Said.{EndsAs, SaysFrontOf}
-use Rattle.run_protocol.specs.Script.{FitsScript, IsScriptInput, script_lines}
-use Rattle.run_protocol.specs.Turn.{Transcript, End, Done, Input, Limit}
-use Rattle.run_protocol.specs.declared.ended.Ended.{Ended}
-use Rattle.run_protocol.specs.declared.ended.Ended.TheVariants as ends
-use Rattle.run_protocol.specs.declared.ended.InputFault.{InputFault}
-use Rattle.run_protocol.specs.declared.ended.LimitFault.{LimitFault}
-use Rattle.run_protocol.specs.declared.ended.LimitFault.TheVariants as limits
-use Rattle.run_protocol.specs.declared.ended.StoreFault.{StoreFault}
-use Rattle.run_protocol.specs.declared.ended.StoreFault.TheVariants as stores
+use Rattle.load_run.specs.Making.{ReachLimit, make_steps}
+use Rattle.run_outcome.specs.Asking.{IsReadForOneOf}
+use Rattle.run_outcome.specs.Causes.{KeepsCounts, LacksRoomIn}
+use Rattle.run_outcome.specs.Left.{StopsAtBatch, StopsAtLine}
+use Rattle.run_outcome.specs.Load.{GivesItems, IsTaken, ReachesLimit, steps}
+use Rattle.run_outcome.specs.Said.{EndsAs, SaysFrontOf}
+use Rattle.run_outcome.specs.Script.{FitsScript, IsScriptInput, script_lines}
+use Rattle.run_outcome.specs.Turn.{Transcript, End, Done, Input, Limit}
+use Rattle.run_outcome.specs.declared.ended.Ended.{Ended}
+use Rattle.run_outcome.specs.declared.ended.Ended.TheVariants as ends
+use Rattle.run_outcome.specs.declared.ended.InputFault.{InputFault}
+use Rattle.run_outcome.specs.declared.ended.LimitFault.{LimitFault}
+use Rattle.run_outcome.specs.declared.ended.LimitFault.TheVariants as limits
+use Rattle.run_outcome.specs.declared.ended.StoreFault.{StoreFault}
+use Rattle.run_outcome.specs.declared.ended.StoreFault.TheVariants as stores
 use Rattle.script_run.specs.Standing.{SaysRepliesOf}
 use Rattle.command_words.specs.declared.job.Action.{Action}
 use Rattle.command_words.specs.declared.job.Action.TheVariants.{Run, Load, Make}
@@ -135,25 +135,25 @@ NamesBrokenRule image _ = Unit {0}
 -- What may end a job whose store is opened first: want of memory, a count that rose, an image that is broken so, or, over an image that
 -- is opened, the input or a limit.
 abbrev pub IsRunEnd : Bool → ℕ → ℕ → World → World → Ended → Type 0
-IsRunEnd tells source_old source_new old new ends.Memory = Unit {0}
-IsRunEnd tells source_old source_new old new ends.Disk = Rose old.faults new.faults
-IsRunEnd tells source_old source_new old new ends.Source = Rose source_old source_new × (IsTrue tells → IsOpenable old.seen)
-IsRunEnd tells source_old source_new old new ends.Sink = Rose old.sink_faults new.sink_faults × (IsTrue tells → IsOpenable old.seen)
-IsRunEnd tells source_old source_new old new (ends.Input fault) = IsTrue tells → IsOpenable old.seen
-IsRunEnd tells source_old source_new old new (ends.Store fault) = IsTrue tells → IsBroken fault old.seen
-IsRunEnd tells source_old source_new old new (ends.Limit fault) = IsTrue tells → IsOpenable old.seen
-IsRunEnd tells source_old source_new old new ends.Done = ⊥
-IsRunEnd tells source_old source_new old new ends.Words = ⊥
+IsRunEnd readable source_old source_new old new ends.Memory = Unit {0}
+IsRunEnd readable source_old source_new old new ends.Disk = Rose old.faults new.faults
+IsRunEnd readable source_old source_new old new ends.Source = Rose source_old source_new × (IsTrue readable → IsOpenable old.seen)
+IsRunEnd readable source_old source_new old new ends.Sink = Rose old.sink_faults new.sink_faults × (IsTrue readable → IsOpenable old.seen)
+IsRunEnd readable source_old source_new old new (ends.Input fault) = IsTrue readable → IsOpenable old.seen
+IsRunEnd readable source_old source_new old new (ends.Store fault) = IsTrue readable → IsBroken fault old.seen
+IsRunEnd readable source_old source_new old new (ends.Limit fault) = IsTrue readable → IsOpenable old.seen
+IsRunEnd readable source_old source_new old new ends.Done = ⊥
+IsRunEnd readable source_old source_new old new ends.Words = ⊥
 
 -- Such an end has its cause, no count falls, and where one rose it ends so: by the disk, which may fail last, before the others.
-pub record HasRunEnd {T : Type 0} (tells : Bool) (source_old source_new : ℕ) (old new : World) (result : Result T Ended) : Type 0 where
+pub record HasRunEnd {T : Type 0} (readable : Bool) (source_old source_new : ℕ) (old new : World) (result : Result T Ended) : Type 0 where
   pub source : source_old ≤ source_new
   pub faults : old.faults ≤ new.faults
   pub sink : old.sink_faults ≤ new.sink_faults
   pub reads : result ≢ Err ends.Disk → result ≢ Err ends.Source → source_new ≡ source_old
   pub keeps : KeepsCounts old new result
-  pub opened : IsTrue tells → OnOk result (IsOpenable old.seen)
-  pub cause : IfErr result (IsRunEnd tells source_old source_new old new)
+  pub opened : IsTrue readable → OnOk result (IsOpenable old.seen)
+  pub cause : IfErr result (IsRunEnd readable source_old source_new old new)
 
 -- ---- what the input says of an end
 
@@ -249,8 +249,7 @@ IsUnreadEnd _ = Unit {0}
 
 -- ---- a store that is refused
 
--- Recovery made of the image what it holds now, and nothing else was done: nothing was said, and at every crash meanwhile the image
--- stands for what it stood for, whatever that was.
+-- The journal was recovered, nothing was printed, and at every crash meanwhile the image holds what it held before, whatever that was.
 pub record LeavesRecovered (old new : World) : Type 0 where
   pub recovered : IsRecovered old new
   pub alike : LeavesOnly old new (StandsAlike old)

@@ -1,12 +1,12 @@
 -- What a whole run says and does, from the state at its start, what is asked for and the bytes of its input.
 use Rattle.std.specs.Prelude.{◌≡◌, ℕ, List, Result}
-use Rattle.place_map.specs.State.{Contents}
+use Rattle.place_values.specs.State.{Contents}
 use Rattle.geojson_points.specs.Takes.{Item}
-use Rattle.run_protocol.specs.declared.ended.InputFault.{InputFault}
-use Rattle.run_protocol.specs.Turn.{Transcript}
-use Rattle.run_protocol.specs.Script.{script_transcript}
-use Rattle.run_protocol.specs.Load.{IsTaken, load_transcript}
-use Rattle.make_run.specs.Making.{make_transcript}
+use Rattle.run_outcome.specs.declared.ended.InputFault.{InputFault}
+use Rattle.run_outcome.specs.Turn.{Transcript}
+use Rattle.run_outcome.specs.Script.{script_transcript}
+use Rattle.run_outcome.specs.Load.{IsTaken, load_transcript}
+use Rattle.load_run.specs.Making.{make_transcript}
 use Rattle.command_words.specs.declared.job.Action.{Action}
 use Rattle.command_words.specs.declared.job.Action.TheVariants.{Run, Load, Make}
 use Rattle.command_words.specs.Job.{Asked}

@@ -1,10 +1,14 @@
-//! The top call: the words of a command line and the bytes of its input in, what is done with them out.
+//! The top call: it takes the words of a command line and the bytes of its input, and does what they call for.
 //!
-//! [`run`] keeps the live places on a station and says what it does: to a script, line by line, what scanning their map defines; to a
-//! GeoJSON text, which places it stores and which items it passes over. Its clauses are the headline of the project: for every source
-//! and station that tell their bytes, in whatever pieces these come and go, the text said is a front of the transcript of the input
-//! (`specs/Transcript.antt`), and all of it where the run ends well, when the image stands for the transcript's last state; and a
-//! crash at any moment leaves an image that stands for the state after a prefix of the updates that holds every acknowledged one.
+//! [`run`] keeps the live places on a station and prints what it does. For a script it prints, line by line, what scanning their map
+//! defines. For a GeoJSON text it prints which places it stores and which items it skips.
+//!
+//! Its clauses are the main promises of the project. They hold for every source and station whose bytes the contracts know, in whatever
+//! pieces these come and go. The text printed is a prefix of the transcript of the input (`specs/Transcript.antt`). If the run ends well,
+//! it is all of the transcript, and the image holds the transcript's last state. A crash at any moment leaves an image of the state after a
+//! prefix of the updates that holds every acknowledged one.
+//!
+//! Tests: `irtree_tests/src`, all files.
 #![tactic(auto)]
 
 mod serve;
@@ -12,6 +16,6 @@ mod top;
 
 pub use command_words::{Action, Job, PolicyName, WordsFault, explain_words, read_words};
 pub use load_run::LOAD_MAX;
-pub use run_protocol::{Ended, InputFault, LimitFault, StoreFault};
+pub use run_outcome::{Ended, InputFault, LimitFault, StoreFault};
 pub use script_run::INPUT_MAX;
 pub use top::{run, transcript_is_one, transcript_is_some};

@@ -1,14 +1,14 @@
 //! A job, over a store that is opened.
 ghost use Rattle.std.specs.Prelude.{◌≡◌, ◌≤◌, false, option_copied, option_map, string_bytes, IfErr, IsErrOf, IsTrue, OnOk};
 ghost use Rattle.disk_model.specs.World.{HasDiskCause, LeavesOnly, LeavesOnlySeen, ReadsJournalOnly};
-ghost use Rattle.place_map.specs.State.{Contents};
+ghost use Rattle.place_values.specs.State.{Contents};
 ghost use Rattle.irtree_engine.specs.Holding.{HoldsState, LeavesState};
 ghost use Rattle.irtree_engine.specs.Queries.{contents_held};
-ghost use Rattle.run_protocol.specs.Asking.{AreAsking};
+ghost use Rattle.run_outcome.specs.Asking.{AreAsking};
 ghost use Rattle.page_journal.specs.Record.{IsReady};
-ghost use Rattle.run_protocol.specs.Causes.{GoesOn, HasJobEnd};
-ghost use Rattle.run_protocol.specs.Reading.{AreReading, IsMetIn};
-ghost use Rattle.run_protocol.specs.Script.{script_lines};
+ghost use Rattle.run_outcome.specs.Causes.{GoesOn, HasJobEnd};
+ghost use Rattle.run_outcome.specs.Reading.{AreReading, IsMetIn};
+ghost use Rattle.run_outcome.specs.Script.{script_lines};
 ghost use Rattle.irtree_top.specs.Run.{EndsJob, HasRunEnd, HoldsPrefix, IsLimitReached, IsInputEnd, IsLimitOf, IsUnreadEnd, IsOpenable, IsWholeInput, LacksRoomFor, LeavesAlike, LeavesAlone, LeavesAtRest, LeavesInput, NamesBrokenRule, OpensFew, ReachesLimitBy, RestsIfOpened};
 ghost use Rattle.command_words.specs.Job.{asked_of};
 
@@ -17,9 +17,8 @@ use command_words::{Action, Job};
 use disk_model::{Failed, Source, Station};
 use geojson_points::outcome_is_one;
 use irtree_engine::{Engine, EngineFault, recover_superblock};
-use load_run::run_load;
-use make_run::run_make;
-use run_protocol::{Ended, InputFault, LimitFault, ended_by};
+use load_run::{run_load, run_make};
+use run_outcome::{Ended, InputFault, LimitFault, ended_by};
 use script_run::run_script;
 use split_policy::SplitPolicy;
 use std::alloc::Global;
@@ -46,23 +45,23 @@ fn act<'d, S: Source, T: Station>(
     requires some { 1 ≤ job.now.batch }
     requires count { job.now.count ≤ 100000 }
     ensures same_loan { engine.new.store.disk.ghost_name ≡ engine.old.store.disk.ghost_name }
-    ensures told { IsTrue S.tells → IsTrue T.tells → (state : Contents) → HoldsState (T.world engine.old.store.disk.now) state
+    ensures told { IsTrue S.readable → IsTrue T.readable → (state : Contents) → HoldsState (T.world engine.old.store.disk.now) state
         → EndsJob (asked_of job.now) state (S.left source.old) (S.left source.new) (T.world engine.old.store.disk.now) (T.world engine.new.store.disk.now) result }
-    ensures any_moment { IsTrue S.tells → IsTrue T.tells → (state : Contents) → HoldsState (T.world engine.old.store.disk.now) state
+    ensures any_moment { IsTrue S.readable → IsTrue T.readable → (state : Contents) → HoldsState (T.world engine.old.store.disk.now) state
         → LeavesOnly (T.world engine.old.store.disk.now) (T.world engine.new.store.disk.now) (HoldsPrefix (asked_of job.now) state (S.left source.old) (T.world engine.old.store.disk.now)) }
-    ensures opens_few { job.now.action ≡ Action.Run → IsTrue S.tells → IsTrue T.tells → (state : Contents) → HoldsState (T.world engine.old.store.disk.now) state
+    ensures opens_few { job.now.action ≡ Action.Run → IsTrue S.readable → IsTrue T.readable → (state : Contents) → HoldsState (T.world engine.old.store.disk.now) state
         → AreAsking (script_lines (S.left source.old)) → OnOk result (OpensFew state (S.left source.old) (T.world engine.old.store.disk.now) (T.world engine.new.store.disk.now)) }
-    ensures met { job.now.action ≡ Action.Run → IsTrue S.tells → IsTrue T.tells → AreReading (script_lines (S.left source.old))
+    ensures met { job.now.action ≡ Action.Run → IsTrue S.readable → IsTrue T.readable → AreReading (script_lines (S.left source.old))
         → IfErr result (IsMetIn (T.world engine.old.store.disk.now).seen) }
     ensures goes_on { GoesOn engine.new.stopped result }
-    ensures cause { HasJobEnd T.tells (S.faults source.old) (S.faults source.new) (T.world engine.old.store.disk.now) (T.world engine.new.store.disk.now) result }
-    ensures input { IsTrue S.tells → (fault : InputFault) → IsErrOf result (Ended.Input fault) → IsInputEnd job.now.action (option_map string_bytes job.now.text) (S.left source.old) fault }
-    ensures whole { IsTrue S.tells → OnOk result (LeavesInput job.now.action (S.left source.old) (S.left source.new) × IsWholeInput job.now.action (option_map string_bytes job.now.text) (S.left source.old)) }
+    ensures cause { HasJobEnd T.readable (S.faults source.old) (S.faults source.new) (T.world engine.old.store.disk.now) (T.world engine.new.store.disk.now) result }
+    ensures input { IsTrue S.readable → (fault : InputFault) → IsErrOf result (Ended.Input fault) → IsInputEnd job.now.action (option_map string_bytes job.now.text) (S.left source.old) fault }
+    ensures whole { IsTrue S.readable → OnOk result (LeavesInput job.now.action (S.left source.old) (S.left source.new) × IsWholeInput job.now.action (option_map string_bytes job.now.text) (S.left source.old)) }
     ensures unread { job.now.action ≡ Action.Make → (source.new ≡ source.old) × IfErr result IsUnreadEnd }
     ensures limits { (fault : LimitFault) → IsErrOf result (Ended.Limit fault) → IsLimitOf job.now.action fault }
-    ensures reached { IsTrue S.tells → (fault : LimitFault) → IsErrOf result (Ended.Limit fault)
+    ensures reached { IsTrue S.readable → (fault : LimitFault) → IsErrOf result (Ended.Limit fault)
         → ReachesLimitBy job.now.action (asked_of job.now) fault engine.old.store.current.head.live engine.old.store.current.head.number (S.left source.old) }
-    ensures lacks { IsTrue T.tells → IsErrOf result (Ended.Limit LimitFault.NoRoom)
+    ensures lacks { IsTrue T.readable → IsErrOf result (Ended.Limit LimitFault.NoRoom)
         → LacksRoomFor job.now.action job.now.batch (T.room_of engine.new.store.disk.now) (T.world engine.new.store.disk.now).seen }
 {
     match job.action {
@@ -76,21 +75,21 @@ fn act<'d, S: Source, T: Station>(
     }
 }
 
-// Brings what the journal holds to its place. Does nothing where an earlier commit failed.
+// Brings what the journal holds to its place. Does nothing if an earlier commit failed.
 //
-// The premise says nothing. Without one the checker doesn't cover the callers, since an engine holds a boxed policy.
+// The premise demands nothing. Without one the checker doesn't cover the callers, since an engine holds a boxed policy.
 fn settle<'d, T: Station>(engine: &mut Engine<'d, T>) -> Result<(), Failed>
     requires { Unit {0} }
     ensures same_loan { engine.new.store.disk.ghost_name ≡ engine.old.store.disk.ghost_name }
-    ensures holds { IsTrue T.tells → (state : Contents) → HoldsState (T.world engine.old.store.disk.now) state → OnOk result (HoldsState (T.world engine.new.store.disk.now) state) }
-    ensures any_moment { IsTrue T.tells → (state : Contents) → HoldsState (T.world engine.old.store.disk.now) state
+    ensures holds { IsTrue T.readable → (state : Contents) → HoldsState (T.world engine.old.store.disk.now) state → OnOk result (HoldsState (T.world engine.new.store.disk.now) state) }
+    ensures any_moment { IsTrue T.readable → (state : Contents) → HoldsState (T.world engine.old.store.disk.now) state
         → LeavesOnly (T.world engine.old.store.disk.now) (T.world engine.new.store.disk.now) (LeavesState state (T.world engine.old.store.disk.now)) }
-    ensures silent { IsTrue T.tells → (T.world engine.new.store.disk.now).said ≡ (T.world engine.old.store.disk.now).said }
-    ensures reads { IsTrue T.tells → ReadsJournalOnly (T.world engine.old.store.disk.now) (T.world engine.new.store.disk.now) }
+    ensures silent { IsTrue T.readable → (T.world engine.new.store.disk.now).said ≡ (T.world engine.old.store.disk.now).said }
+    ensures reads { IsTrue T.readable → ReadsJournalOnly (T.world engine.old.store.disk.now) (T.world engine.new.store.disk.now) }
     ensures cause { HasDiskCause (T.world engine.old.store.disk.now) (T.world engine.new.store.disk.now) result }
     ensures room { T.room_of engine.new.store.disk.now ≡ T.room_of engine.old.store.disk.now }
-    ensures at_rest { IsTrue T.tells → engine.old.stopped ≡ false → OnOk result (IsReady 0 (T.world engine.new.store.disk.now)) }
-    ensures alike { IsTrue T.tells → OnOk result (contents_held (T.world engine.new.store.disk.now).seen ≡ contents_held (T.world engine.old.store.disk.now).seen) }
+    ensures at_rest { IsTrue T.readable → engine.old.stopped ≡ false → OnOk result (IsReady 0 (T.world engine.new.store.disk.now)) }
+    ensures alike { IsTrue T.readable → OnOk result (contents_held (T.world engine.new.store.disk.now).seen ≡ contents_held (T.world engine.old.store.disk.now).seen) }
 {
     match engine.settle() {
         Ok(()) => Ok(()),
@@ -110,25 +109,25 @@ fn serve<'d, S: Source, T: Station>(
     requires few { job.now.batch ≤ 10000 }
     requires some { 1 ≤ job.now.batch }
     requires count { job.now.count ≤ 100000 }
-    requires quiet { IsTrue T.tells → LeavesOnlySeen (T.world engine.old.store.disk.now) }
+    requires quiet { IsTrue T.readable → LeavesOnlySeen (T.world engine.old.store.disk.now) }
     ensures same_loan { engine.new.store.disk.ghost_name ≡ engine.old.store.disk.ghost_name }
-    ensures told { IsTrue S.tells → IsTrue T.tells → (state : Contents) → HoldsState (T.world engine.old.store.disk.now) state
+    ensures told { IsTrue S.readable → IsTrue T.readable → (state : Contents) → HoldsState (T.world engine.old.store.disk.now) state
         → EndsJob (asked_of job.now) state (S.left source.old) (S.left source.new) (T.world engine.old.store.disk.now) (T.world engine.new.store.disk.now) result }
-    ensures any_moment { IsTrue S.tells → IsTrue T.tells → (state : Contents) → HoldsState (T.world engine.old.store.disk.now) state
+    ensures any_moment { IsTrue S.readable → IsTrue T.readable → (state : Contents) → HoldsState (T.world engine.old.store.disk.now) state
         → LeavesOnly (T.world engine.old.store.disk.now) (T.world engine.new.store.disk.now) (HoldsPrefix (asked_of job.now) state (S.left source.old) (T.world engine.old.store.disk.now)) }
-    ensures opens_few { job.now.action ≡ Action.Run → IsTrue S.tells → IsTrue T.tells → (state : Contents) → HoldsState (T.world engine.old.store.disk.now) state
+    ensures opens_few { job.now.action ≡ Action.Run → IsTrue S.readable → IsTrue T.readable → (state : Contents) → HoldsState (T.world engine.old.store.disk.now) state
         → AreAsking (script_lines (S.left source.old)) → OnOk result (OpensFew state (S.left source.old) (T.world engine.old.store.disk.now) (T.world engine.new.store.disk.now)) }
-    ensures met { job.now.action ≡ Action.Run → IsTrue S.tells → IsTrue T.tells → AreReading (script_lines (S.left source.old))
+    ensures met { job.now.action ≡ Action.Run → IsTrue S.readable → IsTrue T.readable → AreReading (script_lines (S.left source.old))
         → IfErr result (IsMetIn (T.world engine.old.store.disk.now).seen) }
-    ensures at_rest { IsTrue T.tells → LeavesAtRest (T.world engine.new.store.disk.now) result }
-    ensures cause { HasJobEnd T.tells (S.faults source.old) (S.faults source.new) (T.world engine.old.store.disk.now) (T.world engine.new.store.disk.now) result }
-    ensures input { IsTrue S.tells → (fault : InputFault) → IsErrOf result (Ended.Input fault) → IsInputEnd job.now.action (option_map string_bytes job.now.text) (S.left source.old) fault }
-    ensures whole { IsTrue S.tells → OnOk result (LeavesInput job.now.action (S.left source.old) (S.left source.new) × IsWholeInput job.now.action (option_map string_bytes job.now.text) (S.left source.old)) }
+    ensures at_rest { IsTrue T.readable → LeavesAtRest (T.world engine.new.store.disk.now) result }
+    ensures cause { HasJobEnd T.readable (S.faults source.old) (S.faults source.new) (T.world engine.old.store.disk.now) (T.world engine.new.store.disk.now) result }
+    ensures input { IsTrue S.readable → (fault : InputFault) → IsErrOf result (Ended.Input fault) → IsInputEnd job.now.action (option_map string_bytes job.now.text) (S.left source.old) fault }
+    ensures whole { IsTrue S.readable → OnOk result (LeavesInput job.now.action (S.left source.old) (S.left source.new) × IsWholeInput job.now.action (option_map string_bytes job.now.text) (S.left source.old)) }
     ensures unread { job.now.action ≡ Action.Make → (source.new ≡ source.old) × IfErr result IsUnreadEnd }
     ensures limits { (fault : LimitFault) → IsErrOf result (Ended.Limit fault) → IsLimitOf job.now.action fault }
-    ensures reached { IsTrue S.tells → (fault : LimitFault) → IsErrOf result (Ended.Limit fault)
+    ensures reached { IsTrue S.readable → (fault : LimitFault) → IsErrOf result (Ended.Limit fault)
         → ReachesLimitBy job.now.action (asked_of job.now) fault engine.old.store.current.head.live engine.old.store.current.head.number (S.left source.old) }
-    ensures lacks { IsTrue T.tells → IsErrOf result (Ended.Limit LimitFault.NoRoom)
+    ensures lacks { IsTrue T.readable → IsErrOf result (Ended.Limit LimitFault.NoRoom)
         → LacksRoomFor job.now.action job.now.batch (T.room_of engine.new.store.disk.now) (T.world engine.new.store.disk.now).seen }
 {
     transcript_is_one();
@@ -140,10 +139,10 @@ fn serve<'d, S: Source, T: Station>(
     }
 }
 
-/// Opens the store of a station with the job's cache of pages and a policy for its tree, does the job over it and brings what the
-/// journal holds then to its place.
+/// Opens the store of a station with the job's cache of pages and a policy for its tree. Does the job over it and brings what the journal
+/// holds then to its place.
 ///
-/// Ends `Disk` where the last of these fails, whatever the job ended with.
+/// Ends `Disk` if the last of these fails, whatever the job ended with.
 pub(crate) fn run_job<S: Source, T: Station>(
     alloc: Global,
     job: &Job,
@@ -154,25 +153,25 @@ pub(crate) fn run_job<S: Source, T: Station>(
     requires few { job.now.batch ≤ 10000 }
     requires some { 1 ≤ job.now.batch }
     requires count { job.now.count ≤ 100000 }
-    ensures told { IsTrue S.tells → IsTrue T.tells → (state : Contents) → HoldsState (T.world station.old) state
+    ensures told { IsTrue S.readable → IsTrue T.readable → (state : Contents) → HoldsState (T.world station.old) state
         → EndsJob (asked_of job.now) state (S.left source.old) (S.left source.new) (T.world station.old) (T.world station.new) result }
-    ensures any_moment { IsTrue S.tells → IsTrue T.tells → (state : Contents) → HoldsState (T.world station.old) state
+    ensures any_moment { IsTrue S.readable → IsTrue T.readable → (state : Contents) → HoldsState (T.world station.old) state
         → LeavesOnly (T.world station.old) (T.world station.new) (HoldsPrefix (asked_of job.now) state (S.left source.old) (T.world station.old)) }
-    ensures opens_few { job.now.action ≡ Action.Run → IsTrue S.tells → IsTrue T.tells → (state : Contents) → HoldsState (T.world station.old) state
+    ensures opens_few { job.now.action ≡ Action.Run → IsTrue S.readable → IsTrue T.readable → (state : Contents) → HoldsState (T.world station.old) state
         → AreAsking (script_lines (S.left source.old)) → OnOk result (OpensFew state (S.left source.old) (T.world station.old) (T.world station.new)) }
-    ensures broken_rule { job.now.action ≡ Action.Run → IsTrue S.tells → IsTrue T.tells → AreReading (script_lines (S.left source.old))
+    ensures broken_rule { job.now.action ≡ Action.Run → IsTrue S.readable → IsTrue T.readable → AreReading (script_lines (S.left source.old))
         → IfErr result (NamesBrokenRule (T.world station.old).seen) }
-    ensures at_rest { IsTrue T.tells → RestsIfOpened (T.world station.new) result }
-    ensures unopened { IsTrue T.tells → ¬ IsOpenable (T.world station.old).seen → LeavesAlike (T.world station.old) (T.world station.new) }
-    ensures cause { HasRunEnd T.tells (S.faults source.old) (S.faults source.new) (T.world station.old) (T.world station.new) result }
-    ensures left_alone { IsTrue T.tells → IfErr result (λ end. LeavesAlone end (T.world station.old) (T.world station.new)) }
-    ensures input { IsTrue S.tells → (fault : InputFault) → IsErrOf result (Ended.Input fault) → IsInputEnd job.now.action (option_map string_bytes job.now.text) (S.left source.old) fault }
-    ensures whole { IsTrue S.tells → OnOk result (LeavesInput job.now.action (S.left source.old) (S.left source.new) × IsWholeInput job.now.action (option_map string_bytes job.now.text) (S.left source.old)) }
+    ensures at_rest { IsTrue T.readable → RestsIfOpened (T.world station.new) result }
+    ensures unopened { IsTrue T.readable → ¬ IsOpenable (T.world station.old).seen → LeavesAlike (T.world station.old) (T.world station.new) }
+    ensures cause { HasRunEnd T.readable (S.faults source.old) (S.faults source.new) (T.world station.old) (T.world station.new) result }
+    ensures left_alone { IsTrue T.readable → IfErr result (λ end. LeavesAlone end (T.world station.old) (T.world station.new)) }
+    ensures input { IsTrue S.readable → (fault : InputFault) → IsErrOf result (Ended.Input fault) → IsInputEnd job.now.action (option_map string_bytes job.now.text) (S.left source.old) fault }
+    ensures whole { IsTrue S.readable → OnOk result (LeavesInput job.now.action (S.left source.old) (S.left source.new) × IsWholeInput job.now.action (option_map string_bytes job.now.text) (S.left source.old)) }
     ensures unread { job.now.action ≡ Action.Make → (source.new ≡ source.old) × IfErr result IsUnreadEnd }
     ensures limits { (fault : LimitFault) → IsErrOf result (Ended.Limit fault) → IsLimitOf job.now.action fault }
-    ensures reached { IsTrue S.tells → IsTrue T.tells → (fault : LimitFault) → IsErrOf result (Ended.Limit fault)
+    ensures reached { IsTrue S.readable → IsTrue T.readable → (fault : LimitFault) → IsErrOf result (Ended.Limit fault)
         → IsLimitReached fault (asked_of job.now) (S.left source.old) (T.world station.old).seen }
-    ensures lacks { IsTrue T.tells → IsErrOf result (Ended.Limit LimitFault.NoRoom) → LacksRoomFor job.now.action job.now.batch (T.room_of station.new) (T.world station.new).seen }
+    ensures lacks { IsTrue T.readable → IsErrOf result (Ended.Limit LimitFault.NoRoom) → LacksRoomFor job.now.action job.now.batch (T.room_of station.new) (T.world station.new).seen }
 {
     let block = match recover_superblock(&mut *station) {
         Ok(block) => block,

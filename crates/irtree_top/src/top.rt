@@ -2,12 +2,12 @@
 ghost use Rattle.std.specs.Prelude.{◌≡◌, ◌≢◌, ◌≤◌, ◌⊎◌, ℕ, List, map, string_bytes, IsTrue, Err};
 ghost use Rattle.disk_model.specs.World.{LeavesOnly, Rose};
 ghost use Rattle.page_journal.specs.Record.{IsReady};
-ghost use Rattle.place_map.specs.State.{Contents};
+ghost use Rattle.place_values.specs.State.{Contents};
 ghost use Rattle.irtree_engine.specs.Holding.{HoldsState};
-ghost use Rattle.run_protocol.specs.Asking.{AreAsking};
-ghost use Rattle.run_protocol.specs.Reading.{AreReading};
-ghost use Rattle.run_protocol.specs.Script.{script_lines};
-ghost use Rattle.run_protocol.specs.Turn.{Transcript, Done, Input};
+ghost use Rattle.run_outcome.specs.Asking.{AreAsking};
+ghost use Rattle.run_outcome.specs.Reading.{AreReading};
+ghost use Rattle.run_outcome.specs.Script.{script_lines};
+ghost use Rattle.run_outcome.specs.Turn.{Transcript, Done, Input};
 ghost use Rattle.irtree_top.specs.Run.{EndsBy, HoldsPrefix, IsLimitReached, IsBehindOpening, IsBroken, IsBrokenRule, IsCompleteEnd, IsInputEnd, IsLimitOf, IsOpenable, IsSettled, IsUnreadEnd, IsWholeInput, LacksRoomFor, LeavesAlike, LeavesAlone, LeavesInput, OpensFew, SaysFront, SaysWhatWasRead, StopsAtLimit};
 ghost use Rattle.irtree_top.specs.Transcript.{IsTranscript};
 ghost use Rattle.command_words.specs.Job.{Asked, AskFor, AreAccepted};
@@ -21,48 +21,51 @@ use page_face::Damage;
 use split_policy::SplitPolicy;
 use std::alloc::Global;
 
-/// Runs the program: does what the words ask for with the input of the source, and says what it does to the station, which keeps the
-/// places.
+/// Runs the program: does what the words call for with the input of the source. The station keeps the places, and what is done is printed
+/// on its sink.
 ///
 /// The words are read by [`read_words`]; the store is the station's, and its name isn't looked at. `run` is a script, a line at a time.
-/// `load` stores the places of a GeoJSON text, which is read whole before anything is said. `make` stores the places of a seed, asks for
-/// some of them, and reads nothing. The cache has as many pages as the words say. The policy splits the tree's full nodes; it is the caller's, who makes it by the name that the words give
-/// ([`Job`](crate::Job)'s `policy`), and it is dropped in the end, also if the words are refused. No clause depends on the cache or the
-/// policy: the transcript and its states are the same whatever they are. Returns how it ended:
+/// `load` stores the places of a GeoJSON text, which is read whole before anything is printed. `make` stores the places of a seed, queries
+/// for some of them, and reads nothing.
 ///
-/// - `Done` if the input was read to its end, and a script isn't too long or a text gives items; or if a make is through, with the source as
-///   it was. The whole transcript was said, and the image stands for its last state.
-/// - `Words` if the words are refused for another cause than memory. Nothing was read, written or said.
-/// - `Input` if a script is too long, or a text gives no items, for its first offence. The whole transcript was said: of a script the
+/// The cache has as many pages as the words give. The policy splits the tree's full nodes. It is the caller's, who makes it by the name in
+/// the words ([`Job`](crate::Job)'s `policy`), and it is dropped in the end, also if the words are refused. No clause depends on the cache
+/// or the policy: the transcript and its states are the same whatever they are. Returns how the run ended:
+///
+/// - `Done` if the input was read to its end, and a script isn't too long or a text gives items. Also if a make is through, with the source
+///   as it was. The whole transcript was printed, and the image holds its last state.
+/// - `Words` if the words are refused for another cause than memory. Nothing was read, written or printed.
+/// - `Input` if a script is too long, or a text gives no items, for its first offence. The whole transcript was printed: of a script the
 ///   replies to the lines that are whole within the bytes it may have, of a load nothing.
-/// - `Limit(NoRoom)` if no page is left for an update or a batch. All that comes before its reply was said, and the image stands for the
+/// - `Limit(NoRoom)` if no page is left for an update or a batch. All that comes before its reply was printed, and the image holds the
 ///   state before it. The free pages of that image, and those that the disk has room for beside the pages counted, are then together no
 ///   more than a commit is allowed to take.
-/// - `Limit(Full)` and `Limit(Worn)` in a load or a make alone, if a batch meets that limit. The whole transcript was said; the live places
-///   or the update number of page 0, with the places of the text or those to be made added, reach the limit.
-/// - `Store` if the image at the start is no well-formed store: `NotAStore` if its page 0 is foreign; `BadJournal` with the first byte of
-///   its journal that breaks a rule; `Damaged` with the rule Head at page 0 only if that breaks it, or with another rule that is met behind
-///   the opening: in a script without updates a page and a rule that it breaks, as a query or a look at a key met it.
-///   A store that is refused as it is opened is left alone: a bad journal as it was, the others recovered and nothing else.
-/// - `Source` if the source fails, after the replies to all lines that were read, and in a load with nothing said; never in a make.
+/// - `Limit(Full)` and `Limit(Worn)` only in a load or a make, if a batch meets that limit. The whole transcript was printed. The live
+///   places or the update number of page 0, with the places of the text or those to be made added, reach the limit.
+/// - `Store` if the image at the start is no well-formed store. `NotAStore` if its page 0 is foreign; `BadJournal` with the first byte of
+///   its journal that breaks a rule. `Damaged` with the rule Head at page 0 only if page 0 breaks it, or with another rule that is met
+///   after the opening. In a script without updates it names a page and a rule that it breaks, as a query or a look at a key met it. A
+///   store that is refused as it is opened is left alone. With a bad journal it is as it was. Else its journal is recovered, and it has the
+///   pages that it held before.
+/// - `Source` if the source fails, after the replies to all lines that were read, and in a load with nothing printed; never in a make.
 /// - `Disk`, `Sink` and `Memory` if one of them fails, after a prefix of the transcript's text.
 ///
-/// A fault of the source, the disk or the sink is told as such, whatever else was met: no other end comes behind one but `Disk`, if the disk
-/// failed, too.
+/// A fault of the source, the disk or the sink is reported as such, whatever else was met. No other end comes after one except `Disk`, if
+/// the disk failed, too.
 ///
-/// All ends but `Store`, `Disk`, `Words` and `Memory` come only if page 0 of the recovered store is zeros, or begins with the magic and
+/// All ends except `Store`, `Disk`, `Words` and `Memory` come only if page 0 of the recovered store is zeros, or begins with the magic and
 /// keeps the rule Head.
 ///
-/// An update is safe before its line is said: a crash at any moment leaves an image that stands for the state after a prefix of the
-/// transcript's updates that holds every acknowledged one, or one that a crash could have left before the call. After the job, what the
+/// An update is safe before its line is printed. A crash at any moment leaves an image of the state after a prefix of the transcript's
+/// updates that holds every acknowledged one. Or it leaves an image that a crash could have left before the call. After the job, what the
 /// journal still holds is brought to its place; if that fails the run ends `Disk`, however the job ended.
 ///
-/// A script of queries, counts, comments and lines that are refused, and of nothing else, changes nothing and reads few pages: beside the
-/// journal and page 0 only those in the logs by which its queries were answered with few nodes of the tree opened.
+/// A script of queries, counts, comments and lines that are refused, and of nothing else, changes nothing and reads few pages. Beside the
+/// journal and page 0 it reads only those in the logs by which its answers were found with few nodes of the tree opened.
 ///
-/// Memory: for a script one line and one reply, for a load its text and what it gives, for a make one batch of places; the pages of one
-/// commit; a query its hits and what waits to be looked at. Each reply is said whole before the next line is acted on, in one call if the
-/// station takes it at once. Opening costs a recovery and one page read; each update that changes the map one commit.
+/// Memory: a script keeps one line and one reply, a load its text and what it gives, a make one batch of places. To these come the pages of
+/// one commit, and for a query its hits and what waits to be looked at. Each reply is printed whole before the next line is acted on, in
+/// one call if the station takes it at once. Opening costs a recovery and one page read; each update that changes the map one commit.
 pub fn run<S: Source, T: Station>(
     alloc: Global,
     words: &[String],
@@ -70,68 +73,69 @@ pub fn run<S: Source, T: Station>(
     station: &mut T,
     policy: Box<dyn SplitPolicy>,
 ) -> Ended
-    // The words are refused: nothing was read, written or said.
+    // The words are refused: nothing was read, written or printed.
     ensures words { result ≡ Ended.Words → ¬ AreAccepted (map string_bytes words.now) }
     ensures refused { ¬ AreAccepted (map string_bytes words.now) → (result ≡ Ended.Words) ⊎ (result ≡ Ended.Memory) }
     ensures untouched { result ≡ Ended.Words → (source.new ≡ source.old) × (station.new ≡ station.old) }
 
-    // The whole text was said, the input was read to its end, in a make left as it was, and the image stands for the last state.
-    ensures done { (asked : Asked) → AskFor (map string_bytes words.now) asked → IsTrue S.tells → IsTrue T.tells
+    // The whole text was printed, the input was read to its end, in a make left as it was, and the image holds the last state.
+    ensures done { (asked : Asked) → AskFor (map string_bytes words.now) asked → IsTrue S.readable → IsTrue T.readable
         → (state : Contents) → HoldsState (T.world station.old) state → result ≡ Ended.Done
         → EndsBy Done asked state (S.left source.old) (T.world station.old) (T.world station.new) × LeavesInput asked.action (S.left source.old) (S.left source.new) }
-    // The whole text was said, its transcript ends so, and the image stands for the last state.
-    ensures input { (asked : Asked) → AskFor (map string_bytes words.now) asked → IsTrue S.tells → IsTrue T.tells
+    // The whole text was printed, its transcript ends so, and the image holds the last state.
+    ensures input { (asked : Asked) → AskFor (map string_bytes words.now) asked → IsTrue S.readable → IsTrue T.readable
         → (state : Contents) → HoldsState (T.world station.old) state → (fault : InputFault) → result ≡ Ended.Input fault
         → EndsBy (Input fault) asked state (S.left source.old) (T.world station.old) (T.world station.new) }
-    // So it is with a limit of the map; where no page was left, all before the refused update was said, and the image stands for that state.
-    ensures limit { (asked : Asked) → AskFor (map string_bytes words.now) asked → IsTrue S.tells → IsTrue T.tells
+    // The same holds for a limit of the map. If no page was left, all before the refused update was printed, and the image holds that
+    // state.
+    ensures limit { (asked : Asked) → AskFor (map string_bytes words.now) asked → IsTrue S.readable → IsTrue T.readable
         → (state : Contents) → HoldsState (T.world station.old) state → (fault : LimitFault) → result ≡ Ended.Limit fault
         → StopsAtLimit fault asked state (S.left source.old) (T.world station.old) (T.world station.new) }
 
-    // However it ends, a front of the text was said.
-    ensures front { (asked : Asked) → AskFor (map string_bytes words.now) asked → IsTrue S.tells → IsTrue T.tells
+    // However it ends, a prefix of the text was printed.
+    ensures front { (asked : Asked) → AskFor (map string_bytes words.now) asked → IsTrue S.readable → IsTrue T.readable
         → (state : Contents) → HoldsState (T.world station.old) state
         → SaysFront asked state (S.left source.old) (T.world station.old) (T.world station.new) }
-    ensures source { (asked : Asked) → AskFor (map string_bytes words.now) asked → IsTrue S.tells → IsTrue T.tells
+    ensures source { (asked : Asked) → AskFor (map string_bytes words.now) asked → IsTrue S.readable → IsTrue T.readable
         → (state : Contents) → HoldsState (T.world station.old) state → result ≡ Ended.Source
         → SaysWhatWasRead asked.action state (S.left source.old) (S.left source.new) (T.world station.old) (T.world station.new) }
 
     // A crash at any moment leaves the map after a prefix of the updates that holds every acknowledged one.
-    ensures crash { (asked : Asked) → AskFor (map string_bytes words.now) asked → IsTrue S.tells → IsTrue T.tells
+    ensures crash { (asked : Asked) → AskFor (map string_bytes words.now) asked → IsTrue S.readable → IsTrue T.readable
         → (state : Contents) → HoldsState (T.world station.old) state
         → LeavesOnly (T.world station.old) (T.world station.new) (HoldsPrefix asked state (S.left source.old) (T.world station.old)) }
 
-    // A script of queries and counts reads few pages: beside the journal and page 0 it asks the device for no page but those in the logs by
-    // which its queries were answered with few nodes opened, by what the image held at the start.
-    ensures opens_few { (asked : Asked) → AskFor (map string_bytes words.now) asked → asked.action ≡ Action.Run → IsTrue S.tells → IsTrue T.tells
+    // A script of queries and counts reads few pages. Beside the journal and page 0 it reads from the device only pages in the logs of its
+    // queries. By these logs its answers were found with few nodes opened, by what the image held at the start.
+    ensures opens_few { (asked : Asked) → AskFor (map string_bytes words.now) asked → asked.action ≡ Action.Run → IsTrue S.readable → IsTrue T.readable
         → (state : Contents) → HoldsState (T.world station.old) state → AreAsking (script_lines (S.left source.old)) → result ≡ Ended.Done
         → OpensFew state (S.left source.old) (T.world station.old) (T.world station.new) }
 
-    // The input was read to its end and is taken whole, or it is refused for this cause, whatever the image stands for.
-    ensures whole { (asked : Asked) → AskFor (map string_bytes words.now) asked → IsTrue S.tells → result ≡ Ended.Done
+    // The input was read to its end and is taken whole, or it is refused for this cause, whatever the image holds.
+    ensures whole { (asked : Asked) → AskFor (map string_bytes words.now) asked → IsTrue S.readable → result ≡ Ended.Done
         → LeavesInput asked.action (S.left source.old) (S.left source.new) × IsWholeInput asked.action asked.text (S.left source.old) }
-    ensures input_end { (asked : Asked) → AskFor (map string_bytes words.now) asked → IsTrue S.tells → (fault : InputFault) → result ≡ Ended.Input fault
+    ensures input_end { (asked : Asked) → AskFor (map string_bytes words.now) asked → IsTrue S.readable → (fault : InputFault) → result ≡ Ended.Input fault
         → IsInputEnd asked.action asked.text (S.left source.old) fault }
-    // So is a limit one that ends the action, and reached by the numbers of page 0.
+    // The same holds for a limit: it is one that ends the action, and is reached by the numbers of page 0.
     ensures limits { (asked : Asked) → AskFor (map string_bytes words.now) asked → (fault : LimitFault) → result ≡ Ended.Limit fault → IsLimitOf asked.action fault }
-    ensures reached { (asked : Asked) → AskFor (map string_bytes words.now) asked → IsTrue S.tells → IsTrue T.tells → (fault : LimitFault) → result ≡ Ended.Limit fault
+    ensures reached { (asked : Asked) → AskFor (map string_bytes words.now) asked → IsTrue S.readable → IsTrue T.readable → (fault : LimitFault) → result ≡ Ended.Limit fault
         → IsLimitReached fault asked (S.left source.old) (T.world station.old).seen }
-    // No page is left for an update only where the image has few free pages at the end, and the disk has room for few more.
-    ensures lacks { (asked : Asked) → AskFor (map string_bytes words.now) asked → IsTrue T.tells → result ≡ Ended.Limit LimitFault.NoRoom
+    // No page is left for an update only if the image has few free pages at the end, and the disk has room for few more.
+    ensures lacks { (asked : Asked) → AskFor (map string_bytes words.now) asked → IsTrue T.readable → result ≡ Ended.Limit LimitFault.NoRoom
         → LacksRoomFor asked.action asked.batch (T.room_of station.new) (T.world station.new).seen }
     // A make reads nothing, and ends by no input.
     ensures unread { (asked : Asked) → AskFor (map string_bytes words.now) asked → asked.action ≡ Action.Make → (source.new ≡ source.old) × IsUnreadEnd result }
 
     // Each end has its cause, and no count falls.
-    ensures store { (fault : StoreFault) → result ≡ Ended.Store fault → IsTrue T.tells → IsBroken fault (T.world station.old).seen }
+    ensures store { (fault : StoreFault) → result ≡ Ended.Store fault → IsTrue T.readable → IsBroken fault (T.world station.old).seen }
     // A script that changes nothing names a page that breaks the rule it names, by what the image held at the start.
-    ensures broken_rule { (asked : Asked) → AskFor (map string_bytes words.now) asked → asked.action ≡ Action.Run → IsTrue S.tells → IsTrue T.tells
+    ensures broken_rule { (asked : Asked) → AskFor (map string_bytes words.now) asked → asked.action ≡ Action.Run → IsTrue S.readable → IsTrue T.readable
         → AreReading (script_lines (S.left source.old)) → (damage : Damage) → result ≡ Ended.Store (StoreFault.Damaged damage) → IsBrokenRule damage (T.world station.old).seen }
-    ensures opened { IsBehindOpening result → IsTrue T.tells → IsOpenable (T.world station.old).seen }
+    ensures opened { IsBehindOpening result → IsTrue T.readable → IsOpenable (T.world station.old).seen }
     ensures disk_cause { result ≡ Ended.Disk → Rose (T.world station.old).faults (T.world station.new).faults }
     ensures source_cause { result ≡ Ended.Source → Rose (S.faults source.old) (S.faults source.new) }
     ensures sink_cause { result ≡ Ended.Sink → Rose (T.world station.old).sink_faults (T.world station.new).sink_faults }
-    // And where a count rose, it ends so, whatever else was met: the disk's, which may rise last, before the others.
+    // If a count rose, the run ends so, whatever else was met. The disk's count, which may rise last, comes before the others.
     ensures disk_told { result ≢ Ended.Disk → (T.world station.new).faults ≡ (T.world station.old).faults }
     ensures source_told { result ≢ Ended.Disk → result ≢ Ended.Source → S.faults source.new ≡ S.faults source.old }
     ensures sink_told { result ≢ Ended.Disk → result ≢ Ended.Sink → (T.world station.new).sink_faults ≡ (T.world station.old).sink_faults }
@@ -139,19 +143,20 @@ pub fn run<S: Source, T: Station>(
     ensures source_later { S.faults source.old ≤ S.faults source.new }
     ensures sink_later { (T.world station.old).sink_faults ≤ (T.world station.new).sink_faults }
 
-    // A store that is refused as it is opened is left alone. However the run ends, an image that can't be opened stands for what it stood for.
-    ensures left_alone { IsTrue T.tells → LeavesAlone result (T.world station.old) (T.world station.new) }
-    ensures unopened { IsTrue T.tells → ¬ IsOpenable (T.world station.old).seen → LeavesAlike (T.world station.old) (T.world station.new) }
+    // A store that is refused as it is opened is left alone. However the run ends, an image that can't be opened holds what it held before.
+    ensures left_alone { IsTrue T.readable → LeavesAlone result (T.world station.old) (T.world station.new) }
+    ensures unopened { IsTrue T.readable → ¬ IsOpenable (T.world station.old).seen → LeavesAlike (T.world station.old) (T.world station.new) }
 
-    // Behind the job what the journal held is in its place.
-    ensures at_rest { IsBehindOpening result → IsTrue T.tells → IsReady 0 (T.world station.new) }
+    // After the job what the journal held is in its place.
+    ensures at_rest { IsBehindOpening result → IsTrue T.readable → IsReady 0 (T.world station.new) }
 
-    // If no count rose, the words are accepted and the image stands for a state, it ends by its transcript, or for want of room or memory.
-    ensures complete { (asked : Asked) → AskFor (map string_bytes words.now) asked → IsTrue T.tells
+    // If no count rose, the words are accepted and the image holds a state, it ends by its transcript, or because it runs out of room or
+    // memory.
+    ensures complete { (asked : Asked) → AskFor (map string_bytes words.now) asked → IsTrue T.readable
         → (state : Contents) → HoldsState (T.world station.old) state
         → ¬ Rose (S.faults source.old) (S.faults source.new) → ¬ Rose (T.world station.old).faults (T.world station.new).faults
         → ¬ Rose (T.world station.old).sink_faults (T.world station.new).sink_faults → IsCompleteEnd asked.action result }
-    // On any words and any image it may end by the words, or because the image is no store, too.
+    // On any words and any image it may also end by the words, or because the image is no store.
     ensures settled { ¬ Rose (S.faults source.old) (S.faults source.new) → ¬ Rose (T.world station.old).faults (T.world station.new).faults
         → ¬ Rose (T.world station.old).sink_faults (T.world station.new).sink_faults → IsSettled result }
 {
@@ -167,7 +172,7 @@ pub fn run<S: Source, T: Station>(
     }
 }
 
-/// What is asked for has one transcript on an input and a state, so the clauses of [`run`] speak of it. The call does nothing: its
+/// A command has only one transcript on an input and a state, so the clauses of [`run`] are about that one. The call does nothing: its
 /// contract is the law.
 pub fn transcript_is_one()
     ensures { (state : Contents) (asked : Asked) (input : List ℕ) (one other : Transcript)
@@ -176,7 +181,7 @@ pub fn transcript_is_one()
     outcome_is_one();
 }
 
-/// What is asked for has a transcript on each input and state. The call does nothing: its contract is the law.
+/// A command has a transcript on each input and state. The call does nothing: its contract is the law.
 pub fn transcript_is_some()
     ensures { (state : Contents) (asked : Asked) (input : List ℕ) → (whole : Transcript) × IsTranscript state asked input whole }
 {

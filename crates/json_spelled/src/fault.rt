@@ -1,11 +1,11 @@
 use std::alloc::{AllocError, AllocFailed};
 
-/// Why a byte isn't taken.
+/// Why a byte is refused.
 #[derive(Debug, Drop)]
 pub(crate) enum StepFault {
-    /// No text goes on with it.
+    /// No text continues with the byte.
     Refused,
-    /// It opens a level too many.
+    /// The byte opens one level too many.
     TooDeep,
     Memory,
 }

@@ -1,12 +1,12 @@
 ghost use Rattle.json_spelled.specs.Kind.{kind};
 ghost use Rattle.std.specs.Prelude.{◌≡◌};
 
-/// What a byte may be to the grammar.
+/// What a byte is to the grammar.
 #[derive(Clone, Copy, Debug, PartialEq, Eq)]
 pub(crate) enum Kind {
-    /// The space.
+    /// A space.
     Blank,
-    /// A tab, a line feed or a carriage return: a space between tokens, and no part of a string.
+    /// A tab, a line feed or a carriage return: a blank between tokens, but not allowed in a string.
     Break,
     /// Any other byte below 32.
     Control,
@@ -32,7 +32,7 @@ pub(crate) enum Kind {
     Other,
 }
 
-/// The kind of a byte.
+/// Returns the kind of a byte.
 #[inline(always)]
 #[tactic(auto, unfolding(crate::specs::Kind::kind))]
 pub(crate) fn kind_of(byte: u8) -> Kind

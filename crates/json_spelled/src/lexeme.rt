@@ -1,4 +1,4 @@
-/// Where in a word the reader is, by the letters that it has read.
+/// How far the reader is in a word, by the letters that it has read.
 #[derive(Clone, Copy, Debug, PartialEq, Eq)]
 pub(crate) enum Word {
     N,
@@ -13,17 +13,17 @@ pub(crate) enum Word {
     Fals,
 }
 
-/// Where in a number the reader is, by what it read last.
+/// How far the reader is in a number, by what it read last.
 #[derive(Clone, Copy, Debug, PartialEq, Eq)]
 pub(crate) enum Part {
-    /// The minus sign at the front.
+    /// The minus sign before the digits.
     Minus,
     /// A zero that is the whole integer part.
     Zero,
-    /// A digit of an integer part that doesn't begin with zero.
+    /// A digit of an integer part that does not begin with zero.
     Integer,
     Point,
-    /// A digit behind the point.
+    /// A digit after the point.
     Fraction,
     /// `e` or `E`.
     Exponent,
@@ -33,18 +33,18 @@ pub(crate) enum Part {
     Power,
 }
 
-/// Which token is open, and where in it the reader is.
+/// Which token is open, and how far the reader is in it.
 #[derive(Clone, Copy, Debug, PartialEq, Eq)]
 pub(crate) enum Lexeme {
     /// No token is open.
     Between,
     Word(Word),
     Number(Part),
-    /// A string.
+    /// In a string.
     Text,
-    /// A string, behind a backslash.
+    /// In a string, after a backslash.
     Escape,
-    /// A string, behind `\u` and no digit, and behind one, two and three of them.
+    /// In a string, after `\u`. The next three are the same after one, two and three digits.
     Hex1,
     Hex2,
     Hex3,

@@ -12,7 +12,7 @@ use crate::reader::{Place, Reader};
 use crate::tree::Tree;
 use std::mem;
 
-/// The part that a byte goes on with, if the number goes on.
+/// Returns the part after one more byte, or `None` if the number does not continue with it.
 fn part_behind(part: Part, kind: Kind) -> Option<Part>
     ensures { result ≡ goes_on part kind }
 {
@@ -65,7 +65,7 @@ fn is_last(part: Part) -> bool
 }
 
 impl Reader {
-    /// Takes a byte that goes on with the number, or ends it.
+    /// Takes a byte that continues the number or ends it.
     pub(crate) fn number(&mut self, part: Part, kind: Kind, byte: u8) -> Result<(), StepFault>
         requires { IsUtf8 self.old.token.items }
         ensures { Tries (λ levels. number_step levels (goes_on part kind) part self.old.token.items (around self.old) kind byte)
@@ -83,7 +83,7 @@ impl Reader {
         self.between(kind, byte)
     }
 
-    /// The number is whole.
+    /// Ends the number, which is whole.
     fn end_number(&mut self) -> Result<(), StepFault>
         requires { IsUtf8 self.old.token.items }
         ensures made { Makes result (deliver (spelled self.old.token.items) (around self.old))
@@ -94,7 +94,7 @@ impl Reader {
         self.deliver(Tree::Spelled(spelling))
     }
 
-    /// The token's bytes as a text.
+    /// Returns the token's bytes as a text.
     pub(crate) fn copied(&self) -> Result<String, StepFault>
         requires { IsUtf8 self.now.token.items }
         ensures { MatchResult result (λ text. string_bytes text ≡ self.now.token.items)
@@ -104,7 +104,7 @@ impl Reader {
         Ok(String::from_str(self.alloc, text)?)
     }
 
-    /// The value of the text, where it may end here.
+    /// Returns the value of the text, or `None` if the text may not end here.
     pub(crate) fn finish(&mut self) -> Result<Option<Tree>, StepFault>
         requires { Finishes self.old.lexeme self.old.token.items }
         ensures { MatchResult result (λ tree. option_map json_of tree ≡ finish (state_of self.old))

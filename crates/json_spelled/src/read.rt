@@ -14,7 +14,7 @@ use crate::reader::Reader;
 use crate::tree::{JsonFault, Tree};
 use std::alloc::Global;
 
-/// How many bytes at the front are whole characters.
+/// How many bytes at the beginning are whole characters.
 fn valid_len(bytes: &[u8]) -> usize
     ensures { IsValidLength bytes.now result }
 {
@@ -24,7 +24,7 @@ fn valid_len(bytes: &[u8]) -> usize
     }
 }
 
-/// The refusal of a byte at this offset.
+/// The refusal of the byte at this offset.
 fn refusal(fault: StepFault, at: u64) -> JsonFault
     ensures { result ≡ refusal_of fault at }
 {
@@ -50,7 +50,7 @@ fn read_text(reader: &mut Reader, text: &[u8]) -> Result<(), JsonFault>
     Ok(())
 }
 
-/// The value of whole characters, or none where they end too early.
+/// The value of a text of whole characters, or `None` if it ends too early.
 fn value_of(alloc: Global, text: &[u8]) -> Result<Option<Tree>, JsonFault>
     requires { IsUtf8 text.now }
     ensures { MatchResult result (λ value. Gives text.now (option_map json_of value)) (StopsAt text.now) }
@@ -65,23 +65,25 @@ fn value_of(alloc: Global, text: &[u8]) -> Result<Option<Tree>, JsonFault>
     }
 }
 
-/// The value of a JSON text: UTF-8 with a byte order mark at its front or none, and at most 64 arrays and objects open at
-/// once. Members stand in the text's order, repeats included, and each number is its spelling. Escapes are decoded; that of
-/// a surrogate without its partner is U+FFFD.
+/// Reads a JSON text into its value.
 ///
-/// A refusal is the first offence: [`JsonFault::NotUtf8`], [`JsonFault::Syntax`] or [`JsonFault::TooDeep`] with its offset,
-/// whichever stands first, and NotUtf8 before another at one offset. Only [`JsonFault::Memory`] is tied to no cause.
+/// The text is UTF-8, with or without a byte order mark at its beginning, and has at most 64 arrays and objects open at once. Members
+/// keep the text's order, repeats included, and each number keeps its spelling. Escapes are decoded; a surrogate without its partner is
+/// U+FFFD.
 ///
-/// It takes time and memory in proportion to the bytes.
+/// A refusal is the first offence: [`JsonFault::NotUtf8`], [`JsonFault::Syntax`] or [`JsonFault::TooDeep`] with its offset. If two have
+/// the same offset, `NotUtf8` comes first. Only [`JsonFault::Memory`] is tied to no cause.
+///
+/// It takes time and memory in proportion to the number of bytes.
 pub fn read_tree(alloc: Global, bytes: &[u8]) -> Result<Tree, JsonFault>
-    // What is read is spelled so.
+    // Each text that is read follows the grammar.
     ensures read { IfOk result (λ tree. IsText level_limit (json_of tree) bytes.now) }
 
-    // What is spelled so is read, unless memory runs out.
+    // Each text that follows the grammar is read, unless memory runs out.
     ensures only { (value : Json) → IsText level_limit value bytes.now
         → MatchResult result (λ tree. json_of tree ≡ value) (λ fault. fault ≡ JsonFault.Memory) }
 
-    // A refusal names the first offence, and what offends is refused.
+    // A refusal names the first offence, and each text with an offence is refused.
     ensures refused { IfErr result (λ fault. fault ≢ JsonFault.Memory → IsFirstOffence bytes.now fault) }
     ensures no_offence { OnOk result ((fault : JsonFault) → IsOffence bytes.now fault → ⊥) }
 {

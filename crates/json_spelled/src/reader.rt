@@ -2,20 +2,20 @@ use crate::lexeme::Lexeme;
 use crate::tree::Tree;
 use std::alloc::Global;
 
-/// An array or an object in which a value is awaited.
+/// An array or an object that waits for a value.
 #[derive(Drop)]
 pub(crate) enum Open {
     List(Vec<Tree>),
-    /// The members so far, and the name of the next.
+    /// The members so far, and the name of the next one.
     Object(Vec<(String, Tree)>, String),
 }
 
-/// What may come where no token is open.
+/// What may come while no token is open.
 #[derive(Drop)]
 pub(crate) enum Place {
     /// Nothing was read.
     Start,
-    /// The first byte of a byte order mark was read, and the second.
+    /// The first byte of a byte order mark was read. In `Mark2`, the second was too.
     Mark1,
     Mark2,
     /// A value has to come.
@@ -23,7 +23,7 @@ pub(crate) enum Place {
     FirstItem,
     BehindItem(Vec<Tree>),
     FirstName,
-    /// A name has to come behind these members.
+    /// A name has to come after these members.
     Name(Vec<(String, Tree)>),
     BehindName(Vec<(String, Tree)>, String),
     BehindMember(Vec<(String, Tree)>),
@@ -31,21 +31,21 @@ pub(crate) enum Place {
     Ended(Tree),
 }
 
-/// A reader of JSON that takes one byte after another.
+/// A reader of JSON that takes one byte at a time.
 #[derive(Drop)]
 pub(crate) struct Reader {
     pub alloc: Global,
     pub lexeme: Lexeme,
-    /// Where no token is open, what may come; in a string, whether it is a name.
+    /// What may come while no token is open. In a string: whether the string is a name.
     pub place: Place,
-    /// What was read of the number, or what the string says so far.
+    /// The bytes of the number so far, or the decoded bytes of the string so far.
     pub token: Vec<u8>,
-    /// The high surrogate that stands right before.
+    /// The high surrogate right before, if there is one.
     pub high: Option<u32>,
-    /// The digits of the code unit that is read.
+    /// The digits so far of the code unit that is being read.
     pub first: u8,
     pub second: u8,
     pub third: u8,
-    /// The arrays and objects around, the innermost last.
+    /// The open arrays and objects, the innermost last.
     pub opened: Vec<Open>,
 }

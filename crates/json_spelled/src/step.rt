@@ -10,7 +10,7 @@ use crate::reader::{Place, Reader};
 use crate::tree::Tree;
 use std::alloc::Global;
 
-/// The letter that a word goes on with.
+/// The letter that a word continues with.
 fn letter_behind(word: Word) -> u8
     ensures { result ≡ awaited word }
 {
@@ -25,7 +25,7 @@ fn letter_behind(word: Word) -> u8
 }
 
 impl Reader {
-    /// A reader that has read nothing.
+    /// Returns a reader that has read nothing.
     #[tactic(auto, unfolding(crate::specs::Reader::frames_of))]
     pub(crate) fn new(alloc: Global) -> Reader
         ensures { state_of result ≡ start }
@@ -43,7 +43,7 @@ impl Reader {
         }
     }
 
-    /// The word behind its next letter.
+    /// Takes the word's next letter, which is the right one. The last letter completes the value.
     fn next_word(&mut self, word: Word) -> Result<(), StepFault>
         ensures { Makes result (behind_awaited word (around self.old)) (state_of self.new) }
     {
@@ -81,7 +81,7 @@ impl Reader {
         self.go_on_in(self.lexeme, kind_of(byte), byte)
     }
 
-    /// Takes a byte of this kind, in this token.
+    /// Takes a byte of this kind in this token.
     fn go_on_in(&mut self, lexeme: Lexeme, kind: Kind, byte: u8) -> Result<(), StepFault>
         requires lexeme { self.old.lexeme ≡ lexeme }
         requires ready { ReadyIn lexeme kind self.old.token.items }

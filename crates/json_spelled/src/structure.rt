@@ -34,7 +34,7 @@ impl Reader {
         Ok(())
     }
 
-    /// No token is open, and this may come.
+    /// Closes the token: after it no token is open, and `place` says what may come.
     pub(crate) fn stand(&mut self, place: Place)
         ensures made { state_of self.new ≡ Between (place_of place) (around self.old) }
         ensures between { self.new.lexeme ≡ Lexeme.Between }
@@ -43,7 +43,7 @@ impl Reader {
         self.place = place;
     }
 
-    /// Opens a level, if there may be a further one.
+    /// Opens a level, or refuses if 64 are open.
     #[tactic(auto, using(crate::proofs::Frames::length_frames))]
     fn open_at(&mut self, place: Place) -> Result<(), StepFault>
         ensures { Tries (λ levels. open_at levels (place_of place) (around self.old))
@@ -101,7 +101,7 @@ impl Reader {
         Ok(())
     }
 
-    /// Begins the first item of an array, or closes it.
+    /// Begins the first item of an array, or closes the array.
     #[tactic(auto, using(crate::proofs::Frames::frames_pushed))]
     fn first_item(&mut self, kind: Kind, byte: u8) -> Result<(), StepFault>
         ensures { Tries (λ levels. first_item levels (around self.old) kind byte)
@@ -206,7 +206,7 @@ impl Reader {
         Ok(())
     }
 
-    /// One byte of a byte order mark.
+    /// Takes one byte of a byte order mark.
     fn mark(&mut self, is_right: bool, place: Place) -> Result<(), StepFault>
         ensures { Tries (λ _. if is_right then Some (Between (place_of place) (around self.old)) else None)
             result (state_of self.new) }
@@ -218,7 +218,7 @@ impl Reader {
         Ok(())
     }
 
-    /// Takes a byte where no token is open.
+    /// Takes a byte while no token is open.
     pub(crate) fn between(&mut self, kind: Kind, byte: u8) -> Result<(), StepFault>
         ensures { Tries (λ levels. between levels (place_of self.old.place) (around self.old) kind byte)
             result (state_of self.new) }
@@ -227,7 +227,7 @@ impl Reader {
         self.go_on(place, kind, byte)
     }
 
-    /// Takes a byte where this may come.
+    /// Takes a byte while no token is open and `place` says what may come.
     fn go_on(&mut self, place: Place, kind: Kind, byte: u8) -> Result<(), StepFault>
         ensures { Tries (λ levels. between levels (place_of place) (around self.old) kind byte)
             result (state_of self.new) }

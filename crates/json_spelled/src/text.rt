@@ -26,7 +26,7 @@ fn is_low(code: u32) -> bool
     0xDC00 <= code && code < 0xE000
 }
 
-/// The byte that an escape of one letter stands for.
+/// The byte that an escape of one letter means.
 fn escaped(letter: u8) -> Option<u8>
     ensures { result ≡ grammar.escaped letter }
 {
@@ -41,7 +41,7 @@ fn escaped(letter: u8) -> Option<u8>
     }
 }
 
-/// The value of a hexadecimal digit.
+/// The value of a hexadecimal digit, or `None` for any other byte.
 fn hex_digit(byte: u8) -> Option<u8>
     ensures { result ≡ grammar.hex_digit byte }
 {
@@ -53,7 +53,7 @@ fn hex_digit(byte: u8) -> Option<u8>
     }
 }
 
-/// Appends the character of a code, and U+FFFD where the code is no character's.
+/// Appends the character with this code, or U+FFFD if no character has it.
 fn say(token: &mut Vec<u8>, code: u32) -> Result<(), StepFault>
     ensures { MatchResult result (λ _. token.new.items ≡ token.old.items ++ said code)
         (λ fault. fault ≡ StepFault.Memory) }
@@ -64,7 +64,7 @@ fn say(token: &mut Vec<u8>, code: u32) -> Result<(), StepFault>
     Ok(())
 }
 
-/// Appends U+FFFD for a high surrogate whose partner doesn't come.
+/// Appends U+FFFD for a high surrogate whose partner does not follow.
 fn say_alone(token: &mut Vec<u8>, high: Option<u32>) -> Result<(), StepFault>
     ensures { MatchResult result (λ _. token.new.items ≡ token.old.items ++ alone high)
         (λ fault. fault ≡ StepFault.Memory) }
@@ -75,7 +75,7 @@ fn say_alone(token: &mut Vec<u8>, high: Option<u32>) -> Result<(), StepFault>
     }
 }
 
-/// Appends what a code unit says where that high surrogate stands right before it.
+/// Appends what a code unit means after `waiting`, the high surrogate right before it, if there is one.
 fn say_behind(token: &mut Vec<u8>, waiting: Option<u32>, code: u32) -> Result<(), StepFault>
     ensures { MatchResult result (λ _. token.new.items ≡ token.old.items ++ said_behind waiting code)
         (λ fault. fault ≡ StepFault.Memory) }
@@ -111,7 +111,7 @@ impl Reader {
         }
     }
 
-    /// Appends a byte to what the string says.
+    /// Appends a byte to the string's content.
     fn take_byte(&mut self, byte: u8) -> Result<(), StepFault>
         ensures { Makes result (InText (use_of self.old.place) InBytes ((self.old.token.items ++ alone self.old.high) ++ byte ∷ []) None (around self.old))
             (state_of self.new) }
@@ -123,7 +123,7 @@ impl Reader {
         Ok(())
     }
 
-    /// The string is whole.
+    /// Ends the string, which is whole.
     #[tactic(auto, using(crate::proofs::Tokens::alone_text))]
     fn close(&mut self) -> Result<(), StepFault>
         requires { IsUtf8 self.old.token.items }
@@ -141,7 +141,7 @@ impl Reader {
         }
     }
 
-    /// Takes a byte behind a backslash.
+    /// Takes a byte after a backslash.
     pub(crate) fn escape(&mut self, byte: u8) -> Result<(), StepFault>
         ensures { Tries (λ _. escape_step (use_of self.old.place) self.old.token.items self.old.high (around self.old) byte)
             result (state_of self.new) }
@@ -171,7 +171,7 @@ impl Reader {
         }
     }
 
-    /// Takes the second.
+    /// Takes the second digit of a code unit.
     pub(crate) fn hex2(&mut self, byte: u8) -> Result<(), StepFault>
         ensures { Tries (λ _. in_text (use_of self.old.place) (Hex2 self.old.first) self.old.token.items self.old.high (around self.old) Kind.Other byte)
             result (state_of self.new) }
@@ -186,7 +186,7 @@ impl Reader {
         }
     }
 
-    /// Takes the third.
+    /// Takes the third digit of a code unit.
     pub(crate) fn hex3(&mut self, byte: u8) -> Result<(), StepFault>
         ensures { Tries (λ _. in_text (use_of self.old.place) (Hex3 self.old.first self.old.second) self.old.token.items self.old.high (around self.old) Kind.Other byte)
             result (state_of self.new) }
@@ -201,7 +201,7 @@ impl Reader {
         }
     }
 
-    /// Takes the fourth, and with it the code unit.
+    /// Takes the fourth digit of a code unit, which completes it.
     pub(crate) fn hex4(&mut self, byte: u8) -> Result<(), StepFault>
         ensures { Tries (λ _. in_text (use_of self.old.place) (Hex4 self.old.first self.old.second self.old.third) self.old.token.items self.old.high (around self.old) Kind.Other byte)
             result (state_of self.new) }
@@ -215,7 +215,7 @@ impl Reader {
         }
     }
 
-    /// Takes a code unit.
+    /// Takes a whole code unit.
     fn unit(&mut self, code: u32) -> Result<(), StepFault>
         ensures { Makes result (unit_step (use_of self.old.place) self.old.token.items self.old.high (around self.old) code)
             (state_of self.new) }

@@ -1,4 +1,4 @@
-/// A JSON value. One that was read has at most 64 levels of arrays and objects.
+/// A JSON value. A value that was read has at most 64 levels of arrays and objects.
 #[derive(Debug, PartialEq, Drop)]
 pub enum Tree {
     /// `null`.
@@ -7,7 +7,7 @@ pub enum Tree {
     Truth(bool),
     /// A number, as it is spelled.
     Spelled(String),
-    /// A string, its escapes decoded. A surrogate without its partner is U+FFFD.
+    /// A string with its escapes decoded. A surrogate without its partner is U+FFFD.
     Text(String),
     /// An array.
     List(Vec<Tree>),
@@ -15,12 +15,13 @@ pub enum Tree {
     Members(Vec<(String, Tree)>),
 }
 
-/// Why a text isn't read. An offset counts bytes, a byte order mark's included.
+/// Why a text is refused. An offset counts bytes from 0, those of a byte order mark included.
 #[derive(Clone, Copy, Debug, PartialEq, Eq, Drop)]
 pub enum JsonFault {
     /// The first ill-formed sequence of UTF-8 begins at this offset.
     NotUtf8(u64),
-    /// The bytes before this offset begin some JSON text, and with the byte there they don't; or the text ends there too early.
+    /// The bytes before this offset begin some JSON text, but the byte at the offset does not continue one, or the text ends there too
+    /// early.
     Syntax(u64),
     /// The bracket at this offset opens the 65th level of arrays and objects.
     TooDeep(u64),

@@ -1,4 +1,4 @@
-//! The first token of a text.
+//! Finds the first token of a text.
 ghost use Rattle.std.specs.Prelude.{◌≡◌, ◌<◌, length, drop, slice_index, option_map, IfOk, IfSome, IfNone};
 ghost use Rattle.std.specs.List.{prefix_len};
 ghost use Rattle.line_tokens.specs.Literal.{is_plain, literal_of};
@@ -25,35 +25,35 @@ fn is_bare(byte: u8) -> bool
     !matches!(byte, b' ' | b'\t' | b'(' | b')' | b'"')
 }
 
-// Whether a byte of a literal says itself.
+// Whether a byte of a literal means itself.
 fn is_plain(byte: u8) -> bool
     ensures { result ≡ is_plain byte }
 {
     byte >= b' ' && byte != b'"' && byte != b'\\'
 }
 
-// How many blanks stand first.
+// How many blanks the text begins with.
 fn blank_len(text: &[u8]) -> usize
     ensures { result ≡ prefix_len is_blank text.now }
 {
     text.iter().take_while(|byte| is_blank(**byte)).count()
 }
 
-// How many bytes of a run stand first.
+// How many bytes of a run the text begins with.
 fn bare_len(text: &[u8]) -> usize
     ensures { result ≡ prefix_len is_bare text.now }
 {
     text.iter().take_while(|byte| is_bare(**byte)).count()
 }
 
-// How many bytes that say themselves stand first.
+// How many bytes that mean themselves the text begins with.
 fn plain_len(text: &[u8]) -> usize
     ensures { result ≡ prefix_len is_plain text.now }
 {
     text.iter().take_while(|byte| is_plain(**byte)).count()
 }
 
-/// The text without the spaces and tabs that stand first.
+/// Returns the text without its leading spaces and tabs.
 pub fn after_blanks(text: &str) -> &str
     ensures { result.now ≡ tokens.after_blanks text.now }
 {
@@ -61,7 +61,7 @@ pub fn after_blanks(text: &str) -> &str
     rest
 }
 
-// The run that stands first, and the text behind it.
+// The run that the text begins with, and the text after it.
 fn bare(text: &str) -> (Token<'_>, &str)
     ensures { (seen result.0, result.1.now) ≡ tokens.bare_at text.now }
 {
@@ -87,7 +87,7 @@ fn behind_first(text: &str) -> &str
     rest
 }
 
-// The literal behind a quotation mark, where each of its bytes says itself, and the text behind it.
+// The literal after a quotation mark, if each of its bytes means itself, and the text after the literal.
 fn plain(text: &str) -> Option<(&str, &str)>
     ensures { IfSome result (λ found. literal_of text.now ≡ Some (found.0.now, found.1.now)) }
 {
@@ -98,7 +98,7 @@ fn plain(text: &str) -> Option<(&str, &str)>
     }
 }
 
-// The token that the quotation mark in front begins, and the text behind it.
+// The token that the leading quotation mark begins, and the text after it.
 fn quoted(alloc: Global, text: &str) -> Result<(Token<'_>, &str), Memory>
     requires some { 0 < length text.now }
     requires mark { slice_index text.now 0 ≡ 34 }
@@ -118,10 +118,10 @@ fn quoted(alloc: Global, text: &str) -> Result<(Token<'_>, &str), Memory>
     }
 }
 
-/// The first token of a text, and the text behind it; none where only spaces and tabs are left.
+/// Returns the first token of a text and the text after it, or `None` if only spaces and tabs are left.
 ///
-/// It reads no byte behind the token, but in a literal that doesn't end. Memory is taken for what a literal with escapes
-/// says, and for nothing else.
+/// It reads no byte after the token, except in a literal that does not end. It allocates memory only for the decoded text of a literal
+/// with escapes, and fails only if that runs out.
 pub fn next_token(alloc: Global, text: &str) -> Result<Option<(Token<'_>, &str)>, Memory>
     ensures { IfOk result (λ found. option_map (λ f. (seen f.0, f.1.now)) found ≡ token_of text.now) }
 {

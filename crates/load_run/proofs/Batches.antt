@@ -5,16 +5,16 @@ use Rattle.disk_model.specs.World.{World, Image, Rose}
 use Rattle.page_face.specs.declared.fault.Damage.{Damage}
 use Rattle.page_face.specs.declared.fault.Rule.TheVariants.{Head}
 use Rattle.page_store.specs.Store.{Rests}
-use Rattle.place_map.specs.State.{Contents}
-use Rattle.place_map.specs.declared.update.Update.{Update}
-use Rattle.place_map.specs.declared.update.UpdateFault.{UpdateFault}
-use Rattle.store_meaning.specs.Stands.{Stands}
+use Rattle.place_values.specs.State.{Contents}
+use Rattle.place_values.specs.declared.update.Update.{Update}
+use Rattle.place_values.specs.declared.update.UpdateFault.{UpdateFault}
+use Rattle.store_model.specs.Stands.{Stands}
 use Rattle.irtree_engine.specs.Holding.{HoldsState}
 use Rattle.irtree_engine.specs.Updates.{StandsForOutcome, IsUpdateFault, IsDueTo, state_after_all}
 use Rattle.irtree_engine.specs.declared.fault.EngineFault.{EngineFault}
 use Rattle.irtree_engine.specs.declared.fault.EngineFault.TheVariants as engine
-use Rattle.run_protocol.specs.Causes.{IsEngineEnd, HasEngineEnd, end_of_engine}
-use Rattle.run_protocol.proofs.Counts.{keeps-fault}
+use Rattle.run_outcome.specs.Causes.{IsEngineEnd, HasEngineEnd, end_of_engine}
+use Rattle.run_outcome.proofs.Counts.{keeps-fault}
 use Rattle.load_run.specs.Loading.{IsUnstored}
 
 -- a call of the engine that was refused
@@ -47,13 +47,13 @@ not-stored state updates old new fault may on due rests holds = by_fault fault m
     by_fault (engine.BadJournal at) may on due rests = absurd may
 
 -- and the cause of such an end
-pub not-stored-cause : (tells : Bool) (updates : List Update) (old new : World) (fault : EngineFault) (T : Type 0) → IsUpdateFault fault → (failed fault ≢ failed engine.Stopped) → (failed fault ≡ failed engine.Disk → Rose old.faults new.faults)
-    → (IsTrue tells → (state : Contents) → HoldsState old state → IsDueTo (state_after_all state updates) fault) → (IsTrue tells → (damage : Damage) → failed fault ≡ failed (engine.Damaged damage) → damage.rule ≢ Head) → (failed fault ≢ failed engine.Disk → new.faults ≡ old.faults) → old.faults ≤ new.faults → new.sink_faults ≡ old.sink_faults
-    → HasEngineEnd {T = T} tells old new (Err (end_of_engine fault))
-not-stored-cause tells updates old new fault T may on disk due no_head stays later sink = record { faults = later; sink = omega (arith, sink); keeps = keeps-fault T old new fault (λ apart. stays (λ e. apart (cc))) sink; stands = λ told. tt; cause = by_fault fault may on disk due no_head }
+pub not-stored-cause : (readable : Bool) (updates : List Update) (old new : World) (fault : EngineFault) (T : Type 0) → IsUpdateFault fault → (failed fault ≢ failed engine.Stopped) → (failed fault ≡ failed engine.Disk → Rose old.faults new.faults)
+    → (IsTrue readable → (state : Contents) → HoldsState old state → IsDueTo (state_after_all state updates) fault) → (IsTrue readable → (damage : Damage) → failed fault ≡ failed (engine.Damaged damage) → damage.rule ≢ Head) → (failed fault ≢ failed engine.Disk → new.faults ≡ old.faults) → old.faults ≤ new.faults → new.sink_faults ≡ old.sink_faults
+    → HasEngineEnd {T = T} readable old new (Err (end_of_engine fault))
+not-stored-cause readable updates old new fault T may on disk due no_head stays later sink = record { faults = later; sink = omega (arith, sink); keeps = keeps-fault T old new fault (λ apart. stays (λ e. apart (cc))) sink; stands = λ told. tt; cause = by_fault fault may on disk due no_head }
   where
     by_fault : (fault : EngineFault) → IsUpdateFault fault → (failed fault ≢ failed engine.Stopped) → (failed fault ≡ failed engine.Disk → Rose old.faults new.faults)
-        → (IsTrue tells → (state : Contents) → HoldsState old state → IsDueTo (state_after_all state updates) fault) → (IsTrue tells → (damage : Damage) → failed fault ≡ failed (engine.Damaged damage) → damage.rule ≢ Head) → IsEngineEnd tells old new (end_of_engine fault)
+        → (IsTrue readable → (state : Contents) → HoldsState old state → IsDueTo (state_after_all state updates) fault) → (IsTrue readable → (damage : Damage) → failed fault ≡ failed (engine.Damaged damage) → damage.rule ≢ Head) → IsEngineEnd readable old new (end_of_engine fault)
     by_fault engine.Disk may on disk due no_head = disk refl
     by_fault engine.Memory may on disk due no_head = tt
     by_fault engine.Full may on disk due no_head = tt

@@ -3,7 +3,7 @@ use Rattle.std.proofs.Common.{◌≡◌, ◌⊎◌, inl, inr, ⊎_elim, ℕ, ◌
 use Rattle.std.proofs.Math.Seq.{take-append-add}
 use Rattle.std.proofs.lemmas.Bool.{cases_lt}
 use Rattle.std.proofs.lemmas.List.{append-nil, take_all, take_min, take-append-le}
-use Rattle.run_protocol.specs.Said.{SaysFrontOf}
+use Rattle.run_outcome.specs.Said.{SaysFrontOf}
 
 -- a front of a text behind some that was said whole
 pub front-behind : (whole done text old mid new : List ℕ) → whole ≡ done ++ text → mid ≡ old ++ done → SaysFrontOf text mid new → SaysFrontOf whole old new

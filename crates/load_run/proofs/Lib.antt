@@ -7,3 +7,7 @@ pub mod Numbers
 pub mod Outcomes
 pub mod Stages
 pub mod Steps
+pub mod Ends
+pub mod Hits
+pub mod Items
+pub mod Queries

@@ -4,23 +4,23 @@ use Rattle.std.specs.Prelude.{Result, Ok, Err, OnOk, IfErr}
 use Rattle.std.proofs.lemmas.List.{append-nil, take_all}
 use Rattle.disk_model.specs.World.{World, Image, LeavesOnly}
 use Rattle.disk_model.proofs.Moments.{started, within}
-use Rattle.place_map.specs.State.{Contents}
-use Rattle.place_map.specs.declared.update.Update.{Update}
-use Rattle.place_map.specs.declared.update.UpdateFault.{UpdateFault}
-use Rattle.place_map.specs.declared.update.UpdateFault.TheVariants as faults
+use Rattle.place_values.specs.State.{Contents}
+use Rattle.place_values.specs.declared.update.Update.{Update}
+use Rattle.place_values.specs.declared.update.UpdateFault.{UpdateFault}
+use Rattle.place_values.specs.declared.update.UpdateFault.TheVariants as faults
 use Rattle.geojson_points.specs.Takes.{Item, Skipped, item_of}
 use Rattle.geojson_points.specs.declared.taken.Taken.{Taken}
 use Rattle.geojson_points.specs.declared.taken.SkipReason.{SkipReason}
-use Rattle.store_meaning.specs.Stands.{Stands}
+use Rattle.store_model.specs.Stands.{Stands}
 use Rattle.irtree_engine.specs.Holding.{HoldsState}
 use Rattle.irtree_engine.specs.Updates.{LeavesAllOrNone, StandsForOutcome, state_after_all}
-use Rattle.run_protocol.specs.declared.ended.Ended.{Ended}
-use Rattle.run_protocol.specs.declared.ended.Ended.TheVariants as ends
-use Rattle.run_protocol.specs.declared.ended.LimitFault.TheVariants as limits
-use Rattle.run_protocol.specs.Turn.{Transcript, Limit}
-use Rattle.run_protocol.specs.Load.{Closing, Step, Skip, Store, steps, load, stores, limit_of, skip_line, stored_line}
-use Rattle.run_protocol.specs.Left.{LeftBySteps, LeftByBatch, StopsAtBatch, StopsBehind, batch_turn}
-use Rattle.run_protocol.specs.Said.{SaysFrontOf, SaysAll, LeftByTurn}
+use Rattle.run_outcome.specs.declared.ended.Ended.{Ended}
+use Rattle.run_outcome.specs.declared.ended.Ended.TheVariants as ends
+use Rattle.run_outcome.specs.declared.ended.LimitFault.TheVariants as limits
+use Rattle.run_outcome.specs.Turn.{Transcript, Limit}
+use Rattle.run_outcome.specs.Load.{Closing, Step, Skip, Store, steps, load, stores, limit_of, skip_line, stored_line}
+use Rattle.run_outcome.specs.Left.{LeftBySteps, LeftByBatch, StopsAtBatch, StopsBehind, batch_turn}
+use Rattle.run_outcome.specs.Said.{SaysFrontOf, SaysAll, LeftByTurn}
 use Rattle.load_run.specs.declared.load.Load.{Load}
 use Rattle.load_run.specs.Loading.{HasStored, Stage, stage, stage_before, to_come, text_to_say, LeftFrom, moment_of, Goes, Reaches, IsConcluded, Concludes, Moves, IsUnstored, StoresAll}
 use Rattle.load_run.proofs.Batches.{outcome-holds}

@@ -7,12 +7,12 @@ use Rattle.geojson_points.specs.declared.taken.Taken.{Taken}
 use Rattle.irtree_engine.specs.Updates.{IsAtLimit}
 use Rattle.irtree_engine.specs.declared.fault.EngineFault.{EngineFault}
 use Rattle.irtree_engine.specs.declared.fault.EngineFault.TheVariants as engine
-use Rattle.run_protocol.specs.Causes.{end_of_engine}
-use Rattle.run_protocol.specs.Load.{IsTaken, ReachesLimit, places_among}
-use Rattle.run_protocol.specs.declared.ended.Ended.{Ended}
-use Rattle.run_protocol.specs.declared.ended.Ended.TheVariants as ends
-use Rattle.run_protocol.specs.declared.ended.LimitFault.{LimitFault}
-use Rattle.run_protocol.specs.declared.ended.LimitFault.TheVariants as limits
+use Rattle.run_outcome.specs.Causes.{end_of_engine}
+use Rattle.run_outcome.specs.Load.{IsTaken, ReachesLimit, places_among}
+use Rattle.run_outcome.specs.declared.ended.Ended.{Ended}
+use Rattle.run_outcome.specs.declared.ended.Ended.TheVariants as ends
+use Rattle.run_outcome.specs.declared.ended.LimitFault.{LimitFault}
+use Rattle.run_outcome.specs.declared.ended.LimitFault.TheVariants as limits
 use Rattle.load_run.specs.declared.load.Load.{Load}
 use Rattle.load_run.specs.Loading.{HasStored, IsLimitAt, RisesBy}
 

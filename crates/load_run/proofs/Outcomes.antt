@@ -4,24 +4,24 @@ use Rattle.std.specs.Prelude.{Option, Result, Ok, Err, IfErr, IsErrOf}
 use Rattle.std.proofs.lemmas.List.{append-nil}
 use Rattle.disk_model.specs.World.{World, LeavesOnly}
 use Rattle.disk_model.proofs.Moments.{within}
-use Rattle.place_map.specs.State.{Contents}
+use Rattle.place_values.specs.State.{Contents}
 use Rattle.json_spelled.specs.declared.tree.JsonFault.TheVariants as json
 use Rattle.geojson_points.specs.Takes.{Item, Takes}
 use Rattle.geojson_points.specs.declared.fault.LoadFault.{LoadFault}
 use Rattle.geojson_points.specs.declared.fault.LoadFault.TheVariants as loads
-use Rattle.store_meaning.specs.Stands.{Stands}
+use Rattle.store_model.specs.Stands.{Stands}
 use Rattle.irtree_engine.specs.Holding.{HoldsState}
-use Rattle.run_protocol.specs.declared.ended.Ended.{Ended}
-use Rattle.run_protocol.specs.declared.ended.Ended.TheVariants as ends
-use Rattle.run_protocol.specs.declared.ended.InputFault.{InputFault}
-use Rattle.run_protocol.specs.declared.ended.InputFault.TheVariants as inputs
-use Rattle.run_protocol.specs.declared.ended.LimitFault.{LimitFault}
-use Rattle.run_protocol.specs.declared.ended.LimitFault.TheVariants as limits
-use Rattle.run_protocol.specs.Left.{LeftBySteps, LeftByLoad, StopsAtBatch}
-use Rattle.run_protocol.specs.Load.{Closing, load, load_max, IsTaken, says_loaded, steps}
-use Rattle.run_protocol.specs.Said.{EndsAs, SaysFrontOf}
-use Rattle.run_protocol.specs.Turn.{End}
-use Rattle.run_protocol.proofs.Lists.{none-behind}
+use Rattle.run_outcome.specs.declared.ended.Ended.{Ended}
+use Rattle.run_outcome.specs.declared.ended.Ended.TheVariants as ends
+use Rattle.run_outcome.specs.declared.ended.InputFault.{InputFault}
+use Rattle.run_outcome.specs.declared.ended.InputFault.TheVariants as inputs
+use Rattle.run_outcome.specs.declared.ended.LimitFault.{LimitFault}
+use Rattle.run_outcome.specs.declared.ended.LimitFault.TheVariants as limits
+use Rattle.run_outcome.specs.Left.{LeftBySteps, LeftByLoad, StopsAtBatch}
+use Rattle.run_outcome.specs.Load.{Closing, load, load_max, IsTaken, says_loaded, steps}
+use Rattle.run_outcome.specs.Said.{EndsAs, SaysFrontOf}
+use Rattle.run_outcome.specs.Turn.{End}
+use Rattle.run_outcome.proofs.Lists.{none-behind}
 use Rattle.load_run.specs.Loading.{IsUnread, RefusesSo, EndsLoad, EndsSteps, IsConcluded, Reaches, LeftFrom, stage_at_start}
 use Rattle.load_run.proofs.Fronts.{front-empty}
 

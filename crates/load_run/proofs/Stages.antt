@@ -5,18 +5,18 @@ use Rattle.std.proofs.lemmas.List.{append-nil}
 use Rattle.disk_model.specs.World.{World, Image}
 use Rattle.disk_model.proofs.Moments.{rested, started, then, within}
 use Rattle.page_store.specs.Store.{Rests}
-use Rattle.place_map.specs.State.{Contents}
-use Rattle.place_map.specs.declared.update.UpdateFault.{UpdateFault}
-use Rattle.store_meaning.specs.Stands.{Stands}
+use Rattle.place_values.specs.State.{Contents}
+use Rattle.place_values.specs.declared.update.UpdateFault.{UpdateFault}
+use Rattle.store_model.specs.Stands.{Stands}
 use Rattle.irtree_engine.specs.Holding.{HoldsState}
 use Rattle.irtree_engine.specs.Updates.{state_after_all}
-use Rattle.run_protocol.specs.declared.ended.Ended.{Ended}
-use Rattle.run_protocol.specs.declared.ended.Ended.TheVariants as ends
-use Rattle.run_protocol.specs.declared.ended.LimitFault.TheVariants as limits
-use Rattle.run_protocol.specs.Load.{Step, Skip, Store, skip_line, stored_line}
-use Rattle.run_protocol.specs.Left.{StopsAtBatch, StopsBehind}
-use Rattle.run_protocol.specs.Said.{SaysFrontOf}
-use Rattle.run_protocol.specs.Turn.{End}
+use Rattle.run_outcome.specs.declared.ended.Ended.{Ended}
+use Rattle.run_outcome.specs.declared.ended.Ended.TheVariants as ends
+use Rattle.run_outcome.specs.declared.ended.LimitFault.TheVariants as limits
+use Rattle.run_outcome.specs.Load.{Step, Skip, Store, skip_line, stored_line}
+use Rattle.run_outcome.specs.Left.{StopsAtBatch, StopsBehind}
+use Rattle.run_outcome.specs.Said.{SaysFrontOf}
+use Rattle.run_outcome.specs.Turn.{End}
 use Rattle.load_run.proofs.Fronts.{front-behind, front-none}
 use Rattle.load_run.specs.Loading.{LeftFrom, Stage, text_to_say, StopsFrom, moment_of, Goes, Reaches, IsConcluded, Concludes, Moves}
 

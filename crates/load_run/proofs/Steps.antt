@@ -2,16 +2,16 @@
 use Rattle.std.proofs.Common.{◌≡◌, ℕ, ◌+◌, ◌≤◌, ◌<◌, List, [], ◌∷◌, ◌++◌, length, refl, sym, ap, ◌∙◌, arith, length-append, nat_le}
 use Rattle.std.specs.Prelude.{Ok, Err, if◌then◌else◌}
 use Rattle.std.proofs.lemmas.Bool.{le-leb, lt-leb}
-use Rattle.place_map.specs.State.{Contents}
-use Rattle.place_map.specs.declared.update.Update.{Update}
-use Rattle.place_map.specs.declared.update.UpdateFault.{UpdateFault}
+use Rattle.place_values.specs.State.{Contents}
+use Rattle.place_values.specs.declared.update.Update.{Update}
+use Rattle.place_values.specs.declared.update.UpdateFault.{UpdateFault}
 use Rattle.geojson_points.specs.Feature.{Place}
 use Rattle.geojson_points.specs.Takes.{Item, Placed, Skipped}
 use Rattle.geojson_points.specs.declared.taken.SkipReason.{SkipReason}
 use Rattle.irtree_engine.specs.Updates.{state_after_all}
-use Rattle.run_protocol.specs.Turn.{continued, Done, Limit}
-use Rattle.run_protocol.specs.Load.{Closing, Step, Skip, Store, steps, load, stores, ends_at, put_of, limit_of, skip_line, stored_line}
-use Rattle.run_protocol.specs.Left.{batch_turn}
+use Rattle.run_outcome.specs.Turn.{continued, Done, Limit}
+use Rattle.run_outcome.specs.Load.{Closing, Step, Skip, Store, steps, load, stores, ends_at, put_of, limit_of, skip_line, stored_line}
+use Rattle.run_outcome.specs.Left.{batch_turn}
 
 -- an item is passed over
 pub steps-skip : (batch : ℕ) (waiting : List Update) (index : ℕ) (reason : SkipReason) (items : List Item) → steps batch waiting (Skipped index reason ∷ items) ≡ Skip index reason ∷ steps batch waiting items

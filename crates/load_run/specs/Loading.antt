@@ -4,24 +4,24 @@ use Rattle.std.specs.List.{AllByRecursion}
 use Rattle.disk_model.specs.World.{World, Image, LeavesOnly, Rose}
 use Rattle.json_spelled.specs.declared.tree.JsonFault.TheVariants as json
 use Rattle.page_face.specs.declared.head.Head.{Head}
-use Rattle.place_map.specs.State.{Contents}
-use Rattle.place_map.specs.declared.update.Update.{Update}
-use Rattle.place_map.specs.declared.update.UpdateFault.TheVariants as faults
+use Rattle.place_values.specs.State.{Contents}
+use Rattle.place_values.specs.declared.update.Update.{Update}
+use Rattle.place_values.specs.declared.update.UpdateFault.TheVariants as faults
 use Rattle.geojson_points.specs.Takes.{Item}
 use Rattle.geojson_points.specs.declared.fault.LoadFault.{LoadFault}
 use Rattle.geojson_points.specs.declared.fault.LoadFault.TheVariants as loads
-use Rattle.store_meaning.specs.Stands.{Stands}
+use Rattle.store_model.specs.Stands.{Stands}
 use Rattle.irtree_engine.specs.Holding.{HoldsState}
-use Rattle.place_map.specs.Update.{NamesText}
+use Rattle.place_values.specs.Update.{NamesText}
 use Rattle.irtree_engine.specs.Updates.{LeavesAllOrNone, StandsForOutcome, state_after_all}
-use Rattle.run_protocol.specs.Left.{LeftBySteps, StopsAtBatch}
-use Rattle.run_protocol.specs.Load.{Closing, IsTaken, Step, load, load_max, load_transcript, says_loaded, steps}
-use Rattle.run_protocol.specs.Said.{EndsAs, SaysFrontOf}
-use Rattle.run_protocol.specs.Turn.{Transcript, End, Done, Limit}
-use Rattle.run_protocol.specs.declared.ended.Ended.{Ended}
-use Rattle.run_protocol.specs.declared.ended.Ended.TheVariants as ends
-use Rattle.run_protocol.specs.declared.ended.InputFault.TheVariants as inputs
-use Rattle.run_protocol.specs.declared.ended.LimitFault.TheVariants as limits
+use Rattle.run_outcome.specs.Left.{LeftBySteps, StopsAtBatch}
+use Rattle.run_outcome.specs.Load.{Closing, IsTaken, Step, load, load_max, load_transcript, says_loaded, steps}
+use Rattle.run_outcome.specs.Said.{EndsAs, SaysFrontOf}
+use Rattle.run_outcome.specs.Turn.{Transcript, End, Done, Limit}
+use Rattle.run_outcome.specs.declared.ended.Ended.{Ended}
+use Rattle.run_outcome.specs.declared.ended.Ended.TheVariants as ends
+use Rattle.run_outcome.specs.declared.ended.InputFault.TheVariants as inputs
+use Rattle.run_outcome.specs.declared.ended.LimitFault.TheVariants as limits
 use Rattle.load_run.specs.declared.load.Load.{Load}
 
 -- the input wasn't read to its end, or is too long

@@ -1,10 +1,10 @@
-// The lines that a load says.
+// The lines that a load prints.
 ghost use Rattle.std.specs.Prelude.{◌≡◌};
-ghost use Rattle.run_protocol.specs.Load.{reason_text, skip_line, stored_line, loaded_line};
-ghost use Rattle.run_protocol.specs.Written.{Adds};
+ghost use Rattle.run_outcome.specs.Load.{reason_text, skip_line, stored_line, loaded_line};
+ghost use Rattle.run_outcome.specs.Written.{Adds};
 
 use geojson_points::SkipReason;
-use run_protocol::{write_bytes, write_number};
+use run_outcome::{write_bytes, write_number};
 use spatial_base::Memory;
 
 // The word for a reason.
@@ -21,8 +21,8 @@ fn reason_word(reason: SkipReason) -> &'static [u8]
     }
 }
 
-/// Appends the line of an item that is passed over.
-#[tactic(auto, unfolding(run_protocol::specs::Load::skip_line))]
+/// Appends the line of an item that is skipped.
+#[tactic(auto, unfolding(run_outcome::specs::Load::skip_line))]
 pub(crate) fn write_skip(index: u32, reason: SkipReason, out: &mut Vec<u8>) -> Result<(), Memory>
     ensures { Adds result out.old.items (skip_line index reason) out.new.items }
 {
@@ -34,7 +34,7 @@ pub(crate) fn write_skip(index: u32, reason: SkipReason, out: &mut Vec<u8>) -> R
 }
 
 /// Appends the line of a batch, with how many places were stored by then.
-#[tactic(auto, unfolding(run_protocol::specs::Load::stored_line))]
+#[tactic(auto, unfolding(run_outcome::specs::Load::stored_line))]
 pub(crate) fn write_stored(stored: u64, out: &mut Vec<u8>) -> Result<(), Memory>
     ensures { Adds result out.old.items (stored_line stored) out.new.items }
 {
@@ -44,7 +44,7 @@ pub(crate) fn write_stored(stored: u64, out: &mut Vec<u8>) -> Result<(), Memory>
 }
 
 /// Appends the last line.
-#[tactic(auto, unfolding(run_protocol::specs::Load::loaded_line))]
+#[tactic(auto, unfolding(run_outcome::specs::Load::loaded_line))]
 pub(crate) fn write_loaded(stored: u64, skipped: u64, out: &mut Vec<u8>) -> Result<(), Memory>
     ensures { Adds result out.old.items (loaded_line stored skipped) out.new.items }
 {

@@ -1,30 +1,31 @@
 // A load, item by item, over an engine.
 ghost use Rattle.std.specs.Prelude.{◌≡◌, ◌≤◌, ◌<◌, ◌+◌, ◌^◌, ◌∷◌, [], List, length, max, false, IsTrue, IfOk, IfErr, IsErrOf, OnOk};
 ghost use Rattle.std.specs.List.{AllByRecursion};
-ghost use Rattle.place_map.specs.State.{Contents};
-ghost use Rattle.place_map.specs.declared.update.Update.{Update};
+ghost use Rattle.place_values.specs.State.{Contents};
+ghost use Rattle.place_values.specs.declared.update.Update.{Update};
 ghost use Rattle.geojson_points.specs.Takes.{Item, Placed, Skipped, HasTextKey, item_of, place_of};
 ghost use Rattle.irtree_engine.specs.Holding.{HoldsState};
-ghost use Rattle.place_map.specs.Update.{NamesText};
-ghost use Rattle.run_protocol.specs.Causes.{GoesOn, HasEngineEnd, LacksRoomIn};
-ghost use Rattle.run_protocol.specs.Load.{Closing, Step, Store, places_among, put_of, says_loaded};
-ghost use Rattle.run_protocol.specs.Said.{SaysAll};
+ghost use Rattle.place_values.specs.Update.{NamesText};
+ghost use Rattle.run_outcome.specs.Causes.{GoesOn, HasEngineEnd, LacksRoomIn};
+ghost use Rattle.run_outcome.specs.Load.{Closing, Step, Store, places_among, put_of, says_loaded};
+ghost use Rattle.run_outcome.specs.Said.{SaysAll};
 ghost use Rattle.load_run.specs.Loading.{CanWait, Concludes, HasStored, Moves, RisesBy, StoresAll, acted_on, closing_of, stage, stage_at_start, stage_before};
 
 use crate::lines::{write_loaded, write_skip, write_stored};
 use disk_model::Station;
 use geojson_points::{Draft, SkipReason, Taken};
 use irtree_engine::Engine;
-use place_map::Update;
-use run_protocol::{Ended, LimitFault, ended_by, say_all, write_bytes};
+use place_values::Update;
+use run_outcome::{Ended, LimitFault, ended_by, say_all, write_bytes};
 use std::alloc::Global;
 use std::mem;
 use term_impacts::impacts;
 
-/// How many bytes of skips wait to be said at most, but for the last line.
+/// How many bytes of skips wait to be printed at most, except for the last line.
 const TEXT_KEPT: usize = 65_536;
 
-/// A load between two of its items: the places that wait for a full batch, how many items were acted on, and the text that waits to be said.
+/// A load between two of its items: the places that wait for a full batch, how many items were acted on, and the text that waits to be
+/// printed.
 #[derive(Drop)]
 pub struct Load {
     alloc: Global,
@@ -35,16 +36,16 @@ pub struct Load {
     text: Vec<u8>,
 }
 
-// Says what waits to be said.
+// Prints what waits to be printed.
 fn say_text<'d, T: Station>(text: &mut Vec<u8>, engine: &mut Engine<'d, T>) -> Result<(), Ended>
     requires on { engine.old.stopped ≡ false }
     ensures same_loan { engine.new.store.disk.ghost_name ≡ engine.old.store.disk.ghost_name }
     ensures none { OnOk result (text.new.items ≡ []) }
-    ensures said { IsTrue T.tells → SaysAll text.old.items (T.world engine.old.store.disk.now) (T.world engine.new.store.disk.now) result }
+    ensures said { IsTrue T.readable → SaysAll text.old.items (T.world engine.old.store.disk.now) (T.world engine.new.store.disk.now) result }
     ensures ends { IfErr result (λ end. end ≡ Ended.Sink) }
     ensures head { engine.new.store.current ≡ engine.old.store.current }
     ensures goes_on { GoesOn engine.new.stopped result }
-    ensures cause { HasEngineEnd T.tells (T.world engine.old.store.disk.now) (T.world engine.new.store.disk.now) result }
+    ensures cause { HasEngineEnd T.readable (T.world engine.old.store.disk.now) (T.world engine.new.store.disk.now) result }
 {
     match say_all(engine, &*text) {
         Ok(()) => {
@@ -61,12 +62,12 @@ fn store_batch<'d, T: Station>(engine: &mut Engine<'d, T>, updates: &[Update]) -
     requires few { length updates.now ≤ 10000 }
     requires keys { AllByRecursion NamesText updates.now }
     ensures same_loan { engine.new.store.disk.ghost_name ≡ engine.old.store.disk.ghost_name }
-    ensures told { IsTrue T.tells → (state : Contents) → HoldsState (T.world engine.old.store.disk.now) state
+    ensures told { IsTrue T.readable → (state : Contents) → HoldsState (T.world engine.old.store.disk.now) state
         → StoresAll state updates.now (T.world engine.old.store.disk.now) (T.world engine.new.store.disk.now) result }
     ensures goes_on { GoesOn engine.new.stopped result }
-    ensures cause { HasEngineEnd T.tells (T.world engine.old.store.disk.now) (T.world engine.new.store.disk.now) result }
+    ensures cause { HasEngineEnd T.readable (T.world engine.old.store.disk.now) (T.world engine.new.store.disk.now) result }
     ensures rises { RisesBy (length updates.now) 0 0 engine.old.store.current.head engine.new.store.current.head result }
-    ensures lacks { IsTrue T.tells → IsErrOf result (Ended.Limit LimitFault.NoRoom) → LacksRoomIn (length updates.now) (T.room_of engine.new.store.disk.now) (T.world engine.new.store.disk.now).seen }
+    ensures lacks { IsTrue T.readable → IsErrOf result (Ended.Limit LimitFault.NoRoom) → LacksRoomIn (length updates.now) (T.room_of engine.new.store.disk.now) (T.world engine.new.store.disk.now).seen }
 {
     match engine.apply_batch(updates) {
         Ok(()) => Ok(()),
@@ -90,7 +91,7 @@ fn update_of(alloc: Global, draft: Draft) -> Result<Update, Ended>
 }
 
 impl Load {
-    /// A load that has acted on no item, with this many places in a batch.
+    /// Makes a load that has acted on no item, with this many places in a batch.
     pub fn new(alloc: Global, batch: u32) -> Load
         requires { batch ≤ 10000 }
         ensures stage { (closing : Closing) (state : Contents) (items : List Item) → stage_before closing result state items ≡ stage_at_start closing batch state items }
@@ -108,7 +109,7 @@ impl Load {
         }
     }
 
-    /// Acts on an item: says that it is passed over, or stores its place as soon as a batch is full.
+    /// Acts on an item: prints that it is skipped, or stores its place as soon as a batch is full.
     pub(crate) fn take_item<'d, T: Station>(
         &mut self,
         engine: &mut Engine<'d, T>,
@@ -119,16 +120,16 @@ impl Load {
         requires waits { CanWait self.old }
         requires key { HasTextKey (item_of item) }
         ensures same_loan { engine.new.store.disk.ghost_name ≡ engine.old.store.disk.ghost_name }
-        ensures told { IsTrue T.tells → (closing : Closing) (state : Contents) (items : List Item) → HoldsState (T.world engine.old.store.disk.now) state
+        ensures told { IsTrue T.readable → (closing : Closing) (state : Contents) (items : List Item) → HoldsState (T.world engine.old.store.disk.now) state
             → Moves (stage_before closing self.old state (item_of item ∷ items)) (λ after. stage_before closing self.new after items)
             (T.world engine.old.store.disk.now) (T.world engine.new.store.disk.now) result }
         ensures goes_on { GoesOn engine.new.stopped result }
         ensures count { OnOk result (acted_on self.new ≡ acted_on self.old + 1) }
         ensures batch { OnOk result (self.new.batch ≡ self.old.batch) }
         ensures waits { OnOk result (CanWait self.new) }
-        ensures cause { HasEngineEnd T.tells (T.world engine.old.store.disk.now) (T.world engine.new.store.disk.now) result }
+        ensures cause { HasEngineEnd T.readable (T.world engine.old.store.disk.now) (T.world engine.new.store.disk.now) result }
         ensures rises { RisesBy (places_among (item_of item ∷ [])) (length self.old.waiting.items) (length self.new.waiting.items) engine.old.store.current.head engine.new.store.current.head result }
-        ensures lacks { IsTrue T.tells → IsErrOf result (Ended.Limit LimitFault.NoRoom) → LacksRoomIn (max self.old.batch 1) (T.room_of engine.new.store.disk.now) (T.world engine.new.store.disk.now).seen }
+        ensures lacks { IsTrue T.readable → IsErrOf result (Ended.Limit LimitFault.NoRoom) → LacksRoomIn (max self.old.batch 1) (T.room_of engine.new.store.disk.now) (T.world engine.new.store.disk.now).seen }
     {
         match item {
             Taken::Place(draft) => self.place(engine, draft),
@@ -136,7 +137,7 @@ impl Load {
         }
     }
 
-    // Says that an item is passed over, or keeps that to be said with what comes next.
+    // Prints that an item is skipped, or keeps that line to be printed with what comes next.
     fn skip<'d, T: Station>(
         &mut self,
         engine: &mut Engine<'d, T>,
@@ -147,14 +148,14 @@ impl Load {
         requires count { acted_on self.old < 2 ^ 32 }
         requires waits { CanWait self.old }
         ensures same_loan { engine.new.store.disk.ghost_name ≡ engine.old.store.disk.ghost_name }
-        ensures told { IsTrue T.tells → (closing : Closing) (state : Contents) (items : List Item) → HoldsState (T.world engine.old.store.disk.now) state
+        ensures told { IsTrue T.readable → (closing : Closing) (state : Contents) (items : List Item) → HoldsState (T.world engine.old.store.disk.now) state
             → Moves (stage_before closing self.old state (Skipped index reason ∷ items)) (λ after. stage_before closing self.new after items)
             (T.world engine.old.store.disk.now) (T.world engine.new.store.disk.now) result }
         ensures goes_on { GoesOn engine.new.stopped result }
         ensures count { OnOk result (acted_on self.new ≡ acted_on self.old + 1) }
         ensures batch { OnOk result (self.new.batch ≡ self.old.batch) }
         ensures waits { OnOk result (CanWait self.new) }
-        ensures cause { HasEngineEnd T.tells (T.world engine.old.store.disk.now) (T.world engine.new.store.disk.now) result }
+        ensures cause { HasEngineEnd T.readable (T.world engine.old.store.disk.now) (T.world engine.new.store.disk.now) result }
         ensures rises { RisesBy 0 (length self.old.waiting.items) (length self.new.waiting.items) engine.old.store.current.head engine.new.store.current.head result }
         ensures room { ¬ IsErrOf result (Ended.Limit LimitFault.NoRoom) }
     {
@@ -169,10 +170,10 @@ impl Load {
         say_text(&mut self.text, engine)
     }
 
-    /// Lets a place wait, and stores all that wait if they are a batch: in one commit, which is said once it is safe.
+    /// Lets a place wait, and stores all that wait if they are a batch: in one commit, whose line is printed once it is safe.
     ///
-    /// Fails as `Memory`; or, if a batch is stored, as `Sink`, as `Disk`, as `Limit` if the batch meets one, of which nothing is stored then,
-    /// or as `Store(Damaged)`, never if the image stands for a state.
+    /// Fails as `Memory`. If a batch is stored it fails also as `Sink` or `Disk`, as `Limit` if the batch meets one, or as
+    /// `Store(Damaged)`, never if the image holds a state. Of a batch that meets a limit nothing is stored.
     pub fn place<'d, T: Station>(
         &mut self,
         engine: &mut Engine<'d, T>,
@@ -183,16 +184,16 @@ impl Load {
         requires waits { CanWait self.old }
         requires key { HasTextKey (Placed (place_of draft)) }
         ensures same_loan { engine.new.store.disk.ghost_name ≡ engine.old.store.disk.ghost_name }
-        ensures told { IsTrue T.tells → (closing : Closing) (state : Contents) (items : List Item) → HoldsState (T.world engine.old.store.disk.now) state
+        ensures told { IsTrue T.readable → (closing : Closing) (state : Contents) (items : List Item) → HoldsState (T.world engine.old.store.disk.now) state
             → Moves (stage_before closing self.old state (Placed (place_of draft) ∷ items)) (λ after. stage_before closing self.new after items)
             (T.world engine.old.store.disk.now) (T.world engine.new.store.disk.now) result }
         ensures goes_on { GoesOn engine.new.stopped result }
         ensures count { OnOk result (acted_on self.new ≡ acted_on self.old + 1) }
         ensures batch { OnOk result (self.new.batch ≡ self.old.batch) }
         ensures waits { OnOk result (CanWait self.new) }
-        ensures cause { HasEngineEnd T.tells (T.world engine.old.store.disk.now) (T.world engine.new.store.disk.now) result }
+        ensures cause { HasEngineEnd T.readable (T.world engine.old.store.disk.now) (T.world engine.new.store.disk.now) result }
         ensures rises { RisesBy 1 (length self.old.waiting.items) (length self.new.waiting.items) engine.old.store.current.head engine.new.store.current.head result }
-        ensures lacks { IsTrue T.tells → IsErrOf result (Ended.Limit LimitFault.NoRoom) → LacksRoomIn (max self.old.batch 1) (T.room_of engine.new.store.disk.now) (T.world engine.new.store.disk.now).seen }
+        ensures lacks { IsTrue T.readable → IsErrOf result (Ended.Limit LimitFault.NoRoom) → LacksRoomIn (max self.old.batch 1) (T.room_of engine.new.store.disk.now) (T.world engine.new.store.disk.now).seen }
     {
         let update = match update_of(self.alloc, draft) {
             Ok(update) => update,
@@ -210,7 +211,7 @@ impl Load {
         self.store(engine, &updates)
     }
 
-    // Says what waits to be said, stores the places, and says so.
+    // Prints what waits to be printed, stores the places, and prints that they are stored.
     fn store<'d, T: Station>(
         &mut self,
         engine: &mut Engine<'d, T>,
@@ -221,14 +222,14 @@ impl Load {
         requires few { length updates.now ≤ 10000 }
         requires keys { AllByRecursion NamesText updates.now }
         ensures same_loan { engine.new.store.disk.ghost_name ≡ engine.old.store.disk.ghost_name }
-        ensures told { IsTrue T.tells → (closing : Closing) (state : Contents) (rest : List Step) → HoldsState (T.world engine.old.store.disk.now) state
+        ensures told { IsTrue T.readable → (closing : Closing) (state : Contents) (rest : List Step) → HoldsState (T.world engine.old.store.disk.now) state
             → Moves (stage closing self.old state (Store updates.now ∷ rest)) (λ after. stage closing self.new after rest)
             (T.world engine.old.store.disk.now) (T.world engine.new.store.disk.now) result }
         ensures goes_on { GoesOn engine.new.stopped result }
         ensures counts { OnOk result (HasStored (length updates.now) self.old self.new) }
-        ensures cause { HasEngineEnd T.tells (T.world engine.old.store.disk.now) (T.world engine.new.store.disk.now) result }
+        ensures cause { HasEngineEnd T.readable (T.world engine.old.store.disk.now) (T.world engine.new.store.disk.now) result }
         ensures rises { RisesBy (length updates.now) 0 0 engine.old.store.current.head engine.new.store.current.head result }
-        ensures lacks { IsTrue T.tells → IsErrOf result (Ended.Limit LimitFault.NoRoom) → LacksRoomIn (length updates.now) (T.room_of engine.new.store.disk.now) (T.world engine.new.store.disk.now).seen }
+        ensures lacks { IsTrue T.readable → IsErrOf result (Ended.Limit LimitFault.NoRoom) → LacksRoomIn (length updates.now) (T.room_of engine.new.store.disk.now) (T.world engine.new.store.disk.now).seen }
     {
         match say_text(&mut self.text, &mut *engine) {
             Ok(()) => {}
@@ -245,7 +246,7 @@ impl Load {
         }
     }
 
-    /// Stores the places that are left over behind the last item, if there are any, and says so.
+    /// Stores the places that are left over after the last item, if there are any, and prints that they are stored.
     ///
     /// Fails as [`place`](Load::place) does. It costs one commit or none.
     pub fn store_rest<'d, T: Station>(&mut self, engine: &mut Engine<'d, T>) -> Result<(), Ended>
@@ -253,13 +254,13 @@ impl Load {
         requires count { acted_on self.old < 2 ^ 33 }
         requires waits { CanWait self.old }
         ensures same_loan { engine.new.store.disk.ghost_name ≡ engine.old.store.disk.ghost_name }
-        ensures told { IsTrue T.tells → (closing : Closing) (state : Contents) → HoldsState (T.world engine.old.store.disk.now) state
+        ensures told { IsTrue T.readable → (closing : Closing) (state : Contents) → HoldsState (T.world engine.old.store.disk.now) state
             → Moves (stage_before closing self.old state []) (λ after. stage closing self.new after [])
             (T.world engine.old.store.disk.now) (T.world engine.new.store.disk.now) result }
         ensures goes_on { GoesOn engine.new.stopped result }
-        ensures cause { HasEngineEnd T.tells (T.world engine.old.store.disk.now) (T.world engine.new.store.disk.now) result }
+        ensures cause { HasEngineEnd T.readable (T.world engine.old.store.disk.now) (T.world engine.new.store.disk.now) result }
         ensures rises { RisesBy 0 (length self.old.waiting.items) 0 engine.old.store.current.head engine.new.store.current.head result }
-        ensures lacks { IsTrue T.tells → IsErrOf result (Ended.Limit LimitFault.NoRoom) → LacksRoomIn (max self.old.batch 1) (T.room_of engine.new.store.disk.now) (T.world engine.new.store.disk.now).seen }
+        ensures lacks { IsTrue T.readable → IsErrOf result (Ended.Limit LimitFault.NoRoom) → LacksRoomIn (max self.old.batch 1) (T.room_of engine.new.store.disk.now) (T.world engine.new.store.disk.now).seen }
     {
         let updates = mem::replace(&mut self.waiting, Vec::new(self.alloc));
         if updates.is_empty() {
@@ -268,9 +269,9 @@ impl Load {
         self.store(engine, &updates)
     }
 
-    /// Says what waits to be said, and this line behind it, which is what is said last.
+    /// Prints what waits to be printed, and this line after it, which is the last.
     ///
-    /// Fails as `Memory` or `Sink`, behind a front of that text. What the engine holds stays.
+    /// Fails as `Memory` or `Sink`, after a prefix of that text. What the engine holds stays.
     pub fn say_last<'d, T: Station>(
         &mut self,
         engine: &mut Engine<'d, T>,
@@ -278,10 +279,10 @@ impl Load {
     ) -> Result<(), Ended>
         requires on { engine.old.stopped ≡ false }
         ensures same_loan { engine.new.store.disk.ghost_name ≡ engine.old.store.disk.ghost_name }
-        ensures told { IsTrue T.tells → (closing : Closing) (state : Contents) → HoldsState (T.world engine.old.store.disk.now) state → line.now ≡ closing_of closing self.old state
+        ensures told { IsTrue T.readable → (closing : Closing) (state : Contents) → HoldsState (T.world engine.old.store.disk.now) state → line.now ≡ closing_of closing self.old state
             → Concludes (stage closing self.old state []) (T.world engine.old.store.disk.now) (T.world engine.new.store.disk.now) result }
         ensures goes_on { GoesOn engine.new.stopped result }
-        ensures cause { HasEngineEnd T.tells (T.world engine.old.store.disk.now) (T.world engine.new.store.disk.now) result }
+        ensures cause { HasEngineEnd T.readable (T.world engine.old.store.disk.now) (T.world engine.new.store.disk.now) result }
         ensures rises { RisesBy 0 0 0 engine.old.store.current.head engine.new.store.current.head result }
         ensures room { ¬ IsErrOf result (Ended.Limit LimitFault.NoRoom) }
     {
@@ -291,18 +292,18 @@ impl Load {
         }
     }
 
-    /// Stores the places that are left over, and says how many were stored and passed over.
+    /// Stores the places that are left over, and prints how many were stored and skipped.
     pub(crate) fn end<'d, T: Station>(&mut self, engine: &mut Engine<'d, T>) -> Result<(), Ended>
         requires on { engine.old.stopped ≡ false }
         requires count { acted_on self.old < 2 ^ 33 }
         requires waits { CanWait self.old }
         ensures same_loan { engine.new.store.disk.ghost_name ≡ engine.old.store.disk.ghost_name }
-        ensures told { IsTrue T.tells → (state : Contents) → HoldsState (T.world engine.old.store.disk.now) state
+        ensures told { IsTrue T.readable → (state : Contents) → HoldsState (T.world engine.old.store.disk.now) state
             → Concludes (stage_before says_loaded self.old state []) (T.world engine.old.store.disk.now) (T.world engine.new.store.disk.now) result }
         ensures goes_on { GoesOn engine.new.stopped result }
-        ensures cause { HasEngineEnd T.tells (T.world engine.old.store.disk.now) (T.world engine.new.store.disk.now) result }
+        ensures cause { HasEngineEnd T.readable (T.world engine.old.store.disk.now) (T.world engine.new.store.disk.now) result }
         ensures rises { RisesBy 0 (length self.old.waiting.items) 0 engine.old.store.current.head engine.new.store.current.head result }
-        ensures lacks { IsTrue T.tells → IsErrOf result (Ended.Limit LimitFault.NoRoom) → LacksRoomIn (max self.old.batch 1) (T.room_of engine.new.store.disk.now) (T.world engine.new.store.disk.now).seen }
+        ensures lacks { IsTrue T.readable → IsErrOf result (Ended.Limit LimitFault.NoRoom) → LacksRoomIn (max self.old.batch 1) (T.room_of engine.new.store.disk.now) (T.world engine.new.store.disk.now).seen }
     {
         match self.store_rest(&mut *engine) {
             Ok(()) => self.conclude(engine),
@@ -310,14 +311,14 @@ impl Load {
         }
     }
 
-    // Says how many places were stored and how many items were passed over.
+    // Prints how many places were stored and how many items were skipped.
     fn conclude<'d, T: Station>(&mut self, engine: &mut Engine<'d, T>) -> Result<(), Ended>
         requires on { engine.old.stopped ≡ false }
         ensures same_loan { engine.new.store.disk.ghost_name ≡ engine.old.store.disk.ghost_name }
-        ensures told { IsTrue T.tells → (state : Contents) → HoldsState (T.world engine.old.store.disk.now) state
+        ensures told { IsTrue T.readable → (state : Contents) → HoldsState (T.world engine.old.store.disk.now) state
             → Concludes (stage says_loaded self.old state []) (T.world engine.old.store.disk.now) (T.world engine.new.store.disk.now) result }
         ensures goes_on { GoesOn engine.new.stopped result }
-        ensures cause { HasEngineEnd T.tells (T.world engine.old.store.disk.now) (T.world engine.new.store.disk.now) result }
+        ensures cause { HasEngineEnd T.readable (T.world engine.old.store.disk.now) (T.world engine.new.store.disk.now) result }
         ensures rises { RisesBy 0 0 0 engine.old.store.current.head engine.new.store.current.head result }
         ensures room { ¬ IsErrOf result (Ended.Limit LimitFault.NoRoom) }
     {

@@ -9,7 +9,7 @@ use Rattle.btree_nodes.specs.Supply.{View}
 use Rattle.btree_nodes.proofs.Spans.{within-append}
 use Rattle.paged_map.specs.Drafts.{IsDrafted}
 use Rattle.paged_map.specs.Maps.{HasBecome}
-use Rattle.rtree_shape.specs.Stock.{rows_form}
+use Rattle.rtree_nodes.specs.Stock.{rows_form}
 use Rattle.node_rows.specs.Rows.{AreFilled, Bytes, IsFilled, byte_in, bytes_of, key_of, only}
 use Rattle.node_rows.specs.Turns.{Turns, with_row}
 use Rattle.node_rows.specs.Impacts.{impact_at, impact_in, raised}

@@ -4,7 +4,7 @@ use Rattle.std.proofs.lemmas.Bool.Decides.{nat_tests}
 use Rattle.node_rows.specs.Rows.{Bytes}
 use Rattle.node_rows.specs.Turns.{dropped, with_row}
 use Rattle.node_rows.proofs.Bytes.{with-here, with-elsewhere}
-use Rattle.rtree_shape.proofs.Amounts.{same_or}
+use Rattle.rtree_nodes.proofs.Amounts.{same_or}
 
 -- a word without bytes has none to be dropped
 pub dropped-idle : (node : ℕ) (b : Bytes) (w : ℕ) → ((i : ℕ) → b node w i ≡ 0) → (n i : ℕ) → dropped node b n w i ≡ b n w i

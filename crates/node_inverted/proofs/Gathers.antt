@@ -4,7 +4,7 @@ use Rattle.std.proofs.Math.Path.{fun_ext}
 use Rattle.std.proofs.lemmas.Bool.Decides.{nat_tests}
 use Rattle.page_face.specs.FreeList.{PageMap}
 use Rattle.btree_nodes.specs.Supply.{View, view}
-use Rattle.rtree_shape.proofs.Amounts.{same_or}
+use Rattle.rtree_nodes.proofs.Amounts.{same_or}
 use Rattle.node_rows.specs.Rows.{Bytes, bytes_in}
 use Rattle.node_rows.specs.Turns.{Turns, dropped, moved, with_row}
 use Rattle.node_rows.specs.Ascents.{until}

@@ -7,7 +7,7 @@ use Rattle.node_rows.specs.Rows.{Bytes}
 use Rattle.node_rows.specs.Turns.{moved, with_row}
 use Rattle.node_rows.specs.Ascents.{on_word}
 use Rattle.node_rows.proofs.Bytes.{with-here, with-elsewhere, with-another, zero-at}
-use Rattle.rtree_shape.proofs.Amounts.{same_or}
+use Rattle.rtree_nodes.proofs.Amounts.{same_or}
 
 -- the word that is done
 pub on-here : (word : ℕ) (new old : Bytes) (n w i : ℕ) → w ≡ word → on_word word new old n w i ≡ new n w i

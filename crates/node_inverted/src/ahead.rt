@@ -1,10 +1,10 @@
 //! The next row of a node, read ahead.
 ghost use Rattle.std.specs.Prelude.{◌≡◌, ◌+◌, ◌<◌, ◌≤◌, ℕ, OnOk, IsErrOf, slice_index};
 ghost use Rattle.page_face.specs.Calls.{Reads, FailsReading};
-ghost use Rattle.btree_nodes.specs.Damages.{AreTold, AsksOnly};
+ghost use Rattle.btree_nodes.specs.Damages.{AreReadable, AsksOnly};
 ghost use Rattle.btree_nodes.specs.Tree.{IsMap, map_uses};
 ghost use Rattle.paged_map.specs.Maps.{AreCounted};
-ghost use Rattle.rtree_shape.specs.Stock.{rows_form};
+ghost use Rattle.rtree_nodes.specs.Stock.{rows_form};
 ghost use Rattle.node_rows.specs.Damages.{IsRowsHarm};
 ghost use Rattle.node_rows.specs.Rows.{Bytes, bytes_in};
 ghost use Rattle.node_rows.specs.Turns.{Next};
@@ -45,7 +45,7 @@ pub(crate) fn next_word(below: &Ahead, above: &Ahead) -> Option<u64>
     lesser(word_ahead(below), word_ahead(above))
 }
 
-/// The bytes at a word, by the row that lies ahead.
+/// The bytes at a word: those of the row that lies ahead if it is that word's, and zeros otherwise.
 pub(crate) fn row_ahead(ahead: &Ahead, number: u64) -> [u8; 32]
     ensures { (i : ℕ) → slice_index result i ≡ byte_ahead number ahead.now i }
 {
@@ -65,7 +65,7 @@ fn is_due(ahead: &Ahead, number: u64) -> bool
     }
 }
 
-/// Reads the next row of a node, if the one that lies ahead is done with this word. It is read out of a copy of a leaf.
+/// Reads the next row of a node, if the one that lies ahead is that of this word or of one before it. It is read out of a copy of a leaf.
 pub(crate) fn pass<P: Pages>(
     pages: &mut P,
     tree: &Tree,
@@ -77,11 +77,11 @@ pub(crate) fn pass<P: Pages>(
     ensures ahead { (b : Bytes) (k : ℕ) → IsMap rows_form (P.pages pages.old) tree.now.rows → ((w i : ℕ) → number < w → bytes_in (P.pages pages.old) tree.now.rows node w i ≡ b node w i)
         → k ≤ number → Next b node k ahead.old → IsCopy b node copy.old → OnOk result (Next b node (number + 1) ahead.new × IsCopy b node copy.new) }
     ensures past { OnOk result (IsFrom (number + 1) ahead.new) }
-    ensures honest { IsMap rows_form (P.pages pages.old) tree.now.rows → AreCounted (map_uses rows_form (P.pages pages.old) tree.now.rows) (P.count pages.old)
-        → AreTold (P.pages pages.old) (P.count pages.old) → (damage : Damage) → ¬ IsErrOf result (PageFault.Damaged damage) }
-    ensures damaged { AreTold (P.pages pages.old) (P.count pages.old) → (damage : Damage) → IsErrOf result (PageFault.Damaged damage)
+    ensures no_false_damage { IsMap rows_form (P.pages pages.old) tree.now.rows → AreCounted (map_uses rows_form (P.pages pages.old) tree.now.rows) (P.count pages.old)
+        → AreReadable (P.pages pages.old) (P.count pages.old) → (damage : Damage) → ¬ IsErrOf result (PageFault.Damaged damage) }
+    ensures damaged { AreReadable (P.pages pages.old) (P.count pages.old) → (damage : Damage) → IsErrOf result (PageFault.Damaged damage)
         → IsRowsHarm (P.pages pages.new) (P.count pages.new) (P.first pages.new) tree.now.rows (P.asked pages.old) (P.asked pages.new) damage }
-    ensures own { AreTold (P.pages pages.old) (P.count pages.old)
+    ensures own { AreReadable (P.pages pages.old) (P.count pages.old)
         → AsksOnly (map_uses rows_form (P.pages pages.old) tree.now.rows) (P.asked pages.old) (P.asked pages.new) }
     ensures fails { FailsReading P.Pages pages.old pages.new result }
     ensures frame { Reads P.Pages pages.old pages.new }

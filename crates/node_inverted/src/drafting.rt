@@ -2,12 +2,12 @@
 ghost use Rattle.std.specs.Prelude.{◌≡◌, ◌≢◌, ◌≤◌, ℕ, List, false, IfOk, IsErrOf, IsTrue, OnOk};
 ghost use Rattle.page_face.specs.Calls.{Changes, FailsChanging, FailsReading, Reads};
 ghost use Rattle.page_face.specs.FreeList.{PageMap};
-ghost use Rattle.btree_nodes.specs.Damages.{AreTold, AskedSince, AsksOnly};
+ghost use Rattle.btree_nodes.specs.Damages.{AreReadable, AskedSince, AsksOnly};
 ghost use Rattle.btree_nodes.specs.Supply.{view};
 ghost use Rattle.btree_nodes.specs.Tree.{IsMap, map_uses};
 ghost use Rattle.paged_map.specs.Drafts.{IsLeafDraft};
 ghost use Rattle.paged_map.specs.Maps.{AreCounted, IsMapDamaged};
-ghost use Rattle.rtree_shape.specs.Stock.{rows_form};
+ghost use Rattle.rtree_nodes.specs.Stock.{rows_form};
 ghost use Rattle.node_rows.specs.Damages.{IsRowsHarm};
 ghost use Rattle.node_rows.specs.Rows.{Bytes, HasBytes, IsRows, bytes_in};
 ghost use Rattle.node_rows.specs.Turns.{Turns, with_row};
@@ -38,11 +38,11 @@ impl RowDraft {
             → IfOk result (λ some. IsTrue some → IsDrafting (P.pages pages.old) tree.now.rows (bytes_in (P.pages pages.old) tree.now.rows) self.new) }
         ensures sound { IfOk result (λ some. IsTrue some → IsLeafDraft (P.count pages.new) self.new.leaf) }
         ensures holds { IfOk result (λ some. IsTrue some → IsRowOf self.new node number) }
-        ensures honest { IsMap rows_form (P.pages pages.old) tree.now.rows → AreCounted (map_uses rows_form (P.pages pages.old) tree.now.rows) (P.count pages.old)
-            → AreTold (P.pages pages.old) (P.count pages.old) → (damage : Damage) → result ≢ Err (PageFault.Damaged damage) }
-        ensures damaged { AreTold (P.pages pages.old) (P.count pages.old) → (damage : Damage) → IsErrOf result (PageFault.Damaged damage)
+        ensures no_false_damage { IsMap rows_form (P.pages pages.old) tree.now.rows → AreCounted (map_uses rows_form (P.pages pages.old) tree.now.rows) (P.count pages.old)
+            → AreReadable (P.pages pages.old) (P.count pages.old) → (damage : Damage) → result ≢ Err (PageFault.Damaged damage) }
+        ensures damaged { AreReadable (P.pages pages.old) (P.count pages.old) → (damage : Damage) → IsErrOf result (PageFault.Damaged damage)
             → IsMapDamaged rows_form (P.pages pages.old) (P.count pages.old) tree.now.rows damage × AskedSince (P.asked pages.old) (P.asked pages.new) damage.page }
-        ensures own { AreTold (P.pages pages.old) (P.count pages.old)
+        ensures own { AreReadable (P.pages pages.old) (P.count pages.old)
             → AsksOnly (map_uses rows_form (P.pages pages.old) tree.now.rows) (P.asked pages.old) (P.asked pages.new) }
         ensures fails { FailsReading P.Pages pages.old pages.new result }
         ensures frame { Reads P.Pages pages.old pages.new }
@@ -70,7 +70,7 @@ impl RowDraft {
         }
     }
 
-    /// Sets a row that belongs to the leaf. Returns `false` if the leaf would have too many rows then, or too few; then nothing has changed.
+    /// Sets a row that belongs to the leaf. Returns `false`, and changes nothing, if the leaf would then have too many rows, or too few.
     pub fn set(&mut self, node: u32, number: u64, row: &[u8; 32]) -> bool
         ensures sound { (count : ℕ) → IsLeafDraft count self.old.leaf → IsRowOf self.old node number → IsLeafDraft count self.new.leaf }
         ensures set { (count : ℕ) (pages : PageMap) (root : ℕ) (b : Bytes) → IsLeafDraft count self.old.leaf → IsRowOf self.old node number → IsDrafting pages root b self.old
@@ -91,8 +91,8 @@ impl RowDraft {
         ensures turns { (free : List ℕ) (b : Bytes) → IsRows (view (P.pages pages.old) (P.count pages.old) (P.first pages.old) free) tree.now.rows
             → IsDrafting (P.pages pages.old) tree.now.rows b self.now
             → OnOk result (Turns (view (P.pages pages.old) (P.count pages.old) (P.first pages.old) free) tree.now.rows (P.pages pages.new) (P.count pages.new) (P.first pages.new) tree.now.rows b) }
-        ensures told { AreTold (P.pages pages.old) (P.count pages.old) → OnOk result (AreTold (P.pages pages.new) (P.count pages.new)) }
-        ensures honest { (damage : Damage) → result ≢ Err (PageFault.Damaged damage) }
+        ensures told { AreReadable (P.pages pages.old) (P.count pages.old) → OnOk result (AreReadable (P.pages pages.new) (P.count pages.new)) }
+        ensures no_false_damage { (damage : Damage) → result ≢ Err (PageFault.Damaged damage) }
         ensures asked { P.asked pages.new ≡ P.asked pages.old }
         ensures fails { FailsReading P.Pages pages.old pages.new result }
         ensures frame { Changes P.Pages pages.old pages.new }
@@ -101,7 +101,7 @@ impl RowDraft {
     }
 }
 
-// Changes a row in a draft. Returns `false` if the row belongs to another leaf, or if the leaf would have too many rows then, or too few;
+// Changes a row in a draft. Returns `false` if the row belongs to another leaf, or if the leaf would then have too many rows, or too few;
 // then nothing has changed.
 fn edit_in(draft: &mut RowDraft, node: u32, number: u64, edit: &RowEdit<'_>) -> bool
     ensures sound { (count : ℕ) → IsLeafDraft count draft.old.leaf → IsLeafDraft count draft.new.leaf }
@@ -143,7 +143,7 @@ fn edit_in_draft<'a>(draft: &mut RowDraft, node: u32, edits: &RowEdits<'a>) -> R
     left
 }
 
-// Changes one row, which is looked for.
+// Changes one row, which is looked up.
 fn edit_one<P: Pages>(
     pages: &mut P,
     tree: &mut Tree,
@@ -155,12 +155,12 @@ fn edit_one<P: Pages>(
         → OnOk result (Turns (view (P.pages pages.old) (P.count pages.old) (P.first pages.old) free) tree.old.rows (P.pages pages.new) (P.count pages.new) (P.first pages.new) tree.new.rows
         (edited node number edit.now (bytes_in (P.pages pages.old) tree.old.rows))) }
     ensures root { tree.new.root ≡ tree.old.root }
-    ensures told { AreTold (P.pages pages.old) (P.count pages.old) → OnOk result (AreTold (P.pages pages.new) (P.count pages.new)) }
-    ensures honest { (free : List ℕ) → IsRows (view (P.pages pages.old) (P.count pages.old) (P.first pages.old) free) tree.old.rows → AreTold (P.pages pages.old) (P.count pages.old)
+    ensures told { AreReadable (P.pages pages.old) (P.count pages.old) → OnOk result (AreReadable (P.pages pages.new) (P.count pages.new)) }
+    ensures no_false_damage { (free : List ℕ) → IsRows (view (P.pages pages.old) (P.count pages.old) (P.first pages.old) free) tree.old.rows → AreReadable (P.pages pages.old) (P.count pages.old)
         → (damage : Damage) → ¬ IsErrOf result (PageFault.Damaged damage) }
-    ensures damaged { AreTold (P.pages pages.old) (P.count pages.old) → (damage : Damage) → IsErrOf result (PageFault.Damaged damage)
+    ensures damaged { AreReadable (P.pages pages.old) (P.count pages.old) → (damage : Damage) → IsErrOf result (PageFault.Damaged damage)
         → IsRowsHarm (P.pages pages.new) (P.count pages.new) (P.first pages.new) tree.new.rows (P.asked pages.old) (P.asked pages.new) damage }
-    ensures more { AreTold (P.pages pages.old) (P.count pages.old) → AsksOnly (λ _. 1) (P.asked pages.old) (P.asked pages.new) }
+    ensures more { AreReadable (P.pages pages.old) (P.count pages.old) → AsksOnly (λ _. 1) (P.asked pages.old) (P.asked pages.new) }
     ensures fails { FailsChanging P.Pages pages.old pages.new result }
     ensures frame { Changes P.Pages pages.old pages.new }
 {
@@ -175,7 +175,7 @@ fn edit_one<P: Pages>(
     }
 }
 
-// Changes one row, and of those behind it those that belong to the same leaf. Returns the changes that are left.
+// Changes one row, and those after it that belong to the same leaf. Returns the changes that are left.
 fn edit_leaf<'a, P: Pages>(
     pages: &mut P,
     tree: &mut Tree,
@@ -190,12 +190,12 @@ fn edit_leaf<'a, P: Pages>(
         (edited_by node left) (edited_by node behind.now (edited node number first.now (bytes_in (P.pages pages.old) tree.old.rows)))) }
     ensures fewer { IfOk result (λ left. edits_in left ≤ edits_in behind.now) }
     ensures root { tree.new.root ≡ tree.old.root }
-    ensures told { AreTold (P.pages pages.old) (P.count pages.old) → OnOk result (AreTold (P.pages pages.new) (P.count pages.new)) }
-    ensures honest { (free : List ℕ) → IsRows (view (P.pages pages.old) (P.count pages.old) (P.first pages.old) free) tree.old.rows → AreTold (P.pages pages.old) (P.count pages.old)
+    ensures told { AreReadable (P.pages pages.old) (P.count pages.old) → OnOk result (AreReadable (P.pages pages.new) (P.count pages.new)) }
+    ensures no_false_damage { (free : List ℕ) → IsRows (view (P.pages pages.old) (P.count pages.old) (P.first pages.old) free) tree.old.rows → AreReadable (P.pages pages.old) (P.count pages.old)
         → (damage : Damage) → ¬ IsErrOf result (PageFault.Damaged damage) }
-    ensures damaged { AreTold (P.pages pages.old) (P.count pages.old) → (damage : Damage) → IsErrOf result (PageFault.Damaged damage)
+    ensures damaged { AreReadable (P.pages pages.old) (P.count pages.old) → (damage : Damage) → IsErrOf result (PageFault.Damaged damage)
         → IsRowsHarm (P.pages pages.new) (P.count pages.new) (P.first pages.new) tree.new.rows (P.asked pages.old) (P.asked pages.new) damage }
-    ensures more { AreTold (P.pages pages.old) (P.count pages.old) → AsksOnly (λ _. 1) (P.asked pages.old) (P.asked pages.new) }
+    ensures more { AreReadable (P.pages pages.old) (P.count pages.old) → AsksOnly (λ _. 1) (P.asked pages.old) (P.asked pages.new) }
     ensures fails { FailsChanging P.Pages pages.old pages.new result }
     ensures frame { Changes P.Pages pages.old pages.new }
 {
@@ -220,12 +220,12 @@ pub(crate) fn edit_rows<P: Pages>(
         → OnOk result (Turns (view (P.pages pages.old) (P.count pages.old) (P.first pages.old) free) tree.old.rows (P.pages pages.new) (P.count pages.new) (P.first pages.new) tree.new.rows
         (edited_by node edits.now (bytes_in (P.pages pages.old) tree.old.rows))) }
     ensures root { tree.new.root ≡ tree.old.root }
-    ensures told { AreTold (P.pages pages.old) (P.count pages.old) → OnOk result (AreTold (P.pages pages.new) (P.count pages.new)) }
-    ensures honest { (free : List ℕ) → IsRows (view (P.pages pages.old) (P.count pages.old) (P.first pages.old) free) tree.old.rows → AreTold (P.pages pages.old) (P.count pages.old)
+    ensures told { AreReadable (P.pages pages.old) (P.count pages.old) → OnOk result (AreReadable (P.pages pages.new) (P.count pages.new)) }
+    ensures no_false_damage { (free : List ℕ) → IsRows (view (P.pages pages.old) (P.count pages.old) (P.first pages.old) free) tree.old.rows → AreReadable (P.pages pages.old) (P.count pages.old)
         → (damage : Damage) → ¬ IsErrOf result (PageFault.Damaged damage) }
-    ensures damaged { AreTold (P.pages pages.old) (P.count pages.old) → (damage : Damage) → IsErrOf result (PageFault.Damaged damage)
+    ensures damaged { AreReadable (P.pages pages.old) (P.count pages.old) → (damage : Damage) → IsErrOf result (PageFault.Damaged damage)
         → IsRowsHarm (P.pages pages.new) (P.count pages.new) (P.first pages.new) tree.new.rows (P.asked pages.old) (P.asked pages.new) damage }
-    ensures more { AreTold (P.pages pages.old) (P.count pages.old) → AsksOnly (λ _. 1) (P.asked pages.old) (P.asked pages.new) }
+    ensures more { AreReadable (P.pages pages.old) (P.count pages.old) → AsksOnly (λ _. 1) (P.asked pages.old) (P.asked pages.new) }
     ensures fails { FailsChanging P.Pages pages.old pages.new result }
     ensures frame { Changes P.Pages pages.old pages.new }
 {
@@ -239,11 +239,11 @@ pub(crate) fn edit_rows<P: Pages>(
 
 /// Sets these rows of a node, one after another.
 ///
-/// Returns `Damaged`, `Disk`, `NoRoom`, `Stopped`, or `Memory` as [`set_row`]; on a well-formed map whose pages are told no page is
-/// damaged. After a failure `tree` and the pages are as the call left them, and are to be abandoned.
+/// Returns `Damaged`, `Disk`, `NoRoom`, `Stopped`, or `Memory` as [`set_row`]. On a well-formed map whose pages' bytes are readable no page
+/// is damaged. After a failure `tree` and the pages are as the call left them: the caller must abandon them.
 ///
-/// For rows in the order of their words that stand in L leaves of the rows' map, costs L ways down, each of which looks at one page a
-/// level, and L writes of a page; and a call of [`set_row`] for each row by which a leaf gets too many or too few.
+/// For rows in the order of their words that are stored in L leaves of the rows' map, costs L ways down and L writes of a page. Each way
+/// down looks at one page a level. Each row by which a leaf gets too many or too few costs a call of [`set_row`].
 pub(crate) fn set_rows<P: Pages>(
     pages: &mut P,
     tree: &mut Tree,
@@ -254,14 +254,14 @@ pub(crate) fn set_rows<P: Pages>(
         → OnOk result (Turns (view (P.pages pages.old) (P.count pages.old) (P.first pages.old) free) tree.old.rows (P.pages pages.new) (P.count pages.new) (P.first pages.new) tree.new.rows
         (with_rows node rows.now (bytes_in (P.pages pages.old) tree.old.rows))) }
     ensures root { tree.new.root ≡ tree.old.root }
-    ensures told { AreTold (P.pages pages.old) (P.count pages.old) → OnOk result (AreTold (P.pages pages.new) (P.count pages.new)) }
+    ensures told { AreReadable (P.pages pages.old) (P.count pages.old) → OnOk result (AreReadable (P.pages pages.new) (P.count pages.new)) }
 
     // On a well-formed map and a free list that ends at 0 no page is damaged.
-    ensures honest { (free : List ℕ) → IsRows (view (P.pages pages.old) (P.count pages.old) (P.first pages.old) free) tree.old.rows → AreTold (P.pages pages.old) (P.count pages.old)
+    ensures no_false_damage { (free : List ℕ) → IsRows (view (P.pages pages.old) (P.count pages.old) (P.first pages.old) free) tree.old.rows → AreReadable (P.pages pages.old) (P.count pages.old)
         → (damage : Damage) → ¬ IsErrOf result (PageFault.Damaged damage) }
-    ensures damaged { AreTold (P.pages pages.old) (P.count pages.old) → (damage : Damage) → IsErrOf result (PageFault.Damaged damage)
+    ensures damaged { AreReadable (P.pages pages.old) (P.count pages.old) → (damage : Damage) → IsErrOf result (PageFault.Damaged damage)
         → IsRowsHarm (P.pages pages.new) (P.count pages.new) (P.first pages.new) tree.new.rows (P.asked pages.old) (P.asked pages.new) damage }
-    ensures more { AreTold (P.pages pages.old) (P.count pages.old) → AsksOnly (λ _. 1) (P.asked pages.old) (P.asked pages.new) }
+    ensures more { AreReadable (P.pages pages.old) (P.count pages.old) → AsksOnly (λ _. 1) (P.asked pages.old) (P.asked pages.new) }
     ensures fails { FailsChanging P.Pages pages.old pages.new result }
     ensures frame { Changes P.Pages pages.old pages.new }
 {

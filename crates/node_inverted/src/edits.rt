@@ -13,9 +13,9 @@ pub(crate) struct Slot {
 /// A change of a row.
 #[derive(Drop, Clone, Copy)]
 pub(crate) enum RowEdit<'a> {
-    /// The row has these bytes then.
+    /// The row is set to these bytes.
     Set(&'a [u8; 32]),
-    /// The byte at the slot is then at least the impact.
+    /// The byte at the slot is raised to at least the impact.
     Raise(Slot, u8),
 }
 
@@ -32,7 +32,7 @@ impl<'a> RowEdits<'a> {
     ghost use Rattle.node_rows.specs.Rows.{Bytes};
     ghost use Rattle.node_inverted.specs.Drafts.{edited, edited_by, edits_in};
 
-    /// The first row's word, by its number, and its change, and the changes behind it, or `None` if there is none.
+    /// The first row's word, by its number, its change, and the changes after it; or `None` if there is none.
     pub fn split_first(&self) -> Option<(u64, RowEdit<'a>, RowEdits<'a>)>
         ensures some { IfSome result (λ parts. (node : ℕ) (b : Bytes) → edited_by node self.now b ≡ edited_by node parts.2 (edited node parts.0 parts.1 b)) }
         ensures fewer { IfSome result (λ parts. edits_in parts.2 < edits_in self.now) }

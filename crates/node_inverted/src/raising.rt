@@ -1,10 +1,10 @@
-//! Bytes that rise as an entry comes in below a slot.
+//! Bytes that rise when an entry comes in below a slot.
 ghost use Rattle.std.specs.Prelude.{◌≡◌, ◌<◌, ℕ, List, IfSome, OnOk, OnErr, IsErrOf};
 ghost use Rattle.page_face.specs.Calls.{Changes, FailsChanging};
-ghost use Rattle.btree_nodes.specs.Damages.{AreTold, AsksOnly};
+ghost use Rattle.btree_nodes.specs.Damages.{AreReadable, AsksOnly};
 ghost use Rattle.btree_nodes.specs.Supply.{view};
 ghost use Rattle.paged_map.specs.Spots.{IsSpot};
-ghost use Rattle.rtree_shape.specs.Stock.{rows_form};
+ghost use Rattle.rtree_nodes.specs.Stock.{rows_form};
 ghost use Rattle.node_rows.specs.Damages.{IsRowsHarm};
 ghost use Rattle.node_rows.specs.Rows.{HasBytes, IsRows, bytes_in, key_of};
 ghost use Rattle.node_rows.specs.Turns.{Turns};
@@ -16,7 +16,7 @@ use node_rows::{Tree, clear_row, find_row, put_byte, set_found};
 use page_face::{Damage, PageFault, Pages};
 use paged_map::RowSpot;
 
-// Sets one byte of a row that was read. Writes nothing if it is so already. A row that was looked for is replaced at its spot.
+// Sets one byte of a row that was read. Writes nothing if it has that value already. A row that was looked up is replaced at its spot.
 pub(crate) fn set_byte<P: Pages>(
     pages: &mut P,
     tree: &mut Tree,
@@ -35,12 +35,12 @@ pub(crate) fn set_byte<P: Pages>(
         (with_byte node number slot byte (bytes_in (P.pages pages.old) tree.old.rows))) }
     ensures root { tree.new.root ≡ tree.old.root }
     ensures kept { OnErr result (tree.new ≡ tree.old) }
-    ensures told { AreTold (P.pages pages.old) (P.count pages.old) → OnOk result (AreTold (P.pages pages.new) (P.count pages.new)) }
-    ensures honest { (free : List ℕ) → IsRows (view (P.pages pages.old) (P.count pages.old) (P.first pages.old) free) tree.old.rows
+    ensures told { AreReadable (P.pages pages.old) (P.count pages.old) → OnOk result (AreReadable (P.pages pages.new) (P.count pages.new)) }
+    ensures no_false_damage { (free : List ℕ) → IsRows (view (P.pages pages.old) (P.count pages.old) (P.first pages.old) free) tree.old.rows
         → (damage : Damage) → ¬ IsErrOf result (PageFault.Damaged damage) }
-    ensures damaged { AreTold (P.pages pages.old) (P.count pages.old) → (damage : Damage) → IsErrOf result (PageFault.Damaged damage)
+    ensures damaged { AreReadable (P.pages pages.old) (P.count pages.old) → (damage : Damage) → IsErrOf result (PageFault.Damaged damage)
         → IsRowsHarm (P.pages pages.new) (P.count pages.new) (P.first pages.new) tree.new.rows (P.asked pages.old) (P.asked pages.new) damage }
-    ensures more { AreTold (P.pages pages.old) (P.count pages.old) → AsksOnly (λ _. 1) (P.asked pages.old) (P.asked pages.new) }
+    ensures more { AreReadable (P.pages pages.old) (P.count pages.old) → AsksOnly (λ _. 1) (P.asked pages.old) (P.asked pages.new) }
     ensures fails { FailsChanging P.Pages pages.old pages.new result }
     ensures frame { Changes P.Pages pages.old pages.new }
 {
@@ -54,12 +54,12 @@ pub(crate) fn set_byte<P: Pages>(
 
 /// Sets the byte of a word at a slot of a node.
 ///
-/// Returns `Damaged`, `Disk`, `NoRoom`, `Stopped`, or `Memory` as [`row`](crate::row()) and [`set_row`](crate::set_row) do; on a
-/// well-formed map whose pages are told no page is damaged. After a failure `tree` is as before, and pages may have changed: they
-/// are to be abandoned.
+/// Returns `Damaged`, `Disk`, `NoRoom`, `Stopped`, or `Memory` as [`row`](crate::row()) and [`set_row`](crate::set_row) do. On a
+/// well-formed map whose pages' bytes are readable no page is damaged. After a failure `tree` is as before, and pages may have changed:
+/// the caller must abandon them.
 ///
-/// Looks at one page a level of the rows' map. If the byte differs, writes the leaf alone where the row is there and some byte of it
-/// stays, and else costs a call of `set_row`.
+/// Looks at one page a level of the rows' map. If the byte differs, writes only the leaf if the row is there and some byte of it
+/// stays, and otherwise costs a call of `set_row`.
 pub fn set_impact<P: Pages>(
     pages: &mut P,
     tree: &mut Tree,
@@ -74,14 +74,14 @@ pub fn set_impact<P: Pages>(
         (with_byte node number slot impact (bytes_in (P.pages pages.old) tree.old.rows))) }
     ensures root { tree.new.root ≡ tree.old.root }
     ensures kept { OnErr result (tree.new ≡ tree.old) }
-    ensures told { AreTold (P.pages pages.old) (P.count pages.old) → OnOk result (AreTold (P.pages pages.new) (P.count pages.new)) }
+    ensures told { AreReadable (P.pages pages.old) (P.count pages.old) → OnOk result (AreReadable (P.pages pages.new) (P.count pages.new)) }
 
     // On a well-formed map and a free list that ends at 0 no page is damaged.
-    ensures honest { (free : List ℕ) → IsRows (view (P.pages pages.old) (P.count pages.old) (P.first pages.old) free) tree.old.rows → AreTold (P.pages pages.old) (P.count pages.old)
+    ensures no_false_damage { (free : List ℕ) → IsRows (view (P.pages pages.old) (P.count pages.old) (P.first pages.old) free) tree.old.rows → AreReadable (P.pages pages.old) (P.count pages.old)
         → (damage : Damage) → ¬ IsErrOf result (PageFault.Damaged damage) }
-    ensures damaged { AreTold (P.pages pages.old) (P.count pages.old) → (damage : Damage) → IsErrOf result (PageFault.Damaged damage)
+    ensures damaged { AreReadable (P.pages pages.old) (P.count pages.old) → (damage : Damage) → IsErrOf result (PageFault.Damaged damage)
         → IsRowsHarm (P.pages pages.new) (P.count pages.new) (P.first pages.new) tree.new.rows (P.asked pages.old) (P.asked pages.new) damage }
-    ensures more { AreTold (P.pages pages.old) (P.count pages.old) → AsksOnly (λ _. 1) (P.asked pages.old) (P.asked pages.new) }
+    ensures more { AreReadable (P.pages pages.old) (P.count pages.old) → AsksOnly (λ _. 1) (P.asked pages.old) (P.asked pages.new) }
     ensures fails { FailsChanging P.Pages pages.old pages.new result }
     ensures frame { Changes P.Pages pages.old pages.new }
 {
@@ -93,11 +93,12 @@ pub fn set_impact<P: Pages>(
 /// Raises a slot of a node by the words of an entry that comes in below it: each word's byte at the slot is then at least the
 /// word's impact. `pairs` are the entry's words, each by its number, with their impacts.
 ///
-/// Returns `Damaged`, `Disk`, `NoRoom`, `Stopped`, or `Memory` as [`row`](crate::row()) and [`set_row`](crate::set_row) do; on a well-formed map whose pages
-/// are told no page is damaged. After a failure `tree` and the pages are as the call left them, and are to be abandoned.
+/// Returns `Damaged`, `Disk`, `NoRoom`, `Stopped`, or `Memory` as [`row`](crate::row()) and [`set_row`](crate::set_row) do. On a
+/// well-formed map whose pages' bytes are readable no page is damaged. After a failure `tree` and the pages are as the call left them:
+/// the caller must abandon them.
 ///
-/// For pairs in the order of their words' numbers whose rows stand in L leaves of the rows' map, costs L ways down, each of which looks at
-/// one page a level, and L writes of a page; and a call of [`set_row`](crate::set_row) for each row for which a leaf has no room.
+/// For pairs in the order of their words' numbers whose rows are stored in L leaves of the rows' map, costs L ways down and L writes of a
+/// page. Each way down looks at one page a level. Each row for which a leaf has no room costs a call of [`set_row`](crate::set_row).
 pub fn raise<P: Pages>(
     pages: &mut P,
     tree: &mut Tree,
@@ -110,14 +111,14 @@ pub fn raise<P: Pages>(
         → OnOk result (Turns (view (P.pages pages.old) (P.count pages.old) (P.first pages.old) free) tree.old.rows (P.pages pages.new) (P.count pages.new) (P.first pages.new) tree.new.rows
         (raised node slot (impact_in pairs.now) (bytes_in (P.pages pages.old) tree.old.rows))) }
     ensures root { tree.new.root ≡ tree.old.root }
-    ensures told { AreTold (P.pages pages.old) (P.count pages.old) → OnOk result (AreTold (P.pages pages.new) (P.count pages.new)) }
+    ensures told { AreReadable (P.pages pages.old) (P.count pages.old) → OnOk result (AreReadable (P.pages pages.new) (P.count pages.new)) }
 
     // On a well-formed map and a free list that ends at 0 no page is damaged.
-    ensures honest { (free : List ℕ) → IsRows (view (P.pages pages.old) (P.count pages.old) (P.first pages.old) free) tree.old.rows → AreTold (P.pages pages.old) (P.count pages.old)
+    ensures no_false_damage { (free : List ℕ) → IsRows (view (P.pages pages.old) (P.count pages.old) (P.first pages.old) free) tree.old.rows → AreReadable (P.pages pages.old) (P.count pages.old)
         → (damage : Damage) → ¬ IsErrOf result (PageFault.Damaged damage) }
-    ensures damaged { AreTold (P.pages pages.old) (P.count pages.old) → (damage : Damage) → IsErrOf result (PageFault.Damaged damage)
+    ensures damaged { AreReadable (P.pages pages.old) (P.count pages.old) → (damage : Damage) → IsErrOf result (PageFault.Damaged damage)
         → IsRowsHarm (P.pages pages.new) (P.count pages.new) (P.first pages.new) tree.new.rows (P.asked pages.old) (P.asked pages.new) damage }
-    ensures more { AreTold (P.pages pages.old) (P.count pages.old) → AsksOnly (λ _. 1) (P.asked pages.old) (P.asked pages.new) }
+    ensures more { AreReadable (P.pages pages.old) (P.count pages.old) → AsksOnly (λ _. 1) (P.asked pages.old) (P.asked pages.new) }
     ensures fails { FailsChanging P.Pages pages.old pages.new result }
     ensures frame { Changes P.Pages pages.old pages.new }
 {

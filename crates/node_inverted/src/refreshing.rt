@@ -1,11 +1,11 @@
 //! A slot whose child has changed.
 ghost use Rattle.std.specs.Prelude.{◌≡◌, ◌+◌, ◌<◌, ◌++◌, ◌∷◌, [], ℕ, List, Some, IfErr, OnOk, IsErrOf};
 ghost use Rattle.page_face.specs.Calls.{Changes, FailsChanging, FailsReading, Reads};
-ghost use Rattle.btree_nodes.specs.Damages.{AreTold, AsksOnly};
+ghost use Rattle.btree_nodes.specs.Damages.{AreReadable, AsksOnly};
 ghost use Rattle.btree_nodes.specs.Supply.{View, view};
 ghost use Rattle.btree_nodes.specs.Tree.{IsMap, map_uses};
 ghost use Rattle.paged_map.specs.Maps.{AreCounted};
-ghost use Rattle.rtree_shape.specs.Stock.{rows_form};
+ghost use Rattle.rtree_nodes.specs.Stock.{rows_form};
 ghost use Rattle.node_rows.specs.Damages.{IsRowsHarm};
 ghost use Rattle.node_rows.specs.Rows.{Bytes, HasBytes, IsRows, bytes_in};
 ghost use Rattle.node_rows.specs.Turns.{Turns};
@@ -43,13 +43,13 @@ fn refresh_word<P: Pages>(
         → OnOk result (IsRefreshing before root (P.pages pages.new) (P.count pages.new) (P.first pages.new) tree.new.rows node slot child b below.new above.new × IsCopy b child below_copy.new × IsCopy b node above_copy.new) }
     ensures past { OnOk result (IsFrom (number + 1) below.new × IsFrom (number + 1) above.new) }
     ensures root { tree.new.root ≡ tree.old.root }
-    ensures told { AreTold (P.pages pages.old) (P.count pages.old) → OnOk result (AreTold (P.pages pages.new) (P.count pages.new)) }
-    ensures honest { (before : View) (root : ℕ) (b : Bytes) → (node ≡ child → ⊥) → lesser_of (word_of below.old) (word_of above.old) ≡ Some number
+    ensures told { AreReadable (P.pages pages.old) (P.count pages.old) → OnOk result (AreReadable (P.pages pages.new) (P.count pages.new)) }
+    ensures no_false_damage { (before : View) (root : ℕ) (b : Bytes) → (node ≡ child → ⊥) → lesser_of (word_of below.old) (word_of above.old) ≡ Some number
         → IsRefreshing before root (P.pages pages.old) (P.count pages.old) (P.first pages.old) tree.old.rows node slot child b below.old above.old
-        → AreTold (P.pages pages.old) (P.count pages.old) → (damage : Damage) → ¬ IsErrOf result (PageFault.Damaged damage) }
-    ensures damaged { AreTold (P.pages pages.old) (P.count pages.old) → (damage : Damage) → IsErrOf result (PageFault.Damaged damage)
+        → AreReadable (P.pages pages.old) (P.count pages.old) → (damage : Damage) → ¬ IsErrOf result (PageFault.Damaged damage) }
+    ensures damaged { AreReadable (P.pages pages.old) (P.count pages.old) → (damage : Damage) → IsErrOf result (PageFault.Damaged damage)
         → IsRowsHarm (P.pages pages.new) (P.count pages.new) (P.first pages.new) tree.new.rows (P.asked pages.old) (P.asked pages.new) damage }
-    ensures more { AreTold (P.pages pages.old) (P.count pages.old) → AsksOnly (λ _. 1) (P.asked pages.old) (P.asked pages.new) }
+    ensures more { AreReadable (P.pages pages.old) (P.count pages.old) → AsksOnly (λ _. 1) (P.asked pages.old) (P.asked pages.new) }
     ensures fails { FailsChanging P.Pages pages.old pages.new result }
     ensures frame { Changes P.Pages pages.old pages.new }
 {
@@ -63,12 +63,12 @@ fn refresh_word<P: Pages>(
 
 /// Makes the byte of each word at a slot of a node the greatest of the words' bytes in the slot's child. All other bytes stay.
 ///
-/// Returns `Damaged`, `Disk`, `NoRoom`, `Stopped`, or `Memory` as [`next_row`](crate::next_row) and [`set_row`](crate::set_row) do; on a
-/// well-formed map whose pages are told no page is damaged. After a failure `tree` and the pages are as the call left
-/// them, and are to be abandoned.
+/// Returns `Damaged`, `Disk`, `NoRoom`, `Stopped`, or `Memory` as [`next_row`](crate::next_row) and [`set_row`](crate::set_row) do. On a
+/// well-formed map whose pages' bytes are readable no page is damaged. After a failure `tree` and the pages are as the call left them:
+/// the caller must abandon them.
 ///
-/// Goes through the rows of the child and of the node once, side by side: if they stand in L leaves of the rows' map, costs at most
-/// L + 8 ways down, each of which looks at one page a level, and a call of `set_row` for each byte that differs.
+/// Goes through the rows of the child and of the node once, side by side. If they are stored in L leaves of the rows' map, costs at most
+/// L + 8 ways down, each of one page a level. Each byte that differs costs a call of `set_row`.
 pub fn refresh<P: Pages>(
     pages: &mut P,
     tree: &mut Tree,
@@ -81,14 +81,14 @@ pub fn refresh<P: Pages>(
         → OnOk result (Turns (view (P.pages pages.old) (P.count pages.old) (P.first pages.old) free) tree.old.rows (P.pages pages.new) (P.count pages.new) (P.first pages.new) tree.new.rows
         (refreshed node slot child (bytes_in (P.pages pages.old) tree.old.rows))) }
     ensures root { tree.new.root ≡ tree.old.root }
-    ensures told { AreTold (P.pages pages.old) (P.count pages.old) → OnOk result (AreTold (P.pages pages.new) (P.count pages.new)) }
+    ensures told { AreReadable (P.pages pages.old) (P.count pages.old) → OnOk result (AreReadable (P.pages pages.new) (P.count pages.new)) }
 
     // On a well-formed map and a free list that ends at 0 no page is damaged.
-    ensures honest { (free : List ℕ) → IsRows (view (P.pages pages.old) (P.count pages.old) (P.first pages.old) free) tree.old.rows → (node ≡ child → ⊥)
-        → AreTold (P.pages pages.old) (P.count pages.old) → (damage : Damage) → ¬ IsErrOf result (PageFault.Damaged damage) }
-    ensures damaged { AreTold (P.pages pages.old) (P.count pages.old) → (damage : Damage) → IsErrOf result (PageFault.Damaged damage)
+    ensures no_false_damage { (free : List ℕ) → IsRows (view (P.pages pages.old) (P.count pages.old) (P.first pages.old) free) tree.old.rows → (node ≡ child → ⊥)
+        → AreReadable (P.pages pages.old) (P.count pages.old) → (damage : Damage) → ¬ IsErrOf result (PageFault.Damaged damage) }
+    ensures damaged { AreReadable (P.pages pages.old) (P.count pages.old) → (damage : Damage) → IsErrOf result (PageFault.Damaged damage)
         → IsRowsHarm (P.pages pages.new) (P.count pages.new) (P.first pages.new) tree.new.rows (P.asked pages.old) (P.asked pages.new) damage }
-    ensures more { AreTold (P.pages pages.old) (P.count pages.old) → AsksOnly (λ _. 1) (P.asked pages.old) (P.asked pages.new) }
+    ensures more { AreReadable (P.pages pages.old) (P.count pages.old) → AsksOnly (λ _. 1) (P.asked pages.old) (P.asked pages.new) }
     ensures fails { FailsChanging P.Pages pages.old pages.new result }
     ensures frame { Changes P.Pages pages.old pages.new }
 {
@@ -113,7 +113,7 @@ pub fn refresh<P: Pages>(
     Ok(())
 }
 
-// Adds a row with one byte set to some rows of a node. A row whose byte is so already isn't added.
+// Adds a row with one byte set to some rows of a node. A row whose byte has that value already isn't added.
 fn renew_row(
     slot: usize,
     number: u64,
@@ -151,11 +151,11 @@ fn renew_next<P: Pages>(
     ensures renewing { (before : View) (root impact : ℕ) (b : Bytes) (words : List (ℕ × ℕ)) → (node ≡ child → ⊥)
         → IsRenewing before root (P.pages pages.old) (P.count pages.old) (P.first pages.old) tree.now.rows node slot child b words rows.old.items below.old above.old
         → OnOk result (IsRenewing before root (P.pages pages.new) (P.count pages.new) (P.first pages.new) tree.now.rows node slot child b (words ++ (number, impact) ∷ []) rows.new.items below.new above.new) }
-    ensures honest { IsMap rows_form (P.pages pages.old) tree.now.rows → AreCounted (map_uses rows_form (P.pages pages.old) tree.now.rows) (P.count pages.old)
-        → AreTold (P.pages pages.old) (P.count pages.old) → (damage : Damage) → ¬ IsErrOf result (PageFault.Damaged damage) }
-    ensures damaged { AreTold (P.pages pages.old) (P.count pages.old) → (damage : Damage) → IsErrOf result (PageFault.Damaged damage)
+    ensures no_false_damage { IsMap rows_form (P.pages pages.old) tree.now.rows → AreCounted (map_uses rows_form (P.pages pages.old) tree.now.rows) (P.count pages.old)
+        → AreReadable (P.pages pages.old) (P.count pages.old) → (damage : Damage) → ¬ IsErrOf result (PageFault.Damaged damage) }
+    ensures damaged { AreReadable (P.pages pages.old) (P.count pages.old) → (damage : Damage) → IsErrOf result (PageFault.Damaged damage)
         → IsRowsHarm (P.pages pages.new) (P.count pages.new) (P.first pages.new) tree.now.rows (P.asked pages.old) (P.asked pages.new) damage }
-    ensures own { AreTold (P.pages pages.old) (P.count pages.old)
+    ensures own { AreReadable (P.pages pages.old) (P.count pages.old)
         → AsksOnly (map_uses rows_form (P.pages pages.old) tree.now.rows) (P.asked pages.old) (P.asked pages.new) }
     ensures fails { FailsReading P.Pages pages.old pages.new result }
     ensures frame { Reads P.Pages pages.old pages.new }
@@ -168,7 +168,7 @@ fn renew_next<P: Pages>(
     renew_row(slot, number, &high, byte, rows)
 }
 
-// Refreshes the slot at one word. Rows are set once there are some; then the copy of the node's leaf is done with.
+// Refreshes the slot at one word. Rows are set several at once; then the copy of the node's leaf is no longer used.
 fn renew_one<P: Pages>(
     pages: &mut P,
     tree: &mut Tree,
@@ -185,12 +185,12 @@ fn renew_one<P: Pages>(
         → IsRenewing before root (P.pages pages.old) (P.count pages.old) (P.first pages.old) tree.old.rows node slot child b words rows.old.items below.old above.old
         → OnOk result (IsRenewing before root (P.pages pages.new) (P.count pages.new) (P.first pages.new) tree.new.rows node slot child b (words ++ (number, impact) ∷ []) rows.new.items below.new above.new) }
     ensures root { tree.new.root ≡ tree.old.root }
-    ensures told { AreTold (P.pages pages.old) (P.count pages.old) → OnOk result (AreTold (P.pages pages.new) (P.count pages.new)) }
-    ensures honest { (free : List ℕ) → IsRows (view (P.pages pages.old) (P.count pages.old) (P.first pages.old) free) tree.old.rows → AreTold (P.pages pages.old) (P.count pages.old)
+    ensures told { AreReadable (P.pages pages.old) (P.count pages.old) → OnOk result (AreReadable (P.pages pages.new) (P.count pages.new)) }
+    ensures no_false_damage { (free : List ℕ) → IsRows (view (P.pages pages.old) (P.count pages.old) (P.first pages.old) free) tree.old.rows → AreReadable (P.pages pages.old) (P.count pages.old)
         → (damage : Damage) → ¬ IsErrOf result (PageFault.Damaged damage) }
-    ensures damaged { AreTold (P.pages pages.old) (P.count pages.old) → (damage : Damage) → IsErrOf result (PageFault.Damaged damage)
+    ensures damaged { AreReadable (P.pages pages.old) (P.count pages.old) → (damage : Damage) → IsErrOf result (PageFault.Damaged damage)
         → IsRowsHarm (P.pages pages.new) (P.count pages.new) (P.first pages.new) tree.new.rows (P.asked pages.old) (P.asked pages.new) damage }
-    ensures more { AreTold (P.pages pages.old) (P.count pages.old) → AsksOnly (λ _. 1) (P.asked pages.old) (P.asked pages.new) }
+    ensures more { AreReadable (P.pages pages.old) (P.count pages.old) → AsksOnly (λ _. 1) (P.asked pages.old) (P.asked pages.new) }
     ensures fails { FailsChanging P.Pages pages.old pages.new result }
     ensures frame { Changes P.Pages pages.old pages.new }
 {
@@ -204,17 +204,18 @@ fn renew_one<P: Pages>(
     Ok(())
 }
 
-/// Makes the bytes of these words at a slot of a node the greatest of their bytes in the slot's child. All other bytes stay. It is
-/// [`refresh`] for a child of which no other word has changed, and goes through no other row; of `words` the numbers count alone.
+/// Makes the bytes of these words at a slot of a node the greatest of their bytes in the slot's child. All other bytes stay.
 ///
-/// Returns `Damaged`, `Disk`, `NoRoom`, `Stopped`, or `Memory` as [`row`](crate::row()) and [`set_row`](crate::set_row) do; on a well-formed
-/// map whose pages are told no page is damaged. After a failure `tree` and the pages are as the call left them, and are to be
-/// abandoned.
+/// It is [`refresh`] for a child of which no other word has changed, and goes through no other row. Only the numbers of `words` matter.
 ///
-/// For words in the order of their numbers whose rows stand in L leaves of the rows' map at the child and in M at the node, goes down
-/// for the rows of either as [`words_of`](crate::words_of) does. The node's rows whose byte differs are set up to 64 at once, leaf by
-/// leaf: for each leaf one way down and one write, and a call of `set_row` for each row by which a leaf gets too many or too few.
-/// After each 64 rows the node's leaf is read anew.
+/// Returns `Damaged`, `Disk`, `NoRoom`, `Stopped`, or `Memory` as [`row`](crate::row()) and [`set_row`](crate::set_row) do. On a
+/// well-formed map whose pages' bytes are readable no page is damaged. After a failure `tree` and the pages are as the call left them:
+/// the caller must abandon them.
+///
+/// Let the words' rows be stored in L leaves of the rows' map at the child and in M at the node. For words in the order of their numbers,
+/// it goes down for the rows of either as [`words_of`](crate::words_of) does. The node's rows whose byte differs are set up to 64 at
+/// once, leaf by leaf, with one way down and one write for each leaf. Each row by which a leaf gets too many or too few costs a call of
+/// `set_row`. After each 64 rows the node's leaf is read anew.
 pub fn renew<P: Pages>(
     alloc: Global,
     pages: &mut P,
@@ -229,14 +230,14 @@ pub fn renew<P: Pages>(
         → OnOk result (Turns (view (P.pages pages.old) (P.count pages.old) (P.first pages.old) free) tree.old.rows (P.pages pages.new) (P.count pages.new) (P.first pages.new) tree.new.rows
         (on_words words.now (refreshed node slot child (bytes_in (P.pages pages.old) tree.old.rows)) (bytes_in (P.pages pages.old) tree.old.rows))) }
     ensures root { tree.new.root ≡ tree.old.root }
-    ensures told { AreTold (P.pages pages.old) (P.count pages.old) → OnOk result (AreTold (P.pages pages.new) (P.count pages.new)) }
+    ensures told { AreReadable (P.pages pages.old) (P.count pages.old) → OnOk result (AreReadable (P.pages pages.new) (P.count pages.new)) }
 
     // On a well-formed map and a free list that ends at 0 no page is damaged.
-    ensures honest { (free : List ℕ) → IsRows (view (P.pages pages.old) (P.count pages.old) (P.first pages.old) free) tree.old.rows → (node ≡ child → ⊥)
-        → AreTold (P.pages pages.old) (P.count pages.old) → (damage : Damage) → ¬ IsErrOf result (PageFault.Damaged damage) }
-    ensures damaged { AreTold (P.pages pages.old) (P.count pages.old) → (damage : Damage) → IsErrOf result (PageFault.Damaged damage)
+    ensures no_false_damage { (free : List ℕ) → IsRows (view (P.pages pages.old) (P.count pages.old) (P.first pages.old) free) tree.old.rows → (node ≡ child → ⊥)
+        → AreReadable (P.pages pages.old) (P.count pages.old) → (damage : Damage) → ¬ IsErrOf result (PageFault.Damaged damage) }
+    ensures damaged { AreReadable (P.pages pages.old) (P.count pages.old) → (damage : Damage) → IsErrOf result (PageFault.Damaged damage)
         → IsRowsHarm (P.pages pages.new) (P.count pages.new) (P.first pages.new) tree.new.rows (P.asked pages.old) (P.asked pages.new) damage }
-    ensures more { AreTold (P.pages pages.old) (P.count pages.old) → AsksOnly (λ _. 1) (P.asked pages.old) (P.asked pages.new) }
+    ensures more { AreReadable (P.pages pages.old) (P.count pages.old) → AsksOnly (λ _. 1) (P.asked pages.old) (P.asked pages.new) }
     ensures fails { FailsChanging P.Pages pages.old pages.new result }
     ensures frame { Changes P.Pages pages.old pages.new }
 {

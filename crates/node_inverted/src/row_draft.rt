@@ -1,6 +1,6 @@
 //! The draft of a leaf of the rows' map.
 ghost use Rattle.std.specs.Prelude.{◌≡◌};
-ghost use Rattle.rtree_shape.specs.Stock.{rows_form};
+ghost use Rattle.rtree_nodes.specs.Stock.{rows_form};
 
 use node_rows::row_form;
 use paged_map::LeafDraft;

@@ -4,7 +4,7 @@ use Rattle.std.proofs.lemmas.Bool.Decides.{nat_tests}
 use Rattle.node_rows.specs.Rows.{Bytes}
 use Rattle.node_rows.specs.Ascents.{until}
 use Rattle.node_rows.proofs.Lookups.{order}
-use Rattle.rtree_shape.proofs.Heights.{under_or}
+use Rattle.rtree_nodes.proofs.Heights.{under_or}
 
 -- a word that is done
 pub until-done : (k : ℕ) (new old : Bytes) (n w i : ℕ) → w < k → until k new old n w i ≡ new n w i

@@ -6,8 +6,8 @@ use Rattle.btree_nodes.specs.Rows.{Row, IsWithin, lookup, first_from, put, witho
 use Rattle.node_rows.specs.Rows.{Bytes, key_of, byte_in, bytes_of, IsFilled, AreFilled}
 use Rattle.node_rows.specs.Turns.{with_row, IsNext}
 use Rattle.node_rows.proofs.Lookups.{lookup-put, lookup-put_other, lookup-without, lookup-without_other, first-none, first-some, IsFirst}
-use Rattle.rtree_shape.proofs.Amounts.{same_or}
-use Rattle.rtree_shape.proofs.Heights.{under_or}
+use Rattle.rtree_nodes.proofs.Amounts.{same_or}
+use Rattle.rtree_nodes.proofs.Heights.{under_or}
 
 pub word-same : (n n' w w' : ℕ) → w < 2 ^ 64 → w' < 2 ^ 64 → key_of n w ≡ key_of n' w' → w ≡ w'
 unfolding key_of

@@ -8,11 +8,11 @@ use Rattle.btree_nodes.specs.Nodes.{IsLeaf, rows_in}
 use Rattle.btree_nodes.specs.Rows.{Row, IsWithin, lookup, first_from}
 use Rattle.btree_nodes.specs.Tree.{map_rows}
 use Rattle.btree_nodes.proofs.Checks.{upper-some}
-use Rattle.btree_search.specs.Leaves.{IsLeafOf}
+use Rattle.btree_nodes.specs.Leaves.{IsLeafOf}
 use Rattle.paged_map.proofs.Leaves.{lookup-leaf}
 use Rattle.paged_map.proofs.Maps.{map-none}
-use Rattle.rtree_shape.specs.Stock.{rows_form}
-use Rattle.rtree_shape.proofs.Heights.{under_or}
+use Rattle.rtree_nodes.specs.Stock.{rows_form}
+use Rattle.rtree_nodes.proofs.Heights.{under_or}
 use Rattle.node_rows.specs.Rows.{Bytes, byte_in, bytes_in, bytes_of, key_of}
 use Rattle.node_rows.specs.Turns.{IsNext, Next}
 use Rattle.node_rows.specs.Copies.{HasRows, IsBefore}

@@ -2,8 +2,8 @@
 use Rattle.std.proofs.Common.{◌≡◌, ℕ, zero, suc, ◌+◌, ◌-◌, ◌<◌, ◌≤◌, ◌⊎◌, inl, inr, min, arith, refl, sym, ap, ◌∙◌, List, [], ◌∷◌, if◌then◌else◌, true, false, Bool, nat_lt, ◌&&◌, slice_index_or, slice_set, length, rules}
 use Rattle.std.proofs.lemmas.Bool.Decides.{nat_tests}
 use Rattle.page_face.specs.FreeList.{are_zero}
-use Rattle.rtree_shape.specs.Slots.{sum_to}
-use Rattle.rtree_shape.proofs.Looses.{sum_none}
+use Rattle.rtree_nodes.specs.Slots.{sum_to}
+use Rattle.rtree_nodes.proofs.Looses.{sum_none}
 use Rattle.node_rows.specs.Rows.{Bytes}
 use Rattle.node_rows.specs.Impacts.{impact_in}
 use Rattle.node_rows.specs.Counts.{sign, most, both, counted_on, impact_33, alike, cell}

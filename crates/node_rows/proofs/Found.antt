@@ -5,7 +5,7 @@ use Rattle.page_face.specs.FreeList.{PageMap}
 use Rattle.btree_nodes.specs.Rows.{Row, lookup, first_from}
 use Rattle.btree_nodes.specs.Tree.{IsMap, map_rows, map_uses}
 use Rattle.paged_map.specs.Answers.{HoldsRow, Locates}
-use Rattle.rtree_shape.specs.Stock.{rows_form}
+use Rattle.rtree_nodes.specs.Stock.{rows_form}
 use Rattle.node_rows.specs.Rows.{HasBytes, byte_in, bytes_in, key_of}
 use Rattle.node_rows.specs.Turns.{IsNext, Next}
 use Rattle.node_rows.proofs.Bytes.{bytes-small, next-away, next-here, next-none}

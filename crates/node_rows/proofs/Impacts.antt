@@ -1,9 +1,9 @@
 -- Greatest bytes, single bytes that change, and slots that are raised.
 use Rattle.std.proofs.Common.{◌≡◌, ℕ, suc, ◌+◌, inl, inr, max, arith, refl, sym, ap, ◌∙◌, List, [], ◌∷◌, ◌++◌, if◌then◌else◌, ◌==◌, true, false, Bool, slice_index}
 use Rattle.std.proofs.lemmas.Bool.Decides.{nat_tests}
-use Rattle.rtree_shape.specs.Slots.{top_to}
-use Rattle.rtree_shape.proofs.Amounts.{same_or}
-use Rattle.rtree_shape.proofs.Sums.{top-same, top-zero}
+use Rattle.rtree_nodes.specs.Slots.{top_to}
+use Rattle.rtree_nodes.proofs.Amounts.{same_or}
+use Rattle.rtree_nodes.proofs.Sums.{top-same, top-zero}
 use Rattle.node_rows.specs.Rows.{Bytes}
 use Rattle.node_rows.specs.Turns.{with_row}
 use Rattle.node_rows.specs.Impacts.{impact_at, impact_in, raised, top_at, with_byte}

@@ -1,8 +1,8 @@
 -- Rows of a node that were read.
 use Rattle.std.proofs.Common.{◌≡◌, ℕ, zero, suc, ◌+◌, ◌<◌, ◌≤◌, max, inl, inr, arith, refl, sym, ap, ◌∙◌, List, [], ◌∷◌, ◌++◌, length, filter, get_or, ◌==◌, nat_lt, true, false, slice_index, slice_index_or}
 use Rattle.std.proofs.lemmas.Bool.Decides.{nat_tests}
-use Rattle.rtree_shape.proofs.Amounts.{same_or}
-use Rattle.rtree_shape.proofs.Heights.{under_or}
+use Rattle.rtree_nodes.proofs.Amounts.{same_or}
+use Rattle.rtree_nodes.proofs.Heights.{under_or}
 use Rattle.node_rows.specs.Rows.{Bytes, HasBytes}
 use Rattle.node_rows.specs.Counts.{shared_in, sign}
 use Rattle.node_rows.specs.Impacts.{impact_at, impact_in, raised}

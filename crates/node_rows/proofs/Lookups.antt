@@ -6,8 +6,8 @@ use Rattle.btree_nodes.proofs.Spans.{lookup-below}
 use Rattle.btree_nodes.proofs.Puts.{put-before as put-less, put-here as put-same, put-behind as put-more, without-here as without-same, without-other}
 use Rattle.btree_nodes.proofs.Firsts.{first_from-less as first-less, first_from-here as first-here}
 use Rattle.btree_nodes.proofs.Finds.{lookup-here}
-use Rattle.rtree_shape.proofs.Amounts.{same_or}
-use Rattle.rtree_shape.proofs.Heights.{under_or}
+use Rattle.rtree_nodes.proofs.Amounts.{same_or}
+use Rattle.rtree_nodes.proofs.Heights.{under_or}
 
 lookup-other : (key : ℕ) (row : Row) (rows : List Row) → (row.0 ≡ key → ⊥) → lookup key (row ∷ rows) ≡ lookup key rows
 lookup-other key row rows h = let t : (row.0 == key) ≡ false = grind (arith, nat_tests) in rw t refl

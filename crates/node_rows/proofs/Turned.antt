@@ -7,7 +7,7 @@ use Rattle.btree_nodes.specs.Supply.{View, view}
 use Rattle.btree_nodes.specs.Tree.{map_rows}
 use Rattle.btree_nodes.proofs.Supplies.{moves-further}
 use Rattle.paged_map.specs.Maps.{HasBecome}
-use Rattle.rtree_shape.specs.Stock.{rows_form}
+use Rattle.rtree_nodes.specs.Stock.{rows_form}
 use Rattle.node_rows.specs.Rows.{Bytes, IsRows, key_of, byte_in, bytes_in, bytes_of, IsFilled}
 use Rattle.node_rows.specs.Turns.{Turns, with_row}
 use Rattle.node_rows.proofs.Lookups.{lookup-put, lookup-put_other, lookup-without, lookup-without_other}

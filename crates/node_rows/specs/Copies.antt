@@ -3,7 +3,7 @@ use Rattle.std.specs.Prelude.{◌≡◌, ℕ, ◌+◌, ◌*◌, ◌<◌, ◌≤�
 use Rattle.page_face.specs.Nodes.{count_of}
 use Rattle.btree_nodes.specs.Nodes.{rows_in}
 use Rattle.btree_nodes.specs.Rows.{IsWithin}
-use Rattle.rtree_shape.specs.Stock.{rows_form}
+use Rattle.rtree_nodes.specs.Stock.{rows_form}
 use Rattle.node_rows.specs.Rows.{Bytes, bytes_of}
 use Rattle.node_rows.specs.Turns.{Next}
 use Rattle.node_rows.specs.declared.leaf.LeafCopy.{LeafCopy}

@@ -1,6 +1,6 @@
 -- How many words a slot and an entry share.
 use Rattle.std.specs.Prelude.{◌≡◌, ◌⊎◌, ℕ, ◌+◌, ◌-◌, ◌^◌, ◌<◌, min, List, [], ◌∷◌, if◌then◌else◌, nat_lt, slice_index, slice_index_or}
-use Rattle.rtree_shape.specs.Slots.{sum_to}
+use Rattle.rtree_nodes.specs.Slots.{sum_to}
 use Rattle.node_rows.specs.Rows.{Bytes}
 use Rattle.node_rows.specs.Impacts.{impact_in}
 

@@ -4,7 +4,7 @@ use Rattle.page_face.specs.FreeList.{PageMap}
 use Rattle.page_face.specs.declared.fault.Damage.{Damage}
 use Rattle.btree_nodes.specs.Damages.{AskedSince, IsRefusedTake}
 use Rattle.paged_map.specs.Maps.{IsMapDamaged}
-use Rattle.rtree_shape.specs.Stock.{rows_form}
+use Rattle.rtree_nodes.specs.Stock.{rows_form}
 
 -- a page of the rows' map that was asked for breaks a rule in its place
 abbrev pub IsRowsDamage : PageMap → ℕ → ℕ → List ℕ → List ℕ → Damage → Type 0

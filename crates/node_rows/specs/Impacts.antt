@@ -1,6 +1,6 @@
 -- Slots whose bytes follow the words below them.
 use Rattle.std.specs.Prelude.{ℕ, max, List, [], ◌∷◌, ◌==◌, ◌&&◌, if◌then◌else◌}
-use Rattle.rtree_shape.specs.Slots.{top_to}
+use Rattle.rtree_nodes.specs.Slots.{top_to}
 use Rattle.node_rows.specs.Rows.{Bytes, only}
 
 -- the impact of a word by one pair of a word's number and its impact

@@ -3,7 +3,7 @@ use Rattle.std.specs.Prelude.{◌≡◌, ◌≢◌, ℕ, ◌^◌, ◌<◌, List,
 use Rattle.page_face.specs.FreeList.{PageMap}
 use Rattle.btree_nodes.specs.Rows.{Row}
 use Rattle.paged_map.specs.Lookups.{IsLookedUp, IsFirstFound}
-use Rattle.rtree_shape.specs.Stock.{rows_form}
+use Rattle.rtree_nodes.specs.Stock.{rows_form}
 use Rattle.node_rows.specs.Rows.{HasBytes, byte_in, key_of}
 
 -- the bytes of the row at a node's key for a word, and zeros where there is none

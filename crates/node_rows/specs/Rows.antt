@@ -5,7 +5,7 @@ use Rattle.btree_nodes.specs.Rows.{Row, lookup}
 use Rattle.btree_nodes.specs.Supply.{View}
 use Rattle.btree_nodes.specs.Tree.{map_rows}
 use Rattle.paged_map.specs.Maps.{IsKept}
-use Rattle.rtree_shape.specs.Stock.{rows_form}
+use Rattle.rtree_nodes.specs.Stock.{rows_form}
 
 -- the byte at a node, a word and a slot; 0 where there is no row
 abbrev pub Bytes : Type 0

@@ -4,7 +4,7 @@ use Rattle.std.specs.Int.{bit_at}
 use Rattle.page_face.specs.FreeList.{PageMap}
 use Rattle.btree_nodes.specs.Supply.{View, view, Moves}
 use Rattle.btree_nodes.specs.Tree.{map_uses}
-use Rattle.rtree_shape.specs.Stock.{rows_form}
+use Rattle.rtree_nodes.specs.Stock.{rows_form}
 use Rattle.node_rows.specs.Rows.{Bytes, HasBytes, IsRows, bytes_in}
 
 -- The rows' map at a root has become that of these bytes at another one. Its pages, those that were free and those newly counted are now each in exactly one of the map and the free list, and all others stay.

@@ -1,8 +1,8 @@
-//! A node's rows gone through in the order of their words.
+//! The step from a word's number to the next, for going through a node's rows in the order of their words.
 ghost use Rattle.std.specs.Prelude.{◌≡◌, ◌<◌, ◌+◌, IfSome};
 ghost use Rattle.node_rows.specs.Ascents.{reached};
 
-/// Returns the number behind one, or `None` behind the last.
+/// Returns the next number, or `None` after the greatest one.
 pub fn after(number: u64) -> Option<u64>
     ensures reached { reached result ≡ number + 1 }
     ensures onto { IfSome result (λ next. number < next) }

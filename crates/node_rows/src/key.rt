@@ -1,9 +1,9 @@
-//! Keys of the rows' map: a node's page as a big-endian u32, and a word's number as a big-endian u64 behind it.
+//! Keys of the rows' map: a node's page as a big-endian u32, followed by a word's number as a big-endian u64.
 ghost use Rattle.std.specs.Prelude.{◌≡◌};
 ghost use Rattle.page_face.specs.Number.{number as number_of_bytes};
 ghost use Rattle.node_rows.specs.Rows.{key_of};
 
-/// Where a row stands.
+/// The key of a row.
 #[derive(Clone, Copy)]
 pub struct RowKey {
     /// The node's page.

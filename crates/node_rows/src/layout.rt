@@ -1,6 +1,6 @@
 //! The layout of the rows' map.
 ghost use Rattle.std.proofs.Common.{refl};
-ghost use Rattle.rtree_shape.specs.Stock.{rows_form};
+ghost use Rattle.rtree_nodes.specs.Stock.{rows_form};
 
 use paged_map::Layout;
 

@@ -4,12 +4,12 @@ ghost use Rattle.page_face.specs.Calls.{Reads, FailsReading};
 ghost use Rattle.page_face.specs.Nodes.{count_of};
 ghost use Rattle.page_face.specs.Number.{number as number_of_bytes};
 ghost use Rattle.btree_nodes.specs.Bounds.{upper_of};
-ghost use Rattle.btree_nodes.specs.Damages.{AreTold, AskedSince, AsksOnly};
+ghost use Rattle.btree_nodes.specs.Damages.{AreReadable, AskedSince, AsksOnly};
 ghost use Rattle.btree_nodes.specs.Nodes.{rows_in};
 ghost use Rattle.btree_nodes.specs.Rows.{IsWithin, first_from};
 ghost use Rattle.btree_nodes.specs.Tree.{IsMap, map_uses};
 ghost use Rattle.paged_map.specs.Maps.{AreCounted, IsMapDamaged};
-ghost use Rattle.rtree_shape.specs.Stock.{rows_form};
+ghost use Rattle.rtree_nodes.specs.Stock.{rows_form};
 ghost use Rattle.node_rows.specs.Rows.{Bytes, bytes_in, key_of as key_number};
 ghost use Rattle.node_rows.specs.Turns.{Next};
 ghost use Rattle.node_rows.specs.Damages.{IsRowsDamage};
@@ -18,11 +18,10 @@ ghost use Rattle.node_rows.specs.Copies.{IsBefore, IsCopy, NextBefore, NextOr};
 use crate::Tree;
 use crate::key::RowKey;
 use crate::next::next_row;
-use btree_nodes::{Form, place};
-use btree_search::{Bounds, count, locate};
+use btree_nodes::{Bounds, Form, count, locate, place};
 use page_face::{Damage, Page, PageFault, Pages};
 
-// Rows that a page has room for behind its 16 bytes of head: each has 12 bytes of key and 32 of value.
+// The number of rows that a page has room for after its 16 bytes of head: each has 12 bytes of key and 32 of value.
 const ROWS_MAX: usize = 92;
 
 /// Returns what the pages of the rows' map have in common.
@@ -72,7 +71,7 @@ fn first_in(page: &Page, key: &[u8; 12], found: &mut [u8; 12], row: &mut [u8; 32
     true
 }
 
-// Whether a word stands before another one, or before the end.
+// Whether a word comes before another one, or before the end.
 fn is_before(number: u64, next: Option<u64>) -> bool
     ensures { IsTrue result ↔ IsBefore number next }
 {
@@ -108,7 +107,7 @@ pub struct LeafCopy {
     page: Page,
     /// The first of the words.
     from: u64,
-    /// The first word behind them, or `None` if no word is.
+    /// The first word after them, or `None` if no word is.
     next: Option<u64>,
 }
 
@@ -156,7 +155,7 @@ impl LeafCopy {
         Some((next.number, row))
     }
 
-    // The first row of a node from a word on, or `None` if the node has no such row; if the copy doesn't say, `Err` of a word
+    // The first row of a node from a word on, or `None` if the node has no such row. If the copy can't decide it, returns `Err` of a word
     // before which there is none.
     fn seek(&self, node: u32, from: u64) -> Result<Option<(u64, [u8; 32])>, u64>
         ensures next { (b : Bytes) → IsCopy b node self.now → NextOr b node from result }
@@ -189,11 +188,11 @@ impl LeafCopy {
         requires root { 0 < tree.now.rows }
         ensures copy { (b : Bytes) → IsMap rows_form (P.pages pages.old) tree.now.rows → ((w i : ℕ) → from ≤ w → bytes_in (P.pages pages.old) tree.now.rows node w i ≡ b node w i)
             → OnOk result (IsCopy b node self.new) }
-        ensures honest { IsMap rows_form (P.pages pages.old) tree.now.rows → AreCounted (map_uses rows_form (P.pages pages.old) tree.now.rows) (P.count pages.old)
-            → AreTold (P.pages pages.old) (P.count pages.old) → (damage : Damage) → ¬ IsErrOf result (PageFault.Damaged damage) }
-        ensures damaged { AreTold (P.pages pages.old) (P.count pages.old) → (damage : Damage) → IsErrOf result (PageFault.Damaged damage)
+        ensures no_false_damage { IsMap rows_form (P.pages pages.old) tree.now.rows → AreCounted (map_uses rows_form (P.pages pages.old) tree.now.rows) (P.count pages.old)
+            → AreReadable (P.pages pages.old) (P.count pages.old) → (damage : Damage) → ¬ IsErrOf result (PageFault.Damaged damage) }
+        ensures damaged { AreReadable (P.pages pages.old) (P.count pages.old) → (damage : Damage) → IsErrOf result (PageFault.Damaged damage)
             → IsMapDamaged rows_form (P.pages pages.old) (P.count pages.old) tree.now.rows damage × AskedSince (P.asked pages.old) (P.asked pages.new) damage.page }
-        ensures own { AreTold (P.pages pages.old) (P.count pages.old)
+        ensures own { AreReadable (P.pages pages.old) (P.count pages.old)
             → AsksOnly (map_uses rows_form (P.pages pages.old) tree.now.rows) (P.asked pages.old) (P.asked pages.new) }
         ensures fails { FailsReading P.Pages pages.old pages.new result }
         ensures frame { Reads P.Pages pages.old pages.new }
@@ -227,11 +226,11 @@ fn next_filled<P: Pages>(
     ensures copy { (b : Bytes) → IsMap rows_form (P.pages pages.old) tree.now.rows → ((w i : ℕ) → from ≤ w → bytes_in (P.pages pages.old) tree.now.rows node w i ≡ b node w i)
         → OnOk result (IsCopy b node copy.new) }
     ensures onto { IfOk result (λ next. IfSome next (λ found. from ≤ found.0)) }
-    ensures honest { IsMap rows_form (P.pages pages.old) tree.now.rows → AreCounted (map_uses rows_form (P.pages pages.old) tree.now.rows) (P.count pages.old)
-        → AreTold (P.pages pages.old) (P.count pages.old) → (damage : Damage) → ¬ IsErrOf result (PageFault.Damaged damage) }
-    ensures damaged { AreTold (P.pages pages.old) (P.count pages.old) → (damage : Damage) → IsErrOf result (PageFault.Damaged damage)
+    ensures no_false_damage { IsMap rows_form (P.pages pages.old) tree.now.rows → AreCounted (map_uses rows_form (P.pages pages.old) tree.now.rows) (P.count pages.old)
+        → AreReadable (P.pages pages.old) (P.count pages.old) → (damage : Damage) → ¬ IsErrOf result (PageFault.Damaged damage) }
+    ensures damaged { AreReadable (P.pages pages.old) (P.count pages.old) → (damage : Damage) → IsErrOf result (PageFault.Damaged damage)
         → IsRowsDamage (P.pages pages.old) (P.count pages.old) tree.now.rows (P.asked pages.old) (P.asked pages.new) damage }
-    ensures own { AreTold (P.pages pages.old) (P.count pages.old)
+    ensures own { AreReadable (P.pages pages.old) (P.count pages.old)
         → AsksOnly (map_uses rows_form (P.pages pages.old) tree.now.rows) (P.asked pages.old) (P.asked pages.new) }
     ensures fails { FailsReading P.Pages pages.old pages.new result }
     ensures frame { Reads P.Pages pages.old pages.new }
@@ -246,11 +245,12 @@ fn next_filled<P: Pages>(
 }
 
 /// Returns what [`next_row`] does, out of a copy of a leaf if that has it. Otherwise the leaf that the node's key for the word belongs
-/// to is copied first. The copy may be of pages as they were, as long as the bytes `b` of its node are those of the pages from the
-/// word on.
+/// to is copied first.
+///
+/// The copy may be of pages as they were, as long as the node's bytes in it are those of the pages from the word on.
 ///
 /// Fails as [`next_row`] does. Looks at no page if the copy has the row, and at one a level of the rows' map to copy a leaf. If that
-/// leaf has no such row either, costs a call of [`next_row`] beside it.
+/// leaf has no such row either, costs a call of [`next_row`] as well.
 pub fn next_in<P: Pages>(
     copy: &mut LeafCopy,
     pages: &mut P,
@@ -265,11 +265,11 @@ pub fn next_in<P: Pages>(
     ensures onto { IfOk result (λ next. IfSome next (λ found. from ≤ found.0)) }
 
     // On a well-formed map whose pages are counted no page is damaged.
-    ensures honest { IsMap rows_form (P.pages pages.old) tree.now.rows → AreCounted (map_uses rows_form (P.pages pages.old) tree.now.rows) (P.count pages.old)
-        → AreTold (P.pages pages.old) (P.count pages.old) → (damage : Damage) → ¬ IsErrOf result (PageFault.Damaged damage) }
-    ensures damaged { AreTold (P.pages pages.old) (P.count pages.old) → (damage : Damage) → IsErrOf result (PageFault.Damaged damage)
+    ensures no_false_damage { IsMap rows_form (P.pages pages.old) tree.now.rows → AreCounted (map_uses rows_form (P.pages pages.old) tree.now.rows) (P.count pages.old)
+        → AreReadable (P.pages pages.old) (P.count pages.old) → (damage : Damage) → ¬ IsErrOf result (PageFault.Damaged damage) }
+    ensures damaged { AreReadable (P.pages pages.old) (P.count pages.old) → (damage : Damage) → IsErrOf result (PageFault.Damaged damage)
         → IsRowsDamage (P.pages pages.old) (P.count pages.old) tree.now.rows (P.asked pages.old) (P.asked pages.new) damage }
-    ensures own { AreTold (P.pages pages.old) (P.count pages.old)
+    ensures own { AreReadable (P.pages pages.old) (P.count pages.old)
         → AsksOnly (map_uses rows_form (P.pages pages.old) tree.now.rows) (P.asked pages.old) (P.asked pages.new) }
     ensures fails { FailsReading P.Pages pages.old pages.new result }
     ensures frame { Reads P.Pages pages.old pages.new }

@@ -1,10 +1,10 @@
 //! The next row of a node.
 ghost use Rattle.std.specs.Prelude.{◌≤◌, IfOk, IfSome, IsErrOf};
 ghost use Rattle.page_face.specs.Calls.{Reads, FailsReading};
-ghost use Rattle.btree_nodes.specs.Damages.{AreTold, AsksOnly};
+ghost use Rattle.btree_nodes.specs.Damages.{AreReadable, AsksOnly};
 ghost use Rattle.btree_nodes.specs.Tree.{IsMap, map_uses};
 ghost use Rattle.paged_map.specs.Maps.{AreCounted};
-ghost use Rattle.rtree_shape.specs.Stock.{rows_form};
+ghost use Rattle.rtree_nodes.specs.Stock.{rows_form};
 ghost use Rattle.node_rows.specs.Rows.{bytes_in};
 ghost use Rattle.node_rows.specs.Turns.{Next};
 ghost use Rattle.node_rows.specs.Damages.{IsRowsDamage};
@@ -20,9 +20,9 @@ use paged_map::PagedMap;
 /// such row.
 ///
 /// Returns `Damaged` with a rule that a page asked for in this call breaks in its place; `Disk`, `Stopped`, or `Memory` if it
-/// runs out of memory. The number returned isn't less than `from` on any pages, so a loop that goes on behind it ends.
+/// runs out of memory. On any pages the number returned isn't less than `from`, so a loop that goes on after it ends.
 ///
-/// Looks at most at two pages a level of the rows' map, and writes none.
+/// Looks at two pages a level of the rows' map at most, and writes none.
 pub fn next_row<P: Pages>(
     pages: &mut P,
     tree: &Tree,
@@ -33,16 +33,16 @@ pub fn next_row<P: Pages>(
         → IfOk result (Next (bytes_in (P.pages pages.old) tree.now.rows) node from) }
     ensures onto { IfOk result (λ next. IfSome next (λ found. from ≤ found.0)) }
 
-    // Each page on the ways kept the rules in its place: on any pages that tell their bytes the row is what their leaves have.
-    ensures kept { AreTold (P.pages pages.old) (P.count pages.old)
+    // Each page on the ways kept the rules in its place. On any pages whose bytes are readable, the row is what their leaves have.
+    ensures kept { AreReadable (P.pages pages.old) (P.count pages.old)
         → IfOk result (IsNextFound (P.pages pages.old) (P.count pages.old) tree.now.rows node from) }
 
     // On a well-formed map whose pages are counted no page is damaged.
-    ensures honest { IsMap rows_form (P.pages pages.old) tree.now.rows → AreCounted (map_uses rows_form (P.pages pages.old) tree.now.rows) (P.count pages.old)
-        → AreTold (P.pages pages.old) (P.count pages.old) → (damage : Damage) → ¬ IsErrOf result (PageFault.Damaged damage) }
-    ensures damaged { AreTold (P.pages pages.old) (P.count pages.old) → (damage : Damage) → IsErrOf result (PageFault.Damaged damage)
+    ensures no_false_damage { IsMap rows_form (P.pages pages.old) tree.now.rows → AreCounted (map_uses rows_form (P.pages pages.old) tree.now.rows) (P.count pages.old)
+        → AreReadable (P.pages pages.old) (P.count pages.old) → (damage : Damage) → ¬ IsErrOf result (PageFault.Damaged damage) }
+    ensures damaged { AreReadable (P.pages pages.old) (P.count pages.old) → (damage : Damage) → IsErrOf result (PageFault.Damaged damage)
         → IsRowsDamage (P.pages pages.old) (P.count pages.old) tree.now.rows (P.asked pages.old) (P.asked pages.new) damage }
-    ensures own { AreTold (P.pages pages.old) (P.count pages.old)
+    ensures own { AreReadable (P.pages pages.old) (P.count pages.old)
         → AsksOnly (map_uses rows_form (P.pages pages.old) tree.now.rows) (P.asked pages.old) (P.asked pages.new) }
     ensures fails { FailsReading P.Pages pages.old pages.new result }
     ensures frame { Reads P.Pages pages.old pages.new }

@@ -1,10 +1,10 @@
-//! Words that each two of a node's slots, and of an entry beside them, share.
+//! The counts of words that any two of a node's slots, or a slot and an entry beside them, share.
 ghost use Rattle.std.specs.Prelude.{◌≡◌, ◌+◌, ◌<◌, ◌^◌, ℕ, min, max, IfOk, IfSome, IsErrOf, OnOk, slice_index, nat_lt, if◌then◌else◌};
 ghost use Rattle.page_face.specs.Calls.{Reads, FailsReading};
-ghost use Rattle.btree_nodes.specs.Damages.{AreTold, AsksOnly};
+ghost use Rattle.btree_nodes.specs.Damages.{AreReadable, AsksOnly};
 ghost use Rattle.btree_nodes.specs.Tree.{IsMap, map_uses};
 ghost use Rattle.paged_map.specs.Maps.{AreCounted};
-ghost use Rattle.rtree_shape.specs.Stock.{rows_form};
+ghost use Rattle.rtree_nodes.specs.Stock.{rows_form};
 ghost use Rattle.node_rows.specs.Rows.{bytes_in};
 ghost use Rattle.node_rows.specs.Ascents.{reached};
 ghost use Rattle.node_rows.specs.Counts.{IsCounted, cell, counted_on, most, sign};
@@ -36,7 +36,7 @@ fn impact_of(words: &[(u64, u8)], number: u64) -> u8
     impact
 }
 
-// A row of 32 slots, and the entry's byte behind them.
+// A row of 32 slots, followed by the entry's byte.
 fn with_entry(row: &[u8; 32], impact: u8) -> [u8; 33]
     ensures { (i : ℕ) → i < 33 → slice_index result i ≡ (if nat_lt i 32 then slice_index row.now i else impact) }
 {
@@ -48,7 +48,7 @@ fn with_entry(row: &[u8; 32], impact: u8) -> [u8; 33]
     all
 }
 
-// One more in the line of an entry that has the word, at each entry that has it too.
+// Adds one to the line of an entry that has the word, at each entry that has it too.
 fn add_line(line: [u32; 33], row: &[u8; 33]) -> [u32; 33]
     ensures { (j : ℕ) → j < 33 → slice_index result j ≡ min (slice_index line j + sign (slice_index row.now j)) most }
 {
@@ -59,7 +59,7 @@ fn add_line(line: [u32; 33], row: &[u8; 33]) -> [u32; 33]
     out
 }
 
-// One more at each two entries that share the word.
+// Adds one at each two entries that share the word.
 fn add_pairs(table: &mut [[u32; 33]; 33], row: &[u8; 33])
     ensures { (i j : ℕ) → i < 33 → j < 33 → cell table.new i j ≡ counted_on (cell table.old i j) (slice_index row.now i) (slice_index row.now j) }
 {
@@ -79,7 +79,7 @@ fn clear_table() -> [[u32; 33]; 33]
     [[0; 33]; 33]
 }
 
-// Counts the word of a node's first row from a word on. Returns the word behind it.
+// Counts the word of a node's first row from number `at` on. Returns the number to go on from, if any.
 fn like_next<P: Pages>(
     pages: &mut P,
     tree: &Tree,
@@ -95,11 +95,11 @@ fn like_next<P: Pages>(
     ensures copy { IsMap rows_form (P.pages pages.old) tree.now.rows → IsCopy (bytes_in (P.pages pages.old) tree.now.rows) node copy.old
         → OnOk result (IsCopy (bytes_in (P.pages pages.old) tree.now.rows) node copy.new) }
     ensures onto { IfOk result (λ next. IfSome next (λ word. at < word)) }
-    ensures honest { IsMap rows_form (P.pages pages.old) tree.now.rows → AreCounted (map_uses rows_form (P.pages pages.old) tree.now.rows) (P.count pages.old)
-        → AreTold (P.pages pages.old) (P.count pages.old) → (damage : Damage) → ¬ IsErrOf result (PageFault.Damaged damage) }
-    ensures damaged { AreTold (P.pages pages.old) (P.count pages.old) → (damage : Damage) → IsErrOf result (PageFault.Damaged damage)
+    ensures no_false_damage { IsMap rows_form (P.pages pages.old) tree.now.rows → AreCounted (map_uses rows_form (P.pages pages.old) tree.now.rows) (P.count pages.old)
+        → AreReadable (P.pages pages.old) (P.count pages.old) → (damage : Damage) → ¬ IsErrOf result (PageFault.Damaged damage) }
+    ensures damaged { AreReadable (P.pages pages.old) (P.count pages.old) → (damage : Damage) → IsErrOf result (PageFault.Damaged damage)
         → IsRowsDamage (P.pages pages.old) (P.count pages.old) tree.now.rows (P.asked pages.old) (P.asked pages.new) damage }
-    ensures own { AreTold (P.pages pages.old) (P.count pages.old)
+    ensures own { AreReadable (P.pages pages.old) (P.count pages.old)
         → AsksOnly (map_uses rows_form (P.pages pages.old) tree.now.rows) (P.asked pages.old) (P.asked pages.new) }
     ensures fails { FailsReading P.Pages pages.old pages.new result }
     ensures frame { Reads P.Pages pages.old pages.new }
@@ -113,14 +113,15 @@ fn like_next<P: Pages>(
     Ok(after(found.0))
 }
 
-/// Returns how many words each two of 33 entries share, each count at most 2^32 - 1: entries 0 to 31 are the slots of a node, by
-/// the words below them, and 32 is an entry with these words. Of two entries only words of the node are counted, so the count of
-/// entry 32 with itself says nothing of its other words.
+/// Returns how many words each two of 33 entries share, each count at most 2^32 - 1. Entries 0 to 31 are the slots of a node, by the
+/// words below them, and entry 32 is one with these words.
+///
+/// Only words of the node are counted, so the count of entry 32 with itself leaves out its other words.
 ///
 /// Returns `Damaged` as [`next_row`](crate::next_row) does; `Disk`, `Stopped`, or `Memory` if it runs out of memory.
 ///
-/// For a node of W words in L leaves of the rows' map, costs at most L + 4 ways down, each of which looks at one page a level, and
-/// copies a leaf for each but two of them. Writes no page. At each word it goes through the lines of the entries that have it alone.
+/// For a node of W words in L leaves of the rows' map, costs at most L + 4 ways down. Each looks at one page a level, and all except two
+/// copy a leaf. Writes no page. At each word it goes only through the lines of the entries that have it.
 pub fn like<P: Pages>(
     pages: &mut P,
     tree: &Tree,
@@ -131,11 +132,11 @@ pub fn like<P: Pages>(
         → IfOk result (λ table. IsCounted (bytes_in (P.pages pages.old) tree.now.rows) node words.now (2 ^ 64) table) }
 
     // On a well-formed map whose pages are counted no page is damaged.
-    ensures honest { IsMap rows_form (P.pages pages.old) tree.now.rows → AreCounted (map_uses rows_form (P.pages pages.old) tree.now.rows) (P.count pages.old)
-        → AreTold (P.pages pages.old) (P.count pages.old) → (damage : Damage) → ¬ IsErrOf result (PageFault.Damaged damage) }
-    ensures damaged { AreTold (P.pages pages.old) (P.count pages.old) → (damage : Damage) → IsErrOf result (PageFault.Damaged damage)
+    ensures no_false_damage { IsMap rows_form (P.pages pages.old) tree.now.rows → AreCounted (map_uses rows_form (P.pages pages.old) tree.now.rows) (P.count pages.old)
+        → AreReadable (P.pages pages.old) (P.count pages.old) → (damage : Damage) → ¬ IsErrOf result (PageFault.Damaged damage) }
+    ensures damaged { AreReadable (P.pages pages.old) (P.count pages.old) → (damage : Damage) → IsErrOf result (PageFault.Damaged damage)
         → IsRowsDamage (P.pages pages.old) (P.count pages.old) tree.now.rows (P.asked pages.old) (P.asked pages.new) damage }
-    ensures own { AreTold (P.pages pages.old) (P.count pages.old)
+    ensures own { AreReadable (P.pages pages.old) (P.count pages.old)
         → AsksOnly (map_uses rows_form (P.pages pages.old) tree.now.rows) (P.asked pages.old) (P.asked pages.new) }
     ensures fails { FailsReading P.Pages pages.old pages.new result }
     ensures frame { Reads P.Pages pages.old pages.new }

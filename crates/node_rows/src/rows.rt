@@ -1,13 +1,13 @@
 //! The row of a node for a word.
 ghost use Rattle.std.specs.Prelude.{◌≡◌, ◌⊎◌, ℕ, List, IfOk, IfSome, OnOk, OnErr, IsErrOf};
 ghost use Rattle.page_face.specs.Calls.{Reads, Changes, FailsReading, FailsChanging};
-ghost use Rattle.btree_nodes.specs.Damages.{AreTold, AskedSince, AsksOnly, IsRefusedTake};
+ghost use Rattle.btree_nodes.specs.Damages.{AreReadable, AskedSince, AsksOnly, IsRefusedTake};
 ghost use Rattle.btree_nodes.specs.Rows.{put, without};
 ghost use Rattle.btree_nodes.specs.Supply.{view};
 ghost use Rattle.btree_nodes.specs.Tree.{IsMap, map_rows, map_uses};
 ghost use Rattle.paged_map.specs.Maps.{AreCounted, HasBecome, IsKept, IsMapDamaged};
 ghost use Rattle.paged_map.specs.Spots.{IsSpot};
-ghost use Rattle.rtree_shape.specs.Stock.{rows_form};
+ghost use Rattle.rtree_nodes.specs.Stock.{rows_form};
 ghost use Rattle.node_rows.specs.Damages.{IsRowsHarm};
 ghost use Rattle.node_rows.specs.Lookups.{IsRowFound};
 ghost use Rattle.node_rows.specs.Rows.{HasBytes, IsRows, bytes_in, key_of};
@@ -35,16 +35,16 @@ pub fn row<P: Pages>(
     ensures row { IsMap rows_form (P.pages pages.old) tree.now.rows
         → IfOk result (λ row. HasBytes row (bytes_in (P.pages pages.old) tree.now.rows node number)) }
 
-    // Each page on the way kept the rules in its place: on any pages that tell their bytes the row is what its leaf has.
-    ensures kept { AreTold (P.pages pages.old) (P.count pages.old)
+    // Each page on the way kept the rules in its place. On any pages whose bytes are readable, the row is what its leaf has.
+    ensures kept { AreReadable (P.pages pages.old) (P.count pages.old)
         → IfOk result (IsRowFound (P.pages pages.old) (P.count pages.old) tree.now.rows node number) }
 
     // On a well-formed map whose pages are counted no page is damaged.
-    ensures honest { IsMap rows_form (P.pages pages.old) tree.now.rows → AreCounted (map_uses rows_form (P.pages pages.old) tree.now.rows) (P.count pages.old)
-        → AreTold (P.pages pages.old) (P.count pages.old) → (damage : Damage) → ¬ IsErrOf result (PageFault.Damaged damage) }
-    ensures damaged { AreTold (P.pages pages.old) (P.count pages.old) → (damage : Damage) → IsErrOf result (PageFault.Damaged damage)
+    ensures no_false_damage { IsMap rows_form (P.pages pages.old) tree.now.rows → AreCounted (map_uses rows_form (P.pages pages.old) tree.now.rows) (P.count pages.old)
+        → AreReadable (P.pages pages.old) (P.count pages.old) → (damage : Damage) → ¬ IsErrOf result (PageFault.Damaged damage) }
+    ensures damaged { AreReadable (P.pages pages.old) (P.count pages.old) → (damage : Damage) → IsErrOf result (PageFault.Damaged damage)
         → IsMapDamaged rows_form (P.pages pages.old) (P.count pages.old) tree.now.rows damage × AskedSince (P.asked pages.old) (P.asked pages.new) damage.page }
-    ensures own { AreTold (P.pages pages.old) (P.count pages.old)
+    ensures own { AreReadable (P.pages pages.old) (P.count pages.old)
         → AsksOnly (map_uses rows_form (P.pages pages.old) tree.now.rows) (P.asked pages.old) (P.asked pages.new) }
     ensures fails { FailsReading P.Pages pages.old pages.new result }
     ensures frame { Reads P.Pages pages.old pages.new }
@@ -57,7 +57,7 @@ pub fn row<P: Pages>(
     }
 }
 
-/// Returns where the row of a node for a word stands, if there is one, and leaves its bytes in `row`: zeros if there is none. The
+/// Returns the spot of the row of a node for a word, if there is one, and leaves its bytes in `row`: zeros if there is none. The
 /// row's leaf is then the page looked at.
 ///
 /// Fails as [`row`](row()) does, and costs as much.
@@ -71,13 +71,13 @@ pub fn find_row<P: Pages>(
     ensures row { IsMap rows_form (P.pages pages.old) tree.now.rows
         → OnOk result (HasBytes row.new (bytes_in (P.pages pages.old) tree.now.rows node number)) }
     ensures spot { IfOk result (λ found. IfSome found (IsSpot rows_form (P.pages pages.new) (P.count pages.new) tree.now.rows (P.looked pages.new) (key_of node number))) }
-    ensures kept { AreTold (P.pages pages.old) (P.count pages.old)
+    ensures kept { AreReadable (P.pages pages.old) (P.count pages.old)
         → OnOk result (IsRowFound (P.pages pages.old) (P.count pages.old) tree.now.rows node number row.new) }
-    ensures honest { IsMap rows_form (P.pages pages.old) tree.now.rows → AreCounted (map_uses rows_form (P.pages pages.old) tree.now.rows) (P.count pages.old)
-        → AreTold (P.pages pages.old) (P.count pages.old) → (damage : Damage) → ¬ IsErrOf result (PageFault.Damaged damage) }
-    ensures damaged { AreTold (P.pages pages.old) (P.count pages.old) → (damage : Damage) → IsErrOf result (PageFault.Damaged damage)
+    ensures no_false_damage { IsMap rows_form (P.pages pages.old) tree.now.rows → AreCounted (map_uses rows_form (P.pages pages.old) tree.now.rows) (P.count pages.old)
+        → AreReadable (P.pages pages.old) (P.count pages.old) → (damage : Damage) → ¬ IsErrOf result (PageFault.Damaged damage) }
+    ensures damaged { AreReadable (P.pages pages.old) (P.count pages.old) → (damage : Damage) → IsErrOf result (PageFault.Damaged damage)
         → IsMapDamaged rows_form (P.pages pages.old) (P.count pages.old) tree.now.rows damage × AskedSince (P.asked pages.old) (P.asked pages.new) damage.page }
-    ensures own { AreTold (P.pages pages.old) (P.count pages.old)
+    ensures own { AreReadable (P.pages pages.old) (P.count pages.old)
         → AsksOnly (map_uses rows_form (P.pages pages.old) tree.now.rows) (P.asked pages.old) (P.asked pages.new) }
     ensures fails { FailsReading P.Pages pages.old pages.new result }
     ensures frame { Reads P.Pages pages.old pages.new }
@@ -104,16 +104,16 @@ fn put_row<P: Pages>(
         (put (key_of key.node key.number) row.now (map_rows rows_form (P.pages pages.old) tree.old.rows))) }
     ensures root { tree.new.root ≡ tree.old.root }
     ensures kept { OnErr result (tree.new ≡ tree.old) }
-    ensures told { AreTold (P.pages pages.old) (P.count pages.old) → OnOk result (AreTold (P.pages pages.new) (P.count pages.new)) }
-    ensures honest { (free : List ℕ) → IsKept rows_form (view (P.pages pages.old) (P.count pages.old) (P.first pages.old) free) tree.old.rows
+    ensures told { AreReadable (P.pages pages.old) (P.count pages.old) → OnOk result (AreReadable (P.pages pages.new) (P.count pages.new)) }
+    ensures no_false_damage { (free : List ℕ) → IsKept rows_form (view (P.pages pages.old) (P.count pages.old) (P.first pages.old) free) tree.old.rows
         → (damage : Damage) → ¬ IsErrOf result (PageFault.Damaged damage) }
-    ensures damaged { AreTold (P.pages pages.old) (P.count pages.old) → (damage : Damage) → IsErrOf result (PageFault.Damaged damage)
+    ensures damaged { AreReadable (P.pages pages.old) (P.count pages.old) → (damage : Damage) → IsErrOf result (PageFault.Damaged damage)
         → (IsMapDamaged rows_form (P.pages pages.old) (P.count pages.old) tree.old.rows damage × AskedSince (P.asked pages.old) (P.asked pages.new) damage.page)
         ⊎ IsRefusedTake (P.pages pages.new) (P.count pages.new) (P.first pages.new) damage }
-    ensures stays { AreTold (P.pages pages.old) (P.count pages.old) → (damage : Damage) → IsErrOf result (PageFault.Damaged damage)
+    ensures stays { AreReadable (P.pages pages.old) (P.count pages.old) → (damage : Damage) → IsErrOf result (PageFault.Damaged damage)
         → ((P.pages pages.new ≡ P.pages pages.old) × (P.count pages.new ≡ P.count pages.old))
         ⊎ IsRefusedTake (P.pages pages.new) (P.count pages.new) (P.first pages.new) damage }
-    ensures own { AreTold (P.pages pages.old) (P.count pages.old)
+    ensures own { AreReadable (P.pages pages.old) (P.count pages.old)
         → AsksOnly (map_uses rows_form (P.pages pages.old) tree.old.rows) (P.asked pages.old) (P.asked pages.new) }
     ensures fails { FailsChanging P.Pages pages.old pages.new result }
     ensures frame { Changes P.Pages pages.old pages.new }
@@ -131,13 +131,13 @@ fn remove_row<P: Pages>(pages: &mut P, tree: &mut Tree, key: RowKey) -> Result<(
         (without (key_of key.node key.number) (map_rows rows_form (P.pages pages.old) tree.old.rows))) }
     ensures root { tree.new.root ≡ tree.old.root }
     ensures kept { OnErr result (tree.new ≡ tree.old) }
-    ensures told { AreTold (P.pages pages.old) (P.count pages.old) → OnOk result (AreTold (P.pages pages.new) (P.count pages.new)) }
-    ensures honest { (free : List ℕ) → IsKept rows_form (view (P.pages pages.old) (P.count pages.old) (P.first pages.old) free) tree.old.rows
+    ensures told { AreReadable (P.pages pages.old) (P.count pages.old) → OnOk result (AreReadable (P.pages pages.new) (P.count pages.new)) }
+    ensures no_false_damage { (free : List ℕ) → IsKept rows_form (view (P.pages pages.old) (P.count pages.old) (P.first pages.old) free) tree.old.rows
         → (damage : Damage) → ¬ IsErrOf result (PageFault.Damaged damage) }
-    ensures damaged { AreTold (P.pages pages.old) (P.count pages.old) → (damage : Damage) → IsErrOf result (PageFault.Damaged damage)
+    ensures damaged { AreReadable (P.pages pages.old) (P.count pages.old) → (damage : Damage) → IsErrOf result (PageFault.Damaged damage)
         → IsMapDamaged rows_form (P.pages pages.old) (P.count pages.old) tree.old.rows damage × AskedSince (P.asked pages.old) (P.asked pages.new) damage.page }
     ensures stays { (damage : Damage) → IsErrOf result (PageFault.Damaged damage) → (P.pages pages.new ≡ P.pages pages.old) × (P.count pages.new ≡ P.count pages.old) }
-    ensures own { AreTold (P.pages pages.old) (P.count pages.old)
+    ensures own { AreReadable (P.pages pages.old) (P.count pages.old)
         → AsksOnly (map_uses rows_form (P.pages pages.old) tree.old.rows) (P.asked pages.old) (P.asked pages.new) }
     ensures fails { FailsChanging P.Pages pages.old pages.new result }
     ensures frame { Changes P.Pages pages.old pages.new }
@@ -150,12 +150,12 @@ fn remove_row<P: Pages>(pages: &mut P, tree: &mut Tree, key: RowKey) -> Result<(
 
 /// Sets the row of a node for a word, by the word's number. A row of zeros is removed.
 ///
-/// Returns `Damaged` with a rule that a page asked for in this call breaks in its place, or as a `take` returned it; `Disk`,
-/// `NoRoom`, `Stopped`, or `Memory` if it runs out of memory. After a failure `tree` is as before. If a page breaks a rule in its
-/// place, no page has changed; after any other failure pages may have changed: they are to be abandoned.
+/// Returns `Damaged` with a rule that a page asked for in this call breaks in its place, or as a `take` returned it. Returns `Disk`,
+/// `NoRoom`, `Stopped`, or `Memory` if it runs out of memory. After a failure `tree` is as before. If a page breaks a rule in its place,
+/// no page has changed. After any other failure pages may have changed: the caller must abandon them.
 ///
-/// Looks at one page a level of the rows' map. Writes the leaf of the row alone if it has room, or more rows than it must have.
-/// Else writes at most three pages a level, and reads at most two by value. A row of zeros that isn't stored writes nothing.
+/// Looks at one page a level of the rows' map. Writes only the leaf of the row if it has room, or more rows than it must have.
+/// Otherwise writes at most three pages a level, and reads at most two by value. A row of zeros that isn't stored writes nothing.
 pub fn set_row<P: Pages>(
     pages: &mut P,
     tree: &mut Tree,
@@ -168,20 +168,20 @@ pub fn set_row<P: Pages>(
         (with_row node number row.now (bytes_in (P.pages pages.old) tree.old.rows))) }
     ensures root { tree.new.root ≡ tree.old.root }
     ensures kept { OnErr result (tree.new ≡ tree.old) }
-    ensures told { AreTold (P.pages pages.old) (P.count pages.old) → OnOk result (AreTold (P.pages pages.new) (P.count pages.new)) }
+    ensures told { AreReadable (P.pages pages.old) (P.count pages.old) → OnOk result (AreReadable (P.pages pages.new) (P.count pages.new)) }
 
     // On a well-formed map and a free list that ends at 0 no page is damaged.
-    ensures honest { (free : List ℕ) → IsKept rows_form (view (P.pages pages.old) (P.count pages.old) (P.first pages.old) free) tree.old.rows
+    ensures no_false_damage { (free : List ℕ) → IsKept rows_form (view (P.pages pages.old) (P.count pages.old) (P.first pages.old) free) tree.old.rows
         → (damage : Damage) → ¬ IsErrOf result (PageFault.Damaged damage) }
-    ensures damaged { AreTold (P.pages pages.old) (P.count pages.old) → (damage : Damage) → IsErrOf result (PageFault.Damaged damage)
+    ensures damaged { AreReadable (P.pages pages.old) (P.count pages.old) → (damage : Damage) → IsErrOf result (PageFault.Damaged damage)
         → (IsMapDamaged rows_form (P.pages pages.old) (P.count pages.old) tree.old.rows damage × AskedSince (P.asked pages.old) (P.asked pages.new) damage.page)
         ⊎ IsRefusedTake (P.pages pages.new) (P.count pages.new) (P.first pages.new) damage }
 
     // A rule that a page breaks is found before a page is written.
-    ensures stays { AreTold (P.pages pages.old) (P.count pages.old) → (damage : Damage) → IsErrOf result (PageFault.Damaged damage)
+    ensures stays { AreReadable (P.pages pages.old) (P.count pages.old) → (damage : Damage) → IsErrOf result (PageFault.Damaged damage)
         → ((P.pages pages.new ≡ P.pages pages.old) × (P.count pages.new ≡ P.count pages.old))
         ⊎ IsRefusedTake (P.pages pages.new) (P.count pages.new) (P.first pages.new) damage }
-    ensures own { AreTold (P.pages pages.old) (P.count pages.old)
+    ensures own { AreReadable (P.pages pages.old) (P.count pages.old)
         → AsksOnly (map_uses rows_form (P.pages pages.old) tree.old.rows) (P.asked pages.old) (P.asked pages.new) }
     ensures fails { FailsChanging P.Pages pages.old pages.new result }
     ensures frame { Changes P.Pages pages.old pages.new }
@@ -206,8 +206,8 @@ fn replace_row<P: Pages>(
     ensures put { (free : List ℕ) → IsKept rows_form (view (P.pages pages.old) (P.count pages.old) (P.first pages.old) free) tree.now.rows
         → OnOk result (HasBecome rows_form (view (P.pages pages.old) (P.count pages.old) (P.first pages.old) free) (P.pages pages.new) (P.count pages.new) (P.first pages.new) tree.now.rows tree.now.rows
         (put (key_of key.node key.number) row.now (map_rows rows_form (P.pages pages.old) tree.now.rows))) }
-    ensures told { AreTold (P.pages pages.old) (P.count pages.old) → OnOk result (AreTold (P.pages pages.new) (P.count pages.new)) }
-    ensures honest { (damage : Damage) → ¬ IsErrOf result (PageFault.Damaged damage) }
+    ensures told { AreReadable (P.pages pages.old) (P.count pages.old) → OnOk result (AreReadable (P.pages pages.new) (P.count pages.new)) }
+    ensures no_false_damage { (damage : Damage) → ¬ IsErrOf result (PageFault.Damaged damage) }
     ensures asked { P.asked pages.new ≡ P.asked pages.old }
     ensures fails { FailsChanging P.Pages pages.old pages.new result }
     ensures frame { Changes P.Pages pages.old pages.new }
@@ -216,9 +216,9 @@ fn replace_row<P: Pages>(
     map.replace(pages, spot, &key.bytes(), row)
 }
 
-/// Sets the row of a node for a word, which [`find_row`] has looked for: no other page was looked at since, and no page has changed.
+/// Sets the row of a node for a word, after [`find_row`] has looked for it: no other page was looked at since, and no page has changed.
 ///
-/// Fails as [`set_row`] does. Writes the row's leaf alone, with no way down, if the row was found and some byte of it stays. Else
+/// Fails as [`set_row`] does. Writes only the row's leaf, with no way down, if the row was found and some byte of it stays. Otherwise
 /// costs as much as [`set_row`].
 pub fn set_found<P: Pages>(
     pages: &mut P,
@@ -234,12 +234,12 @@ pub fn set_found<P: Pages>(
         (with_row node number row.now (bytes_in (P.pages pages.old) tree.old.rows))) }
     ensures root { tree.new.root ≡ tree.old.root }
     ensures kept { OnErr result (tree.new ≡ tree.old) }
-    ensures told { AreTold (P.pages pages.old) (P.count pages.old) → OnOk result (AreTold (P.pages pages.new) (P.count pages.new)) }
-    ensures honest { (free : List ℕ) → IsKept rows_form (view (P.pages pages.old) (P.count pages.old) (P.first pages.old) free) tree.old.rows
+    ensures told { AreReadable (P.pages pages.old) (P.count pages.old) → OnOk result (AreReadable (P.pages pages.new) (P.count pages.new)) }
+    ensures no_false_damage { (free : List ℕ) → IsKept rows_form (view (P.pages pages.old) (P.count pages.old) (P.first pages.old) free) tree.old.rows
         → (damage : Damage) → ¬ IsErrOf result (PageFault.Damaged damage) }
-    ensures damaged { AreTold (P.pages pages.old) (P.count pages.old) → (damage : Damage) → IsErrOf result (PageFault.Damaged damage)
+    ensures damaged { AreReadable (P.pages pages.old) (P.count pages.old) → (damage : Damage) → IsErrOf result (PageFault.Damaged damage)
         → IsRowsHarm (P.pages pages.new) (P.count pages.new) (P.first pages.new) tree.new.rows (P.asked pages.old) (P.asked pages.new) damage }
-    ensures own { AreTold (P.pages pages.old) (P.count pages.old)
+    ensures own { AreReadable (P.pages pages.old) (P.count pages.old)
         → AsksOnly (map_uses rows_form (P.pages pages.old) tree.old.rows) (P.asked pages.old) (P.asked pages.new) }
     ensures fails { FailsChanging P.Pages pages.old pages.new result }
     ensures frame { Changes P.Pages pages.old pages.new }

@@ -1,10 +1,10 @@
 //! Words that an entry shares with a node's slots.
 ghost use Rattle.std.specs.Prelude.{◌≡◌, ◌+◌, ◌<◌, ◌++◌, ◌∷◌, [], ℕ, List, filter, min, nat_lt, IfErr, IfOk, IsErrOf, OnOk, slice_index, slice_index_or};
 ghost use Rattle.page_face.specs.Calls.{Reads, FailsReading};
-ghost use Rattle.btree_nodes.specs.Damages.{AreTold, AskedSince, AsksOnly};
+ghost use Rattle.btree_nodes.specs.Damages.{AreReadable, AskedSince, AsksOnly};
 ghost use Rattle.btree_nodes.specs.Tree.{IsMap, map_uses};
 ghost use Rattle.paged_map.specs.Maps.{AreCounted, IsMapDamaged};
-ghost use Rattle.rtree_shape.specs.Stock.{rows_form};
+ghost use Rattle.rtree_nodes.specs.Stock.{rows_form};
 ghost use Rattle.node_rows.specs.Rows.{Bytes, bytes_in};
 ghost use Rattle.node_rows.specs.Counts.{most, shared_in, sign};
 ghost use Rattle.node_rows.specs.Impacts.{impact_in, raised};
@@ -16,7 +16,7 @@ use crate::words::push_word;
 use page_face::{Damage, PageFault, Pages};
 use std::alloc::Global;
 
-/// One more where the byte isn't 0.
+/// Returns the count, with 1 added if the byte isn't 0.
 pub(crate) fn more_by(count: u32, byte: u8) -> u32
     ensures { result ≡ min (count + sign byte) most }
 {
@@ -27,7 +27,7 @@ pub(crate) fn more_by(count: u32, byte: u8) -> u32
     }
 }
 
-// One more at each slot that has a byte.
+// Adds one at each slot that has a byte other than 0.
 fn add_signs(counts: &mut [u32; 32], row: &[u8; 32])
     ensures { (i : ℕ) → i < 32 → slice_index counts.new i ≡ min (slice_index counts.old i + sign (slice_index row.now i)) most }
 {
@@ -47,8 +47,8 @@ fn push_row(rows: &mut Vec<[u8; 32]>, row: [u8; 32]) -> Result<(), PageFault>
     }
 }
 
-/// Returns the row of a node for each of an entry's words, in the words' order: zeros if there is none. Of `words` the numbers
-/// count alone.
+/// Returns the row of a node for each of an entry's words, in the words' order: zeros if there is none. Only the numbers of `words`
+/// matter.
 ///
 /// Returns `Damaged`, `Disk`, `Stopped`, or `Memory` as [`row`] does, and `Memory` if it runs out of memory for them.
 ///
@@ -64,11 +64,11 @@ pub fn rows_at<P: Pages>(
         → IfOk result (λ rows. AreRowsAt (bytes_in (P.pages pages.old) tree.now.rows) node words.now rows.items) }
 
     // On a well-formed map whose pages are counted no page is damaged.
-    ensures honest { IsMap rows_form (P.pages pages.old) tree.now.rows → AreCounted (map_uses rows_form (P.pages pages.old) tree.now.rows) (P.count pages.old)
-        → AreTold (P.pages pages.old) (P.count pages.old) → (damage : Damage) → ¬ IsErrOf result (PageFault.Damaged damage) }
-    ensures damaged { AreTold (P.pages pages.old) (P.count pages.old) → (damage : Damage) → IsErrOf result (PageFault.Damaged damage)
+    ensures no_false_damage { IsMap rows_form (P.pages pages.old) tree.now.rows → AreCounted (map_uses rows_form (P.pages pages.old) tree.now.rows) (P.count pages.old)
+        → AreReadable (P.pages pages.old) (P.count pages.old) → (damage : Damage) → ¬ IsErrOf result (PageFault.Damaged damage) }
+    ensures damaged { AreReadable (P.pages pages.old) (P.count pages.old) → (damage : Damage) → IsErrOf result (PageFault.Damaged damage)
         → IsMapDamaged rows_form (P.pages pages.old) (P.count pages.old) tree.now.rows damage × AskedSince (P.asked pages.old) (P.asked pages.new) damage.page }
-    ensures own { AreTold (P.pages pages.old) (P.count pages.old)
+    ensures own { AreReadable (P.pages pages.old) (P.count pages.old)
         → AsksOnly (map_uses rows_form (P.pages pages.old) tree.now.rows) (P.asked pages.old) (P.asked pages.new) }
     ensures fails { FailsReading P.Pages pages.old pages.new result }
     ensures frame { Reads P.Pages pages.old pages.new }
@@ -81,7 +81,7 @@ pub fn rows_at<P: Pages>(
     Ok(rows)
 }
 
-/// Returns how many of an entry's words stand below each slot of a node, each count at most 2^32 - 1, by the node's row for each of
+/// Returns how many of an entry's words are below each slot of a node, each count at most 2^32 - 1, by the node's row for each of
 /// the words.
 pub fn shared_by(rows: &[[u8; 32]]) -> [u32; 32]
     ensures { (b : Bytes) (node : ℕ) (words : List (ℕ × ℕ)) → AreRowsAt b node words rows.now

@@ -2,7 +2,7 @@
 ghost use Rattle.std.specs.Prelude.{◌≡◌, ◌<◌, ◌==◌, ℕ, if◌then◌else◌, max, true, slice_index};
 ghost use Rattle.std.specs.Int.{bit_at};
 ghost use Rattle.page_face.specs.FreeList.{are_zero};
-ghost use Rattle.rtree_shape.specs.Slots.{top_to};
+ghost use Rattle.rtree_nodes.specs.Slots.{top_to};
 
 /// Returns a row of zeros.
 pub fn clear_row() -> [u8; 32]
@@ -27,7 +27,7 @@ fn is_set(slots: u32, at: usize) -> bool
     (slots >> at) & 1 == 1
 }
 
-/// The byte if it is wanted, and else 0.
+/// The byte if it is wanted, and 0 otherwise.
 fn pick(is_wanted: bool, byte: u8) -> u8
     ensures { result ≡ (if is_wanted then byte else 0) }
 {
@@ -45,7 +45,7 @@ pub fn moving(row: &[u8; 32], slots: u32) -> [u8; 32]
     out
 }
 
-/// Returns the bytes at the slots that aren't of a mask, and zeros at those that are.
+/// Returns the bytes at the slots that aren't in a mask, and zeros at those that are.
 pub fn staying(row: &[u8; 32], slots: u32) -> [u8; 32]
     ensures { (i : ℕ) → slice_index result i ≡ (if bit_at slots i == 1 then 0 else slice_index row.now i) }
 {

@@ -1,10 +1,10 @@
 //! The words of a node.
 ghost use Rattle.std.specs.Prelude.{◌≡◌, ◌+◌, ◌<◌, ◌≤◌, ◌^◌, ◌++◌, ◌∷◌, [], ℕ, max, IfErr, IfOk, IfSome, IsErrOf, OnOk};
 ghost use Rattle.page_face.specs.Calls.{Reads, FailsReading};
-ghost use Rattle.btree_nodes.specs.Damages.{AreTold, AsksOnly};
+ghost use Rattle.btree_nodes.specs.Damages.{AreReadable, AsksOnly};
 ghost use Rattle.btree_nodes.specs.Tree.{IsMap, map_uses};
 ghost use Rattle.paged_map.specs.Maps.{AreCounted};
-ghost use Rattle.rtree_shape.specs.Stock.{rows_form};
+ghost use Rattle.rtree_nodes.specs.Stock.{rows_form};
 ghost use Rattle.node_rows.specs.Rows.{bytes_in};
 ghost use Rattle.node_rows.specs.Ascents.{reached, until};
 ghost use Rattle.node_rows.specs.Copies.{IsCopy};
@@ -39,7 +39,7 @@ pub(crate) fn push_word(
     }
 }
 
-// Adds the word of a node's first row from a word on, with the greatest of its bytes. Returns the word behind it.
+// Adds the word of a node's first row from number `at` on, with the greatest of its bytes. Returns the number to go on from, if any.
 fn add_next<P: Pages>(
     pages: &mut P,
     tree: &Tree,
@@ -55,11 +55,11 @@ fn add_next<P: Pages>(
     ensures copy { IsMap rows_form (P.pages pages.old) tree.now.rows → IsCopy (bytes_in (P.pages pages.old) tree.now.rows) node copy.old
         → OnOk result (IsCopy (bytes_in (P.pages pages.old) tree.now.rows) node copy.new) }
     ensures onto { IfOk result (λ next. IfSome next (λ word. at < word)) }
-    ensures honest { IsMap rows_form (P.pages pages.old) tree.now.rows → AreCounted (map_uses rows_form (P.pages pages.old) tree.now.rows) (P.count pages.old)
-        → AreTold (P.pages pages.old) (P.count pages.old) → (damage : Damage) → ¬ IsErrOf result (PageFault.Damaged damage) }
-    ensures damaged { AreTold (P.pages pages.old) (P.count pages.old) → (damage : Damage) → IsErrOf result (PageFault.Damaged damage)
+    ensures no_false_damage { IsMap rows_form (P.pages pages.old) tree.now.rows → AreCounted (map_uses rows_form (P.pages pages.old) tree.now.rows) (P.count pages.old)
+        → AreReadable (P.pages pages.old) (P.count pages.old) → (damage : Damage) → ¬ IsErrOf result (PageFault.Damaged damage) }
+    ensures damaged { AreReadable (P.pages pages.old) (P.count pages.old) → (damage : Damage) → IsErrOf result (PageFault.Damaged damage)
         → IsRowsDamage (P.pages pages.old) (P.count pages.old) tree.now.rows (P.asked pages.old) (P.asked pages.new) damage }
-    ensures own { AreTold (P.pages pages.old) (P.count pages.old)
+    ensures own { AreReadable (P.pages pages.old) (P.count pages.old)
         → AsksOnly (map_uses rows_form (P.pages pages.old) tree.now.rows) (P.asked pages.old) (P.asked pages.new) }
     ensures fails { FailsReading P.Pages pages.old pages.new result }
     ensures frame { Reads P.Pages pages.old pages.new }
@@ -76,8 +76,8 @@ fn add_next<P: Pages>(
 ///
 /// Returns `Damaged` as [`next_row`](crate::next_row) does; `Disk`, `Stopped`, or `Memory` if it runs out of memory.
 ///
-/// For a node of W words in L leaves of the rows' map, costs at most L + 4 ways down, each of which looks at one page a level, and
-/// copies a leaf for each but two of them. Writes no page.
+/// For a node of W words in L leaves of the rows' map, costs at most L + 4 ways down. Each looks at one page a level, and all except two
+/// copy a leaf. Writes no page.
 pub fn words_of<P: Pages>(
     alloc: Global,
     pages: &mut P,
@@ -89,11 +89,11 @@ pub fn words_of<P: Pages>(
     ensures ordered { IfOk result (λ words. AreWords 0 (2 ^ 64) words.items) }
 
     // On a well-formed map whose pages are counted no page is damaged.
-    ensures honest { IsMap rows_form (P.pages pages.old) tree.now.rows → AreCounted (map_uses rows_form (P.pages pages.old) tree.now.rows) (P.count pages.old)
-        → AreTold (P.pages pages.old) (P.count pages.old) → (damage : Damage) → ¬ IsErrOf result (PageFault.Damaged damage) }
-    ensures damaged { AreTold (P.pages pages.old) (P.count pages.old) → (damage : Damage) → IsErrOf result (PageFault.Damaged damage)
+    ensures no_false_damage { IsMap rows_form (P.pages pages.old) tree.now.rows → AreCounted (map_uses rows_form (P.pages pages.old) tree.now.rows) (P.count pages.old)
+        → AreReadable (P.pages pages.old) (P.count pages.old) → (damage : Damage) → ¬ IsErrOf result (PageFault.Damaged damage) }
+    ensures damaged { AreReadable (P.pages pages.old) (P.count pages.old) → (damage : Damage) → IsErrOf result (PageFault.Damaged damage)
         → IsRowsDamage (P.pages pages.old) (P.count pages.old) tree.now.rows (P.asked pages.old) (P.asked pages.new) damage }
-    ensures own { AreTold (P.pages pages.old) (P.count pages.old)
+    ensures own { AreReadable (P.pages pages.old) (P.count pages.old)
         → AsksOnly (map_uses rows_form (P.pages pages.old) tree.now.rows) (P.asked pages.old) (P.asked pages.new) }
     ensures fails { FailsReading P.Pages pages.old pages.new result }
     ensures frame { Reads P.Pages pages.old pages.new }

@@ -16,8 +16,8 @@ pub digit_tells : (byte : ℕ) → ((is_ascii_digit byte ≡ true) × IsDigit by
 digit_tells byte = grind (arith, nat_tests)
 
 -- what a comparison says
-pub is_tells : (a b : ℕ) → (((a == b) ≡ true) × (a ≡ b)) ⊎ (((a == b) ≡ false) × (a ≢ b))
-is_tells a b = grind (arith, nat_tests)
+pub is_readable : (a b : ℕ) → (((a == b) ≡ true) × (a ≡ b)) ⊎ (((a == b) ≡ false) × (a ≢ b))
+is_readable a b = grind (arith, nat_tests)
 
 -- a byte of the grammar's digits passes the test
 pub is_digit : (byte : ℕ) → IsDigit byte → is_ascii_digit byte ≡ true
@@ -132,7 +132,7 @@ one_set_of_parts bytes p q as_p as_q = parts_are_cut bytes p as_p ∙ sym (parts
 -- the sign that stands first is one, and what follows it is the rest
 pub IsMinus-first_minus : (bytes : List ℕ) → IsMinus (first_minus bytes)
 IsMinus-first_minus [] = tt
-IsMinus-first_minus (byte ∷ rest) = elim (is_tells byte 45) [
+IsMinus-first_minus (byte ∷ rest) = elim (is_readable byte 45) [
   | inl minus ↦ rw (minus.0) (minus.1, refl)
   | inr other ↦ rw (other.0) tt
 ]
@@ -140,7 +140,7 @@ IsMinus-first_minus (byte ∷ rest) = elim (is_tells byte 45) [
 -- the sign and what follows it are all
 pub first-after_minus : (bytes : List ℕ) → first_minus bytes ++ after_minus bytes ≡ bytes
 first-after_minus [] = refl
-first-after_minus (byte ∷ rest) = elim (is_tells byte 45) [
+first-after_minus (byte ∷ rest) = elim (is_readable byte 45) [
   | inl minus ↦ rw (minus.0) refl
   | inr other ↦ rw (other.0) refl
 ]
@@ -148,7 +148,7 @@ first-after_minus (byte ∷ rest) = elim (is_tells byte 45) [
 -- the fraction and what follows it are all
 pub first-after_frac : (bytes : List ℕ) → first_frac bytes ++ after_frac bytes ≡ bytes
 first-after_frac [] = refl
-first-after_frac (byte ∷ rest) = elim (is_tells byte 46) [
+first-after_frac (byte ∷ rest) = elim (is_readable byte 46) [
   | inl point ↦ rw (point.0) (ap (λ xs. byte ∷ xs) (first-after_digits rest))
   | inr other ↦ rw (other.0) refl
 ]

@@ -6,7 +6,7 @@ use Rattle.number_grammar.specs.declared.stage.Stage.{Stage}
 use Rattle.number_grammar.specs.declared.stage.Stage.TheVariants.{Start, Minus, Zero, Whole, Point, Fraction, Letter, Sign, Exponent}
 use Rattle.number_grammar.specs.Number.{IsDigit, AreDigits, IsDigits, IsMinus, IsInt, IsFrac, IsExp, IsSignedDigits, IsNumber}
 use Rattle.number_grammar.specs.Stages.{Continues, next_stage, stage_of_digit, stage_of_exp, stage_of_frac}
-use Rattle.number_grammar.proofs.Cuts.{digit_tells, is_tells, AreDigits-IsDigits}
+use Rattle.number_grammar.proofs.Cuts.{digit_tells, is_readable, AreDigits-IsDigits}
 
 -- after the byte a number that had come to the old stage is at the new one, or no number goes on with it
 abbrev pub Steps : Stage → ℕ → Option Stage → Type 0
@@ -62,9 +62,9 @@ letter_is_no_digit byte letter digit = grind arith
 
 -- an exponent's letter goes on with a sign or a digit
 Steps-letter : (byte : ℕ) → Steps Letter byte (next_stage Letter byte)
-Steps-letter byte = elim (is_tells byte 43) [
+Steps-letter byte = elim (is_readable byte 43) [
   | inl plus ↦ rw (plus.0) (λ rest. (λ h. elim h [ inl signed ↦ signed.1 | inr digits ↦ grind arith ], λ h. inl (inr (plus.1), h)))
-  | inr not_plus ↦ elim (is_tells byte 45) [
+  | inr not_plus ↦ elim (is_readable byte 45) [
     | inl minus ↦ rw (not_plus.0, minus.0) (λ rest. (λ h. elim h [ inl signed ↦ signed.1 | inr digits ↦ grind arith ], λ h. inl (inl (minus.1), h)))
     | inr not_minus ↦ elim (digit_tells byte) [
       | inl digit ↦ rw (not_plus.0, not_minus.0, digit.0) (λ rest. (λ h. elim h [ inl signed ↦ grind arith | inr digits ↦ digits.1 ], λ h. inr (digit.1, h)))
@@ -87,7 +87,7 @@ Steps-by_exp stage byte to from = elim (letter_tells byte) [
 -- where a stage goes on with a fraction or an exponent
 Steps-by_frac : (stage : Stage) (byte : ℕ) → ((rest : List ℕ) → Continues stage (byte ∷ rest) → ((byte ≡ 46) × Continues Point rest) ⊎ (IsLetter byte × IsSignedDigits rest)) →
     ((rest : List ℕ) → byte ≡ 46 → Continues Point rest → Continues stage (byte ∷ rest)) → ((rest : List ℕ) → IsLetter byte → IsSignedDigits rest → Continues stage (byte ∷ rest)) → Steps stage byte (stage_of_frac byte)
-Steps-by_frac stage byte to from_point from_exp = elim (is_tells byte 46) [
+Steps-by_frac stage byte to from_point from_exp = elim (is_readable byte 46) [
   | inl point ↦ rw (point.0) (λ rest. (λ h. elim (to rest h) [ inl fraction ↦ fraction.1 | inr exponent ↦ grind arith ], λ h. from_point rest (point.1) h))
   | inr other ↦ rw (other.0) (Steps-by_exp stage byte (λ rest h. elim (to rest h) [ inl fraction ↦ absurd (other.1 (fraction.0)) | inr exponent ↦ exponent ]) from_exp)
 ]
@@ -178,7 +178,7 @@ unsigned_from_digit byte rest low high (digits, frac, exp, whole, are_digits, is
 
 -- where a stage goes on with an integer
 Steps-by_int : (stage : Stage) (byte : ℕ) → ((rest : List ℕ) → Continues stage (byte ∷ rest) → Continues Minus (byte ∷ rest)) → ((rest : List ℕ) → Continues Minus (byte ∷ rest) → Continues stage (byte ∷ rest)) → Steps stage byte (stage_of_digit byte)
-Steps-by_int stage byte to from = elim (is_tells byte 48) [
+Steps-by_int stage byte to from = elim (is_readable byte 48) [
   | inl zero_digit ↦ rw (zero_digit.0) (λ rest. (
     λ h. elim (first_of_unsigned byte rest (to rest h)) [ inl alone ↦ alone.1 | inr more ↦ absurd (omega arith) ],
     λ h. from rest (unsigned_from_zero byte rest (zero_digit.1) h),
@@ -222,7 +222,7 @@ no_sign_unsigned byte rest sign h = elim (first_of_unsigned byte rest h) [ inl a
 
 -- a number begins with a sign or an integer
 Steps-start : (byte : ℕ) → Steps Start byte (next_stage Start byte)
-Steps-start byte = elim (is_tells byte 45) [
+Steps-start byte = elim (is_readable byte 45) [
   | inl sign ↦ rw (sign.0) (λ rest. (
     λ h. elim (number_cases byte rest h) [ inl signed ↦ signed.1 | inr unsigned ↦ absurd (no_sign_unsigned byte rest (sign.1) unsigned) ],
     λ h. signed_number byte rest (sign.1) h,

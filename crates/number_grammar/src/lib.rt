@@ -1,10 +1,13 @@
-//! The grammar of JSON numbers, [RFC 8259](https://www.rfc-editor.org/rfc/rfc8259#section-6), section 6,
-//! stated over bytes. `specs/Number.antt` says which bytes are a number and which parts it has, and
-//! `specs/Cut.antt` where the parts end. What reads numbers cites these.
+//! The grammar of JSON numbers, [RFC 8259](https://www.rfc-editor.org/rfc/rfc8259#section-6), section 6, stated over bytes.
 //!
-//! [`parts_are_one`] promises that a number has one set of parts, and [`tests_are_the_grammar`] that the test of
-//! `specs/Tests.antt` passes just the numbers. [`Stage`] follows a number byte by byte:
-//! [`Stage::next`] refuses just the byte with which no number goes on.
+//! `specs/Number.antt` defines which bytes are a number and what its parts are, and `specs/Cut.antt` where the parts end. The crates
+//! that read numbers cite these definitions.
+//!
+//! [`parts_are_one`] promises that a number has only one set of parts. [`tests_are_the_grammar`] promises that the test of
+//! `specs/Tests.antt` passes exactly the numbers. [`Stage`] follows a number byte by byte: [`Stage::next`] refuses a byte exactly if no
+//! number continues with it.
+//!
+//! Tests: `text_tests/src/number_grammar_tests.rt`.
 #![tactic(auto)]
 
 mod stage;
@@ -15,12 +18,12 @@ ghost use Rattle.number_grammar.specs.Tests.{is_number};
 
 pub use stage::Stage;
 
-/// A number has one set of parts. The call does nothing: its contract is the law.
+/// A number has only one set of parts. The call does nothing: its contract is the law.
 pub fn parts_are_one()
     ensures { (bytes : List ℕ) (one other : Parts) → IsMadeOf bytes one → IsMadeOf bytes other → one ≡ other }
 {}
 
-/// The test `is_number` of `specs/Tests.antt` passes just the numbers. The call does nothing: its contract is the law.
+/// The test `is_number` of `specs/Tests.antt` passes exactly the numbers. The call does nothing: its contract is the law.
 pub fn tests_are_the_grammar()
     ensures { (bytes : List ℕ) → IsTrue (is_number bytes) ↔ IsNumber bytes }
 {}

@@ -1,23 +1,23 @@
-/// How far the bytes so far have brought a number.
+/// How much of a number the bytes read so far have given.
 #[derive(Clone, Copy, Debug, PartialEq, Eq, Drop)]
 pub enum Stage {
-    /// No byte has come.
+    /// No byte was read.
     Start,
-    /// The sign has come.
+    /// The sign was read.
     Minus,
-    /// The digits before the point are `0`, and no more of them may come.
+    /// The digits before the point are `0`, and no more of them may follow.
     Zero,
-    /// Digits before the point have come, and more may come.
+    /// Digits before the point were read, and more may follow.
     Whole,
-    /// The point has come.
+    /// The point was read.
     Point,
-    /// Digits after the point have come.
+    /// Digits after the point were read.
     Fraction,
-    /// `e` or `E` has come.
+    /// `e` or `E` was read.
     Letter,
-    /// The exponent's sign has come.
+    /// The exponent's sign was read.
     Sign,
-    /// Digits of the exponent have come.
+    /// Digits of the exponent were read.
     Exponent,
 }
 
@@ -25,7 +25,7 @@ impl Stage {
     ghost use Rattle.std.specs.Prelude.{◌≡◌, ◌∷◌, [], ℕ, List, IfSome, IfNone, IsTrue, ◌↔◌};
     ghost use Rattle.number_grammar.specs.Stages.{Continues, next_stage};
 
-    /// The stage after one byte more; `None` where no number goes on with it.
+    /// Returns the stage after one more byte, or `None` if no number continues with that byte.
     pub fn next(self, byte: u8) -> Option<Stage>
         ensures some { IfSome result (λ stage. (rest : List ℕ) → Continues self (byte ∷ rest) ↔ Continues stage rest) }
         ensures none { IfNone result ((rest : List ℕ) → Continues self (byte ∷ rest) → ⊥) }
@@ -33,13 +33,13 @@ impl Stage {
         self.after(byte)
     }
 
-    /// From each stage some bytes make the number whole, so what has come begins one. The call does nothing:
-    /// its contract is the law.
+    /// From each stage some bytes complete a number, so the bytes so far are the beginning of one. The call does nothing: its contract
+    /// is the law.
     pub fn begins_a_number(self)
         ensures { (rest : List ℕ) × Continues self rest }
     {}
 
-    /// The stage after one byte more, by the tables of the grammar.
+    /// The stage after one more byte, by the tables of the grammar.
     fn after(self, byte: u8) -> Option<Stage>
         ensures { result ≡ next_stage self byte }
     {
@@ -62,7 +62,7 @@ impl Stage {
         }
     }
 
-    /// Whether the bytes so far are a number.
+    /// Returns whether the bytes so far are a whole number of the grammar.
     pub fn is_number(self) -> bool
         ensures { IsTrue result ↔ Continues self [] }
     {

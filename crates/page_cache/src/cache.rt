@@ -12,10 +12,10 @@ use std::num::NonZeroUsize;
 #[derive(Clone, Copy, Debug, PartialEq, Eq)]
 pub struct Memory;
 
-/// Pages and their bytes, at most so many as the cache was made for, the one used last first.
+/// Pages and their bytes, at most as many as the cache was made for, the one used last first.
 ///
-/// A cache of 0 pages holds nothing. No call looks at the disk. The cache takes the memory of the pages that it holds, and of one more once
-/// it is full.
+/// A cache of 0 pages holds nothing. No call looks at the disk. The cache takes the memory of the pages that it holds, and of one more
+/// once it is full.
 #[derive(Drop)]
 pub struct Cache {
     alloc: Global,
@@ -55,7 +55,7 @@ impl Cache {
         }
     }
 
-    /// Brings a page to the front, so that `looked` lends it, and returns whether it is there. Costs one look-up and no copy.
+    /// Makes a page the one used last, so that `looked` lends it, and returns whether it is there. Costs one look-up and no copy.
     pub fn look(&mut self, page: u32) -> bool
         ensures found { result ≡ is_some (bytes_at page (pairs_of self.old)) }
         ensures front { pairs_of self.new ≡ to_front page (pairs_of self.old) }
@@ -79,10 +79,9 @@ impl Cache {
         }
     }
 
-    /// Puts a page and its bytes first, in the place of those that are held of it, and drops the page used least recently if there are too
-    /// many.
+    /// Puts a page and its bytes first, replacing the bytes held of it, and drops the page used least recently if there are too many.
     ///
-    /// Runs out of memory only for a page that isn't held; then all is as before. Costs a look-up and a copy of the page. No page is
+    /// Runs out of memory only for a page that isn't held; then everything is as before. Costs a look-up and a copy of the page. No page is
     /// allocated for one that is held, or once a page has been dropped.
     pub fn keep(&mut self, page: u32, bytes: &Page) -> Result<(), Memory>
         ensures kept { OnOk result (pairs_of self.new ≡ with_first (room_of self.old) page bytes.now (pairs_of self.old)) }

@@ -1,4 +1,4 @@
-//! The pages of a cache that has room, in boxes.
+//! The pages of a cache that has room, each in a box.
 ghost use Rattle.std.specs.Prelude.{◌≡◌, ◌≢◌, ℕ, List, None, Some, IsTrue, false, IfOk, OnOk, OnErr, is_some, option_copied};
 ghost use Rattle.page_cache.specs.Pairs.{bytes_at, first_bytes, without, to_front, with_first, pairs_in};
 
@@ -7,7 +7,7 @@ use lru::LruCache;
 use page_face::Page;
 use std::alloc::Global;
 
-// Brings a page to the front, and returns whether it is there.
+// Makes a page the one used last, and returns whether it is there.
 pub(crate) fn recall(shelf: &mut LruCache<u32, Box<Page>>, page: u32) -> bool
     ensures found { result ≡ is_some (bytes_at page (pairs_in shelf.old.entries)) }
     ensures front { pairs_in shelf.new.entries ≡ to_front page (pairs_in shelf.old.entries) }
@@ -28,7 +28,7 @@ pub(crate) fn first(shelf: &LruCache<u32, Box<Page>>) -> Option<&Page>
     }
 }
 
-// Copies the bytes of a page that is there into its box, brings it to the front, and returns whether it is there.
+// Copies the bytes of a page that is there into its box, makes it the one used last, and returns whether it is there.
 pub(crate) fn refill(shelf: &mut LruCache<u32, Box<Page>>, page: u32, bytes: &Page) -> bool
     ensures found { result ≡ is_some (bytes_at page (pairs_in shelf.old.entries)) }
     ensures kept { IsTrue result → pairs_in shelf.new.entries ≡ with_first shelf.old.cap page bytes.now (pairs_in shelf.old.entries) }
@@ -47,7 +47,7 @@ pub(crate) fn refill(shelf: &mut LruCache<u32, Box<Page>>, page: u32, bytes: &Pa
     }
 }
 
-// A box with the bytes of a page: the spare one, if there is one.
+// A box with the bytes of a page: the spare box, if there is one.
 pub(crate) fn filled(
     alloc: Global,
     spare: Option<Box<Page>>,
@@ -67,7 +67,7 @@ pub(crate) fn filled(
     }
 }
 
-// Puts a page and its bytes first, and returns the box that is left over, if one is.
+// Puts a page and its bytes first, and returns the box that is left over, if any.
 pub(crate) fn put(
     shelf: &mut LruCache<u32, Box<Page>>,
     page: u32,

@@ -1,8 +1,8 @@
-//! What a page of cells was found to be.
+//! A seal: what a page of cells was found to be when it was checked.
 
 /// What a page of a map is checked as: the map's number, the lengths of its keys and values in bytes, and the page's level.
 ///
-/// Which rules a page keeps by itself, so that it needn't be checked again while its bytes stay, says `specs/Sound.antt`.
+/// `specs/Sound.antt` states which rules a page keeps by itself, so that it needn't be checked again while its bytes stay the same.
 #[derive(Clone, Copy, Debug, PartialEq, Eq)]
 pub struct Seal {
     /// The map's number.

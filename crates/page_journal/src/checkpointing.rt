@@ -1,4 +1,4 @@
-//! Bringing the journal's pages to their places.
+//! Writing the journal's pages in their places.
 ghost use Rattle.std.specs.Prelude.{◌≡◌, ◌<◌, IsTrue, IfErr, OnOk};
 ghost use Rattle.disk_model.specs.World.{LeavesOnly, LeavesOnlySeen, Keeps, HasDiskCause};
 ghost use Rattle.disk_model.specs.declared.disk.Area.TheVariants as areas;
@@ -12,13 +12,13 @@ use disk_model::{Area, Disk, Failed};
 use page_face::Page;
 use std::collections::BTreeMap;
 
-// Writes the pages that are there in their places, and makes them safe.
+// Writes the pages that are present in their places, and makes them safe.
 fn install<D: Disk>(disk: &mut D, pages: &BTreeMap<u32, Option<Box<Page>>>) -> Result<(), Failed>
-    requires { IsTrue D.tells → LeavesOnlySeen (D.world disk.old) }
-    ensures keeps { IsTrue D.tells → Keeps (AllButPages (batch_of (kept pages.now.entries))) (D.world disk.old) (D.world disk.new) }
-    ensures done { IsTrue D.tells → OnOk result ((D.world disk.new).seen areas.Pages
+    requires { IsTrue D.readable → LeavesOnlySeen (D.world disk.old) }
+    ensures keeps { IsTrue D.readable → Keeps (AllButPages (batch_of (kept pages.now.entries))) (D.world disk.old) (D.world disk.new) }
+    ensures done { IsTrue D.readable → OnOk result ((D.world disk.new).seen areas.Pages
         ≡ with_batch (batch_of (kept pages.now.entries)) ((D.world disk.old).seen areas.Pages)) }
-    ensures safe { IsTrue D.tells → OnOk result (LeavesOnlySeen (D.world disk.new)) }
+    ensures safe { IsTrue D.readable → OnOk result (LeavesOnlySeen (D.world disk.new)) }
     ensures cause { HasDiskCause (D.world disk.old) (D.world disk.new) result }
     ensures room { D.room_of disk.new ≡ D.room_of disk.old }
 {
@@ -35,25 +35,25 @@ fn install<D: Disk>(disk: &mut D, pages: &BTreeMap<u32, Option<Box<Page>>>) -> R
 /// The pages are the last images of all records of the journal; a number without a page is passed over. The journal
 /// has a record, and nothing is pending, as the call begins. After Ok nothing is pending, and the next record begins at 0.
 ///
-/// Returns `Disk` alone, if a call of the disk fails. At every moment an image that a crash may leave stands for the same pages.
+/// Returns only `Disk`, if a call of the disk fails. At every moment an image that a crash may leave holds the same pages.
 /// Takes no memory. Costs a write for each page, one of the gate's byte, and two syncs.
 pub fn checkpoint<D: Disk>(
     disk: &mut D,
     pages: &BTreeMap<u32, Option<Box<Page>>>,
 ) -> Result<(), JournalFault>
-    requires safe { IsTrue D.tells → LeavesOnlySeen (D.world disk.old) }
-    requires journal { IsTrue D.tells → IsJournal ((D.world disk.old).seen areas.Journal) }
-    requires some { IsTrue D.tells → 0 < journal_end ((D.world disk.old).seen areas.Journal) }
-    requires images { IsTrue D.tells → AreLastImages (batch_of (kept pages.now.entries)) (D.world disk.old).seen }
+    requires safe { IsTrue D.readable → LeavesOnlySeen (D.world disk.old) }
+    requires journal { IsTrue D.readable → IsJournal ((D.world disk.old).seen areas.Journal) }
+    requires some { IsTrue D.readable → 0 < journal_end ((D.world disk.old).seen areas.Journal) }
+    requires images { IsTrue D.readable → AreLastImages (batch_of (kept pages.now.entries)) (D.world disk.old).seen }
 
-    // A crash at any moment leaves what stands for the same pages.
-    ensures any_moment { IsTrue D.tells → LeavesOnly (D.world disk.old) (D.world disk.new) (LeavesPages (applied (D.world disk.old).seen) (D.world disk.old)) }
+    // A crash at any moment leaves an image that holds the same pages.
+    ensures any_moment { IsTrue D.readable → LeavesOnly (D.world disk.old) (D.world disk.new) (LeavesPages (applied (D.world disk.old).seen) (D.world disk.old)) }
 
-    ensures in_place { IsTrue D.tells → OnOk result ((D.world disk.new).seen areas.Pages ≡ applied (D.world disk.old).seen) }
-    ensures applied { IsTrue D.tells → OnOk result (applied (D.world disk.new).seen ≡ applied (D.world disk.old).seen) }
-    ensures ready { IsTrue D.tells → OnOk result (IsReady 0 (D.world disk.new)) }
+    ensures in_place { IsTrue D.readable → OnOk result ((D.world disk.new).seen areas.Pages ≡ applied (D.world disk.old).seen) }
+    ensures applied { IsTrue D.readable → OnOk result (applied (D.world disk.new).seen ≡ applied (D.world disk.old).seen) }
+    ensures ready { IsTrue D.readable → OnOk result (IsReady 0 (D.world disk.new)) }
 
-    ensures quiet { IsTrue D.tells → SaysNothing (D.world disk.old) (D.world disk.new) }
+    ensures quiet { IsTrue D.readable → SaysNothing (D.world disk.old) (D.world disk.new) }
     ensures cause { HasJournalCause (D.world disk.old) (D.world disk.new) result }
     ensures disk_alone { IfErr result (λ fault. fault ≡ faults.Disk) }
     ensures room { D.room_of disk.new ≡ D.room_of disk.old }

@@ -9,7 +9,7 @@ use disk_model::Failed;
 pub enum JournalFault {
     /// The disk failed, and its count of faults rose.
     Disk,
-    /// An open gate stands before bytes that are no record: the offset of the first byte of the field that breaks its form.
+    /// An open gate comes before bytes that are no record: the offset of the first byte of the field that breaks its form.
     BadJournal(u64),
 }
 

@@ -6,13 +6,13 @@ use page_face::Page;
 use std::alloc::{AllocError, Global};
 use std::collections::BTreeMap;
 
-/// The bytes of a record behind its gate, gathered so that it is written at once.
+/// The bytes of a record after its gate, gathered so that one write writes them all.
 #[derive(Drop)]
 pub struct Record {
     pub(crate) bytes: Vec<u8>,
 }
 
-// A page in a map is known to have 4,096 bytes only through this.
+// The bytes of a page. Only through this is a page in a map known to have 4,096 bytes.
 pub(crate) fn bytes_of(page: &Page) -> &[u8]
     ensures same { result.now ≡ page.now }
     ensures size { length result.now ≡ 4096 }

@@ -1,4 +1,4 @@
-//! Finishing what a crash cut off.
+//! Recovery: writing the journal's records in their places after a crash.
 ghost use Rattle.std.specs.Prelude.{◌≡◌, ◌≢◌, ◌<◌, ◌+◌, ◌*◌, ◌^◌, IsTrue, ℕ, IfOk, IfErr, OnOk, IsErrOf};
 ghost use Rattle.disk_model.specs.World.{LeavesOnly, LeavesOnlySeen, Keeps, WritesNothing, HasDiskCause};
 ghost use Rattle.disk_model.specs.declared.disk.Area.TheVariants as areas;
@@ -9,11 +9,11 @@ use crate::JournalFault;
 use crate::gate::set_gate;
 use disk_model::{Area, Disk, Failed};
 
-// The number that four bytes of the journal spell.
+// Reads the u32 in four bytes of the journal.
 fn read_word<D: Disk>(disk: &mut D, at: u64) -> Result<u32, Failed>
     requires { at + 4 < 2 ^ 48 }
-    ensures rested { IsTrue D.tells → WritesNothing (D.world disk.old) (D.world disk.new) }
-    ensures word { IsTrue D.tells → IfOk result (λ n. n ≡ word ((D.world disk.old).seen areas.Journal) at) }
+    ensures rested { IsTrue D.readable → WritesNothing (D.world disk.old) (D.world disk.new) }
+    ensures word { IsTrue D.readable → IfOk result (λ n. n ≡ word ((D.world disk.old).seen areas.Journal) at) }
     ensures cause { HasDiskCause (D.world disk.old) (D.world disk.new) result }
     ensures room { D.room_of disk.new ≡ D.room_of disk.old }
 {
@@ -22,11 +22,11 @@ fn read_word<D: Disk>(disk: &mut D, at: u64) -> Result<u32, Failed>
     Ok(u32::from_be_bytes(bytes))
 }
 
-// A byte of the journal.
+// Reads a byte of the journal.
 fn read_byte<D: Disk>(disk: &mut D, at: u64) -> Result<u8, Failed>
     requires { at + 1 < 2 ^ 48 }
-    ensures rested { IsTrue D.tells → WritesNothing (D.world disk.old) (D.world disk.new) }
-    ensures byte { IsTrue D.tells → IfOk result (λ n. n ≡ (D.world disk.old).seen areas.Journal at) }
+    ensures rested { IsTrue D.readable → WritesNothing (D.world disk.old) (D.world disk.new) }
+    ensures byte { IsTrue D.readable → IfOk result (λ n. n ≡ (D.world disk.old).seen areas.Journal at) }
     ensures cause { HasDiskCause (D.world disk.old) (D.world disk.new) result }
     ensures room { D.room_of disk.new ≡ D.room_of disk.old }
 {
@@ -35,18 +35,18 @@ fn read_byte<D: Disk>(disk: &mut D, at: u64) -> Result<u8, Failed>
     Ok(bytes[0])
 }
 
-// Each gate stands below this, so that a byte behind it can be read.
+// Each gate is below this offset, so that a byte after it can be read.
 const END: u64 = (1 << 48) - 1;
 
-// The number of pages of the record whose gate stands here.
+// Reads the number of pages of the record whose gate is here.
 fn read_count<D: Disk>(disk: &mut D, at: u64) -> Result<u32, JournalFault>
     requires { at + 1 < 2 ^ 48 }
-    ensures rested { IsTrue D.tells → WritesNothing (D.world disk.old) (D.world disk.new) }
-    ensures count { IsTrue D.tells → IfOk result (λ n. n ≡ (batch_at ((D.world disk.old).seen areas.Journal) at).count) }
+    ensures rested { IsTrue D.readable → WritesNothing (D.world disk.old) (D.world disk.new) }
+    ensures count { IsTrue D.readable → IfOk result (λ n. n ≡ (batch_at ((D.world disk.old).seen areas.Journal) at).count) }
     ensures some { IfOk result (λ n. 0 < n) }
     ensures fits { IfOk result (λ n. at + 5 + 4100 * n + 1 < 2 ^ 48) }
-    ensures bad { IsTrue D.tells → (fault : ℕ) → IsErrOf result (faults.BadJournal fault) → IsFirstFault ((D.world disk.old).seen areas.Journal) at fault }
-    ensures refused { IsTrue D.tells → (fault : ℕ) → IsErrOf result (faults.BadJournal fault) → Fits ((D.world disk.old).seen areas.Journal) at → ⊥ }
+    ensures bad { IsTrue D.readable → (fault : ℕ) → IsErrOf result (faults.BadJournal fault) → IsFirstFault ((D.world disk.old).seen areas.Journal) at fault }
+    ensures refused { IsTrue D.readable → (fault : ℕ) → IsErrOf result (faults.BadJournal fault) → Fits ((D.world disk.old).seen areas.Journal) at → ⊥ }
     ensures cause { HasJournalCause (D.world disk.old) (D.world disk.new) result }
     ensures room { D.room_of disk.new ≡ D.room_of disk.old }
 {
@@ -60,14 +60,14 @@ fn read_count<D: Disk>(disk: &mut D, at: u64) -> Result<u32, JournalFault>
     Ok(count)
 }
 
-// Looks at the numbers of a record's pages.
+// Checks the page numbers of a record.
 fn check_numbers<D: Disk>(disk: &mut D, at: u64, count: u32) -> Result<(), JournalFault>
     requires some { 0 < count }
     requires fits { at + 5 + 4100 * count + 1 < 2 ^ 48 }
-    requires count { IsTrue D.tells → count ≡ (batch_at ((D.world disk.old).seen areas.Journal) at).count }
-    ensures rested { IsTrue D.tells → WritesNothing (D.world disk.old) (D.world disk.new) }
-    ensures ascending { IsTrue D.tells → OnOk result (IsAscending (batch_at ((D.world disk.old).seen areas.Journal) at)) }
-    ensures bad { IsTrue D.tells → (fault : ℕ) → IsErrOf result (faults.BadJournal fault) → IsFirstFault ((D.world disk.old).seen areas.Journal) at fault }
+    requires count { IsTrue D.readable → count ≡ (batch_at ((D.world disk.old).seen areas.Journal) at).count }
+    ensures rested { IsTrue D.readable → WritesNothing (D.world disk.old) (D.world disk.new) }
+    ensures ascending { IsTrue D.readable → OnOk result (IsAscending (batch_at ((D.world disk.old).seen areas.Journal) at)) }
+    ensures bad { IsTrue D.readable → (fault : ℕ) → IsErrOf result (faults.BadJournal fault) → IsFirstFault ((D.world disk.old).seen areas.Journal) at fault }
     ensures cause { HasJournalCause (D.world disk.old) (D.world disk.new) result }
     ensures room { D.room_of disk.new ≡ D.room_of disk.old }
 {
@@ -84,15 +84,15 @@ fn check_numbers<D: Disk>(disk: &mut D, at: u64, count: u32) -> Result<(), Journ
     Ok(())
 }
 
-// Looks at the record whose gate stands here and is open. Returns where the next gate stands.
+// Checks the record whose gate is here and is open. Returns the offset of the next gate.
 fn check_record<D: Disk>(disk: &mut D, at: u64) -> Result<u64, JournalFault>
     requires fits { at + 1 < 2 ^ 48 }
-    requires open_gate { IsTrue D.tells → (D.world disk.old).seen areas.Journal at ≢ 0 }
-    ensures rested { IsTrue D.tells → WritesNothing (D.world disk.old) (D.world disk.new) }
-    ensures next { IsTrue D.tells → IfOk result (λ next. next ≡ next_gate ((D.world disk.old).seen areas.Journal) at) }
-    ensures record_is { IsTrue D.tells → OnOk result (IsRecordAt ((D.world disk.old).seen areas.Journal) at) }
+    requires open_gate { IsTrue D.readable → (D.world disk.old).seen areas.Journal at ≢ 0 }
+    ensures rested { IsTrue D.readable → WritesNothing (D.world disk.old) (D.world disk.new) }
+    ensures next { IsTrue D.readable → IfOk result (λ next. next ≡ next_gate ((D.world disk.old).seen areas.Journal) at) }
+    ensures record_is { IsTrue D.readable → OnOk result (IsRecordAt ((D.world disk.old).seen areas.Journal) at) }
     ensures behind { IfOk result (λ next. (at < next) × (next + 1 < 2 ^ 48)) }
-    ensures bad { IsTrue D.tells → (fault : ℕ) → IsErrOf result (faults.BadJournal fault) → IsFirstFault ((D.world disk.old).seen areas.Journal) at fault }
+    ensures bad { IsTrue D.readable → (fault : ℕ) → IsErrOf result (faults.BadJournal fault) → IsFirstFault ((D.world disk.old).seen areas.Journal) at fault }
     ensures cause { HasJournalCause (D.world disk.old) (D.world disk.new) result }
     ensures room { D.room_of disk.new ≡ D.room_of disk.old }
 {
@@ -101,11 +101,11 @@ fn check_record<D: Disk>(disk: &mut D, at: u64) -> Result<u64, JournalFault>
     Ok(at + 5 + 4100 * count as u64)
 }
 
-// Looks at all records before the first closed gate. Returns how many there are.
+// Checks all records before the first closed gate. Returns how many there are.
 fn check_all<D: Disk>(disk: &mut D) -> Result<u64, JournalFault>
-    ensures rested { IsTrue D.tells → WritesNothing (D.world disk.old) (D.world disk.new) }
-    ensures records { IsTrue D.tells → IfOk result (λ n. HasRecords ((D.world disk.old).seen areas.Journal) n) }
-    ensures bad { IsTrue D.tells → (at : ℕ) → IsErrOf result (faults.BadJournal at) → IsBad (D.world disk.old).seen at }
+    ensures rested { IsTrue D.readable → WritesNothing (D.world disk.old) (D.world disk.new) }
+    ensures records { IsTrue D.readable → IfOk result (λ n. HasRecords ((D.world disk.old).seen areas.Journal) n) }
+    ensures bad { IsTrue D.readable → (at : ℕ) → IsErrOf result (faults.BadJournal at) → IsBad (D.world disk.old).seen at }
     ensures cause { HasJournalCause (D.world disk.old) (D.world disk.new) result }
     ensures room { D.room_of disk.new ≡ D.room_of disk.old }
 {
@@ -120,17 +120,17 @@ fn check_all<D: Disk>(disk: &mut D) -> Result<u64, JournalFault>
     Ok(records)
 }
 
-// Writes the pages of the record whose gate stands here in their places. Returns where the next gate stands.
+// Writes the pages of the record whose gate is here in their places. Returns the offset of the next gate.
 fn install_record<D: Disk>(disk: &mut D, at: u64) -> Result<u64, JournalFault>
     requires fits { at + 1 < 2 ^ 48 }
-    requires record_is { IsTrue D.tells → IsRecordAt ((D.world disk.old).seen areas.Journal) at }
-    ensures spares { IsTrue D.tells → Spares (AllButPages (batch_at ((D.world disk.old).seen areas.Journal) at)) (D.world disk.old) (D.world disk.new) }
-    ensures done { IsTrue D.tells → OnOk result ((D.world disk.new).seen areas.Pages
+    requires record_is { IsTrue D.readable → IsRecordAt ((D.world disk.old).seen areas.Journal) at }
+    ensures spares { IsTrue D.readable → Spares (AllButPages (batch_at ((D.world disk.old).seen areas.Journal) at)) (D.world disk.old) (D.world disk.new) }
+    ensures done { IsTrue D.readable → OnOk result ((D.world disk.new).seen areas.Pages
         ≡ with_batch (batch_at ((D.world disk.old).seen areas.Journal) at) ((D.world disk.old).seen areas.Pages)) }
-    ensures next { IsTrue D.tells → IfOk result (λ next. next ≡ next_gate ((D.world disk.old).seen areas.Journal) at) }
+    ensures next { IsTrue D.readable → IfOk result (λ next. next ≡ next_gate ((D.world disk.old).seen areas.Journal) at) }
     ensures behind { IfOk result (λ next. next + 1 < 2 ^ 48) }
     ensures cause { HasJournalCause (D.world disk.old) (D.world disk.new) result }
-    ensures disk_alone { IsTrue D.tells → IfErr result (λ fault. fault ≡ faults.Disk) }
+    ensures disk_alone { IsTrue D.readable → IfErr result (λ fault. fault ≡ faults.Disk) }
     ensures room { D.room_of disk.new ≡ D.room_of disk.old }
 {
     let count = read_count(disk, at)?;
@@ -145,14 +145,14 @@ fn install_record<D: Disk>(disk: &mut D, at: u64) -> Result<u64, JournalFault>
 
 // Writes the pages of the first records in their places, record by record, and makes them safe.
 fn install_all<D: Disk>(disk: &mut D, records: u64) -> Result<(), JournalFault>
-    requires records { IsTrue D.tells → HasRecords ((D.world disk.old).seen areas.Journal) records }
-    requires safe { IsTrue D.tells → LeavesOnlySeen (D.world disk.old) }
-    ensures keeps { IsTrue D.tells → Keeps (AllButRecords ((D.world disk.old).seen areas.Journal) records) (D.world disk.old) (D.world disk.new) }
-    ensures done { IsTrue D.tells → OnOk result ((D.world disk.new).seen areas.Pages
+    requires records { IsTrue D.readable → HasRecords ((D.world disk.old).seen areas.Journal) records }
+    requires safe { IsTrue D.readable → LeavesOnlySeen (D.world disk.old) }
+    ensures keeps { IsTrue D.readable → Keeps (AllButRecords ((D.world disk.old).seen areas.Journal) records) (D.world disk.old) (D.world disk.new) }
+    ensures done { IsTrue D.readable → OnOk result ((D.world disk.new).seen areas.Pages
         ≡ with_records ((D.world disk.old).seen areas.Journal) records ((D.world disk.old).seen areas.Pages)) }
-    ensures safe { IsTrue D.tells → OnOk result (LeavesOnlySeen (D.world disk.new)) }
+    ensures safe { IsTrue D.readable → OnOk result (LeavesOnlySeen (D.world disk.new)) }
     ensures cause { HasJournalCause (D.world disk.old) (D.world disk.new) result }
-    ensures disk_alone { IsTrue D.tells → IfErr result (λ fault. fault ≡ faults.Disk) }
+    ensures disk_alone { IsTrue D.readable → IfErr result (λ fault. fault ≡ faults.Disk) }
     ensures room { D.room_of disk.new ≡ D.room_of disk.old }
 {
     let mut at: u64 = 0;
@@ -163,29 +163,29 @@ fn install_all<D: Disk>(disk: &mut D, records: u64) -> Result<(), JournalFault>
     Ok(())
 }
 
-/// Brings the pages of all records before the first closed gate to their places, in order, and closes the gate at the journal's front.
-/// A closed gate there leaves all as it is.
+/// Writes the pages of all records before the first closed gate in their places, in order, and closes the journal's first gate.
+/// If that gate is closed already, everything stays as it is.
 ///
-/// Returns `Disk` if a call of the disk fails, and `BadJournal` exactly where an open gate stands before bytes that are no record, with
-/// the offset of the first byte of the field that breaks its form. All records are looked at before the first write, so after
+/// Returns `Disk` if a call of the disk fails. Returns `BadJournal` exactly when an open gate comes before bytes that are no record, with
+/// the offset of the first byte of the field that breaks its form. All records are checked before the first write, so after
 /// `BadJournal` nothing was written. It begins with a sync of both areas, so that after Ok nothing is pending.
 ///
 /// Takes no memory. Costs two syncs and a read of the first gate. For each record its number of pages, each page's number and the next
 /// gate are read first. Then the numbers are read once more, each page is read and written once, and two more syncs and the write of
 /// the gate follow.
 pub fn recover<D: Disk>(disk: &mut D) -> Result<(), JournalFault>
-    // A crash at any moment leaves what a crash could leave as the call began, or what stands for the same pages
+    // A crash at any moment leaves what a crash could leave as the call began, or an image that holds the same pages
     // as the image that reads give then.
-    ensures any_moment { IsTrue D.tells → LeavesOnly (D.world disk.old) (D.world disk.new) (StandsAlike (D.world disk.old)) }
+    ensures any_moment { IsTrue D.readable → LeavesOnly (D.world disk.old) (D.world disk.new) (StandsAlike (D.world disk.old)) }
 
-    ensures applied { IsTrue D.tells → OnOk result (StandsFor (D.world disk.old).seen ((D.world disk.new).seen areas.Pages)) }
-    ensures same { IsTrue D.tells → OnOk result (StandsFor (D.world disk.old).seen (applied (D.world disk.new).seen)) }
-    ensures ready { IsTrue D.tells → OnOk result (IsReady 0 (D.world disk.new)) }
+    ensures applied { IsTrue D.readable → OnOk result (StandsFor (D.world disk.old).seen ((D.world disk.new).seen areas.Pages)) }
+    ensures same { IsTrue D.readable → OnOk result (StandsFor (D.world disk.old).seen (applied (D.world disk.new).seen)) }
+    ensures ready { IsTrue D.readable → OnOk result (IsReady 0 (D.world disk.new)) }
 
-    ensures bad { IsTrue D.tells → (at : ℕ) → IsErrOf result (faults.BadJournal at) → IsBad (D.world disk.old).seen at }
-    ensures untouched { IsTrue D.tells → (at : ℕ) → IsErrOf result (faults.BadJournal at) → WritesNothing (D.world disk.old) (D.world disk.new) }
+    ensures bad { IsTrue D.readable → (at : ℕ) → IsErrOf result (faults.BadJournal at) → IsBad (D.world disk.old).seen at }
+    ensures untouched { IsTrue D.readable → (at : ℕ) → IsErrOf result (faults.BadJournal at) → WritesNothing (D.world disk.old) (D.world disk.new) }
 
-    ensures quiet { IsTrue D.tells → SaysNothing (D.world disk.old) (D.world disk.new) }
+    ensures quiet { IsTrue D.readable → SaysNothing (D.world disk.old) (D.world disk.new) }
     ensures cause { HasJournalCause (D.world disk.old) (D.world disk.new) result }
     ensures room { D.room_of disk.new ≡ D.room_of disk.old }
 {

@@ -6,10 +6,10 @@ use Rattle.disk_model.specs.declared.disk.Area.TheVariants.{Pages}
 use Rattle.page_journal.specs.Record.{applied}
 use Rattle.page_cache.specs.Pairs.{bytes_at, pairs_of}
 use Rattle.page_cache.specs.declared.cache.Cache.{Cache}
-use Rattle.held_pages.specs.Pages.{PageTable, first_of, first_page, page_in}
-use Rattle.held_pages.specs.Places.{held_page, page_behind}
-use Rattle.held_pages.proofs.Tables.{none_some}
-use Rattle.held_pages.proofs.Sealed.{none_of_both}
+use Rattle.buffer_pool.specs.Pages.{PageTable, first_of, first_page, page_in}
+use Rattle.buffer_pool.specs.Places.{held_page, page_behind}
+use Rattle.buffer_pool.proofs.Tables.{none_some}
+use Rattle.buffer_pool.proofs.Sealed.{none_of_both}
 use Rattle.page_store.specs.Contents.{page_bytes, Overlay, shown}
 use Rattle.page_store.specs.Held.{AreCached, AreImages}
 
@@ -26,10 +26,10 @@ behind_stands journal cache image n page images cached is =
     by None none some = cached.each n page some none ∙ sym (ap (λ (o : Option (List ℕ)). first_of o (page_bytes (image Pages) n)) none)
 
 -- a page that memory holds is the one that is shown
-pub shown_held : (tells : Bool) (overlay : Overlay) (journal : PageTable) (cache : Cache) (image : Image) (n : ℕ) (page : List ℕ)
-    → (tells ≡ true → AreImages journal image) → (tells ≡ true → AreCached journal cache image)
-    → held_page overlay journal cache n ≡ Some page → 0 < length (shown tells (applied image) overlay n) → page ≡ shown tells (applied image) overlay n
-shown_held tells overlay journal cache image n page images cached is some = by tells images cached (page_in overlay n) is some
+pub shown_held : (readable : Bool) (overlay : Overlay) (journal : PageTable) (cache : Cache) (image : Image) (n : ℕ) (page : List ℕ)
+    → (readable ≡ true → AreImages journal image) → (readable ≡ true → AreCached journal cache image)
+    → held_page overlay journal cache n ≡ Some page → 0 < length (shown readable (applied image) overlay n) → page ≡ shown readable (applied image) overlay n
+shown_held readable overlay journal cache image n page images cached is some = by readable images cached (page_in overlay n) is some
   where
     by : (t : Bool) → (t ≡ true → AreImages journal image) → (t ≡ true → AreCached journal cache image) → (o : Option (List ℕ)) → first_page o (page_behind journal cache n) ≡ Some page
         → 0 < length (first_of o (cond t (page_bytes (applied image) n) [])) → page ≡ first_of o (cond t (page_bytes (applied image) n) [])
@@ -38,13 +38,13 @@ shown_held tells overlay journal cache image n page images cached is some = by t
     by false i c None first told = absurd (omega (arith, told))
 
 -- and one that it doesn't hold is that of the pages area
-pub shown_unheld : (tells : Bool) (overlay : Overlay) (journal : PageTable) (cache : Cache) (image : Image) (n : ℕ) (page : List ℕ)
-    → (tells ≡ true → AreImages journal image) → held_page overlay journal cache n ≡ None
-    → (tells ≡ true → page ≡ page_bytes (image Pages) n) → 0 < length (shown tells (applied image) overlay n) → page ≡ shown tells (applied image) overlay n
-shown_unheld tells overlay journal cache image n page images none is some =
+pub shown_unheld : (readable : Bool) (overlay : Overlay) (journal : PageTable) (cache : Cache) (image : Image) (n : ℕ) (page : List ℕ)
+    → (readable ≡ true → AreImages journal image) → held_page overlay journal cache n ≡ None
+    → (readable ≡ true → page ≡ page_bytes (image Pages) n) → 0 < length (shown readable (applied image) overlay n) → page ≡ shown readable (applied image) overlay n
+shown_unheld readable overlay journal cache image n page images none is some =
     let parts = none_of_both (page_in overlay n) (page_behind journal cache n) none in
     let unkept = (none_of_both (page_in journal n) (bytes_at n (pairs_of cache)) parts.1).0 in
-    by tells images is (page_in overlay n) parts.0 unkept some
+    by readable images is (page_in overlay n) parts.0 unkept some
   where
     by : (t : Bool) → (t ≡ true → AreImages journal image) → (t ≡ true → page ≡ page_bytes (image Pages) n) → (o : Option (List ℕ)) → o ≡ None → page_in journal n ≡ None
         → 0 < length (first_of o (cond t (page_bytes (applied image) n) [])) → page ≡ first_of o (cond t (page_bytes (applied image) n) [])

@@ -15,8 +15,8 @@ use Rattle.page_face.specs.Causes.{IsUncounted}
 use Rattle.page_face.specs.FreeList.{PageMap, with_page}
 use Rattle.page_journal.specs.Record.{IsAscending, applied, batch_of, given, with_batch, IsBeforeOrAfter, IsReady, LeavesPages, StandsFor}
 use Rattle.page_journal.proofs.Batches.{page_here, page_elsewhere, length_given, number_given}
-use Rattle.held_pages.specs.Rooms.{Ordered, ordered_page}
-use Rattle.held_pages.proofs.Tables.{same_key, other_key}
+use Rattle.buffer_pool.specs.Rooms.{Ordered, ordered_page}
+use Rattle.buffer_pool.proofs.Tables.{same_key, other_key}
 use Rattle.page_store.specs.declared.superblock.Superblock.{Superblock}
 use Rattle.page_store.specs.Superblock.{superblock_in, IsInRange, IsStorePage}
 use Rattle.page_store.specs.Contents.{page_bytes, Overlay, page_in, IsSized, first_of, shown, counted_pages, contents_in, contents_of, HoldsOneOf}
@@ -137,9 +137,9 @@ committed_contents overlay whole area block head ordered sized at_0 law others =
         (page_bytes-with_batch whole area (suc m) ordered sized ∙ ap (λ (o : Option (List ℕ)). first_of o (page_bytes area (suc m))) (others (suc m) (λ e. omega arith)))
 
 -- and the pages stay, once the overlay is cleared
-pub committed_pages : (tells : Bool) (cleared overlay : Overlay) (whole : Ordered) (area : ℕ → ℕ) (count : ℕ) → tells ≡ true → cleared.entries ≡ [] → IsOrdered nat_cmp whole → AreSized whole → ((n : ℕ) → n ≢ 0 → ordered_page whole n ≡ page_in overlay n)
-    → counted_pages count (shown tells (with_batch (batch_of (given whole.entries)) area) cleared) ≡ counted_pages count (shown tells area overlay)
-committed_pages tells cleared overlay whole area count is_told none ordered sized others =
+pub committed_pages : (readable : Bool) (cleared overlay : Overlay) (whole : Ordered) (area : ℕ → ℕ) (count : ℕ) → readable ≡ true → cleared.entries ≡ [] → IsOrdered nat_cmp whole → AreSized whole → ((n : ℕ) → n ≢ 0 → ordered_page whole n ≡ page_in overlay n)
+    → counted_pages count (shown readable (with_batch (batch_of (given whole.entries)) area) cleared) ≡ counted_pages count (shown readable area overlay)
+committed_pages readable cleared overlay whole area count is_told none ordered sized others =
     let after = with_batch (batch_of (given whole.entries)) area in
     let told : counted_pages count (shown true after cleared) ≡ counted_pages count (shown true area overlay) = fun_ext pages in
     subst (λ (b : Bool). counted_pages count (shown b after cleared) ≡ counted_pages count (shown b area overlay)) (sym is_told) told
@@ -235,17 +235,17 @@ on_ok (Ok x) a f = f a
 on_ok (Err e) a f = tt
 
 -- an overlay into which a counted page was put shows the pages with that one written
-pub put_shows : (tells : Bool) (area : ℕ → ℕ) (overlay later : Overlay) (count page : ℕ) (bytes : List ℕ) → (IsUncounted count page → ⊥) → page_in later page ≡ Some bytes
-    → ((n : ℕ) → n ≢ page → page_in later n ≡ page_in overlay n) → counted_pages count (shown tells area later) ≡ with_page page bytes (counted_pages count (shown tells area overlay))
-put_shows tells area overlay later count page bytes counted here others =
+pub put_shows : (readable : Bool) (area : ℕ → ℕ) (overlay later : Overlay) (count page : ℕ) (bytes : List ℕ) → (IsUncounted count page → ⊥) → page_in later page ≡ Some bytes
+    → ((n : ℕ) → n ≢ page → page_in later n ≡ page_in overlay n) → counted_pages count (shown readable area later) ≡ with_page page bytes (counted_pages count (shown readable area overlay))
+put_shows readable area overlay later count page bytes counted here others =
     let some : (page ≡ 0) → ⊥ = λ e. counted (inl e) in
     let within : count ≤ page → ⊥ = λ e. counted (inr e) in
     fun_ext (λ n. ⊎_elim
     (λ (same : n ≡ page).
-    counted_here count n (shown tells area later) (omega arith) (omega arith)
-    ∙ ap (λ (o : Option (List ℕ)). first_of o (cond tells (page_bytes area n) [])) (ap (page_in later) same ∙ here)
-    ∙ sym (written_here page n bytes (counted_pages count (shown tells area overlay)) same))
+    counted_here count n (shown readable area later) (omega arith) (omega arith)
+    ∙ ap (λ (o : Option (List ℕ)). first_of o (cond readable (page_bytes area n) [])) (ap (page_in later) same ∙ here)
+    ∙ sym (written_here page n bytes (counted_pages count (shown readable area overlay)) same))
     (λ (ne : n ≡ page → ⊥).
-    ap (λ (o : Option (List ℕ)). if n == 0 then [] else if nat_lt n count then first_of o (cond tells (page_bytes area n) []) else []) (others n ne)
-    ∙ sym (written_beside page n bytes (counted_pages count (shown tells area overlay)) ne))
+    ap (λ (o : Option (List ℕ)). if n == 0 then [] else if nat_lt n count then first_of o (cond readable (page_bytes area n) []) else []) (others n ne)
+    ∙ sym (written_beside page n bytes (counted_pages count (shown readable area overlay)) ne))
     (cases_eq n page))

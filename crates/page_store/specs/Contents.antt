@@ -1,10 +1,10 @@
 -- What a store holds: page 0's fields and the pages counted.
-pub use Rattle.held_pages.specs.Pages.{IsSized, first_of, first_page, page_in}
+pub use Rattle.buffer_pool.specs.Pages.{IsSized, first_of, first_page, page_in}
 use Rattle.std.specs.Prelude.{◌≡◌, ◌⊎◌, ℕ, ◌+◌, ◌*◌, Bool, true, List, [], map, cond, nat_lt, ◌==◌, if◌then◌else◌}
 use Rattle.std.specs.List.{range_with_len}
 use Rattle.disk_model.specs.World.{World, Image}
 use Rattle.page_face.specs.FreeList.{PageMap}
-use Rattle.held_pages.specs.Pages.{PageTable}
+use Rattle.buffer_pool.specs.Pages.{PageTable}
 use Rattle.page_journal.specs.Record.{StandsFor, IsReady, applied}
 use Rattle.page_store.specs.declared.superblock.Superblock.{Superblock}
 use Rattle.page_store.specs.Superblock.{superblock_in, IsInRange, IsStorePage}
@@ -34,7 +34,7 @@ Overlay = PageTable
 
 -- the pages of an overlay, and behind them those that the disk stands for, where it tells them
 abbrev pub shown : Bool → (ℕ → ℕ) → Overlay → PageMap
-shown tells area overlay n = first_of (page_in overlay n) (cond tells (page_bytes area n) [])
+shown readable area overlay n = first_of (page_in overlay n) (cond readable (page_bytes area n) [])
 
 -- The disk is as a commit leaves it: nothing is pending, the next record of the journal begins here, and page 0 of the pages that the
 -- disk stands for has these fields.

@@ -30,8 +30,8 @@ pub record IsOpened (block : Superblock) (old new : World) : Type 0 where
   pub page : IsStorePage (page_bytes (applied new.seen) 0)
   pub committed : IsCommitted block 0 new
 
--- The journal was recovered and nothing else was written: nothing is pending, the journal is at its front, and the disk stands for the pages
--- that it stood for before. Page 0 of them is none of a store, for this cause.
+-- The journal was recovered: nothing is pending, the journal is at its beginning, and the disk holds the pages that it held before.
+-- Page 0 of them is none of a store, for this cause.
 pub record IsRefused (fault : HeadFault) (old new : World) : Type 0 where
   pub ready : IsReady 0 new
   pub stands : StandsFor old.seen (applied new.seen)

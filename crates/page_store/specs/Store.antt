@@ -35,13 +35,13 @@ abbrev pub kept_of : Superblock → Superblock → Kept
 kept_of current last = record { head = current.head; last = last }
 
 -- The head stands as it did; the same loan, whose disk changed no area and said nothing; no count fell, and none outran the takes left.
-pub record GoesOn {D : Type 0} (tells : Bool) (world : D → World) (room_of : D → ℕ) (kept_old kept_new : Kept) (counts_old counts_new : Counts) (old new : MutBor D) : Type 0 where
+pub record GoesOn {D : Type 0} (readable : Bool) (world : D → World) (room_of : D → ℕ) (kept_old kept_new : Kept) (counts_old counts_new : Counts) (old new : MutBor D) : Type 0 where
   pub kept : kept_new ≡ kept_old
   pub loan : new.ghost_name ≡ old.ghost_name
   pub room : room_of new.now ≡ room_of old.now
   pub faults : (world old.now).faults ≤ (world new.now).faults
   pub sink : (world new.now).sink_faults ≡ (world old.now).sink_faults
-  pub rests : IsTrue tells → Rests (world old.now) (world new.now)
+  pub rests : IsTrue readable → Rests (world old.now) (world new.now)
   pub takes : Takes (room_of old.now) counts_old counts_new
 
 -- no call
@@ -57,9 +57,9 @@ rests_then ab bc = record {
   said = bc.said ∙ ab.said;
 }
 
-module _ {D : Type 0} (tells : Bool) (world : D → World) (room_of : D → ℕ) where
+module _ {D : Type 0} (readable : Bool) (world : D → World) (room_of : D → ℕ) where
   -- nothing has gone on
-  pub goes_nowhere : (kept : Kept) (counts : Counts) (a : MutBor D) → GoesOn tells world room_of kept kept counts counts a a
+  pub goes_nowhere : (kept : Kept) (counts : Counts) (a : MutBor D) → GoesOn readable world room_of kept kept counts counts a a
   goes_nowhere kept counts a = record {
     kept = refl;
     loan = refl;
@@ -72,8 +72,8 @@ module _ {D : Type 0} (tells : Bool) (world : D → World) (room_of : D → ℕ)
 
   -- one thing after another
   pub goes_further : (kept_a kept_b kept_c : Kept) (counts_a counts_b counts_c : Counts) (a b c : MutBor D)
-      → GoesOn tells world room_of kept_a kept_b counts_a counts_b a b → GoesOn tells world room_of kept_b kept_c counts_b counts_c b c
-      → GoesOn tells world room_of kept_a kept_c counts_a counts_c a c
+      → GoesOn readable world room_of kept_a kept_b counts_a counts_b a b → GoesOn readable world room_of kept_b kept_c counts_b counts_c b c
+      → GoesOn readable world room_of kept_a kept_c counts_a counts_c a c
   goes_further kept_a kept_b kept_c counts_a counts_b counts_c a b c f g = record {
     kept = g.kept ∙ f.kept;
     loan = g.loan ∙ f.loan;
@@ -95,11 +95,11 @@ pub record ReadsOnly (pages : List ℕ) (old new : World) : Type 0 where
   pub each : AllByRecursion (IsReadOf pages) taken
 
 -- More pages were asked for, and the reads taken meanwhile are all of those. The pages that wait for a commit are as they were.
-pub record OnlyReads {D : Type 0} (tells : Bool) (world : D → World) (overlay_old overlay_new : Overlay) (asked_old asked_new : List ℕ) (old new : D) : Type 0 where
+pub record OnlyReads {D : Type 0} (readable : Bool) (world : D → World) (overlay_old overlay_new : Overlay) (asked_old asked_new : List ℕ) (old new : D) : Type 0 where
   pub overlay : overlay_new ≡ overlay_old
   pub more : List ℕ
   pub asked : asked_new ≡ asked_old ++ more
-  pub reads : IsTrue tells → ReadsOnly more (world old) (world new)
+  pub reads : IsTrue readable → ReadsOnly more (world old) (world new)
 
 -- reads of some pages, and then of others
 joined_reads : (pages more : List ℕ) (taken later : List Range) → AllByRecursion (IsReadOf pages) taken → AllByRecursion (IsReadOf more) later → AllByRecursion (IsReadOf (pages ++ more)) (taken ++ later)
@@ -107,9 +107,9 @@ joined_reads pages more [] [] each behind = tt
 joined_reads pages more [] (r ∷ later) each behind = ((behind.0.0, (behind.0.1.0, Contains-append_right pages more behind.0.1.0 behind.0.1.1, behind.0.1.2, behind.0.1.3)), joined_reads pages more [] later tt behind.1)
 joined_reads pages more (r ∷ taken) later each behind = ((each.0.0, (each.0.1.0, Contains-append_left pages more each.0.1.0 each.0.1.1, each.0.1.2, each.0.1.3)), joined_reads pages more taken later each.1 behind)
 
-module _ {D : Type 0} (tells : Bool) (world : D → World) where
+module _ {D : Type 0} (readable : Bool) (world : D → World) where
   -- no read has gone on
-  pub reads_nothing : (overlay : Overlay) (asked : List ℕ) (disk : D) → OnlyReads tells world overlay overlay asked asked disk disk
+  pub reads_nothing : (overlay : Overlay) (asked : List ℕ) (disk : D) → OnlyReads readable world overlay overlay asked asked disk disk
   reads_nothing overlay asked disk = record {
     overlay = refl;
     more = [];
@@ -119,7 +119,7 @@ module _ {D : Type 0} (tells : Bool) (world : D → World) where
 
   -- one read after another
   pub reads_further : (overlay_a overlay_b overlay_c : Overlay) (asked_a asked_b asked_c : List ℕ) (a b c : D)
-      → OnlyReads tells world overlay_a overlay_b asked_a asked_b a b → OnlyReads tells world overlay_b overlay_c asked_b asked_c b c → OnlyReads tells world overlay_a overlay_c asked_a asked_c a c
+      → OnlyReads readable world overlay_a overlay_b asked_a asked_b a b → OnlyReads readable world overlay_b overlay_c asked_b asked_c b c → OnlyReads readable world overlay_a overlay_c asked_a asked_c a c
   reads_further overlay_a overlay_b overlay_c asked_a asked_b asked_c a b c f g = record {
     overlay = g.overlay ∙ f.overlay;
     more = f.more ++ g.more;

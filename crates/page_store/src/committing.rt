@@ -1,45 +1,47 @@
-//! Making the overlay safe, or dropping it, and bringing the journal's pages to their places.
+//! Committing the overlay, dropping it, and writing the journal's pages in their places.
 ghost use Rattle.std.specs.Prelude.{◌≡◌, ◌≢◌, ◌↔◌, ◌≤◌, ◌^◌, ℕ, IsTrue, false, true, [], OnOk, OnErr, IfErr, IsErrOf, ◌⊎◌, length};
 ghost use Rattle.disk_model.specs.World.{LeavesOnly, Rose};
 ghost use Rattle.page_journal.specs.Record.{SaysNothing, LeavesPages, applied};
-ghost use Rattle.held_pages.specs.Pages.{spare};
-ghost use Rattle.held_pages.specs.Rooms.{HasRoomFor};
+ghost use Rattle.buffer_pool.specs.Pages.{spare};
+ghost use Rattle.buffer_pool.specs.Rooms.{HasRoomFor};
 ghost use Rattle.page_store.specs.Contents.{contents_in, contents_of, HoldsOneOf, page_in};
 
 use crate::gathering::{gather, take_room};
 use crate::store::Store;
+use buffer_pool::{PageTable, Place};
 use disk_model::Disk;
-use held_pages::{PageTable, Place};
 use page_face::{PageFault, Pages};
 use page_journal::{append, checkpoint};
 use std::collections::BTreeMap;
 
-/// The length of the journal, in bytes, behind which a commit makes a checkpoint first: so many that a checkpoint's two syncs are shared by
-/// many commits, and so few that recovery after a crash and the pages kept in memory stay small.
+/// The length of the journal, in bytes, past which a commit makes a checkpoint first: 16 MiB.
+///
+/// It is so great that many commits share a checkpoint's two syncs, and so small that recovery after a crash is short and the pages kept
+/// in memory are few.
 pub const JOURNAL_MAX: u64 = 16_777_216;
 
 impl<'d, D: Disk> Store<'d, D> {
     /// Makes the overlay and the head safe in one commit, a record of the journal.
     ///
-    /// Returns `Stopped` if an earlier commit or checkpoint failed; `Memory` if it runs out of memory, and then all is as before; `Disk` if
-    /// a call of the disk fails, and then the store is stopped. The memory is taken before the first write. Where the journal has grown
-    /// past [`JOURNAL_MAX`] a checkpoint comes first.
+    /// Returns `Stopped` if an earlier commit or checkpoint failed. Returns `Memory` if it runs out of memory, and then everything is as
+    /// before. Returns `Disk` if a call of the disk fails, and then the store is stopped. The memory is taken before the first write. If
+    /// the journal has grown past [`JOURNAL_MAX`], a checkpoint comes first.
     ///
-    /// Costs two writes, one of n + 1 pages where n are in the overlay and one of a byte, two syncs, and two searches of ordered maps for each
-    /// page; and from time to time a checkpoint, which writes each page of the journal once, with two syncs more.
+    /// With n pages in the overlay, costs two writes, one of n + 1 pages and one of a byte, and two syncs. Each page costs two searches
+    /// of ordered maps. From time to time it also costs a checkpoint, which writes each page of the journal once, with two more syncs.
     pub fn commit_all(&mut self) -> Result<(), PageFault>
         ensures same_loan { self.new.disk.ghost_name ≡ self.old.disk.ghost_name }
 
-        // A crash at any moment leaves the contents of the last commit, or all that stood in the overlay.
-        ensures any_moment { IsTrue D.tells → LeavesOnly (D.world self.old.disk.now) (D.world self.new.disk.now)
+        // A crash at any moment leaves the contents of the last commit, or everything that the overlay holds.
+        ensures any_moment { IsTrue D.readable → LeavesOnly (D.world self.old.disk.now) (D.world self.new.disk.now)
             (HoldsOneOf (contents_in (applied (D.world self.old.disk.now).seen))
             (contents_of (applied (D.world self.old.disk.now).seen) self.old.overlay self.old.current) (D.world self.old.disk.now)) }
 
-        ensures committed { IsTrue D.tells → OnOk result (contents_in (applied (D.world self.new.disk.now).seen)
+        ensures committed { IsTrue D.readable → OnOk result (contents_in (applied (D.world self.new.disk.now).seen)
             ≡ contents_of (applied (D.world self.old.disk.now).seen) self.old.overlay self.old.current) }
         ensures clean { OnOk result ((self.new.overlay.entries ≡ []) × (self.new.last ≡ self.old.current)) }
         ensures current { self.new.current ≡ self.old.current }
-        ensures pages { IsTrue D.tells → result ≢ Err PageFault.Disk → ⟦<Store<'d, D> as Pages>⟧.pages self.new ≡ ⟦<Store<'d, D> as Pages>⟧.pages self.old }
+        ensures pages { IsTrue D.readable → result ≢ Err PageFault.Disk → ⟦<Store<'d, D> as Pages>⟧.pages self.new ≡ ⟦<Store<'d, D> as Pages>⟧.pages self.old }
 
         ensures stopped { IsErrOf result PageFault.Stopped ↔ IsTrue self.old.stopped }
         ensures stops { IsErrOf result PageFault.Disk → self.new.stopped ≡ true }
@@ -53,7 +55,7 @@ impl<'d, D: Disk> Store<'d, D> {
         ensures faults { (D.world self.old.disk.now).faults ≤ (D.world self.new.disk.now).faults }
         ensures sink { (D.world self.new.disk.now).sink_faults ≡ (D.world self.old.disk.now).sink_faults }
 
-        ensures quiet { IsTrue D.tells → SaysNothing (D.world self.old.disk.now) (D.world self.new.disk.now) }
+        ensures quiet { IsTrue D.readable → SaysNothing (D.world self.old.disk.now) (D.world self.new.disk.now) }
         ensures room { D.room_of self.new.disk.now ≡ D.room_of self.old.disk.now }
         ensures asked { self.new.asked.items ≡ self.old.asked.items }
         ensures refused { self.new.refused ≡ self.old.refused }
@@ -62,7 +64,7 @@ impl<'d, D: Disk> Store<'d, D> {
             return Err(PageFault::Stopped);
         }
         self.place = Place::Spare;
-        held_pages::write(
+        buffer_pool::write(
             self.alloc,
             &mut self.overlay,
             &mut self.seals,
@@ -79,20 +81,20 @@ impl<'d, D: Disk> Store<'d, D> {
             return Err(PageFault::Disk);
         };
         self.place = Place::Spare;
-        held_pages::move_all(&mut self.overlay, &mut self.journal);
+        buffer_pool::move_all(&mut self.overlay, &mut self.journal);
         self.end = end;
         self.last = self.current;
         self.stopped = false;
         Ok(())
     }
 
-    // Takes the memory for the overlay's pages among those of the journal. Makes a checkpoint where the journal has grown past its limit.
+    // Takes the memory for the overlay's pages among those of the journal. Makes a checkpoint if the journal has grown past its limit.
     fn make_room(&mut self) -> Result<(), PageFault>
         requires { self.old.stopped ≡ false }
         ensures same_loan { self.new.disk.ghost_name ≡ self.old.disk.ghost_name }
-        ensures any_moment { IsTrue D.tells → LeavesOnly (D.world self.old.disk.now) (D.world self.new.disk.now)
+        ensures any_moment { IsTrue D.readable → LeavesOnly (D.world self.old.disk.now) (D.world self.new.disk.now)
             (LeavesPages (applied (D.world self.old.disk.now).seen) (D.world self.old.disk.now)) }
-        ensures same { IsTrue D.tells → OnOk result (applied (D.world self.new.disk.now).seen ≡ applied (D.world self.old.disk.now).seen) }
+        ensures same { IsTrue D.readable → OnOk result (applied (D.world self.new.disk.now).seen ≡ applied (D.world self.old.disk.now).seen) }
         ensures has_rooms { OnOk result (HasRoomFor self.new.overlay self.new.rooms) }
         ensures has_spare { OnOk result (length self.new.overlay.entries ≤ spare self.new.journal) }
         ensures short { OnOk result (self.new.end ≤ 2 ^ 24) }
@@ -110,7 +112,7 @@ impl<'d, D: Disk> Store<'d, D> {
         ensures overlay { self.new.overlay ≡ self.old.overlay }
         ensures current { self.new.current ≡ self.old.current }
         ensures last { self.new.last ≡ self.old.last }
-        ensures quiet { IsTrue D.tells → SaysNothing (D.world self.old.disk.now) (D.world self.new.disk.now) }
+        ensures quiet { IsTrue D.readable → SaysNothing (D.world self.old.disk.now) (D.world self.new.disk.now) }
         ensures room { D.room_of self.new.disk.now ≡ D.room_of self.old.disk.now }
         ensures asked { self.new.asked.items ≡ self.old.asked.items }
         ensures refused { self.new.refused ≡ self.old.refused }
@@ -133,17 +135,18 @@ impl<'d, D: Disk> Store<'d, D> {
         }
     }
 
-    /// Brings the pages of the journal to their places, so that the next record begins at its front. Leaves the overlay and the head.
+    /// Writes the pages of the journal in their places, so that the next record begins at offset 0. Leaves the overlay and the head.
     ///
     /// Returns `Stopped` if an earlier commit or checkpoint failed, and `Disk` if a call of the disk fails; then the store is stopped. At
-    /// every moment an image that a crash may leave stands for the same pages. Takes no memory. Costs a write for each page of the journal,
-    /// one of a byte, two syncs, and a search of an ordered map for each page; and no call of the disk where the journal holds no record. The
-    /// pages move into the cache, uncopied, as far as it has room for them.
+    /// every moment an image that a crash may leave holds the same pages. Takes no memory.
+    ///
+    /// Costs a write for each page of the journal, one of a byte, two syncs, and a search of an ordered map for each page. If the journal
+    /// holds no record, the disk isn't called. The pages move into the cache, uncopied, as far as it has room for them.
     pub fn settle(&mut self) -> Result<(), PageFault>
         ensures same_loan { self.new.disk.ghost_name ≡ self.old.disk.ghost_name }
-        ensures any_moment { IsTrue D.tells → self.old.stopped ≡ false → LeavesOnly (D.world self.old.disk.now) (D.world self.new.disk.now)
+        ensures any_moment { IsTrue D.readable → self.old.stopped ≡ false → LeavesOnly (D.world self.old.disk.now) (D.world self.new.disk.now)
             (LeavesPages (applied (D.world self.old.disk.now).seen) (D.world self.old.disk.now)) }
-        ensures same { IsTrue D.tells → OnOk result (applied (D.world self.new.disk.now).seen ≡ applied (D.world self.old.disk.now).seen) }
+        ensures same { IsTrue D.readable → OnOk result (applied (D.world self.new.disk.now).seen ≡ applied (D.world self.old.disk.now).seen) }
         ensures front { OnOk result (self.new.end ≡ 0) }
         ensures retired { self.old.end ≢ 0 → OnOk result (self.new.journal.entries ≡ []) }
         ensures at_rest { self.old.end ≡ 0 → self.new.disk ≡ self.old.disk }
@@ -161,7 +164,7 @@ impl<'d, D: Disk> Store<'d, D> {
         ensures overlay { self.new.overlay ≡ self.old.overlay }
         ensures current { self.new.current ≡ self.old.current }
         ensures last { self.new.last ≡ self.old.last }
-        ensures quiet { IsTrue D.tells → SaysNothing (D.world self.old.disk.now) (D.world self.new.disk.now) }
+        ensures quiet { IsTrue D.readable → SaysNothing (D.world self.old.disk.now) (D.world self.new.disk.now) }
         ensures room { D.room_of self.new.disk.now ≡ D.room_of self.old.disk.now }
         ensures asked { self.new.asked.items ≡ self.old.asked.items }
         ensures refused { self.new.refused ≡ self.old.refused }
@@ -175,27 +178,27 @@ impl<'d, D: Disk> Store<'d, D> {
         // Until the checkpoint has succeeded the store is stopped.
         self.stopped = true;
         self.place = Place::Spare;
-        held_pages::fill(&mut self.rooms, &mut self.journal);
+        buffer_pool::fill(&mut self.rooms, &mut self.journal);
         let Ok(()) = checkpoint(&mut *self.disk, &self.rooms) else {
-            // An older page that is cached may have the seal of the journal's.
+            // An older image of a page that is cached may have the seal of the journal's image.
             self.seals.clear();
             return Err(PageFault::Disk);
         };
-        held_pages::retire(&mut self.rooms, &mut self.cache);
+        buffer_pool::retire(&mut self.rooms, &mut self.cache);
         self.end = 0;
         self.stopped = false;
         Ok(())
     }
 
-    /// Drops the overlay: the pages and the head are those of the last commit. Makes no call of the disk.
+    /// Drops the overlay: the pages and the head are again those of the last commit. Makes no call of the disk.
     pub fn abandon(&mut self)
         ensures disk { self.new.disk ≡ self.old.disk }
         ensures clean { self.new.overlay.entries ≡ [] }
         ensures current { self.new.current ≡ self.old.last }
         ensures last { self.new.last ≡ self.old.last }
 
-        // What stands now is what the disk stands for.
-        ensures committed { IsTrue D.tells → self.old.stopped ≡ false
+        // The pages and the head are now those that the disk holds.
+        ensures committed { IsTrue D.readable → self.old.stopped ≡ false
             → contents_of (applied (D.world self.new.disk.now).seen) self.new.overlay self.new.current ≡ contents_in (applied (D.world self.new.disk.now).seen) }
 
         ensures stopped { self.new.stopped ≡ self.old.stopped }
@@ -203,7 +206,7 @@ impl<'d, D: Disk> Store<'d, D> {
         ensures refused { self.new.refused ≡ self.old.refused }
     {
         self.place = Place::Spare;
-        held_pages::clear(&mut self.overlay, &mut self.seals);
+        buffer_pool::clear(&mut self.overlay, &mut self.seals);
         self.current = self.last;
     }
 }

@@ -4,23 +4,23 @@ ghost use Rattle.disk_model.specs.World.{HasDiskCause};
 ghost use Rattle.disk_model.specs.declared.disk.Area.TheVariants as areas;
 ghost use Rattle.page_journal.specs.Record.{applied};
 ghost use Rattle.page_store.specs.Contents.{page_bytes, shown};
-ghost use Rattle.held_pages.specs.Places.{held_page, looked_page};
+ghost use Rattle.buffer_pool.specs.Places.{held_page, looked_page};
 ghost use Rattle.page_store.specs.Store.{ReadsPage};
 
 use crate::page::read_page;
 use crate::store::Store;
+use buffer_pool::Place;
 use disk_model::{Disk, Failed};
-use held_pages::Place;
 
 impl<'d, D: Disk> Store<'d, D> {
     // Looks at a page and doesn't note it in the log. A page that memory holds costs no call of the disk.
     pub(crate) fn fetch(&mut self, page: u32) -> Result<(), Failed>
         requires on { self.old.stopped ≡ false }
-        ensures gives { OnOk result (0 < length (shown D.tells (applied (D.world self.old.disk.now).seen) self.old.overlay page)
-            → looked_page self.new.place self.new.overlay self.new.journal self.new.cache self.new.spare ≡ shown D.tells (applied (D.world self.old.disk.now).seen) self.old.overlay page) }
+        ensures gives { OnOk result (0 < length (shown D.readable (applied (D.world self.old.disk.now).seen) self.old.overlay page)
+            → looked_page self.new.place self.new.overlay self.new.journal self.new.cache self.new.spare ≡ shown D.readable (applied (D.world self.old.disk.now).seen) self.old.overlay page) }
         ensures in_memory { IsSome (held_page self.old.overlay self.old.journal self.old.cache page) → self.new.disk ≡ self.old.disk }
         ensures same_loan { self.new.disk.ghost_name ≡ self.old.disk.ghost_name }
-        ensures reads { IsTrue D.tells → ReadsPage page (D.world self.old.disk.now) (D.world self.new.disk.now) }
+        ensures reads { IsTrue D.readable → ReadsPage page (D.world self.old.disk.now) (D.world self.new.disk.now) }
         ensures cause { HasDiskCause (D.world self.old.disk.now) (D.world self.new.disk.now) result }
         ensures room { D.room_of self.new.disk.now ≡ D.room_of self.old.disk.now }
         ensures overlay { self.new.overlay ≡ self.old.overlay }
@@ -53,7 +53,7 @@ impl<'d, D: Disk> Store<'d, D> {
         ensures stopped { self.new.stopped ≡ self.old.stopped }
     {
         self.at = page;
-        self.place = held_pages::find(
+        self.place = buffer_pool::find(
             &mut self.hints,
             &self.overlay,
             &self.journal,
@@ -66,10 +66,10 @@ impl<'d, D: Disk> Store<'d, D> {
     // Looks at a page that memory doesn't hold: reads it from the disk, and keeps it in the cache.
     fn load(&mut self, page: u32) -> Result<(), Failed>
         requires none { held_page self.old.overlay self.old.journal self.old.cache page ≡ None }
-        ensures gives { OnOk result (IsTrue D.tells → looked_page self.new.place self.new.overlay self.new.journal self.new.cache self.new.spare
+        ensures gives { OnOk result (IsTrue D.readable → looked_page self.new.place self.new.overlay self.new.journal self.new.cache self.new.spare
             ≡ page_bytes ((D.world self.old.disk.now).seen areas.Pages) page) }
         ensures same_loan { self.new.disk.ghost_name ≡ self.old.disk.ghost_name }
-        ensures reads { IsTrue D.tells → ReadsPage page (D.world self.old.disk.now) (D.world self.new.disk.now) }
+        ensures reads { IsTrue D.readable → ReadsPage page (D.world self.old.disk.now) (D.world self.new.disk.now) }
         ensures cause { HasDiskCause (D.world self.old.disk.now) (D.world self.new.disk.now) result }
         ensures room { D.room_of self.new.disk.now ≡ D.room_of self.old.disk.now }
         ensures overlay { self.new.overlay ≡ self.old.overlay }
@@ -85,7 +85,7 @@ impl<'d, D: Disk> Store<'d, D> {
             Ok(()) => {
                 self.seals.forget(page);
                 self.at = page;
-                self.place = held_pages::keep(&mut self.cache, page, &self.spare);
+                self.place = buffer_pool::keep(&mut self.cache, page, &self.spare);
                 Ok(())
             }
             Err(failed) => Err(failed),

@@ -2,11 +2,11 @@
 ghost use Rattle.std.specs.Prelude.{◌≡◌, ◌+◌, ◌*◌, ◌<◌, ◌≤◌, ◌-◌, ◌^◌, ℕ, IsSome, [], IfOk, OnOk, IfErr, length};
 ghost use Rattle.std.specs.BTreeMap.{get, IsOrdered};
 ghost use Rattle.std.specs.Ordering.{nat_cmp};
-ghost use Rattle.held_pages.specs.Pages.{first_page, page_in, spare};
-ghost use Rattle.held_pages.specs.Rooms.{HasRoomFor, ordered_page, room_page};
+ghost use Rattle.buffer_pool.specs.Pages.{first_page, page_in, spare};
+ghost use Rattle.buffer_pool.specs.Rooms.{HasRoomFor, ordered_page, room_page};
 ghost use Rattle.page_store.specs.Held.{IsRecordOfTable};
 
-use held_pages::{PageTable, make_room, move_all, put_back, put_in_order};
+use buffer_pool::{PageTable, make_room, move_all, put_back, put_in_order};
 use page_face::{Page, PageFault};
 use page_journal::Record;
 use std::alloc::Global;
@@ -34,7 +34,7 @@ pub(crate) fn gather(alloc: Global, overlay: &mut PageTable) -> Result<Record, P
     gathered
 }
 
-// Gathers the record, and leaves each page in one of the three.
+// Gathers the record, and leaves each page in the overlay, the ordered map or `left`.
 fn gather_ordered(
     alloc: Global,
     overlay: &mut PageTable,

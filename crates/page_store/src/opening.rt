@@ -18,34 +18,34 @@ use page_journal::{JournalFault, recover};
 pub enum OpenFault {
     /// The disk failed, and its count of faults rose.
     Disk,
-    /// Page 0 of the recovered store is neither all zero nor begins with the magic.
+    /// Page 0 of the recovered store isn't all zero and doesn't begin with the magic.
     NotAStore,
-    /// An open gate stands before bytes that are no record: the offset of the field that breaks its form.
+    /// An open gate comes before bytes that are no record: the offset of the first byte of the field that breaks its form.
     BadJournal(u64),
     /// Page 0 begins with the magic and breaks the rule Head.
     Damaged(Damage),
-    /// Want of memory.
+    /// The call ran out of memory.
     Memory,
 }
 
 /// Recovers the journal and reads page 0.
 ///
-/// Refuses `Disk`; `BadJournal`, then nothing was written; `NotAStore`; `Damaged` with the rule Head at page 0. Takes
-/// no memory. Costs a recovery, and one page read.
+/// Refuses `Disk`; `BadJournal`, and then nothing was written; `NotAStore`; `Damaged` with the rule Head at page 0. Takes no memory.
+/// Costs a recovery and the reading of one page.
 pub fn recover_superblock<D: Disk>(disk: &mut D) -> Result<Superblock, OpenFault>
-    // A crash at any moment leaves what a crash could leave as the call began, or what stands for the same pages.
-    ensures any_moment { IsTrue D.tells → LeavesOnly (D.world disk.old) (D.world disk.new) (StandsAlike (D.world disk.old)) }
+    // A crash at any moment leaves what a crash could leave as the call began, or an image that holds the same pages.
+    ensures any_moment { IsTrue D.readable → LeavesOnly (D.world disk.old) (D.world disk.new) (StandsAlike (D.world disk.old)) }
 
-    ensures opened { IsTrue D.tells → IfOk result (λ block. IsOpened block (D.world disk.old) (D.world disk.new)) }
+    ensures opened { IsTrue D.readable → IfOk result (λ block. IsOpened block (D.world disk.old) (D.world disk.new)) }
     ensures in_range { IfOk result IsInRange }
-    ensures not_a_store { IsTrue D.tells → IsErrOf result OpenFault.NotAStore → IsRefused heads.NotAStore (D.world disk.old) (D.world disk.new) }
+    ensures not_a_store { IsTrue D.readable → IsErrOf result OpenFault.NotAStore → IsRefused heads.NotAStore (D.world disk.old) (D.world disk.new) }
     ensures damaged { (damage : Damage) → IsErrOf result (OpenFault.Damaged damage)
-        → (damage ≡ head_damage) × (IsTrue D.tells → IsRefused heads.Broken (D.world disk.old) (D.world disk.new)) }
-    ensures bad { IsTrue D.tells → (at : ℕ) → IsErrOf result (OpenFault.BadJournal at) → IsBad (D.world disk.old).seen at }
-    ensures untouched { IsTrue D.tells → (at : ℕ) → IsErrOf result (OpenFault.BadJournal at) → WritesNothing (D.world disk.old) (D.world disk.new) }
+        → (damage ≡ head_damage) × (IsTrue D.readable → IsRefused heads.Broken (D.world disk.old) (D.world disk.new)) }
+    ensures bad { IsTrue D.readable → (at : ℕ) → IsErrOf result (OpenFault.BadJournal at) → IsBad (D.world disk.old).seen at }
+    ensures untouched { IsTrue D.readable → (at : ℕ) → IsErrOf result (OpenFault.BadJournal at) → WritesNothing (D.world disk.old) (D.world disk.new) }
     ensures memory { result ≢ Err OpenFault.Memory }
 
-    ensures quiet { IsTrue D.tells → SaysNothingReadsHead (D.world disk.old) (D.world disk.new) }
+    ensures quiet { IsTrue D.readable → SaysNothingReadsHead (D.world disk.old) (D.world disk.new) }
     ensures cause { HasOpenCause (D.world disk.old) (D.world disk.new) result }
     ensures room { D.room_of disk.new ≡ D.room_of disk.old }
 {

@@ -10,8 +10,8 @@ use page_face::Page;
 
 // Reads a page from the disk.
 pub(crate) fn read_page<D: Disk>(disk: &mut D, number: u32, page: &mut Page) -> Result<(), Failed>
-    ensures gives { IsTrue D.tells → OnOk result (page.new ≡ page_bytes ((D.world disk.old).seen areas.Pages) number) }
-    ensures reads { IsTrue D.tells → ReadsPage number (D.world disk.old) (D.world disk.new) }
+    ensures gives { IsTrue D.readable → OnOk result (page.new ≡ page_bytes ((D.world disk.old).seen areas.Pages) number) }
+    ensures reads { IsTrue D.readable → ReadsPage number (D.world disk.old) (D.world disk.new) }
     ensures cause { HasDiskCause (D.world disk.old) (D.world disk.new) result }
     ensures room { D.room_of disk.new ≡ D.room_of disk.old }
 {

@@ -4,8 +4,8 @@ ghost use Rattle.page_face.specs.Causes.{IsUncounted, Rose, unlinked as link};
 ghost use Rattle.page_store.specs.Store.{kept_of};
 
 use crate::store::Store;
+use buffer_pool::Place;
 use disk_model::Disk;
-use held_pages::Place;
 use page_face::{Damage, Page, PageFault, Pages, Rule, Seal, free_next, free_page};
 
 fn unlinked(page: u32) -> PageFault
@@ -27,11 +27,11 @@ impl<'d, D: Disk> Pages for Store<'d, D> {
     ghost use Rattle.std.specs.Prelude.{◌≡◌, ◌≤◌};
     ghost use Rattle.page_journal.specs.Record.{applied};
     ghost use Rattle.page_store.specs.Contents.{shown, counted_pages};
-    ghost use Rattle.held_pages.specs.Places.{looked_page};
+    ghost use Rattle.buffer_pool.specs.Places.{looked_page};
     ghost use Rattle.page_store.specs.Takes.{counts_of};
     ghost use Rattle.page_store.specs.Store.{GoesOn, OnlyReads, goes_nowhere, goes_further, reads_nothing, reads_further};
 
-    ghost pages = { λ s. counted_pages s.current.counted (shown D.tells (applied (D.world s.disk.now).seen) s.overlay) };
+    ghost pages = { λ s. counted_pages s.current.counted (shown D.readable (applied (D.world s.disk.now).seen) s.overlay) };
 
     ghost count = { λ s. s.current.counted };
 
@@ -49,22 +49,22 @@ impl<'d, D: Disk> Pages for Store<'d, D> {
 
     ghost is_stopped = { λ s. s.stopped };
 
-    ghost follows_from = { λ a b. GoesOn D.tells D.world D.room_of (kept_of a.current a.last) (kept_of b.current b.last)
+    ghost follows_from = { λ a b. GoesOn D.readable D.world D.room_of (kept_of a.current a.last) (kept_of b.current b.last)
         (counts_of a.current.counted a.takes_left a.refused) (counts_of b.current.counted b.takes_left b.refused) a.disk b.disk };
 
-    ghost only_reads = { λ a b. OnlyReads D.tells D.world a.overlay b.overlay a.asked.items b.asked.items a.disk.now b.disk.now };
+    ghost only_reads = { λ a b. OnlyReads D.readable D.world a.overlay b.overlay a.asked.items b.asked.items a.disk.now b.disk.now };
 
     ghost first_is_counted = { λ s. s.current_first };
 
-    ghost stays = { λ s. goes_nowhere D.tells D.world D.room_of (kept_of s.current s.last) (counts_of s.current.counted s.takes_left s.refused) s.disk };
+    ghost stays = { λ s. goes_nowhere D.readable D.world D.room_of (kept_of s.current s.last) (counts_of s.current.counted s.takes_left s.refused) s.disk };
 
-    ghost goes_further = { λ a b c f g. goes_further D.tells D.world D.room_of (kept_of a.current a.last) (kept_of b.current b.last) (kept_of c.current c.last)
+    ghost goes_further = { λ a b c f g. goes_further D.readable D.world D.room_of (kept_of a.current a.last) (kept_of b.current b.last) (kept_of c.current c.last)
         (counts_of a.current.counted a.takes_left a.refused) (counts_of b.current.counted b.takes_left b.refused) (counts_of c.current.counted c.takes_left c.refused)
         a.disk b.disk c.disk f g };
 
-    ghost reads_nothing = { λ s. reads_nothing D.tells D.world s.overlay s.asked.items s.disk.now };
+    ghost reads_nothing = { λ s. reads_nothing D.readable D.world s.overlay s.asked.items s.disk.now };
 
-    ghost reads_further = { λ a b c f g. reads_further D.tells D.world a.overlay b.overlay c.overlay a.asked.items b.asked.items c.asked.items a.disk.now b.disk.now c.disk.now f g };
+    ghost reads_further = { λ a b c f g. reads_further D.readable D.world a.overlay b.overlay c.overlay a.asked.items b.asked.items c.asked.items a.disk.now b.disk.now c.disk.now f g };
 
     fn counted(&self) -> u32 {
         self.current.counted
@@ -74,7 +74,7 @@ impl<'d, D: Disk> Pages for Store<'d, D> {
         self.current.first_free
     }
 
-    // Inlined, so that a page in memory is copied once, to where the caller looks at it.
+    // Inlined, so that a page in memory is copied once, straight to the caller's buffer.
     #[inline(always)]
     fn read(&mut self, page: u32) -> Result<Page, PageFault> {
         match self.look(page) {
@@ -100,7 +100,7 @@ impl<'d, D: Disk> Pages for Store<'d, D> {
     }
 
     fn looked(&self) -> &Page {
-        held_pages::lend(
+        buffer_pool::lend(
             self.place,
             &self.overlay,
             &self.journal,
@@ -127,7 +127,7 @@ impl<'d, D: Disk> Pages for Store<'d, D> {
             return Err(unlinked(page));
         }
         self.place = Place::Spare;
-        held_pages::write(self.alloc, &mut self.overlay, &mut self.seals, page, bytes)
+        buffer_pool::write(self.alloc, &mut self.overlay, &mut self.seals, page, bytes)
     }
 
     fn write_sealed(&mut self, page: u32, bytes: &Page, seal: Seal) -> Result<(), PageFault> {
@@ -138,7 +138,7 @@ impl<'d, D: Disk> Pages for Store<'d, D> {
             return Err(unlinked(page));
         }
         self.place = Place::Spare;
-        held_pages::write_sealed(
+        buffer_pool::write_sealed(
             self.alloc,
             &mut self.overlay,
             &mut self.seals,
@@ -183,7 +183,7 @@ impl<'d, D: Disk> Pages for Store<'d, D> {
             return Err(unlinked(page));
         }
         self.place = Place::Spare;
-        held_pages::write(
+        buffer_pool::write(
             self.alloc,
             &mut self.overlay,
             &mut self.seals,
@@ -196,7 +196,7 @@ impl<'d, D: Disk> Pages for Store<'d, D> {
 }
 
 impl<'d, D: Disk> Store<'d, D> {
-    // Counts one page more, where room and a take are left.
+    // Counts one more page, if there is room and a take is left.
     fn count_one(&mut self) -> Result<u32, PageFault>
         requires { self.old.current.first_free ≡ 0 }
         ensures counts { IfOk result (λ page. (page ≡ self.old.current.counted) × (self.new.current.counted ≡ self.old.current.counted + 1)) }

@@ -5,18 +5,18 @@ ghost use Rattle.disk_model.specs.World.{LeavesOnly, HasSaid, HasSinkCause};
 ghost use Rattle.page_journal.specs.Record.{IsBad, StandsAlike};
 ghost use Rattle.page_store.specs.declared.superblock.HeadFault.TheVariants as heads;
 ghost use Rattle.page_cache.specs.Pairs.{pairs_of, room_of};
-ghost use Rattle.held_pages.specs.Pages.{IsSized};
-ghost use Rattle.held_pages.specs.Places.{AreTrue, held_page, looked_page};
-ghost use Rattle.held_pages.specs.Rooms.{room_page};
-ghost use Rattle.held_pages.specs.declared.place.Place.TheVariants as places;
+ghost use Rattle.buffer_pool.specs.Pages.{IsSized};
+ghost use Rattle.buffer_pool.specs.Places.{AreTrue, held_page, looked_page};
+ghost use Rattle.buffer_pool.specs.Rooms.{room_page};
+ghost use Rattle.buffer_pool.specs.declared.place.Place.TheVariants as places;
 ghost use Rattle.page_store.specs.Contents.{IsCommitted};
 ghost use Rattle.page_store.specs.Held.{AreCached, AreImages, AreKept};
 ghost use Rattle.page_store.specs.Opening.{IsOpened, IsNoStore, SaysNothingReadsHead, head_damage};
 
 use crate::opening::{OpenFault, recover_superblock};
 use crate::superblock::Superblock;
+use buffer_pool::{Hints, PageTable, Place, Seals};
 use disk_model::{Disk, Failed, Station};
-use held_pages::{Hints, PageTable, Place, Seals};
 use page_cache::Cache;
 use page_face::{Damage, Head, Page, PageFault};
 use std::alloc::Global;
@@ -24,20 +24,21 @@ use std::collections::BTreeMap;
 
 /// Pages on a disk that it borrows, committed whole or dropped.
 ///
-/// What is written stands in an overlay until [`Store::commit_all`] makes it safe in one commit, a record of the journal, or
-/// [`Store::abandon`] drops it. The last image of each page of the journal is kept in memory until a checkpoint brings it to its place. A
-/// commit or a checkpoint that fails stops the store: from then on every call of the pages returns `Stopped`, and the store is to be
+/// What is written is held in an overlay until [`Store::commit_all`] makes it safe in one commit, a record of the journal, or
+/// [`Store::abandon`] drops it. The last image of each page of the journal is kept in memory until a checkpoint writes it in its place. A
+/// commit or a checkpoint that fails stops the store: from then on every call of the pages returns `Stopped`, and the store has to be
 /// opened again. No call of the pages changes the head.
 ///
-/// Cost: `look` is one look-up in a hash table for a page of the overlay, or none where it lies at the index where a `look` found it last; one
-/// more, among the journal's pages, for one of those, and a third, in the cache, for a cached one; none of these calls the disk or copies a
-/// page. A page that is in none is read from the disk, where that is one call, and copied once into the cache. `looked`, `is_sealed` and
-/// `seal` make no look-up: `look` notes where the page lies, and a seal has its slot by the page's number. `read` is a `look` and a copy of
-/// the page, and a `take` of a free page a `look` at it. `write`, `write_sealed` and `give_back` put one page into the overlay, where that is
-/// two look-ups at most; they make no call of the disk.
+/// Cost of a `look`: one look-up in a hash table for a page of the overlay, or none if it is still where a `look` last found it. A page
+/// of the journal costs a second look-up, and a cached page a third. None of these calls the disk or copies a page. A page that is in
+/// none of the three is read from the disk, in one call, and copied once into the cache.
 ///
-/// The overlay holds each page written since the last commit once, the journal's pages take some 16 MiB at most beside those of one commit,
-/// the cache holds as many pages as it was made for, and seals and hints take 1.25 MiB at most. Pages are put in the order of their numbers
+/// Cost of other calls: `looked`, `is_sealed` and `seal` make no look-up: `look` notes the page's place, and a seal has its slot by the
+/// page's number. `read` is a `look` and a copy of the page, and a `take` of a free page is a `look` at it. `write`, `write_sealed` and
+/// `give_back` put one page into the overlay, which is two look-ups at most; they make no call of the disk.
+///
+/// The overlay holds each page written since the last commit once. The journal's pages take some 16 MiB at most beside those of one commit.
+/// The cache holds as many pages as it was made for, and seals and hints take 1.25 MiB at most. Pages are put in the order of their numbers
 /// for a commit and for a checkpoint, which is a search of an ordered map for each. A checkpoint moves the journal's pages into the cache.
 #[derive(Drop)]
 pub struct Store<'d, D: Disk> {
@@ -49,9 +50,9 @@ pub struct Store<'d, D: Disk> {
     pub(crate) journal: PageTable,
     // rooms for the journal's pages, in which a checkpoint puts them in order
     pub(crate) rooms: BTreeMap<u32, Option<Box<Page>>>,
-    // where the next record of the journal begins
+    // the offset of the next record of the journal
     pub(crate) end: u64,
-    // page 0 as it stands, and as it was committed last
+    // page 0 as it is now, and as it was committed last
     pub(crate) current: Superblock,
     pub(crate) last: Superblock,
     pub(crate) asked: Vec<u32>,
@@ -62,9 +63,9 @@ pub struct Store<'d, D: Disk> {
     // committed pages, the one used last first
     pub(crate) cache: Cache,
     pub(crate) seals: Seals,
-    // where pages of the overlay were found last
+    // the indexes at which pages of the overlay were found last
     pub(crate) hints: Hints,
-    // number and place of the page looked at last, and the page itself where memory holds it by no number
+    // number and place of the page looked at last, and the page itself if memory holds it by no number
     pub(crate) at: u32,
     pub(crate) place: Place,
     pub(crate) spare: Page,
@@ -74,14 +75,14 @@ pub struct Store<'d, D: Disk> {
     ghost sized: { IsSized overlay },
     ghost in_order: { AreKept journal rooms } by { Prim.hlevel props },
     ghost bare: { stopped ≡ false → (n : ℕ) → room_page rooms n ≡ None },
-    ghost ready: { IsTrue D.tells → stopped ≡ false → IsCommitted last end (D.world disk.now) },
-    ghost images: { IsTrue D.tells → stopped ≡ false → AreImages journal (D.world disk.now).seen } by { Prim.hlevel props },
-    ghost cached: { IsTrue D.tells → stopped ≡ false → AreCached journal cache (D.world disk.now).seen } by { Prim.hlevel props },
+    ghost ready: { IsTrue D.readable → stopped ≡ false → IsCommitted last end (D.world disk.now) },
+    ghost images: { IsTrue D.readable → stopped ≡ false → AreImages journal (D.world disk.now).seen } by { Prim.hlevel props },
+    ghost cached: { IsTrue D.readable → stopped ≡ false → AreCached journal cache (D.world disk.now).seen } by { Prim.hlevel props },
     ghost sealed: { AreTrue seals overlay journal cache } by { Prim.hlevel props },
     ghost lies: { place ≢ places.Spare → held_page overlay journal cache at ≡ Some (looked_page place overlay journal cache spare) },
 }
 
-// A cache of so many pages, or of none if there is no memory for it.
+// A cache of at most `pages` pages, or of none if there is no memory for it.
 fn cache_of(alloc: Global, pages: u32) -> Cache
     ensures pairs { pairs_of result ≡ [] }
     ensures room { (room_of result ≡ pages) ⊎ (room_of result ≡ 0) }
@@ -93,41 +94,42 @@ fn cache_of(alloc: Global, pages: u32) -> Cache
 }
 
 impl<'d, D: Disk> Store<'d, D> {
-    /// Recovers the journal and reads page 0. `cache` is the number of pages that the cache may hold; 0 is none.
+    /// Opens a store: recovers the journal and reads page 0. `cache` is the number of pages that the cache may hold; 0 is none.
     ///
     /// Refuses as [`recover_superblock`] does, and costs as much.
     pub fn open(alloc: Global, disk: &'d mut D, cache: u32) -> Result<Store<'d, D>, OpenFault>
         ensures same_loan { IfOk result (λ store. store.disk.ghost_name ≡ disk.entry.ghost_name) }
 
-        // A crash at any moment leaves what a crash could leave as the call began, or what stands for the same pages.
-        ensures any_moment { IsTrue D.tells → IfOk result (λ store. LeavesOnly (D.world disk.old) (D.world store.disk.now) (StandsAlike (D.world disk.old))) }
-        ensures quiet { IsTrue D.tells → IfOk result (λ store. SaysNothingReadsHead (D.world disk.old) (D.world store.disk.now)) }
+        // A crash at any moment leaves what a crash could leave as the call began, or an image that holds the same pages.
+        ensures any_moment { IsTrue D.readable → IfOk result (λ store. LeavesOnly (D.world disk.old) (D.world store.disk.now) (StandsAlike (D.world disk.old))) }
+        ensures quiet { IsTrue D.readable → IfOk result (λ store. SaysNothingReadsHead (D.world disk.old) (D.world store.disk.now)) }
         ensures faults { IfOk result (λ store. (D.world disk.old).faults ≤ (D.world store.disk.now).faults) }
         ensures sink { IfOk result (λ store. (D.world store.disk.now).sink_faults ≡ (D.world disk.old).sink_faults) }
         ensures room { IfOk result (λ store. D.room_of store.disk.now ≡ D.room_of disk.old) }
 
-        ensures opened { IsTrue D.tells → IfOk result (λ store. IsOpened store.last (D.world disk.old) (D.world store.disk.now)) }
+        ensures opened { IsTrue D.readable → IfOk result (λ store. IsOpened store.last (D.world disk.old) (D.world store.disk.now)) }
         ensures clean { IfOk result (λ store. (store.overlay.entries ≡ []) × (store.current ≡ store.last)) }
         ensures fresh { IfOk result (λ store. (store.asked.items ≡ []) × (store.refused ≡ 0) × (store.stopped ≡ false)) }
         ensures allowed { IfOk result (λ store. store.takes_left ≡ 2 ^ 64 - 1) }
 
-        // The cache may hold so many pages as were asked for, or none if memory ran out for it.
+        // The cache may hold as many pages as `cache`, or none if memory ran out for it.
         ensures cache_room { IfOk result (λ store. (room_of store.cache ≡ cache) ⊎ (room_of store.cache ≡ 0)) }
-        ensures not_a_store { IsTrue D.tells → IsErrOf result OpenFault.NotAStore → IsNoStore heads.NotAStore (D.world disk.old).seen }
+        ensures not_a_store { IsTrue D.readable → IsErrOf result OpenFault.NotAStore → IsNoStore heads.NotAStore (D.world disk.old).seen }
         ensures damaged { (damage : Damage) → IsErrOf result (OpenFault.Damaged damage)
-            → (damage ≡ head_damage) × (IsTrue D.tells → IsNoStore heads.Broken (D.world disk.old).seen) }
-        ensures bad { IsTrue D.tells → (at : ℕ) → IsErrOf result (OpenFault.BadJournal at) → IsBad (D.world disk.old).seen at }
+            → (damage ≡ head_damage) × (IsTrue D.readable → IsNoStore heads.Broken (D.world disk.old).seen) }
+        ensures bad { IsTrue D.readable → (at : ℕ) → IsErrOf result (OpenFault.BadJournal at) → IsBad (D.world disk.old).seen at }
         ensures memory { result ≢ Err OpenFault.Memory }
     {
         let block = recover_superblock(&mut *disk)?;
         Ok(Store::over(alloc, disk, block, cache))
     }
 
-    /// The store over a disk for which [`recover_superblock`] has returned this superblock, with a cache of at most `cache` pages; with none
-    /// if it runs out of memory for it. Makes no call of the disk.
+    /// The store over a disk for which [`recover_superblock`] has returned this superblock, with a cache of at most `cache` pages.
+    ///
+    /// If it runs out of memory for the cache, the store has none. Makes no call of the disk.
     pub fn over(alloc: Global, disk: &'d mut D, block: Superblock, cache: u32) -> Store<'d, D>
         requires in_range { block.first_free < block.counted }
-        requires committed { IsTrue D.tells → IsCommitted block 0 (D.world disk.old) }
+        requires committed { IsTrue D.readable → IsCommitted block 0 (D.world disk.old) }
         ensures same_loan { result.disk.ghost_name ≡ disk.entry.ghost_name }
         ensures disk { result.disk.now ≡ disk.old }
         ensures block { result.last ≡ block }
@@ -186,14 +188,14 @@ impl<'d, D: Disk> Store<'d, D> {
         disk
     }
 
-    /// The head as it stands, with what `set_head` gave since the last commit.
+    /// The current head, with what `set_head` set since the last commit.
     pub fn head(&self) -> Head
         ensures { result ≡ self.now.current.head }
     {
         self.current.head
     }
 
-    /// Puts the head in the place of the one that stands. It is made safe by the next commit.
+    /// Replaces the head. The next commit makes it safe.
     pub fn set_head(&mut self, head: &Head)
         ensures current { self.new.current ≡ record self.old.current { head = head.now } }
         ensures last { self.new.last ≡ self.old.last }
@@ -229,13 +231,13 @@ impl<'d, D: Disk> Store<'d, D> {
         self.asked.clear();
     }
 
-    /// Allows so many takes from now on, in place of what was left of the takes allowed before. A new store allows 2^64 - 1.
+    /// Allows `takes` more takes from now on, replacing what was left of those allowed before. A new store allows 2^64 - 1.
     ///
-    /// It is a fuse for a change that would take page after page without end: behind so many takes the next one is refused as `Memory`,
-    /// where it isn't refused for another cause, until takes are allowed again. So a change that was allowed `takes` counts at most so many
-    /// pages more, and meets `NoRoom` only where no more than these were left. A change that is in order takes far fewer.
+    /// It is a fuse for a change that would take page after page without end. After that many takes the next one is refused as `Memory`,
+    /// if it isn't refused for another cause, until takes are allowed again. So a change that was allowed `takes` counts at most that
+    /// many more pages, and meets `NoRoom` only if no more than these were left. A sound change takes far fewer.
     ///
-    /// Refuses `Memory` exactly where 2^64 - 1 takes were refused, so that a further one wouldn't be counted; then nothing changes.
+    /// Refuses `Memory` exactly when 2^64 - 1 takes were refused, so that a further one wouldn't be counted; then nothing changes.
     pub fn allow(&mut self, takes: u64) -> Result<(), PageFault>
         ensures takes { OnOk result (self.new.takes_left ≡ takes) }
         ensures counts { OnOk result (self.old.refused < 2 ^ 64 - 1) }
@@ -258,12 +260,12 @@ impl<'d, D: Disk> Store<'d, D> {
 }
 
 impl<'d, D: Station> Store<'d, D> {
-    /// Passes a piece, which isn't empty, to the station, in one call, and changes nothing else. Answers as the station does.
+    /// Passes `bytes`, which aren't empty, to the station in one call, and returns what the station returns. Changes nothing else.
     pub fn say(&mut self, bytes: &[u8]) -> Result<usize, Failed>
         requires { 0 < length bytes.now }
         ensures same_loan { self.new.disk.ghost_name ≡ self.old.disk.ghost_name }
         ensures count { IfOk result (λ n. (0 < n) × (n ≤ length bytes.now)) }
-        ensures told { IsTrue D.tells → HasSaid bytes.now (D.world self.old.disk.now) (D.world self.new.disk.now) result }
+        ensures told { IsTrue D.readable → HasSaid bytes.now (D.world self.old.disk.now) (D.world self.new.disk.now) result }
         ensures cause { HasSinkCause (D.world self.old.disk.now) (D.world self.new.disk.now) result }
         ensures room { D.room_of self.new.disk.now ≡ D.room_of self.old.disk.now }
         ensures current { self.new.current ≡ self.old.current }

@@ -35,10 +35,10 @@ pub struct Superblock {
     pub head: Head,
 }
 
-/// Why page 0 is none of a store.
+/// Why page 0 isn't that of a store.
 #[derive(Clone, Copy, Debug, PartialEq, Eq)]
 pub(crate) enum HeadFault {
-    // It is neither all zero nor begins with the magic.
+    // It isn't all zero and doesn't begin with the magic.
     NotAStore,
     // It begins with the magic, and a field or a spare byte breaks the rule Head.
     Broken,
@@ -91,7 +91,7 @@ fn put_long(page: &mut Page, at: usize, n: u64)
     page[at..at + 8].copy_from_slice(&n.to_be_bytes());
 }
 
-// Zeros behind the magic.
+// A page with the magic, and zeros after it.
 fn blank() -> Page
     ensures magic { take 8 result ≡ magic }
     ensures spare { has_clear_spare result ≡ true }
@@ -114,7 +114,7 @@ fn has_magic(page: &Page) -> bool
 }
 
 impl Superblock {
-    /// The empty store: page 0 alone is counted.
+    /// The superblock of the empty store: only page 0 is counted.
     pub(crate) fn empty() -> Superblock
         ensures { result ≡ empty_store }
     {
@@ -135,7 +135,7 @@ impl Superblock {
         }
     }
 
-    // The fields behind the magic.
+    // The fields after the magic.
     fn fields(page: &Page) -> Superblock
         ensures { result ≡ fields_of page.now }
     {
@@ -185,7 +185,7 @@ impl Superblock {
             && next_word <= 64 * (number + 1)
     }
 
-    /// What page 0 stands for.
+    /// Reads the superblock from page 0, or returns why it isn't that of a store.
     pub(crate) fn decode(page: &Page) -> Result<Superblock, HeadFault>
         ensures in_range { IfOk result IsInRange }
         ensures exact { MatchResult result (λ block. IsStorePage page.now × (block ≡ superblock_in page.now)) (λ fault. IsHeadFault fault page.now) }

@@ -1,8 +1,10 @@
 //! Tests of the crates of pages: cache, journal, store, maps of pages, and the tables of places and words.
+//!
+//! Each module tests the crate of its name; `paged_map_tests` also reaches the B+-tree's crates.
 #![tactic(auto)]
 
 #[cfg(test)]
-mod held_pages_tests;
+mod buffer_pool_tests;
 #[cfg(test)]
 mod page_cache_tests;
 #[cfg(test)]

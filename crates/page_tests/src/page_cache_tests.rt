@@ -2,10 +2,10 @@
 use page_cache::Cache;
 use std::test::Fail;
 
-// A page, and the first byte that is lent of it.
+// A page, and the first byte of it that is lent.
 static LOOKS: [(u32, Option<u8>); 3] = [(2, None), (1, Some(11)), (3, Some(13))];
 
-// The first byte that is lent of a page.
+// The first byte of a page that is lent.
 fn looked_at(cache: &mut Cache, page: u32) -> Option<u8> {
     if !cache.look(page) {
         return None;
@@ -13,7 +13,7 @@ fn looked_at(cache: &mut Cache, page: u32) -> Option<u8> {
     Some(cache.looked()?[0])
 }
 
-// Keeps the pages 1 and 2, looks at page 1 and keeps page 3. Whether all that succeeded.
+// Keeps the pages 1 and 2, looks at page 1 and keeps page 3. Returns whether all that succeeded.
 fn keep_three(cache: &mut Cache) -> bool {
     cache.keep(1, &[11; 4096]).is_ok()
         && cache.keep(2, &[12; 4096]).is_ok()

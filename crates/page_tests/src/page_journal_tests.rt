@@ -19,7 +19,7 @@ struct Written {
 // What recovery returns, and then the first bytes of the journal and of the pages 1 and 3.
 type Recovered = (Result<(), JournalFault>, [u8; 3]);
 
-// A journal's records, the byte behind them, and what its recovery leaves.
+// A journal's records, the byte after them, and what its recovery leaves.
 struct Row {
     records: &'static [Written],
     last: u8,
@@ -131,7 +131,7 @@ fn push_record(bytes: &mut Vec<u8>, record: &Written) -> Result<(), AllocError> 
     Ok(())
 }
 
-// A station of four pages of bytes 1, and a row's journal without what stands behind its first `len` bytes.
+// A station of four pages of bytes 1, and the first `len` bytes of a row's journal.
 fn station_of(alloc: Global, row: &Row, len: usize) -> Result<MemoryStation, Failure> {
     let mut journal = Vec::new(alloc);
     for record in row.records {
@@ -169,7 +169,7 @@ fn recover_answers_each_journal_as_it_stands(rt: HostRuntime) -> Result<(), Fail
     Ok(())
 }
 
-// What recovery leaves of a journal of two records that ends after so many pieces of 512 bytes.
+// What recovery leaves of a journal of two records that ends after `pieces` pieces of 512 bytes.
 fn cut_answer(pieces: usize) -> Recovered {
     match pieces {
         0 => (Ok(()), [0, 1, 1]),
@@ -215,7 +215,7 @@ fn record_of(alloc: Global, filled: &[(u32, u8)]) -> Result<Record, AllocError>
     Record::gather(alloc, &pages)
 }
 
-// Recovers a station, and appends page 1 of bytes 5, and then pages 1 and 3 of bytes 6 and 7. Returns where each ends, 0 where it failed.
+// Recovers a station, and appends page 1 of bytes 5, and then pages 1 and 3 of bytes 6 and 7. Returns where each ends, 0 if it failed.
 fn run(alloc: Global, station: &mut MemoryStation) -> Result<(u64, u64), AllocError> {
     let first = record_of(alloc, &[(1, 5)])?;
     let second = record_of(alloc, &[(1, 6), (3, 7)])?;
@@ -237,7 +237,7 @@ fn left(station: &MemoryStation, tear: Tear) -> Result<Recovered, Failure> {
     Ok(recovered(&mut crashed)?)
 }
 
-// How many appends the pages hold; None where they hold something else.
+// How many appends the pages hold; `None` if they hold something else.
 fn appends_held(left: Recovered) -> Option<u64> {
     match left {
         (Ok(()), [0, 1, 1]) => Some(0),
@@ -247,7 +247,7 @@ fn appends_held(left: Recovered) -> Option<u64> {
     }
 }
 
-// Whether the pages hold so many appends or more after each crash.
+// Whether the pages hold at least `appends` appends after each crash.
 fn holds_at_least(appends: u64, station: &MemoryStation) -> Result<bool, Failure> {
     for tear in &TEARS {
         if appends_held(left(station, *tear)?) < Some(appends) {

@@ -5,10 +5,10 @@ use page_store::{OpenFault, Store, recover_superblock};
 use std::alloc::{AllocError, Global};
 use std::test::Fail as Failure;
 
-// What a store holds: the pages counted, the live places of its head, and the first byte of page 1, 0 where it isn't counted.
+// What a store holds: the pages counted, the live places of its head, and the first byte of page 1, 0 if it isn't counted.
 type Held = (u32, u32, u8);
 
-// What page 0 begins with, and what the store then holds or is refused for.
+// The bytes at the beginning of page 0, and what the store then holds or why it is refused.
 struct Row {
     page: &'static [u8],
     held: Result<Held, OpenFault>,
@@ -72,7 +72,7 @@ fn open_answers_by_page_0(rt: HostRuntime) -> Result<(), Failure> {
     Ok(())
 }
 
-// Opens a store, and writes one page and one field of the head in a commit. Whether it succeeded.
+// Opens a store, and writes one page and one field of the head in a commit. Returns whether it succeeded.
 fn write_one(alloc: Global, station: &mut MemoryStation, byte: u8) -> Result<bool, OpenFault> {
     let mut store = Store::open(alloc, station, 0)?;
     let is_written = match store.take() {
@@ -128,13 +128,13 @@ enum Call {
     Commit,
     Settle,
     Abandon,
-    // from now on so many takes
+    // how many takes are allowed from now on
     Allow(u64),
     Counted,
     Say,
 }
 
-// What a call answers.
+// The answer to a call.
 #[derive(Clone, Copy, Debug, PartialEq, Eq)]
 enum Answer {
     Done,
@@ -190,7 +190,7 @@ fn answer_of(store: &mut Store<'_, MemoryStation>, call: Call) -> Answer {
     }
 }
 
-// What stands on the disk before a run.
+// What the disk holds before a run.
 #[derive(Clone, Copy)]
 enum Image {
     Empty,
@@ -464,7 +464,7 @@ fn opening_reads(alloc: Global, image: Image) -> Result<u64, Failure> {
     Ok(station.reads())
 }
 
-// The station of a run, whose sync is to fail.
+// The station of a run, one of whose syncs is to fail.
 fn failing_station(alloc: Global, run: &Run) -> Result<MemoryStation, Failure> {
     let mut station = station(alloc, run.image)?;
     station.fail_at(&[Fail {
@@ -485,7 +485,7 @@ fn first_wrong(store: &mut Store<'_, MemoryStation>, run: &Run) -> Option<Answer
     None
 }
 
-// Makes the calls of a run. Returns the first answer that isn't the run's, and whether the log is the run's, and none once it is cleared.
+// Makes the calls of a run. Returns the first answer that isn't the run's, and whether the log is the run's and is empty once cleared.
 fn made(
     alloc: Global,
     station: &mut MemoryStation,

@@ -121,7 +121,7 @@ fn rows_are_found_by_key_and_in_order(rt: HostRuntime) {
     }
 }
 
-// Bytes of the map of four rows that are changed, by page and place, and the page and the rule that are named then.
+// Bytes of the map of four rows that are changed, by page and place, and the page and the rule that are then named.
 struct Broken {
     changes: &'static [(u32, usize, u8)],
     page: u32,
@@ -165,7 +165,7 @@ static BROKEN: [Broken; 7] = [
         page: 1,
         rule: Rule::Fill,
     },
-    // a byte behind the rows
+    // a byte after the rows
     Broken {
         changes: &[(1, 2056, 1)],
         page: 1,
@@ -212,7 +212,7 @@ fn a_broken_page_is_named_with_its_rule(rt: HostRuntime) {
 // What a map is to hold: the first byte of each key's value.
 type Model = [Option<u8>; 256];
 
-// Puts 200 rows. Whether the keys of all were new.
+// Puts 200 rows. Returns whether the keys of all were new.
 fn put_all(
     pages: &mut MemoryPages,
     map: &mut PagedMap<Wide>,
@@ -230,7 +230,7 @@ fn put_all(
     Ok(true)
 }
 
-// Puts a value that begins with 255 in the place of that of every fifth key below 200. Whether all of these were there.
+// Replaces the value of every fifth key below 200 with one that begins with 255. Returns whether all these keys were there.
 fn replace_some(
     pages: &mut MemoryPages,
     map: &PagedMap<Wide>,
@@ -250,7 +250,7 @@ fn replace_some(
     Ok(true)
 }
 
-// Whether a look-up of each key answers as the model.
+// Whether a look-up of each key finds what the model has.
 fn is_model(
     pages: &mut MemoryPages,
     map: &PagedMap<Wide>,
@@ -269,7 +269,7 @@ fn is_model(
     Ok(true)
 }
 
-// Takes the 200 rows out in another order. Whether each was there, and after each 25 of them the map was as the model.
+// Takes the 200 rows out in another order. Returns whether each was there, and the map was as the model after each 25 of them.
 fn remove_all(
     pages: &mut MemoryPages,
     map: &mut PagedMap<Wide>,
@@ -349,7 +349,7 @@ fn count(pages: &mut MemoryPages, leaf: u32) -> Result<u8, PageFault> {
     Ok(pages.read(leaf)?[3])
 }
 
-// How many rows leaf 1 has, and how many pages are counted, where the root and leaf 2 are as they were written.
+// How many rows leaf 1 has, and how many pages are counted, if the root and leaf 2 are as they were written.
 fn left_leaf(pages: &mut MemoryPages) -> Result<Option<(u8, u32)>, PageFault> {
     let rows = count(pages, 1)?;
     let same = pages.read(2)? == leaf(6, 8) && pages.read(3)? == root();

@@ -34,7 +34,7 @@ fn write(page: &mut Page, at: usize, bytes: &[u8]) {
     }
 }
 
-// A leaf of a map with one row, in two pieces behind the key.
+// A leaf of a map with one row, whose value is given in two pieces.
 fn leaf(map: u8, key: &[u8], value: &[u8], more: &[u8]) -> Page {
     let mut page = [0; 4096];
     write(&mut page, 0, &[1, map, 0, 1]);
@@ -97,7 +97,7 @@ fn rows_are_found(rt: HostRuntime) -> Result<(), Fail> {
     Ok(())
 }
 
-// Whether the place at a key is the first of all and the first behind another key, and none follows it.
+// Whether the place at a key is the first of all and the first after another key, and none follows it.
 fn follows(pages: &mut MemoryPages, key: &Key, before: &Key) -> Result<bool, PageFault> {
     let tables = tables(pages, &PLACE)?;
     let Some(stored) = tables.place(pages, key)? else {
@@ -120,7 +120,7 @@ fn places_follow_one_another(rt: HostRuntime) -> Result<(), Fail> {
     Ok(())
 }
 
-// Puts the place at one key at another key, twice. Whether it was there the second time alone, and is found.
+// Puts the place at one key at another key, twice. Returns whether it was there only the second time, and is found.
 fn puts(
     pages: &mut MemoryPages,
     tables: &mut Tables,
@@ -137,7 +137,7 @@ fn puts(
     )
 }
 
-// Removes a place twice. Whether it was there the first time alone, and isn't found.
+// Removes a place twice. Returns whether it was there only the first time, and isn't found.
 fn removes(pages: &mut MemoryPages, tables: &mut Tables, key: &Key) -> Result<bool, PageFault> {
     Ok(
         tables.remove_place(pages, key)?
@@ -215,7 +215,7 @@ static DISAGREEMENT: PageFault = PageFault::Damaged(Damage {
     rule: Rule::Words,
 });
 
-// Holds the words, and answers whether each has its number.
+// Holds the words, and returns whether each has its number.
 fn hold_all(pages: &mut MemoryPages, tables: &mut Tables) -> Result<bool, PageFault> {
     let mut are_so = true;
     for (form, number) in &HELD {
@@ -230,7 +230,7 @@ fn hold_all(pages: &mut MemoryPages, tables: &mut Tables) -> Result<bool, PageFa
     Ok(are_so)
 }
 
-// Releases the word of a number twice, and answers which number the word has after each time.
+// Releases the word of a number twice, and returns which number the word has after each time.
 fn released(
     pages: &mut MemoryPages,
     tables: &mut Tables,

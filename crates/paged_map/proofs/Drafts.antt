@@ -12,8 +12,8 @@ use Rattle.btree_nodes.proofs.Spans.{lookup-above, lookup-below, lookup-append_l
 use Rattle.btree_nodes.specs.Build.{image}
 use Rattle.btree_nodes.proofs.Supplies.{moves-write, with-other}
 use Rattle.btree_delete.proofs.Relinks.{made-count as image-counted}
-use Rattle.btree_search.specs.Leaves.{IsLeafOf, HoldsInstead}
-use Rattle.btree_search.specs.Steps.{low_of, high_of}
+use Rattle.btree_nodes.specs.Leaves.{IsLeafOf, HoldsInstead}
+use Rattle.btree_nodes.specs.Steps.{low_of, high_of}
 use Rattle.paged_map.specs.Drafts.{IsDrafted, IsLeafDraft}
 use Rattle.paged_map.specs.Maps.{IsKept, HasBecome}
 use Rattle.paged_map.specs.declared.draft.LeafDraft.{LeafDraft}

@@ -18,8 +18,8 @@ use Rattle.btree_nodes.specs.Tree.{map_rows, map_uses}
 use Rattle.btree_nodes.proofs.Images.{image-node, image-rows}
 use Rattle.btree_nodes.proofs.Supplies.{moves-write, with-other}
 use Rattle.btree_nodes.proofs.Writes.{built}
-use Rattle.btree_search.specs.Leaves.{IsLeafOf, HoldsInstead}
-use Rattle.btree_search.proofs.Soundness.{leaf-sound}
+use Rattle.btree_nodes.specs.Leaves.{IsLeafOf, HoldsInstead}
+use Rattle.btree_nodes.proofs.Soundness.{leaf-sound}
 use Rattle.btree_insert.proofs.PutLeaf.{put_cells}
 use Rattle.btree_delete.specs.Body.{cells_in, without_cell}
 use Rattle.btree_delete.proofs.Joins.{few, width-some}

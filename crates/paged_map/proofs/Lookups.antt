@@ -6,7 +6,7 @@ use Rattle.btree_nodes.specs.declared.form.Form.{Form}
 use Rattle.btree_nodes.specs.Bounds.{upper_of}
 use Rattle.btree_nodes.specs.Rows.{Row, lookup}
 use Rattle.btree_nodes.specs.Nodes.{rows_in}
-use Rattle.btree_search.specs.Ways.{IsWayOf}
+use Rattle.btree_nodes.specs.Ways.{IsWayOf}
 use Rattle.paged_map.specs.Lookups.{IsLookedUp, IsFirstPast, IsFirstFound}
 
 pub looked-up : (form : Form) (pages : PageMap) (count root key : ℕ) (found : Option (List ℕ)) (leaf from to : ℕ) → 0 < root → IsWayOf form pages count root key leaf from to → found ≡ lookup key (rows_in form (pages leaf)) → IsLookedUp form pages count root key found

@@ -16,7 +16,7 @@ use Rattle.btree_nodes.specs.Damages.{IsDamaged}
 use Rattle.btree_nodes.proofs.Harms.{tree-undamaged}
 use Rattle.btree_nodes.proofs.Numbers.{number-zeros}
 use Rattle.paged_map.specs.Maps.{IsMapDamaged, AreCounted, IsKept, HasBecome}
-use Rattle.btree_search.proofs.Roots.{map-rows, map-uses, tree-map, tree-level}
+use Rattle.btree_nodes.proofs.Roots.{map-rows, map-uses, tree-map, tree-level}
 
 -- what is said of a page by other names is said of it
 pub enter : (Claim : Form → PageMap → ℕ → ℕ → ℕ → ℕ → Type 0) (form form' : Form) (pages pages' : PageMap) (count count' level level' least least' low low' : ℕ) → form' ≡ form → pages' ≡ pages → count' ≡ count

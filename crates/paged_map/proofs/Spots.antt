@@ -12,7 +12,7 @@ use Rattle.btree_nodes.specs.Nodes.{IsLeaf, rows_in}
 use Rattle.btree_nodes.specs.Supply.{view}
 use Rattle.btree_nodes.specs.Tree.{IsMap, map_rows}
 use Rattle.btree_nodes.proofs.Puts.{put-edit}
-use Rattle.btree_search.specs.Leaves.{IsLeafOf}
+use Rattle.btree_nodes.specs.Leaves.{IsLeafOf}
 use Rattle.paged_map.specs.Edits.{edited}
 use Rattle.paged_map.specs.Maps.{HasBecome, IsKept}
 use Rattle.paged_map.specs.Spots.{IsInLeaf, IsRowAt, IsSpot, leaf_of}

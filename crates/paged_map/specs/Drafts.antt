@@ -6,9 +6,9 @@ use Rattle.page_face.specs.Nodes.{count_of}
 use Rattle.btree_nodes.specs.declared.form.Form.{Form}
 use Rattle.btree_nodes.specs.Nodes.{IsLeaf, rows_in}
 use Rattle.btree_nodes.specs.Rows.{Row, IsWithin}
-use Rattle.btree_search.specs.Leaves.{IsLeafOf}
-use Rattle.btree_search.specs.Steps.{low_of, high_of}
-use Rattle.btree_search.specs.Ways.{IsWayOf}
+use Rattle.btree_nodes.specs.Leaves.{IsLeafOf}
+use Rattle.btree_nodes.specs.Steps.{low_of, high_of}
+use Rattle.btree_nodes.specs.Ways.{IsWayOf}
 use Rattle.paged_map.specs.declared.draft.LeafDraft.{LeafDraft}
 
 -- the key belongs to the leaf

@@ -4,7 +4,7 @@ use Rattle.page_face.specs.FreeList.{PageMap}
 use Rattle.btree_nodes.specs.declared.form.Form.{Form}
 use Rattle.btree_nodes.specs.Rows.{Row, lookup, first_from}
 use Rattle.btree_nodes.specs.Nodes.{rows_in}
-use Rattle.btree_search.specs.Ways.{IsWayOf}
+use Rattle.btree_nodes.specs.Ways.{IsWayOf}
 
 -- What the leaf at the end of the key's way has there; an empty map has nothing.
 abbrev pub IsLookedUp : Form → PageMap → ℕ → ℕ → ℕ → Option (List ℕ) → Type 0

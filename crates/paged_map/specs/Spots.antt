@@ -8,7 +8,7 @@ use Rattle.btree_nodes.specs.declared.form.Form.{Form}
 use Rattle.btree_nodes.specs.Nodes.{IsLeaf, rows_in}
 use Rattle.btree_nodes.specs.Rows.{IsWithin}
 use Rattle.btree_nodes.specs.Tree.{IsMap}
-use Rattle.btree_search.specs.Leaves.{IsLeafOf}
+use Rattle.btree_nodes.specs.Leaves.{IsLeafOf}
 use Rattle.paged_map.specs.declared.replacing.RowSpot.{RowSpot}
 
 -- the page of a row that was found

@@ -1,13 +1,12 @@
 //! The draft of a leaf.
 ghost use Rattle.std.specs.Prelude.{◌≡◌, ◌+◌, ◌*◌, ◌<◌, ◌≤◌};
 
-use btree_nodes::Form;
-use btree_search::Bounds;
+use btree_nodes::{Bounds, Form};
 use page_face::Page;
 
 /// A copy of one leaf of a map, whose rows are changed in memory before it is written in one call.
 ///
-/// [`PagedMap::draft`](crate::PagedMap::draft) makes the copy. It stands for the leaf as long as no page changes but by
+/// [`PagedMap::draft`](crate::PagedMap::draft) makes the copy. It is a copy of the leaf as long as no page changes except by
 /// [`LeafDraft::write`]. Keys and values have the lengths of the map's form, as a condition of each call.
 #[derive(Drop)]
 pub struct LeafDraft {

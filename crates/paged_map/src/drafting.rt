@@ -5,7 +5,7 @@ ghost use Rattle.page_face.specs.FreeList.{PageMap};
 ghost use Rattle.page_face.specs.Number.{number};
 ghost use Rattle.btree_nodes.specs.Bounds.{upper_of};
 ghost use Rattle.btree_nodes.specs.Build.{image};
-ghost use Rattle.btree_nodes.specs.Damages.{AreTold, AskedSince, AsksOnly};
+ghost use Rattle.btree_nodes.specs.Damages.{AreReadable, AskedSince, AsksOnly};
 ghost use Rattle.btree_nodes.specs.Rows.{Row, lookup, put, without};
 ghost use Rattle.btree_nodes.specs.Supply.{view};
 ghost use Rattle.btree_nodes.specs.Tree.{IsMap, map_rows, map_uses};
@@ -16,8 +16,7 @@ ghost use Rattle.paged_map.specs.Maps.{HasBecome, IsKept, IsMapDamaged};
 use crate::draft::LeafDraft;
 use crate::editing::{Cut, cut_of, fill_leaf, has_room, spot_of};
 use crate::finding::copy_value;
-use btree_nodes::compare;
-use btree_search::{Bounds, locate, seal_of};
+use btree_nodes::{Bounds, compare, locate, seal_of};
 use page_face::{Damage, PageFault, Pages};
 use std::cmp::Ordering;
 
@@ -64,13 +63,13 @@ impl LeafDraft {
         ensures holds { OnOk result (IsKeyOf self.new (number key.now)) }
         ensures drafts { IsMap self.old.form (P.pages pages.old) root
             → OnOk result (Drafts (P.pages pages.old) root (map_rows self.old.form (P.pages pages.old) root) self.new) }
-        ensures kept { AreTold (P.pages pages.old) (P.count pages.old)
+        ensures kept { AreReadable (P.pages pages.old) (P.count pages.old)
             → OnOk result (IsDraftedAt (P.pages pages.old) (P.count pages.old) root (number key.now) self.new) }
-        ensures damaged { AreTold (P.pages pages.old) (P.count pages.old)
+        ensures damaged { AreReadable (P.pages pages.old) (P.count pages.old)
             → (damage : Damage) → IsErrOf result (PageFault.Damaged damage) → IsMapDamaged self.old.form (P.pages pages.old) (P.count pages.old) root damage }
-        ensures named { AreTold (P.pages pages.old) (P.count pages.old)
+        ensures named { AreReadable (P.pages pages.old) (P.count pages.old)
             → (damage : Damage) → IsErrOf result (PageFault.Damaged damage) → AskedSince (P.asked pages.old) (P.asked pages.new) damage.page }
-        ensures own { AreTold (P.pages pages.old) (P.count pages.old)
+        ensures own { AreReadable (P.pages pages.old) (P.count pages.old)
             → AsksOnly (map_uses self.old.form (P.pages pages.old) root) (P.asked pages.old) (P.asked pages.new) }
         ensures fails { FailsReading P.Pages pages.old pages.new result }
         ensures frame { Reads P.Pages pages.old pages.new }
@@ -89,7 +88,7 @@ impl LeafDraft {
         }
     }
 
-    /// Returns whether a key belongs to the leaf, so that its row, if there is one, stands there and nowhere else.
+    /// Returns whether a key belongs to the leaf, so that its row, if there is one, is in this leaf and no other.
     pub fn holds(&self, key: &[u8]) -> bool
         requires { length key.now ≡ self.now.form.key }
         ensures { IsTrue result ↔ IsKeyOf self.now (number key.now) }
@@ -99,7 +98,7 @@ impl LeafDraft {
 
     /// Returns whether the draft has a row at a key that belongs to the leaf, and leaves the row's value in `value`.
     ///
-    /// Searches the rows by halves, and copies the value alone.
+    /// Searches the rows by halves, and copies only the value.
     pub fn get(&self, key: &[u8], value: &mut [u8]) -> bool
         requires key { length key.now ≡ self.now.form.key }
         requires value { length value.old ≡ self.now.form.value }
@@ -114,7 +113,7 @@ impl LeafDraft {
         true
     }
 
-    // Sets the cells of the leaf: two pieces in place of those that are cut.
+    // Edits the cells of the leaf: two pieces replace those that are cut.
     fn edit(&mut self, count: u16, cut: Cut, first: &[u8], second: &[u8])
         requires order { cut.from ≤ cut.until }
         requires end { cut.until ≤ cut.size }
@@ -155,7 +154,7 @@ impl LeafDraft {
             → IsTrue result → Drafts pages root (put (number key.now) value.now rows) self.new }
         ensures refused { result ≡ false → self.new ≡ self.old }
 
-        // It is refused only where the leaf is full and has no row at the key.
+        // It returns false only if the leaf is full and has no row at the key.
         ensures full { result ≡ false → 4096 < 16 + (self.old.form.key + self.old.form.value) * (self.old.count + 1) }
         ensures absent { (count : ℕ) (pages : PageMap) (root : ℕ) (rows : List Row) → IsLeafDraft count self.old → IsKeyOf self.old (number key.now) → Drafts pages root rows self.old
             → result ≡ false → lookup (number key.now) rows ≡ None }
@@ -182,7 +181,7 @@ impl LeafDraft {
             → IsTrue result → Drafts pages root (without (number key.now) rows) self.new }
         ensures refused { result ≡ false → self.new ≡ self.old }
 
-        // It is refused only where the leaf has no more rows than it must have.
+        // It returns false only if the leaf has no more rows than it must have.
         ensures fewest { result ≡ false → self.old.count ≤ self.old.least }
     {
         let spot = spot_of(&self.bytes, self.form, self.count, key);
@@ -198,16 +197,16 @@ impl LeafDraft {
         true
     }
 
-    /// Writes the draft in the place of its leaf. The map's root stays, and its rows are those that were drafted.
+    /// Writes the draft over its leaf. The map's root stays, and its rows are those that were drafted.
     ///
-    /// Returns `Stopped`, or `Memory` if it runs out of memory; then no page has changed. Writes one page, which is sealed: it isn't checked
-    /// at the next look.
+    /// Returns `Stopped`, or `Memory` if it runs out of memory; then no page has changed. Writes one page, which is sealed: the next look
+    /// doesn't check it.
     pub fn write<P: Pages>(&self, pages: &mut P) -> Result<(), PageFault>
         requires { IsLeafDraft (P.count pages.old) self.now }
         ensures becomes { (root : ℕ) (rows : List Row) (free : List ℕ) → IsKept self.now.form (view (P.pages pages.old) (P.count pages.old) (P.first pages.old) free) root
             → Drafts (P.pages pages.old) root rows self.now
             → OnOk result (HasBecome self.now.form (view (P.pages pages.old) (P.count pages.old) (P.first pages.old) free) (P.pages pages.new) (P.count pages.new) (P.first pages.new) root root rows) }
-        ensures told { AreTold (P.pages pages.old) (P.count pages.old) → OnOk result (AreTold (P.pages pages.new) (P.count pages.new)) }
+        ensures told { AreReadable (P.pages pages.old) (P.count pages.old) → OnOk result (AreReadable (P.pages pages.new) (P.count pages.new)) }
         ensures damaged { (damage : Damage) → result ≢ Err (PageFault.Damaged damage) }
         ensures asked { P.asked pages.new ≡ P.asked pages.old }
         ensures fails { FailsReading P.Pages pages.old pages.new result }

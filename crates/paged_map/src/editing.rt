@@ -1,4 +1,4 @@
-//! A leaf that is written in its place with one row more, less, or other.
+//! A leaf that is written in its place with a row added, removed or replaced.
 ghost use Rattle.std.specs.Prelude.{◌≡◌, ◌≢◌, ◌↔◌, ◌+◌, ◌-◌, ◌*◌, ◌<◌, ◌≤◌, length, replicate, IsTrue, OnOk};
 ghost use Rattle.page_face.specs.Calls.{Changes, FailsReading};
 ghost use Rattle.page_face.specs.Causes.{IsUncounted};
@@ -7,11 +7,10 @@ ghost use Rattle.page_face.specs.FreeList.{with_page};
 ghost use Rattle.page_face.specs.Number.{number};
 ghost use Rattle.page_face.specs.Sound.{IsSound};
 ghost use Rattle.btree_nodes.specs.Build.{image};
-ghost use Rattle.btree_nodes.specs.Damages.{AreTold};
+ghost use Rattle.btree_nodes.specs.Damages.{AreReadable};
 ghost use Rattle.paged_map.specs.Edits.{edited};
 
-use btree_nodes::{Form, compare, key_of, place, splice, write_at};
-use btree_search::seal_of;
+use btree_nodes::{Form, compare, key_of, place, seal_of, splice, write_at};
 use page_face::{Damage, Page, PageFault, Pages};
 use std::cmp::Ordering;
 
@@ -20,22 +19,22 @@ use std::cmp::Ordering;
 pub struct Spot {
     /// The place of the first row whose key isn't less.
     pub at: usize,
-    /// 1 if that row has the key, and else 0.
+    /// 1 if that row has the key, and 0 otherwise.
     pub gone: usize,
 }
 
-/// The bytes of a leaf's cells, and which of them a row comes in place of.
+/// The bytes of a leaf's cells, and which of them a row replaces.
 #[derive(Clone, Copy, Debug, PartialEq, Eq)]
 pub struct Cut {
     /// Bytes of all cells.
     pub size: usize,
-    /// Where the row's cell begins.
+    /// The offset at which the row's cell begins.
     pub from: usize,
-    /// Where the cells behind it begin.
+    /// The offset at which the cells after it begin.
     pub until: usize,
 }
 
-// 1 where the row at this place has the key, and else 0.
+// 1 if the row at this place has the key, and 0 otherwise.
 #[tactic(auto, using(btree_nodes::proofs::Spots::fits_at))]
 fn gone_at(page: &Page, form: Form, count: usize, at: usize, key: &[u8]) -> usize
     requires fits { 16 + (form.key + form.value) * count ≤ 4096 }
@@ -68,7 +67,7 @@ pub fn spot_of(page: &Page, form: Form, count: usize, key: &[u8]) -> Spot
     Spot { at, gone }
 }
 
-/// Returns whether a leaf of `count` rows has room for one row more, in place of as many as are gone.
+/// Returns whether a leaf of `count` rows has room for one more row that replaces `gone` rows.
 pub fn has_room(form: Form, count: usize, gone: usize) -> bool
     requires fits { 16 + (form.key + form.value) * count ≤ 4096 }
     requires gone { gone ≤ 1 }
@@ -93,7 +92,7 @@ pub fn cut_of(form: Form, count: usize, spot: Spot) -> Cut
     }
 }
 
-/// Fills a page of zeros with a leaf of `count` rows: the cells of `old` with two pieces in place of those that are cut.
+/// Fills a page of zeros with a leaf of `count` rows: the cells of `old`, with two pieces replacing those that are cut.
 pub fn fill_leaf(
     out: &mut Page,
     old: &Page,
@@ -123,7 +122,7 @@ pub fn fill_leaf(
     );
 }
 
-/// Writes a leaf of `count` rows to a counted page: the cells of the page looked at with two pieces in place of those that
+/// Writes a leaf of `count` rows to a counted page: the cells of the page looked at, with two pieces replacing those that
 /// are cut.
 ///
 /// The leaf is sound then, and sealed, so that the next look at it doesn't check it. Makes one page, into which each piece is copied
@@ -146,7 +145,7 @@ pub fn write_leaf<P: Pages>(
         (image form.map 1 0 count (edited cut.size cut.from cut.until first.now second.now (P.looked pages.old))) }
     ensures written { OnOk result (P.pages pages.new
         ≡ with_page page (image form.map 1 0 count (edited cut.size cut.from cut.until first.now second.now (P.looked pages.old))) (P.pages pages.old)) }
-    ensures told { AreTold (P.pages pages.old) (P.count pages.old) → OnOk result (AreTold (P.pages pages.new) (P.count pages.new)) }
+    ensures told { AreReadable (P.pages pages.old) (P.count pages.old) → OnOk result (AreReadable (P.pages pages.new) (P.count pages.new)) }
 
     ensures damaged { (damage : Damage) → result ≢ Err (PageFault.Damaged damage) }
     ensures fails { FailsReading P.Pages pages.old pages.new result }

@@ -1,4 +1,4 @@
-//! A row that is looked for in a map by its root.
+//! A row that is looked up in a map by its root.
 ghost use Rattle.std.specs.Prelude.{◌≡◌, ℕ, ◌+◌, ◌*◌, ◌^◌, ◌<◌, ◌≤◌, List, length, take, drop, IfOk, IfSome, IsErrOf, Some, None, is_some, true, if◌then◌else◌};
 ghost use Rattle.page_face.specs.Calls.{Reads, FailsReading};
 ghost use Rattle.page_face.specs.Causes.{IsUncounted};
@@ -7,9 +7,9 @@ ghost use Rattle.page_face.specs.Number.{number};
 ghost use Rattle.btree_nodes.specs.Rows.{IsWithin, lookup, first_from};
 ghost use Rattle.btree_nodes.specs.Nodes.{rows_in};
 ghost use Rattle.btree_nodes.specs.Tree.{IsMap, map_rows, map_uses};
-ghost use Rattle.btree_nodes.specs.Damages.{AreTold, AskedSince, AsksOnly};
-ghost use Rattle.btree_search.specs.Leaves.{IsShown};
-ghost use Rattle.btree_search.specs.Steps.{high_of};
+ghost use Rattle.btree_nodes.specs.Damages.{AreReadable, AskedSince, AsksOnly};
+ghost use Rattle.btree_nodes.specs.Leaves.{IsShown};
+ghost use Rattle.btree_nodes.specs.Steps.{high_of};
 ghost use Rattle.paged_map.specs.Answers.{HasRead, HoldsRow, Locates, LocatesOr};
 ghost use Rattle.paged_map.specs.Lookups.{IsFirstPast, IsFirstThere, IsLookedUp};
 ghost use Rattle.paged_map.specs.Maps.{IsMapDamaged};
@@ -17,11 +17,10 @@ ghost use Rattle.paged_map.specs.Spots.{IsRowAt, IsSpot, leaf_of};
 
 use crate::editing::spot_of;
 use crate::replacing::RowSpot;
-use btree_nodes::{Form, key_of, place};
-use btree_search::{Bounds, Leaf, locate};
+use btree_nodes::{Bounds, Form, Leaf, key_of, locate, place};
 use page_face::{Damage, Page, PageFault, Pages};
 
-// Where a leaf has the row at a key, if it has one. The row's value is then left in `value`.
+// The spot of the row at a key in a leaf, if it has one. The row's value is then left in `value`.
 fn row_at(page: &Page, form: Form, leaf: Leaf, key: &[u8], value: &mut [u8]) -> Option<RowSpot>
     requires count { leaf.count ≡ count_of page.now }
     requires fits { 16 + (form.key + form.value) * leaf.count ≤ 4096 }
@@ -45,10 +44,10 @@ fn row_at(page: &Page, form: Form, leaf: Leaf, key: &[u8], value: &mut [u8]) -> 
     })
 }
 
-/// Where the row at a key stands in a map that has a root. The row's value is then left in `value`, and its leaf is the page
+/// Returns the spot of the row at a key in a map that has a root. The row's value is then left in `value`, and its leaf is the page
 /// looked at.
 ///
-/// Looks at a page a level, and copies the value alone. Returns `Damaged` with a rule that a page breaks in its place,
+/// Looks at a page a level, and copies only the value. Returns `Damaged` with a rule that a page breaks in its place,
 /// `Disk`, `Stopped` or `Memory`.
 pub fn find_below<P: Pages>(
     pages: &mut P,
@@ -64,15 +63,15 @@ pub fn find_below<P: Pages>(
         → IfOk result (λ found. Locates (lookup (number key.now) (map_rows form (P.pages pages.old) root)) value.new
         (HoldsRow form (P.pages pages.old) (map_uses form (P.pages pages.old) root) (number key.now, value.new)) (leaf_of found)) }
     ensures spot { IfOk result (λ found. IfSome found (IsSpot form (P.pages pages.new) (P.count pages.new) root (P.looked pages.new) (number key.now))) }
-    ensures read { AreTold (P.pages pages.old) (P.count pages.old)
+    ensures read { AreReadable (P.pages pages.old) (P.count pages.old)
         → IfOk result (λ found. IfSome (leaf_of found) (HasRead form (P.pages pages.old) (P.asked pages.old) (P.asked pages.new) (number key.now, value.new))) }
-    ensures kept { AreTold (P.pages pages.old) (P.count pages.old)
+    ensures kept { AreReadable (P.pages pages.old) (P.count pages.old)
         → IfOk result (λ found. IsLookedUp form (P.pages pages.old) (P.count pages.old) root (number key.now) (if is_some found then Some value.new else None)) }
-    ensures damaged { AreTold (P.pages pages.old) (P.count pages.old)
+    ensures damaged { AreReadable (P.pages pages.old) (P.count pages.old)
         → (damage : Damage) → IsErrOf result (PageFault.Damaged damage) → IsMapDamaged form (P.pages pages.old) (P.count pages.old) root damage }
-    ensures named { AreTold (P.pages pages.old) (P.count pages.old)
+    ensures named { AreReadable (P.pages pages.old) (P.count pages.old)
         → (damage : Damage) → IsErrOf result (PageFault.Damaged damage) → AskedSince (P.asked pages.old) (P.asked pages.new) damage.page }
-    ensures own { AreTold (P.pages pages.old) (P.count pages.old)
+    ensures own { AreReadable (P.pages pages.old) (P.count pages.old)
         → AsksOnly (map_uses form (P.pages pages.old) root) (P.asked pages.old) (P.asked pages.new) }
     ensures fails { FailsReading P.Pages pages.old pages.new result }
     ensures frame { Reads P.Pages pages.old pages.new }
@@ -84,7 +83,7 @@ pub fn find_below<P: Pages>(
     }
 }
 
-// The key of the row at this place.
+// Copies the key of the row at this place into `found`.
 fn copy_key(page: &Page, form: Form, at: usize, found: &mut [u8])
     requires found { length found.old ≡ form.key }
     requires fits { 16 + (form.key + form.value) * at + (form.key + form.value) ≤ 4096 }
@@ -93,7 +92,7 @@ fn copy_key(page: &Page, form: Form, at: usize, found: &mut [u8])
     found.copy_from_slice(key_of(page, form.key, form.key + form.value, at));
 }
 
-/// The value of the row at this place.
+/// Copies the value of the row at this place into `value`.
 pub fn copy_value(page: &Page, form: Form, at: usize, value: &mut [u8])
     requires value { length value.old ≡ form.value }
     requires fits { 16 + (form.key + form.value) * at + (form.key + form.value) ≤ 4096 }
@@ -134,9 +133,8 @@ fn first_in(
     true
 }
 
-// The page of the leaf that a key belongs to, if it has a row whose key isn't less; its key is then left in `found` and
-// its value in `value`. If it has none, the first such row is the first one from the upper bound on, which is left in
-// `bounds`.
+// The page of the leaf that a key belongs to, if it has a row whose key isn't less. That row's key is then left in `found` and its value
+// in `value`. If it has none, the first such row is the first one from the upper bound on, which is left in `bounds`.
 fn first_at<P: Pages>(
     pages: &mut P,
     form: Form,
@@ -157,17 +155,17 @@ fn first_at<P: Pages>(
     ensures last { IsMap form (P.pages pages.old) root → bounds.new.top ≡ 0
         → IfOk result (λ leaf. first_from (high_of form bounds.new) (map_rows form (P.pages pages.old) root) ≡ None) }
     ensures on { IfOk result (λ leaf. IfSome leaf (λ page. number key.now ≤ number found.new)) }
-    ensures read { AreTold (P.pages pages.old) (P.count pages.old)
+    ensures read { AreReadable (P.pages pages.old) (P.count pages.old)
         → IfOk result (λ leaf. IfSome leaf (HasRead form (P.pages pages.old) (P.asked pages.old) (P.asked pages.new) (number found.new, value.new))) }
-    ensures way { AreTold (P.pages pages.old) (P.count pages.old)
+    ensures way { AreReadable (P.pages pages.old) (P.count pages.old)
         → IfOk result (λ leaf. IsFirstThere form (P.pages pages.old) (P.count pages.old) root (number key.now) (high_of form bounds.new) (if is_some leaf then Some (number found.new, value.new) else None)) }
     ensures past { IfOk result (λ leaf. number key.now < high_of form bounds.new) }
     ensures top { IfOk result (λ leaf. 0 < bounds.new.top → bounds.new.top ≡ form.key) }
-    ensures damaged { AreTold (P.pages pages.old) (P.count pages.old)
+    ensures damaged { AreReadable (P.pages pages.old) (P.count pages.old)
         → (damage : Damage) → IsErrOf result (PageFault.Damaged damage) → IsMapDamaged form (P.pages pages.old) (P.count pages.old) root damage }
-    ensures named { AreTold (P.pages pages.old) (P.count pages.old)
+    ensures named { AreReadable (P.pages pages.old) (P.count pages.old)
         → (damage : Damage) → IsErrOf result (PageFault.Damaged damage) → AskedSince (P.asked pages.old) (P.asked pages.new) damage.page }
-    ensures own { AreTold (P.pages pages.old) (P.count pages.old)
+    ensures own { AreReadable (P.pages pages.old) (P.count pages.old)
         → AsksOnly (map_uses form (P.pages pages.old) root) (P.asked pages.old) (P.asked pages.new) }
     ensures fails { FailsReading P.Pages pages.old pages.new result }
     ensures frame { Reads P.Pages pages.old pages.new }
@@ -181,7 +179,7 @@ fn first_at<P: Pages>(
     }
 }
 
-// Writes a key to the front of a buffer.
+// Writes a key to the beginning of a buffer.
 fn set_key(buffer: &mut [u8; 255], key: &[u8])
     requires { length key.now ≤ 255 }
     ensures front { take (length key.now) buffer.new ≡ key.now }
@@ -190,12 +188,12 @@ fn set_key(buffer: &mut [u8; 255], key: &[u8])
     buffer[..key.len()].copy_from_slice(key);
 }
 
-/// Returns the page of the leaf that holds the first row whose key isn't less, in a map that has a root, and leaves the row's
-/// key in `found` and its value in `value`.
+/// Returns the page of the leaf that holds the first row whose key isn't less, in a map that has a root. Leaves the row's key in `found`
+/// and its value in `value`.
 ///
-/// Goes down to the leaf that the key belongs to, and if that has no such row to the leaf that its upper bound belongs to.
+/// Goes down to the leaf that the key belongs to and, if that has no such row, to the leaf that its upper bound belongs to.
 /// The latter begins at the bound, and is never empty, so that two ways down are enough; they look at a page a level each.
-/// Copies the key and the value alone. Fails as [`find_below`] does.
+/// Copies only the key and the value. Fails as [`find_below`] does.
 pub fn first_below<P: Pages>(
     pages: &mut P,
     form: Form,
@@ -212,15 +210,15 @@ pub fn first_below<P: Pages>(
         → IfOk result (Locates (first_from (number key.now) (map_rows form (P.pages pages.old) root)) (number found.new, value.new)
         (HoldsRow form (P.pages pages.old) (map_uses form (P.pages pages.old) root) (number found.new, value.new))) }
     ensures on { IfOk result (λ leaf. IfSome leaf (λ page. number key.now ≤ number found.new)) }
-    ensures read { AreTold (P.pages pages.old) (P.count pages.old)
+    ensures read { AreReadable (P.pages pages.old) (P.count pages.old)
         → IfOk result (λ leaf. IfSome leaf (HasRead form (P.pages pages.old) (P.asked pages.old) (P.asked pages.new) (number found.new, value.new))) }
-    ensures kept { AreTold (P.pages pages.old) (P.count pages.old)
+    ensures kept { AreReadable (P.pages pages.old) (P.count pages.old)
         → IfOk result (λ leaf. (keys : List ℕ) × IsFirstPast form (P.pages pages.old) (P.count pages.old) root keys (number key.now) (if is_some leaf then Some (number found.new, value.new) else None)) }
-    ensures damaged { AreTold (P.pages pages.old) (P.count pages.old)
+    ensures damaged { AreReadable (P.pages pages.old) (P.count pages.old)
         → (damage : Damage) → IsErrOf result (PageFault.Damaged damage) → IsMapDamaged form (P.pages pages.old) (P.count pages.old) root damage }
-    ensures named { AreTold (P.pages pages.old) (P.count pages.old)
+    ensures named { AreReadable (P.pages pages.old) (P.count pages.old)
         → (damage : Damage) → IsErrOf result (PageFault.Damaged damage) → AskedSince (P.asked pages.old) (P.asked pages.new) damage.page }
-    ensures own { AreTold (P.pages pages.old) (P.count pages.old)
+    ensures own { AreReadable (P.pages pages.old) (P.count pages.old)
         → AsksOnly (map_uses form (P.pages pages.old) root) (P.asked pages.old) (P.asked pages.new) }
     ensures fails { FailsReading P.Pages pages.old pages.new result }
     ensures frame { Reads P.Pages pages.old pages.new }

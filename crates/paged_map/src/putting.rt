@@ -5,17 +5,16 @@ ghost use Rattle.page_face.specs.Number.{number};
 ghost use Rattle.btree_nodes.specs.Supply.{view};
 ghost use Rattle.btree_nodes.specs.Rows.{lookup, put};
 ghost use Rattle.btree_nodes.specs.Tree.{IsMap, map_rows, map_uses};
-ghost use Rattle.btree_nodes.specs.Damages.{IsRefusedTake, AreTold, AskedSince, AsksOnly};
+ghost use Rattle.btree_nodes.specs.Damages.{IsRefusedTake, AreReadable, AskedSince, AsksOnly};
 ghost use Rattle.paged_map.specs.Heights.{height_of};
 ghost use Rattle.paged_map.specs.Maps.{IsKept, HasBecome, IsMapDamaged};
 
 use crate::editing::{cut_of, has_room, spot_of, write_leaf};
 use btree_insert::{grow_root, put_in};
-use btree_nodes::{Form, level, root_least};
-use btree_search::{Bounds, locate};
+use btree_nodes::{Bounds, Form, level, locate, root_least};
 use page_face::{Damage, PageFault, Pages};
 
-// The greatest level that a page can say.
+// The greatest level that a page can hold, in one byte.
 const LAST: u8 = 255;
 
 /// What putting a row into a map has done.
@@ -49,17 +48,17 @@ pub fn put_below<P: Pages>(
     ensures becomes { (free : List ℕ) → IsKept form (view (P.pages pages.old) (P.count pages.old) (P.first pages.old) free) root
         → IfOk result (λ rooted. HasBecome form (view (P.pages pages.old) (P.count pages.old) (P.first pages.old) free) (P.pages pages.new) (P.count pages.new) (P.first pages.new) root rooted.root (put (number key.now) value.now (map_rows form (P.pages pages.old) root))) }
     ensures had { IsMap form (P.pages pages.old) root → IfOk result (λ rooted. rooted.had ≡ is_some (lookup (number key.now) (map_rows form (P.pages pages.old) root))) }
-    ensures told { AreTold (P.pages pages.old) (P.count pages.old) → OnOk result (AreTold (P.pages pages.new) (P.count pages.new)) }
+    ensures told { AreReadable (P.pages pages.old) (P.count pages.old) → OnOk result (AreReadable (P.pages pages.new) (P.count pages.new)) }
 
-    ensures honest { (free : List ℕ) → IsKept form (view (P.pages pages.old) (P.count pages.old) (P.first pages.old) free) root → (damage : Damage) → result ≢ Err (PageFault.Damaged damage) }
-    ensures damaged { AreTold (P.pages pages.old) (P.count pages.old) → (damage : Damage) → IsErrOf result (PageFault.Damaged damage)
+    ensures no_false_damage { (free : List ℕ) → IsKept form (view (P.pages pages.old) (P.count pages.old) (P.first pages.old) free) root → (damage : Damage) → result ≢ Err (PageFault.Damaged damage) }
+    ensures damaged { AreReadable (P.pages pages.old) (P.count pages.old) → (damage : Damage) → IsErrOf result (PageFault.Damaged damage)
         → (IsMapDamaged form (P.pages pages.old) (P.count pages.old) root damage × AskedSince (P.asked pages.old) (P.asked pages.new) damage.page)
         ⊎ IsRefusedTake (P.pages pages.new) (P.count pages.new) (P.first pages.new) damage }
-    ensures stays { AreTold (P.pages pages.old) (P.count pages.old) → (damage : Damage) → IsErrOf result (PageFault.Damaged damage)
+    ensures stays { AreReadable (P.pages pages.old) (P.count pages.old) → (damage : Damage) → IsErrOf result (PageFault.Damaged damage)
         → ((P.pages pages.new ≡ P.pages pages.old) × (P.count pages.new ≡ P.count pages.old))
         ⊎ IsRefusedTake (P.pages pages.new) (P.count pages.new) (P.first pages.new) damage }
-    ensures own { AreTold (P.pages pages.old) (P.count pages.old) → AsksOnly (map_uses form (P.pages pages.old) root) (P.asked pages.old) (P.asked pages.new) }
-    ensures takes { AreTold (P.pages pages.old) (P.count pages.old) → TakesAtMost P.Pages (height_of (P.pages pages.old) root + 1) pages.old pages.new result }
+    ensures own { AreReadable (P.pages pages.old) (P.count pages.old) → AsksOnly (map_uses form (P.pages pages.old) root) (P.asked pages.old) (P.asked pages.new) }
+    ensures takes { AreReadable (P.pages pages.old) (P.count pages.old) → TakesAtMost P.Pages (height_of (P.pages pages.old) root + 1) pages.old pages.new result }
     ensures at_most { TakesAtMost P.Pages 257 pages.old pages.new result }
     ensures fails { FailsChanging P.Pages pages.old pages.new result }
     ensures frame { Changes P.Pages pages.old pages.new }
@@ -99,8 +98,8 @@ pub fn put_below<P: Pages>(
 
 /// Puts a row into a map that has a root. `middle` is room for a key.
 ///
-/// Goes down to the leaf that the key belongs to, with no copy of a page. If the leaf has the key, or room for one row more,
-/// it alone is written, as one new page: no page above it changes. Else, and where a page is damaged, goes down again, by
+/// Goes down to the leaf that the key belongs to, with no copy of a page. If the leaf has the key, or room for one more row,
+/// only the leaf is written, as one new page: no page above it changes. Otherwise, and if a page is damaged, goes down again, by
 /// [`put_below`], and fails as that does.
 pub fn put_row<P: Pages>(
     pages: &mut P,
@@ -117,17 +116,17 @@ pub fn put_row<P: Pages>(
     ensures becomes { (free : List ℕ) → IsKept form (view (P.pages pages.old) (P.count pages.old) (P.first pages.old) free) root
         → IfOk result (λ rooted. HasBecome form (view (P.pages pages.old) (P.count pages.old) (P.first pages.old) free) (P.pages pages.new) (P.count pages.new) (P.first pages.new) root rooted.root (put (number key.now) value.now (map_rows form (P.pages pages.old) root))) }
     ensures had { IsMap form (P.pages pages.old) root → IfOk result (λ rooted. rooted.had ≡ is_some (lookup (number key.now) (map_rows form (P.pages pages.old) root))) }
-    ensures told { AreTold (P.pages pages.old) (P.count pages.old) → OnOk result (AreTold (P.pages pages.new) (P.count pages.new)) }
+    ensures told { AreReadable (P.pages pages.old) (P.count pages.old) → OnOk result (AreReadable (P.pages pages.new) (P.count pages.new)) }
 
-    ensures honest { (free : List ℕ) → IsKept form (view (P.pages pages.old) (P.count pages.old) (P.first pages.old) free) root → (damage : Damage) → result ≢ Err (PageFault.Damaged damage) }
-    ensures damaged { AreTold (P.pages pages.old) (P.count pages.old) → (damage : Damage) → IsErrOf result (PageFault.Damaged damage)
+    ensures no_false_damage { (free : List ℕ) → IsKept form (view (P.pages pages.old) (P.count pages.old) (P.first pages.old) free) root → (damage : Damage) → result ≢ Err (PageFault.Damaged damage) }
+    ensures damaged { AreReadable (P.pages pages.old) (P.count pages.old) → (damage : Damage) → IsErrOf result (PageFault.Damaged damage)
         → (IsMapDamaged form (P.pages pages.old) (P.count pages.old) root damage × AskedSince (P.asked pages.old) (P.asked pages.new) damage.page)
         ⊎ IsRefusedTake (P.pages pages.new) (P.count pages.new) (P.first pages.new) damage }
-    ensures stays { AreTold (P.pages pages.old) (P.count pages.old) → (damage : Damage) → IsErrOf result (PageFault.Damaged damage)
+    ensures stays { AreReadable (P.pages pages.old) (P.count pages.old) → (damage : Damage) → IsErrOf result (PageFault.Damaged damage)
         → ((P.pages pages.new ≡ P.pages pages.old) × (P.count pages.new ≡ P.count pages.old))
         ⊎ IsRefusedTake (P.pages pages.new) (P.count pages.new) (P.first pages.new) damage }
-    ensures own { AreTold (P.pages pages.old) (P.count pages.old) → AsksOnly (map_uses form (P.pages pages.old) root) (P.asked pages.old) (P.asked pages.new) }
-    ensures takes { AreTold (P.pages pages.old) (P.count pages.old) → TakesAtMost P.Pages (height_of (P.pages pages.old) root + 1) pages.old pages.new result }
+    ensures own { AreReadable (P.pages pages.old) (P.count pages.old) → AsksOnly (map_uses form (P.pages pages.old) root) (P.asked pages.old) (P.asked pages.new) }
+    ensures takes { AreReadable (P.pages pages.old) (P.count pages.old) → TakesAtMost P.Pages (height_of (P.pages pages.old) root + 1) pages.old pages.new result }
     ensures at_most { TakesAtMost P.Pages 257 pages.old pages.new result }
     ensures fails { FailsChanging P.Pages pages.old pages.new result }
     ensures frame { Changes P.Pages pages.old pages.new }

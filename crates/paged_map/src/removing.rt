@@ -7,7 +7,7 @@ ghost use Rattle.btree_nodes.specs.Supply.{View, view};
 ghost use Rattle.btree_nodes.specs.Rows.{Row, lookup, without};
 ghost use Rattle.page_face.specs.Nodes.{count_of};
 ghost use Rattle.btree_nodes.specs.Tree.{map_rows, map_uses};
-ghost use Rattle.btree_nodes.specs.Damages.{AreTold, AskedSince, AsksOnly};
+ghost use Rattle.btree_nodes.specs.Damages.{AreReadable, AskedSince, AsksOnly};
 ghost use Rattle.btree_delete.specs.Removal.{IsOut};
 ghost use Rattle.paged_map.specs.Maps.{IsKept, HasBecome, IsMapDamaged};
 
@@ -15,12 +15,11 @@ use crate::editing::{cut_of, spot_of, write_leaf};
 use crate::layout::least_key;
 use crate::putting::Rooted;
 use btree_delete::{lower_root, remove_in};
-use btree_nodes::{Form, level, root_least};
-use btree_search::{Bounds, locate};
+use btree_nodes::{Bounds, Form, level, locate, root_least};
 use page_face::{Damage, Page, PageFault, Pages};
 
-// The root of a map whose root's page has so many cells left: 0 where no row is left, and where an inner page has one
-// entry left its child, for which the page is given back.
+// The root of a map whose root's page has `left` cells left: 0 if no row is left. An inner page with one entry left is given back, and
+// its child is the root.
 fn root_after<P: Pages>(
     pages: &mut P,
     form: Form,
@@ -35,7 +34,7 @@ fn root_after<P: Pages>(
         → ((n : ℕ) → mine n ≡ map_uses form before.pages root n)
         → IsOut form before mine (P.pages pages.old) (P.count pages.old) (P.first pages.old) level root 0 (256 ^ form.key) key rows bytes.now left
         → IfOk result (λ top. HasBecome form before (P.pages pages.new) (P.count pages.new) (P.first pages.new) root top (without key rows)) }
-    ensures told { AreTold (P.pages pages.old) (P.count pages.old) → OnOk result (AreTold (P.pages pages.new) (P.count pages.new)) }
+    ensures told { AreReadable (P.pages pages.old) (P.count pages.old) → OnOk result (AreReadable (P.pages pages.new) (P.count pages.new)) }
 
     ensures damaged { (damage : Damage) → result ≢ Err (PageFault.Damaged damage) }
     ensures fails { FailsWriting P.Pages pages.old result }
@@ -50,7 +49,7 @@ fn root_after<P: Pages>(
     lower_root(pages, form, root, bytes)
 }
 
-/// Takes the row at a key out of a map that has a root. Answers the root, and whether the key was there.
+/// Takes the row at a key out of a map that has a root. Returns the root, and whether the key was there.
 ///
 /// Refuses the rule that a page breaks in its place, `Disk`, `Stopped` and `Memory`.
 pub fn remove_below<P: Pages>(
@@ -65,13 +64,13 @@ pub fn remove_below<P: Pages>(
         → IfOk result (λ rooted. (rooted.had ≡ is_some (lookup (number key.now) (map_rows form (P.pages pages.old) root)))
         × HasBecome form (view (P.pages pages.old) (P.count pages.old) (P.first pages.old) free) (P.pages pages.new) (P.count pages.new) (P.first pages.new) root rooted.root (without (number key.now) (map_rows form (P.pages pages.old) root))) }
     ensures absent { IfOk result (λ rooted. rooted.had ≡ false → (rooted.root ≡ root) × (P.pages pages.new ≡ P.pages pages.old) × (P.first pages.new ≡ P.first pages.old)) }
-    ensures told { AreTold (P.pages pages.old) (P.count pages.old) → OnOk result (AreTold (P.pages pages.new) (P.count pages.new)) }
+    ensures told { AreReadable (P.pages pages.old) (P.count pages.old) → OnOk result (AreReadable (P.pages pages.new) (P.count pages.new)) }
 
-    ensures honest { (free : List ℕ) → IsKept form (view (P.pages pages.old) (P.count pages.old) (P.first pages.old) free) root → (damage : Damage) → result ≢ Err (PageFault.Damaged damage) }
-    ensures damaged { AreTold (P.pages pages.old) (P.count pages.old) → (damage : Damage) → IsErrOf result (PageFault.Damaged damage)
+    ensures no_false_damage { (free : List ℕ) → IsKept form (view (P.pages pages.old) (P.count pages.old) (P.first pages.old) free) root → (damage : Damage) → result ≢ Err (PageFault.Damaged damage) }
+    ensures damaged { AreReadable (P.pages pages.old) (P.count pages.old) → (damage : Damage) → IsErrOf result (PageFault.Damaged damage)
         → IsMapDamaged form (P.pages pages.old) (P.count pages.old) root damage × AskedSince (P.asked pages.old) (P.asked pages.new) damage.page }
     ensures stays { (damage : Damage) → IsErrOf result (PageFault.Damaged damage) → P.pages pages.new ≡ P.pages pages.old }
-    ensures own { AreTold (P.pages pages.old) (P.count pages.old) → AsksOnly (map_uses form (P.pages pages.old) root) (P.asked pages.old) (P.asked pages.new) }
+    ensures own { AreReadable (P.pages pages.old) (P.count pages.old) → AsksOnly (map_uses form (P.pages pages.old) root) (P.asked pages.old) (P.asked pages.new) }
     ensures fails { FailsReading P.Pages pages.old pages.new result }
     ensures count { P.count pages.new ≡ P.count pages.old }
     ensures refused { P.refused pages.new ≡ P.refused pages.old }
@@ -103,8 +102,8 @@ pub fn remove_below<P: Pages>(
 
 /// Takes the row at a key out of a map that has a root. Returns the root, and whether the key was there.
 ///
-/// Goes down to the leaf that the key belongs to, with no copy of a page. If the key isn't there nothing is written. If the
-/// leaf has more rows than it must have, it alone is written, as one new page. Else, and where a page is damaged, goes down
+/// Goes down to the leaf that the key belongs to, with no copy of a page. If the key isn't there, nothing is written. If the
+/// leaf has more rows than it must have, only the leaf is written, as one new page. Otherwise, and if a page is damaged, goes down
 /// again, by [`remove_below`], and fails as that does.
 pub fn remove_row<P: Pages>(
     pages: &mut P,
@@ -118,13 +117,13 @@ pub fn remove_row<P: Pages>(
         → IfOk result (λ rooted. (rooted.had ≡ is_some (lookup (number key.now) (map_rows form (P.pages pages.old) root)))
         × HasBecome form (view (P.pages pages.old) (P.count pages.old) (P.first pages.old) free) (P.pages pages.new) (P.count pages.new) (P.first pages.new) root rooted.root (without (number key.now) (map_rows form (P.pages pages.old) root))) }
     ensures absent { IfOk result (λ rooted. rooted.had ≡ false → (rooted.root ≡ root) × (P.pages pages.new ≡ P.pages pages.old) × (P.first pages.new ≡ P.first pages.old)) }
-    ensures told { AreTold (P.pages pages.old) (P.count pages.old) → OnOk result (AreTold (P.pages pages.new) (P.count pages.new)) }
+    ensures told { AreReadable (P.pages pages.old) (P.count pages.old) → OnOk result (AreReadable (P.pages pages.new) (P.count pages.new)) }
 
-    ensures honest { (free : List ℕ) → IsKept form (view (P.pages pages.old) (P.count pages.old) (P.first pages.old) free) root → (damage : Damage) → result ≢ Err (PageFault.Damaged damage) }
-    ensures damaged { AreTold (P.pages pages.old) (P.count pages.old) → (damage : Damage) → IsErrOf result (PageFault.Damaged damage)
+    ensures no_false_damage { (free : List ℕ) → IsKept form (view (P.pages pages.old) (P.count pages.old) (P.first pages.old) free) root → (damage : Damage) → result ≢ Err (PageFault.Damaged damage) }
+    ensures damaged { AreReadable (P.pages pages.old) (P.count pages.old) → (damage : Damage) → IsErrOf result (PageFault.Damaged damage)
         → IsMapDamaged form (P.pages pages.old) (P.count pages.old) root damage × AskedSince (P.asked pages.old) (P.asked pages.new) damage.page }
     ensures stays { (damage : Damage) → IsErrOf result (PageFault.Damaged damage) → P.pages pages.new ≡ P.pages pages.old }
-    ensures own { AreTold (P.pages pages.old) (P.count pages.old) → AsksOnly (map_uses form (P.pages pages.old) root) (P.asked pages.old) (P.asked pages.new) }
+    ensures own { AreReadable (P.pages pages.old) (P.count pages.old) → AsksOnly (map_uses form (P.pages pages.old) root) (P.asked pages.old) (P.asked pages.new) }
     ensures fails { FailsReading P.Pages pages.old pages.new result }
     ensures count { P.count pages.new ≡ P.count pages.old }
     ensures refused { P.refused pages.new ≡ P.refused pages.old }

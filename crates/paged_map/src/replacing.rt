@@ -5,7 +5,7 @@ ghost use Rattle.page_face.specs.Number.{number};
 ghost use Rattle.btree_nodes.specs.Rows.{put};
 ghost use Rattle.btree_nodes.specs.Supply.{view};
 ghost use Rattle.btree_nodes.specs.Tree.{map_rows};
-ghost use Rattle.btree_nodes.specs.Damages.{AreTold};
+ghost use Rattle.btree_nodes.specs.Damages.{AreReadable};
 ghost use Rattle.paged_map.specs.Maps.{HasBecome, IsKept};
 ghost use Rattle.paged_map.specs.Spots.{IsInLeaf, IsRowAt};
 
@@ -13,7 +13,7 @@ use crate::editing::{Spot, cut_of, write_leaf};
 use btree_nodes::Form;
 use page_face::{Damage, PageFault, Pages};
 
-/// Where a row was found: its leaf, and its place there.
+/// The spot at which a row was found: its leaf, and its place there.
 #[derive(Clone, Copy, Debug, PartialEq, Eq)]
 pub struct RowSpot {
     /// The leaf's page.
@@ -40,9 +40,9 @@ pub fn replace_at<P: Pages>(
     ensures becomes { (root : ℕ) (free : List ℕ) → IsKept form (view (P.pages pages.old) (P.count pages.old) (P.first pages.old) free) root
         → IsInLeaf form (P.pages pages.old) root (P.looked pages.old) (number key.now) spot.now
         → OnOk result (HasBecome form (view (P.pages pages.old) (P.count pages.old) (P.first pages.old) free) (P.pages pages.new) (P.count pages.new) (P.first pages.new) root root (put (number key.now) value.now (map_rows form (P.pages pages.old) root))) }
-    ensures told { AreTold (P.pages pages.old) (P.count pages.old) → OnOk result (AreTold (P.pages pages.new) (P.count pages.new)) }
+    ensures told { AreReadable (P.pages pages.old) (P.count pages.old) → OnOk result (AreReadable (P.pages pages.new) (P.count pages.new)) }
 
-    ensures honest { (damage : Damage) → result ≢ Err (PageFault.Damaged damage) }
+    ensures no_false_damage { (damage : Damage) → result ≢ Err (PageFault.Damaged damage) }
     ensures asked { P.asked pages.new ≡ P.asked pages.old }
     ensures fails { FailsReading P.Pages pages.old pages.new result }
     ensures count { P.count pages.new ≡ P.count pages.old }

@@ -2,10 +2,10 @@
 use Rattle.std.proofs.Common.{◌≡◌, ℕ, true, false, List, [], ◌∷◌, refl}
 use Rattle.spatial_base.specs.Key.{Name}
 use Rattle.spatial_base.specs.Point.{Position, distance}
-use Rattle.place_map.specs.declared.place.Place.{Place}
-use Rattle.place_map.specs.declared.query.Pick.{Pick}
-use Rattle.place_map.specs.Filter.{has_word}
-use Rattle.place_map.specs.Group.{word_picks}
+use Rattle.place_values.specs.declared.place.Place.{Place}
+use Rattle.place_values.specs.declared.query.Pick.{Pick}
+use Rattle.place_values.specs.Filter.{has_word}
+use Rattle.place_values.specs.Group.{word_picks}
 
 -- a pick from its parts
 abbrev pub pick_at : Name → List ℕ → ℕ → Position → Pick

@@ -6,11 +6,11 @@ use Rattle.std.proofs.lemmas.List.Sums.{sum_by-cons}
 use Rattle.spatial_base.specs.Key.{Name}
 use Rattle.spatial_base.specs.Point.{Position, distance}
 use Rattle.term_impacts.specs.Pairs.{impact_in}
-use Rattle.place_map.specs.declared.place.Place.{Place}
-use Rattle.place_map.specs.Filter.{has_word}
-use Rattle.place_map.specs.Query.{IsWeight}
-use Rattle.place_map.specs.Top.{Weighted, weight_sum, relevance, holds_some, top_cost}
-use Rattle.place_map.specs.Answer.{top_hits}
+use Rattle.place_values.specs.declared.place.Place.{Place}
+use Rattle.place_values.specs.Filter.{has_word}
+use Rattle.place_values.specs.Query.{IsWeight}
+use Rattle.place_values.specs.Top.{Weighted, weight_sum, relevance, holds_some, top_cost}
+use Rattle.place_values.specs.Answer.{top_hits}
 
 -- a weighted impact and a rest are above 0 exactly where the impact or the rest is
 weighs : (weight impact rest : ℕ) → 1 ≤ weight → nat_lt 0 (weight * impact + rest) ≡ (nat_lt 0 impact || nat_lt 0 rest)

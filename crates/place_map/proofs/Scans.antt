@@ -3,10 +3,10 @@ use Rattle.std.proofs.Common.{◌≡◌, ℕ, List, [], ◌∷◌, ◌++◌, tak
 use Rattle.std.specs.List.{flat_map}
 use Rattle.std.proofs.lemmas.List.{append-nil, append_assoc}
 use Rattle.std.proofs.lemmas.List.Concat.{flat_map-append}
-use Rattle.ranking.specs.First.{first, placed}
-use Rattle.ranking.specs.Laws.{first_push}
-use Rattle.place_map.specs.declared.hit.Hit.{Hit}
-use Rattle.place_map.specs.Hit.{comes_before, hits_linear}
+use Rattle.place_values.specs.First.{first, placed}
+use Rattle.place_values.specs.Laws.{first_push}
+use Rattle.place_values.specs.declared.hit.Hit.{Hit}
+use Rattle.place_values.specs.Hit.{comes_before, hits_linear}
 
 -- one more place is done
 pub done_more : {E : Type 0} (done old new places : List E) (entry : E) → done ++ old ≡ places → old ≡ entry ∷ new → (done ++ entry ∷ []) ++ new ≡ places

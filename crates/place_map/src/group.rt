@@ -1,20 +1,20 @@
-// The least choice of a place for each word.
+// Finds the least choice of a place for each word.
 ghost use Rattle.std.specs.Prelude.{◌≡◌, ◌++◌, ◌∷◌, [], ◌≤◌, if◌then◌else◌, true, List, map, OnOk, IfOk};
 ghost use Rattle.std.specs.Cmp.Lexicographic.{slice_cmp};
 ghost use Rattle.std.specs.Ordering.{nat_cmp, ordering_then};
 ghost use Rattle.spatial_base.specs.Point.{Position};
-ghost use Rattle.place_map.specs.declared.query.Pick.{Pick};
-ghost use Rattle.place_map.specs.Group.{picks_for, product, farthest, diameter, choice_cost, pick_cmp, least_of, group_of};
-ghost use Rattle.place_map.specs.Search.{lists_in, fronted};
+ghost use Rattle.place_values.specs.declared.query.Pick.{Pick};
+ghost use Rattle.place_values.specs.Group.{picks_for, product, farthest, diameter, choice_cost, pick_cmp, least_of, group_of};
+ghost use Rattle.place_values.specs.Search.{lists_in, fronted};
 
-use crate::{Chosen, Pick, Picks, Place};
+use place_values::{Chosen, Pick, Picks, Place};
 use spatial_base::{Key, Point, dist};
 use std::alloc::{AllocError, Global};
 use std::cmp::Ordering;
 use std::collections::BTreeMap;
 use term_impacts::Word;
 
-// The picks for a word: the places that hold it.
+// The picks for a word: the places that have it.
 fn picks_of(
     alloc: Global,
     places: &BTreeMap<Key, Place>,
@@ -37,7 +37,7 @@ fn picks_of(
     Ok(picks)
 }
 
-// The picks for each word.
+// The picks for each of the words.
 fn picks_of_each(
     alloc: Global,
     places: &BTreeMap<Key, Place>,
@@ -77,21 +77,21 @@ fn diameter_of(picks: &[Pick]) -> u64
     }
 }
 
-// What a choice costs.
+// The cost of a choice.
 fn cost_of_choice(at: &Point, picks: &[Pick]) -> u64
     ensures { result ≡ choice_cost at.now picks.now }
 {
     farthest_of(at, picks) + diameter_of(picks)
 }
 
-// A choice of this cost against the best one.
+// The order of a choice with this cost and the best one: by cost, then by picks.
 fn against(picks: &[Pick], cost: u64, best: &Chosen) -> Ordering
     ensures { result ≡ ordering_then (nat_cmp cost best.now.cost) (slice_cmp pick_cmp picks.now best.now.picks) }
 {
     cost.cmp(&best.cost).then(picks.cmp(best.picks.as_slice()))
 }
 
-// Whether no choice that begins so is better than the best one.
+// Whether no choice that begins with these picks is better than the best one.
 fn is_hopeless(front: &[Pick], cost: u64, best: &Option<Chosen>) -> bool
     ensures { result ≡ true → (at : Position) → cost ≡ choice_cost at front.now → (tried rest : List (List Pick)) → best.now ≡ least_of at tried → best.now ≡ least_of at (tried ++ fronted front.now rest) }
 {
@@ -111,7 +111,7 @@ fn is_better(picks: &[Pick], cost: u64, best: &Option<Chosen>) -> bool
     }
 }
 
-// Keeps a choice where it is better than the best one.
+// Keeps a choice if it is better than the best one.
 fn offer(
     alloc: Global,
     picks: &[Pick],
@@ -127,8 +127,8 @@ fn offer(
     Ok(())
 }
 
-// Offers each choice that begins so and goes on with one of each list. A front that already costs more than the best choice
-// is left, since what completes it costs no less.
+// Offers each choice that begins with these picks and continues with one of each list. If these picks already come after the best
+// choice, all of them are skipped: what completes a choice never makes it come earlier.
 fn extend(
     alloc: Global,
     at: &Point,
@@ -154,7 +154,7 @@ fn extend(
     Ok(())
 }
 
-/// The least choice of a place for each word, where there is one.
+/// Returns the least choice of a place for each word, or `None` if a word has no place.
 pub(crate) fn least_group(
     alloc: Global,
     places: &BTreeMap<Key, Place>,

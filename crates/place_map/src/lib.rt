@@ -1,31 +1,22 @@
-//! The map of live places: states, their updates, and the answers that scanning the whole map gives.
+//! The map of live places in memory: states, their updates, and the answers that a scan of the whole map gives.
 //!
-//! A state is a finite map from keys to places, with a next serial and an update number. `State::apply` is the
-//! effect of an update, and `State::answer` filters, orders and cuts the places as the definitions in `specs/`
-//! say. Searches that open little prove against the same definitions.
+//! A state is a finite map from keys to places, with a next serial and an update number. `State::apply` makes an update.
+//! `State::answer` filters, orders and cuts the places exactly as the definitions of `place_values` say. The program's queries go through
+//! the tree; the scan serves the tests. The names of `place_values` are passed on.
+//!
+//! Tests: `text_tests/src/place_map_tests.rt`.
 #![tactic(auto)]
 
 mod best;
 mod group;
-mod hit;
-mod limits;
-mod listed;
-mod place;
-mod query;
 mod restored;
 mod scan;
 mod state;
-mod top;
-mod update;
 
-pub use hit::{Hit, Hits};
-pub use limits::{
-    ALPHA_MAX, COUNT_MAX, EXPR_LEVELS_MAX, EXPR_WORDS_MAX, RADIUS_MAX, REACH_MAX, TERMS_MAX,
-    WEIGHT_MAX,
+pub use place_values::{
+    ALPHA_MAX, Answer, Applied, COUNT_MAX, Chosen, EXPR_LEVELS_MAX, EXPR_WORDS_MAX, Expr, Hit,
+    Hits, Listed, NUMBER_MAX, PLACES_MAX, Pick, Picks, Place, Query, RADIUS_MAX, REACH_MAX,
+    TERMS_MAX, Terms, Update, UpdateFault, WEIGHT_MAX, Weights, cost_of, has_some, relevance_of,
+    sum_of_weights,
 };
-pub use listed::Listed;
-pub use place::Place;
-pub use query::{Answer, Chosen, Expr, Pick, Picks, Query, Terms, Weights};
-pub use state::{NUMBER_MAX, PLACES_MAX, State};
-pub use top::{cost_of, has_some, relevance_of, sum_of_weights};
-pub use update::{Applied, Update, UpdateFault};
+pub use state::State;

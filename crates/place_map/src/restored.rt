@@ -1,18 +1,17 @@
-// The state of places that are given at once.
+// Builds the map of a state from a list of places.
 ghost use Rattle.std.specs.Prelude.{◌≡◌, ◌↔◌, All, IsTrue, IfOk, OnOk};
 ghost use Rattle.std.specs.List.Sorted.{IsStrictlySortedBy};
 ghost use Rattle.spatial_base.specs.Key.{key_cmp};
-ghost use Rattle.place_map.specs.State.{AreNumbers, IsSerialAbove, with_place};
-ghost use Rattle.place_map.specs.Restored.{AreStatePlaces, keys_in, places_in};
+ghost use Rattle.place_values.specs.State.{AreNumbers, IsSerialAbove, with_place};
+ghost use Rattle.place_values.specs.Restored.{AreStatePlaces, keys_in, places_in};
 
-use crate::Place;
-use crate::state::NUMBER_MAX;
+use place_values::{NUMBER_MAX, Place};
 use spatial_base::{Key, Memory, Point};
 use std::alloc::Global;
 use std::collections::BTreeMap;
 use term_impacts::Words;
 
-// Whether these may be a state's next serial and update number.
+// Whether a state may have this next serial and this update number.
 fn are_numbers(serial: u64, number: u64) -> bool
     ensures { IsTrue result ↔ AreNumbers serial number }
 {
@@ -58,7 +57,7 @@ fn put(map: &mut BTreeMap<Key, Place>, key: Key, place: Place) -> Result<(), Mem
     Ok(())
 }
 
-/// The map of places whose keys ascend.
+/// Returns the map of places whose keys ascend.
 pub(crate) fn map_of(
     alloc: Global,
     places: Vec<(Key, Point, Words)>,

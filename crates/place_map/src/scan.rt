@@ -1,14 +1,13 @@
-// The hits of a query, by a scan of all places.
+// Finds the hits of a query by a scan of all places.
 ghost use Rattle.std.specs.Prelude.{◌≡◌, IfOk};
 ghost use Rattle.std.specs.List.{flat_map};
-ghost use Rattle.ranking.specs.First.{ranked, first};
-ghost use Rattle.place_map.specs.Hit.{comes_before, listed};
-ghost use Rattle.place_map.specs.Query.{IsWithinLimits, IsScale, IsWeights};
-ghost use Rattle.place_map.specs.Answer.{near_hit, near_hits, range_hits, box_hits, top_hits, hits_of};
+ghost use Rattle.place_values.specs.First.{ranked, first};
+ghost use Rattle.place_values.specs.Hit.{comes_before, listed};
+ghost use Rattle.place_values.specs.Query.{IsWithinLimits, IsScale, IsWeights};
+ghost use Rattle.place_values.specs.Answer.{near_hit, near_hits, range_hits, box_hits, top_hits, hits_of};
 
 use crate::best::keep;
-use crate::top::{cost_of, relevance_of, sum_of_weights};
-use crate::{Expr, Hit, Place, Query};
+use place_values::{Expr, Hit, Place, Query, cost_of, relevance_of, sum_of_weights};
 use spatial_base::{Key, Point, Rect, dist};
 use std::alloc::{AllocError, Global};
 use std::collections::BTreeMap;
@@ -29,7 +28,7 @@ fn hit_at(at: &Point, key: &Key, place: &Place) -> Hit
     }
 }
 
-// The hit of a place that passes a nearest query's filter.
+// The hit of a place in a nearest query, if the place passes its filter.
 #[inline(always)]
 fn hit_near(at: &Point, filter: &Option<Expr>, key: &Key, place: &Place) -> Option<Hit>
     ensures { listed result ≡ near_hits at.now filter.now (key.now, place.now) }
@@ -41,7 +40,7 @@ fn hit_near(at: &Point, filter: &Option<Expr>, key: &Key, place: &Place) -> Opti
     }
 }
 
-// The same where the place is at most so far away.
+// The same if the place is also within `radius` of the point.
 #[inline(always)]
 fn hit_in_range(
     at: &Point,
@@ -59,7 +58,7 @@ fn hit_in_range(
     }
 }
 
-// The hit of a place in a rectangle that passes a filter.
+// The hit of a place that is in a rectangle and passes a filter.
 #[inline(always)]
 fn hit_in_box(rect: &Rect, filter: &Option<Expr>, key: &Key, place: &Place) -> Option<Hit>
     ensures { listed result ≡ box_hits rect.now filter.now (key.now, place.now) }
@@ -77,7 +76,7 @@ fn hit_in_box(rect: &Rect, filter: &Option<Expr>, key: &Key, place: &Place) -> O
     }
 }
 
-// The hit of a place that holds one of a top query's words.
+// The hit of a place that has at least one of a top query's words.
 #[inline(always)]
 fn hit_of_top(
     at: &Point,
@@ -126,7 +125,7 @@ fn hit_of(query: &Query, key: &Key, place: &Place) -> Option<Hit>
     }
 }
 
-/// All hits of a query, in order.
+/// Returns all hits of a query, in order.
 pub(crate) fn all_hits(
     alloc: Global,
     places: &BTreeMap<Key, Place>,
@@ -145,7 +144,7 @@ pub(crate) fn all_hits(
     Ok(hits)
 }
 
-/// The first k hits of a query. No more than k are kept at any time.
+/// Returns the first k hits of a query, in order. At most k are kept at any time.
 pub(crate) fn first_hits(
     alloc: Global,
     places: &BTreeMap<Key, Place>,

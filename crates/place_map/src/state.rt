@@ -1,38 +1,34 @@
 // The map of live places.
 ghost use Rattle.std.specs.Prelude.{◌≡◌, ◌≤◌, ◌+◌, ◌<◌, ◌↔◌, ◌^◌, length, IfOk, IfSome, IsSome};
 ghost use Rattle.spatial_base.specs.Key.{text_of};
-ghost use Rattle.place_map.specs.State.{opening};
-ghost use Rattle.place_map.specs.Restored.{AreStatePlaces, places_in};
-ghost use Rattle.place_map.specs.Update.{Gives, NamesText, effect_of, put_at, removed_at, key_for, serial_after};
+ghost use Rattle.place_values.specs.State.{opening};
+ghost use Rattle.place_values.specs.Restored.{AreStatePlaces, places_in};
+ghost use Rattle.place_values.specs.Update.{Gives, NamesText, effect_of, put_at, removed_at, key_for, serial_after};
 ghost use Rattle.std.specs.List.{flat_map};
-ghost use Rattle.ranking.specs.First.{ranked, first};
-ghost use Rattle.place_map.specs.Hit.{comes_before};
-ghost use Rattle.place_map.specs.declared.query.Answer.TheVariants as answers;
-ghost use Rattle.place_map.specs.Answer.{answer_of, hits_of};
-ghost use Rattle.place_map.specs.Query.{IsWithinLimits};
-ghost use Rattle.place_map.specs.State.{IsSerialAbove, place_at, shown};
+ghost use Rattle.place_values.specs.First.{ranked, first};
+ghost use Rattle.place_values.specs.Hit.{comes_before};
+ghost use Rattle.place_values.specs.declared.query.Answer.TheVariants as answers;
+ghost use Rattle.place_values.specs.Answer.{answer_of, hits_of};
+ghost use Rattle.place_values.specs.Query.{IsWithinLimits};
+ghost use Rattle.place_values.specs.State.{IsSerialAbove, place_at, shown};
 
 use crate::group::least_group;
 use crate::restored::{are_state_places, map_of};
 use crate::scan::{all_hits, first_hits};
-use crate::{Answer, Applied, Hits, Place, Query, Update, UpdateFault};
+use place_values::{
+    Answer, Applied, Hits, NUMBER_MAX, PLACES_MAX, Place, Query, Update, UpdateFault,
+};
 use spatial_base::{Key, Memory, Point};
 use std::alloc::Global;
 use std::collections::BTreeMap;
 use std::marker::Model;
 use term_impacts::Words;
 
-/// The greatest number of live places at which a new key is accepted is one less.
-pub const PLACES_MAX: usize = 200_000;
-
-/// The update number at which no further change is accepted.
-pub const NUMBER_MAX: u64 = 1 << 40;
-
 /// The live places by key, the next serial and the update number.
 ///
-/// Contracts see it as a record: the list of keys and places in the keys' order, and the two numbers. The next serial
-/// is at least 1 and at most the update number plus 1, and above each automatic key that lives: so a key that a Put
-/// takes by itself never lives already.
+/// Contracts see it as a record: the list of keys and places in the order of the keys, and the two numbers. The next serial is at least
+/// 1 and at most the update number plus 1. It is above each live automatic key, so the automatic key that a `Put` takes is never
+/// already in use.
 #[derive(Drop)]
 pub struct State {
     alloc: Global,
@@ -42,7 +38,7 @@ pub struct State {
 }
 
 impl Model for State {
-    ghost use Rattle.place_map.specs.State.{Contents, IsState};
+    ghost use Rattle.place_values.specs.State.{Contents, IsState};
 
     ghost Value = { Contents };
 
@@ -52,14 +48,14 @@ impl Model for State {
 }
 
 impl State {
-    /// The state with no place, next serial 1 and update number 0. It takes no memory.
+    /// Returns the state with no place, next serial 1 and update number 0. It allocates no memory.
     pub fn new(alloc: Global) -> State
         ensures { result ≡ opening }
     {
         State::with_number(alloc, 0)
     }
 
-    /// The state with no place, next serial 1 and this update number, which is at most 2^40.
+    /// Returns the state with no place, next serial 1 and this update number, at most 2^40.
     pub fn with_number(alloc: Global, number: u64) -> State
         requires { number ≤ 2 ^ 40 }
         ensures { result ≡ record opening { number = number } }
@@ -72,11 +68,16 @@ impl State {
         }
     }
 
-    /// The state of these places with this next serial and update number, and `None` exactly where they are none of a state: where
-    /// the keys don't ascend strictly, where the serial is 0 or above the number plus 1, where the number is above 2^40, or where an
-    /// automatic key isn't below the serial.
+    /// Returns the state with these places, this next serial and this update number, or `None` exactly if no state has them.
     ///
-    /// Refuses `Memory` alone. It takes time in proportion to n log n.
+    /// No state has them if:
+    ///
+    /// - the keys do not ascend strictly,
+    /// - the serial is 0 or above the number plus 1,
+    /// - the number is above 2^40, or
+    /// - an automatic key is not below the serial.
+    ///
+    /// Refuses only with `Memory`. It takes time in proportion to n log n for n places.
     pub fn with_places(
         alloc: Global,
         serial: u64,
@@ -99,14 +100,14 @@ impl State {
         }))
     }
 
-    /// How many places live.
+    /// Returns how many places are live.
     pub fn count(&self) -> u32
         ensures { result ≡ length self.now.places }
     {
         self.places.len() as u32
     }
 
-    /// The update number: how many updates have changed the map.
+    /// Returns the update number: how many updates have changed the map.
     pub fn number(&self) -> u64
         ensures value { result ≡ self.now.number }
         ensures most { result ≤ 2 ^ 40 }
@@ -114,13 +115,13 @@ impl State {
         self.number
     }
 
-    /// Changes the map by one update. It looks the key up once, or twice where 200,000 places live.
+    /// Changes the map by one update. It looks the key up once, or twice if 200,000 places are live.
     ///
-    /// A key that a Put names is a text key: automatic keys are given by the state alone.
+    /// The key of a `Put` is a text key or `None`: only the state gives automatic keys.
     ///
-    /// Refuses `Full` exactly where 200,000 or more places live and the key is new, else `Worn` exactly where the update
-    /// number is 2^40 and the update would change the map; `Memory` may come instead of any answer. After a refusal
-    /// the state is as before.
+    /// Refuses with `Full` exactly if 200,000 or more places are live and the key is new. Otherwise refuses with `Worn` exactly if the
+    /// update number is 2^40 and the update would change the map. `Memory` may come in place of any result. After a refusal the state
+    /// is as before.
     pub fn apply(&mut self, update: Update) -> Result<Applied, UpdateFault>
         requires { NamesText update }
         ensures { Gives self.old (effect_of self.old update) self.new result }
@@ -134,7 +135,7 @@ impl State {
         }
     }
 
-    // The key under which a place is put, and the next serial then.
+    // The key that a place is put at, and the next serial after that.
     fn named(&self, key: Option<Key>) -> (Key, u64)
         requires { IfSome key (λ name. IsSome (text_of name)) }
         ensures key { result.0 ≡ key_for self.now key }
@@ -149,7 +150,7 @@ impl State {
         }
     }
 
-    // Puts a place at a key, and leaves this next serial.
+    // Puts a place at a key, and sets the next serial.
     fn put(&mut self, key: Key, serial: u64, place: Place) -> Result<Applied, UpdateFault>
         requires rises { self.old.serial ≤ serial }
         requires few { serial ≤ self.old.number + 2 }
@@ -172,7 +173,7 @@ impl State {
         })
     }
 
-    // Takes a key out.
+    // Removes a key and its place.
     fn remove(&mut self, key: &Key) -> Result<Applied, UpdateFault>
         ensures { Gives self.old (removed_at self.old key.now) self.new result }
     {
@@ -190,7 +191,7 @@ impl State {
         Ok(Applied::Gone)
     }
 
-    /// The place of a key, and None where it has none.
+    /// Returns the place at a key, or `None` if there is none.
     pub fn show(&self, key: &Key) -> Option<(Point, &Words)>
         ensures { shown result ≡ place_at key.now self.now.places }
     {
@@ -198,12 +199,12 @@ impl State {
         Some((place.point, &place.words))
     }
 
-    /// The answer to a query, by a scan of all live places.
+    /// Returns the answer to a query, by a scan of all live places.
     ///
-    /// A range or a box gathers its hits and sorts them; a nearest or a top query keeps the best `k` while it goes; a group query
-    /// goes over the choices of a place for each word, and leaves those whose first places already cost too much.
+    /// A range or box query gathers its hits and sorts them. A nearest or top query keeps only the best `k` hits during the scan. A
+    /// group query goes over the choices of a place for each word, and skips those whose first places already cost too much.
     ///
-    /// Refuses `Memory` alone.
+    /// Refuses only with `Memory`.
     pub fn answer(&self, query: &Query) -> Result<Answer, Memory>
         requires { IsWithinLimits query.now }
         ensures { IfOk result (λ answer. answer ≡ answer_of self.now query.now) }

@@ -1,9 +1,9 @@
 -- What is read as a filter keeps its limits.
 use Rattle.std.proofs.Common.{◌≡◌, ◌+◌, ◌≤◌, ◌<◌, ℕ, zero, suc, Bool, true, false, cond, max, List, Option, Some, None, Result, Ok, Err, IfOk, codes, nat_le, refl, ap, subst, arith}
 use Rattle.std.proofs.lemmas.Bool.Decides.{nat_tests}
-use Rattle.place_map.specs.declared.query.Expr.{Expr}
-use Rattle.place_map.specs.declared.query.Expr.TheVariants.{Has, Not', And', Or'}
-use Rattle.place_map.specs.Limits.{Form, Whole, Term, Factor, words_in, levels_as, around_and, around_or, IsExpression, IsFilter}
+use Rattle.place_values.specs.declared.query.Expr.{Expr}
+use Rattle.place_values.specs.declared.query.Expr.TheVariants.{Has, Not', And', Or'}
+use Rattle.place_values.specs.Limits.{Form, Whole, Term, Factor, words_in, levels_as, around_and, around_or, IsExpression, IsFilter}
 use Rattle.term_impacts.specs.Text.{words_of, only}
 use Rattle.line_tokens.specs.Token.{Token, token_of}
 use Rattle.query_replies.specs.declared.fault.LineFault.{LineFault}

@@ -7,7 +7,7 @@ use Rattle.std.proofs.lemmas.Str.{IsUtf8-from_is_utf8, is_utf8-from_IsUtf8}
 use Rattle.spatial_base.specs.Key.{Name, Text}
 use Rattle.spatial_base.specs.Point.{Position}
 use Rattle.spatial_base.specs.Rect.{Bounds}
-use Rattle.place_map.specs.declared.update.Update.TheVariants as updates
+use Rattle.place_values.specs.declared.update.Update.TheVariants as updates
 use Rattle.line_tokens.specs.Token.{Token, Bare, Quoted, Open, Close, Broken}
 use Rattle.query_replies.specs.declared.fault.LineFault.{LineFault}
 use Rattle.query_replies.specs.declared.fault.LineFault.TheVariants as faults

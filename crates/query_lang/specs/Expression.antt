@@ -2,8 +2,8 @@
 -- a word. There are at most 32 levels of `not` and parentheses, and 64 words.
 use Rattle.std.specs.Prelude.{ℕ, zero, suc, ◌+◌, nat_le, if◌then◌else◌, List, codes, Option, Some, None, Result, Ok, Err}
 use Rattle.std.specs.Str.{bytes_eq}
-use Rattle.place_map.specs.declared.query.Expr.{Expr}
-use Rattle.place_map.specs.declared.query.Expr.TheVariants.{Has, Not, And, Or}
+use Rattle.place_values.specs.declared.query.Expr.{Expr}
+use Rattle.place_values.specs.declared.query.Expr.TheVariants.{Has, Not, And, Or}
 use Rattle.term_impacts.specs.Text.{words_of, only}
 use Rattle.line_tokens.specs.Token.{Token, Bare, Quoted, Open, Close, Broken, token_of}
 use Rattle.query_replies.specs.declared.fault.LineFault.{LineFault}

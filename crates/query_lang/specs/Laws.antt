@@ -3,18 +3,18 @@ use Rattle.std.proofs.Common.{◌≡◌, Bool, List, Option, Some, None, Ok, ref
 use Rattle.std.specs.Prelude.{not, ◌&&◌, ◌||◌}
 use Rattle.std.specs.List.{flat_map}
 use Rattle.spatial_base.specs.Key.{Name}
-use Rattle.ranking.specs.First.{first, ranked}
-use Rattle.place_map.specs.declared.place.Place.{Place}
-use Rattle.place_map.specs.declared.hit.Hit.{Hit}
-use Rattle.place_map.specs.declared.query.Expr.{Expr}
-use Rattle.place_map.specs.declared.query.Expr.TheVariants.{Has, Not', And', Or'}
-use Rattle.place_map.specs.declared.query.Query.{Query}
-use Rattle.place_map.specs.declared.query.Query.TheVariants.{Range, Inside, Nearest, Top, Group}
-use Rattle.place_map.specs.declared.query.Answer.TheVariants as answers
-use Rattle.place_map.specs.Filter.{holds, passes}
-use Rattle.place_map.specs.Hit.{comes_before}
-use Rattle.place_map.specs.State.{Contents}
-use Rattle.place_map.specs.Answer.{answer_of, near_hits, range_hits, box_hits}
+use Rattle.place_values.specs.First.{first, ranked}
+use Rattle.place_values.specs.declared.place.Place.{Place}
+use Rattle.place_values.specs.declared.hit.Hit.{Hit}
+use Rattle.place_values.specs.declared.query.Expr.{Expr}
+use Rattle.place_values.specs.declared.query.Expr.TheVariants.{Has, Not', And', Or'}
+use Rattle.place_values.specs.declared.query.Query.{Query}
+use Rattle.place_values.specs.declared.query.Query.TheVariants.{Range, Inside, Nearest, Top, Group}
+use Rattle.place_values.specs.declared.query.Answer.TheVariants as answers
+use Rattle.place_values.specs.Filter.{holds, passes}
+use Rattle.place_values.specs.Hit.{comes_before}
+use Rattle.place_values.specs.State.{Contents}
+use Rattle.place_values.specs.Answer.{answer_of, near_hits, range_hits, box_hits}
 use Rattle.query_replies.specs.Found.{found_text}
 use Rattle.query_replies.specs.Reply.{text_of_reply}
 use Rattle.query_lang.specs.declared.line.Line.{Line}

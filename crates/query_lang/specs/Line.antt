@@ -5,10 +5,10 @@ use Rattle.std.specs.Str.{bytes_eq, is_utf8}
 use Rattle.spatial_base.specs.Point.{Position}
 use Rattle.spatial_base.specs.Rect.{Bounds}
 use Rattle.term_impacts.specs.Impacts.{word_impacts}
-use Rattle.place_map.specs.declared.update.Update.TheVariants as updates
-use Rattle.place_map.specs.declared.query.Expr.{Expr}
-use Rattle.place_map.specs.declared.query.Query.{Query}
-use Rattle.place_map.specs.declared.query.Query.TheVariants as queries
+use Rattle.place_values.specs.declared.update.Update.TheVariants as updates
+use Rattle.place_values.specs.declared.query.Expr.{Expr}
+use Rattle.place_values.specs.declared.query.Query.{Query}
+use Rattle.place_values.specs.declared.query.Query.TheVariants as queries
 use Rattle.line_tokens.specs.Token.{Token, Bare, Quoted, Open, Close, Broken, after_blanks}
 use Rattle.query_replies.specs.declared.fault.LineFault.{LineFault}
 use Rattle.query_replies.specs.declared.fault.LineFault.TheVariants as faults

@@ -3,12 +3,12 @@ use Rattle.std.specs.Prelude.{Option, option_map}
 use Rattle.std.specs.declared.alloc.Global.{Global}
 use Rattle.std.specs.declared.boxed.Box.{Box}
 use denote.RawPtr.{null_ptr}
-use Rattle.place_map.specs.declared.query.Expr.{Expr}
-use Rattle.place_map.specs.declared.query.Expr.TheVariants.{Has, Not, And, Or, Not', And', Or'}
-use Rattle.place_map.specs.Query.{IsWithinLimits}
-use Rattle.place_map.specs.Update.{NamesText}
-use Rattle.place_map.specs.declared.query.Query.{Query}
-use Rattle.place_map.specs.declared.query.Query.TheVariants.{Range, Inside, Nearest, Top, Group}
+use Rattle.place_values.specs.declared.query.Expr.{Expr}
+use Rattle.place_values.specs.declared.query.Expr.TheVariants.{Has, Not, And, Or, Not', And', Or'}
+use Rattle.place_values.specs.Query.{IsWithinLimits}
+use Rattle.place_values.specs.Update.{NamesText}
+use Rattle.place_values.specs.declared.query.Query.{Query}
+use Rattle.place_values.specs.declared.query.Query.TheVariants.{Range, Inside, Nearest, Top, Group}
 use Rattle.query_lang.specs.declared.line.Line.{Line}
 use Rattle.query_lang.specs.declared.line.Line.TheVariants as lines
 

@@ -1,14 +1,14 @@
 -- What a line is answered.
 use Rattle.std.specs.Prelude.{length, Option, Some, None, Result, Ok, Err}
 use Rattle.spatial_base.specs.Key.{Name}
-use Rattle.place_map.specs.declared.place.Place.{Place}
-use Rattle.place_map.specs.declared.update.Applied.{Applied}
-use Rattle.place_map.specs.declared.update.Applied.TheVariants.{New, Replaced, Gone, Absent}
-use Rattle.place_map.specs.declared.update.UpdateFault.{UpdateFault}
-use Rattle.place_map.specs.declared.update.UpdateFault.TheVariants as faults
-use Rattle.place_map.specs.State.{Contents, place_at}
-use Rattle.place_map.specs.Update.{effect_of}
-use Rattle.place_map.specs.Answer.{answer_of}
+use Rattle.place_values.specs.declared.place.Place.{Place}
+use Rattle.place_values.specs.declared.update.Applied.{Applied}
+use Rattle.place_values.specs.declared.update.Applied.TheVariants.{New, Replaced, Gone, Absent}
+use Rattle.place_values.specs.declared.update.UpdateFault.{UpdateFault}
+use Rattle.place_values.specs.declared.update.UpdateFault.TheVariants as faults
+use Rattle.place_values.specs.State.{Contents, place_at}
+use Rattle.place_values.specs.Update.{effect_of}
+use Rattle.place_values.specs.Answer.{answer_of}
 use Rattle.query_replies.specs.declared.fault.LineFault.{LineFault}
 use Rattle.query_replies.specs.declared.reply.Reply.{Reply}
 use Rattle.query_replies.specs.declared.reply.Reply.TheVariants as replies

@@ -1,10 +1,10 @@
-//! Expressions as they grow.
+//! Expressions while they are read.
 ghost use Rattle.std.specs.Prelude.{◌≡◌, IfOk, IfErr};
 ghost use Rattle.query_lang.specs.Expression as spec;
 ghost use Rattle.query_lang.specs.Expression.{plain_clause};
 ghost use Rattle.query_lang.specs.Reader.{Answers};
 
-use place_map::{EXPR_WORDS_MAX, Expr};
+use place_values::{EXPR_WORDS_MAX, Expr};
 use query_replies::LineFault;
 use std::alloc::Global;
 use term_impacts::one_word;
@@ -16,7 +16,7 @@ pub(crate) struct Clause {
     pub words: usize,
 }
 
-/// A word, where so many were named before; the 65th is refused before it is looked at.
+/// Returns a word as a clause, after `words` others. The 65th word is refused before it is looked at.
 pub(crate) fn named(alloc: Global, words: usize, text: &str) -> Result<Clause, LineFault>
     ensures { Answers plain_clause result (spec.named words text.now) }
 {
@@ -35,7 +35,7 @@ pub(crate) fn named(alloc: Global, words: usize, text: &str) -> Result<Clause, L
     }
 }
 
-// An expression in a box.
+// Puts an expression in a box.
 fn boxed(alloc: Global, expr: Expr) -> Result<Box<Expr>, LineFault>
     ensures value { IfOk result (λ b. b.value ≡ expr) }
     ensures memory { IfErr result (λ fault. fault ≡ LineFault.Memory) }
@@ -43,7 +43,7 @@ fn boxed(alloc: Global, expr: Expr) -> Result<Box<Expr>, LineFault>
     Box::new(alloc, expr).map_err(|_| LineFault::Memory)
 }
 
-/// What denies a clause.
+/// Returns the negation of a clause.
 pub(crate) fn negated(alloc: Global, clause: Clause) -> Result<Clause, LineFault>
     ensures value { IfOk result (λ c. plain_clause c ≡ spec.negated (plain_clause clause)) }
     ensures memory { IfErr result (λ fault. fault ≡ LineFault.Memory) }
@@ -53,7 +53,7 @@ pub(crate) fn negated(alloc: Global, clause: Clause) -> Result<Clause, LineFault
     Ok(Clause { expr, words })
 }
 
-/// What asks for both clauses.
+/// Returns the clause that needs both of two clauses.
 pub(crate) fn both(alloc: Global, one: Clause, other: Clause) -> Result<Clause, LineFault>
     ensures value { IfOk result (λ c. plain_clause c ≡ spec.both (plain_clause one) (plain_clause other)) }
     ensures memory { IfErr result (λ fault. fault ≡ LineFault.Memory) }
@@ -71,7 +71,7 @@ pub(crate) fn both(alloc: Global, one: Clause, other: Clause) -> Result<Clause, 
     })
 }
 
-/// What asks for one of two clauses.
+/// Returns the clause that needs at least one of two clauses.
 pub(crate) fn either(alloc: Global, one: Clause, other: Clause) -> Result<Clause, LineFault>
     ensures value { IfOk result (λ c. plain_clause c ≡ spec.either (plain_clause one) (plain_clause other)) }
     ensures memory { IfErr result (λ fault. fault ≡ LineFault.Memory) }

@@ -1,4 +1,4 @@
-//! Commands.
+//! The commands of lines, and the tokens that name them.
 ghost use Rattle.std.specs.Prelude.{◌≡◌};
 ghost use Rattle.line_tokens.specs.Seen.{seen};
 ghost use Rattle.query_lang.specs.Line.{command_named, command_of, asks};
@@ -6,7 +6,7 @@ ghost use Rattle.query_lang.specs.Line.{command_named, command_of, asks};
 use line_tokens::Token;
 use query_replies::LineFault;
 
-/// What may be asked.
+/// The kinds of query.
 #[derive(Clone, Copy)]
 pub(crate) enum Asked {
     Range,
@@ -16,7 +16,7 @@ pub(crate) enum Asked {
     Group,
 }
 
-/// What a line may do.
+/// What a line can do.
 #[derive(Clone, Copy)]
 pub(crate) enum Command {
     Add,
@@ -27,7 +27,7 @@ pub(crate) enum Command {
     Ask(Asked),
 }
 
-// The command of this name.
+// The command with this name.
 fn command_named(name: &str) -> Result<Command, LineFault>
     ensures { result ≡ command_named name.now }
 {
@@ -46,7 +46,7 @@ fn command_named(name: &str) -> Result<Command, LineFault>
     }
 }
 
-/// The command that a token names.
+/// Returns the command that a token names.
 pub(crate) fn command_in(token: &Token) -> Result<Command, LineFault>
     ensures { result ≡ command_of (seen token.now) }
 {
@@ -56,7 +56,7 @@ pub(crate) fn command_in(token: &Token) -> Result<Command, LineFault>
     }
 }
 
-/// What the command that a token names asks.
+/// Returns the kind of query that a token names, or refuses with `Command` if it names none.
 pub(crate) fn asked_in(token: &Token) -> Result<Asked, LineFault>
     ensures { result ≡ asks (command_of (seen token.now)) }
 {

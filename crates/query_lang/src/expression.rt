@@ -1,6 +1,6 @@
-//! Expressions.
+//! Reads the expression of a filter.
 ghost use Rattle.std.specs.Prelude.{◌≡◌, codes, Some, None, option_map, IfOk, IfErr};
-ghost use Rattle.place_map.specs.Limits.{IsFilter};
+ghost use Rattle.place_values.specs.Limits.{IsFilter};
 ghost use Rattle.line_tokens.specs.Seen.{seen};
 ghost use Rattle.line_tokens.specs.Token.{token_of};
 ghost use Rattle.query_lang.specs.Expression as spec;
@@ -12,11 +12,11 @@ use crate::clause::{Clause, both, either, named, negated};
 use crate::kind::{Kind, is_word, kind_in};
 use crate::part::{end, next, token};
 use line_tokens::Token;
-use place_map::{EXPR_LEVELS_MAX, Expr};
+use place_values::{EXPR_LEVELS_MAX, Expr};
 use query_replies::LineFault;
 use std::alloc::Global;
 
-// The text behind a bare word, where that is the next token.
+// The text after a bare word, if that word is the next token.
 fn behind_word<'a>(alloc: Global, word: &str, text: &'a str) -> Result<Option<&'a str>, LineFault>
     ensures says { IfOk result (λ rest. option_map (λ r. r.now) rest ≡ behind_word word.now (token_of text.now)) }
     ensures memory { IfErr result (λ fault. fault ≡ LineFault.Memory) }
@@ -33,7 +33,7 @@ fn behind_word<'a>(alloc: Global, word: &str, text: &'a str) -> Result<Option<&'
     }
 }
 
-// The text behind the parenthesis that closes.
+// The text after the closing parenthesis.
 fn behind_closing(alloc: Global, text: &str) -> Result<&str, LineFault>
     ensures { Answers (λ rest. (tt {0}, rest.now)) result (part (λ token. spec.closing (kind_of token)) text.now) }
 {
@@ -44,7 +44,7 @@ fn behind_closing(alloc: Global, text: &str) -> Result<&str, LineFault>
     }
 }
 
-// A word, and the text behind it.
+// A word, and the text after it.
 fn named_at<'a>(
     alloc: Global,
     words: usize,
@@ -57,7 +57,7 @@ fn named_at<'a>(
     Ok((clause, text))
 }
 
-// A clause and the parenthesis that closes.
+// A clause, and the text after the parenthesis that closes it.
 fn closed(alloc: Global, clause: Clause, text: &str) -> Result<(Clause, &str), LineFault>
     ensures { Answers (λ got. (plain_clause got.0, got.1.now)) result (spec.closed (plain_clause clause) text.now) }
 {
@@ -78,7 +78,7 @@ fn factor(alloc: Global, levels: u8, words: usize, text: &str) -> Result<(Clause
     factor_at(alloc, levels, words, &token, rest)
 }
 
-// What a token begins.
+// The F that a token begins.
 #[cycle(grammar)]
 fn factor_at<'a>(
     alloc: Global,
@@ -109,7 +109,7 @@ fn factor_at<'a>(
     }
 }
 
-// What an F behind `not` denies.
+// The negation of the F after `not`.
 #[cycle(grammar)]
 fn denied(alloc: Global, levels: u8, words: usize, text: &str) -> Result<(Clause, &str), LineFault>
     ensures { Answers (λ got. (plain_clause got.0, got.1.now)) result
@@ -123,7 +123,7 @@ fn denied(alloc: Global, levels: u8, words: usize, text: &str) -> Result<(Clause
     Ok((clause, rest))
 }
 
-// An E and the parenthesis that closes.
+// An E, and the text after the parenthesis that closes it.
 #[cycle(grammar)]
 fn enclosed(
     alloc: Global,
@@ -159,7 +159,7 @@ fn conjunction(
     more_factors(alloc, levels, 64, one, rest)
 }
 
-// What stands before, and at most so many F more, each behind `and`.
+// The clause so far, and at most `left` more F, each after `and`.
 #[cycle(grammar)]
 fn more_factors(
     alloc: Global,
@@ -184,7 +184,7 @@ fn more_factors(
     joined_factor(alloc, levels, left - 1, one, rest)
 }
 
-// What stands before joined to the next F, and at most so many more behind it.
+// The clause so far joined to the next F, and at most `left` more after it.
 #[cycle(grammar)]
 fn joined_factor(
     alloc: Global,
@@ -222,7 +222,7 @@ fn expression(
     more_conjunctions(alloc, levels, 64, one, rest)
 }
 
-// What stands before, and at most so many T more, each behind `or`.
+// The clause so far, and at most `left` more T, each after `or`.
 #[cycle(grammar)]
 fn more_conjunctions(
     alloc: Global,
@@ -247,7 +247,7 @@ fn more_conjunctions(
     joined_conjunction(alloc, levels, left - 1, one, rest)
 }
 
-// What stands before joined to the next T, and at most so many more behind it.
+// The clause so far joined to the next T, and at most `left` more after it.
 #[cycle(grammar)]
 fn joined_conjunction(
     alloc: Global,
@@ -267,7 +267,7 @@ fn joined_conjunction(
     more_conjunctions(alloc, levels, left, clause, rest)
 }
 
-// The E behind `where`, up to the end of the line.
+// The E after `where`, up to the end of the line.
 fn condition(alloc: Global, text: &str) -> Result<Expr, LineFault>
     ensures { Answers (λ expr. Some (plain expr)) result (condition text.now) }
 {
@@ -280,7 +280,7 @@ fn condition(alloc: Global, text: &str) -> Result<Expr, LineFault>
     Ok(expr)
 }
 
-/// `where` and a filter up to the end of the line, or none where the line ends. A filter keeps the limits.
+/// Returns the filter that `where` begins, up to the end of the line, or `None` if the line ends. A filter is within the limits.
 pub(crate) fn filter(alloc: Global, text: &str) -> Result<Option<Expr>, LineFault>
     ensures says { Answers plain_filter result (filter_of text.now) }
     ensures sound { IfOk result IsFilter }
@@ -299,7 +299,7 @@ pub(crate) fn filter(alloc: Global, text: &str) -> Result<Option<Expr>, LineFaul
     }
 }
 
-// The filter behind `where`.
+// The filter after `where`.
 fn some_filter(alloc: Global, text: &str) -> Result<Option<Expr>, LineFault>
     ensures { Answers plain_filter result (condition text.now) }
 {

@@ -1,4 +1,4 @@
-//! Keys.
+//! Reads a token as a key.
 ghost use Rattle.std.specs.Prelude.{◌≡◌};
 ghost use Rattle.line_tokens.specs.Seen.{seen};
 ghost use Rattle.query_lang.specs.Key.{text_key, serial_key, bare_key, key_of};
@@ -9,14 +9,14 @@ use line_tokens::Token;
 use query_replies::LineFault;
 use spatial_base::Key;
 
-// The key of a text.
+// The key with this text.
 fn text_key(text: &str) -> Result<Key, LineFault>
     ensures { result ≡ text_key text.now }
 {
     Key::of_text(text).map_err(|_| LineFault::Key)
 }
 
-// The automatic key of a serial.
+// The automatic key with this serial.
 fn serial_key(digits: &[u8]) -> Result<Key, LineFault>
     ensures { result ≡ serial_key (number_of digits.now) }
 {
@@ -30,7 +30,7 @@ fn serial_key(digits: &[u8]) -> Result<Key, LineFault>
     }
 }
 
-// The key of a bare token.
+// The key that a bare token gives.
 fn bare_key(text: &str, auto: bool) -> Result<Key, LineFault>
     ensures { result ≡ bare_key auto text.now }
 {
@@ -46,7 +46,7 @@ fn bare_key(text: &str, auto: bool) -> Result<Key, LineFault>
     }
 }
 
-/// The key that a token names; an automatic one only where such a key is accepted.
+/// Returns the key that a token gives. An automatic key is accepted only if `auto` is set.
 pub(crate) fn key(token: &Token, auto: bool) -> Result<Key, LineFault>
     ensures { result ≡ key_of auto (seen token.now) }
 {

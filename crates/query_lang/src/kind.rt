@@ -1,4 +1,4 @@
-//! What a token may be within an expression.
+//! What a token can be in an expression.
 ghost use Rattle.std.specs.Prelude.{◌≡◌};
 ghost use Rattle.line_tokens.specs.Seen.{seen};
 ghost use Rattle.line_tokens.specs.Token as tokens;
@@ -8,10 +8,10 @@ ghost use Rattle.query_lang.specs.Reader as reader;
 
 use line_tokens::Token;
 
-/// What a token may be within an expression.
+/// What a token can be in an expression.
 #[derive(Clone, Copy)]
 pub(crate) enum Kind<'a> {
-    /// A bare word, or what a literal says.
+    /// A bare word, or the content of a literal.
     Word(&'a str),
     /// `not`
     Not,
@@ -19,7 +19,7 @@ pub(crate) enum Kind<'a> {
     Open,
     /// `)`
     Close,
-    /// `or`, `and`, or a literal that doesn't end.
+    /// `or`, `and`, or a literal that does not end.
     Other,
 }
 
@@ -35,7 +35,7 @@ fn bare_kind(text: &str) -> Kind<'_>
     }
 }
 
-/// What a token is. `or`, `and` and `not` are words only where they are quoted.
+/// Returns what a token is. `or`, `and` and `not` are words only if they are quoted.
 pub(crate) fn kind_in<'a>(token: &'a Token<'_>) -> Kind<'a>
     ensures { kind_seen result ≡ kind_of (seen token.now) }
 {
@@ -48,7 +48,7 @@ pub(crate) fn kind_in<'a>(token: &'a Token<'_>) -> Kind<'a>
     }
 }
 
-/// Whether a token is this bare word.
+/// Returns whether a token is this bare word.
 pub(crate) fn is_word(token: &Token, word: &str) -> bool
     ensures { result ≡ reader.is_word word.now (seen token.now) }
 {

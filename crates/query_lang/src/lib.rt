@@ -1,7 +1,9 @@
-//! The language of scripts: which line bytes stand for.
+//! The language of scripts: which line the bytes of a line mean.
 //!
-//! [`read_line`] answers the line that the definition `line_of` of `specs/Line.antt` gives, or the reason of its first
-//! offence from the left. What lines are answered is in the crate `query_replies`, whose names are passed on.
+//! [`read_line`] returns exactly the line that the definition `line_of` of `specs/Line.antt` gives, or the reason of its first offence
+//! from the left. The replies to lines are in the crate `query_replies`, whose names this crate exports too.
+//!
+//! Tests: the crate has none of its own; `irtree_tests/src/language_tests.rt` and those of `random_tests` reach it.
 #![tactic(auto)]
 
 mod clause;

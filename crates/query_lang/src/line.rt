@@ -1,4 +1,4 @@
-//! Lines of a script.
+//! Reads a line of a script.
 ghost use Rattle.std.specs.Prelude.{◌≡◌, IfOk};
 ghost use Rattle.query_lang.specs.Laws as laws;
 ghost use Rattle.query_lang.specs.Line.{add_line, remove_line, show_line, ask_line, line_by, is_silent, commanded, line_of_text, without_cr, line_of};
@@ -10,16 +10,16 @@ use crate::key::key;
 use crate::part::{end, next};
 use crate::query::{point_part, query};
 use line_tokens::after_blanks;
-use place_map::{Query, Update};
+use place_values::{Query, Update};
 use query_replies::LineFault;
 use spatial_base::Key;
 use std::alloc::Global;
 use term_impacts::impacts;
 
-/// The greatest number of bytes of a line, without its LF.
+/// The most bytes that a line has, without its LF.
 pub const LINE_MAX: usize = 65_536;
 
-/// What a line of a script asks for.
+/// What a line of a script asks to be done.
 #[derive(Drop)]
 pub enum Line {
     /// Nothing: the line is empty, blank or a comment.
@@ -28,18 +28,18 @@ pub enum Line {
     Do(Update),
     /// A question.
     Ask {
-        /// What is asked.
+        /// The question.
         query: Query,
-        /// Whether each line of the answer says where the place is, and in a top query how its cost came about.
+        /// Whether each line of the answer has the place's position, and in a top query how its cost is made up.
         explain: bool,
     },
-    /// What is kept at a key.
+    /// Shows the place at a key.
     Show(Key),
-    /// How many places live.
+    /// Counts the live places.
     Count,
 }
 
-// KEY LON LAT TEXT, of `add`.
+// The KEY LON LAT TEXT of `add`.
 #[tactic(auto, unfolding(crate::specs::Line::add_line))]
 fn add(alloc: Global, text: &str) -> Result<Line, LineFault>
     ensures says { Answers plain_line result (add_line text.now) }
@@ -59,7 +59,7 @@ fn add(alloc: Global, text: &str) -> Result<Line, LineFault>
     }))
 }
 
-// KEY, of `remove`.
+// The KEY of `remove`.
 #[tactic(auto, unfolding(crate::specs::Line::remove_line))]
 fn remove(alloc: Global, text: &str) -> Result<Line, LineFault>
     ensures says { Answers plain_line result (remove_line text.now) }
@@ -71,7 +71,7 @@ fn remove(alloc: Global, text: &str) -> Result<Line, LineFault>
     Ok(Line::Do(Update::Remove { key }))
 }
 
-// KEY, of `show`.
+// The KEY of `show`.
 fn show(alloc: Global, text: &str) -> Result<Line, LineFault>
     ensures says { Answers plain_line result (show_line text.now) }
     ensures sound { IfOk result IsSound }
@@ -82,7 +82,7 @@ fn show(alloc: Global, text: &str) -> Result<Line, LineFault>
     Ok(Line::Show(key))
 }
 
-// Nothing more, of `count`.
+// The end of the line after `count`.
 fn count(alloc: Global, text: &str) -> Result<Line, LineFault>
     ensures says { Answers plain_line result (at_end Line.Count text.now) }
     ensures sound { IfOk result IsSound }
@@ -100,7 +100,7 @@ fn ask(alloc: Global, explain: bool, asked: Asked, text: &str) -> Result<Line, L
     Ok(Line::Ask { query, explain })
 }
 
-// A query whose answer is to be explained.
+// A query whose answer is explained.
 fn explained(alloc: Global, text: &str) -> Result<Line, LineFault>
     ensures says { Answers plain_line result (line_by Command.Explain text.now) }
     ensures sound { IfOk result IsSound }
@@ -110,7 +110,7 @@ fn explained(alloc: Global, text: &str) -> Result<Line, LineFault>
     ask(alloc, true, asked, text)
 }
 
-// The line behind its command.
+// The line after its command.
 fn line_by(alloc: Global, command: Command, text: &str) -> Result<Line, LineFault>
     ensures says { Answers plain_line result (line_by command text.now) }
     ensures sound { IfOk result IsSound }
@@ -125,7 +125,7 @@ fn line_by(alloc: Global, command: Command, text: &str) -> Result<Line, LineFaul
     }
 }
 
-// Whether a text says nothing, behind its blanks.
+// Whether a text has nothing to do: after its blanks it is at its end or at a comment.
 fn is_silent(text: &str) -> bool
     ensures { result ≡ is_silent text.now }
 {
@@ -154,7 +154,7 @@ fn line_of_text(alloc: Global, text: &str) -> Result<Line, LineFault>
     commanded(alloc, text)
 }
 
-// The bytes without one CR at the end.
+// The bytes without one CR at their end.
 fn without_cr(bytes: &[u8]) -> &[u8]
     ensures { result.now ≡ without_cr bytes.now }
 {
@@ -164,14 +164,14 @@ fn without_cr(bytes: &[u8]) -> &[u8]
     }
 }
 
-/// The line that bytes stand for, without their LF.
+/// Returns the line that these bytes mean, without their LF.
 ///
-/// It answers the definition `line_of` of `specs/Line.antt`: a line, or the reason of its first offence from the left, `Length`
-/// before `Utf8` before all else. Contracts see a line as its plain form, since in memory the boxes of an expression stand
-/// anywhere. `Memory` alone may come instead of any answer. A query keeps the limits, and a place is put at a text key.
+/// It is exactly the `line_of` of `specs/Line.antt`: a line, or the reason of its first offence from the left. `Length` comes before
+/// `Utf8`, and `Utf8` before all others. Contracts see a line in its plain form, since the boxes of an expression may be anywhere in
+/// memory. `Memory` may come in place of any result. A query is within the limits, and a place is put at a text key.
 ///
-/// It reads the bytes from left to right, a token at a time. Memory is taken for the words of a place, the boxes of an
-/// expression, a query's list of words, and what a literal with escapes says.
+/// It reads the bytes from left to right, one token at a time. It allocates memory only for the words of a place, the boxes of an
+/// expression, the word list of a query, and the decoded text of a literal with escapes.
 pub fn read_line(alloc: Global, line: &[u8]) -> Result<Line, LineFault>
     ensures says { Answers plain_line result (line_of line.now) }
     ensures sound { IfOk result IsSound }

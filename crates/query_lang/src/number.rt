@@ -1,4 +1,4 @@
-//! Whole numbers.
+//! Reads a token as a whole number.
 ghost use Rattle.std.specs.Prelude.{◌≡◌, ◌≤◌, ◌<◌, is_some, IfSome, IfOk};
 ghost use Rattle.std.specs.List.{list_all};
 ghost use Rattle.std.specs.Char.{is_ascii_digit};
@@ -8,10 +8,10 @@ ghost use Rattle.query_lang.specs.Number.{number_of, number_in, whole_of};
 use line_tokens::Token;
 use query_replies::LineFault;
 
-/// The greatest number of digits of a number.
+/// The most digits that a number has.
 const DIGITS_MAX: usize = 20;
 
-// Bytes as a text, where they are ASCII digits.
+// The bytes as a text, if they are all ASCII digits.
 fn digits(bytes: &[u8]) -> Option<&str>
     ensures test { is_some result ≡ list_all is_ascii_digit bytes.now }
     ensures text { IfSome result (λ text. text.now ≡ bytes.now) }
@@ -22,7 +22,7 @@ fn digits(bytes: &[u8]) -> Option<&str>
     std::str::from_utf8(bytes).ok()
 }
 
-/// The number that 1 to 20 digits write.
+/// Returns the number that 1 to 20 digits write, or `None` for any other bytes.
 pub(crate) fn number(bytes: &[u8]) -> Option<u128>
     ensures { result ≡ number_of bytes.now }
 {
@@ -32,7 +32,7 @@ pub(crate) fn number(bytes: &[u8]) -> Option<u128>
     digits(bytes)?.parse().ok()
 }
 
-/// The number that 1 to 20 digits write, where it is from `low` to `high`.
+/// Returns the number that 1 to 20 digits write, if it is from `low` to `high`.
 pub(crate) fn number_in(bytes: &[u8], low: u16, high: u16) -> Result<u16, LineFault>
     ensures value { result ≡ number_in low high bytes.now }
     ensures within { IfOk result (λ n. (low ≤ n) × (n ≤ high)) }
@@ -47,7 +47,7 @@ pub(crate) fn number_in(bytes: &[u8], low: u16, high: u16) -> Result<u16, LineFa
     }
 }
 
-/// The whole number that a token writes, from `low` to `high`.
+/// Returns the whole number that a token gives, from `low` to `high`.
 pub(crate) fn whole(token: &Token, low: u16, high: u16) -> Result<u16, LineFault>
     ensures value { result ≡ whole_of low high (seen token.now) }
     ensures within { IfOk result (λ n. (low ≤ n) × (n ≤ high)) }

@@ -1,4 +1,4 @@
-//! The parts of a line: each reads the next token, and answers what it says and the text behind it.
+//! The parts of a line: each reads the next token, and returns its value and the text after it.
 ghost use Rattle.std.specs.Prelude.{◌≡◌, ◌≢◌, ◌≤◌, ◌<◌, ◌^◌, ◌≤ℤ◌, Some, None, option_map, IsSome, OnOk, IfOk, IfErr};
 ghost use Rattle.line_tokens.specs.Seen.{seen};
 ghost use Rattle.line_tokens.specs.Token.{token_of};
@@ -12,7 +12,7 @@ use line_tokens::{Token, next_token};
 use query_replies::LineFault;
 use std::alloc::Global;
 
-/// The next token, where there is one, and the text behind it. It refuses for want of memory alone.
+/// Returns the next token and the text after it, or `None` if there is none. Refuses only if memory runs out.
 pub(crate) fn token(alloc: Global, text: &str) -> Result<Option<(Token<'_>, &str)>, LineFault>
     ensures token { IfOk result (λ found. option_map (λ f. (seen f.0, f.1.now)) found ≡ token_of text.now) }
     ensures memory { IfErr result (λ fault. fault ≡ LineFault.Memory) }
@@ -20,7 +20,7 @@ pub(crate) fn token(alloc: Global, text: &str) -> Result<Option<(Token<'_>, &str
     next_token(alloc, text).map_err(|_| LineFault::Memory)
 }
 
-/// The next token and the text behind it; `Missing` where the line ends.
+/// Returns the next token and the text after it, or refuses with `Missing` if the line ends.
 pub(crate) fn next(alloc: Global, text: &str) -> Result<(Token<'_>, &str), LineFault>
     ensures token { IfOk result (λ found. token_of text.now ≡ Some (seen found.0, found.1.now)) }
     ensures missing { IfErr result (λ fault. fault ≢ LineFault.Memory → (fault ≡ LineFault.Missing) × (token_of text.now ≡ None)) }
@@ -28,7 +28,7 @@ pub(crate) fn next(alloc: Global, text: &str) -> Result<(Token<'_>, &str), LineF
     token(alloc, text)?.ok_or(LineFault::Missing)
 }
 
-/// Degrees in units of 10^-7, from `low` to `high`.
+/// Returns degrees in units of 10^-7, from `low` to `high`, and the text after them.
 pub(crate) fn degrees_part(
     alloc: Global,
     low: i64,
@@ -43,7 +43,7 @@ pub(crate) fn degrees_part(
     Ok((value, text))
 }
 
-/// A whole number from `low` to `high`.
+/// Returns a whole number from `low` to `high`, and the text after it.
 pub(crate) fn whole_part(
     alloc: Global,
     low: u16,
@@ -58,7 +58,7 @@ pub(crate) fn whole_part(
     Ok((number, text))
 }
 
-/// The end of the line.
+/// Accepts the end of the line, and refuses with `Extra` if there is another token.
 pub(crate) fn end(alloc: Global, text: &str) -> Result<(), LineFault>
     ensures ended { OnOk result (token_of text.now ≡ None) }
     ensures extra { IfErr result (λ fault. fault ≢ LineFault.Memory → (fault ≡ LineFault.Extra) × IsSome (token_of text.now)) }

@@ -1,6 +1,6 @@
-//! Queries.
+//! Reads a query after its command.
 ghost use Rattle.std.specs.Prelude.{◌≡◌, ◌≤ℤ◌, Ok, IfOk, pos, neg_ℤ};
-ghost use Rattle.place_map.specs.Query.{IsWithinLimits};
+ghost use Rattle.place_values.specs.Query.{IsWithinLimits};
 ghost use Rattle.query_lang.specs.Line as spec;
 ghost use Rattle.query_lang.specs.Line.{range_query, box_query, nearest_query, top_query, group_query, query_by};
 ghost use Rattle.query_lang.specs.Plain.{plain_query};
@@ -11,7 +11,7 @@ use crate::expression::filter;
 use crate::kind::is_word;
 use crate::part::{degrees_part, next, whole_part};
 use crate::word::{terms, words};
-use place_map::{Query, Terms, Weights};
+use place_values::{Query, Terms, Weights};
 use query_replies::LineFault;
 use spatial_base::{Point, Rect};
 use std::alloc::Global;
@@ -25,7 +25,7 @@ const LATITUDE_MAX: i64 = 900_000_000;
 /// The greatest radius, in units of 10^-7 degrees.
 const RADIUS_MAX: i64 = 1_000_000_000_000;
 
-/// The greatest reach, in units of 10^-7 degrees: as far as two points can be apart.
+/// The greatest reach, in units of 10^-7 degrees: the greatest distance between two points.
 const REACH_MAX: i64 = 4_024_922_359;
 
 // The point at a longitude and a latitude.
@@ -39,7 +39,7 @@ fn point_at(x: i64, y: i64) -> Result<Point, LineFault>
     Point::new(x as i32, y as i32).ok_or(LineFault::Range)
 }
 
-/// LON LAT, and the text behind them.
+/// Returns the point of LON LAT, and the text after them.
 #[tactic(auto, unfolding(crate::specs::Line::point_part))]
 pub(crate) fn point_part(alloc: Global, text: &str) -> Result<(Point, &str), LineFault>
     ensures { Answers (λ got. (got.0, got.1.now)) result (spec.point_part text.now) }
@@ -50,7 +50,7 @@ pub(crate) fn point_part(alloc: Global, text: &str) -> Result<(Point, &str), Lin
     Ok((point, text))
 }
 
-// LON LAT R, and a filter or none.
+// LON LAT R, and an optional filter.
 #[tactic(auto, unfolding(crate::specs::Line::range_query))]
 fn range(alloc: Global, text: &str) -> Result<Query, LineFault>
     ensures says { Answers plain_query result (range_query text.now) }
@@ -69,7 +69,7 @@ fn range(alloc: Global, text: &str) -> Result<Query, LineFault>
     })
 }
 
-// The rectangle between two points.
+// The rectangle between two opposite corners.
 fn rect_between(corner: &Point, other: &Point) -> Result<Rect, LineFault>
     requires across { corner.now.x ≤ℤ other.now.x }
     requires up { corner.now.y ≤ℤ other.now.y }
@@ -94,7 +94,7 @@ fn rect_at(west: i64, south: i64, east: i64, north: i64) -> Result<Rect, LineFau
     rect_between(&corner, &other)
 }
 
-// W S E N, and the text behind them.
+// The rectangle of W S E N, and the text after them.
 #[tactic(auto, unfolding(crate::specs::Line::rect_part))]
 fn rect_part(alloc: Global, text: &str) -> Result<(Rect, &str), LineFault>
     ensures { Answers (λ got. (got.0, got.1.now)) result (spec.rect_part text.now) }
@@ -107,7 +107,7 @@ fn rect_part(alloc: Global, text: &str) -> Result<(Rect, &str), LineFault>
     Ok((rect, text))
 }
 
-// W S E N, and a filter or none.
+// W S E N, and an optional filter.
 #[tactic(auto, unfolding(crate::specs::Line::box_query))]
 fn inside(alloc: Global, text: &str) -> Result<Query, LineFault>
     ensures says { Answers plain_query result (box_query text.now) }
@@ -121,7 +121,7 @@ fn inside(alloc: Global, text: &str) -> Result<Query, LineFault>
     Ok(Query::Inside { rect, filter })
 }
 
-// LON LAT K, and a filter or none.
+// LON LAT K, and an optional filter.
 #[tactic(auto, unfolding(crate::specs::Line::nearest_query))]
 fn nearest(alloc: Global, text: &str) -> Result<Query, LineFault>
     ensures says { Answers plain_query result (nearest_query text.now) }
@@ -136,7 +136,7 @@ fn nearest(alloc: Global, text: &str) -> Result<Query, LineFault>
     Ok(Query::Nearest { at, k, filter })
 }
 
-// The text behind `words`.
+// The text after `words`.
 fn behind_words(alloc: Global, text: &str) -> Result<&str, LineFault>
     ensures { Answers (λ rest. (tt {0}, rest.now)) result (part spec.words_sign text.now) }
 {
@@ -148,7 +148,7 @@ fn behind_words(alloc: Global, text: &str) -> Result<&str, LineFault>
     }
 }
 
-// LON LAT K ALPHA REACH words, and the words with their weights.
+// LON LAT K ALPHA REACH `words`, and the words with their weights.
 #[tactic(auto, unfolding(crate::specs::Line::top_query))]
 fn top(alloc: Global, text: &str) -> Result<Query, LineFault>
     ensures says { Answers plain_query result (top_query text.now) }
@@ -172,7 +172,7 @@ fn top(alloc: Global, text: &str) -> Result<Query, LineFault>
     })
 }
 
-// LON LAT words, and the words.
+// LON LAT `words`, and the words.
 #[tactic(auto, unfolding(crate::specs::Line::group_query))]
 fn group(alloc: Global, text: &str) -> Result<Query, LineFault>
     ensures says { Answers plain_query result (group_query text.now) }
@@ -190,7 +190,7 @@ fn group(alloc: Global, text: &str) -> Result<Query, LineFault>
     })
 }
 
-/// The query behind its command.
+/// Returns the query after its command.
 pub(crate) fn query(alloc: Global, asked: Asked, text: &str) -> Result<Query, LineFault>
     ensures says { Answers plain_query result (query_by asked text.now) }
     ensures sound { IfOk result IsWithinLimits }

@@ -1,7 +1,7 @@
-//! Words.
+//! Reads the words of group and top queries.
 ghost use Rattle.std.specs.Prelude.{◌≡◌, ◌<◌, ◌+◌, ◌++◌, ◌∷◌, [], length, take, drop, slice_index, option_map, IfSome, IfOk, IfErr};
 ghost use Rattle.line_tokens.specs.Seen.{seen};
-ghost use Rattle.place_map.specs.Query.{IsTerms, IsWeights};
+ghost use Rattle.place_values.specs.Query.{IsTerms, IsWeights};
 ghost use Rattle.query_lang.specs.Reader.{Answers};
 ghost use Rattle.query_lang.specs.Word as spec;
 ghost use Rattle.query_lang.specs.Word.{word_of, term_of, at_star, some_words};
@@ -20,14 +20,14 @@ fn is_among(words: &[Word], word: &Word) -> bool
     words.contains(word)
 }
 
-// Whether a word is among those of terms.
+// Whether a word is among the words of these terms.
 fn is_term(terms: &[(Word, u8)], word: &Word) -> bool
     ensures { result ≡ spec.is_term terms.now word.now }
 {
     terms.iter().any(|term| term.0 == *word)
 }
 
-// The one word of a text that is none of these.
+// The one word of a text, which must differ from all of these.
 fn new_word(alloc: Global, text: &str, named: &[Word]) -> Result<Word, LineFault>
     ensures { Answers (λ w. w) result (spec.word_in (spec.is_among named.now) text.now) }
 {
@@ -43,7 +43,7 @@ fn new_word(alloc: Global, text: &str, named: &[Word]) -> Result<Word, LineFault
     Ok(word)
 }
 
-// The one word of a text that is none of these terms'.
+// The one word of a text, which must differ from the words of these terms.
 fn new_term(alloc: Global, text: &str, named: &[(Word, u8)]) -> Result<Word, LineFault>
     ensures { Answers (λ w. w) result (spec.word_in (spec.is_term named.now) text.now) }
 {
@@ -70,7 +70,7 @@ fn word(alloc: Global, token: &Token, named: &[Word]) -> Result<Word, LineFault>
     }
 }
 
-// Where the last `*` stands.
+// The offset of the last `*`.
 fn star(text: &[u8]) -> Option<usize>
     ensures within { IfSome result (λ at. (at < length text.now) × (slice_index text.now at ≡ 42)) }
     ensures parts { option_map (λ at. (take at text.now, drop (at + 1) text.now)) result ≡ at_star text.now }
@@ -118,7 +118,7 @@ fn term(alloc: Global, token: &Token, named: &[(Word, u8)]) -> Result<(Word, u8)
     }
 }
 
-// The items with one more behind them.
+// The items with one more at the end.
 fn pushed<T: Drop>(mut items: Vec<T>, item: T) -> Result<Vec<T>, LineFault>
     ensures items { IfOk result (λ more. more.items ≡ items.items ++ item ∷ []) }
     ensures memory { IfErr result (λ fault. fault ≡ LineFault.Memory) }
@@ -127,7 +127,7 @@ fn pushed<T: Drop>(mut items: Vec<T>, item: T) -> Result<Vec<T>, LineFault>
     Ok(items)
 }
 
-// These words and those that follow up to the end of the line, at most so many.
+// These words and those that follow up to the end of the line, at most `left` more.
 #[cycle(words)]
 fn more_words(alloc: Global, left: u8, words: Vec<Word>, text: &str) -> Result<Vec<Word>, LineFault>
     ensures { Answers (λ words. words.items) result (spec.more_words word_of left words.items text.now) }
@@ -145,7 +145,7 @@ fn more_words(alloc: Global, left: u8, words: Vec<Word>, text: &str) -> Result<V
     next_word(alloc, left - 1, words, &token, rest)
 }
 
-// These words, the one that a token names, and at most so many more.
+// These words, the one that a token names, and at most `left` more.
 #[cycle(words)]
 fn next_word(
     alloc: Global,
@@ -165,7 +165,7 @@ fn next_word(
     more_words(alloc, left, words, text)
 }
 
-/// The 1 to 8 words of a group query, up to the end of the line.
+/// Returns the 1 to 8 words of a group query, up to the end of the line.
 pub(crate) fn words(alloc: Global, text: &str) -> Result<Vec<Word>, LineFault>
     ensures says { Answers (λ words. words.items) result (some_words word_of text.now) }
     ensures sound { IfOk result (λ words. IsTerms words.items) }
@@ -176,7 +176,7 @@ pub(crate) fn words(alloc: Global, text: &str) -> Result<Vec<Word>, LineFault>
     more_words(alloc, 7, words, text)
 }
 
-// These terms and those that follow up to the end of the line, at most so many.
+// These terms and those that follow up to the end of the line, at most `left` more.
 #[cycle(terms)]
 fn more_terms(
     alloc: Global,
@@ -199,7 +199,7 @@ fn more_terms(
     next_term(alloc, left - 1, terms, &token, rest)
 }
 
-// These terms, the one that a token names, and at most so many more.
+// These terms, the one that a token names, and at most `left` more.
 #[cycle(terms)]
 fn next_term(
     alloc: Global,
@@ -219,7 +219,7 @@ fn next_term(
     more_terms(alloc, left, terms, text)
 }
 
-/// The 1 to 8 words of a top query with their weights, up to the end of the line.
+/// Returns the 1 to 8 words of a top query with their weights, up to the end of the line.
 pub(crate) fn terms(alloc: Global, text: &str) -> Result<Vec<(Word, u8)>, LineFault>
     ensures says { Answers (λ terms. terms.items) result (some_words term_of text.now) }
     ensures sound { IfOk result (λ terms. IsWeights terms.items) }

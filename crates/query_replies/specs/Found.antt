@@ -1,14 +1,14 @@
 -- How answers are written.
 use Rattle.std.specs.Prelude.{ℕ, ◌*◌, Bool, if◌then◌else◌, List, [], ◌∷◌, ◌++◌, length, decimal, codes, Option, Some, None}
 use Rattle.json.specs.Print.{quoted}
-use Rattle.place_map.specs.declared.hit.Hit.{Hit}
-use Rattle.place_map.specs.declared.query.Query.{Query}
-use Rattle.place_map.specs.declared.query.Query.TheVariants as queries
-use Rattle.place_map.specs.declared.query.Pick.{Pick}
-use Rattle.place_map.specs.declared.query.Chosen.{Chosen}
-use Rattle.place_map.specs.declared.query.Answer.{Answer}
-use Rattle.place_map.specs.declared.query.Answer.TheVariants.{Hits, Group}
-use Rattle.place_map.specs.Top.{weight_sum}
+use Rattle.place_values.specs.declared.hit.Hit.{Hit}
+use Rattle.place_values.specs.declared.query.Query.{Query}
+use Rattle.place_values.specs.declared.query.Query.TheVariants as queries
+use Rattle.place_values.specs.declared.query.Pick.{Pick}
+use Rattle.place_values.specs.declared.query.Chosen.{Chosen}
+use Rattle.place_values.specs.declared.query.Answer.{Answer}
+use Rattle.place_values.specs.declared.query.Answer.TheVariants.{Hits, Group}
+use Rattle.place_values.specs.Top.{weight_sum}
 use Rattle.query_replies.specs.Parts.{key_text, units_text, at_text}
 use Rattle.query_replies.specs.Lines.{ranked_lines}
 use Rattle.query_replies.specs.declared.found.Column.{Column}

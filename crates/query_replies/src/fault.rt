@@ -5,31 +5,31 @@ ghost use Rattle.query_replies.specs.Fault.{reason_text};
 /// Why a line is refused.
 #[derive(Clone, Copy, Debug, PartialEq, Eq)]
 pub enum LineFault {
-    /// The line isn't UTF-8.
+    /// The line is not UTF-8.
     Utf8 = 1,
     /// The line has more than 65,536 bytes.
     Length = 2,
-    /// No command stands where one has to.
+    /// There is no command at a place that needs one.
     Command = 3,
-    /// The line ends where more has to come.
+    /// The line ends too early.
     Missing = 4,
-    /// No number stands where one has to.
+    /// There is no number at a place that needs one.
     Number = 5,
     /// The number is out of its range.
     Range = 6,
-    /// No key stands where one has to.
+    /// There is no key at a place that needs one.
     Key = 7,
-    /// No word stands where one has to, or one that was named before.
+    /// There is no word at a place that needs one, or the word was already given.
     Word = 8,
-    /// No part of an expression stands where one has to, or the expression is too deep or has too many words.
+    /// There is no part of an expression at a place that needs one, or the expression is too deep or has too many words.
     Expression = 9,
-    /// The line goes on where it has to end.
+    /// The line has more after it is complete.
     Extra = 10,
-    /// Want of memory.
+    /// Memory ran out.
     Memory,
 }
 
-/// The word that names a reason.
+/// Returns the word that a refusal is reported with.
 pub(crate) fn reason(fault: LineFault) -> &'static [u8]
     requires { fault ≢ LineFault.Memory }
     ensures { result.now ≡ reason_text fault }

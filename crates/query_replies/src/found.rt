@@ -1,6 +1,6 @@
-//! Answers, appended to bytes.
+//! Writes answers, appended to bytes.
 ghost use Rattle.std.specs.Prelude.{◌≡◌, ◌*◌};
-ghost use Rattle.place_map.specs.Top.{weight_sum};
+ghost use Rattle.place_values.specs.Top.{weight_sum};
 ghost use Rattle.query_replies.specs.Found.{column_of, number_text, score_text, reason_text, hit_text, pick_text, hits_text, group_text, found_text};
 ghost use Rattle.query_replies.specs.Written.{Adds};
 
@@ -8,23 +8,23 @@ use crate::lines::{write_hits, write_picks};
 use crate::parts::{
     write_at, write_bytes, write_key, write_literal, write_number, write_units, write_wide,
 };
-use place_map::{Answer, Chosen, Hit, Pick, Query};
+use place_values::{Answer, Chosen, Hit, Pick, Query};
 use spatial_base::Memory;
 use std::alloc::Global;
 use term_impacts::Word;
 
-/// What stands behind the key in the line of a hit.
+/// What comes after the key in the line of a hit.
 #[derive(Clone, Copy)]
 pub(crate) enum Column {
     /// Nothing.
     Key,
     /// The distance.
     Dist,
-    /// The cost, where the words count for so much at most.
+    /// The cost, with the most that the words can count.
     Cost(u128),
 }
 
-// What words count for at most: each its weight times an impact of 255.
+// The most that words can count: the sum of each weight times an impact of 255.
 fn most_text(words: &[(Word, u8)]) -> u128
     ensures { result ≡ 255 * weight_sum words.now }
 {
@@ -35,7 +35,7 @@ fn most_text(words: &[(Word, u8)]) -> u128
     255 * sum
 }
 
-// What stands in the line of a hit of a query, where the query finds hits.
+// What the line of a hit of this query has, or `None` if the query does not find hits.
 fn column_for(query: &Query) -> Option<Column>
     ensures { result ≡ column_of query.now }
 {
@@ -47,7 +47,7 @@ fn column_for(query: &Query) -> Option<Column>
     }
 }
 
-// Appends the number behind the key of a hit.
+// Appends the number after the key of a hit.
 fn write_column(column: Column, hit: &Hit, out: &mut Vec<u8>) -> Result<(), Memory>
     ensures { Adds result out.old.items (number_text column hit.now) out.new.items }
 {
@@ -64,7 +64,7 @@ fn write_column(column: Column, hit: &Hit, out: &mut Vec<u8>) -> Result<(), Memo
     }
 }
 
-// Appends how the cost of a hit came about.
+// Appends how the cost of a hit is made up.
 fn write_score(total: u128, hit: &Hit, out: &mut Vec<u8>) -> Result<(), Memory>
     ensures { Adds result out.old.items (score_text total hit.now) out.new.items }
 {
@@ -76,7 +76,7 @@ fn write_score(total: u128, hit: &Hit, out: &mut Vec<u8>) -> Result<(), Memory>
     write_wide(total, out)
 }
 
-// Appends how the cost of a hit came about, where it was asked for.
+// Appends how the cost of a hit is made up, if `explain` is set.
 fn write_reason(explain: bool, column: Column, hit: &Hit, out: &mut Vec<u8>) -> Result<(), Memory>
     ensures { Adds result out.old.items (reason_text explain column hit.now) out.new.items }
 {
@@ -86,7 +86,7 @@ fn write_reason(explain: bool, column: Column, hit: &Hit, out: &mut Vec<u8>) -> 
     }
 }
 
-/// Appends what the line of a hit says behind its rank.
+/// Appends what the line of a hit has after its rank.
 pub(crate) fn write_hit(
     alloc: Global,
     explain: bool,
@@ -102,7 +102,7 @@ pub(crate) fn write_hit(
     write_reason(explain, column, hit, out)
 }
 
-/// Appends what the line of a pick says behind its rank.
+/// Appends what the line of a pick has after its rank.
 pub(crate) fn write_pick(
     alloc: Global,
     explain: bool,
@@ -119,7 +119,7 @@ pub(crate) fn write_pick(
     write_at(explain, &pick.point, out)
 }
 
-// Appends how many hits there are, and a line for each.
+// Appends the number of hits, and a line for each.
 fn write_hits_found(
     alloc: Global,
     explain: bool,
@@ -156,7 +156,7 @@ fn write_chosen(
     write_picks(alloc, explain, picks, out)
 }
 
-/// Appends an answer to a query. One to a query of another kind has no byte.
+/// Appends the answer to a query. If the answer is not of the query's kind, it appends nothing.
 pub(crate) fn write_found(
     alloc: Global,
     explain: bool,

@@ -1,4 +1,4 @@
-//! Lines with ranks, appended to bytes.
+//! Writes the numbered lines of a reply, appended to bytes.
 ghost use Rattle.std.specs.Prelude.{flat_map};
 ghost use Rattle.query_replies.specs.Found.{hit_text, pick_text};
 ghost use Rattle.query_replies.specs.Lines.{ranked_line, ranked_lines};
@@ -7,7 +7,7 @@ ghost use Rattle.query_replies.specs.Written.{Adds};
 
 use crate::found::{Column, write_hit, write_pick};
 use crate::parts::{write_bytes, write_literal, write_number};
-use place_map::{Hit, Pick};
+use place_values::{Hit, Pick};
 use spatial_base::Memory;
 use std::alloc::Global;
 use term_impacts::Word;

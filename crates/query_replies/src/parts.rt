@@ -1,4 +1,4 @@
-//! The parts of replies, appended to bytes.
+//! Writes the parts of replies, appended to bytes.
 ghost use Rattle.std.specs.Prelude.{◌≡◌, decimal, IfOk};
 ghost use Rattle.json.specs.Print.{quoted};
 ghost use Rattle.fixed_coords.specs.Degrees.{fixed_text};
@@ -33,7 +33,7 @@ pub(crate) fn write_wide(n: u128, out: &mut Vec<u8>) -> Result<(), Memory>
     write_bytes(buffer.format(n).as_bytes(), out)
 }
 
-// Appends units of 10^-7 degrees as degrees.
+// Appends units of 10^-7 degrees, written as degrees.
 fn write_degrees(units: i64, out: &mut Vec<u8>) -> Result<(), Memory>
     ensures { Adds result out.old.items (fixed_text units) out.new.items }
 {
@@ -42,7 +42,7 @@ fn write_degrees(units: i64, out: &mut Vec<u8>) -> Result<(), Memory>
     write_bytes(&text[..len], out)
 }
 
-/// Appends units of 10^-7 degrees as degrees, at most 2^63 - 1 of them.
+/// Appends units of 10^-7 degrees, written as degrees. There are at most 2^63 - 1 of them.
 pub(crate) fn write_units(units: u64, out: &mut Vec<u8>) -> Result<(), Memory>
     ensures { Adds result out.old.items (units_text units) out.new.items }
 {
@@ -85,7 +85,7 @@ pub(crate) fn write_point(point: &Point, out: &mut Vec<u8>) -> Result<(), Memory
     write_degrees(i64::from(point.y()), out)
 }
 
-/// Appends where a place is, where it was asked for.
+/// Appends the position of a place, if `explain` is set.
 pub(crate) fn write_at(explain: bool, point: &Point, out: &mut Vec<u8>) -> Result<(), Memory>
     ensures { Adds result out.old.items (at_text explain point.now) out.new.items }
 {

@@ -7,15 +7,15 @@ use crate::fault::{LineFault, reason};
 use crate::found::write_found;
 use crate::lines::write_words;
 use crate::parts::{write_bytes, write_key, write_number, write_point};
-use place_map::{Answer, Query};
+use place_values::{Answer, Query};
 use spatial_base::{Key, Memory, Point};
 use std::alloc::Global;
 use term_impacts::Words;
 
-/// What an accepted update is answered.
+/// The result of an accepted update.
 #[derive(Clone, Copy, Debug, PartialEq, Eq)]
 pub enum UpdateDone {
-    /// The map has changed: a new place, or one taken out.
+    /// The map changed: a place was added or removed.
     Ok,
     /// A place was put at a key that had one.
     Replaced,
@@ -23,16 +23,16 @@ pub enum UpdateDone {
     Absent,
 }
 
-/// What a line is answered.
+/// The reply to a line.
 #[derive(Drop)]
 pub enum Reply {
-    /// No byte.
+    /// No bytes.
     Nothing,
     /// An update was accepted.
     Applied(UpdateDone),
-    /// 200,000 places live, and the key is new.
+    /// 200,000 or more places are live, and the key is new.
     Full,
-    /// The update number is 2^40.
+    /// The update number is 2^40, and the update would change the map.
     Worn,
     /// The line is refused.
     Bad(LineFault),
@@ -42,27 +42,29 @@ pub enum Reply {
         answer: Answer,
         /// The query.
         query: Query,
-        /// Whether each line says where the place is, and in a top query how its cost came about.
+        /// Whether each line has the place's position, and in a top query how its cost is made up.
         explain: bool,
     },
-    /// A place that was asked for.
+    /// The place at the key of a `show`.
     Place {
         /// Its key.
         key: Key,
-        /// Where it is.
+        /// Its position.
         point: Point,
         /// The impacts of its words.
         words: Words,
     },
-    /// There is no place at the key that was asked for.
+    /// There is no place at the key of a `show`.
     Absent,
-    /// How many places live.
+    /// How many places are live.
     Count(u32),
 }
 
-/// Appends the text of a reply: whole lines that end with LF. A refusal that it says is none for want of memory.
+/// Appends the text of a reply: whole lines that end with LF.
 ///
-/// An answer to a query of another kind has no byte. Refuses `Memory` alone, and then `out` holds its old bytes.
+/// An answer that is not of its query's kind gives no bytes. A `Bad` reply may have any reason except `Memory`.
+///
+/// Refuses only with `Memory`, and then `out` holds its old bytes.
 pub fn reply_text(alloc: Global, reply: &Reply, out: &mut Vec<u8>) -> Result<(), Memory>
     requires { HasReason reply.now }
     ensures ok { OnOk result (out.new.items ≡ out.old.items ++ text_of_reply reply.now) }
@@ -76,7 +78,7 @@ pub fn reply_text(alloc: Global, reply: &Reply, out: &mut Vec<u8>) -> Result<(),
     written
 }
 
-// Appends what an update is answered.
+// Appends the result of an update.
 fn write_done(done: UpdateDone, out: &mut Vec<u8>) -> Result<(), Memory>
     ensures { Adds result out.old.items (done_text done) out.new.items }
 {
@@ -87,7 +89,7 @@ fn write_done(done: UpdateDone, out: &mut Vec<u8>) -> Result<(), Memory>
     }
 }
 
-// Appends how many words there are, and a line for each.
+// Appends the number of words, and a line for each.
 fn write_impacts(alloc: Global, words: &Words, out: &mut Vec<u8>) -> Result<(), Memory>
     ensures { Adds result out.old.items (impacts_text words.now) out.new.items }
 {
@@ -115,7 +117,7 @@ fn write_place(
     write_impacts(alloc, words, out)
 }
 
-// Appends the text of a reply, or after want of memory a part of it.
+// Appends the text of a reply, or part of it if memory runs out.
 #[tactic(auto, unfolding(crate::specs::Reply::text_of_reply))]
 fn write_reply(alloc: Global, reply: &Reply, out: &mut Vec<u8>) -> Result<(), Memory>
     requires { HasReason reply.now }

@@ -1,10 +1,10 @@
-//! Which nodes a query calls for, by what goes round the places below each.
+//! Which nodes a query needs, judged by what bounds the places below each.
 use crate::tree_nodes::{Node, Round};
-use place_map::{Expr, Hit, Query};
+use place_values::{Expr, Hit, Query};
 use spatial_base::{Point, Rect, dist};
 use term_impacts::Word;
 
-// What goes round the places below a node may pass a filter: a word that one of them has may lack in another.
+// Whether places with these bounds could pass a filter. A word that one of them has may be absent from another.
 fn may_meet(round: &Round, filter: &Expr) -> bool {
     match filter {
         Expr::Has(word) => round.impact(word) > 0,
@@ -39,8 +39,8 @@ fn meet(one: &Rect, other: &Rect) -> bool {
         && other.south() <= one.north()
 }
 
-// The cost by a top query's numbers of a place that is so far away and has each of its words with the greatest impact; `None` where no
-// place has one of them.
+// The least cost, by a top query's numbers, of a place at this distance that has each of its words with the greatest impact. `None` if
+// no place has one of them.
 fn least_cost(
     round: &Round,
     words: &[(Word, u8)],
@@ -66,7 +66,7 @@ fn least_cost(
     Some(by_distance.saturating_add(by_words))
 }
 
-// Whether the last of the hits costs no less than this.
+// Whether the last of the hits costs at least this much.
 fn is_up_to_last(cost: u64, hits: &[Hit]) -> bool {
     match hits.last() {
         Some(hit) => cost <= hit.cost,
@@ -74,7 +74,7 @@ fn is_up_to_last(cost: u64, hits: &[Hit]) -> bool {
     }
 }
 
-// Whether one of the places has one of the words.
+// Whether at least one of the places has one of the words.
 fn has_some(round: &Round, words: &[Word]) -> bool {
     for word in words {
         if round.impact(word) > 0 {
@@ -84,7 +84,7 @@ fn has_some(round: &Round, words: &[Word]) -> bool {
     false
 }
 
-// Whether a query with these hits calls for a node that isn't the root.
+// Whether a query with these hits needs a node that is not the root.
 fn calls_for(query: &Query, hits: &[Hit], round: &Round) -> bool {
     match query {
         Query::Range { at, radius, filter } => {
@@ -112,7 +112,7 @@ fn calls_for(query: &Query, hits: &[Hit], round: &Round) -> bool {
     }
 }
 
-/// Whether a node of a log is one that the query calls for, below one that was asked for. Range, box and group queries open the root
+/// Whether a node of a log is one that the query needs, and its parent is in the log. Range, box and group queries open the root
 /// whatever is below it.
 pub(crate) fn is_due(query: &Query, hits: &[Hit], log: &[u32], node: &Node) -> bool {
     if node.parent == 0 {

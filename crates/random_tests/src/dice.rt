@@ -1,4 +1,4 @@
-//! Numbers from a seed, and the points, words and queries that are made of them.
+//! Numbers from a seed, and the points, words and queries that are made from them.
 ghost use Rattle.std.specs.Prelude.{◌<◌};
 
 use std::alloc::{AllocError, Global};
@@ -12,7 +12,7 @@ static SHARES: [&str; 4] = [" 0", " 300", " 500", " 1000"];
 
 static REACHES: [&str; 4] = [" 0.0000001", " 1", " 50", " 402.4922359"];
 
-// Filters: what stands before each of their words, and behind the last.
+// Filters: the text before each of their words, and the text after the last.
 static FILTERS: [(&[&str], &str); 6] = [
     (&[" where "], ""),
     (&[" where not "], ""),
@@ -22,7 +22,7 @@ static FILTERS: [(&[&str], &str); 6] = [
     (&[" where not (", " and ", ") or "], ""),
 ];
 
-/// Where places stand: in clusters, on borders and anywhere; on a line from border to border; at one point; or in two clusters at
+/// Where places are: in clusters, on borders and anywhere; on a line from border to border; at one point; or in two clusters at
 /// opposite corners.
 #[derive(Clone, Copy)]
 pub(crate) enum Ground {
@@ -32,14 +32,14 @@ pub(crate) enum Ground {
     Ends,
 }
 
-/// Numbers that follow from a seed, by a linear congruence.
+/// Numbers that follow from a seed by a linear congruential generator.
 #[derive(Drop)]
 pub(crate) struct Dice {
     pub(crate) seed: u64,
 }
 
 impl Dice {
-    /// The next number below this one.
+    /// Returns the next number, below `most`.
     pub(crate) fn below(&mut self, most: u32) -> u32
         requires { 0 < most }
         ensures { result < most }
@@ -49,7 +49,7 @@ impl Dice {
         ((self.seed >> 33) as u32) % most
     }
 
-    // A word's number below 40; a lesser one comes more often.
+    // A word's number below 40. Lesser numbers come more often.
     fn word(&mut self) -> u32
         ensures { result < 40 }
     {
@@ -57,8 +57,8 @@ impl Dice {
         first.min(self.below(40))
     }
 
-    // A point, in thousandths of a degree from the map's south-west corner: a corner, a point of a border, one point among many, any
-    // point, or one in one of twelve clusters.
+    // A point in thousandths of a degree from the map's south-west corner: a corner, a point on a border, one fixed point, any point,
+    // or one in one of twelve clusters.
     pub(crate) fn point(&mut self) -> (u32, u32) {
         match self.below(20) {
             0 => (360_000 * self.below(2), 180_000 * self.below(2)),
@@ -76,7 +76,7 @@ impl Dice {
         }
     }
 
-    // A point of such a ground, in the same units.
+    // A point on this ground, in the same units.
     pub(crate) fn point_on(&mut self, ground: Ground) -> (u32, u32) {
         match ground {
             Ground::Clusters => self.point(),
@@ -93,7 +93,7 @@ impl Dice {
         }
     }
 
-    // A point that is asked for: one of the ground, or anywhere.
+    // A point for a query: one on the ground, or anywhere.
     fn asked(&mut self, ground: Ground) -> (u32, u32) {
         if self.below(2) == 0 {
             self.point_on(ground)
@@ -103,14 +103,14 @@ impl Dice {
     }
 }
 
-// Writes degrees: so many thousandths, from this many below 0.
+// Writes degrees, given as thousandths counted from `below` degrees under 0.
 fn write_degrees(line: &mut String, number: u32, below: u32) -> Result<(), AllocError> {
     let sign = if number < below { "-" } else { "" };
     let size = number.abs_diff(below);
     write!(line, " {sign}{}.{:03}", size / 1_000, size % 1_000)
 }
 
-/// Writes the degrees of a point, and this between them.
+/// Writes the degrees of a point, with a separator between them.
 pub(crate) fn write_point(
     line: &mut String,
     point: (u32, u32),
@@ -121,7 +121,7 @@ pub(crate) fn write_point(
     write_degrees(line, point.1, 90_000)
 }
 
-// Writes the word of a number behind this.
+// Writes `before` and the word with this number.
 fn write_word(line: &mut String, before: &str, number: u32) -> Result<(), AllocError> {
     write!(line, "{before}w{number:02}")
 }
@@ -145,20 +145,20 @@ fn write_filter(line: &mut String, dice: &mut Dice) -> Result<(), AllocError> {
     line.push_str(behind)
 }
 
-// Writes two words that are asked for, and this behind the first.
+// Writes two words for a query, with `between` after the first.
 fn write_pair(line: &mut String, one: u32, between: &str, other: u32) -> Result<(), AllocError> {
     write_word(line, " words ", one)?;
     line.push_str(between)?;
     write_word(line, " ", other)
 }
 
-// Writes a box with these two points at opposite corners.
+// Writes a box that has these two points at opposite corners.
 fn write_box(line: &mut String, first: (u32, u32), second: (u32, u32)) -> Result<(), AllocError> {
     write_point(line, (first.0.min(second.0), first.1.min(second.1)), "")?;
     write_point(line, (first.0.max(second.0), first.1.max(second.1)), "")
 }
 
-// Writes what a top query asks for behind its point: an even and an odd word, of which a store may know none.
+// Writes what a top query has after its point. Its words are an even and an odd one, and a store may have neither.
 fn write_ranking(line: &mut String, dice: &mut Dice) -> Result<(), AllocError> {
     line.push_str(COUNTS[dice.below(8) as usize])?;
     line.push_str(SHARES[dice.below(4) as usize])?;
@@ -166,7 +166,7 @@ fn write_ranking(line: &mut String, dice: &mut Dice) -> Result<(), AllocError> {
     write_pair(line, 2 * dice.below(22), "*3", 2 * dice.below(22) + 1)
 }
 
-// Writes a query of each kind in turn; a group query, whose cost is that of many choices, comes seldom.
+// Writes a query of each kind in turn. Group queries are rare, since each tries many choices.
 fn write_query(
     line: &mut String,
     dice: &mut Dice,
@@ -205,7 +205,7 @@ fn write_query(
     }
 }
 
-/// The query of a turn.
+/// Returns the query of a turn.
 pub(crate) fn query_line(
     alloc: Global,
     dice: &mut Dice,

@@ -1,4 +1,4 @@
-//! What scripts say to groups over small random maps, against the scan of all choices.
+//! Compares what scripts reply to group queries over small random maps with a scan of all choices.
 ghost use Rattle.std.specs.Prelude.{IfOk};
 ghost use Rattle.query_replies.specs.Reply.{HasReason};
 
@@ -13,7 +13,7 @@ use std::alloc::{AllocError, Global};
 use std::fmt::Write;
 use std::test::Fail;
 
-// How many maps are tried, how many places each has at most, or one in ten of them, and how many groups are asked for in each.
+// How many maps are tried, the most places that a map has, the same for one map in ten, and how many group queries each map gets.
 const MAPS: u32 = 2_000;
 
 const PLACES: u32 = 14;
@@ -22,10 +22,10 @@ const MORE_PLACES: u32 = 40;
 
 const GROUPS: u32 = 5;
 
-// Words that many places hold, some, and few.
+// Words, from the most common to the rarest.
 static WORDS: [&str; 6] = [" a", " b", " c", " d", " e", " f"];
 
-// A place of a map: its point on a small grid, and its words, the nth of them at bit n.
+// A place of a map: its point on a small grid, and its words as bits, bit n for the nth word.
 #[derive(Clone, Copy)]
 struct Spot {
     x: u32,
@@ -33,7 +33,7 @@ struct Spot {
     words: u32,
 }
 
-// The nth word is among the words with a chance of one in n + 2.
+// Words, of which the nth is included with a chance of one in n + 2.
 fn words_of(dice: &mut Dice) -> u32 {
     let mut words = 0;
     for n in 0..6 {
@@ -44,7 +44,7 @@ fn words_of(dice: &mut Dice) -> u32 {
     words
 }
 
-// The places of a map: on so small a grid many stand at one point.
+// The places of a map. The grid is so small that many of them are at one point.
 fn spots(alloc: Global, dice: &mut Dice) -> Result<Vec<Spot>, AllocError> {
     let mut spots = Vec::new(alloc);
     let most = match dice.below(10) {
@@ -59,7 +59,7 @@ fn spots(alloc: Global, dice: &mut Dice) -> Result<Vec<Spot>, AllocError> {
     Ok(spots)
 }
 
-// Whether one place alone has some word.
+// Whether some word is at only one place.
 fn has_lone_word(spots: &[Spot]) -> bool {
     let (mut some, mut more) = (0, 0);
     for spot in spots {
@@ -100,7 +100,7 @@ fn write_add(
     script.push_str("\n")
 }
 
-// Writes a line that asks for a group of one to four words, from a point on the grid or between its points.
+// Writes a group query for one to four words, from a point on the grid or between its points.
 fn write_group(script: &mut String, dice: &mut Dice) -> Result<(), AllocError> {
     let (x, y, part) = (dice.below(5), dice.below(4), dice.below(3));
     write!(script, "group {x}.{part} {y} words")?;
@@ -123,7 +123,7 @@ fn script_over(alloc: Global, dice: &mut Dice, spots: &[Spot]) -> Result<String,
     Ok(script)
 }
 
-// The reply to a line by the scan of a state.
+// The reply to a line by a scan of the state.
 fn scanned(alloc: Global, state: &mut State, line: &[u8]) -> Result<Reply, Fail>
     ensures { IfOk result HasReason }
 {
@@ -141,7 +141,7 @@ fn scanned(alloc: Global, state: &mut State, line: &[u8]) -> Result<Reply, Fail>
     }
 }
 
-// What a script is told by the scan.
+// What a script replies by the scan.
 fn replies_to(alloc: Global, script: &str) -> Result<Vec<u8>, Fail> {
     let mut state = State::new(alloc);
     let mut replies = Vec::new(alloc);
@@ -152,7 +152,7 @@ fn replies_to(alloc: Global, script: &str) -> Result<Vec<u8>, Fail> {
     Ok(replies)
 }
 
-// Whether a script over an empty store is told this.
+// Whether a script over an empty store replies this.
 fn is_told(alloc: Global, script: &str, wanted: &[u8]) -> Result<bool, Fail> {
     let mut station = MemoryStation::new(alloc, ROOM);
     let policy = Box::new(alloc, Quadratic::new())?;
@@ -172,7 +172,7 @@ fn groups_are_those_of_the_scan(rt: HostRuntime) -> Result<(), Fail> {
         let wanted = replies_to(rt.alloc(), script.as_str())?;
         assert!(rt; is_told(rt.alloc(), script.as_str(), &wanted)?, "{script}");
     }
-    // The maps are of both kinds.
+    // More than a quarter of the maps are of each kind.
     assert!(rt; lone > MAPS / 4 && tied > MAPS / 4);
     Ok(())
 }

@@ -1,4 +1,5 @@
-//! Tests over random maps: what groups cost, what queries of each kind answer, and which pages they read, beside a scan of all places.
+//! Tests over random maps: the cost of groups, the answers to queries of each kind, and the pages they read, compared with a scan of
+//! all places.
 #![tactic(auto)]
 
 #[cfg(test)]

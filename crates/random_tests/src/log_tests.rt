@@ -1,5 +1,7 @@
-//! Which pages queries over random maps read: each node is one that the query calls for, by what goes round the places below it. Each
-//! answer is that of a scan of all places.
+//! Tests which nodes queries over random maps read, and their answers.
+//!
+//! Each node that is read is one that the query needs, judged by what bounds the places below it. Each answer is that of a scan of all
+//! places.
 ghost use Rattle.std.specs.Prelude.{◌≡◌};
 
 use crate::calls::is_due;
@@ -8,14 +10,14 @@ use crate::maps::{Map, made};
 use crate::tree_nodes::is_of_words;
 use disk_model::MemoryStation;
 use irtree_engine::Engine;
-use place_map::{Answer, Hit, Query};
+use place_values::{Answer, Hit, Query};
 use query_lang::{Line, read_line};
 use spatial_base::Key;
 use split_policy::{Halving, Quadratic};
 use std::alloc::Global;
 use std::test::Fail;
 
-// How many queries are asked: of 17 in a row one is a group, and each other kind comes four times.
+// How many queries are run. Of 17 in a row one is a group query, and each other kind comes four times.
 const MANY: u32 = 4_250;
 
 const SOME: u32 = 425;
@@ -28,7 +30,7 @@ fn has_leaf(map: &Map, log: &[u32], key: &Key) -> bool {
     }
 }
 
-// Whether a log has the leaf of each place of an answer.
+// Whether a log has the leaf of each place in an answer.
 fn has_leaves(map: &Map, log: &[u32], answer: &Answer) -> bool {
     match answer {
         Answer::Hits(hits) => {
@@ -50,7 +52,7 @@ fn has_leaves(map: &Map, log: &[u32], answer: &Answer) -> bool {
     true
 }
 
-// Looks at each page of the log of a query.
+// Checks each page in the log of a query.
 fn check_log(map: &Map, query: &Query, answer: &Answer, log: &[u32]) -> Result<(), Fail> {
     let hits: &[Hit] = match answer {
         Answer::Hits(hits) => hits.as_slice(),
@@ -83,7 +85,7 @@ fn are_same(one: &Answer, other: &Answer) -> bool {
     }
 }
 
-// The answer to a query, which has to be that of the scan, and its log are looked at.
+// Checks the answer to a query, which must be that of the scan, and its log.
 fn look(
     alloc: Global,
     map: &Map,
@@ -106,7 +108,7 @@ fn look(
     check_log(map, &query, &answer, engine.read_log())
 }
 
-// Looks at all queries over an engine.
+// Checks all queries over an engine.
 fn look_at_all(
     alloc: Global,
     map: &Map,
@@ -121,7 +123,7 @@ fn look_at_all(
     Ok(())
 }
 
-// Looks at all queries over the store of a map.
+// Checks all queries over the store of a map.
 fn look_over(
     alloc: Global,
     map: &Map,

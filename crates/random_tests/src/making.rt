@@ -6,10 +6,10 @@ use split_policy::SplitPolicy;
 use std::alloc::Global;
 use std::test::Fail;
 
-/// The pages that a station has room for.
+/// How many pages a station has room for.
 pub(crate) const ROOM: u32 = 100_000;
 
-/// Runs an action on a text under a policy, to a good end.
+/// Runs an action on a text under a policy, and fails unless it ends well.
 pub(crate) fn run_well(
     alloc: Global,
     action: &str,
@@ -34,7 +34,7 @@ fn first_bytes(alloc: Global, station: &mut MemoryStation, len: u32) -> Result<V
     Ok(bytes)
 }
 
-/// The bytes of all pages of a store.
+/// Returns the bytes of all pages of a store.
 pub(crate) fn all_pages(alloc: Global, station: &mut MemoryStation) -> Result<Vec<u8>, Fail> {
     let head = first_bytes(alloc, station, 4_096)?;
     let counted = number_at(&head, 0, 8)?;

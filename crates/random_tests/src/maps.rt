@@ -1,4 +1,4 @@
-//! Maps of places on a ground, each made in three ways.
+//! Maps of places on a ground, each in three forms.
 use crate::dice::{Dice, Ground, query_line, write_point, write_words};
 use crate::making::{ROOM, all_pages, run_well};
 use crate::tree_nodes::{Tree, tree_in};
@@ -10,21 +10,21 @@ use std::alloc::{AllocError, Global};
 use std::fmt::Write;
 use std::test::Fail;
 
-// How many places there are at first.
+// How many places a map has at first.
 const PLACES: u32 = 3_000;
 
 /// The same places as a state, as the pages of a store, and as the nodes of its tree.
 #[derive(Drop)]
 pub(crate) struct Map {
-    /// What scans answer over.
+    /// The state that scans use.
     pub(crate) state: State,
-    /// The bytes of all pages.
+    /// The bytes of all pages of the store.
     pub(crate) pages: Vec<u8>,
-    /// The nodes in them.
+    /// The nodes in those pages.
     pub(crate) tree: Tree,
 }
 
-// Writes the feature of a place that a load reads.
+// Writes a place as the feature that a load reads.
 fn write_feature(
     text: &mut String,
     number: u32,
@@ -40,7 +40,7 @@ fn write_feature(
     text.push_str("\"}}")
 }
 
-// Writes the line that puts it.
+// Writes a place as the line that adds it.
 fn write_add(
     script: &mut String,
     number: u32,
@@ -53,7 +53,7 @@ fn write_add(
     script.push_str("\n")
 }
 
-// Writes the places of a ground in two spellings: as a text that a load reads, and as a script.
+// Writes the places of a ground in two forms: as a text that a load reads, and as a script.
 fn write_places(
     alloc: Global,
     dice: &mut Dice,
@@ -73,7 +73,7 @@ fn write_places(
     text.push_str("]}")
 }
 
-// A script that removes each tenth place and moves the one behind it.
+// A script that removes each tenth place and moves the one after it.
 fn changes(alloc: Global, dice: &mut Dice, ground: Ground) -> Result<String, AllocError> {
     let mut script = String::new(alloc);
     for tenth in 0..PLACES / 10 {
@@ -99,7 +99,7 @@ fn state_of(alloc: Global, script: &str) -> Result<State, Fail> {
     Ok(state)
 }
 
-// A store with the places of a text, loaded under one policy, which a script changed under another one.
+// A store with the places of a text, loaded under one policy and changed by a script under another.
 fn stored(
     alloc: Global,
     text: &str,
@@ -113,7 +113,7 @@ fn stored(
     Ok(station.crashed(Tear::Kept)?)
 }
 
-// The state that a script makes, and its store, as a map.
+// The state that a script makes, together with its store, as a map.
 fn map_of(alloc: Global, script: &str, station: &mut MemoryStation) -> Result<Map, Fail> {
     let state = state_of(alloc, script)?;
     let pages = all_pages(alloc, station)?;
@@ -135,7 +135,7 @@ fn queries(
     Ok(lines)
 }
 
-/// The places of a ground, loaded under one policy and changed under another one, as a map, their store, and so many queries.
+/// Returns the places of a ground, loaded under one policy and changed under another, as a map, with their store and this many queries.
 pub(crate) fn made(
     alloc: Global,
     ground: Ground,

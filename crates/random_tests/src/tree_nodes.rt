@@ -1,4 +1,4 @@
-//! The nodes of a store's tree, read from the bytes of its pages as `docs/FORMAT.md` lays them out, and what goes round the places below
+//! Reads the nodes of a store's tree from the bytes of its pages, in the layout of `docs/FORMAT.md`, and what bounds the places below
 //! each: the least rectangle, and the greatest impact of each word.
 use place_map::State;
 use spatial_base::{Key, Point, Rect};
@@ -7,19 +7,19 @@ use std::collections::BTreeMap;
 use std::test::Fail;
 use term_impacts::{Word, Words};
 
-// How many words places have: those of `crate::dice`, `w00` to `w39`.
+// How many words the places have: those of `crate::dice`, `w00` to `w39`.
 const WORDS: usize = 40;
 
-/// What goes round some places.
+/// What bounds some places: their rectangle, and the greatest impact of each word.
 #[derive(Clone, Copy)]
 pub(crate) struct Round {
-    /// The least rectangle round them.
+    /// The least rectangle around the places.
     pub(crate) rect: Rect,
     impacts: [u8; WORDS],
 }
 
 impl Round {
-    // What goes round one place.
+    // The bounds of one place.
     fn of(point: &Point, words: &Words) -> Round {
         let mut round = Round {
             rect: Rect::of(point),
@@ -29,7 +29,7 @@ impl Round {
         round
     }
 
-    // Goes round one place more.
+    // Extends the bounds to one more place.
     fn add(&mut self, point: &Point, words: &Words) {
         self.rect = self.rect.join(&Rect::of(point));
         self.raise(words);
@@ -43,7 +43,7 @@ impl Round {
         }
     }
 
-    /// The greatest impact of a word among the places, 0 where none has it.
+    /// Returns the greatest impact of a word among the places, or 0 if none has it.
     pub(crate) fn impact(&self, word: &Word) -> u8 {
         match self.impacts.get(number_of(word)) {
             Some(impact) => *impact,
@@ -52,7 +52,7 @@ impl Round {
     }
 }
 
-// The number of a word of `crate::dice`; of any other word one that no place's word has.
+// The number of a word of `crate::dice`. Any other word gives a number that no place's word has.
 fn number_of(word: &Word) -> usize {
     match word.text().as_bytes() {
         [b'w', tens, ones] => {
@@ -65,13 +65,13 @@ fn number_of(word: &Word) -> usize {
 /// A node of the tree.
 #[derive(Clone, Copy)]
 pub(crate) struct Node {
-    /// The page of the node that has it as a child, 0 for the root.
+    /// The page of the node that has this one as a child, 0 for the root.
     pub(crate) parent: u32,
-    /// What goes round the places below it; `None` until one was met.
+    /// What bounds the places below the node, or `None` until one was found.
     pub(crate) round: Option<Round>,
 }
 
-/// A tree by the pages of its nodes, and the leaf of each place.
+/// A tree: its nodes by their pages, and the leaf of each place.
 #[derive(Drop)]
 pub(crate) struct Tree {
     pub(crate) nodes: BTreeMap<u32, Node>,
@@ -79,7 +79,7 @@ pub(crate) struct Tree {
 }
 
 impl Tree {
-    // Goes round a place in a leaf, and so do all nodes above it.
+    // Extends the bounds of a leaf, and of all nodes above it, to a place.
     fn add(&mut self, leaf: u32, point: &Point, words: &Words) {
         let mut page = leaf;
         for _ in 0..10 {
@@ -95,7 +95,7 @@ impl Tree {
     }
 }
 
-/// The number of four bytes at an offset of a page.
+/// Returns the number in the four bytes at an offset of a page.
 pub(crate) fn number_at(pages: &[u8], page: u32, at: u32) -> Result<u32, Fail> {
     let start = page as usize * 4096 + at as usize;
     let rest = pages.get(start..).ok_or("no such page")?;
@@ -120,7 +120,7 @@ fn place_at(pages: &[u8], page: u32, at: u32) -> Result<(Point, Key), Fail> {
     Ok((point, key))
 }
 
-// Takes in a slot of a leaf: the place has to be that of the state.
+// Adds a slot of a leaf, whose place must be that of the state.
 fn take_place(
     tree: &mut Tree,
     pages: &[u8],
@@ -140,7 +140,7 @@ fn take_place(
     Ok(())
 }
 
-// Takes in the slots of a node, and puts its children among those that wait.
+// Adds the places of a leaf, or puts the children of an inner node on the waiting list.
 fn take_node(
     tree: &mut Tree,
     waiting: &mut Vec<(u32, u32)>,
@@ -163,7 +163,7 @@ fn take_node(
     Ok(())
 }
 
-/// The tree in the pages of a store that holds the places of a state.
+/// Returns the tree in the pages of a store that holds the places of a state.
 pub(crate) fn tree_in(alloc: Global, pages: &[u8], state: &State) -> Result<Tree, Fail> {
     let mut tree = Tree {
         nodes: BTreeMap::new(alloc),
@@ -189,7 +189,7 @@ pub(crate) fn tree_in(alloc: Global, pages: &[u8], state: &State) -> Result<Tree
     }
 }
 
-/// Whether a page is one of the words by text, or one of the rows of words.
+/// Returns whether a page is one of the words by text, or one of the rows of words.
 pub(crate) fn is_of_words(pages: &[u8], page: u32) -> Result<bool, Fail> {
     let (kind, map) = (byte_at(pages, page, 0)?, byte_at(pages, page, 1)?);
     Ok((kind == 1 || kind == 2) && (map == 2 || map == 4))

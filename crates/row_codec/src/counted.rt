@@ -32,7 +32,7 @@ impl Counted {
         bytes
     }
 
-    /// What a row's value stands for, and None exactly where its first 33 bytes are no word's form.
+    /// Decodes a row's value. Returns `None` exactly if its first 33 bytes are no word's form.
     pub fn decode(bytes: &[u8; 37]) -> Option<Counted>
         ensures form { IfSome result (λ counted. IsCounted counted × (bytes.now ≡ counted_value counted)) }
         ensures every { (counted : Counted) → IsCounted counted → bytes.now ≡ counted_value counted → result ≡ Some counted }

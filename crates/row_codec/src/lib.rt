@@ -8,6 +8,8 @@
 //!
 //! All numbers are big-endian. Each value is written by `encode` and read by `decode`, which is its inverse and refuses exactly
 //! the bytes of no value. No call takes memory.
+//!
+//! Tests: `text_tests/src/row_codec_tests.rt`.
 #![tactic(auto)]
 
 mod bytes;

@@ -13,17 +13,17 @@ pub const PAIRS_MAX: usize = 64;
 /// The bytes of a [`Stored`].
 pub const STORED_BYTES: usize = 585;
 
-/// A place: where it is, and the number and the impact of each of its words.
+/// A place: its point, and the number and the impact of each of its words.
 ///
-/// It is of its form where `count` is at most 64, the first `count` pairs ascend strictly by word number with impacts of at
-/// least 1, and the others are (0, 0).
+/// It is of its form if `count` is at most 64 and the pairs keep two rules. The first `count` ascend strictly by word number with impacts
+/// of at least 1, and the others are (0, 0).
 #[derive(Clone, Copy, Debug, PartialEq, Eq)]
 pub struct Stored {
-    /// Where it is.
+    /// Its point on the map.
     pub point: Point,
     /// How many words it has.
     pub count: u8,
-    /// The word numbers, ascending, each with its impact; (0, 0) behind them.
+    /// The word numbers, ascending, each with its impact; (0, 0) after them.
     pub pairs: [(u64, u8); 64],
 }
 
@@ -54,7 +54,7 @@ impl Stored {
         bytes
     }
 
-    /// The place that a row's value stands for, and None exactly where it stands for none: where the point is off the map, or
+    /// Decodes a place from a row's value. Returns `None` exactly if it is no place's value: if the point is off the map, or
     /// the place isn't of its form.
     pub fn decode(bytes: &[u8; 585]) -> Option<Stored>
         ensures form { IfSome result (λ stored. IsValue stored × IsStored stored × (bytes.now ≡ place_value stored)) }

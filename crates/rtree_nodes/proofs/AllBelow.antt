@@ -1,7 +1,7 @@
 -- A test of each number below another.
 use Rattle.std.proofs.Common.{◌≡◌, ℕ, zero, suc, ◌+◌, ◌<◌, Bool, true, false, ◌&&◌, ◌||◌, not, arith, refl, sym, ap, ◌∙◌, ⊎_elim, inl, inr}
 use Rattle.std.proofs.lemmas.Bool.{and_parts, and_from, and_left, and_right, false≢true}
-use Rattle.rtree_shape.proofs.Sums.{at_end}
+use Rattle.rtree_nodes.proofs.Sums.{at_end}
 use Rattle.rtree_nodes.specs.Numbers.{all_below}
 
 -- each of them passes

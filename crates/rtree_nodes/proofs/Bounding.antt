@@ -8,10 +8,10 @@ use Rattle.std.proofs.Math.Nat.{max_comm}
 use Rattle.std.proofs.lemmas.Bool.{and_parts, cases_eq, cases_Bool}
 use Rattle.std.proofs.lemmas.Nat.Bits.{same_from_bits_below, bit_at-zero}
 use Rattle.spatial_base.specs.Rect.{Bounds}
-use Rattle.rtree_shape.specs.Slots.{Slots, got, one, top_to, tops, filled, Held, no_slots}
-use Rattle.rtree_shape.specs.Trees.{reach_of as reach_at}
-use Rattle.rtree_shape.proofs.Sums.{sum-zero, sum-same}
-use Rattle.rtree_shape.specs.Slots.{amount}
+use Rattle.rtree_nodes.specs.Slots.{Slots, got, one, top_to, tops, filled, Held, no_slots}
+use Rattle.rtree_nodes.specs.Trees.{reach_of as reach_at}
+use Rattle.rtree_nodes.proofs.Sums.{sum-zero, sum-same}
+use Rattle.rtree_nodes.specs.Slots.{amount}
 use Rattle.rtree_nodes.specs.Numbers.{all_below}
 use Rattle.rtree_nodes.specs.Reach.{reach_of, joined_both, origin_rect}
 use Rattle.rtree_nodes.specs.Cells.{item_in, rect_of_cell, has_rect, has_form}

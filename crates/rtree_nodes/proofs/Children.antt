@@ -4,7 +4,7 @@ use Rattle.std.proofs.lemmas.Bool.{cases_Bool}
 use Rattle.std.specs.Int.{w32, cast_signed}
 use Rattle.spatial_base.specs.Point.{Position}
 use Rattle.spatial_base.specs.Rect.{Bounds, rect_of}
-use Rattle.rtree_shape.specs.Slots.{IsChildAt, got, one}
+use Rattle.rtree_nodes.specs.Slots.{IsChildAt, got, one}
 use Rattle.rtree_nodes.specs.Numbers.{number_at, int_at}
 use Rattle.rtree_nodes.specs.Cells.{cell_width, cell_start, item_in, rect_of_cell, has_rect, has_form, is_on_map, is_rect, is_key_form, point_of, key_of, rect_at}
 use Rattle.rtree_nodes.specs.Reach.{place_item, child_item}

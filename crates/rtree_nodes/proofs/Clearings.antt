@@ -4,8 +4,8 @@ use Rattle.std.specs.Prelude.{◌==◌, if◌then◌else◌}
 use Rattle.std.specs.Int.{bit_at}
 use Rattle.std.proofs.Math.Path.{fun_ext}
 use Rattle.std.proofs.lemmas.Bool.{cases_eq, cases_lt, eq-eqb, ne_eqb, lt-ltb, le-ltb}
-use Rattle.rtree_shape.specs.Slots.{Item, Slots, without_slot}
-use Rattle.rtree_shape.specs.Masks.{kept_of, moved_of}
+use Rattle.rtree_nodes.specs.Slots.{Item, Slots, without_slot}
+use Rattle.rtree_nodes.specs.Masks.{kept_of, moved_of}
 use Rattle.rtree_nodes.specs.Pages.{is_form, slots_in}
 use Rattle.rtree_nodes.proofs.Formed.{form-slots, stored-past}
 

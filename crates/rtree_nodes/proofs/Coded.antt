@@ -11,8 +11,8 @@ use Rattle.page_face.specs.declared.fault.Rule.TheVariants.{Kind}
 use Rattle.spatial_base.specs.Key.{Name, Auto, form_of}
 use Rattle.spatial_base.specs.Point.{Position}
 use Rattle.spatial_base.specs.Rect.{Bounds}
-use Rattle.rtree_shape.specs.Slots.{Item, Slots as SlotItems, no_slots, got, one}
-use Rattle.rtree_shape.specs.Trees.{with_slot}
+use Rattle.rtree_nodes.specs.Slots.{Item, Slots as SlotItems, no_slots, got, one}
+use Rattle.rtree_nodes.specs.Trees.{with_slot}
 use Rattle.rtree_nodes.specs.declared.held.Slots.{Slots}
 use Rattle.rtree_nodes.specs.declared.held.Slots.TheVariants.{Leaf, Inner}
 use Rattle.rtree_nodes.specs.declared.content.Slot.{Slot}

@@ -5,7 +5,7 @@ use Rattle.std.specs.Int.{bit_at}
 use Rattle.std.proofs.lemmas.Bool.{and_parts, and_from, eqb-true, eq-eqb, eqb-false, ne_eqb, lt-ltb, le-ltb}
 use Rattle.std.proofs.lemmas.Nat.Bits.{bit_at-lt}
 use Rattle.page_face.specs.FreeList.{are_zero}
-use Rattle.rtree_shape.specs.Slots.{NodeView, no_slots}
+use Rattle.rtree_nodes.specs.Slots.{NodeView, no_slots}
 use Rattle.rtree_nodes.specs.Cells.{cell_start, has_form}
 use Rattle.rtree_nodes.specs.Pages.{level_in, mask_of, is_used, cell_at, item_at, has_clear_spares, has_values, is_form, stored_in, node_of, slots_in}
 use Rattle.rtree_nodes.proofs.AllBelow.{all_below-at, all_below-from}

@@ -10,7 +10,7 @@ use Rattle.std.proofs.lemmas.Nat.{be_bytes_4}
 use Rattle.std.proofs.lemmas.Nat.Bits.{same_from_bits_below}
 use Rattle.page_face.specs.FreeList.{are_zero}
 use Rattle.spatial_base.specs.Rect.{Bounds, rect_of}
-use Rattle.rtree_shape.specs.Slots.{Item, Slots, NodeView, got, one}
+use Rattle.rtree_nodes.specs.Slots.{Item, Slots, NodeView, got, one}
 use Rattle.rtree_nodes.specs.Numbers.{number_at, int_at}
 use Rattle.rtree_nodes.specs.Reach.{reach_of}
 use Rattle.rtree_nodes.specs.Cells.{cell_width, cell_start, item_in, has_form, point_of, key_of, rect_at}

@@ -2,8 +2,8 @@
 use Rattle.std.proofs.Common.{◌≡◌, ℕ, ◌<◌, true, List, length, Some, arith, refl, sym, ap, ◌∙◌, ⊎_elim}
 use Rattle.std.proofs.Math.Path.{fun_ext}
 use Rattle.std.proofs.lemmas.Bool.{cases_eq, eq-eqb, ne_eqb}
-use Rattle.rtree_shape.specs.Slots.{Item, Slots}
-use Rattle.rtree_shape.specs.Trees.{with_slot}
+use Rattle.rtree_nodes.specs.Slots.{Item, Slots}
+use Rattle.rtree_nodes.specs.Trees.{with_slot}
 use Rattle.rtree_nodes.specs.Pages.{is_form}
 use Rattle.rtree_nodes.proofs.Formed.{form-parts}
 

@@ -10,7 +10,7 @@ use Rattle.page_face.specs.FreeList.{are_zero}
 use Rattle.spatial_base.specs.Key.{Name, IsName, form_of}
 use Rattle.spatial_base.specs.Point.{Position}
 use Rattle.spatial_base.specs.Rect.{Bounds}
-use Rattle.rtree_shape.specs.Slots.{no_slots}
+use Rattle.rtree_nodes.specs.Slots.{no_slots}
 use Rattle.rtree_nodes.specs.Numbers.{number_at, int_bytes}
 use Rattle.rtree_nodes.specs.Cells.{cell_width, cell_start, place_cell, child_cell}
 use Rattle.rtree_nodes.specs.Pages.{mask_of, is_used, cell_at, is_form, node_of}

@@ -3,9 +3,9 @@ use Rattle.std.proofs.Common.{◌≡◌, ℕ, ◌+◌, ◌<◌, true, false, Lis
 use Rattle.std.specs.Prelude.{MatchOption}
 use Rattle.std.specs.Int.{bit_at}
 use Rattle.std.proofs.lemmas.Bool.{cases_Bool}
-use Rattle.rtree_shape.specs.Slots.{Slots, sum_to, amount, filled, got, one, IsFull, IsFree}
-use Rattle.rtree_shape.specs.Masks.{marked}
-use Rattle.rtree_shape.proofs.Sums.{sum-same}
+use Rattle.rtree_nodes.specs.Slots.{Slots, sum_to, amount, filled, got, one, IsFull, IsFree}
+use Rattle.rtree_nodes.specs.Masks.{marked}
+use Rattle.rtree_nodes.proofs.Sums.{sum-same}
 use Rattle.rtree_nodes.specs.Pages.{mask_of, is_used, is_form, stored_in, slots_in}
 use Rattle.rtree_nodes.proofs.Formed.{form-slots, stored-used, stored-unused, unused-bit, bit-used, bit-unused}
 

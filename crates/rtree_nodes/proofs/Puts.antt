@@ -8,8 +8,8 @@ use Rattle.std.proofs.lemmas.Bool.{ne_eqb, false≢true}
 use Rattle.std.proofs.lemmas.List.{length-replicate}
 use Rattle.std.proofs.lemmas.Nat.Bits.{bit_at_set_same, bit_at_set_other, bit_at_clear_same, bit_at_clear_other}
 use Rattle.page_face.specs.FreeList.{are_zero}
-use Rattle.rtree_shape.specs.Slots.{without_slot}
-use Rattle.rtree_shape.specs.Trees.{with_slot}
+use Rattle.rtree_nodes.specs.Slots.{without_slot}
+use Rattle.rtree_nodes.specs.Trees.{with_slot}
 use Rattle.rtree_nodes.specs.declared.content.Slot.{Slot}
 use Rattle.rtree_nodes.specs.declared.content.Slot.TheVariants.{Place, Child}
 use Rattle.rtree_nodes.specs.Numbers.{overwritten}

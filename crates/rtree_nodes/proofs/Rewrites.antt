@@ -6,8 +6,8 @@ use Rattle.std.proofs.Math.Path.{fun_ext}
 use Rattle.std.proofs.lemmas.Bool.{cases_eq, cases_lt, cases_order, eq-eqb, ne_eqb}
 use Rattle.std.proofs.lemmas.Nat.{from_be_bytes-to_be_bytes_4}
 use Rattle.page_face.specs.FreeList.{are_zero}
-use Rattle.rtree_shape.specs.Slots.{Item, without_slot}
-use Rattle.rtree_shape.specs.Trees.{with_slot}
+use Rattle.rtree_nodes.specs.Slots.{Item, without_slot}
+use Rattle.rtree_nodes.specs.Trees.{with_slot}
 use Rattle.rtree_nodes.specs.Numbers.{number_at, overwritten}
 use Rattle.rtree_nodes.specs.Cells.{cell_width, cell_start, item_in, has_form}
 use Rattle.rtree_nodes.specs.Pages.{level_in, mask_of, is_used, cell_at, item_at, stored_in}

@@ -4,7 +4,7 @@ use Rattle.std.specs.Str.{is_utf8, bytes_eq}
 use Rattle.spatial_base.specs.Key.{Name, Text, Auto, IsName, form_of, name_in}
 use Rattle.spatial_base.specs.Point.{Position, IsOnMap}
 use Rattle.spatial_base.specs.Rect.{Bounds, IsRect, rect_of}
-use Rattle.rtree_shape.specs.Slots.{Item}
+use Rattle.rtree_nodes.specs.Slots.{Item}
 use Rattle.std.specs.Int.{w32, to_be_bytes}
 use Rattle.rtree_nodes.specs.declared.content.Slot.{Slot}
 use Rattle.rtree_nodes.specs.declared.content.Slot.TheVariants.{Place, Child}

@@ -1,3 +1,7 @@
+pub mod Entries
+pub mod Subtrees
+pub mod Harms
+pub mod Ways
 pub mod Breaks
 pub mod Cells
 pub mod Kinds
@@ -5,3 +9,11 @@ pub mod Nodes
 pub mod Numbers
 pub mod Pages
 pub mod Reach
+pub mod Slots
+pub mod Trees
+pub mod Heads
+pub mod Masks
+pub mod Stock
+pub mod Made
+pub mod Whole
+pub mod Loose

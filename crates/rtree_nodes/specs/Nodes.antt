@@ -4,7 +4,7 @@ use Rattle.std.specs.Int.{bit_at}
 use Rattle.spatial_base.specs.Key.{Name, Auto}
 use Rattle.spatial_base.specs.Point.{Position}
 use Rattle.spatial_base.specs.Rect.{Bounds}
-use Rattle.rtree_shape.specs.Slots.{NodeView}
+use Rattle.rtree_nodes.specs.Slots.{NodeView}
 use Rattle.rtree_nodes.specs.declared.held.Slots.{Slots}
 use Rattle.rtree_nodes.specs.declared.held.Slots.TheVariants.{Leaf, Inner}
 use Rattle.rtree_nodes.specs.declared.held.Node.{Node}

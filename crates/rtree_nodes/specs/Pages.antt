@@ -3,7 +3,7 @@ use Rattle.std.specs.Prelude.{ℕ, Bool, ◌==◌, ◌&&◌, ◌||◌, not, nat_
 use Rattle.std.specs.Int.{bit_at}
 use Rattle.page_face.specs.FreeList.{are_zero}
 use Rattle.spatial_base.specs.Rect.{Bounds}
-use Rattle.rtree_shape.specs.Slots.{Item, Slots, NodeView, no_slots}
+use Rattle.rtree_nodes.specs.Slots.{Item, Slots, NodeView, no_slots}
 use Rattle.rtree_nodes.specs.Numbers.{number_at, all_below}
 use Rattle.rtree_nodes.specs.Cells.{cell_width, cell_start, item_in, rect_of_cell, has_rect, has_form}
 

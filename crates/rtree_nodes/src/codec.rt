@@ -2,7 +2,7 @@
 ghost use Rattle.std.specs.Prelude.{◌≡◌, ◌<◌, ◌^◌, ◌==◌, ◌&&◌, ◌↔◌, true, false, not, IsTrue, IsErr, IfOk, IfErr, if◌then◌else◌, Some, Option};
 ghost use Rattle.std.specs.Int.{bit_at};
 ghost use Rattle.spatial_base.specs.Key.{Auto, form_of};
-ghost use Rattle.rtree_shape.specs.Trees.{with_slot};
+ghost use Rattle.rtree_nodes.specs.Trees.{with_slot};
 ghost use Rattle.rtree_nodes.specs.Kinds.{is_leaf};
 ghost use Rattle.rtree_nodes.specs.Reach.{item_of, place_item, child_item, origin as zero_point, origin_rect as zero_rect};
 ghost use Rattle.rtree_nodes.specs.Pages.{mask_of as mask_in, level_in, is_used, item_at, cell_at, is_form, node_of, slots_in, has_values};
@@ -13,9 +13,8 @@ ghost use Rattle.rtree_nodes.specs.Nodes.{view_of, slot_of, IsPlain, IsLeafSlot,
 use crate::layout::{is_set, level_of};
 use crate::reach::{origin, origin_rect};
 use crate::spare::has_clear_spares;
-use crate::{Header, Node, Slot, Slots, header, new_node, put_slot, slot_at};
+use crate::{Header, Node, SLOTS, Slot, Slots, header, new_node, put_slot, slot_at};
 use page_face::{Page, Rule};
-use rtree_shape::SLOTS;
 use spatial_base::{Key, Point, Rect};
 
 impl Slots {
@@ -65,7 +64,7 @@ struct InnerSlot {
     child: u32,
 }
 
-// A slot's place, or what an unused one holds.
+// A slot's place, or the content of an unused one.
 fn leaf_slot(slot: &Option<Slot>) -> LeafSlot
     ensures { IsLeafSlot slot.now result.point result.key }
 {
@@ -81,7 +80,7 @@ fn leaf_slot(slot: &Option<Slot>) -> LeafSlot
     }
 }
 
-// The place in a slot of a leaf; what an unused one holds if the slot isn't used.
+// The place in a slot of a leaf, or the content of an unused one if the slot isn't used.
 fn place_or_origin(page: &Page, at: usize) -> Result<LeafSlot, Rule>
     requires { at < 32 }
     ensures value { IsErr result ↔ IsTrue (is_used page.now at && not (has_form (level_in page.now) (cell_at page.now at))) }
@@ -93,7 +92,7 @@ fn place_or_origin(page: &Page, at: usize) -> Result<LeafSlot, Rule>
     Ok(leaf_slot(&slot))
 }
 
-// A slot's child, or what an unused one holds.
+// A slot's child, or the content of an unused one.
 fn inner_slot(slot: &Option<Slot>) -> InnerSlot
     ensures { IsInnerSlot slot.now result.rect result.child }
 {
@@ -109,7 +108,7 @@ fn inner_slot(slot: &Option<Slot>) -> InnerSlot
     }
 }
 
-// The child in a slot of an inner node; what an unused one holds if the slot isn't used.
+// The child in a slot of an inner node, or the content of an unused one if the slot isn't used.
 fn child_or_origin(page: &Page, at: usize) -> Result<InnerSlot, Rule>
     requires { at < 32 }
     ensures value { IsErr result ↔ IsTrue (is_used page.now at && not (has_form (level_in page.now) (cell_at page.now at))) }
@@ -188,8 +187,8 @@ impl Node {
 
     /// Returns the node in a page. An unused slot holds the point 0 0 and the automatic key 0, or the rectangle of 0 0 and child 0.
     ///
-    /// Refuses the first of these rules that the page breaks: `Kind` (byte 0 is 3), `Fill` (some slot is used), `Spare` (spare
-    /// bytes are 0), `Value` (each used slot is of its form).
+    /// Refuses the first of these rules that the page breaks: `Kind` (byte 0 is 3), `Fill` (a slot is used), `Spare` (spare bytes are 0),
+    /// `Value` (used slots are well-formed).
     pub fn decode(page: &Page) -> Result<Node, Rule>
         ensures form { IfOk result (λ node. is_form page.now ≡ true) }
         ensures node { IfOk result (λ node. view_of node ≡ node_of page.now) }
@@ -206,7 +205,7 @@ impl Node {
     }
 }
 
-/// A law: two pages of nodes that stand for the same node are the same bytes. So the encoded page of a decoded node is the page that it
+/// A law: two pages that hold the same node are the same bytes. So the encoded page of a decoded node is the page that it
 /// was decoded from. Does nothing when it runs.
 pub fn same_page(first: &Page, second: &Page)
     ensures { is_form first.now ≡ true → is_form second.now ≡ true → node_of first.now ≡ node_of second.now → first.now ≡ second.now }

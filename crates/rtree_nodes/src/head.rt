@@ -8,9 +8,9 @@ use crate::Header;
 use crate::layout::{NODE_KIND, level_of, mask_of};
 use page_face::{Page, Rule};
 
-/// Returns the level and the mask of a page that says that it is a node's, and looks at no slot.
+/// Returns the level and the mask of a page whose byte 0 is a node's kind, and looks at no slot.
 ///
-/// Refuses `Kind` exactly if byte 0 isn't 3, and else `Fill` exactly if no slot is used.
+/// Refuses `Kind` exactly if byte 0 isn't 3, and otherwise `Fill` exactly if no slot is used.
 pub fn header(page: &Page) -> Result<Header, Rule>
     ensures { MatchResult result (λ head. (head.level ≡ level_in page.now) × (head.used ≡ mask_in page.now) × Keeps Kind page.now × Keeps Fill page.now) (λ rule. BreaksHeader rule page.now) }
 {

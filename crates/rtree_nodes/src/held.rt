@@ -9,14 +9,14 @@ use spatial_base::{Key, Point, Rect};
 pub enum Slots {
     /// The places of a leaf.
     Leaf {
-        /// Where each is.
+        /// The point of each.
         points: [Point; 32],
         /// The key of each.
         keys: [Key; 32],
     },
     /// The children of an inner node.
     Inner {
-        /// The least rectangle round what is below each.
+        /// The least rectangle around what is below each.
         rects: [Rect; 32],
         /// The page of each.
         children: [u32; 32],

@@ -1,4 +1,4 @@
-//! Where the parts of a node's page stand.
+//! The offsets of the parts of a node's page.
 ghost use Rattle.std.specs.Prelude.{◌≡◌, ◌<◌, ◌≤◌, ◌+◌, ◌==◌};
 ghost use Rattle.std.specs.Int.{bit_at};
 ghost use Rattle.rtree_nodes.specs.Cells.{cell_width, cell_start};
@@ -10,10 +10,10 @@ use page_face::Page;
 /// Byte 0 of a node's page: 1 and 2 are the pages of maps, 4 a free one.
 pub(crate) const NODE_KIND: u8 = 3;
 
-/// Where the mask of used slots stands: behind the kind, the level and two spare bytes, so that it is aligned.
+/// The offset of the mask of used slots, after the kind, the level and two spare bytes, so that it is aligned.
 pub(crate) const MASK_AT: usize = 4;
 
-/// Where the first slot begins, as the first cell of a map's page does.
+/// The offset of the first slot, the same as that of the first cell of a map's page.
 pub(crate) const SLOTS_AT: usize = 16;
 
 /// The bytes of a place: two coordinates of 4 bytes, and a key's form of 66.
@@ -22,14 +22,14 @@ pub(crate) const PLACE_BYTES: usize = 74;
 /// The bytes of a child: four coordinates and a page, of 4 bytes each.
 pub(crate) const CHILD_BYTES: usize = 20;
 
-/// The level that a page says that it has.
+/// The level in a page's header.
 pub(crate) fn level_of(page: &Page) -> u8
     ensures { result ≡ level_in page.now }
 {
     page[1]
 }
 
-/// The mask that a page says that it has.
+/// The mask in a page's header.
 pub(crate) fn mask_of(page: &Page) -> u32
     ensures { result ≡ mask_in page.now }
 {
@@ -51,7 +51,7 @@ pub(crate) fn width_at(level: u8) -> usize
     if level == 0 { PLACE_BYTES } else { CHILD_BYTES }
 }
 
-/// Where slot `at` begins, or where the last one ends.
+/// The offset at which slot `at` begins, or the last one ends.
 pub(crate) fn start_of(level: u8, at: usize) -> usize
     requires { at ≤ 32 }
     ensures is { result ≡ cell_start level at }

@@ -1,13 +1,12 @@
-//! A node that is parted in two.
+//! The parting of a node in two.
 ghost use Rattle.std.specs.Prelude.{◌≡◌, ◌<◌, true, if◌then◌else◌};
-ghost use Rattle.rtree_shape.specs.Slots.{without_slot};
-ghost use Rattle.rtree_shape.specs.Masks.{kept_of, moved_of};
+ghost use Rattle.rtree_nodes.specs.Slots.{without_slot};
+ghost use Rattle.rtree_nodes.specs.Masks.{kept_of, moved_of};
 ghost use Rattle.rtree_nodes.specs.Pages.{level_in, is_form, slots_in};
 
-use crate::clear_slot;
 use crate::layout::is_set;
+use crate::{SLOTS, clear_slot};
 use page_face::Page;
-use rtree_shape::SLOTS;
 
 // Clears a slot of one of two pages.
 fn clear_one(moves: bool, page: &mut Page, other: &mut Page, at: usize)
@@ -26,8 +25,8 @@ fn clear_one(moves: bool, page: &mut Page, other: &mut Page, at: usize)
     }
 }
 
-/// Moves the items of the slots that a mask names out of a node, each to the slot of its number in the page of a new node of
-/// the same level, and returns that page. Slots that the mask doesn't name stay.
+/// Moves the items of the slots that a mask names out of a node into a new node of the same level, and returns the new node's page. Each
+/// item keeps the number of its slot. Slots that the mask doesn't name stay.
 pub fn split_off(page: &mut Page, mask: u32) -> Page
     ensures form { is_form page.old ≡ true → is_form page.new ≡ true }
     ensures its_form { is_form page.old ≡ true → is_form result ≡ true }

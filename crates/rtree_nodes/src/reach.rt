@@ -1,14 +1,14 @@
-//! The rectangles of a node's slots, and the least one round them.
+//! The rectangles of a node's slots, and the least one around them.
 ghost use Rattle.std.specs.Prelude.{◌≡◌, ◌<◌, ◌+◌, ◌&&◌, ◌↔◌, ℕ, true, false, not, IsTrue, IsErr, IsOk, IfOk, IfErr, IfSome, IsSome, slice_index_or, if◌then◌else◌, Option, Some, None};
-ghost use Rattle.rtree_shape.specs.Slots.{filled, tops, Held};
+ghost use Rattle.rtree_nodes.specs.Slots.{filled, tops, Held};
 ghost use Rattle.rtree_nodes.specs.Reach.{reach_of, origin as zero_point, origin_rect as zero_rect, joined_both};
 ghost use Rattle.rtree_nodes.specs.Cells.{has_rect};
 ghost use Rattle.rtree_nodes.specs.Pages.{level_in, mask_of as mask_in, is_used, cell_at, rect_of_slot, has_rects, stored_in, is_form, slots_in};
 
+use crate::SLOTS;
 use crate::layout::{CHILD_BYTES, PLACE_BYTES, SLOTS_AT, is_set, level_of, mask_of};
 use crate::reading::{point_at, rect_at};
 use page_face::{Page, Rule};
-use rtree_shape::SLOTS;
 use spatial_base::{Point, Rect};
 
 /// The point 0 0.
@@ -28,7 +28,7 @@ pub(crate) fn origin_rect() -> Rect
     Rect::of(&origin())
 }
 
-// The rectangle of a slot's bytes, whether it is used or not; None exactly if it is none.
+// The rectangle of a slot's bytes, whether it is used or not; `None` exactly if the bytes are no rectangle.
 fn cell_rect(page: &Page, at: usize) -> Option<Rect>
     requires { at < 32 }
     ensures some { IsSome result ↔ IsTrue (has_rect (level_in page.now) (cell_at page.now at)) }
@@ -72,7 +72,7 @@ fn rect_or_origin(page: &Page, at: usize) -> Result<Rect, Rule>
     }
 }
 
-/// Returns the rectangle of each used slot, of a leaf's that of its point, and the rectangle of the point 0 0 for the others.
+/// Returns the rectangle of each used slot, in a leaf that of its point, and the rectangle of the point 0 0 for the others.
 ///
 /// Refuses `Value` exactly if the point or rectangle of a used slot isn't one. Keys aren't looked at.
 pub fn rects(page: &Page) -> Result<[Rect; 32], Rule>
@@ -100,7 +100,7 @@ fn widened(bounds: Option<Rect>, rect: Option<Rect>) -> Option<Rect>
     }
 }
 
-/// Returns the least rectangle round all used slots, or the rectangle of the point 0 0 if none is used.
+/// Returns the least rectangle around all used slots, or the rectangle of the point 0 0 if none is used.
 ///
 /// Refuses `Value` exactly if the point or rectangle of a used slot isn't one. Keys aren't looked at.
 pub fn bounds(page: &Page) -> Result<Rect, Rule>

@@ -1,6 +1,6 @@
-//! What stands in one slot of a page.
+//! The content of one slot of a page.
 ghost use Rattle.std.specs.Prelude.{◌≡◌, ◌<◌, ◌≤◌, ◌+◌, ◌*◌, ◌==◌, ◌&&◌, ◌↔◌, true, false, not, take, drop, Option, IsTrue, IsSome, IfSome, IfOk, IfErr, IsOk, IsErr, option_map, Some, None};
-ghost use Rattle.rtree_shape.specs.Slots.{IsUsed, IsChildAt};
+ghost use Rattle.rtree_nodes.specs.Slots.{IsUsed, IsChildAt};
 ghost use Rattle.rtree_nodes.specs.Numbers.{number_at, int_at};
 ghost use Rattle.rtree_nodes.specs.Reach.{item_of, place_item, child_item, is_place};
 ghost use Rattle.rtree_nodes.specs.Cells.{cell_start, has_form, is_on_map, is_rect, is_key_form};
@@ -12,7 +12,7 @@ use crate::layout::{CHILD_BYTES, PLACE_BYTES, SLOTS_AT, is_set, level_of, mask_o
 use page_face::{Page, Rule};
 use spatial_base::{Key, Point, Rect};
 
-/// The point at a byte, or None exactly if it is off the map.
+/// The point at an offset, or `None` exactly if it is off the map.
 pub(crate) fn point_at(page: &Page, at: usize) -> Option<Point>
     requires { at + 8 ≤ 4096 }
     ensures some { IsSome result ↔ IsTrue (is_on_map (int_at at page.now) (int_at (at + 4) page.now)) }
@@ -21,7 +21,7 @@ pub(crate) fn point_at(page: &Page, at: usize) -> Option<Point>
     Point::new(i32_at(page, at), i32_at(page, at + 4))
 }
 
-/// The rectangle at a byte, or None exactly if it is none.
+/// The rectangle at an offset, or `None` exactly if the bytes are no rectangle.
 pub(crate) fn rect_at(page: &Page, at: usize) -> Option<Rect>
     requires { at + 16 ≤ 4096 }
     ensures some { IsSome result ↔ IsTrue (is_rect (record { west = int_at at page.now; south = int_at (at + 4) page.now; east = int_at (at + 8) page.now; north = int_at (at + 12) page.now })) }
@@ -35,7 +35,7 @@ pub(crate) fn rect_at(page: &Page, at: usize) -> Option<Rect>
     )
 }
 
-// The place at a byte, or None exactly if its point or its key isn't one.
+// The place at an offset, or `None` exactly if its point or its key isn't one.
 fn place_at(page: &Page, at: usize) -> Option<Slot>
     requires { at + 74 ≤ 4096 }
     ensures some { IsSome result ↔ IsTrue (is_on_map (int_at at page.now) (int_at (at + 4) page.now) && is_key_form (take 66 (drop (at + 8) page.now))) }
@@ -47,7 +47,7 @@ fn place_at(page: &Page, at: usize) -> Option<Slot>
     Some(Slot::Place { point, key })
 }
 
-// The child at a byte, or None exactly if its rectangle isn't one.
+// The child at an offset, or `None` exactly if its rectangle isn't one.
 fn child_in(page: &Page, at: usize) -> Option<Slot>
     requires { at + 20 ≤ 4096 }
     ensures some { IsSome result ↔ IsTrue (is_rect (record { west = int_at at page.now; south = int_at (at + 4) page.now; east = int_at (at + 8) page.now; north = int_at (at + 12) page.now })) }
@@ -61,7 +61,7 @@ fn child_in(page: &Page, at: usize) -> Option<Slot>
     })
 }
 
-/// What the bytes of a slot say, whether it is used or not; None exactly if they aren't of its form.
+/// The content of a slot's bytes, whether it is used or not; `None` exactly if they aren't of its form.
 pub(crate) fn cell_slot(page: &Page, at: usize) -> Option<Slot>
     requires { at < 32 }
     ensures some { IsSome result ↔ IsTrue (has_form (level_in page.now) (cell_at page.now at)) }
@@ -75,7 +75,7 @@ pub(crate) fn cell_slot(page: &Page, at: usize) -> Option<Slot>
     }
 }
 
-/// Returns what stands in a slot, or `None` if the slot isn't used. Looks at no other slot.
+/// Returns the content of a slot, or `None` if the slot isn't used. Looks at no other slot.
 ///
 /// Refuses `Value` exactly if the slot is used and isn't of its form.
 pub fn slot_at(page: &Page, at: usize) -> Result<Option<Slot>, Rule>
@@ -96,7 +96,7 @@ pub fn slot_at(page: &Page, at: usize) -> Result<Option<Slot>, Rule>
     }
 }
 
-/// Returns the page of the child in a slot of an inner node. Of a leaf's page, or of a slot that isn't used, the number is any.
+/// Returns the page of the child in a slot of an inner node. For a leaf's page, or a slot that isn't used, it may be any number.
 pub fn child_at(page: &Page, at: usize) -> u32
     requires { at < 32 }
     ensures number { result ≡ number_at (cell_start 1 at + 16) page.now }

@@ -4,9 +4,9 @@ ghost use Rattle.page_face.specs.FreeList.{are_zero as is_clear};
 ghost use Rattle.rtree_nodes.specs.Numbers.{all_below};
 ghost use Rattle.rtree_nodes.specs.Pages.{is_used, cell_at, has_clear_spares as is_clear_page};
 
+use crate::SLOTS;
 use crate::layout::{is_set, level_of, mask_of, start_of, width_at};
 use page_face::Page;
-use rtree_shape::SLOTS;
 
 fn are_zero(bytes: &[u8]) -> bool
     ensures { result ≡ is_clear bytes.now }

@@ -1,11 +1,11 @@
-//! Slots that are written and cleared where they lie.
+//! Slots that are written and cleared in place.
 ghost use Rattle.std.specs.Prelude.{◌≡◌, ◌≢◌, ℕ, ◌<◌, ◌+◌, ◌^◌, ◌∷◌, ◌==◌, true, replicate};
 ghost use Rattle.std.specs.Int.{w32, to_be_bytes, bit_at};
 ghost use Rattle.spatial_base.specs.Key.{IsName};
 ghost use Rattle.spatial_base.specs.Point.{IsOnMap};
 ghost use Rattle.spatial_base.specs.Rect.{IsRect};
-ghost use Rattle.rtree_shape.specs.Slots.{no_slots, without_slot};
-ghost use Rattle.rtree_shape.specs.Trees.{with_slot};
+ghost use Rattle.rtree_nodes.specs.Slots.{no_slots, without_slot};
+ghost use Rattle.rtree_nodes.specs.Trees.{with_slot};
 ghost use Rattle.rtree_nodes.specs.Numbers.{overwritten};
 ghost use Rattle.rtree_nodes.specs.Reach.{item_of, is_place};
 ghost use Rattle.rtree_nodes.specs.Cells.{cell_of, cell_start, cell_width, start_for, place_cell as bytes_of_place, child_cell as bytes_of_child, IsValid};
@@ -91,7 +91,7 @@ fn set_mask(page: &mut Page, used: u32)
     overwrite(page, MASK_AT, &used.to_be_bytes());
 }
 
-/// Puts an item into a slot, in place of what was there, and marks the slot used. Leaves all other slots.
+/// Puts an item into a slot, replacing what was there, and marks the slot used. Leaves all other slots.
 ///
 /// A place is for a leaf, a child for an inner node. If the slot doesn't fit the page's level, the page is no node's afterwards.
 pub fn put_slot(page: &mut Page, at: usize, slot: &Slot)

@@ -3,8 +3,8 @@ use Rattle.std.proofs.Common.{◌≡◌, Bool, ℕ, zero, suc, List, [], ◌∷�
 use Rattle.std.specs.Prelude.{Result, Ok, Err, Contains}
 use Rattle.std.proofs.lemmas.List.Elements.{Contains-append_left, Contains-append_right}
 use Rattle.disk_model.specs.World.{World, Image}
-use Rattle.place_map.specs.State.{Contents}
-use Rattle.place_map.specs.declared.query.Query.{Query}
+use Rattle.place_values.specs.State.{Contents}
+use Rattle.place_values.specs.declared.query.Query.{Query}
 use Rattle.query_lang.specs.Line.{line_of}
 use Rattle.query_lang.specs.Plain.{plain_line}
 use Rattle.query_lang.specs.declared.line.Line.{Line}
@@ -12,8 +12,8 @@ use Rattle.query_lang.specs.declared.line.Line.TheVariants.{Nothing, Do, Ask, Sh
 use Rattle.query_replies.specs.declared.fault.LineFault.{LineFault}
 use Rattle.irtree_engine.specs.Queries.{EachRead, IsReadForQuery, contents_held}
 use Rattle.irtree_engine.proofs.EachRead.{reads-by, reads-none, reads-then}
-use Rattle.run_protocol.specs.Asking.{AreAsking, IsAsking, IsReadFor, IsReadForOneOf, ReadsForLine, ReadsForLines}
-use Rattle.run_protocol.specs.Script.{script, state_after, turn}
+use Rattle.run_outcome.specs.Asking.{AreAsking, IsAsking, IsReadFor, IsReadForOneOf, ReadsForLine, ReadsForLines}
+use Rattle.run_outcome.specs.Script.{script, state_after, turn}
 
 -- ---- lines in two parts
 

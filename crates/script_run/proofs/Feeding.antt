@@ -3,13 +3,13 @@ use Rattle.std.proofs.Common.{◌≡◌, ℕ, zero, suc, Bool, List, [], ◌∷�
 use Rattle.std.specs.Prelude.{Result, Ok, Err, IfErr, IsTrue}
 use Rattle.std.proofs.lemmas.List.{append-nil}
 use Rattle.disk_model.specs.World.{World}
-use Rattle.place_map.specs.State.{Contents}
+use Rattle.place_values.specs.State.{Contents}
 use Rattle.query_lang.specs.Line.{line_of}
 use Rattle.irtree_engine.specs.Holding.{HoldsState}
-use Rattle.run_protocol.specs.Reading.{AreReading, IsMetIn, IsReading, KeepsImage}
-use Rattle.run_protocol.specs.Script.{Cut, cut, script, last_line}
-use Rattle.run_protocol.specs.declared.ended.Ended.{Ended}
-use Rattle.run_protocol.specs.declared.ended.Ended.TheVariants as ends
+use Rattle.run_outcome.specs.Reading.{AreReading, IsMetIn, IsReading, KeepsImage}
+use Rattle.run_outcome.specs.Script.{Cut, cut, script, last_line}
+use Rattle.run_outcome.specs.declared.ended.Ended.{Ended}
+use Rattle.run_outcome.specs.declared.ended.Ended.TheVariants as ends
 use Rattle.script_run.specs.Feed.{kept, EndsNoLine}
 use Rattle.script_run.specs.Lines.{RunsLines}
 use Rattle.script_run.proofs.Lines.{cut-none, cut-ended, kept-append, kept-none, kept-nil, line-kept}
@@ -17,7 +17,7 @@ use Rattle.script_run.proofs.Reading.{keeps-then, reading-alike, reading-first, 
 use Rattle.script_run.proofs.Runs.{runs-none, runs-lost, runs-goes_on, runs-then, runs-alike}
 
 -- Where a piece stands behind a front: some of its lines were acted on, and rest is left of it.
-pub record Feeding (tells : Bool) (front piece line rest : List ℕ) (first now : World) : Type 0 where
+pub record Feeding (readable : Bool) (front piece line rest : List ℕ) (first now : World) : Type 0 where
   -- the front of the line that has not ended
   pub open_line : List ℕ
   pub ends : EndsNoLine open_line
@@ -26,13 +26,13 @@ pub record Feeding (tells : Bool) (front piece line rest : List ℕ) (first now 
   pub done : List (List ℕ)
   pub lines : (cut (front ++ piece)).lines ≡ done ++ (cut (open_line ++ rest)).lines
   pub last : (cut (front ++ piece)).rest ≡ (cut (open_line ++ rest)).rest
-  pub runs : IsTrue tells → (state : Contents) → HoldsState first state → RunsLines {T = Unit {0}} state done first now (Ok tt)
+  pub runs : IsTrue readable → (state : Contents) → HoldsState first state → RunsLines {T = Unit {0}} state done first now (Ok tt)
   -- where they only read the image stayed
-  pub stays : IsTrue tells → AreReading done → now.seen ≡ first.seen
+  pub stays : IsTrue readable → AreReading done → now.seen ≡ first.seen
 
 -- none of it was acted on
-pub feeding-start : (tells : Bool) (front piece line : List ℕ) (first : World) → EndsNoLine front → line ≡ kept front → Feeding tells front piece line piece first first
-feeding-start tells front piece line first ends is = record {
+pub feeding-start : (readable : Bool) (front piece line : List ℕ) (first : World) → EndsNoLine front → line ≡ kept front → Feeding readable front piece line piece first first
+feeding-start readable front piece line first ends is = record {
   open_line = front;
   ends = ends;
   is = is;
@@ -58,7 +58,7 @@ cut-line front part rest next h k is =
 cut-left : (front rest : List ℕ) → EndsNoLine front → EndsNoLine rest → cut (front ++ rest) ≡ record { lines = []; rest = front ++ rest }
 cut-left front rest h k = cut-none (front ++ rest) (both-EndsNoLine front rest h k)
 
-module _ (tells : Bool) (front piece line rest : List ℕ) (first now : World) (f : Feeding tells front piece line rest first now) where
+module _ (readable : Bool) (front piece line rest : List ℕ) (first now : World) (f : Feeding readable front piece line rest first now) where
   module _ (part next : List ℕ) (new : World) (is : rest ≡ part ++ 10 ∷ next) (part_ends : EndsNoLine part) where
     -- the lines, where one more was acted on
     lines-line : (cut (front ++ piece)).lines ≡ (f.done ++ (f.open_line ++ part) ∷ []) ++ (cut next).lines
@@ -66,8 +66,8 @@ module _ (tells : Bool) (front piece line rest : List ℕ) (first now : World) (
         ∙ sym (append_assoc f.done ((f.open_line ++ part) ∷ []) (cut next).lines)
 
     -- one line was acted on
-    pub feeding-line : (value : Unit {0}) (ended : List ℕ) → ended ≡ [] → (IsTrue tells → (state : Contents) → HoldsState now state → RunsLines state ((f.open_line ++ part) ∷ []) now new (Ok value))
-        → (IsTrue tells → IsReading (line_of (f.open_line ++ part)) → KeepsImage now new (Ok value)) → Feeding tells front piece ended next first new
+    pub feeding-line : (value : Unit {0}) (ended : List ℕ) → ended ≡ [] → (IsTrue readable → (state : Contents) → HoldsState now state → RunsLines state ((f.open_line ++ part) ∷ []) now new (Ok value))
+        → (IsTrue readable → IsReading (line_of (f.open_line ++ part)) → KeepsImage now new (Ok value)) → Feeding readable front piece ended next first new
     feeding-line value ended none call still = record {
       open_line = [];
       ends = λ i l. absurd (omega arith);
@@ -84,8 +84,8 @@ module _ (tells : Bool) (front piece line rest : List ℕ) (first now : World) (
     }
 
     -- a line stopped the run
-    pub feeding-breaks : (T : Type 0) (end : Ended) → (IsTrue tells → (state : Contents) → HoldsState now state → RunsLines {T = T} state ((f.open_line ++ part) ∷ []) now new (Err end))
-        → IsTrue tells → (state : Contents) → HoldsState first state → RunsLines {T = T} state (cut (front ++ piece)).lines first new (Err end)
+    pub feeding-breaks : (T : Type 0) (end : Ended) → (IsTrue readable → (state : Contents) → HoldsState now state → RunsLines {T = T} state ((f.open_line ++ part) ∷ []) now new (Err end))
+        → IsTrue readable → (state : Contents) → HoldsState first state → RunsLines {T = T} state (cut (front ++ piece)).lines first new (Err end)
     feeding-breaks T end call told state holds =
         let so_far = f.runs told state holds in
         let broken : RunsLines {T = T} state (f.done ++ (f.open_line ++ part) ∷ []) first new (Err end) =
@@ -94,7 +94,7 @@ module _ (tells : Bool) (front piece line rest : List ℕ) (first now : World) (
         (runs-goes_on state (f.done ++ (f.open_line ++ part) ∷ []) (cut next).lines first new end broken)
 
     -- and where the lines only read it left the image
-    pub feeding-met : {T : Type 0} (result : Result T Ended) → (IsTrue tells → IsReading (line_of (f.open_line ++ part)) → KeepsImage now new result) → IsTrue tells → AreReading (cut (front ++ piece)).lines → KeepsImage first new result
+    pub feeding-met : {T : Type 0} (result : Result T Ended) → (IsTrue readable → IsReading (line_of (f.open_line ++ part)) → KeepsImage now new result) → IsTrue readable → AreReading (cut (front ++ piece)).lines → KeepsImage first new result
     feeding-met result still told reads =
         let last = (f.open_line ++ part) ∷ [] in
         let done : AreReading (f.done ++ last) = reading-first (f.done ++ last) (cut next).lines (subst AreReading lines-line reads) in
@@ -106,14 +106,14 @@ module _ (tells : Bool) (front piece line rest : List ℕ) (first now : World) (
     lines-all = f.lines ∙ ap (λ (c : Cut). f.done ++ c.lines) (cut-left f.open_line rest f.ends rest_ends) ∙ append-nil f.done
 
     -- all lines were acted on, and what is left is kept or finds no memory
-    pub feeding-ends : (result : Result (Unit {0}) Ended) → IfErr result (λ end. end ≡ ends.Memory) → IsTrue tells → (state : Contents) → HoldsState first state → RunsLines state (cut (front ++ piece)).lines first now result
+    pub feeding-ends : (result : Result (Unit {0}) Ended) → IfErr result (λ end. end ≡ ends.Memory) → IsTrue readable → (state : Contents) → HoldsState first state → RunsLines state (cut (front ++ piece)).lines first now result
     feeding-ends (Ok value) lost told state holds = subst (λ (lines : List (List ℕ)). RunsLines state lines first now (Ok value)) (sym lines-all) (f.runs told state holds)
     feeding-ends (Err end) lost told state holds =
         subst (λ (e : Ended). RunsLines {T = Unit {0}} state (cut (front ++ piece)).lines first now (Err e)) (sym lost)
         (subst (λ (lines : List (List ℕ)). RunsLines {T = Unit {0}} state lines first now (Err ends.Memory)) (sym lines-all) (runs-lost (Unit {0}) state f.done first now tt (f.runs told state holds)))
 
     -- and where they only read the image stayed
-    pub feeding-stays : (result : Result (Unit {0}) Ended) → IfErr result (λ end. end ≡ ends.Memory) → IsTrue tells → AreReading (cut (front ++ piece)).lines → KeepsImage first now result
+    pub feeding-stays : (result : Result (Unit {0}) Ended) → IfErr result (λ end. end ≡ ends.Memory) → IsTrue readable → AreReading (cut (front ++ piece)).lines → KeepsImage first now result
     feeding-stays (Ok value) lost told reads = record { seen = f.stays told (subst AreReading lines-all reads); met = tt }
     feeding-stays (Err end) lost told reads = record { seen = f.stays told (subst AreReading lines-all reads); met = subst (IsMetIn first.seen) (sym lost) tt }
 

@@ -1,8 +1,8 @@
 -- Fronts of bytes.
 use Rattle.std.proofs.Common.{◌≡◌, ℕ, zero, suc, ◌+◌, ◌≤◌, List, [], ◌∷◌, ◌++◌, length, take, drop, min, sym, ap, ◌∙◌, arith, append_assoc, zero-add}
 use Rattle.std.proofs.lemmas.List.{take_all, take_min, take-append-le, take-append-drop}
-use Rattle.run_protocol.specs.Said.{SaysFrontOf}
-use Rattle.run_protocol.proofs.Lists.{take-over}
+use Rattle.run_outcome.specs.Said.{SaysFrontOf}
+use Rattle.run_outcome.proofs.Lists.{take-over}
 
 -- a front is no longer than that
 pub length-take_most : (n : ℕ) (xs : List ℕ) → length (take n xs) ≤ n

@@ -2,8 +2,8 @@
 use Rattle.std.proofs.Common.{◌≡◌, ◌≢◌, Bool, false}
 use Rattle.irtree_engine.specs.declared.fault.EngineFault.{EngineFault}
 use Rattle.irtree_engine.specs.declared.fault.EngineFault.TheVariants as engine
-use Rattle.run_protocol.specs.Causes.{GoesOn}
-use Rattle.run_protocol.proofs.Going.{goes-on}
+use Rattle.run_outcome.specs.Causes.{GoesOn}
+use Rattle.run_outcome.proofs.Going.{goes-on}
 use Rattle.script_run.specs.Lines.{refused_by}
 
 -- it does where it wasn't refused for the disk

@@ -3,11 +3,11 @@ use Rattle.std.proofs.Common.{◌≡◌, ℕ, zero, suc, ◌-◌, ◌<◌, ◌�
 use Rattle.std.specs.Prelude.{Err}
 use Rattle.std.proofs.lemmas.Bool.{lt-ltb, cases_lt, cases_eq, eq-eqb, ne_eqb}
 use Rattle.std.proofs.lemmas.List.{take_all, take_min, length-take-le}
-use Rattle.place_map.specs.State.{Contents}
+use Rattle.place_values.specs.State.{Contents}
 use Rattle.query_replies.specs.declared.fault.LineFault.TheVariants.{Length}
 use Rattle.query_lang.specs.Line.{line_of}
-use Rattle.run_protocol.specs.Turn.{Turn, followed}
-use Rattle.run_protocol.specs.Script.{Cut, cut, behind, turn, script}
+use Rattle.run_outcome.specs.Turn.{Turn, followed}
+use Rattle.run_outcome.specs.Script.{Cut, cut, behind, turn, script}
 use Rattle.script_run.specs.Feed.{kept, EndsNoLine}
 
 -- ---- what is kept of a line

@@ -3,8 +3,8 @@ use Rattle.std.proofs.Common.{◌≡◌, ℕ, List, [], ◌∷◌, ◌++◌, sym
 use Rattle.std.specs.Prelude.{Result, Err, IfErr}
 use Rattle.disk_model.specs.World.{World, Image}
 use Rattle.query_lang.specs.Line.{line_of}
-use Rattle.run_protocol.specs.Reading.{AreReading, IsMetIn, IsReading, KeepsImage}
-use Rattle.run_protocol.specs.declared.ended.Ended.{Ended}
+use Rattle.run_outcome.specs.Reading.{AreReading, IsMetIn, IsReading, KeepsImage}
+use Rattle.run_outcome.specs.declared.ended.Ended.{Ended}
 
 -- ---- lines in two parts
 

@@ -6,14 +6,14 @@ use Rattle.disk_model.proofs.Moments.{rested}
 use Rattle.page_face.specs.declared.fault.Damage.{Damage}
 use Rattle.page_face.specs.declared.fault.Rule.TheVariants.{Head}
 use Rattle.page_store.specs.Store.{Rests, rests_still}
-use Rattle.place_map.specs.declared.update.Applied.{Applied}
-use Rattle.place_map.specs.declared.update.Applied.TheVariants.{New, Replaced, Gone, Absent}
-use Rattle.place_map.specs.declared.update.Update.{Update}
-use Rattle.place_map.specs.declared.update.Update.TheVariants.{Put, Remove}
-use Rattle.place_map.specs.declared.update.UpdateFault.{UpdateFault}
-use Rattle.place_map.specs.declared.update.UpdateFault.TheVariants as updates
-use Rattle.place_map.specs.State.{Contents, place_at, with_place, without_place}
-use Rattle.place_map.specs.Update.{effect_of, key_for, serial_after, refuses}
+use Rattle.place_values.specs.declared.update.Applied.{Applied}
+use Rattle.place_values.specs.declared.update.Applied.TheVariants.{New, Replaced, Gone, Absent}
+use Rattle.place_values.specs.declared.update.Update.{Update}
+use Rattle.place_values.specs.declared.update.Update.TheVariants.{Put, Remove}
+use Rattle.place_values.specs.declared.update.UpdateFault.{UpdateFault}
+use Rattle.place_values.specs.declared.update.UpdateFault.TheVariants as updates
+use Rattle.place_values.specs.State.{Contents, place_at, with_place, without_place}
+use Rattle.place_values.specs.Update.{effect_of, key_for, serial_after, refuses}
 use Rattle.query_lang.specs.declared.line.Line.{Line}
 use Rattle.query_lang.specs.declared.line.Line.TheVariants as lines
 use Rattle.query_lang.specs.Laws.{reply_of-plain}
@@ -27,13 +27,13 @@ use Rattle.irtree_engine.specs.declared.fault.EngineFault.{EngineFault}
 use Rattle.irtree_engine.specs.declared.fault.EngineFault.TheVariants as engine
 use Rattle.irtree_engine.specs.Holding.{HoldsState}
 use Rattle.irtree_engine.specs.Updates.{LeavesOneOf, IsUpdateFault, IsDueTo}
-use Rattle.run_protocol.proofs.Counts.{keeps-both, keeps-fault}
-use Rattle.run_protocol.proofs.Reading.{RefusedRead, holds-same}
-use Rattle.run_protocol.specs.Causes.{HasEngineEnd, end_of_engine}
-use Rattle.run_protocol.specs.Script.{state_after}
-use Rattle.run_protocol.specs.declared.ended.Ended.{Ended}
-use Rattle.run_protocol.specs.declared.ended.Ended.TheVariants as ends
-use Rattle.run_protocol.specs.declared.ended.LimitFault.TheVariants as limits
+use Rattle.run_outcome.proofs.Counts.{keeps-both, keeps-fault}
+use Rattle.run_outcome.proofs.Reading.{RefusedRead, holds-same}
+use Rattle.run_outcome.specs.Causes.{HasEngineEnd, end_of_engine}
+use Rattle.run_outcome.specs.Script.{state_after}
+use Rattle.run_outcome.specs.declared.ended.Ended.{Ended}
+use Rattle.run_outcome.specs.declared.ended.Ended.TheVariants as ends
+use Rattle.run_outcome.specs.declared.ended.LimitFault.TheVariants as limits
 use Rattle.script_run.specs.Lines.{refused_by, StopsBeforeReply, RepliesTo}
 
 -- ---- updates
@@ -65,16 +65,16 @@ refused-stays state (Remove key) fault is =
     remove-stays (is_none (place_at key state.places)) (state.number == 2 ^ 40) state after Gone fault is
 
 -- what is known of an update that was accepted
-pub record AcceptedUpdate (tells : Bool) (update : Update) (old new : World) (applied : Applied) : Type 0 where
+pub record AcceptedUpdate (readable : Bool) (update : Update) (old new : World) (applied : Applied) : Type 0 where
   pub faults : new.faults ≡ old.faults
   pub sink : new.sink_faults ≡ old.sink_faults
-  pub said : IsTrue tells → new.said ≡ old.said
-  pub stands : IsTrue tells → (state : Contents) → HoldsState old state → ((effect_of state update).answer ≡ Ok applied) × HoldsState new (effect_of state update).state
-  pub left_by : IsTrue tells → (state : Contents) → HoldsState old state → LeavesOnly old new (LeavesOneOf state (effect_of state update).state old)
+  pub said : IsTrue readable → new.said ≡ old.said
+  pub stands : IsTrue readable → (state : Contents) → HoldsState old state → ((effect_of state update).answer ≡ Ok applied) × HoldsState new (effect_of state update).state
+  pub left_by : IsTrue readable → (state : Contents) → HoldsState old state → LeavesOnly old new (LeavesOneOf state (effect_of state update).state old)
 
-module _ (tells : Bool) (update : Update) (old new : World) (applied : Applied) (accepted : AcceptedUpdate tells update old new applied) (reply : Reply) where
+module _ (readable : Bool) (update : Update) (old new : World) (applied : Applied) (accepted : AcceptedUpdate readable update old new applied) (reply : Reply) where
   -- it is replied to
-  pub accepted-replies : reply ≡ update_reply (Ok applied) → IsTrue tells → (state : Contents) → HoldsState old state → RepliesTo state (Ok (lines.Do update)) old new (Ok reply)
+  pub accepted-replies : reply ≡ update_reply (Ok applied) → IsTrue readable → (state : Contents) → HoldsState old state → RepliesTo state (Ok (lines.Do update)) old new (Ok reply)
   unfolding reply_of
   accepted-replies is told state holds = record {
     reply = ap text_of_reply (is ∙ ap update_reply (sym (accepted.stands told state holds).0));
@@ -85,7 +85,7 @@ module _ (tells : Bool) (update : Update) (old new : World) (applied : Applied) 
   }
 
   -- and the run goes on
-  pub accepted-goes_on : HasEngineEnd tells old new (Ok reply)
+  pub accepted-goes_on : HasEngineEnd readable old new (Ok reply)
   accepted-goes_on = record {
     faults = omega (arith, accepted.faults);
     sink = omega (arith, accepted.sink);
@@ -95,22 +95,22 @@ module _ (tells : Bool) (update : Update) (old new : World) (applied : Applied) 
   }
 
 -- what is known of an update that was refused
-pub record RefusedUpdate (tells : Bool) (update : Update) (old new : World) (fault : EngineFault) : Type 0 where
+pub record RefusedUpdate (readable : Bool) (update : Update) (old new : World) (fault : EngineFault) : Type 0 where
   pub causes : IsUpdateFault fault
   pub faults : old.faults ≤ new.faults
   pub sink : new.sink_faults ≡ old.sink_faults
   pub on : fault ≡ engine.Stopped → ⊥
   pub disk : fault ≡ engine.Disk → Rose old.faults new.faults
   pub stays : fault ≢ engine.Disk → new.faults ≡ old.faults
-  pub said : IsTrue tells → new.said ≡ old.said
-  pub due : IsTrue tells → (state : Contents) → HoldsState old state → IsDueTo (effect_of state update).answer fault
-  pub no_head : IsTrue tells → (damage : Damage) → fault ≡ engine.Damaged damage → damage.rule ≢ Head
-  pub rests : IsTrue tells → (fault ≡ engine.Disk → ⊥) → Rests old new
-  pub left_by : IsTrue tells → (state : Contents) → HoldsState old state → LeavesOnly old new (LeavesOneOf state (effect_of state update).state old)
+  pub said : IsTrue readable → new.said ≡ old.said
+  pub due : IsTrue readable → (state : Contents) → HoldsState old state → IsDueTo (effect_of state update).answer fault
+  pub no_head : IsTrue readable → (damage : Damage) → fault ≡ engine.Damaged damage → damage.rule ≢ Head
+  pub rests : IsTrue readable → (fault ≡ engine.Disk → ⊥) → Rests old new
+  pub left_by : IsTrue readable → (state : Contents) → HoldsState old state → LeavesOnly old new (LeavesOneOf state (effect_of state update).state old)
 
-module _ (tells : Bool) (update : Update) (old new : World) where
+module _ (readable : Bool) (update : Update) (old new : World) where
   -- a limit of the map is a reply
-  limit-replies : (fault : EngineFault) (limit : UpdateFault) (reply : Reply) → RefusedUpdate tells update old new fault → (fault ≡ engine.Disk → ⊥) → reply ≡ update_reply (Err limit) → IsTrue tells → (state : Contents) → HoldsState old state
+  limit-replies : (fault : EngineFault) (limit : UpdateFault) (reply : Reply) → RefusedUpdate readable update old new fault → (fault ≡ engine.Disk → ⊥) → reply ≡ update_reply (Err limit) → IsTrue readable → (state : Contents) → HoldsState old state
       → (effect_of state update).answer ≡ Err limit → RepliesTo state (Ok (lines.Do update)) old new (Ok reply)
   unfolding reply_of
   limit-replies fault limit reply refused apart is told state holds due = record {
@@ -122,12 +122,12 @@ module _ (tells : Bool) (update : Update) (old new : World) where
   }
 
   -- what else refuses an update stops the run
-  fault-stops : (fault : EngineFault) (end : Ended) → RefusedUpdate tells update old new fault → IsTrue tells → (state : Contents) → HoldsState old state → StopsBeforeReply state (Ok (lines.Do update)) new end → RepliesTo state (Ok (lines.Do update)) old new (Err end)
+  fault-stops : (fault : EngineFault) (end : Ended) → RefusedUpdate readable update old new fault → IsTrue readable → (state : Contents) → HoldsState old state → StopsBeforeReply state (Ok (lines.Do update)) new end → RepliesTo state (Ok (lines.Do update)) old new (Err end)
   fault-stops fault end refused told state holds stops =
       record { reply = tt; holds = tt; stops = stops; said = refused.said told; left_by = refused.left_by told state holds }
 
   -- an update that was refused is replied to, or stops the run
-  pub refused-replies : (fault : EngineFault) → RefusedUpdate tells update old new fault → IsTrue tells → (state : Contents) → HoldsState old state → RepliesTo state (Ok (lines.Do update)) old new (refused_by fault)
+  pub refused-replies : (fault : EngineFault) → RefusedUpdate readable update old new fault → IsTrue readable → (state : Contents) → HoldsState old state → RepliesTo state (Ok (lines.Do update)) old new (refused_by fault)
   refused-replies engine.Full refused told state holds = limit-replies engine.Full updates.Full replies.Full refused (λ e. absurd (cc)) refl told state holds (refused.due told state holds)
   refused-replies engine.Worn refused told state holds = limit-replies engine.Worn updates.Worn replies.Worn refused (λ e. absurd (cc)) refl told state holds (refused.due told state holds)
   refused-replies engine.Disk refused told state holds = fault-stops engine.Disk ends.Disk refused told state holds tt
@@ -140,7 +140,7 @@ module _ (tells : Bool) (update : Update) (old new : World) where
   refused-replies engine.Memory refused told state holds = fault-stops engine.Memory ends.Memory refused told state holds tt
 
   -- where a limit is a reply the run goes on
-  limit-goes_on : (fault : EngineFault) (reply : Reply) → RefusedUpdate tells update old new fault → (fault ≡ engine.Disk → ⊥) → HasEngineEnd tells old new (Ok reply)
+  limit-goes_on : (fault : EngineFault) (reply : Reply) → RefusedUpdate readable update old new fault → (fault ≡ engine.Disk → ⊥) → HasEngineEnd readable old new (Ok reply)
   limit-goes_on fault reply refused apart = record {
     faults = refused.faults;
     sink = omega (arith, refused.sink);
@@ -150,7 +150,7 @@ module _ (tells : Bool) (update : Update) (old new : World) where
   }
 
   -- and each end has its cause
-  pub refused-cause : (fault : EngineFault) → RefusedUpdate tells update old new fault → HasEngineEnd tells old new (refused_by fault)
+  pub refused-cause : (fault : EngineFault) → RefusedUpdate readable update old new fault → HasEngineEnd readable old new (refused_by fault)
   refused-cause engine.Full refused = limit-goes_on engine.Full replies.Full refused (λ e. absurd (cc))
   refused-cause engine.Worn refused = limit-goes_on engine.Worn replies.Worn refused (λ e. absurd (cc))
   refused-cause engine.Disk refused = record { faults = refused.faults; sink = omega (arith, refused.sink); keeps = keeps-fault Reply old new engine.Disk refused.stays refused.sink; stands = λ told. tt; cause = refused.disk refl }
@@ -175,11 +175,11 @@ read-replies state read old new reply rests holds same is = record {
   left_by = rested rests.adds;
 }
 
-module _ (tells : Bool) (old new : World) where
+module _ (readable : Bool) (old new : World) where
   -- a read that is refused stops the run before its reply
-  read-stops : (fault : EngineFault) (state : Contents) (read : Result Line LineFault) → RefusedRead tells old new fault → IsTrue tells → HoldsState old state → StopsBeforeReply state read new (end_of_engine fault)
+  read-stops : (fault : EngineFault) (state : Contents) (read : Result Line LineFault) → RefusedRead readable old new fault → IsTrue readable → HoldsState old state → StopsBeforeReply state read new (end_of_engine fault)
   read-stops engine.Disk state read refused told holds = tt
-  read-stops (engine.Damaged damage) state read refused told holds = absurd (refused.honest told state holds damage refl)
+  read-stops (engine.Damaged damage) state read refused told holds = absurd (refused.no_false_damage told state holds damage refl)
   read-stops engine.Stopped state read refused told holds = tt
   read-stops engine.Memory state read refused told holds = tt
   read-stops engine.Full state read refused told holds = absurd refused.causes
@@ -189,7 +189,7 @@ module _ (tells : Bool) (old new : World) where
   read-stops (engine.BadJournal at) state read refused told holds = absurd refused.causes
 
   -- it stops the run
-  pub refused-read : (fault : EngineFault) (state : Contents) (read : Result Line LineFault) → RefusedRead tells old new fault → IsTrue tells → HoldsState old state → RepliesTo state read old new (Err (end_of_engine fault))
+  pub refused-read : (fault : EngineFault) (state : Contents) (read : Result Line LineFault) → RefusedRead readable old new fault → IsTrue readable → HoldsState old state → RepliesTo state read old new (Err (end_of_engine fault))
   refused-read fault state read refused told holds = record {
     reply = tt;
     holds = tt;

@@ -4,17 +4,17 @@ use Rattle.std.specs.Prelude.{Result, Ok, Err}
 use Rattle.std.proofs.lemmas.List.{append-nil}
 use Rattle.disk_model.specs.World.{World, Image, LeavesOnly}
 use Rattle.disk_model.proofs.Moments.{started, then, within}
-use Rattle.place_map.specs.State.{Contents}
+use Rattle.place_values.specs.State.{Contents}
 use Rattle.query_lang.specs.Line.{line_of}
-use Rattle.store_meaning.specs.Stands.{Stands}
+use Rattle.store_model.specs.Stands.{Stands}
 use Rattle.irtree_engine.specs.Holding.{HoldsState}
-use Rattle.run_protocol.specs.Left.{LeftByLines, IsUpdateLine, StopsAtLine}
-use Rattle.run_protocol.specs.Said.{SaysFrontOf, LeftByTurn}
-use Rattle.run_protocol.specs.Script.{turn, turn_of, script}
-use Rattle.run_protocol.specs.Turn.{Turn, followed}
-use Rattle.run_protocol.specs.declared.ended.Ended.{Ended}
-use Rattle.run_protocol.specs.declared.ended.Ended.TheVariants as ends
-use Rattle.run_protocol.specs.declared.ended.LimitFault.TheVariants as limits
+use Rattle.run_outcome.specs.Left.{LeftByLines, IsUpdateLine, StopsAtLine}
+use Rattle.run_outcome.specs.Said.{SaysFrontOf, LeftByTurn}
+use Rattle.run_outcome.specs.Script.{turn, turn_of, script}
+use Rattle.run_outcome.specs.Turn.{Turn, followed}
+use Rattle.run_outcome.specs.declared.ended.Ended.{Ended}
+use Rattle.run_outcome.specs.declared.ended.Ended.TheVariants as ends
+use Rattle.run_outcome.specs.declared.ended.LimitFault.TheVariants as limits
 use Rattle.script_run.specs.Lines.{StopsAmong, RunsLines}
 use Rattle.script_run.proofs.Asking.{asking-alike, asking-first, asking-next, reads-alike, reads-both, reads-nothing}
 use Rattle.script_run.proofs.Fronts.{front-whole, front-goes_on, front-behind}

@@ -5,30 +5,30 @@ use Rattle.std.proofs.lemmas.List.{append-nil}
 use Rattle.disk_model.specs.World.{World, Image, LeavesOnly, HasSinkCause}
 use Rattle.disk_model.specs.declared.disk.Failed.{Failed}
 use Rattle.disk_model.proofs.Moments.{then, within}
-use Rattle.place_map.specs.State.{Contents}
+use Rattle.place_values.specs.State.{Contents}
 use Rattle.query_lang.specs.Line.{line_of}
 use Rattle.query_lang.specs.Reply.{reply_of}
 use Rattle.query_replies.specs.declared.reply.Reply.{Reply}
 use Rattle.query_replies.specs.Reply.{text_of_reply}
-use Rattle.store_meaning.specs.Stands.{Stands}
+use Rattle.store_model.specs.Stands.{Stands}
 use Rattle.irtree_engine.specs.Holding.{HoldsState}
 use Rattle.irtree_engine.specs.Updates.{LeavesOneOf}
-use Rattle.run_protocol.specs.Asking.{IsAsking, ReadsForLine}
-use Rattle.run_protocol.specs.Causes.{HasEngineEnd}
-use Rattle.run_protocol.specs.Left.{LeftByLines}
-use Rattle.run_protocol.specs.Said.{SaysAll, SaysFrontOf}
-use Rattle.run_protocol.specs.Script.{turn, script, state_after}
-use Rattle.run_protocol.specs.declared.ended.Ended.{Ended}
-use Rattle.run_protocol.specs.declared.ended.Ended.TheVariants as ends
-use Rattle.run_protocol.specs.declared.ended.LimitFault.TheVariants as limits
+use Rattle.run_outcome.specs.Asking.{IsAsking, ReadsForLine}
+use Rattle.run_outcome.specs.Causes.{HasEngineEnd}
+use Rattle.run_outcome.specs.Left.{LeftByLines}
+use Rattle.run_outcome.specs.Said.{SaysAll, SaysFrontOf}
+use Rattle.run_outcome.specs.Script.{turn, script, state_after}
+use Rattle.run_outcome.specs.declared.ended.Ended.{Ended}
+use Rattle.run_outcome.specs.declared.ended.Ended.TheVariants as ends
+use Rattle.run_outcome.specs.declared.ended.LimitFault.TheVariants as limits
 use Rattle.script_run.specs.Lines.{StopsBeforeReply, RepliesTo, StopsAmong, RunsLines}
-use Rattle.run_protocol.proofs.Counts.{keeps-both}
-use Rattle.run_protocol.proofs.Reading.{holds-same}
+use Rattle.run_outcome.proofs.Counts.{keeps-both}
+use Rattle.run_outcome.proofs.Reading.{holds-same}
 use Rattle.script_run.proofs.Asking.{reads-said}
 
 -- what is said leaves the image, and a station that said it goes on
-pub say-goes_on : (tells : Bool) (old new : World) (bytes : List ℕ) {A T : Type 0} (value : A) (other : T) → (IsTrue tells → SaysAll {E = Failed} bytes old new (Ok value)) → HasSinkCause {T = A} old new (Ok value) → HasEngineEnd tells old new (Ok other)
-say-goes_on tells old new bytes value other says cause = record {
+pub say-goes_on : (readable : Bool) (old new : World) (bytes : List ℕ) {A T : Type 0} (value : A) (other : T) → (IsTrue readable → SaysAll {E = Failed} bytes old new (Ok value)) → HasSinkCause {T = A} old new (Ok value) → HasEngineEnd readable old new (Ok other)
+say-goes_on readable old new bytes value other says cause = record {
   faults = omega (arith, cause.disk);
   sink = cause.later;
   keeps = keeps-both old new (Ok other) cause.disk cause.stays;

@@ -5,17 +5,17 @@ use Rattle.std.proofs.lemmas.Bool.{cases_lt, lt-ltb, le-ltb}
 use Rattle.std.proofs.lemmas.List.{append-nil, take_at, take_all, length-take-le}
 use Rattle.disk_model.specs.World.{World, LeavesOnly}
 use Rattle.disk_model.proofs.Moments.{started, within}
-use Rattle.place_map.specs.State.{Contents}
+use Rattle.place_values.specs.State.{Contents}
 use Rattle.irtree_engine.specs.Holding.{HoldsState}
-use Rattle.run_protocol.specs.Asking.{AreAsking, ReadsForLines}
-use Rattle.run_protocol.specs.Left.{LeftByLines}
-use Rattle.run_protocol.specs.Said.{SaysFrontOf}
-use Rattle.run_protocol.specs.Script.{Cut, cut, script, last_line, input_max, script_lines, script_transcript}
-use Rattle.run_protocol.specs.Turn.{Turn, Done, Input}
-use Rattle.run_protocol.specs.declared.ended.Ended.{Ended}
-use Rattle.run_protocol.specs.declared.ended.Ended.TheVariants as ends
-use Rattle.run_protocol.specs.declared.ended.InputFault.TheVariants.{Long}
-use Rattle.run_protocol.specs.declared.ended.LimitFault.TheVariants as limits
+use Rattle.run_outcome.specs.Asking.{AreAsking, ReadsForLines}
+use Rattle.run_outcome.specs.Left.{LeftByLines}
+use Rattle.run_outcome.specs.Said.{SaysFrontOf}
+use Rattle.run_outcome.specs.Script.{Cut, cut, script, last_line, input_max, script_lines, script_transcript}
+use Rattle.run_outcome.specs.Turn.{Turn, Done, Input}
+use Rattle.run_outcome.specs.declared.ended.Ended.{Ended}
+use Rattle.run_outcome.specs.declared.ended.Ended.TheVariants as ends
+use Rattle.run_outcome.specs.declared.ended.InputFault.TheVariants.{Long}
+use Rattle.run_outcome.specs.declared.ended.LimitFault.TheVariants as limits
 use Rattle.script_run.specs.Feed.{kept}
 use Rattle.script_run.specs.Lines.{StopsAmong, RunsLines, RunsPiece}
 use Rattle.script_run.specs.Standing.{Standing, SaysRepliesOf, Stops, EndsScript}

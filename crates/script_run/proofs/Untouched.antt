@@ -3,9 +3,9 @@ use Rattle.std.proofs.Common.{◌≡◌, ℕ, ◌+◌, ◌-◌, ◌≤◌, List,
 use Rattle.std.specs.Prelude.{Result}
 use Rattle.std.proofs.lemmas.List.{append-nil, take_all}
 use Rattle.disk_model.specs.World.{World}
-use Rattle.run_protocol.specs.Reading.{AreReading, KeepsImage}
-use Rattle.run_protocol.specs.Script.{Cut, cut, last_line, input_max, script_lines}
-use Rattle.run_protocol.specs.declared.ended.Ended.{Ended}
+use Rattle.run_outcome.specs.Reading.{AreReading, KeepsImage}
+use Rattle.run_outcome.specs.Script.{Cut, cut, last_line, input_max, script_lines}
+use Rattle.run_outcome.specs.declared.ended.Ended.{Ended}
 use Rattle.script_run.specs.Feed.{kept}
 use Rattle.script_run.proofs.Fronts.{length-take_most, parts-came}
 use Rattle.script_run.proofs.Lines.{cut-append, kept-nil}

@@ -1,8 +1,8 @@
 -- How lines are acted on, and how that stops.
 use Rattle.std.specs.Prelude.{◌≡◌, ℕ, ◌+◌, ◌<◌, List, ◌++◌, Result, Ok, Err, IfOk, IfErr, OnOk}
 use Rattle.disk_model.specs.World.{World, LeavesOnly}
-use Rattle.place_map.specs.State.{Contents}
-use Rattle.place_map.specs.declared.update.Update.{Update}
+use Rattle.place_values.specs.State.{Contents}
+use Rattle.place_values.specs.declared.update.Update.{Update}
 use Rattle.query_lang.specs.declared.line.Line.{Line}
 use Rattle.query_lang.specs.declared.line.Line.TheVariants.{Do}
 use Rattle.query_lang.specs.Reply.{reply_of}
@@ -14,15 +14,15 @@ use Rattle.irtree_engine.specs.Holding.{HoldsState}
 use Rattle.irtree_engine.specs.Updates.{LeavesOneOf}
 use Rattle.irtree_engine.specs.declared.fault.EngineFault.{EngineFault}
 use Rattle.irtree_engine.specs.declared.fault.EngineFault.TheVariants as engine
-use Rattle.run_protocol.specs.Asking.{AreAsking, ReadsForLines}
-use Rattle.run_protocol.specs.Causes.{end_of_engine}
-use Rattle.run_protocol.specs.Left.{LeftByLines, StopsAtLine}
-use Rattle.run_protocol.specs.Said.{SaysFrontOf}
-use Rattle.run_protocol.specs.Script.{script, state_after}
-use Rattle.run_protocol.specs.declared.ended.Ended.{Ended}
-use Rattle.run_protocol.specs.declared.ended.Ended.TheVariants as ends
-use Rattle.run_protocol.specs.declared.ended.InputFault.TheVariants.{Long}
-use Rattle.run_protocol.specs.declared.ended.LimitFault.TheVariants as limits
+use Rattle.run_outcome.specs.Asking.{AreAsking, ReadsForLines}
+use Rattle.run_outcome.specs.Causes.{end_of_engine}
+use Rattle.run_outcome.specs.Left.{LeftByLines, StopsAtLine}
+use Rattle.run_outcome.specs.Said.{SaysFrontOf}
+use Rattle.run_outcome.specs.Script.{script, state_after}
+use Rattle.run_outcome.specs.declared.ended.Ended.{Ended}
+use Rattle.run_outcome.specs.declared.ended.Ended.TheVariants as ends
+use Rattle.run_outcome.specs.declared.ended.InputFault.TheVariants.{Long}
+use Rattle.run_outcome.specs.declared.ended.LimitFault.TheVariants as limits
 
 -- ---- one line, before its reply is said
 

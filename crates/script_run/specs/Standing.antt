@@ -1,16 +1,16 @@
 -- A script between two reads of its input, and how it ends.
 use Rattle.std.specs.Prelude.{◌≡◌, ℕ, List, [], ◌++◌, length, Result, Ok, Err}
 use Rattle.disk_model.specs.World.{World, LeavesOnly}
-use Rattle.place_map.specs.State.{Contents}
+use Rattle.place_values.specs.State.{Contents}
 use Rattle.irtree_engine.specs.Holding.{HoldsState}
-use Rattle.run_protocol.specs.Asking.{AreAsking, ReadsForLines}
-use Rattle.run_protocol.specs.Left.{LeftByLines, StopsAtLine}
-use Rattle.run_protocol.specs.Said.{EndsAs, SaysFrontOf}
-use Rattle.run_protocol.specs.Script.{cut, script, script_lines, script_transcript}
-use Rattle.run_protocol.specs.Turn.{Done, Input}
-use Rattle.run_protocol.specs.declared.ended.Ended.{Ended}
-use Rattle.run_protocol.specs.declared.ended.Ended.TheVariants as ends
-use Rattle.run_protocol.specs.declared.ended.LimitFault.TheVariants as limits
+use Rattle.run_outcome.specs.Asking.{AreAsking, ReadsForLines}
+use Rattle.run_outcome.specs.Left.{LeftByLines, StopsAtLine}
+use Rattle.run_outcome.specs.Said.{EndsAs, SaysFrontOf}
+use Rattle.run_outcome.specs.Script.{cut, script, script_lines, script_transcript}
+use Rattle.run_outcome.specs.Turn.{Done, Input}
+use Rattle.run_outcome.specs.declared.ended.Ended.{Ended}
+use Rattle.run_outcome.specs.declared.ended.Ended.TheVariants as ends
+use Rattle.run_outcome.specs.declared.ended.LimitFault.TheVariants as limits
 use Rattle.script_run.specs.Feed.{kept}
 
 -- Where a script stands that began in a state: some bytes were read, their lines were acted on, and the image stands for the state

@@ -1,24 +1,24 @@
 // One line of a script, acted on, and its reply.
 ghost use Rattle.std.specs.Prelude.{◌≡◌, ◌∷◌, [], false, IsTrue, IfErr, IfOk, IsErrOf, OnOk, Ok};
-ghost use Rattle.place_map.specs.State.{Contents};
+ghost use Rattle.place_values.specs.State.{Contents};
 ghost use Rattle.query_lang.specs.Line.{line_of};
 ghost use Rattle.query_lang.specs.Plain.{IsSound, plain_line};
 ghost use Rattle.query_lang.specs.Reply.{update_reply};
 ghost use Rattle.query_lang.specs.declared.line.Line.TheVariants as lines;
 ghost use Rattle.query_replies.specs.Reply.{HasReason};
-ghost use Rattle.place_map.specs.Query.{IsWithinLimits};
+ghost use Rattle.place_values.specs.Query.{IsWithinLimits};
 ghost use Rattle.irtree_engine.specs.Holding.{HoldsState};
-ghost use Rattle.place_map.specs.Update.{NamesText};
-ghost use Rattle.run_protocol.specs.Asking.{IsAsking, ReadsForLine};
-ghost use Rattle.run_protocol.specs.Causes.{GoesOn, HasEngineEnd, LacksRoomIn};
-ghost use Rattle.run_protocol.specs.Reading.{IsReading, KeepsImage};
+ghost use Rattle.place_values.specs.Update.{NamesText};
+ghost use Rattle.run_outcome.specs.Asking.{IsAsking, ReadsForLine};
+ghost use Rattle.run_outcome.specs.Causes.{GoesOn, HasEngineEnd, LacksRoomIn};
+ghost use Rattle.run_outcome.specs.Reading.{IsReading, KeepsImage};
 ghost use Rattle.script_run.specs.Lines.{refused_by, IsLineEnd, RepliesTo, RunsLines};
 
 use disk_model::Station;
 use irtree_engine::{Engine, EngineFault};
-use place_map::{Applied, Query, Update};
+use place_values::{Applied, Query, Update};
 use query_lang::{Line, LineFault, Reply, UpdateDone, read_line, reply_text};
-use run_protocol::{Ended, LimitFault, ended_by, say_all};
+use run_outcome::{Ended, LimitFault, ended_by, say_all};
 use spatial_base::{Key, Memory};
 use std::alloc::Global;
 
@@ -46,18 +46,18 @@ fn refused(fault: EngineFault) -> Result<Reply, Ended>
     }
 }
 
-// The reply to an update, which is made.
+// Makes an update, and returns the reply to it.
 fn update<'d, T: Station>(engine: &mut Engine<'d, T>, update: &Update) -> Result<Reply, Ended>
     requires on { engine.old.stopped ≡ false }
     requires names { NamesText update.now }
     ensures same_loan { engine.new.store.disk.ghost_name ≡ engine.old.store.disk.ghost_name }
-    ensures told { IsTrue T.tells → (state : Contents) → HoldsState (T.world engine.old.store.disk.now) state
+    ensures told { IsTrue T.readable → (state : Contents) → HoldsState (T.world engine.old.store.disk.now) state
         → RepliesTo state (Ok (lines.Do update.now)) (T.world engine.old.store.disk.now) (T.world engine.new.store.disk.now) result }
     ensures reason { IfOk result HasReason }
     ensures goes_on { GoesOn engine.new.stopped result }
-    ensures cause { HasEngineEnd T.tells (T.world engine.old.store.disk.now) (T.world engine.new.store.disk.now) result }
+    ensures cause { HasEngineEnd T.readable (T.world engine.old.store.disk.now) (T.world engine.new.store.disk.now) result }
     ensures ends { IfErr result IsLineEnd }
-    ensures lacks { IsTrue T.tells → IsErrOf result (Ended.Limit LimitFault.NoRoom) → LacksRoomIn 1 (T.room_of engine.new.store.disk.now) (T.world engine.new.store.disk.now).seen }
+    ensures lacks { IsTrue T.readable → IsErrOf result (Ended.Limit LimitFault.NoRoom) → LacksRoomIn 1 (T.room_of engine.new.store.disk.now) (T.world engine.new.store.disk.now).seen }
 {
     match engine.apply(update) {
         Ok(applied) => Ok(accepted(applied)),
@@ -74,16 +74,16 @@ fn ask<'d, T: Station>(
     requires on { engine.old.stopped ≡ false }
     requires limits { IsWithinLimits query }
     ensures same_loan { engine.new.store.disk.ghost_name ≡ engine.old.store.disk.ghost_name }
-    ensures told { IsTrue T.tells → (state : Contents) → HoldsState (T.world engine.old.store.disk.now) state
+    ensures told { IsTrue T.readable → (state : Contents) → HoldsState (T.world engine.old.store.disk.now) state
         → RepliesTo state (Ok (lines.Ask query explain)) (T.world engine.old.store.disk.now) (T.world engine.new.store.disk.now) result }
-    ensures reads { IsTrue T.tells → (state : Contents) → HoldsState (T.world engine.old.store.disk.now) state
+    ensures reads { IsTrue T.readable → (state : Contents) → HoldsState (T.world engine.old.store.disk.now) state
         → OnOk result (ReadsForLine state (Ok (plain_line (lines.Ask query explain))) (T.world engine.old.store.disk.now) (T.world engine.new.store.disk.now)) }
-    ensures kept { IsTrue T.tells → KeepsImage (T.world engine.old.store.disk.now) (T.world engine.new.store.disk.now) result }
+    ensures kept { IsTrue T.readable → KeepsImage (T.world engine.old.store.disk.now) (T.world engine.new.store.disk.now) result }
     ensures reason { IfOk result HasReason }
     ensures goes_on { GoesOn engine.new.stopped result }
-    ensures cause { HasEngineEnd T.tells (T.world engine.old.store.disk.now) (T.world engine.new.store.disk.now) result }
+    ensures cause { HasEngineEnd T.readable (T.world engine.old.store.disk.now) (T.world engine.new.store.disk.now) result }
     ensures ends { IfErr result IsLineEnd }
-    ensures lacks { IsTrue T.tells → IsErrOf result (Ended.Limit LimitFault.NoRoom) → LacksRoomIn 1 (T.room_of engine.new.store.disk.now) (T.world engine.new.store.disk.now).seen }
+    ensures lacks { IsTrue T.readable → IsErrOf result (Ended.Limit LimitFault.NoRoom) → LacksRoomIn 1 (T.room_of engine.new.store.disk.now) (T.world engine.new.store.disk.now).seen }
 {
     match engine.answer(&query) {
         Ok(answer) => Ok(Reply::Found {
@@ -99,14 +99,14 @@ fn ask<'d, T: Station>(
 fn show<'d, T: Station>(engine: &mut Engine<'d, T>, key: Key) -> Result<Reply, Ended>
     requires on { engine.old.stopped ≡ false }
     ensures same_loan { engine.new.store.disk.ghost_name ≡ engine.old.store.disk.ghost_name }
-    ensures told { IsTrue T.tells → (state : Contents) → HoldsState (T.world engine.old.store.disk.now) state
+    ensures told { IsTrue T.readable → (state : Contents) → HoldsState (T.world engine.old.store.disk.now) state
         → RepliesTo state (Ok (lines.Show key)) (T.world engine.old.store.disk.now) (T.world engine.new.store.disk.now) result }
-    ensures kept { IsTrue T.tells → KeepsImage (T.world engine.old.store.disk.now) (T.world engine.new.store.disk.now) result }
+    ensures kept { IsTrue T.readable → KeepsImage (T.world engine.old.store.disk.now) (T.world engine.new.store.disk.now) result }
     ensures reason { IfOk result HasReason }
     ensures goes_on { GoesOn engine.new.stopped result }
-    ensures cause { HasEngineEnd T.tells (T.world engine.old.store.disk.now) (T.world engine.new.store.disk.now) result }
+    ensures cause { HasEngineEnd T.readable (T.world engine.old.store.disk.now) (T.world engine.new.store.disk.now) result }
     ensures ends { IfErr result IsLineEnd }
-    ensures lacks { IsTrue T.tells → IsErrOf result (Ended.Limit LimitFault.NoRoom) → LacksRoomIn 1 (T.room_of engine.new.store.disk.now) (T.world engine.new.store.disk.now).seen }
+    ensures lacks { IsTrue T.readable → IsErrOf result (Ended.Limit LimitFault.NoRoom) → LacksRoomIn 1 (T.room_of engine.new.store.disk.now) (T.world engine.new.store.disk.now).seen }
 {
     match engine.show(&key) {
         Ok(Some(place)) => Ok(Reply::Place {
@@ -119,21 +119,21 @@ fn show<'d, T: Station>(engine: &mut Engine<'d, T>, key: Key) -> Result<Reply, E
     }
 }
 
-// The reply to a line, which is acted on.
+// Acts on a line, and returns the reply to it.
 fn answer<'d, T: Station>(engine: &mut Engine<'d, T>, line: Line) -> Result<Reply, Ended>
     requires on { engine.old.stopped ≡ false }
     requires sound { IsSound line }
     ensures same_loan { engine.new.store.disk.ghost_name ≡ engine.old.store.disk.ghost_name }
-    ensures told { IsTrue T.tells → (state : Contents) → HoldsState (T.world engine.old.store.disk.now) state
+    ensures told { IsTrue T.readable → (state : Contents) → HoldsState (T.world engine.old.store.disk.now) state
         → RepliesTo state (Ok line) (T.world engine.old.store.disk.now) (T.world engine.new.store.disk.now) result }
-    ensures reads { IsTrue T.tells → (state : Contents) → HoldsState (T.world engine.old.store.disk.now) state → IsAsking (Ok (plain_line line))
+    ensures reads { IsTrue T.readable → (state : Contents) → HoldsState (T.world engine.old.store.disk.now) state → IsAsking (Ok (plain_line line))
         → OnOk result (ReadsForLine state (Ok (plain_line line)) (T.world engine.old.store.disk.now) (T.world engine.new.store.disk.now)) }
-    ensures kept { IsTrue T.tells → IsReading (Ok (plain_line line)) → KeepsImage (T.world engine.old.store.disk.now) (T.world engine.new.store.disk.now) result }
+    ensures kept { IsTrue T.readable → IsReading (Ok (plain_line line)) → KeepsImage (T.world engine.old.store.disk.now) (T.world engine.new.store.disk.now) result }
     ensures reason { IfOk result HasReason }
     ensures goes_on { GoesOn engine.new.stopped result }
-    ensures cause { HasEngineEnd T.tells (T.world engine.old.store.disk.now) (T.world engine.new.store.disk.now) result }
+    ensures cause { HasEngineEnd T.readable (T.world engine.old.store.disk.now) (T.world engine.new.store.disk.now) result }
     ensures ends { IfErr result IsLineEnd }
-    ensures lacks { IsTrue T.tells → IsErrOf result (Ended.Limit LimitFault.NoRoom) → LacksRoomIn 1 (T.room_of engine.new.store.disk.now) (T.world engine.new.store.disk.now).seen }
+    ensures lacks { IsTrue T.readable → IsErrOf result (Ended.Limit LimitFault.NoRoom) → LacksRoomIn 1 (T.room_of engine.new.store.disk.now) (T.world engine.new.store.disk.now).seen }
 {
     match line {
         Line::Nothing => Ok(Reply::Nothing),
@@ -144,7 +144,7 @@ fn answer<'d, T: Station>(engine: &mut Engine<'d, T>, line: Line) -> Result<Repl
     }
 }
 
-// The reply to what a line's bytes stand for, which is acted on.
+// Acts on the line that these bytes spell, and returns the reply to it.
 fn reply_to<'d, T: Station>(
     alloc: Global,
     engine: &mut Engine<'d, T>,
@@ -152,16 +152,16 @@ fn reply_to<'d, T: Station>(
 ) -> Result<Reply, Ended>
     requires on { engine.old.stopped ≡ false }
     ensures same_loan { engine.new.store.disk.ghost_name ≡ engine.old.store.disk.ghost_name }
-    ensures told { IsTrue T.tells → (state : Contents) → HoldsState (T.world engine.old.store.disk.now) state
+    ensures told { IsTrue T.readable → (state : Contents) → HoldsState (T.world engine.old.store.disk.now) state
         → RepliesTo state (line_of line.now) (T.world engine.old.store.disk.now) (T.world engine.new.store.disk.now) result }
-    ensures reads { IsTrue T.tells → (state : Contents) → HoldsState (T.world engine.old.store.disk.now) state → IsAsking (line_of line.now)
+    ensures reads { IsTrue T.readable → (state : Contents) → HoldsState (T.world engine.old.store.disk.now) state → IsAsking (line_of line.now)
         → OnOk result (ReadsForLine state (line_of line.now) (T.world engine.old.store.disk.now) (T.world engine.new.store.disk.now)) }
-    ensures kept { IsTrue T.tells → IsReading (line_of line.now) → KeepsImage (T.world engine.old.store.disk.now) (T.world engine.new.store.disk.now) result }
+    ensures kept { IsTrue T.readable → IsReading (line_of line.now) → KeepsImage (T.world engine.old.store.disk.now) (T.world engine.new.store.disk.now) result }
     ensures reason { IfOk result HasReason }
     ensures goes_on { GoesOn engine.new.stopped result }
-    ensures cause { HasEngineEnd T.tells (T.world engine.old.store.disk.now) (T.world engine.new.store.disk.now) result }
+    ensures cause { HasEngineEnd T.readable (T.world engine.old.store.disk.now) (T.world engine.new.store.disk.now) result }
     ensures ends { IfErr result IsLineEnd }
-    ensures lacks { IsTrue T.tells → IsErrOf result (Ended.Limit LimitFault.NoRoom) → LacksRoomIn 1 (T.room_of engine.new.store.disk.now) (T.world engine.new.store.disk.now).seen }
+    ensures lacks { IsTrue T.readable → IsErrOf result (Ended.Limit LimitFault.NoRoom) → LacksRoomIn 1 (T.room_of engine.new.store.disk.now) (T.world engine.new.store.disk.now).seen }
 {
     match read_line(alloc, line) {
         Ok(line) => answer(engine, line),
@@ -170,7 +170,7 @@ fn reply_to<'d, T: Station>(
     }
 }
 
-// Acts on a line and says its reply whole.
+// Acts on a line and prints its reply whole.
 pub(crate) fn act<'d, T: Station>(
     alloc: Global,
     engine: &mut Engine<'d, T>,
@@ -179,13 +179,13 @@ pub(crate) fn act<'d, T: Station>(
 ) -> Result<(), Ended>
     requires on { engine.old.stopped ≡ false }
     ensures same_loan { engine.new.store.disk.ghost_name ≡ engine.old.store.disk.ghost_name }
-    ensures told { IsTrue T.tells → (state : Contents) → HoldsState (T.world engine.old.store.disk.now) state
+    ensures told { IsTrue T.readable → (state : Contents) → HoldsState (T.world engine.old.store.disk.now) state
         → RunsLines state (line.now ∷ []) (T.world engine.old.store.disk.now) (T.world engine.new.store.disk.now) result }
-    ensures kept { IsTrue T.tells → IsReading (line_of line.now) → KeepsImage (T.world engine.old.store.disk.now) (T.world engine.new.store.disk.now) result }
+    ensures kept { IsTrue T.readable → IsReading (line_of line.now) → KeepsImage (T.world engine.old.store.disk.now) (T.world engine.new.store.disk.now) result }
     ensures goes_on { GoesOn engine.new.stopped result }
-    ensures cause { HasEngineEnd T.tells (T.world engine.old.store.disk.now) (T.world engine.new.store.disk.now) result }
+    ensures cause { HasEngineEnd T.readable (T.world engine.old.store.disk.now) (T.world engine.new.store.disk.now) result }
     ensures ends { IfErr result IsLineEnd }
-    ensures lacks { IsTrue T.tells → IsErrOf result (Ended.Limit LimitFault.NoRoom) → LacksRoomIn 1 (T.room_of engine.new.store.disk.now) (T.world engine.new.store.disk.now).seen }
+    ensures lacks { IsTrue T.readable → IsErrOf result (Ended.Limit LimitFault.NoRoom) → LacksRoomIn 1 (T.room_of engine.new.store.disk.now) (T.world engine.new.store.disk.now).seen }
 {
     reply.clear();
     let found = match reply_to(alloc, engine, line) {

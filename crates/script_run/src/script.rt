@@ -1,11 +1,11 @@
 // A script, read piece by piece.
 ghost use Rattle.std.specs.Prelude.{◌≡◌, ◌≤◌, ◌<◌, ◌++◌, ◌∷◌, [], ℕ, List, false, length, take, slice_index, IsTrue, OnOk, IfNone, IfSome, IfErr, IsErrOf};
-ghost use Rattle.place_map.specs.State.{Contents};
+ghost use Rattle.place_values.specs.State.{Contents};
 ghost use Rattle.irtree_engine.specs.Holding.{HoldsState};
-ghost use Rattle.run_protocol.specs.Causes.{GoesOn, HasEngineEnd, LacksRoomIn};
+ghost use Rattle.run_outcome.specs.Causes.{GoesOn, HasEngineEnd, LacksRoomIn};
 ghost use Rattle.query_lang.specs.Line.{line_of};
-ghost use Rattle.run_protocol.specs.Reading.{AreReading, IsReading, KeepsImage};
-ghost use Rattle.run_protocol.specs.Script.{cut, last_line};
+ghost use Rattle.run_outcome.specs.Reading.{AreReading, IsReading, KeepsImage};
+ghost use Rattle.run_outcome.specs.Script.{cut, last_line};
 ghost use Rattle.script_run.specs.Feed.{kept, EndsNoLine};
 ghost use Rattle.script_run.specs.Lines.{IsLineEnd, RunsLines};
 
@@ -13,7 +13,7 @@ use crate::line::act;
 use disk_model::Station;
 use irtree_engine::Engine;
 use query_lang::LINE_MAX;
-use run_protocol::{Ended, LimitFault};
+use run_outcome::{Ended, LimitFault};
 use std::alloc::Global;
 
 /// How many bytes of a line are kept: a longer line is refused whatever its other bytes are.
@@ -41,7 +41,7 @@ fn extend(line: &mut Vec<u8>, part: &[u8]) -> Result<(), Ended>
     }
 }
 
-// How long the line is that an LF ends first.
+// The length of the first line that an LF ends.
 fn line_len(bytes: &[u8]) -> Option<usize>
     ensures none { IfNone result (EndsNoLine bytes.now) }
     ensures within { IfSome result (λ len. len < length bytes.now) }
@@ -56,7 +56,7 @@ fn line_len(bytes: &[u8]) -> Option<usize>
     None
 }
 
-// The line that an LF ends first, and what stands behind the LF.
+// The first line that an LF ends, and the bytes after the LF.
 fn first_line(bytes: &[u8]) -> Option<(&[u8], &[u8])>
     ensures none { IfNone result (EndsNoLine bytes.now) }
     ensures line { IfSome result (λ parts. EndsNoLine parts.0.now) }
@@ -88,15 +88,15 @@ impl Script {
         requires on { engine.old.stopped ≡ false }
         requires short { length self.old.line.items ≤ 65537 }
         ensures same_loan { engine.new.store.disk.ghost_name ≡ engine.old.store.disk.ghost_name }
-        ensures told { (front : List ℕ) → self.old.line.items ≡ kept front → IsTrue T.tells → (state : Contents) → HoldsState (T.world engine.old.store.disk.now) state
+        ensures told { (front : List ℕ) → self.old.line.items ≡ kept front → IsTrue T.readable → (state : Contents) → HoldsState (T.world engine.old.store.disk.now) state
             → RunsLines state ((front ++ part.now) ∷ []) (T.world engine.old.store.disk.now) (T.world engine.new.store.disk.now) result }
-        ensures kept { (front : List ℕ) → self.old.line.items ≡ kept front → IsTrue T.tells → IsReading (line_of (front ++ part.now))
+        ensures kept { (front : List ℕ) → self.old.line.items ≡ kept front → IsTrue T.readable → IsReading (line_of (front ++ part.now))
             → KeepsImage (T.world engine.old.store.disk.now) (T.world engine.new.store.disk.now) result }
         ensures line { OnOk result (self.new.line.items ≡ []) }
         ensures goes_on { GoesOn engine.new.stopped result }
-        ensures cause { HasEngineEnd T.tells (T.world engine.old.store.disk.now) (T.world engine.new.store.disk.now) result }
+        ensures cause { HasEngineEnd T.readable (T.world engine.old.store.disk.now) (T.world engine.new.store.disk.now) result }
         ensures ends { IfErr result IsLineEnd }
-        ensures lacks { IsTrue T.tells → IsErrOf result (Ended.Limit LimitFault.NoRoom) → LacksRoomIn 1 (T.room_of engine.new.store.disk.now) (T.world engine.new.store.disk.now).seen }
+        ensures lacks { IsTrue T.readable → IsErrOf result (Ended.Limit LimitFault.NoRoom) → LacksRoomIn 1 (T.room_of engine.new.store.disk.now) (T.world engine.new.store.disk.now).seen }
     {
         if self.line.is_empty() {
             return act(self.alloc, engine, &mut self.reply, part);
@@ -116,17 +116,17 @@ impl Script {
         requires on { engine.old.stopped ≡ false }
         requires short { length self.old.line.items ≤ 65537 }
         ensures same_loan { engine.new.store.disk.ghost_name ≡ engine.old.store.disk.ghost_name }
-        ensures told { (front : List ℕ) → EndsNoLine front → self.old.line.items ≡ kept front → IsTrue T.tells → (state : Contents) → HoldsState (T.world engine.old.store.disk.now) state
+        ensures told { (front : List ℕ) → EndsNoLine front → self.old.line.items ≡ kept front → IsTrue T.readable → (state : Contents) → HoldsState (T.world engine.old.store.disk.now) state
             → RunsLines state (cut (front ++ piece.now)).lines (T.world engine.old.store.disk.now) (T.world engine.new.store.disk.now) result }
-        ensures kept { (front : List ℕ) → EndsNoLine front → self.old.line.items ≡ kept front → IsTrue T.tells → AreReading (cut (front ++ piece.now)).lines
+        ensures kept { (front : List ℕ) → EndsNoLine front → self.old.line.items ≡ kept front → IsTrue T.readable → AreReading (cut (front ++ piece.now)).lines
             → KeepsImage (T.world engine.old.store.disk.now) (T.world engine.new.store.disk.now) result }
         ensures line { (front : List ℕ) → EndsNoLine front → self.old.line.items ≡ kept front
             → OnOk result (self.new.line.items ≡ kept (cut (front ++ piece.now)).rest) }
         ensures short { OnOk result (length self.new.line.items ≤ 65537) }
         ensures goes_on { GoesOn engine.new.stopped result }
-        ensures cause { HasEngineEnd T.tells (T.world engine.old.store.disk.now) (T.world engine.new.store.disk.now) result }
+        ensures cause { HasEngineEnd T.readable (T.world engine.old.store.disk.now) (T.world engine.new.store.disk.now) result }
         ensures ends { IfErr result IsLineEnd }
-        ensures lacks { IsTrue T.tells → IsErrOf result (Ended.Limit LimitFault.NoRoom) → LacksRoomIn 1 (T.room_of engine.new.store.disk.now) (T.world engine.new.store.disk.now).seen }
+        ensures lacks { IsTrue T.readable → IsErrOf result (Ended.Limit LimitFault.NoRoom) → LacksRoomIn 1 (T.room_of engine.new.store.disk.now) (T.world engine.new.store.disk.now).seen }
     {
         let mut rest = piece;
         'lines: while let Some((line, next)) = first_line(rest) {
@@ -136,18 +136,18 @@ impl Script {
         extend(&mut self.line, rest)
     }
 
-    /// Acts on the bytes behind the last LF, where there are any.
+    /// Acts on the bytes after the last LF, if there are any.
     pub(crate) fn end<'d, T: Station>(&mut self, engine: &mut Engine<'d, T>) -> Result<(), Ended>
         requires on { engine.old.stopped ≡ false }
         ensures same_loan { engine.new.store.disk.ghost_name ≡ engine.old.store.disk.ghost_name }
-        ensures told { (front : List ℕ) → self.old.line.items ≡ kept front → IsTrue T.tells → (state : Contents) → HoldsState (T.world engine.old.store.disk.now) state
+        ensures told { (front : List ℕ) → self.old.line.items ≡ kept front → IsTrue T.readable → (state : Contents) → HoldsState (T.world engine.old.store.disk.now) state
             → RunsLines state (last_line front) (T.world engine.old.store.disk.now) (T.world engine.new.store.disk.now) result }
-        ensures kept { (front : List ℕ) → self.old.line.items ≡ kept front → IsTrue T.tells → AreReading (last_line front)
+        ensures kept { (front : List ℕ) → self.old.line.items ≡ kept front → IsTrue T.readable → AreReading (last_line front)
             → KeepsImage (T.world engine.old.store.disk.now) (T.world engine.new.store.disk.now) result }
         ensures goes_on { GoesOn engine.new.stopped result }
-        ensures cause { HasEngineEnd T.tells (T.world engine.old.store.disk.now) (T.world engine.new.store.disk.now) result }
+        ensures cause { HasEngineEnd T.readable (T.world engine.old.store.disk.now) (T.world engine.new.store.disk.now) result }
         ensures ends { IfErr result IsLineEnd }
-        ensures lacks { IsTrue T.tells → IsErrOf result (Ended.Limit LimitFault.NoRoom) → LacksRoomIn 1 (T.room_of engine.new.store.disk.now) (T.world engine.new.store.disk.now).seen }
+        ensures lacks { IsTrue T.readable → IsErrOf result (Ended.Limit LimitFault.NoRoom) → LacksRoomIn 1 (T.room_of engine.new.store.disk.now) (T.world engine.new.store.disk.now).seen }
     {
         if self.line.is_empty() {
             return Ok(());

@@ -1,4 +1,4 @@
-//! A search over a small tree: its pages are in memory, and what its nodes give stands in a table.
+//! A search over a small tree: its pages are in memory, and what its nodes give is in a table.
 ghost use Rattle.std.specs.Prelude.{◌≡◌, ◌≤◌, length, None, IsTrue, IfOk, IfErr};
 ghost use Rattle.std.specs.List.{AllByRecursion};
 ghost use Rattle.best_first.specs.Items.{IsGivenAt};
@@ -7,7 +7,7 @@ ghost use Rattle.best_first.specs.Faults.{held_with};
 use crate::small_tree::write_hits;
 use best_first::{Item, Ranked, first_k};
 use page_face::{MemoryPages, PageFault, Pages};
-use place_map::Hit;
+use place_values::Hit;
 use spatial_base::{Key, Point};
 use std::alloc::Global;
 use std::fmt::Write;
@@ -78,7 +78,7 @@ fn item_of(given: &Given) -> Option<Item> {
 }
 
 // What the node of a page gives by the table.
-#[tactic(auto, using(best_first::proofs::Lists::all_append))]
+#[tactic(auto, using(best_first::specs::Lists::all_append))]
 fn given(alloc: Global, page: u32, level: u8) -> Result<Vec<Item>, PageFault>
     ensures few { IfOk result (λ items. length items.items ≤ 32) }
     ensures children { IfOk result (λ items. AllByRecursion (IsGivenAt level) items.items) }
@@ -185,8 +185,8 @@ fn tell(
     Some(())
 }
 
-// Whether the first k places are these, where so many pages are counted behind page 0.
-fn tells(alloc: Global, counted: u32, k: u16, wanted: &str) -> bool {
+// Whether the first k places are these, if so many pages are counted after page 0.
+fn readable(alloc: Global, counted: u32, k: u16, wanted: &str) -> bool {
     let mut pages = MemoryPages::new(alloc, 9);
     for _ in 0..counted {
         if pages.take().is_err() {
@@ -203,7 +203,7 @@ fn tells(alloc: Global, counted: u32, k: u16, wanted: &str) -> bool {
     tell(alloc, &mut pages, &mut table, k, &mut out).is_some() && out.as_str() == wanted
 }
 
-// How many pages are counted, how many places are asked for, and these with what they cost, and the pages that are opened.
+// How many pages are counted, how many places are requested, and these with what they cost, and the pages that are opened.
 static TOLD: [(u32, u16, &str); 6] = [
     (4, 0, "opened"),
     (4, 1, "a 1, opened 1 2"),
@@ -219,6 +219,6 @@ static TOLD: [(u32, u16, &str); 6] = [
 #[test]
 fn places_are_ordered_by_cost_and_key_and_few_nodes_are_opened(rt: HostRuntime) {
     for (counted, k, wanted) in &TOLD {
-        assert!(rt; tells(rt.alloc(), *counted, *k, wanted));
+        assert!(rt; readable(rt.alloc(), *counted, *k, wanted));
     }
 }

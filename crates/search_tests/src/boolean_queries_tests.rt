@@ -1,9 +1,9 @@
 //! Two leaves below a root, with the rows of two words: "a" and "d" hold café, "c", "d" and "e" hold wifi, and "b" holds neither.
-use crate::small_tree::{Grown, Leaf, Place, Row, filter, planted, tells};
+use crate::small_tree::{Grown, Leaf, Place, Row, filter, planted, readable};
 use boolean_queries::{inside, range};
 use node_inverted::Tree;
 use page_face::{Damage, PageFault, Pages, Rule};
-use place_map::Expr;
+use place_values::Expr;
 use rtree_nodes::new_node;
 use spatial_base::{Point, Rect};
 use std::alloc::Global;
@@ -44,7 +44,7 @@ fn are_near(alloc: Global, grown: &mut Grown, radius: u64, wanted: &str) -> bool
         radius,
         None,
     );
-    tells(alloc, &answer, wanted)
+    readable(alloc, &answer, wanted)
 }
 
 // A radius, and the answer.
@@ -86,17 +86,17 @@ fn are_within(
         &rect,
         filter,
     );
-    tells(alloc, &answer, wanted)
+    readable(alloc, &answer, wanted)
 }
 
-// Boxes, and the answers. A border belongs to its rectangle.
+// Boxes, and their answers. A border belongs to its rectangle.
 static BOXES: [(Sides, &str); 3] = [
     ([5, 5, 9, 9], "a 0, b 0, d 0, "),
     ([20, -5, 30, 0], "e 0, "),
     ([10, 6, 30, 9], ""),
 ];
 
-// The word that a filter asks for, the one that is to lack, and the answer.
+// The word that a filter requires, the one that is to lack, and the answer.
 static FILTERS: [(&str, &str, &str); 4] = [
     ("café", "", "a 0, d 0, "),
     ("", "café", "b 0, c 0, e 0, "),

@@ -1,9 +1,10 @@
-//! Nineteen places in three leaves below a root, with the rows of nine words. The first letters of a key are the words that its place holds.
+//! Nineteen places in three leaves below a root, with the rows of nine words. The first letters of a key are the words that its place
+//! holds.
 use crate::small_tree::{Grown, Leaf, Place, Row, planted, word};
 use collective_query::group;
 use node_inverted::Tree;
 use page_face::{Damage, PageFault, Pages, Rule};
-use place_map::Chosen;
+use place_values::Chosen;
 use rtree_nodes::new_node;
 use spatial_base::Point;
 use std::alloc::Global;
@@ -100,7 +101,7 @@ fn write_choice(out: &mut String, chosen: &Chosen) -> Option<()> {
 }
 
 // Whether the cost and the keys of an answer are these; "" is no choice.
-fn tells(alloc: Global, answer: &Result<Option<Chosen>, PageFault>, wanted: &str) -> bool {
+fn readable(alloc: Global, answer: &Result<Option<Chosen>, PageFault>, wanted: &str) -> bool {
     let mut out = String::new(alloc);
     match answer {
         Ok(Some(chosen)) => write_choice(&mut out, chosen).is_some() && out.as_str() == wanted,
@@ -139,7 +140,7 @@ fn group_of(
 // Whether the choice for some words from 0 0 is this.
 fn is_chosen(alloc: Global, grown: &mut Grown, texts: &[&str], wanted: &str) -> bool {
     match group_of(alloc, grown, texts) {
-        Some(answer) => tells(alloc, &answer, wanted),
+        Some(answer) => readable(alloc, &answer, wanted),
         None => false,
     }
 }

@@ -1,14 +1,14 @@
-//! Stores on a station in memory: what the engine reads where they were written below it, and what stays of its own updates.
+//! Stores on a station in memory: what the engine reads if they were written below it, and what stays of its own updates.
 ghost use Rattle.std.specs.Prelude.{◌≡◌, IfOk};
-ghost use Rattle.place_map.specs.Query.{IsWithinLimits};
+ghost use Rattle.place_values.specs.Query.{IsWithinLimits};
 ghost use Rattle.spatial_base.specs.Key.{Text};
-ghost use Rattle.place_map.specs.Update.{NamesText};
+ghost use Rattle.place_values.specs.Update.{NamesText};
 
 use disk_model::MemoryStation;
 use irtree_engine::{Engine, EngineFault};
 use page_face::Head;
 use page_store::Store;
-use place_map::{Answer, Applied, Place, Query, Update};
+use place_values::{Answer, Applied, Place, Query, Update};
 use spatial_base::{Key, Point};
 use split_policy::{Halving, Quadratic, SplitPolicy};
 use std::alloc::Global;
@@ -115,7 +115,7 @@ fn is_stored(place: &Place) -> bool {
     }
 }
 
-// Whether a place is shown at a key, and it is the one that is stored.
+// Whether a place is shown at a key, and is the one that is stored.
 fn shows_stored(engine: &mut Engine<'_, MemoryStation>, key: &Key) -> bool
     ensures { engine.new.store.disk.ghost_name ≡ engine.old.store.disk.ghost_name }
 {
@@ -132,7 +132,7 @@ fn shows_none(engine: &mut Engine<'_, MemoryStation>, key: &Key) -> bool
     matches!(shown(engine, key), Ok(None))
 }
 
-// Whether two bytes are said, and one page is in the log before and after that.
+// Whether two bytes are printed, and one page is in the log before and after that.
 fn says_two(engine: &mut Engine<'_, MemoryStation>) -> bool
     ensures { engine.new.store.disk.ghost_name ≡ engine.old.store.disk.ghost_name }
 {
@@ -142,7 +142,7 @@ fn says_two(engine: &mut Engine<'_, MemoryStation>) -> bool
 
 // While an engine lives nothing returns early: its loan is given back by `close` or `into_disk`.
 
-// Whether the stored place is shown alone, the engine says something, and is closed.
+// Whether only the stored place is shown, the engine prints something, and is closed.
 fn shows_in(alloc: Global, station: &mut MemoryStation) -> Result<bool, Fail> {
     let (here, nowhere) = (key("a")?, key("b")?);
     let policy = Box::new(alloc, Quadratic::new())?;
@@ -187,7 +187,8 @@ fn an_area_of_other_bytes_is_no_store(rt: HostRuntime) -> Result<(), Fail> {
     Ok(())
 }
 
-// Whether a place is put, put again, and looked for in vain to be removed under another key; then a batch by which another place takes its place.
+// Whether a place is put, put again, and looked for in vain to be removed under another key. Then comes a batch by which another place
+// takes its place.
 fn applies(alloc: Global, engine: &mut Engine<'_, MemoryStation>) -> Result<bool, Fail>
     ensures { engine.new.store.disk.ghost_name ≡ engine.old.store.disk.ghost_name }
 {
@@ -203,7 +204,7 @@ fn applies(alloc: Global, engine: &mut Engine<'_, MemoryStation>) -> Result<bool
     )
 }
 
-// Whether that is so in a store, and without a split.
+// Whether the engine over a store applies these updates so, without a split.
 fn applies_in(alloc: Global, station: &mut MemoryStation) -> Result<bool, Fail> {
     let policy = Box::new(alloc, Quadratic::new())?;
     let mut engine = opened(alloc, station, 0, policy)?;
@@ -234,7 +235,7 @@ fn is_nearest(engine: &mut Engine<'_, MemoryStation>, key: &Key) -> Result<bool,
     }
 }
 
-// Whether the other place alone stands in a store, which is opened under another policy.
+// Whether a store has only the other place, when it is opened under another policy.
 fn stands_in(alloc: Global, station: &mut MemoryStation) -> Result<bool, Fail> {
     let (gone, here) = (key("a")?, key("b")?);
     let policy = Box::new(alloc, Halving::new())?;

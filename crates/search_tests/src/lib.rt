@@ -1,4 +1,5 @@
-//! Tests of updates and searches: places put into the tables, best first, boolean, ranked and collective queries, and what the engine answers and opens.
+//! Tests of updates and searches: places put into the tables, best first, boolean, ranked and collective queries, and what the engine
+//! returns and opens.
 #![tactic(auto)]
 
 #[cfg(test)]
@@ -12,8 +13,8 @@ mod irtree_engine_tests;
 #[cfg(test)]
 mod opened_nodes_tests;
 #[cfg(test)]
-mod place_updates_tests;
-#[cfg(test)]
 mod small_tree;
+#[cfg(test)]
+mod table_updates_tests;
 #[cfg(test)]
 mod topk_query_tests;

@@ -7,7 +7,7 @@ use disk_model::MemoryStation;
 use irtree_engine::Engine;
 use page_face::Pages;
 use page_store::Store;
-use place_map::{Answer, Query, Weights};
+use place_values::{Answer, Query, Weights};
 use rtree_nodes::child_at;
 use spatial_base::Point;
 use split_policy::Halving;
@@ -58,7 +58,7 @@ fn top_three(alloc: Global, word: &str) -> Result<Query, Fail> {
 }
 
 // Whether the keys and costs of an answer are these.
-fn tells(alloc: Global, answer: &Answer, wanted: &str) -> bool {
+fn readable(alloc: Global, answer: &Answer, wanted: &str) -> bool {
     let mut out = String::new(alloc);
     match answer {
         Answer::Hits(hits) => {
@@ -85,15 +85,15 @@ fn is_searched(
     let answer = answered(engine, query)?;
     let log = engine.read_log();
     Ok(
-        tells(alloc, &answer, wanted)
+        readable(alloc, &answer, wanted)
             && log.contains(&nodes.root) == opened[0]
             && log.contains(&nodes.west) == opened[1]
             && log.contains(&nodes.east) == opened[2],
     )
 }
 
-// Searches for the nearest places on a line, and for the first that have a word which all of them have, or none: whether they have these hits and
-// open these nodes.
+// Searches for the nearest places on a line, and for the first that have a word which all of them have, or none. Returns whether the
+// searches have these hits and open these nodes.
 fn are_searched(
     alloc: Global,
     engine: &mut Engine<'_, MemoryStation>,
@@ -114,7 +114,7 @@ fn are_searched(
     )
 }
 
-// Whether that is so in a store.
+// Whether the engine over a store searches so.
 fn are_searched_in(alloc: Global, station: &mut MemoryStation, nodes: Nodes) -> Result<bool, Fail> {
     let policy = Box::new(alloc, Halving::new())?;
     let mut engine = opened(alloc, station, 64, policy)?;

@@ -1,17 +1,17 @@
-//! Trees that tables say: places in leaves below a root at page 3, with the rows of words.
+//! Trees from tables: places in leaves below a root at page 3, with the rows of words.
 ghost use Rattle.std.specs.Prelude.{◌<◌};
 
+use node_filter::Ids;
 use node_inverted::{Tree, set_row};
 use page_face::{MemoryPages, PageFault, Pages};
-use place_map::{Expr, Hit};
+use place_values::{Expr, Hit};
 use rtree_nodes::{Slot, new_node, put_slot};
 use spatial_base::{Key, Point, Rect};
 use std::alloc::Global;
 use std::fmt::Write;
 use term_impacts::{Word, one_word};
-use tree_entries::Ids;
 
-// A place: its leaf's page, its slot, its key, and where it is.
+// A place: its leaf's page, its slot, its key, and its coordinates.
 pub(crate) type Place = (u32, usize, &'static str, i32, i32);
 
 // A leaf below the root: its slot there, its page, and its west, south, east and north.
@@ -73,7 +73,7 @@ fn put_rows(pages: &mut MemoryPages, tree: &mut Tree, rows: &[Row]) -> Option<()
     Some(())
 }
 
-// Writes a tree of up to four pages, and the rows behind them.
+// Writes a tree of up to four pages, and the rows after them.
 fn put_tree(
     pages: &mut MemoryPages,
     leaves: &[Leaf],
@@ -116,7 +116,7 @@ pub(crate) fn planted(
     Some(Grown { pages, tree, ids })
 }
 
-// A filter that asks for one word and for the lack of another one; "" is none.
+// A filter that requires one word and the lack of another one; "" is none.
 pub(crate) fn filter(alloc: Global, has: &str, lacks: &str) -> Option<Expr> {
     if lacks.is_empty() {
         return Some(Expr::Has(word(alloc, has)?));
@@ -138,7 +138,7 @@ pub(crate) fn write_hits(out: &mut String, hits: &[Hit]) -> Option<()> {
 }
 
 // Whether the keys and costs of an answer are these.
-pub(crate) fn tells(alloc: Global, answer: &Result<Vec<Hit>, PageFault>, wanted: &str) -> bool {
+pub(crate) fn readable(alloc: Global, answer: &Result<Vec<Hit>, PageFault>, wanted: &str) -> bool {
     let mut out = String::new(alloc);
     match answer {
         Ok(hits) => write_hits(&mut out, hits).is_some() && out.as_str() == wanted,

@@ -1,16 +1,15 @@
 //! Three places in two leaves below a root, with the rows of two words: "a" and "b" hold café, "b" and "c" hold wifi. They lie 5, 10 and 20
 //! away from the point 0 0.
-use crate::small_tree::{Grown, Leaf, Place, Row, filter, planted, tells, word};
-use best_first::first_k;
+use crate::small_tree::{Grown, Leaf, Place, Row, filter, planted, readable, word};
+use best_first::{Ranking, first_k};
 use node_inverted::Tree;
 use page_face::{Damage, PageFault, Pages, Rule};
-use place_map::{Expr, Query, Weights};
+use place_values::{Expr, Query, Weights};
 use rtree_nodes::new_node;
 use spatial_base::Point;
 use std::alloc::Global;
 use std::test::Fail;
 use topk_query::top;
-use tree_ranking::Ranking;
 
 static PLACES: [Place; 3] = [(1, 0, "a", 3, 4), (1, 5, "b", 6, 8), (2, 31, "c", 0, 20)];
 
@@ -39,10 +38,10 @@ fn are_nearest(
     };
     let mut ranking = Ranking::nearest(&grown.tree, &grown.ids, &at, filter);
     let answer = first_k(alloc, &mut grown.pages, &mut ranking, k);
-    tells(alloc, &answer, wanted)
+    readable(alloc, &answer, wanted)
 }
 
-// How many places are asked for, the word that a filter asks for, the one that is to lack, and the answer.
+// How many places are requested, the word that a filter requires, the one that is to lack, and the answer.
 static FILTERS: [(u16, &str, &str, &str); 4] = [
     (1, "wifi", "", "b 10, "),
     (9, "wifi", "", "b 10, c 20, "),
@@ -77,7 +76,7 @@ fn the_nearest_come_by_distance_and_meet_a_filter(rt: HostRuntime) -> Result<(),
     Ok(())
 }
 
-// How many hits are asked for, alpha, words with their weights, and the answer.
+// How many hits are requested, alpha, words with their weights, and the answer.
 type Top = (u16, u16, &'static [(&'static str, u8)], &'static str);
 
 static TOPS: [Top; 7] = [
@@ -114,7 +113,7 @@ fn weights_of(alloc: Global, words: &[(&str, u8)]) -> Option<Weights> {
     Some(Weights::from_vec(weights))
 }
 
-// A top query from 0 0, where the distance 20 weighs as much as the words.
+// A top query from 0 0, in which the distance 20 weighs as much as the words.
 fn query_of(alloc: Global, of: &Top) -> Option<Query> {
     let (k, alpha, words, _) = of;
     Some(Query::Top {
@@ -150,13 +149,13 @@ fn are_first(alloc: Global, grown: &mut Grown, query: &Query, wanted: &str) -> b
                 *reach,
                 words.as_slice(),
             );
-            tells(alloc, &answer, wanted)
+            readable(alloc, &answer, wanted)
         }
         _ => false,
     }
 }
 
-// Whether the hits are those that the table says.
+// Whether the hits are those in the table.
 fn are_ranked(alloc: Global, grown: &mut Grown, of: &Top) -> bool {
     match query_of(alloc, of) {
         Some(query) => are_first(alloc, grown, &query, of.3),
@@ -174,7 +173,7 @@ fn words_and_distance_rank_places(rt: HostRuntime) -> Result<(), Fail> {
     Ok(())
 }
 
-// Whether the leaf in the north is named, when the nearest three places are asked for.
+// Whether the leaf in the north is named, when the nearest three places are requested.
 fn is_named(alloc: Global, grown: &mut Grown, rule: Rule) -> bool {
     let Some(at) = Point::new(0, 0) else {
         return false;

@@ -6,7 +6,7 @@ ghost use Rattle.spatial_base.specs.Point.{distance, gap};
 use crate::Point;
 use std::num::{nearest_u64_to_f64, saturating_f64_to_u32};
 
-// The first number from `guess` downward whose square is not above `n`.
+// The greatest number at or below `guess` whose square is at most `n`.
 fn lowered(n: u64, guess: u32) -> u32
     ensures square { result * result ≤ n }
 {
@@ -17,7 +17,7 @@ fn lowered(n: u64, guess: u32) -> u32
     root
 }
 
-// The root of `n`, from a number whose square is not above `n`.
+// Raises `low`, whose square is at most `n`, to the root of `n`.
 fn raised(n: u64, low: u32) -> u32
     requires { low * low ≤ n }
     ensures root { IsRoot n result }
@@ -29,7 +29,7 @@ fn raised(n: u64, low: u32) -> u32
     root
 }
 
-// The root of a `u64`. The floating-point root is a good guess; whatever it is, the two steps after it correct it.
+// The root of a `u64`. The floating-point root is only a guess: the two steps after it correct it, whatever it is.
 fn root_of_u64(n: u64) -> u32
     ensures root { IsRoot n result }
 {
@@ -37,7 +37,7 @@ fn root_of_u64(n: u64) -> u32
     raised(n, lowered(n, guess))
 }
 
-/// The greatest number whose square is not above `n`.
+/// Returns the whole square root: the greatest number whose square is at most `n`.
 pub fn isqrt(n: u128) -> u64
     ensures root { IsRoot n result }
     ensures value { result ≡ root n }
@@ -48,7 +48,7 @@ pub fn isqrt(n: u128) -> u64
     }
 }
 
-// How far apart two points are from west to east.
+// The distance between two longitudes, in degrees times 10^7.
 fn east_gap(p: &Point, q: &Point) -> u64
     ensures value { result ≡ gap p.now.x q.now.x }
     ensures within { result ≤ 3600000000 }
@@ -56,7 +56,7 @@ fn east_gap(p: &Point, q: &Point) -> u64
     p.x().abs_diff(q.x()).into()
 }
 
-// How far apart two points are from south to north.
+// The distance between two latitudes, in degrees times 10^7.
 fn north_gap(p: &Point, q: &Point) -> u64
     ensures value { result ≡ gap p.now.y q.now.y }
     ensures within { result ≤ 1800000000 }
@@ -64,7 +64,7 @@ fn north_gap(p: &Point, q: &Point) -> u64
     p.y().abs_diff(q.y()).into()
 }
 
-// The length of a line that leads so far east and so far north, rounded down.
+// The length of a line that goes `east` and `north` by these many units, rounded down.
 pub(crate) fn line(east: u64, north: u64) -> u64
     requires east { east ≤ 3600000000 }
     requires north { north ≤ 1800000000 }
@@ -74,7 +74,9 @@ pub(crate) fn line(east: u64, north: u64) -> u64
     root_of_u64(east * east + north * north).into()
 }
 
-/// The distance between two points in degrees times 10^7: the square root of the squared differences, rounded down.
+/// Returns the distance between two points in degrees times 10^7, rounded down.
+///
+/// It is the whole square root of the sum of the squared differences, at most 4,024,922,359.
 pub fn dist(p: &Point, q: &Point) -> u64
     ensures value { result ≡ distance p.now q.now }
     ensures far { result ≤ 4024922359 }

@@ -11,13 +11,13 @@ ghost use Rattle.spatial_base.specs.Key.{Name, Text, Auto, IsName, text_of, seri
 use std::cmp::Ordering;
 use std::marker::Model;
 
-/// The greatest number of bytes of a key's text.
+/// The most bytes that a text key has.
 pub const KEY_TEXT_MAX: usize = 64;
 
-/// Why a text is no key.
+/// Why a text is not a key.
 #[derive(Clone, Copy, Debug, PartialEq, Eq)]
 pub enum KeyFault {
-    /// The text has no byte.
+    /// The text is empty.
     Empty = 1,
     /// The text has more than 64 bytes.
     TooLong = 2,
@@ -25,9 +25,12 @@ pub enum KeyFault {
 
 /// A key: a text of 1 to 64 bytes of UTF-8, or an automatic number.
 ///
-/// Text keys are ordered by their bytes, a proper prefix first; automatic keys come after all text keys, by number.
-/// Its 66 bytes are a kind (0 for a text, 1 for a number), 64 bytes of text padded with zeros or of the number in
-/// big-endian followed by zeros, and the length of what is not padding. Comparing them byte by byte gives the order.
+/// Text keys are ordered by their bytes, and a proper prefix comes first. Automatic keys come after all text keys, in the order of
+/// their numbers.
+///
+/// A key is stored in 66 bytes, its form. Byte 0 is the kind: 0 for a text, 1 for a number. Bytes 1 to 64 are the text, or the number
+/// in 8 bytes big-endian, padded with zeros. Byte 65 is the length before the padding. Comparing two forms byte by byte gives the order
+/// of the keys.
 #[derive(Clone, Copy, Debug)]
 pub struct Key {
     bytes: [u8; 66],
@@ -48,7 +51,7 @@ impl Model for Key {
     ghost inverse_ok = { λ k h i. record { bytes = h.0 i } };
 }
 
-// A kind, bytes padded with zeros to 64, and how many they are.
+// The form with this kind and content: the kind, the content padded with zeros to 64 bytes, and the content's length.
 fn form(kind: u8, content: &[u8]) -> [u8; 66]
     requires { length content.now ≤ 64 }
     ensures { result ≡ kind ∷ padded 64 content.now ++ length content.now ∷ [] }
@@ -61,9 +64,9 @@ fn form(kind: u8, content: &[u8]) -> [u8; 66]
 }
 
 impl Key {
-    /// The key of a text.
+    /// Returns the key of a text.
     ///
-    /// Refuses `Empty` exactly for no bytes and `TooLong` exactly for more than 64.
+    /// Refuses with `Empty` exactly if the text has no bytes, and with `TooLong` exactly if it has more than 64.
     pub fn of_text(text: &str) -> Result<Key, KeyFault>
         ensures ok { IfOk result (λ key. key ≡ Text text.now) }
         ensures empty { IsErrOf result KeyFault.Empty ↔ (length text.now ≡ 0) }
@@ -80,7 +83,7 @@ impl Key {
         })
     }
 
-    /// The automatic key of a serial.
+    /// Returns the automatic key with this serial.
     pub fn auto(serial: u64) -> Key
         ensures { result ≡ Auto serial }
     {
@@ -89,7 +92,7 @@ impl Key {
         }
     }
 
-    /// The text of a text key.
+    /// Returns the text of a text key, or `None` for an automatic key.
     pub fn text(&self) -> Option<&str>
         ensures { option_copied result ≡ text_of self.now }
     {
@@ -100,7 +103,7 @@ impl Key {
         Some(unsafe { std::str::from_utf8_unchecked(&self.bytes[1..1 + len]) })
     }
 
-    /// The serial of an automatic key.
+    /// Returns the serial of an automatic key, or `None` for a text key.
     pub fn serial(&self) -> Option<u64>
         ensures { result ≡ serial_of self.now }
     {
@@ -110,7 +113,7 @@ impl Key {
         Some(serial_in(&self.bytes))
     }
 
-    /// The key's form.
+    /// Returns the key's form of 66 bytes.
     pub fn bytes(&self) -> [u8; 66]
         ensures form { result ≡ form_of self.now }
         ensures name { IsName self.now }
@@ -120,7 +123,7 @@ impl Key {
 }
 
 impl Key {
-    /// The key whose form the bytes are, or None exactly where they are no key's.
+    /// Returns the key that has this form, or `None` exactly if the bytes are not the form of a key.
     pub fn of_bytes(bytes: &[u8; 66]) -> Option<Key>
         ensures some { IsSome result ↔ IsKeyForm bytes.now }
         ensures value { IfSome result (λ key. form_of key ≡ bytes.now) }
@@ -131,7 +134,7 @@ impl Key {
     }
 }
 
-// The key that the bytes name where they are a key's form, and anything where they are none.
+// The key that has this form. If no key has it, the result may be anything.
 fn named_by(bytes: &[u8; 66]) -> Option<Key>
     ensures { (name : Name) → IsName name → bytes.now ≡ form_of name → result ≡ Some name }
 {
@@ -142,7 +145,7 @@ fn named_by(bytes: &[u8; 66]) -> Option<Key>
     }
 }
 
-// The same for bytes of the kind text.
+// The same for bytes whose kind is text.
 fn text_named_by(bytes: &[u8; 66]) -> Option<Key>
     ensures { (text : List ℕ) → IsName (Text text) → bytes.now ≡ form_of (Text text) → result ≡ Some (Text text) }
 {
@@ -154,7 +157,7 @@ fn text_named_by(bytes: &[u8; 66]) -> Option<Key>
     Key::of_text(text).ok()
 }
 
-// The serial of bytes of the kind automatic.
+// The serial in bytes whose kind is automatic.
 fn serial_in(bytes: &[u8; 66]) -> u64
     ensures { result ≡ from_be_bytes w64 (take 8 (drop 1 bytes.now)) }
 {

@@ -1,7 +1,9 @@
-//! Points, rectangles, keys and distances: the exact values that every crate above speaks of.
+//! Points, rectangles, keys and distances: the exact values that every other crate uses.
 //!
-//! A point is a pair of whole numbers, degrees times 10^7. A key is a text of 1 to 64 bytes or an automatic
-//! number. A distance is the whole square root of the squared differences. No call takes memory.
+//! A point is a pair of whole numbers, degrees times 10^7. A key is a text of 1 to 64 bytes or an automatic number. A distance is the
+//! whole square root of the sum of the squared differences. No call allocates memory.
+//!
+//! Tests: `text_tests/src/spatial_base_tests.rt`.
 #![tactic(auto)]
 
 mod distance;

@@ -1,3 +1,3 @@
-/// Want of memory: the one answer that no contract ties to a cause.
+/// Memory ran out. It is the one error that no contract ties to a cause.
 #[derive(Clone, Copy, Debug, PartialEq, Eq)]
 pub struct Memory;

@@ -4,13 +4,13 @@ ghost use Rattle.spatial_base.specs.Point.{IsOnMap};
 
 use std::marker::Model;
 
-/// The greatest size of a longitude: 180 degrees times 10^7.
+/// The greatest longitude east or west: 180 degrees times 10^7.
 pub const LONGITUDE_MAX: u32 = 1_800_000_000;
 
-/// The greatest size of a latitude: 90 degrees times 10^7.
+/// The greatest latitude north or south: 90 degrees times 10^7.
 pub const LATITUDE_MAX: u32 = 900_000_000;
 
-/// A point: longitude and latitude in degrees times 10^7, within plus or minus 180 and 90 degrees.
+/// A point on the map: longitude within 180 and latitude within 90 degrees of 0, in degrees times 10^7.
 #[derive(Clone, Copy, Debug, PartialEq, Eq, PartialOrd, Ord)]
 pub struct Point {
     x: i32,
@@ -30,7 +30,7 @@ impl Model for Point {
 }
 
 impl Point {
-    /// The point at longitude `x` and latitude `y`, or None where one is out of range.
+    /// Returns the point at longitude `x` and latitude `y`, or `None` if one is out of range.
     pub fn new(x: i32, y: i32) -> Option<Point>
         ensures some { IsSome result ↔ IsOnMap x y }
         ensures value { IfSome result (λ p. p ≡ record { x = x; y = y }) }
@@ -42,7 +42,7 @@ impl Point {
         }
     }
 
-    /// The longitude in degrees times 10^7.
+    /// Returns the longitude in degrees times 10^7.
     pub fn x(&self) -> i32
         ensures value { result ≡ self.now.x }
         ensures within { unsigned_abs result ≤ LONGITUDE_MAX }
@@ -50,7 +50,7 @@ impl Point {
         self.x
     }
 
-    /// The latitude in degrees times 10^7.
+    /// Returns the latitude in degrees times 10^7.
     pub fn y(&self) -> i32
         ensures value { result ≡ self.now.y }
         ensures within { unsigned_abs result ≤ LATITUDE_MAX }
@@ -59,7 +59,7 @@ impl Point {
     }
 }
 
-// Whether a longitude and a latitude are on the map.
+// Whether a longitude and a latitude are both in range.
 pub(crate) fn is_on_map(x: i32, y: i32) -> bool
     ensures { IsTrue result ↔ IsOnMap x y }
 {

@@ -1,4 +1,4 @@
-// Rectangles of the map.
+// Rectangles on the map.
 ghost use Rattle.std.specs.Prelude.{◌≡◌, ◌≤◌, ◌≤ℤ◌, ◌↔◌, IsTrue, IsSome, IfSome};
 ghost use Rattle.spatial_base.specs.Point.{Position, distance, gap};
 ghost use Rattle.spatial_base.specs.Rect.{Bounds, IsRect, Holds, holds_point, Covers, rect_of, joined, area_of, mindist_of, clamped, is_in_range};
@@ -8,8 +8,9 @@ use crate::distance::line;
 use crate::point::is_on_map;
 use std::marker::Model;
 
-/// A rectangle of the map, border included: the points from `west` to `east` and from `south` to `north`, in degrees
-/// times 10^7. It holds at least one point.
+/// A rectangle on the map, including its border.
+///
+/// It has the points from `west` to `east` and from `south` to `north`, in degrees times 10^7, and so at least one.
 #[derive(Clone, Copy, Debug, PartialEq, Eq)]
 pub struct Rect {
     west: i32,
@@ -31,8 +32,9 @@ impl Model for Rect {
 }
 
 impl Rect {
-    /// The rectangle between these longitudes and latitudes, or None exactly where `west` is greater than `east`, `south` is
-    /// greater than `north`, or one of them is out of range.
+    /// Returns the rectangle between these longitudes and latitudes.
+    ///
+    /// Returns `None` exactly if `west` is greater than `east`, `south` is greater than `north`, or one of them is out of range.
     pub fn new(west: i32, south: i32, east: i32, north: i32) -> Option<Rect>
         ensures some { IsSome result ↔ IsRect west south east north }
         ensures value { IfSome result (λ r. r ≡ record { west = west; south = south; east = east; north = north }) }
@@ -49,7 +51,7 @@ impl Rect {
         }
     }
 
-    /// The rectangle of one point.
+    /// Returns the rectangle that has only one point.
     pub fn of(p: &Point) -> Rect
         ensures { result ≡ rect_of p.now }
     {
@@ -61,7 +63,7 @@ impl Rect {
         }
     }
 
-    /// The least longitude, in degrees times 10^7.
+    /// Returns the least longitude, in degrees times 10^7.
     pub fn west(&self) -> i32
         ensures value { result ≡ self.now.west }
         ensures valid { IsRect self.now.west self.now.south self.now.east self.now.north }
@@ -69,7 +71,7 @@ impl Rect {
         self.west
     }
 
-    /// The least latitude, in degrees times 10^7.
+    /// Returns the least latitude, in degrees times 10^7.
     pub fn south(&self) -> i32
         ensures value { result ≡ self.now.south }
         ensures valid { IsRect self.now.west self.now.south self.now.east self.now.north }
@@ -77,7 +79,7 @@ impl Rect {
         self.south
     }
 
-    /// The greatest longitude, in degrees times 10^7.
+    /// Returns the greatest longitude, in degrees times 10^7.
     pub fn east(&self) -> i32
         ensures value { result ≡ self.now.east }
         ensures valid { IsRect self.now.west self.now.south self.now.east self.now.north }
@@ -85,7 +87,7 @@ impl Rect {
         self.east
     }
 
-    /// The greatest latitude, in degrees times 10^7.
+    /// Returns the greatest latitude, in degrees times 10^7.
     pub fn north(&self) -> i32
         ensures value { result ≡ self.now.north }
         ensures valid { IsRect self.now.west self.now.south self.now.east self.now.north }
@@ -93,7 +95,7 @@ impl Rect {
         self.north
     }
 
-    /// The least rectangle that covers both: every other that does covers it.
+    /// Returns the least rectangle that covers both. Every other rectangle that covers both covers it.
     pub fn join(&self, other: &Rect) -> Rect
         ensures value { result ≡ joined self.now other.now }
         ensures first { Covers result self.now }
@@ -108,7 +110,7 @@ impl Rect {
         }
     }
 
-    /// Whether the point is in the rectangle or on its border.
+    /// Returns whether the point is in the rectangle or on its border.
     pub fn holds(&self, p: &Point) -> bool
         ensures value { result ≡ holds_point self.now p.now }
         ensures exact { IsTrue result ↔ Holds self.now p.now }
@@ -116,7 +118,7 @@ impl Rect {
         is_between(self.west, self.east, p.x()) && is_between(self.south, self.north, p.y())
     }
 
-    /// Width times height, in square units of 10^-7 degrees: at most 6.48 * 10^18.
+    /// Returns width times height, in square units of 10^-7 degrees: at most 6.48 * 10^18.
     pub fn area(&self) -> u64
         ensures { result ≡ area_of self.now }
     {
@@ -125,8 +127,9 @@ impl Rect {
         width * height
     }
 
-    /// The distance from a point to the nearest point of the rectangle, in degrees times 10^7 and rounded down: 0 in the
-    /// rectangle and on its border. No point of the rectangle is nearer.
+    /// Returns the distance from a point to the nearest point of the rectangle, in degrees times 10^7, rounded down.
+    ///
+    /// It is 0 inside the rectangle and on its border. No point of the rectangle is nearer than this.
     pub fn mindist(&self, p: &Point) -> u64
         ensures value { result ≡ mindist_of self.now p.now }
         ensures inside { Holds self.now p.now → result ≡ 0 }
@@ -140,7 +143,7 @@ impl Rect {
     }
 }
 
-// Whether a number is in a range.
+// Whether a number is in the range from `low` to `high`.
 fn is_between(low: i32, high: i32, a: i32) -> bool
     ensures value { result ≡ is_in_range low high a }
     ensures exact { IsTrue result ↔ ((low ≤ℤ a) × (a ≤ℤ high)) }
@@ -148,7 +151,7 @@ fn is_between(low: i32, high: i32, a: i32) -> bool
     low <= a && a <= high
 }
 
-// How far a number is from a range.
+// The distance from a number to the range from `low` to `high`, 0 if it is in the range.
 fn outside(low: i32, high: i32, a: i32) -> u64
     requires { low ≤ℤ high }
     ensures { result ≡ gap a (clamped low high a) }

@@ -1,7 +1,7 @@
 -- What stands in a page alone reaches nowhere behind its four sides.
 use Rattle.std.proofs.Common.{◌≡◌, ℕ, zero, suc, ◌≤◌, Bool, true, false, ◌&&◌, nat_lt, arith, refl, List, Some, None}
 use Rattle.std.specs.Prelude.{if◌then◌else◌}
-use Rattle.rtree_shape.specs.Slots.{Item, NodeView, Held, no_slots}
+use Rattle.rtree_nodes.specs.Slots.{Item, NodeView, Held, no_slots}
 use Rattle.rtree_nodes.specs.Cells.{item_in}
 use Rattle.rtree_nodes.specs.Pages.{level_in, is_used, cell_at, item_at, is_form, stored_in, node_of}
 

@@ -4,14 +4,14 @@ use Rattle.std.specs.Prelude.{if◌then◌else◌}
 use Rattle.std.proofs.lemmas.Bool.{cases_lt, lt-ltb}
 use Rattle.page_face.specs.FreeList.{PageMap}
 use Rattle.btree_nodes.specs.Supply.{one_at}
-use Rattle.rtree_shape.specs.Slots.{Item, Slots, NodeMap, got, amount, one, tops, Held, Each}
-use Rattle.rtree_shape.specs.Trees.{below, uses, IsItem, IsNode, reach_of, root_least}
-use Rattle.rtree_shape.specs.Loose.{Leads}
-use Rattle.rtree_shape.specs.Stock.{View}
-use Rattle.rtree_shape.specs.Made as bare_made
-use Rattle.rtree_shape.specs.Whole as bare
-use Rattle.rtree_shape.proofs.Sums.{top-same, top-zero}
-use Rattle.rtree_shape.proofs.Amounts.{amount-same}
+use Rattle.rtree_nodes.specs.Slots.{Item, Slots, NodeMap, got, amount, one, tops, Held, Each}
+use Rattle.rtree_nodes.specs.Trees.{below, uses, IsItem, IsNode, reach_of, root_least}
+use Rattle.rtree_nodes.specs.Loose.{Leads}
+use Rattle.rtree_nodes.specs.Stock.{View}
+use Rattle.rtree_nodes.specs.Made as bare_made
+use Rattle.rtree_nodes.specs.Whole as bare
+use Rattle.rtree_nodes.proofs.Sums.{top-same, top-zero}
+use Rattle.rtree_nodes.proofs.Amounts.{amount-same}
 use Rattle.node_rows.specs.Rows.{bytes_in}
 use Rattle.rtree_nodes.specs.Pages.{node_of}
 use Rattle.irtree_shape.specs.Words.{worded, joined_item, words_on, joined}

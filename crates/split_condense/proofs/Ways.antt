@@ -3,12 +3,12 @@ use Rattle.std.proofs.Common.{◌≡◌, ℕ, zero, suc, ◌<◌, List, take, ar
 use Rattle.std.specs.Prelude.{IfSome}
 use Rattle.page_face.specs.FreeList.{PageMap}
 use Rattle.std.proofs.lemmas.List.{get_or-take}
-use Rattle.rtree_shape.specs.Slots.{Item, NodeMap, IsUsed, IsChildAt}
-use Rattle.rtree_shape.specs.Loose.{IsAt, Leads}
-use Rattle.rtree_shape.specs.Made.{nodes_in}
-use Rattle.rtree_shape.specs.Whole.{level_at}
+use Rattle.rtree_nodes.specs.Slots.{Item, NodeMap, IsUsed, IsChildAt}
+use Rattle.rtree_nodes.specs.Loose.{IsAt, Leads}
+use Rattle.rtree_nodes.specs.Made.{nodes_in}
+use Rattle.rtree_nodes.specs.Whole.{level_at}
 use Rattle.rtree_nodes.specs.Pages.{node_of, stored_in}
-use Rattle.rtree_find.specs.Ways.{IsWay}
+use Rattle.rtree_nodes.specs.Ways.{IsWay}
 
 pub leads-take : (nodes : NodeMap) (path : List ℕ) (n level page : ℕ) (x : Item) → level < n → Leads nodes path level page x → Leads nodes (take n path) level page x
 leads-take nodes path n zero page x l h = subst (λ (at : ℕ). IsAt (nodes page).slots at x) (sym (get_or-take n path 0 0 l)) h

@@ -2,15 +2,15 @@
 use Rattle.std.proofs.Common.{◌≡◌, ℕ, zero, suc, ◌-◌, ◌<◌, ◌≤◌, arith, refl, ap, subst, List, inl, inr}
 use Rattle.page_face.specs.FreeList.{PageMap}
 use Rattle.spatial_base.specs.Point.{Position}
-use Rattle.rtree_shape.specs.Slots.{Item, NodeMap, got}
-use Rattle.rtree_shape.specs.Trees.{below, node_below}
-use Rattle.rtree_shape.specs.Loose.{Leads}
-use Rattle.rtree_shape.specs.Made as bare_made
-use Rattle.rtree_shape.proofs.Amounts.{amount-at, same_or}
+use Rattle.rtree_nodes.specs.Slots.{Item, NodeMap, got}
+use Rattle.rtree_nodes.specs.Trees.{below, node_below}
+use Rattle.rtree_nodes.specs.Loose.{Leads}
+use Rattle.rtree_nodes.specs.Made as bare_made
+use Rattle.rtree_nodes.proofs.Amounts.{amount-at, same_or}
 use Rattle.node_rows.specs.Rows.{bytes_in}
 use Rattle.rtree_nodes.specs.Reach.{place_item}
 use Rattle.rtree_nodes.specs.Pages.{node_of}
-use Rattle.rtree_find.specs.Entries.{is_entry}
+use Rattle.rtree_nodes.specs.Entries.{is_entry}
 use Rattle.irtree_shape.specs.Words.{worded}
 use Rattle.irtree_shape.specs.Made.{nodes_in}
 use Rattle.irtree_shape.specs.Whole.{level_at, tree_sum}

@@ -2,7 +2,7 @@
 use Rattle.std.specs.Prelude.{ℕ, take}
 use Rattle.spatial_base.specs.Key.{form_of}
 use Rattle.node_rows.specs.Impacts.{impact_in}
-use Rattle.rtree_shape.specs.Slots.{Item}
+use Rattle.rtree_nodes.specs.Slots.{Item}
 use Rattle.rtree_nodes.specs.Reach.{place_item}
 use Rattle.irtree_shape.specs.Words.{worded}
 use Rattle.split_condense.specs.declared.entry.Entry.{Entry}

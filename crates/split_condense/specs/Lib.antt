@@ -1,1 +1,4 @@
+pub mod Orphans
+pub mod Clears
 pub mod Entries
+pub mod Updates

@@ -1,35 +1,35 @@
 //! An entry that is taken out of a tree.
 ghost use Rattle.std.specs.Prelude.{◌≡◌, ◌≢◌, ◌≤◌, ℕ, List, Ok, true, false, OnOk, IsErrOf};
 ghost use Rattle.page_face.specs.Calls.{Changes, FailsChanging};
-ghost use Rattle.btree_nodes.specs.Damages.{AreTold, AsksOnly};
-ghost use Rattle.rtree_shape.specs.Stock.{view};
+ghost use Rattle.btree_nodes.specs.Damages.{AreReadable, AsksOnly};
+ghost use Rattle.rtree_nodes.specs.Stock.{view};
 ghost use Rattle.spatial_base.specs.Key.{form_of};
 ghost use Rattle.rtree_nodes.specs.Pages.{node_of};
-ghost use Rattle.rtree_find.specs.Entries.{is_entry};
+ghost use Rattle.rtree_nodes.specs.Entries.{is_entry};
 ghost use Rattle.irtree_shape.specs.Made.{nodes_in};
 ghost use Rattle.irtree_shape.specs.Whole.{IsWhole, IsFelled, tree_sum};
 ghost use Rattle.irtree_shape.specs.Damages.{IsTreeHarm};
 ghost use Rattle.irtree_shape.specs.Entries.{AreWorded};
 ghost use Rattle.split_condense.specs.Entries.{entry_item, impact_of};
 
-use crate::Entry;
-use irtree_delete::remove_at;
+use crate::{Entry, remove_at};
 use node_inverted::Tree;
 use page_face::{Damage, PageFault, Pages};
-use rtree_find::find;
+use rtree_nodes::find;
 use split_policy::SplitPolicy;
 use std::alloc::Global;
 
-/// Takes the entry of a point and a key out of a tree, and returns whether it was there. Where it was there, its words have to be those that the tree
-/// has of it.
+/// Takes the entry of a point and a key out of a tree, and returns whether it was there. If it was there, its words have to be those that
+/// the tree has of it.
 ///
-/// Nodes left with fewer than 12 slots are dissolved and their items put back at their level; rectangles and impacts become the least ones again; a
-/// root of one child gives way to it, and the last entry gives the last page back. Fails with `Damaged`, which names a page and a rule as that of
-/// [`insert`](crate::insert) does; with `Disk`, `NoRoom` or `Stopped`; or with `Memory`. The tree's roots and the pages are then as the call left
-/// them, and are to be abandoned.
+/// Nodes left with fewer than 12 slots are dissolved and their items put back at their level. Rectangles and impacts become the least ones
+/// again. A root of one child gives way to it, and the last entry gives the last page back.
 ///
-/// Looks at each node whose rectangle holds the point until it has found the entry, then once more at those of its path and at their rows, and writes each
-/// of these that changes. Each node that is dissolved costs a way down for each of its items.
+/// Fails with `Damaged`, which names a page and a rule as that of [`insert`](crate::insert) does; with `Disk`, `NoRoom` or `Stopped`; or
+/// with `Memory`. The tree's roots and the pages are then as the call left them, and are to be abandoned.
+///
+/// Looks at each node whose rectangle holds the point until it has found the entry. Then looks once more at those of its path and at their
+/// rows, and writes each of these that changes. Each node that is dissolved costs a way down for each of its items.
 pub fn delete<P: Pages>(
     alloc: Global,
     pages: &mut P,
@@ -46,16 +46,16 @@ pub fn delete<P: Pages>(
     ensures absent { (free : List ℕ) → IsWhole node_of (view (P.pages pages.old) tree.old.rows (P.count pages.old) (P.first pages.old) free) tree.old.root → result ≡ Ok false
         → tree_sum (nodes_in node_of (P.pages pages.old) tree.old.rows) tree.old.root (is_entry entry.now.point (form_of entry.now.key)) ≡ 0 }
     ensures left { result ≡ Ok false → (P.pages pages.new ≡ P.pages pages.old) × (P.count pages.new ≡ P.count pages.old) × (P.first pages.new ≡ P.first pages.old) × (tree.new ≡ tree.old) }
-    ensures honest { (free : List ℕ) → IsWhole node_of (view (P.pages pages.old) tree.old.rows (P.count pages.old) (P.first pages.old) free) tree.old.root
+    ensures no_false_damage { (free : List ℕ) → IsWhole node_of (view (P.pages pages.old) tree.old.rows (P.count pages.old) (P.first pages.old) free) tree.old.root
         → AreWorded (nodes_in node_of (P.pages pages.old) tree.old.rows) tree.old.root entry.now.point (form_of entry.now.key) (impact_of entry.now)
-        → AreTold (P.pages pages.old) (P.count pages.old)
+        → AreReadable (P.pages pages.old) (P.count pages.old)
         → (damage : Damage) → result ≢ Err (PageFault.Damaged damage) }
 
-    // Over told pages, which stay told: why it is damaged, over the pages as the call leaves them.
-    ensures damaged { AreTold (P.pages pages.old) (P.count pages.old) → (damage : Damage) → IsErrOf result (PageFault.Damaged damage)
+    // Over readable pages, which stay readable: why it is damaged, over the pages as the call leaves them.
+    ensures damaged { AreReadable (P.pages pages.old) (P.count pages.old) → (damage : Damage) → IsErrOf result (PageFault.Damaged damage)
         → IsTreeHarm (P.pages pages.new) (P.count pages.new) (P.first pages.new) tree.new.rows (P.asked pages.old) (P.asked pages.new) damage }
-    ensures told { AreTold (P.pages pages.old) (P.count pages.old) → OnOk result (AreTold (P.pages pages.new) (P.count pages.new)) }
-    ensures more { AreTold (P.pages pages.old) (P.count pages.old) → AsksOnly (λ _. 1) (P.asked pages.old) (P.asked pages.new) }
+    ensures told { AreReadable (P.pages pages.old) (P.count pages.old) → OnOk result (AreReadable (P.pages pages.new) (P.count pages.new)) }
+    ensures more { AreReadable (P.pages pages.old) (P.count pages.old) → AsksOnly (λ _. 1) (P.asked pages.old) (P.asked pages.new) }
     ensures fails { FailsChanging P.Pages pages.old pages.new result }
     ensures frame { Changes P.Pages pages.old pages.new }
 {

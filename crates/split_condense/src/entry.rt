@@ -6,8 +6,8 @@ use spatial_base::{Key, Point};
 
 /// A place as a tree keeps it: its key, its point, and its words by their numbers.
 ///
-/// The first `count` pairs are a word's number and its impact, ascending strictly by number with impacts of at least 1; the others are
-/// (0, 0). A word that stands there twice has the greater of its impacts.
+/// The first `count` pairs are a word's number and its impact, ascending strictly by number with impacts of at least 1. The others are
+/// (0, 0). A word that is listed twice has the greater of its impacts.
 #[derive(Clone, Copy, Debug)]
 pub struct Entry {
     /// The place's key.
@@ -21,7 +21,7 @@ pub struct Entry {
 }
 
 impl Entry {
-    /// The entry's words with their impacts: the first `count` pairs, or all if there are fewer.
+    /// Returns the entry's words with their impacts: the first `count` pairs, or all if there are fewer.
     pub fn words(&self) -> &[(u64, u8)]
         ensures { result.now ≡ take self.now.count self.now.pairs }
     {

@@ -1,4 +1,4 @@
-//! The axis on which rectangles are spread most.
+//! The axis on which rectangles are spread most widely.
 ghost use Rattle.std.specs.Prelude.{◌≡◌, ◌≤◌, unsigned_abs};
 ghost use Rattle.split_policy.specs.Halving.{sum_on, spread_on, axis_of};
 
@@ -12,7 +12,8 @@ pub(crate) enum Axis {
 }
 
 impl Axis {
-    /// Returns twice the middle of a rectangle on this axis, in degrees times 10^7: at most 360 degrees either way.
+    /// Returns the rectangle's two sides on this axis added up, which is twice its middle, in degrees times 10^7: within 360 degrees of
+    /// 0.
     pub(crate) fn sum(self, rect: &Rect) -> i64
         ensures value { result ≡ sum_on self rect.now }
         ensures within { unsigned_abs result ≤ 3600000000 }
@@ -23,7 +24,7 @@ impl Axis {
         }
     }
 
-    /// Returns the greatest of the sums less the least.
+    /// Returns the greatest sum minus the least.
     fn spread(self, rects: &[Rect; 33]) -> i64
         ensures { result ≡ spread_on rects.now self }
     {
@@ -37,7 +38,7 @@ impl Axis {
         greatest - least
     }
 
-    /// Returns the axis with the greater spread, longitude if they are equal.
+    /// Returns the axis with the greater spread, or longitude if both have the same.
     pub(crate) fn of(rects: &[Rect; 33]) -> Axis
         ensures { result ≡ axis_of rects.now }
     {

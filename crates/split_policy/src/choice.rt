@@ -1,4 +1,4 @@
-//! The slot that grows least.
+//! Finds the slot that grows least.
 ghost use Rattle.std.specs.Prelude.{◌≢◌};
 ghost use Rattle.split_policy.specs.Quadratic.{IsLeastGrowth};
 
@@ -6,7 +6,7 @@ use crate::cost::Cost;
 use crate::mask::is_set;
 use spatial_base::Rect;
 
-/// Returns the used slot that grows least by joining `add`; of equals the smallest, and of equals again the first.
+/// Returns the used slot that grows least by joining `add`. Among equals it is the smallest, and among equals again the first.
 pub(crate) fn least_growth(used: u32, rects: &[Rect; 32], add: &Rect) -> u8
     requires { used ≢ 0 }
     ensures { IsLeastGrowth used rects.now add.now result }

@@ -1,10 +1,10 @@
-//! What joining a rectangle costs another.
+//! How much a rectangle grows by joining another.
 ghost use Rattle.std.specs.Prelude.{◌≡◌, ◌||◌, ◌&&◌, ◌==◌, nat_lt};
 ghost use Rattle.split_policy.specs.Areas.{growth_of, rect_area};
 
 use spatial_base::Rect;
 
-/// The area that a rectangle gains by joining another, and the area that it had, in square units of 10^-7 degrees.
+/// The area that a rectangle gains by joining another, and the area that it had before, in square units of 10^-7 degrees.
 #[derive(Clone, Copy, PartialEq, Eq)]
 pub(crate) struct Cost {
     pub(crate) gained: u64,
@@ -12,7 +12,7 @@ pub(crate) struct Cost {
 }
 
 impl Cost {
-    /// Returns what joining `add` costs a rectangle.
+    /// Returns the cost of joining `add` to a rectangle.
     pub(crate) fn of(rect: &Rect, add: &Rect) -> Cost
         ensures gained { result.gained ≡ growth_of rect.now add.now }
         ensures had { result.had ≡ rect_area rect.now }
@@ -24,7 +24,7 @@ impl Cost {
         }
     }
 
-    /// Returns whether this cost is less: less area is gained, or as much by a smaller rectangle.
+    /// Returns whether this cost is less: a rectangle gains less area, or gains the same and had less.
     pub(crate) fn is_less(&self, other: &Cost) -> bool
         ensures { result ≡ (nat_lt self.now.gained other.now.gained
             || ((self.now.gained == other.now.gained) && nat_lt self.now.had other.now.had)) }
@@ -40,7 +40,7 @@ pub(crate) fn area(rect: &Rect) -> u64
     rect.area()
 }
 
-/// Returns the area that a rectangle of the area `had` gains by joining another, in square units of 10^-7 degrees.
+/// Returns the area that a rectangle gains by joining `add`, if its own area is `had`, in square units of 10^-7 degrees.
 pub(crate) fn growth(rect: &Rect, had: u64, add: &Rect) -> u64
     requires { had ≡ rect_area rect.now }
     ensures { result ≡ growth_of rect.now add.now }

@@ -1,4 +1,4 @@
-//! A quadratic split part way.
+//! A quadratic split that is under way.
 ghost use Rattle.std.specs.Prelude.{◌≡◌, ◌≢◌, ◌<◌, ◌+◌, ◌↔◌, IsTrue};
 ghost use Rattle.split_policy.specs.Areas.{rect_area};
 ghost use Rattle.split_policy.specs.Divided.{IsDivided};
@@ -10,10 +10,10 @@ use crate::group::Group;
 use crate::mask::{bit, is_set};
 use spatial_base::Rect;
 
-/// The least number of entries of a node that isn't the root: three eighths of its 32 slots.
+/// The fewest entries of a node that is not the root: three eighths of its 32 slots.
 const FEWEST: u32 = 12;
 
-/// A split part way: the masks of the entries that are left and of those that move so far, and the two groups.
+/// A split that is under way: the mask of the entries left, the mask of those that move so far, and the two groups.
 #[derive(Clone, Copy)]
 pub(crate) struct Division {
     pub(crate) left: u64,
@@ -23,7 +23,7 @@ pub(crate) struct Division {
 }
 
 impl Division {
-    /// Returns the split as it begins: the first seed stays and the second moves.
+    /// Returns the split at its beginning: the first seed stays and the second moves.
     pub(crate) fn begin(rects: &[Rect; 33], first: usize, second: usize) -> Division
         requires order { first < second }
         requires within { second < 33 }
@@ -46,7 +46,7 @@ impl Division {
         33 - self.staying.count - self.moving.count
     }
 
-    /// Returns whether the next entry is to be placed: some are left, and neither group needs them all to have 12.
+    /// Returns whether the next entry is to be placed: some are left, and neither group needs all of them to have 12.
     pub(crate) fn is_open(&self) -> bool
         requires { IsDivided self.now }
         ensures { IsTrue result ↔ IsOpen self.now }
@@ -57,7 +57,7 @@ impl Division {
             && FEWEST < self.moving.count + remaining
     }
 
-    /// Returns how differently the groups, whose areas are given, would grow by an entry.
+    /// Returns the difference between how much each group would grow by an entry. The areas of the groups are given.
     fn preference(&self, staying: u64, moving: u64, rect: &Rect) -> u64
         requires staying { staying ≡ rect_area self.now.staying.bounds }
         requires moving { moving ≡ rect_area self.now.moving.bounds }
@@ -68,7 +68,7 @@ impl Division {
         if_staying.abs_diff(if_moving)
     }
 
-    /// Returns the entry that is left by which the groups would grow most differently, of equals the first.
+    /// Returns the entry left for which the growth of the two groups differs most, among equals the first.
     pub(crate) fn pick_next(&self, rects: &[Rect; 33]) -> usize
         requires some { self.now.left ≢ 0 }
         requires divided { IsDivided self.now }
@@ -91,7 +91,7 @@ impl Division {
         best
     }
 
-    /// Returns the split when an entry has joined the group that is preferred.
+    /// Returns the split after an entry has joined the group that is preferred.
     pub(crate) fn place(self, rects: &[Rect; 33], at: usize) -> Division
         requires divided { IsDivided self }
         requires open { IsOpen self }
@@ -118,7 +118,7 @@ impl Division {
         }
     }
 
-    /// Returns the entries that move, if none are left or a group needs all that are.
+    /// Returns the mask of the entries that move, once none are left or a group needs all that are left.
     pub(crate) fn end(&self, rects: &[Rect; 33]) -> u64
         requires divided { IsDivided self.now }
         requires closed { IsOpen self.now → ⊥ }

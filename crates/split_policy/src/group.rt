@@ -5,7 +5,7 @@ ghost use Rattle.split_policy.specs.Quadratic.{group_of, with_entry, is_preferre
 use crate::cost::Cost;
 use spatial_base::Rect;
 
-/// A group of entries: the least rectangle round them, and how many there are.
+/// A group of entries: the least rectangle around them, and how many there are.
 #[derive(Clone, Copy)]
 pub(crate) struct Group {
     pub(crate) bounds: Rect,
@@ -23,7 +23,7 @@ impl Group {
         }
     }
 
-    /// Returns the group and one entry more.
+    /// Returns the group with one more entry.
     pub(crate) fn with(&self, rect: &Rect) -> Group
         requires { self.now.count < 33 }
         ensures { result ≡ with_entry rect.now self.now }
@@ -34,8 +34,9 @@ impl Group {
         }
     }
 
-    /// Returns whether an entry joins this group rather than the other: this one grows less, of equals is smaller, and of equals
-    /// again has fewer entries.
+    /// Returns whether an entry joins this group rather than the other.
+    ///
+    /// It joins the group that grows less, among equals the smaller one, and among equals again the one with fewer entries.
     pub(crate) fn is_preferred(&self, rect: &Rect, other: &Group) -> bool
         ensures { result ≡ is_preferred rect.now self.now other.now }
     {

@@ -11,17 +11,17 @@ use crate::mask::bit;
 use spatial_base::Rect;
 use std::marker::Model;
 
-/// How many of 33 entries stay: the middle one does.
+/// How many of the 33 entries stay, the middle one included.
 const STAYING: u32 = 17;
 
 /// A split in the middle of an axis.
 ///
 /// An entry goes into the slot that [`Quadratic`](crate::Quadratic) chooses.
 ///
-/// A split orders the entries by their middles on longitude or latitude, whichever they are spread on most: the first 17 stay and the
-/// last 16 move. That costs some 1,100 comparisons.
+/// A split orders the entries by their middles on longitude or latitude, whichever they are spread on more. The first 17 stay and the
+/// last 16 move. That takes about 1,100 comparisons.
 ///
-/// The policy keeps nothing but the number of its splits.
+/// The policy keeps only the number of its splits.
 #[derive(Debug, Drop)]
 pub struct Halving {
     splits: u64,
@@ -65,7 +65,7 @@ impl SplitPolicy for Halving {
     }
 }
 
-/// Returns whether an entry comes before another: it has the lesser sum, or the same and the lesser number.
+/// Returns whether an entry comes before another: its sum is less, or the sums are equal and its number is less.
 fn is_before(rects: &[Rect; 33], axis: Axis, entry: usize, other: usize) -> bool
     requires entry { entry < 33 }
     requires other { other < 33 }
@@ -90,7 +90,7 @@ fn rank(rects: &[Rect; 33], axis: Axis, entry: usize) -> u32
     rank
 }
 
-/// Returns the 16 entries that come last on the axis of the greatest spread.
+/// Returns the mask of the 16 entries that come last on the axis with the greater spread.
 fn halving_split(rects: &[Rect; 33]) -> u64
     ensures mask { IsMask result }
     ensures split { IsHalvingSplit rects.now result }

@@ -1,8 +1,10 @@
-//! How an R-tree of 32 slots a node chooses the slot that an entry goes into, and how it splits 33 entries over two nodes
-//! (Guttman 1984, with at least 12 entries a node).
+//! Chooses the slot that an entry goes into in an R-tree of 32 slots a node, and splits 33 entries over two nodes (Guttman 1984). Each
+//! of the two nodes gets at least 12 entries.
 //!
-//! A policy is a [`SplitPolicy`]: it decides the shape of the tree and no result of a query. [`Quadratic`] is Guttman's
-//! quadratic split, and [`Halving`] cuts the entries in the middle of an axis. No call takes memory or is refused.
+//! A policy is a [`SplitPolicy`]. It decides the shape of the tree, and never the result of a query. [`Quadratic`] is Guttman's
+//! quadratic split, and [`Halving`] cuts the entries in the middle of an axis. No call allocates memory or fails.
+//!
+//! Tests: `tree_tests/src/split_policy_tests.rt`.
 #![tactic(auto)]
 
 mod axis;

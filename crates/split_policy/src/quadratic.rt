@@ -12,13 +12,14 @@ use std::marker::Model;
 
 /// Guttman's quadratic split.
 ///
-/// An entry goes into the used slot that grows least; of equals the smallest, and of equals again the first. That costs a join of two
-/// rectangles for each used slot.
+/// An entry goes into the used slot that grows least, among equals the smallest, and among equals again the first. That takes one join
+/// of two rectangles for each used slot.
 ///
-/// A split begins with the two entries that would waste most area in one group. Then it places the entry by which the two groups would
-/// grow most differently, and so on, until a group needs all that are left to have 12. That costs at most some 1,600 joins.
+/// A split begins with the two entries that would waste the most area in one group. Then it places, one after another, the entry for
+/// which the growth of the two groups differs most. It stops once a group needs all that are left to have 12. That takes at most about
+/// 1,600 joins.
 ///
-/// The policy keeps nothing but the number of its splits.
+/// The policy keeps only the number of its splits.
 #[derive(Debug, Drop)]
 pub struct Quadratic {
     splits: u64,
@@ -62,7 +63,7 @@ impl SplitPolicy for Quadratic {
     }
 }
 
-/// Returns the entries that Guttman's quadratic split moves: one mask alone is that of his split.
+/// Returns the mask of the entries that Guttman's quadratic split moves. It is the only mask that his split has.
 fn quadratic_split(rects: &[Rect; 33]) -> u64
     ensures mask { IsMask result }
     ensures split { IsQuadraticSplit rects.now result }

@@ -6,7 +6,7 @@ ghost use Rattle.split_policy.specs.Quadratic.{IsPartner, IsSeeds};
 use crate::cost::area;
 use spatial_base::Rect;
 
-/// Two entries, the first with the lesser number, and the area that they would waste in one group.
+/// Two entries, the one with the lesser number first, and the area that they would waste in one group.
 #[derive(Clone, Copy)]
 pub(crate) struct Seeds {
     pub(crate) first: usize,
@@ -14,14 +14,14 @@ pub(crate) struct Seeds {
     pub(crate) waste: i128,
 }
 
-/// Returns the area of two rectangles' join less each one's own, in square units of 10^-7 degrees.
+/// Returns the area of the join of two rectangles minus their own areas, in square units of 10^-7 degrees.
 fn waste(a: &Rect, b: &Rect) -> i128
     ensures { result ≡ waste_of a.now b.now }
 {
     i128::from(area(&a.join(b))) - i128::from(area(a)) - i128::from(area(b))
 }
 
-/// Returns an entry and that behind it with which it would waste most, of equals the first.
+/// Returns an entry, with the entry after it with which it would waste the most area, among equals the first.
 fn partner(rects: &[Rect; 33], first: usize) -> Seeds
     requires { first < 32 }
     ensures first { result.first ≡ first }
@@ -46,7 +46,9 @@ fn partner(rects: &[Rect; 33], first: usize) -> Seeds
     best
 }
 
-/// Returns the pair of entries that would waste most in one group; of equals that with the least first entry, then the least second.
+/// Returns the pair of entries that would waste the most area in one group.
+///
+/// Among equals it is the pair with the least first entry, and then with the least second.
 pub(crate) fn pick_seeds(rects: &[Rect; 33]) -> Seeds
     ensures { IsSeeds rects.now result.first result.second }
 {

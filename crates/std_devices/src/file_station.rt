@@ -1,4 +1,4 @@
-//! A disk over the files of a store, and standard output.
+//! A disk over the files of a store, with standard output as its sink.
 ghost use Rattle.std.specs.Prelude.{◌≡◌, ◌≤◌, ◌<◌, ◌^◌, ◌+◌, false, ◌↔◌, length, string_bytes, IfOk, IfErr, OnOk, Some, None, IsErr, IsSome, IsTrue};
 ghost use Rattle.disk_model.specs.World.{HasRead, HasWritten, HasSynced, HasSaid, HasDiskCause, HasSinkCause};
 ghost use Rattle.std.specs.Io.KnownBytes.{WriteAppends};
@@ -16,20 +16,19 @@ use std::fs::File;
 use std::io::Write;
 use std::rt::{Files, Stdout};
 
-/// The number of pages that the area Pages may have.
+/// How many pages the area `Pages` may have.
 const ROOM: u32 = 4_194_304;
 
-/// The areas as the files STORE and STORE.journal, and standard output as the sink.
+/// A station with its areas in the files STORE and STORE.journal, and standard output as its sink.
 ///
-/// The first call of the disk opens the files, creates those that aren't there, and locks both until the station is
-/// dropped: a second process that asks for one of them gets a fault, where the file system has locks. A link to STORE is
-/// followed, and the journal stands beside the file itself; a file with more than one hard link is refused. The folder
-/// is made safe before the first byte is read. A read gives zeros past a file's end, and fails where the file had bytes
-/// there before. A sync makes the file's bytes safe.
+/// The first call of the disk opens the files, creates those that do not exist, and locks both until the station is dropped. If the
+/// file system has locks, a second process that opens one of them gets a fault. A link to STORE is followed, and the journal is beside
+/// the file itself. A file with more than one hard link is refused. The folder is made safe before the first byte is read. A read gives
+/// zeros past a file's end, and fails if the file had bytes there before. A sync makes the file's bytes safe.
 ///
-/// The station tells no content; each call that fails raises the count of its kind, and [`FileStation::trouble`] says
-/// why. After a call of the disk that failed each later one fails too, and reaches no file: after a failed sync the
-/// system may have dropped what was written.
+/// Contracts do not know the content. Each call that fails raises the count of its kind, and [`FileStation::trouble`] gives the reason.
+/// After a call of the disk has failed, each later one fails too and reaches no file, because after a failed sync the system may have
+/// dropped what was written.
 #[derive(Drop)]
 pub struct FileStation<'a, R: Files<File = F>, W: Write + Drop = Stdout, F: StoreFile = File> {
     files: StoreFiles<'a, R, F>,
@@ -40,9 +39,9 @@ pub struct FileStation<'a, R: Files<File = F>, W: Write + Drop = Stdout, F: Stor
 }
 
 impl<'a, R: Files<File = F>, W: Write + Drop, F: StoreFile> FileStation<'a, R, W, F> {
-    /// A station over the store at a path. No file is opened yet.
+    /// Returns a station over the store at a path. No file is opened yet.
     ///
-    /// Refuses `Memory` alone.
+    /// Refuses only with `Memory`.
     pub fn new(
         alloc: Global,
         rt: &'a R,
@@ -65,17 +64,17 @@ impl<'a, R: Files<File = F>, W: Write + Drop, F: StoreFile> FileStation<'a, R, W
         })
     }
 
-    /// Why the first call of the disk that failed did so.
+    /// Returns why the first failed call of the disk failed, or `None` if none has failed.
     pub fn trouble(&self) -> Option<FileTrouble>
         ensures { result ≡ self.now.trouble }
     {
         self.trouble
     }
 
-    /// The line `PATH: WHAT; ADVICE`, without an LF, on why the first call of the disk that failed did so: the file, what
-    /// the system said of it or what it is, and what to do. None where no call failed.
+    /// Returns the line `PATH: WHAT; ADVICE`, without an LF, on why the first failed call of the disk failed, or `None` if none has
+    /// failed.
     ///
-    /// Refuses `Memory` alone.
+    /// It has the file, the system's message or what the file is, and what to do. Refuses only with `Memory`.
     pub fn trouble_line(&self, alloc: Global) -> Result<Option<String>, Memory>
         ensures { IfOk result (λ line. IsSome line ↔ IsSome self.now.trouble) }
     {
@@ -85,7 +84,7 @@ impl<'a, R: Files<File = F>, W: Write + Drop, F: StoreFile> FileStation<'a, R, W
         }
     }
 
-    // Refuses where a call of the disk failed before, for its cause.
+    // Refuses with the same cause if a call of the disk has failed before.
     fn goes_on(&self) -> Result<(), FileTrouble>
         ensures fails { IsSome self.now.trouble → IsErr result }
         ensures named { IfErr result (λ trouble. self.now.trouble ≡ Some trouble) }
@@ -118,7 +117,7 @@ impl<'a, R: Files<File = F>, W: Write + Drop, F: StoreFile> FileStation<'a, R, W
 }
 
 impl<'a, R: Files<File = F>, W: Write + Drop, F: StoreFile> Disk for FileStation<'a, R, W, F> {
-    ghost tells = { false };
+    ghost readable = { false };
 
     ghost world = { λ station. untold station.faults station.sink_faults };
 

@@ -1,9 +1,11 @@
-//! The devices of the program: standard input as a source, and two stations that say to standard output, one over files
-//! and one over memory that ends with the run.
+//! The devices of the program: standard input as a source, and two stations with standard output as their sink. One station keeps its
+//! areas in files, the other in memory until the run ends.
 //!
-//! None tells its content: that the system's streams and files behave as the traits say is the premise of the program.
-//! Of each device its counts of faults are proved, of the one over memory also what its areas hold, and one test shows
-//! the bytes.
+//! Contracts do not know the content of these devices: the program assumes that the system's streams and files behave as the traits
+//! say. The counts of faults are proved of each device, and what the areas hold also of the station in memory. The bytes themselves are
+//! tested.
+//!
+//! Tests: `device_tests/src/std_devices_tests.rt` and `device_tests/src/file_station_tests.rt`.
 #![tactic(auto)]
 
 mod file_station;

@@ -1,4 +1,4 @@
-//! How the files of a store are opened.
+//! Opens the files of a store.
 use crate::store_file::{KeptFile, StoreFile};
 use crate::trouble::Cause;
 use std::fs::{File, Metadata, OpenFile};
@@ -7,8 +7,8 @@ use std::os::unix::fs::MetadataExt;
 use std::path::Path;
 use std::rt::Files;
 
-// What stands at a name is opened only where it is a regular file, or nothing. Opening a folder, or what can't be looked at,
-// gives the system's own words.
+// Accepts a name only if there is a regular file at it, or nothing. A folder, and what cannot be looked at, are left for the open call
+// to refuse, which gives the system's own message.
 fn refuse_others(found: io::Result<Metadata>) -> Result<(), Cause> {
     match found {
         Ok(found) if found.is_symlink() => Err(Cause::Link),
@@ -17,7 +17,7 @@ fn refuse_others(found: io::Result<Metadata>) -> Result<(), Cause> {
     }
 }
 
-// Opens a file, creates it where it isn't there, and locks it.
+// Opens a file, creates it if it does not exist, and locks it.
 fn open_locked<F: StoreFile, R: Files<File = F>>(rt: &R, path: &str) -> Result<F, Cause> {
     let mut file = File::options()
         .read(true)
@@ -25,7 +25,7 @@ fn open_locked<F: StoreFile, R: Files<File = F>>(rt: &R, path: &str) -> Result<F
         .create(true)
         .open(rt, path)
         .map_err(|error| Cause::System(error))?;
-    // What is meant for a standard stream that was closed must not reach the store.
+    // Output for a standard stream that was closed must not reach the store.
     if file.is_stream() {
         file = file.try_clone().map_err(|error| Cause::System(error))?;
     }
@@ -38,13 +38,13 @@ fn open_locked<F: StoreFile, R: Files<File = F>>(rt: &R, path: &str) -> Result<F
     }
 }
 
-// Opens and locks the file of pages. A link is followed, and one that dangles creates its target.
+// Opens and locks the file of pages. A link is followed, and a dangling one creates its target.
 pub(crate) fn open_pages<F: StoreFile, R: Files<File = F>>(rt: &R, path: &str) -> Result<F, Cause> {
     refuse_others(rt.metadata(path))?;
     open_locked(rt, path)
 }
 
-// Opens and locks the journal. No link is followed.
+// Opens and locks the journal. A link is not followed.
 pub(crate) fn open_journal<F: StoreFile, R: Files<File = F>>(
     rt: &R,
     path: &str,
@@ -53,7 +53,7 @@ pub(crate) fn open_journal<F: StoreFile, R: Files<File = F>>(
     open_locked(rt, path)
 }
 
-// Takes an open file that is a regular one, stands at the path itself, and at no other.
+// Accepts an open file if it is a regular file that is at the path itself and has no other name.
 pub(crate) fn named_once<F: StoreFile, R: Files<File = F>>(
     rt: &R,
     path: &str,
@@ -83,8 +83,8 @@ fn sync_folder<F: StoreFile, R: Files<File = F>>(rt: &R, path: &str) -> io::Resu
     File::open(rt, folder)?.sync_all()
 }
 
-// The system says that the folder can't be synced, and not that a sync failed: its file system has no such call, or the folder
-// may not be read.
+// Whether the system reports that the folder cannot be synced at all, and not that a sync failed. Its file system has no such call, or
+// the folder may not be read.
 fn cannot_sync(error: &io::Error) -> bool {
     matches!(
         error.kind(),
@@ -92,11 +92,11 @@ fn cannot_sync(error: &io::Error) -> bool {
     )
 }
 
-// Makes the folder's entries of both files safe. A file that was created is found after a crash only then, and it may have been
-// created by a process that crashed before it came to this: so it is done at each opening.
+// Makes the folder's entries of both files safe. Without this, a file that was created may be gone after a crash. It is done at each
+// opening, since a process that crashed may have created the file and not come this far.
 //
-// A file without bytes may be new, and is refused where this fails. Where both have bytes an earlier process came past this, or
-// the user put the files there: the store is taken where the system says that it can't.
+// A file without bytes may be new, so it is refused if this fails. If both files have bytes, an earlier process came past this point,
+// or the user put the files there. Then the store is accepted if the system reports that the folder cannot be synced.
 pub(crate) fn settle_folder<F: StoreFile, R: Files<File = F>>(
     rt: &R,
     path: &str,

@@ -1,10 +1,10 @@
-//! Where bytes are said.
+//! Writes bytes to an output.
 ghost use Rattle.std.specs.Prelude.{◌≤◌, ◌<◌, length, take, IfSome, IfNone};
 ghost use Rattle.std.specs.Io.KnownBytes.{Appends, Keeps};
 
 use std::io::{ErrorKind, Write};
 
-// One write of at least a byte, begun anew where a signal interrupts it; None where it fails or takes nothing.
+// Makes one write of at least one byte, and starts again if a signal interrupts it. Returns `None` if it fails or takes nothing.
 pub(crate) fn write_some<W: Write>(output: &mut W, bytes: &[u8]) -> Option<usize>
     ensures count { IfSome result (λ n. (0 < n) × (n ≤ length bytes.now)) }
     ensures said { IfSome result (λ n. Appends (W.contents output.old) (W.contents output.new) (take n bytes.now)) }

@@ -1,4 +1,4 @@
-//! A disk in memory that ends with the run, and standard output.
+//! A disk in memory that ends with the run, with standard output as its sink.
 ghost use Rattle.std.specs.Prelude.{◌≡◌, ◌≤◌, ◌<◌, ◌^◌, ◌+◌, ℕ, false, [], length, slice_index, IfOk, OnOk, OnErr, IsOk};
 ghost use Rattle.disk_model.specs.World.{Reads, Torn, Written, HasDiskCause, HasSinkCause};
 ghost use Rattle.disk_model.specs.Stored.{Put, stored};
@@ -12,12 +12,13 @@ use std::alloc::{AllocError, Global};
 use std::io::Write;
 use std::rt::Stdout;
 
-/// The number of pages that the area Pages may have.
+/// How many pages the area `Pages` may have.
 const ROOM: u32 = 262_144;
 
-/// Both areas in memory, and standard output as the sink. It tells no content, since its sink doesn't, but what its areas
-/// hold is proved of each call. A read and a sync never fail, a write where it finds no memory; each call that fails
-/// raises the count of its kind.
+/// A station with both areas in memory, and standard output as its sink.
+///
+/// Contracts do not know all of its content, since they do not know the sink's, but what its areas hold is proved of each call. A read
+/// and a sync never fail. A write fails if memory runs out. Each call that fails raises the count of its kind.
 #[derive(Drop)]
 pub struct ScratchStation<W: Write + Drop = Stdout> {
     pages: Vec<u8>,
@@ -28,7 +29,7 @@ pub struct ScratchStation<W: Write + Drop = Stdout> {
 }
 
 impl<W: Write + Drop> ScratchStation<W> {
-    /// Empty areas, and the sink.
+    /// Returns a station with empty areas and this sink.
     pub fn new(alloc: Global, output: W) -> ScratchStation<W>
         ensures pages { result.pages.items ≡ [] }
         ensures journal { result.journal.items ≡ [] }
@@ -46,7 +47,7 @@ impl<W: Write + Drop> ScratchStation<W> {
     }
 }
 
-// The bytes from a place on, zeros past the end.
+// Copies the bytes from offset `at` on, with zeros past the end.
 fn copy_out(kept: &[u8], at: usize, buf: &mut [u8])
     ensures { (i j : ℕ) → i < length buf.new → at + i ≡ j → slice_index buf.new i ≡ slice_index kept.now j }
 {
@@ -57,7 +58,7 @@ fn copy_out(kept: &[u8], at: usize, buf: &mut [u8])
     }
 }
 
-// Zeros up to a length, which change nothing that is read.
+// Extends the bytes with zeros up to a length, which changes no byte that is read.
 fn grow(kept: &mut Vec<u8>, len: usize) -> Result<(), AllocError>
     ensures len { OnOk result (len ≤ length kept.new.items) }
     ensures same { (i : ℕ) → slice_index kept.new.items i ≡ slice_index kept.old.items i }
@@ -68,7 +69,7 @@ fn grow(kept: &mut Vec<u8>, len: usize) -> Result<(), AllocError>
     Ok(())
 }
 
-// Puts the bytes at a place within what is kept.
+// Puts the bytes at offset `at`, within the stored bytes.
 fn put(kept: &mut Vec<u8>, at: usize, bytes: &[u8])
     requires { at + length bytes.now ≤ length kept.old.items }
     ensures { Put at bytes.now kept.old.items kept.new.items }
@@ -76,7 +77,7 @@ fn put(kept: &mut Vec<u8>, at: usize, bytes: &[u8])
     kept[at..at + bytes.len()].copy_from_slice(bytes);
 }
 
-// Puts the bytes at a place, behind zeros where the area ends before it.
+// Puts the bytes at offset `at`, after zeros if the area ends before it.
 fn copy_in(kept: &mut Vec<u8>, at: usize, bytes: &[u8]) -> Result<(), AllocError>
     requires { at + length bytes.now < 2 ^ 48 }
     ensures written { OnOk result (Put at bytes.now kept.old.items kept.new.items) }
@@ -88,7 +89,7 @@ fn copy_in(kept: &mut Vec<u8>, at: usize, bytes: &[u8]) -> Result<(), AllocError
 }
 
 impl<W: Write + Drop> Disk for ScratchStation<W> {
-    ghost tells = { false };
+    ghost readable = { false };
 
     ghost world = { λ station. untold station.faults station.sink_faults };
 
@@ -138,7 +139,7 @@ impl<W: Write + Drop> Disk for ScratchStation<W> {
         }
     }
 
-    // It ends with the run, so nothing is to be made safe.
+    // The areas end with the run, so there is nothing to make safe.
     fn sync(&mut self, _area: Area) -> Result<(), Failed>
         ensures done { IsOk result }
         ensures kept { self.new ≡ self.old }

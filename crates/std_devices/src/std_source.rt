@@ -7,7 +7,7 @@ use disk_model::{Failed, Source};
 use std::io::{ErrorKind, Read};
 use std::rt::Stdin;
 
-/// Standard input, or another reader. It tells no content; each read that fails raises its count of faults.
+/// Standard input, or another reader, as a source. Contracts do not know its content. Each read that fails raises its count of faults.
 #[derive(Drop)]
 pub struct StdSource<R: Read + Drop = Stdin> {
     input: R,
@@ -15,7 +15,7 @@ pub struct StdSource<R: Read + Drop = Stdin> {
 }
 
 impl<R: Read + Drop> StdSource<R> {
-    /// The reader, with no fault counted.
+    /// Returns a source over this reader, with no faults counted.
     pub fn new(input: R) -> StdSource<R>
         ensures input { result.input ≡ input }
         ensures faults { result.faults ≡ 0 }
@@ -24,7 +24,7 @@ impl<R: Read + Drop> StdSource<R> {
     }
 }
 
-// One read, begun anew where a signal interrupts it; None where it fails.
+// Makes one read, and starts again if a signal interrupts it. Returns `None` if it fails.
 fn read_some<R: Read>(input: &mut R, buf: &mut [u8]) -> Option<usize>
     ensures count { IfSome result (λ n. n ≤ length buf.new) }
     ensures given { IfSome result (λ n. Consumes (R.remaining input.old) (R.remaining input.new) (take n buf.new)) }
@@ -42,13 +42,13 @@ fn read_some<R: Read>(input: &mut R, buf: &mut [u8]) -> Option<usize>
 }
 
 impl<R: Read + Drop> Source for StdSource<R> {
-    ghost tells = { false };
+    ghost readable = { false };
 
     ghost left = { λ source. [] };
 
     ghost faults = { λ source. source.faults };
 
-    // It passes on just the bytes that the reader gave.
+    // It passes on exactly the bytes that the reader gives.
     fn read(&mut self, buf: &mut [u8]) -> Result<usize, Failed>
         requires { 0 < length buf.old }
         ensures count { IfOk result (λ n. n ≤ length buf.new) }

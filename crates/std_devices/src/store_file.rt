@@ -7,13 +7,14 @@ use std::io::{self, ErrorKind};
 use std::os::fd::AsRawFd;
 use std::os::unix::fs::{FileExt, MetadataExt};
 
-/// An open file of the system, or of a test.
+/// An open file, of the system or of a test.
 pub trait StoreFile: OpenFile + FileExt + Drop {
-    /// Locks the whole file against other processes. It doesn't wait: where another process has the lock the error's kind is
-    /// `WouldBlock`, and where the file system has no locks `Unsupported`.
+    /// Locks the whole file against other processes, without waiting.
+    ///
+    /// The error's kind is `WouldBlock` if another process has the lock, and `Unsupported` if the file system has no locks.
     fn take_lock(&self) -> io::Result<()>;
 
-    /// Whether a standard stream would have the file's descriptor: one that was closed when the program began.
+    /// Returns whether the file has the descriptor of a standard stream, one that was closed when the program began.
     fn is_stream(&self) -> bool;
 }
 
@@ -31,7 +32,7 @@ impl StoreFile for File {
 #[derive(Drop)]
 pub(crate) struct KeptFile<F: StoreFile> {
     file: F,
-    // What the file has at least: its length as it was opened, or the end of a write.
+    // The least length of the file: its length when it was opened, or the end of a later write.
     len: u64,
 }
 
@@ -47,7 +48,7 @@ impl<F: StoreFile> KeptFile<F> {
         self.len == 0
     }
 
-    // Reads from a place on, zeros past the end. The end may not lie before what the file had.
+    // Reads from offset `at` on, with zeros past the end. Fails if the file ends before the length that it had.
     pub(crate) fn read(&self, at: u64, buf: &mut [u8]) -> Result<(), Cause>
         requires { at + length buf.old < 2 ^ 48 }
     {
@@ -70,7 +71,7 @@ impl<F: StoreFile> KeptFile<F> {
         Err(Cause::System(io::Error::from(ErrorKind::TimedOut)))
     }
 
-    // Whether the file is there whole, and has a name.
+    // Checks that the file has its whole length and a name.
     fn check_whole(&self) -> Result<(), Cause> {
         let found = self.file.metadata().map_err(|error| Cause::System(error))?;
         if found.len() < self.len {
@@ -82,7 +83,7 @@ impl<F: StoreFile> KeptFile<F> {
         Ok(())
     }
 
-    // Writes all of the bytes at a place.
+    // Writes all of the bytes at offset `at`.
     pub(crate) fn write(&mut self, at: u64, bytes: &[u8]) -> Result<(), Cause> {
         self.check_whole()?;
         match self.file.write_all_at(bytes, at) {
@@ -94,7 +95,7 @@ impl<F: StoreFile> KeptFile<F> {
         }
     }
 
-    // Makes all of the file safe: its bytes and its length, and not the times that the system keeps of it.
+    // Makes the whole file safe: its bytes and its length, but not the times that the system keeps of it.
     pub(crate) fn sync(&self) -> Result<(), Cause> {
         self.file.sync_data().map_err(|error| Cause::System(error))?;
         self.check_whole()

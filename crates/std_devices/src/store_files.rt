@@ -1,4 +1,4 @@
-//! The two files of a store, opened at first use.
+//! The two files of a store, opened at the first call.
 ghost use Rattle.std.specs.Prelude.{◌≡◌, ◌<◌, ◌^◌, ◌+◌, length, string_bytes, IfOk, None};
 
 use crate::opening::{named_once, open_journal, open_pages, settle_folder};
@@ -18,7 +18,7 @@ struct OpenFiles<F: StoreFile> {
     journal: KeptFile<F>,
 }
 
-// The trouble that a cause is with a file.
+// Adds the area whose file it is to a cause.
 fn of_area<T: Drop>(area: Area, outcome: Result<T, Cause>) -> Result<T, FileTrouble> {
     match outcome {
         Ok(value) => Ok(value),
@@ -30,18 +30,18 @@ fn no_memory() -> Cause {
     Cause::System(io::Error::from(ErrorKind::OutOfMemory))
 }
 
-// The files of a store: STORE, and beside what it is, without links, its journal.
+// The files of a store: STORE, and its journal beside the file that STORE is once links are followed.
 #[derive(Drop)]
 pub(crate) struct StoreFiles<'a, R: Files<File = F>, F: StoreFile = File> {
     alloc: Global,
     rt: &'a R,
-    // As it was given; once it is open, the path of the file itself.
+    // The path as it was given. Once the file is open, its own path.
     store: String,
     opened: Option<OpenFiles<F>>,
 }
 
 impl<'a, R: Files<File = F>, F: StoreFile> StoreFiles<'a, R, F> {
-    // Files that no call has opened.
+    // Returns the files before any call has opened them.
     pub(crate) fn new(alloc: Global, rt: &'a R, store: &str) -> Result<StoreFiles<'a, R, F>, Memory>
         ensures store { IfOk result (λ files. string_bytes files.store ≡ store.now) }
         ensures unopened { IfOk result (λ files. files.opened ≡ None) }
@@ -54,14 +54,14 @@ impl<'a, R: Files<File = F>, F: StoreFile> StoreFiles<'a, R, F> {
         })
     }
 
-    // The path of the file of pages.
+    // Returns the path of the file of pages.
     pub(crate) fn store(&self) -> &str
         ensures { result.now ≡ string_bytes self.now.store }
     {
         &self.store
     }
 
-    // Opens and locks the file of pages, and learns its path without links.
+    // Opens and locks the file of pages, and stores its path without links.
     fn open_pages(&mut self) -> Result<KeptFile<F>, Cause> {
         let file = open_pages(self.rt, &self.store)?;
         let path = self
@@ -87,7 +87,7 @@ impl<'a, R: Files<File = F>, F: StoreFile> StoreFiles<'a, R, F> {
         Ok(OpenFiles { pages, journal })
     }
 
-    // The file of an area. The first call opens both.
+    // Returns the file of an area. The first call opens both files.
     fn file(&mut self, area: Area) -> Result<&mut KeptFile<F>, FileTrouble> {
         if self.opened.is_none() {
             self.opened = Some(self.open_both()?);

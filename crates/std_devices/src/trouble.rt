@@ -13,15 +13,15 @@ pub enum Cause {
     System(io::Error),
     /// The system refused to lock it, and its file system has locks.
     Lock(io::Error),
-    /// The system refused to tell its path without links, or the path is no UTF-8.
+    /// The system could not give its path without links, or the path is not UTF-8.
     Path(io::Error),
-    /// The system refused to make the entry of its folder safe.
+    /// The system could not make its entry in the folder safe.
     Folder(io::Error),
     /// Another process has it locked.
     InUse,
     /// It is a device, a pipe, a socket or a folder.
     NotAFile,
-    /// A symbolic link stands at the name of the journal.
+    /// There is a symbolic link at the name of the journal.
     Link,
     /// It has more than one hard link.
     Names,
@@ -40,9 +40,9 @@ pub struct FileTrouble {
     pub cause: Cause,
 }
 
-/// The name of a store's journal, beside its file of pages.
+/// Returns the path of a store's journal, beside its file of pages.
 ///
-/// Refuses `Memory` alone.
+/// Refuses only with `Memory`.
 pub fn journal_of(alloc: Global, pages: &str) -> Result<String, Memory>
     ensures { IfOk result (λ journal. string_bytes journal ≡ pages.now ++ codes ".journal") }
 {
@@ -51,7 +51,7 @@ pub fn journal_of(alloc: Global, pages: &str) -> Result<String, Memory>
     Ok(journal)
 }
 
-// A path that is one line: a question mark for each control character.
+// A path as one line, with a question mark for each control character.
 fn one_line(alloc: Global, path: &str) -> Result<String, Memory> {
     let mut line = String::new(alloc);
     for c in path.chars() {
@@ -61,7 +61,7 @@ fn one_line(alloc: Global, path: &str) -> Result<String, Memory> {
     Ok(line)
 }
 
-// What to do where the system refused a call on a file.
+// What to do if the system refuses a call on a file.
 fn advice_for(kind: ErrorKind) -> &'static str {
     match kind {
         ErrorKind::PermissionDenied => {
@@ -80,7 +80,7 @@ fn advice_for(kind: ErrorKind) -> &'static str {
     }
 }
 
-// What to do where the system refused to make a folder safe.
+// What to do if the system cannot make a folder safe.
 fn folder_advice_for(kind: ErrorKind) -> &'static str {
     match kind {
         ErrorKind::PermissionDenied => "make the folder readable, or name another store",
@@ -92,7 +92,7 @@ fn folder_advice_for(kind: ErrorKind) -> &'static str {
 }
 
 impl Cause {
-    // What was wrong.
+    // What is wrong with the file.
     fn what(&self, alloc: Global) -> Result<String, Memory> {
         let text = match self {
             Cause::System(error) => format!(in alloc; "{}", error),
@@ -111,7 +111,7 @@ impl Cause {
         text.map_err(|_| Memory)
     }
 
-    // What to do.
+    // What to do about it.
     fn advice(&self) -> &'static str {
         match self {
             Cause::System(error) => advice_for(error.kind()),
@@ -132,10 +132,9 @@ impl Cause {
 }
 
 impl FileTrouble {
-    /// The line `PATH: WHAT; ADVICE`, without an LF: the file, what the system said of it or what it is, and what to do.
-    /// `store` is the path of the file of pages.
+    /// Returns the line `PATH: WHAT; ADVICE`, without an LF: the file, the system's message or what the file is, and what to do.
     ///
-    /// Refuses `Memory` alone.
+    /// `store` is the path of the file of pages. Refuses only with `Memory`.
     pub fn line(&self, alloc: Global, store: &str) -> Result<String, Memory> {
         let path = match self.area {
             Area::Pages => one_line(alloc, store)?,

@@ -5,7 +5,7 @@ use Rattle.page_face.specs.declared.fault.Damage.{Damage}
 use Rattle.page_face.specs.declared.fault.Rule.{Rule}
 use Rattle.page_face.specs.declared.fault.Rule.TheVariants.{Head}
 use Rattle.btree_nodes.specs.declared.form.Form.{Form}
-use Rattle.btree_nodes.specs.Damages.{AreTold, AskedSince, Breaks, IsDamaged, IsRefusedTake, SomeChild}
+use Rattle.btree_nodes.specs.Damages.{AreReadable, AskedSince, Breaks, IsDamaged, IsRefusedTake, SomeChild}
 use Rattle.btree_nodes.specs.Nodes.{Entry, entries_in, half_of, least_of_root}
 use Rattle.btree_nodes.specs.Tree.{level_of, next_key, with_low}
 use Rattle.paged_map.specs.Maps.{IsMapDamaged}
@@ -38,12 +38,12 @@ map-spares_head form pages count zero damage d e = d
 map-spares_head form pages count (suc n) damage d e = tree-spares_head form pages count damage (least_of_root (level_of (pages (suc n)))) (level_of (pages (suc n))) (suc n) 0 _ d e
 
 -- that which a take of a page was refused for, where the counted pages are told
-pub take-spares_head : (pages : PageMap) (count first : ℕ) (damage : Damage) → AreTold pages count → first < count → IsRefusedTake pages count first damage → damage.rule ≢ Head
+pub take-spares_head : (pages : PageMap) (count first : ℕ) (damage : Damage) → AreReadable pages count → first < count → IsRefusedTake pages count first damage → damage.rule ≢ Head
 take-spares_head pages count first damage told counted r e =
     ⊎_elim (λ form. subst (λ (rule : Rule). BreaksFree rule (pages first)) e form.1) (λ link. (let is = link.0 in cc)) (r.1 (told first r.0 counted))
 
 -- that of a row that was put
-pub put-spares_head : (form : Form) (old : PageMap) (few root : ℕ) (pages : PageMap) (count first : ℕ) (before asked : List ℕ) (damage : Damage) → AreTold pages count → first < count
+pub put-spares_head : (form : Form) (old : PageMap) (few root : ℕ) (pages : PageMap) (count first : ℕ) (before asked : List ℕ) (damage : Damage) → AreReadable pages count → first < count
     → (IsMapDamaged form old few root damage × AskedSince before asked damage.page) ⊎ IsRefusedTake pages count first damage → damage.rule ≢ Head
 put-spares_head form old few root pages count first before asked damage told counted d e = ⊎_elim (λ map. map-spares_head form old few root damage map.0 e) (λ take. take-spares_head pages count first damage told counted take e) d
 

@@ -2,7 +2,7 @@
 use Rattle.std.proofs.Common.{◌≡◌, ℕ, ◌<◌, ◌≤◌, ⊎_elim, List, length, arith, sym, subst}
 use Rattle.std.proofs.lemmas.Bool.{cases_lt}
 use Rattle.page_face.specs.FreeList.{PageMap}
-use Rattle.btree_nodes.specs.Damages.{AreTold, AsksOnly}
+use Rattle.btree_nodes.specs.Damages.{AreReadable, AsksOnly}
 use Rattle.btree_nodes.specs.Supply.{View}
 use Rattle.btree_nodes.specs.Tree.{map_uses, uses}
 use Rattle.btree_nodes.proofs.Harms.{asks-further, asks-more}
@@ -25,7 +25,7 @@ tables-told pages tables entries holds n used =
     (cases_lt (map_uses places_form pages tables.places n) 1)
 
 -- tables that changed leave the counted pages told
-pub told-changed : (before : View) (old : Tables) (pages : PageMap) (count first : ℕ) (new : Tables) (entries : Entries) → IsChanged before old pages count first new entries → AreTold before.pages before.count → AreTold pages count
+pub told-changed : (before : View) (old : Tables) (pages : PageMap) (count first : ℕ) (new : Tables) (entries : Entries) → IsChanged before old pages count first new entries → AreReadable before.pages before.count → AreReadable pages count
 told-changed before old pages count first new entries c told = told-moved c.moves (λ n some used. tables-told pages new entries c.holds n used) told
 
 -- each page of tables that are apart is counted

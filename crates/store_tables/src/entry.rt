@@ -10,7 +10,7 @@ ghost use Rattle.row_codec.specs.declared.stored.Stored.{Stored};
 use row_codec::Stored;
 use spatial_base::Key;
 
-// The bytes that follow those of a key: the number of a key's form plus 1, which no form's last byte, a length, lets overflow.
+// The number of a key's form plus 1, in bytes: the next key. A form's last byte is a length, so adding 1 never overflows it.
 fn behind(key: &Key) -> [u8; 66]
     ensures number { number result ≡ key_code key.now + 1 }
     ensures name { IsName key.now }
@@ -31,7 +31,7 @@ pub(crate) fn first_behind(after: Option<&Key>) -> [u8; 66]
     }
 }
 
-/// The key and the place that a row's bytes stand for, and None exactly where they stand for none.
+/// Decodes the key and the place of a row. Returns `None` exactly if its bytes are no key's and place's.
 pub(crate) fn entry_of_bytes(key: &[u8; 66], value: &[u8; 585]) -> Option<(Key, Stored)>
     ensures form { IfSome result (λ entry. IsPlaceEntry entry × (number key.now ≡ key_code entry.0) × (value.now ≡ place_value entry.1)) }
     ensures every { (entry : Name × Stored) → IsPlaceEntry entry → number key.now ≡ key_code entry.0 → value.now ≡ place_value entry.1 → result ≡ Some entry }

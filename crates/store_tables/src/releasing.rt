@@ -1,11 +1,11 @@
-//! Words that one place less holds.
+//! The release of words: one place fewer holds each.
 ghost use Rattle.std.specs.Prelude.{◌≡◌, ◌⊎◌, ◌<◌, ℕ, List, Some, IfOk, OnOk, OnErr, IsErrOf};
 ghost use Rattle.std.specs.BTreeMap.{is_at};
 ghost use Rattle.std.specs.Map.{remove_entry};
 ghost use Rattle.std.specs.Ordering.{nat_cmp};
 ghost use Rattle.page_face.specs.Calls.{FailsReading, Reads, TakesNone};
 ghost use Rattle.btree_nodes.specs.Supply.{view};
-ghost use Rattle.btree_nodes.specs.Damages.{AreTold, AskedSince, AsksOnly};
+ghost use Rattle.btree_nodes.specs.Damages.{AreReadable, AskedSince, AsksOnly};
 ghost use Rattle.paged_map.specs.Maps.{AreCounted, IsMapDamaged};
 ghost use Rattle.store_tables.specs.Entries.{Entries, word_cmp, word_of_number};
 ghost use Rattle.store_tables.specs.Broken.{words_disagree};
@@ -28,13 +28,13 @@ impl Tables {
         ensures found { (entries : Entries) → Holds (P.pages pages.old) self.now entries
             → IfOk result (λ row. CanRelease number entries × (word_of_number number entries.numbers ≡ Some row.counted)) }
         ensures spot { IfOk result (λ row. 1 < row.counted.places → IsNumberSpot (P.pages pages.new) (P.count pages.new) self.now.numbers (P.looked pages.new) number row.spot) }
-        ensures honest { (entries : Entries) → Holds (P.pages pages.old) self.now entries
-            → AreTold (P.pages pages.old) (P.count pages.old) → AreCounted (table_uses (P.pages pages.old) self.now) (P.count pages.old)
+        ensures no_false_damage { (entries : Entries) → Holds (P.pages pages.old) self.now entries
+            → AreReadable (P.pages pages.old) (P.count pages.old) → AreCounted (table_uses (P.pages pages.old) self.now) (P.count pages.old)
             → (damage : Damage) → IsErrOf result (PageFault.Damaged damage) → (damage ≡ words_disagree) × (¬ CanRelease number entries) }
-        ensures damaged { AreTold (P.pages pages.old) (P.count pages.old)
+        ensures damaged { AreReadable (P.pages pages.old) (P.count pages.old)
             → (damage : Damage) → IsErrOf result (PageFault.Damaged damage)
             → IsReleaseDamage (P.pages pages.old) (P.count pages.old) self.now number (P.asked pages.old) (P.asked pages.new) damage }
-        ensures own { AreTold (P.pages pages.old) (P.count pages.old)
+        ensures own { AreReadable (P.pages pages.old) (P.count pages.old)
             → AsksOnly (word_uses (P.pages pages.old) self.now) (P.asked pages.old) (P.asked pages.new) }
         ensures fails { FailsReading P.Pages pages.old pages.new result }
         ensures frame { Reads P.Pages pages.old pages.new }
@@ -62,15 +62,15 @@ impl Tables {
             → OnOk result (IsChanged (view (P.pages pages.old) (P.count pages.old) (P.first pages.old) free) self.old
             (P.pages pages.new) (P.count pages.new) (P.first pages.new) self.new
             (record entries { texts = remove_entry (is_at (word_cmp word.now)) entries.texts; numbers = remove_entry (is_at (nat_cmp number)) entries.numbers })) }
-        ensures honest { (entries : Entries) (free : List ℕ) → Holds (P.pages pages.old) self.old entries → IsApart (view (P.pages pages.old) (P.count pages.old) (P.first pages.old) free) self.old
+        ensures no_false_damage { (entries : Entries) (free : List ℕ) → Holds (P.pages pages.old) self.old entries → IsApart (view (P.pages pages.old) (P.count pages.old) (P.first pages.old) free) self.old
             → (damage : Damage) → ¬ IsErrOf result (PageFault.Damaged damage) }
-        ensures damaged { AreTold (P.pages pages.old) (P.count pages.old)
+        ensures damaged { AreReadable (P.pages pages.old) (P.count pages.old)
             → (damage : Damage) → IsErrOf result (PageFault.Damaged damage)
             → (IsMapDamaged numbers_form (P.pages pages.old) (P.count pages.old) self.old.numbers damage × AskedSince (P.asked pages.old) (P.asked pages.new) damage.page)
             ⊎ ((entries : Entries) (free : List ℕ) → Holds (P.pages pages.old) self.old entries → ¬ IsApart (view (P.pages pages.old) (P.count pages.old) (P.first pages.old) free) self.old) }
-        ensures no_head { ((p : P) → AreTold (P.pages p) (P.count p)) → SparesHead result }
+        ensures no_head { ((p : P) → AreReadable (P.pages p) (P.count p)) → SparesHead result }
         ensures own { (entries : Entries) (free : List ℕ) → Holds (P.pages pages.old) self.old entries → IsApart (view (P.pages pages.old) (P.count pages.old) (P.first pages.old) free) self.old
-            → AreTold (P.pages pages.old) (P.count pages.old)
+            → AreReadable (P.pages pages.old) (P.count pages.old)
             → AsksOnly (word_uses (P.pages pages.old) self.old) (P.asked pages.old) (P.asked pages.new) }
         ensures others { (self.new.places ≡ self.old.places) × (self.new.next_word ≡ self.old.next_word) }
         ensures kept { OnErr result (self.new ≡ self.old) }
@@ -84,33 +84,33 @@ impl Tables {
         Ok(())
     }
 
-    /// Counts one place less that holds the word of a number. With its last place the word goes from both tables, and its number
+    /// Counts one place fewer that holds the word of a number. With its last place the word goes from both tables, and its number
     /// is never given again.
     ///
-    /// Refuses as the pages do, and `Damaged` by a rule that a page of the tables of words breaks, or with `Value` at the leaf
-    /// whose row is no word's, or with `Words` at page 0 where the number has no word, or where its word goes and the words by text have
-    /// another number of it, or none; that is found before anything is written. After a refusal the tables are as before, and pages may
+    /// Refuses as the pages do, and `Damaged` by a rule that a page of the tables of words breaks, or with `Value` at the leaf whose row is
+    /// no word's. Refuses `Damaged` with `Words` at page 0 if the number has no word, or if its word goes and the words by text have
+    /// another number of it, or none. That is found before anything is written. After a refusal the tables are as before, and pages may
     /// have changed.
     ///
-    /// Looks at one page a level of the words by number. If more places hold the word, writes the leaf of its row alone. Else
+    /// Looks at one page a level of the words by number. If more places hold the word, writes only the leaf of its row. Otherwise
     /// looks the word up by text, and takes a row out of each of the two tables, with one more way down in each. Takes no page.
     pub fn release<P: Pages>(&mut self, pages: &mut P, number: u64) -> Result<(), PageFault>
         ensures released { (entries : Entries) (free : List ℕ) → Holds (P.pages pages.old) self.old entries → IsApart (view (P.pages pages.old) (P.count pages.old) (P.first pages.old) free) self.old
             → OnOk result (CanRelease number entries
             × IsChanged (view (P.pages pages.old) (P.count pages.old) (P.first pages.old) free) self.old
             (P.pages pages.new) (P.count pages.new) (P.first pages.new) self.new (without_hold number entries)) }
-        ensures honest { (entries : Entries) (free : List ℕ) → Holds (P.pages pages.old) self.old entries → IsApart (view (P.pages pages.old) (P.count pages.old) (P.first pages.old) free) self.old
-            → AreTold (P.pages pages.old) (P.count pages.old)
+        ensures no_false_damage { (entries : Entries) (free : List ℕ) → Holds (P.pages pages.old) self.old entries → IsApart (view (P.pages pages.old) (P.count pages.old) (P.first pages.old) free) self.old
+            → AreReadable (P.pages pages.old) (P.count pages.old)
             → (damage : Damage) → IsErrOf result (PageFault.Damaged damage) → (damage ≡ words_disagree) × (¬ CanRelease number entries) }
 
         // Damage of a last word's second row comes only of pages that held no entries, or were not apart.
-        ensures damaged { AreTold (P.pages pages.old) (P.count pages.old)
+        ensures damaged { AreReadable (P.pages pages.old) (P.count pages.old)
             → (damage : Damage) → IsErrOf result (PageFault.Damaged damage)
             → IsReleaseDamage (P.pages pages.old) (P.count pages.old) self.old number (P.asked pages.old) (P.asked pages.new) damage
             ⊎ ((entries : Entries) (free : List ℕ) → Holds (P.pages pages.old) self.old entries → ¬ IsApart (view (P.pages pages.old) (P.count pages.old) (P.first pages.old) free) self.old) }
-        ensures no_head { ((p : P) → AreTold (P.pages p) (P.count p)) → SparesHead result }
+        ensures no_head { ((p : P) → AreReadable (P.pages p) (P.count p)) → SparesHead result }
         ensures own { (entries : Entries) (free : List ℕ) → Holds (P.pages pages.old) self.old entries → IsApart (view (P.pages pages.old) (P.count pages.old) (P.first pages.old) free) self.old
-            → AreTold (P.pages pages.old) (P.count pages.old)
+            → AreReadable (P.pages pages.old) (P.count pages.old)
             → AsksOnly (word_uses (P.pages pages.old) self.old) (P.asked pages.old) (P.asked pages.new) }
         ensures others { (self.new.places ≡ self.old.places) × (self.new.next_word ≡ self.old.next_word) }
         ensures kept { OnErr result (self.new ≡ self.old) }

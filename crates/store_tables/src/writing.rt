@@ -5,7 +5,7 @@ ghost use Rattle.std.specs.Ordering.{nat_cmp};
 ghost use Rattle.page_face.specs.Calls.{FailsReading, FailsChanging, TakesNone, Changes, TakesAtMost};
 ghost use Rattle.btree_nodes.specs.Supply.{view};
 ghost use Rattle.btree_nodes.specs.Tree.{map_uses};
-ghost use Rattle.btree_nodes.specs.Damages.{AreTold, AskedSince, AsksOnly, IsRefusedTake};
+ghost use Rattle.btree_nodes.specs.Damages.{AreReadable, AskedSince, AsksOnly, IsRefusedTake};
 ghost use Rattle.paged_map.specs.Heights.{height_of};
 ghost use Rattle.paged_map.specs.Maps.{IsMapDamaged};
 ghost use Rattle.row_codec.specs.Stored.{IsStored};
@@ -24,7 +24,7 @@ impl Tables {
     ghost use Rattle.store_tables.specs.Holding.{Holds, IsApart, IsChanged, IsSameMap, numbers_form, places_form, texts_form};
     ghost use Rattle.store_tables.specs.Rows.{IsNumberSpot};
 
-    /// Puts a place at its key, and answers whether the key was there.
+    /// Puts a place at its key, and returns whether the key was there.
     ///
     /// Refuses as the pages do, and `Damaged` by a rule that a page of the place table breaks, or as a take of a page refuses.
     /// After a refusal the tables are as before, and pages may have changed.
@@ -39,17 +39,17 @@ impl Tables {
             → IfOk result (λ was. (was ≡ is_some (place_of_key key.now entries.places))
             × IsChanged (view (P.pages pages.old) (P.count pages.old) (P.first pages.old) free) self.old
             (P.pages pages.new) (P.count pages.new) (P.first pages.new) self.new (record entries { places = with_place key.now stored.now entries.places })) }
-        ensures honest { (entries : Entries) (free : List ℕ) → Holds (P.pages pages.old) self.old entries → IsApart (view (P.pages pages.old) (P.count pages.old) (P.first pages.old) free) self.old
+        ensures no_false_damage { (entries : Entries) (free : List ℕ) → Holds (P.pages pages.old) self.old entries → IsApart (view (P.pages pages.old) (P.count pages.old) (P.first pages.old) free) self.old
             → (damage : Damage) → ¬ IsErrOf result (PageFault.Damaged damage) }
-        ensures damaged { AreTold (P.pages pages.old) (P.count pages.old)
+        ensures damaged { AreReadable (P.pages pages.old) (P.count pages.old)
             → (damage : Damage) → IsErrOf result (PageFault.Damaged damage)
             → (IsMapDamaged places_form (P.pages pages.old) (P.count pages.old) self.old.places damage × AskedSince (P.asked pages.old) (P.asked pages.new) damage.page)
             ⊎ IsRefusedTake (P.pages pages.new) (P.count pages.new) (P.first pages.new) damage }
-        ensures own { AreTold (P.pages pages.old) (P.count pages.old)
+        ensures own { AreReadable (P.pages pages.old) (P.count pages.old)
             → AsksOnly (map_uses places_form (P.pages pages.old) self.old.places) (P.asked pages.old) (P.asked pages.new) }
         ensures others { self.new ≡ record self.old { places = self.new.places } }
         ensures kept { OnErr result (self.new ≡ self.old) }
-        ensures takes { AreTold (P.pages pages.old) (P.count pages.old) → TakesAtMost P.Pages (height_of (P.pages pages.old) self.old.places + 1) pages.old pages.new result }
+        ensures takes { AreReadable (P.pages pages.old) (P.count pages.old) → TakesAtMost P.Pages (height_of (P.pages pages.old) self.old.places + 1) pages.old pages.new result }
         ensures at_most { TakesAtMost P.Pages 257 pages.old pages.new result }
         ensures fails { FailsChanging P.Pages pages.old pages.new result }
         ensures frame { Changes P.Pages pages.old pages.new }
@@ -59,7 +59,7 @@ impl Tables {
         Ok(put.was)
     }
 
-    /// Puts a word's number at its text, and answers whether the word was there.
+    /// Puts a word's number at its text, and returns whether the word was there.
     pub(crate) fn put_text<P: Pages>(
         &mut self,
         pages: &mut P,
@@ -70,17 +70,17 @@ impl Tables {
             → IfOk result (λ was. (was ≡ is_some (number_of_word word.now entries.texts))
             × IsChanged (view (P.pages pages.old) (P.count pages.old) (P.first pages.old) free) self.old
             (P.pages pages.new) (P.count pages.new) (P.first pages.new) self.new (record entries { texts = insert_entry word_cmp entries.texts word.now number })) }
-        ensures honest { (entries : Entries) (free : List ℕ) → Holds (P.pages pages.old) self.old entries → IsApart (view (P.pages pages.old) (P.count pages.old) (P.first pages.old) free) self.old
+        ensures no_false_damage { (entries : Entries) (free : List ℕ) → Holds (P.pages pages.old) self.old entries → IsApart (view (P.pages pages.old) (P.count pages.old) (P.first pages.old) free) self.old
             → (damage : Damage) → ¬ IsErrOf result (PageFault.Damaged damage) }
-        ensures damaged { AreTold (P.pages pages.old) (P.count pages.old)
+        ensures damaged { AreReadable (P.pages pages.old) (P.count pages.old)
             → (damage : Damage) → IsErrOf result (PageFault.Damaged damage)
             → (IsMapDamaged texts_form (P.pages pages.old) (P.count pages.old) self.old.texts damage × AskedSince (P.asked pages.old) (P.asked pages.new) damage.page)
             ⊎ IsRefusedTake (P.pages pages.new) (P.count pages.new) (P.first pages.new) damage }
-        ensures own { AreTold (P.pages pages.old) (P.count pages.old)
+        ensures own { AreReadable (P.pages pages.old) (P.count pages.old)
             → AsksOnly (map_uses texts_form (P.pages pages.old) self.old.texts) (P.asked pages.old) (P.asked pages.new) }
         ensures others { self.new ≡ record self.old { texts = self.new.texts } }
         ensures kept { OnErr result (self.new ≡ self.old) }
-        ensures takes { AreTold (P.pages pages.old) (P.count pages.old) → TakesAtMost P.Pages (height_of (P.pages pages.old) self.old.texts + 1) pages.old pages.new result }
+        ensures takes { AreReadable (P.pages pages.old) (P.count pages.old) → TakesAtMost P.Pages (height_of (P.pages pages.old) self.old.texts + 1) pages.old pages.new result }
         ensures at_most { TakesAtMost P.Pages 257 pages.old pages.new result }
         ensures fails { FailsChanging P.Pages pages.old pages.new result }
         ensures frame { Changes P.Pages pages.old pages.new }
@@ -90,7 +90,7 @@ impl Tables {
         Ok(put.was)
     }
 
-    /// Puts a word and its count at the word's number, and answers whether the number was there. The words by text stay.
+    /// Puts a word and its count at the word's number, and returns whether the number was there. The words by text stay.
     pub(crate) fn put_number<P: Pages>(
         &mut self,
         pages: &mut P,
@@ -103,17 +103,17 @@ impl Tables {
             (P.pages pages.new) (P.count pages.new) (P.first pages.new) self.new (record entries { numbers = insert_entry nat_cmp entries.numbers number counted.now })) }
         ensures texts { (entries : Entries) (free : List ℕ) → Holds (P.pages pages.old) self.old entries → IsApart (view (P.pages pages.old) (P.count pages.old) (P.first pages.old) free) self.old
             → OnOk result (IsSameMap texts_form (P.pages pages.old) (P.pages pages.new) self.old.texts) }
-        ensures honest { (entries : Entries) (free : List ℕ) → Holds (P.pages pages.old) self.old entries → IsApart (view (P.pages pages.old) (P.count pages.old) (P.first pages.old) free) self.old
+        ensures no_false_damage { (entries : Entries) (free : List ℕ) → Holds (P.pages pages.old) self.old entries → IsApart (view (P.pages pages.old) (P.count pages.old) (P.first pages.old) free) self.old
             → (damage : Damage) → ¬ IsErrOf result (PageFault.Damaged damage) }
-        ensures damaged { AreTold (P.pages pages.old) (P.count pages.old)
+        ensures damaged { AreReadable (P.pages pages.old) (P.count pages.old)
             → (damage : Damage) → IsErrOf result (PageFault.Damaged damage)
             → (IsMapDamaged numbers_form (P.pages pages.old) (P.count pages.old) self.old.numbers damage × AskedSince (P.asked pages.old) (P.asked pages.new) damage.page)
             ⊎ IsRefusedTake (P.pages pages.new) (P.count pages.new) (P.first pages.new) damage }
-        ensures own { AreTold (P.pages pages.old) (P.count pages.old)
+        ensures own { AreReadable (P.pages pages.old) (P.count pages.old)
             → AsksOnly (map_uses numbers_form (P.pages pages.old) self.old.numbers) (P.asked pages.old) (P.asked pages.new) }
         ensures others { self.new ≡ record self.old { numbers = self.new.numbers } }
         ensures kept { OnErr result (self.new ≡ self.old) }
-        ensures takes { AreTold (P.pages pages.old) (P.count pages.old) → TakesAtMost P.Pages (height_of (P.pages pages.old) self.old.numbers + 1) pages.old pages.new result }
+        ensures takes { AreReadable (P.pages pages.old) (P.count pages.old) → TakesAtMost P.Pages (height_of (P.pages pages.old) self.old.numbers + 1) pages.old pages.new result }
         ensures at_most { TakesAtMost P.Pages 257 pages.old pages.new result }
         ensures fails { FailsChanging P.Pages pages.old pages.new result }
         ensures frame { Changes P.Pages pages.old pages.new }
@@ -126,7 +126,7 @@ impl Tables {
 
     /// Puts a word and its count at the word's number, whose row was found at a spot. The tables stay.
     ///
-    /// Looks at no page but the row's leaf, which is the page looked at. Writes that page alone, and copies its bytes once.
+    /// Looks at no page except the row's leaf, which is the page looked at. Writes only that page, and copies its bytes once.
     pub(crate) fn replace_number<P: Pages>(
         &self,
         pages: &mut P,
@@ -138,7 +138,7 @@ impl Tables {
         ensures put { (entries : Entries) (free : List ℕ) → Holds (P.pages pages.old) self.now entries → IsApart (view (P.pages pages.old) (P.count pages.old) (P.first pages.old) free) self.now
             → OnOk result (IsChanged (view (P.pages pages.old) (P.count pages.old) (P.first pages.old) free) self.now
             (P.pages pages.new) (P.count pages.new) (P.first pages.new) self.now (record entries { numbers = insert_entry nat_cmp entries.numbers number counted.now })) }
-        ensures honest { (damage : Damage) → ¬ IsErrOf result (PageFault.Damaged damage) }
+        ensures no_false_damage { (damage : Damage) → ¬ IsErrOf result (PageFault.Damaged damage) }
         ensures asked { P.asked pages.new ≡ P.asked pages.old }
         ensures fails { FailsReading P.Pages pages.old pages.new result }
         ensures frame { TakesNone P.Pages pages.old pages.new }

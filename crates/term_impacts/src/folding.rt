@@ -1,4 +1,4 @@
-//! The case folding of a piece of text, written straight into a word's form.
+//! Case-folds a piece of text, and writes it straight into a word's form.
 ghost use Rattle.std.specs.Prelude.{◌≡◌, ◌+◌, ◌-◌, ◌<◌, ◌≤◌, ◌++◌, length, take, drop, encode_utf8, MatchOption, IsAscii};
 ghost use Rattle.std.specs.Option.{SomeIff};
 ghost use Rattle.std.specs.Str.{IsUtf8};
@@ -7,7 +7,7 @@ ghost use Rattle.term_impacts.specs.Text.{folded};
 use crate::word::{WORD_MAX, Word};
 use caseless::Caseless;
 
-/// The word that a piece of a text is once its case is folded, and `None` exactly where that is more than 32 bytes.
+/// Returns the word that a piece of text is after case folding, or `None` exactly if the folded text has more than 32 bytes.
 #[inline]
 pub(crate) fn folded_word(piece: &str) -> Option<Word>
     requires { 1 ≤ length piece.now }
@@ -20,7 +20,7 @@ pub(crate) fn folded_word(piece: &str) -> Option<Word>
     }
 }
 
-/// The same of ASCII, which folds to lower case byte by byte.
+/// The same for ASCII, which folds to lower case byte by byte.
 #[inline]
 fn ascii_word(piece: &str) -> Option<Word>
     requires some { 1 ≤ length piece.now }
@@ -37,7 +37,7 @@ fn ascii_word(piece: &str) -> Option<Word>
     Some(Word::sealed(form, len))
 }
 
-/// The same of any text, character by character.
+/// The same for any text, character by character.
 fn unicode_word(piece: &str) -> Option<Word>
     requires { 1 ≤ length piece.now }
     ensures { SomeIff result (length (folded piece.now) ≤ 32) (folded piece.now) }
@@ -50,8 +50,7 @@ fn unicode_word(piece: &str) -> Option<Word>
     Some(Word::sealed(form, len))
 }
 
-/// Writes a character behind the `len` bytes of text in the form, and answers the text's new length, or `None` where it would be
-/// more than 32.
+/// Writes a character after the `len` bytes of text in the form. Returns the text's new length, or `None` if it would be more than 32.
 fn put_char(form: &mut [u8; 33], len: usize, c: char) -> Option<usize>
     requires { len ≤ 32 }
     ensures room { MatchOption result (32 < len + length (encode_utf8 c)) (λ end. (end ≡ len + length (encode_utf8 c)) × (end ≤ 32)

@@ -1,10 +1,13 @@
 //! Words of a text and their impacts: how a place's text is weighed, word by word.
 //!
-//! The words of a text are its pieces between word boundaries (UAX #29) that have a letter or a number, after default case
-//! folding, without those of more than 32 bytes. The impact of a word is its share of all the words of the text, from 1 to 255.
-//! [`impacts`] gives the first 64 distinct words of a text with their impacts, [`one_word`] the word of a text of one word, [`Word`]
-//! a word in a form of 33 bytes that orders as its text does, and [`Words`] a map from words to impacts. Each answer is exact: the
-//! definitions are in `specs/Text.antt`, `Impacts.antt`, `Form.antt` and `Pairs.antt`.
+//! The words of a text are its pieces between word boundaries (UAX #29) that have a letter or a number, after default case folding.
+//! Those of more than 32 bytes do not count. The impact of a word is its share of all the words of the text, from 1 to 255.
+//!
+//! [`impacts`] gives the first 64 distinct words of a text with their impacts, and [`one_word`] the word of a text of one word.
+//! [`Word`] is a word in a form of 33 bytes that orders as its text does, and [`Words`] is a map from words to impacts. Each result is
+//! exact: the definitions are in `specs/Text.antt`, `Impacts.antt`, `Form.antt` and `Pairs.antt`.
+//!
+//! Tests: `text_tests/src/term_impacts_tests.rt`.
 #![tactic(auto)]
 
 mod folding;

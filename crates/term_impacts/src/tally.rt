@@ -1,4 +1,4 @@
-//! The words of a text while they are counted.
+//! Counts the words of a text.
 ghost use Rattle.std.specs.Prelude.{◌≡◌, ◌+◌, ◌*◌, ◌/◌, ◌^◌, ◌<◌, ◌≤◌, ℕ, List, [], ◌∷◌, ◌++◌, length, IfOk, OnOk};
 ghost use Rattle.term_impacts.specs.Impacts.{impacts_of};
 ghost use Rattle.term_impacts.specs.Tally.{IsTally};
@@ -8,7 +8,7 @@ use crate::words::{WORDS_MAX, Words};
 use indexmap::IndexMap;
 use std::alloc::{AllocError, Global};
 
-/// How often each of the first 64 distinct words came, in the order of first appearance, and how many words came in all.
+/// How often each of the first 64 distinct words occurred, in the order of first appearance, and how many words occurred in all.
 #[derive(Drop)]
 pub(crate) struct Tally {
     counts: IndexMap<Word, u64>,
@@ -16,7 +16,7 @@ pub(crate) struct Tally {
 }
 
 impl Tally {
-    /// Nothing is counted yet.
+    /// Returns the tally of no words.
     pub(crate) fn new(alloc: Global) -> Tally
         ensures { IsTally [] result.counts.entries result.total }
     {
@@ -26,7 +26,7 @@ impl Tally {
         }
     }
 
-    /// Counts one more word. Beyond the first 64 distinct words it counts among all words alone.
+    /// Counts one more word. A word beyond the first 64 distinct ones counts only towards the total.
     #[inline]
     pub(crate) fn add(&mut self, word: Word) -> Result<(), AllocError>
         requires { (words : List (List ℕ)) × IsTally words self.old.counts.entries self.old.total × (length words < 2 ^ 63) }
@@ -42,7 +42,7 @@ impl Tally {
         Ok(())
     }
 
-    /// The words that are kept with their impacts, in the order of the words.
+    /// Returns the kept words with their impacts, in the order of the words.
     pub(crate) fn impacts(&self, alloc: Global) -> Result<Words, AllocError>
         requires { (words : List (List ℕ)) × IsTally words self.now.counts.entries self.now.total × (length words < 2 ^ 63) }
         ensures { (words : List (List ℕ)) → IsTally words self.now.counts.entries self.now.total
@@ -56,7 +56,7 @@ impl Tally {
     }
 }
 
-/// The impact of a word that came `count` times among `total` words, 1 to 255. The product has 71 bits at most.
+/// The impact, 1 to 255, of a word that occurs `count` times among `total` words. The product has at most 71 bits.
 fn impact(count: u64, total: u64) -> u8
     requires some { 1 ≤ total }
     requires share { count ≤ total }

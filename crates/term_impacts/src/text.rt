@@ -1,4 +1,4 @@
-//! What a text says: the impacts of its words, and its one word.
+//! The impacts of a text's words, and the one word of a text that has only one.
 ghost use Rattle.std.specs.Prelude.{◌≡◌, IfOk};
 ghost use Rattle.term_impacts.specs.Impacts.{word_impacts};
 ghost use Rattle.term_impacts.specs.Text.{words_of, only};
@@ -10,11 +10,13 @@ use crate::words::Words;
 use spatial_base::Memory;
 use std::alloc::{AllocError, Global};
 
-/// The words of a text with their impacts. The words are its pieces between word boundaries (UAX #29) that have a letter or a number,
-/// after default case folding, without those of more than 32 bytes. Each of the first 64 distinct ones, by first appearance, has the
-/// impact `1 + floor(254 * tf / L)`, where tf is how often it stands in the text and L the number of all its words.
+/// Returns the words of a text with their impacts.
 ///
-/// It fails for want of memory alone. It is one pass over the text, and keeps 64 words at most, however long the text is.
+/// The words are the text's pieces between word boundaries (UAX #29) that have a letter or a number, after default case folding. Those
+/// of more than 32 bytes do not count. The first 64 distinct words, by first appearance, are kept. The impact of each is `1 + floor(254
+/// * tf / L)`, if it occurs `tf` times in the text and the text has `L` words in all.
+///
+/// Fails only if memory runs out. It makes one pass over the text, and keeps at most 64 words, however long the text is.
 pub fn impacts(alloc: Global, text: &str) -> Result<Words, Memory>
     ensures { IfOk result (λ words. words ≡ word_impacts text.now) }
 {
@@ -31,8 +33,9 @@ fn weighed(alloc: Global, text: &str) -> Result<Words, AllocError>
     tally.impacts(alloc)
 }
 
-/// The word of a text exactly where its list of words has one element, and else `None`. It stops at the second word, takes no
-/// memory, and never fails.
+/// Returns the word of a text if the text has exactly one word, and `None` otherwise.
+///
+/// It stops at the second word, allocates no memory, and never fails.
 pub fn one_word(_alloc: Global, text: &str) -> Result<Option<Word>, Memory>
     ensures { result ≡ Ok (only (words_of text.now)) }
 {

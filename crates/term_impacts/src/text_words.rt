@@ -7,8 +7,9 @@ use crate::folding::folded_word;
 use crate::word::Word;
 use unicode_segmentation::{UnicodeSegmentation, UnicodeWords};
 
-/// An iterator over the words of a text, from the first: its pieces between word boundaries that have a letter or a number, folded,
-/// without those of more than 32 bytes.
+/// An iterator over the words of a text, in order.
+///
+/// They are its pieces between word boundaries that have a letter or a number, folded, except those of more than 32 bytes.
 #[derive(Drop)]
 pub(crate) struct TextWords<'a> {
     pieces: UnicodeWords<'a>,

@@ -14,13 +14,13 @@ use std::hash::{Hash, Hasher};
 use std::marker::Model;
 use std::str::{from_utf8, from_utf8_unchecked};
 
-/// The most bytes that a word's text has.
+/// The most bytes that a word has.
 pub const WORD_MAX: usize = 32;
 
 /// A word: a text of 1 to 32 bytes of UTF-8, ordered by its bytes, a proper prefix first.
 ///
-/// It is kept in its form of 33 bytes: the text, zero bytes up to 32, and the text's length. Comparing two forms by their
-/// bytes gives the order of the words. Contracts see a word as the bytes of its text.
+/// It is stored in its form of 33 bytes: the text, zero bytes up to 32, and the text's length. Comparing two forms byte by byte gives
+/// the order of the words. Contracts see a word as the bytes of its text.
 #[derive(Clone, Copy, Debug)]
 pub struct Word {
     form: [u8; 33],
@@ -44,17 +44,17 @@ impl Model for Word {
 }
 
 impl Word {
-    /// The word's text.
+    /// Returns the word's text.
     pub fn text(&self) -> &str
         ensures text { result.now ≡ self.now }
         ensures valid { IsWordText self.now }
     {
         let len = self.form[WORD_MAX] as usize;
-        // Each word's text is UTF-8, by the type's invariant, so it is not tested again.
+        // The type's invariant says that each word's text is UTF-8, so it is not checked again.
         unsafe { from_utf8_unchecked(&self.form[..len]) }
     }
 
-    /// The word's form: its text, zero bytes up to 32, and the text's length.
+    /// Returns the word's form: its text, zero bytes up to 32, and the text's length.
     pub fn bytes(&self) -> [u8; 33]
         ensures form { result ≡ word_form self.now }
         ensures valid { IsWordText self.now }
@@ -62,8 +62,13 @@ impl Word {
         self.form
     }
 
-    /// The word whose form these bytes are, and `None` exactly where they are no word's form: where the last is not 1 to 32,
-    /// where as many bytes in front are no UTF-8, or where another byte behind them is not zero.
+    /// Returns the word that has this form, or `None` exactly if the bytes are not the form of a word.
+    ///
+    /// They are not one if:
+    ///
+    /// - the last byte is not from 1 to 32,
+    /// - that many bytes at the beginning are not UTF-8, or
+    /// - a byte between these and the last is not zero.
     pub fn of_bytes(bytes: &[u8; 33]) -> Option<Word>
         ensures form { IfSome result (λ word. IsWordText word × (bytes.now ≡ word_form word)) }
         ensures no_form { IfNone result ((text : List ℕ) → IsWordText text → bytes.now ≢ word_form text) }
@@ -82,7 +87,7 @@ impl Word {
         Some(word)
     }
 
-    /// The word of this text.
+    /// Returns the word with this text.
     fn of_text(text: &str) -> Word
         requires { IsWordText text.now }
         ensures word { result ≡ text.now }
@@ -93,7 +98,7 @@ impl Word {
         Word::sealed(form, len)
     }
 
-    /// The word whose text fills the front of the form, before zero bytes.
+    /// Returns the word whose text is the first `len` bytes of the form. The other bytes of the form are zero.
     #[inline]
     pub(crate) fn sealed(mut form: [u8; 33], len: usize) -> Word
         requires text { IsWordText (take len form) }
@@ -106,7 +111,7 @@ impl Word {
     }
 }
 
-// The first eight bytes of a form, as a number.
+// The first eight bytes of a form as a number.
 #[inline(always)]
 fn front(form: &[u8; 33]) -> u64
     ensures { result ≡ from_be_bytes w64 (take 8 form.now) }
@@ -120,7 +125,7 @@ impl PartialEq for Word {
 
     ghost laws = { Cmp.partial_equiv_from_equiv nat_list_eq_equiv };
 
-    // Most words are told apart by their first eight bytes.
+    // Most unequal words already differ in their first eight bytes.
     #[inline(always)]
     fn eq(&self, other: &Word) -> bool {
         front(&self.form) == front(&other.form) && self.form == other.form

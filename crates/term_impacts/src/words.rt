@@ -15,7 +15,7 @@ use std::marker::Model;
 /// The most words that a place has.
 pub const WORDS_MAX: usize = 64;
 
-/// A map of at most 64 words to impacts of 1 to 255, as pairs that ascend by word. Contracts see the list of the pairs.
+/// A map of at most 64 words to impacts of 1 to 255, stored as pairs that ascend by word. Contracts see the list of the pairs.
 #[derive(Drop)]
 pub struct Words {
     pairs: Vec<(Word, u8)>,
@@ -33,7 +33,7 @@ impl Model for Words {
 }
 
 impl Words {
-    /// The pairs, in the order of their words.
+    /// Returns the pairs, in the order of their words.
     pub fn pairs(&self) -> &[(Word, u8)]
         ensures pairs { result.now ≡ self.now }
         ensures valid { IsWordMap self.now }
@@ -41,15 +41,17 @@ impl Words {
         self.pairs.as_slice()
     }
 
-    /// The impact of a word, 1 to 255, and 0 where the word is absent. It looks at one pair after another: most places have few
-    /// words, and most pairs are told apart by their words' lengths.
+    /// Returns the impact of a word, 1 to 255, or 0 if the map does not have the word.
+    ///
+    /// It looks at one pair after another: most places have few words, and most unequal words already differ in their first eight
+    /// bytes.
     pub fn impact(&self, word: &Word) -> u8
         ensures { result ≡ impact_in self.now word.now }
     {
         impact_among(self.pairs.as_slice(), word)
     }
 
-    /// The same map in memory of its own. It fails for want of memory alone.
+    /// Returns a copy of the map in its own memory. Fails only if memory runs out.
     pub fn copy(&self, alloc: Global) -> Result<Words, Memory>
         ensures { IfOk result (λ copy. copy ≡ self.now) }
     {
@@ -57,8 +59,9 @@ impl Words {
         Ok(Words { pairs })
     }
 
-    /// The map with these pairs, in their own memory, and `None` exactly where they are no such map: where there are more than 64,
-    /// where a word is not before the next, or where an impact is 0.
+    /// Returns the map with these pairs, in the memory of `pairs`, or `None` exactly if they are not such a map.
+    ///
+    /// They are not one if there are more than 64, if a word is not before the next, or if an impact is 0.
     pub fn of_pairs(pairs: Vec<(Word, u8)>) -> Option<Words>
         ensures same { IfSome result (λ words. words ≡ pairs.items) }
         ensures exact { IsSome result ↔ IsWordMap pairs.items }
@@ -70,7 +73,7 @@ impl Words {
         }
     }
 
-    /// The empty map, with room for `room` pairs.
+    /// Returns the empty map, with room for `room` pairs.
     pub(crate) fn with_capacity(alloc: Global, room: usize) -> Result<Words, AllocError>
         ensures { IfOk result (λ words. words ≡ []) }
     {
@@ -97,7 +100,7 @@ impl Words {
     }
 }
 
-/// The impact of a word among pairs of which it is in at most one, and 0 where it is in none.
+/// The impact of a word that at most one of the pairs has, or 0 if none has it.
 fn impact_among(pairs: &[(Word, u8)], word: &Word) -> u8
     ensures { result ≡ impact_in pairs.now word.now }
 {
@@ -113,7 +116,7 @@ fn impact_among(pairs: &[(Word, u8)], word: &Word) -> u8
     }
 }
 
-/// Whether the pairs are a map of words.
+/// Whether the pairs are a map of words: at most 64, ascending by word, with no impact of 0.
 fn is_word_map(pairs: &[(Word, u8)]) -> bool
     ensures { IsTrue result ↔ IsWordMap pairs.now }
 {

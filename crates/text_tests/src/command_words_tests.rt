@@ -3,7 +3,7 @@ use std::alloc::{AllocError, Global};
 use std::fmt::Write;
 use std::test::Fail;
 
-// Words, and what they ask for: the store, the action, the batch, the cache, the policy, the seed, the count and the property in brackets.
+// Command words, and the job they ask for: store, action, batch, cache, policy, seed, count, and the property in brackets.
 static LINES: &str = "\
 - run > - run 1000 1024 Quadratic 0 1000
 town.store load > town.store load 1000 1024 Quadratic 0 1000
@@ -66,7 +66,7 @@ town.store load > town.store load 1000 1024 Quadratic 0 1000
 - make --text name > Unused
 ";
 
-// The words that spaces separate.
+// The words of a line, which spaces separate.
 fn words_of(alloc: Global, line: &str) -> Result<Vec<String>, AllocError> {
     let mut words = Vec::new(alloc);
     for word in line.split(' ') {
@@ -77,7 +77,7 @@ fn words_of(alloc: Global, line: &str) -> Result<Vec<String>, AllocError> {
     Ok(words)
 }
 
-// Appends what a job is.
+// Appends a job.
 fn tell(out: &mut String, job: &Job) -> Result<(), AllocError> {
     let store = job.store.as_str();
     write!(out, "{store} {} {} {}", job.action, job.batch, job.cache)?;
@@ -88,7 +88,7 @@ fn tell(out: &mut String, job: &Job) -> Result<(), AllocError> {
     }
 }
 
-// What words ask for, or the fault.
+// The job that command words ask for, or the fault.
 fn told(alloc: Global, words: &[String]) -> Result<String, AllocError> {
     let mut out = String::new(alloc);
     match read_words(alloc, words) {
@@ -98,7 +98,7 @@ fn told(alloc: Global, words: &[String]) -> Result<String, AllocError> {
     Ok(out)
 }
 
-// Whether the words of a line ask for this.
+// Whether the words of a line ask for this job.
 fn asks_for(alloc: Global, line: &str, wanted: &str) -> Result<bool, AllocError> {
     let words = words_of(alloc, line)?;
     Ok(told(alloc, &words)?.as_str() == wanted)
@@ -113,7 +113,7 @@ fn words_ask_for_their_job(rt: HostRuntime) -> Result<(), Fail> {
     Ok(())
 }
 
-// Words that are refused, and what a person is told.
+// Command words that are refused, and the text for a person.
 static REFUSALS: &str = "\
 - dance > unknown action 'dance', expected run, load or make
 - run --batch 1 > the action run doesn't use '--batch'
@@ -127,7 +127,7 @@ static REFUSALS: &str = "\
 - > the following required arguments were not provided: <ACTION>
 ";
 
-// Whether the words of a line are refused with this text, and accepted where it is empty.
+// Whether the words of a line are refused with this text, or accepted if it is empty.
 fn is_explained(alloc: Global, line: &str, wanted: &str) -> Result<bool, AllocError> {
     let words = words_of(alloc, line)?;
     match explain_words(alloc, &words)? {

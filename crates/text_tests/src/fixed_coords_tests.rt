@@ -1,6 +1,6 @@
 use fixed_coords::{NumberFault, latitude, longitude, read_fixed, reading_is_one, write_fixed};
 
-/// Spellings, and their values as Python's whole numbers give them.
+/// Spellings, and their values as Python's integers give them.
 static NUMBERS: [(&str, Result<i64, NumberFault>); 24] = [
     ("0", Ok(0)),
     ("-0", Ok(0)),
@@ -84,7 +84,7 @@ fn a_number_is_its_value_times_ten_million_to_the_nearest(rt: HostRuntime) {
     reading_is_one();
 }
 
-/// The value of a latitude or a longitude.
+/// The value of a latitude or a longitude, or why it is refused.
 fn coordinate(spelling: &str, is_latitude: bool) -> Result<i32, NumberFault> {
     if is_latitude {
         latitude(spelling)
@@ -100,7 +100,7 @@ fn a_coordinate_is_held_to_its_range(rt: HostRuntime) {
     }
 }
 
-/// Whether a value is written so.
+/// Whether a value is written as this text.
 fn is_written(value: i64, text: &str) -> bool {
     let mut out = [b'?'; 24];
     let end = write_fixed(value, &mut out);

@@ -3,10 +3,10 @@ use std::alloc::{AllocError, Global};
 use std::fmt::Write;
 use std::test::Fail;
 
-/// No text of these tests has more bytes.
+/// The most bytes that a text of these tests has.
 const TEXT_MAX: usize = 1000;
 
-/// Appends what an item gives: `KEY X Y TEXT` of a place, `-` for no key, or `skip INDEX REASON`.
+/// Appends what an item gives: `KEY X Y TEXT` for a place, with `-` if it has no key, or `skip INDEX REASON`.
 fn tell(out: &mut String, item: &Taken) -> Result<(), AllocError> {
     match item {
         Taken::Place(draft) => {
@@ -22,7 +22,7 @@ fn tell(out: &mut String, item: &Taken) -> Result<(), AllocError> {
     }
 }
 
-/// What a text gives: that of each item, parted by `; `.
+/// What each item gives, separated by `; `.
 fn told(alloc: Global, items: &[Taken]) -> Result<String, AllocError> {
     let mut out = String::new(alloc);
     for item in items {
@@ -34,7 +34,7 @@ fn told(alloc: Global, items: &[Taken]) -> Result<String, AllocError> {
     Ok(out)
 }
 
-/// Whether a text gives this, or is refused so.
+/// Whether a text gives this, or is refused with it.
 fn gives(alloc: Global, text: &[u8], only: Option<&str>, wanted: &str) -> Result<bool, AllocError> {
     if text.len() > TEXT_MAX {
         return Ok(false);
@@ -46,7 +46,7 @@ fn gives(alloc: Global, text: &[u8], only: Option<&str>, wanted: &str) -> Result
     Ok(told.as_str() == wanted)
 }
 
-/// Whole texts, and what they give.
+/// Whole texts, and what each gives.
 static TEXTS: [(&[u8], &str); 17] = [
     (
         b"{\"features\":[{\"type\":\"Feature\",\"id\":7,\"geometry\":{\"type\":\"Point\",\"coordinates\":[12.5683,55.6761,3.0]},\"properties\":{\"name\":\"Caf\xc3\xa9 Ny\",\"rank\":2}},{\"type\":\"Feature\",\"geometry\":{\"type\":\"Polygon\",\"coordinates\":[]},\"properties\":null},{\"type\":\"Feature\",\"geometry\":{\"type\":\"Point\",\"coordinates\":[12.57,55.68]},\"properties\":{\"name\":\"Bar\"}},{\"type\":\"Feature\",\"geometry\":null,\"properties\":{}}],\"type\":\"FeatureCollection\"}",
@@ -93,7 +93,7 @@ fn a_text_gives_its_places_and_skips(rt: HostRuntime) -> Result<(), Fail> {
     Ok(())
 }
 
-/// Whether a text with a part between these gives this.
+/// Whether a text made of these two ends and a part between them gives this.
 fn gives_between(
     alloc: Global,
     front: &str,
@@ -105,7 +105,7 @@ fn gives_between(
     gives(alloc, text.as_bytes(), None, wanted)
 }
 
-/// Items, and what they give. Where two reasons stand, the first is given.
+/// Items, and what each gives. If two reasons apply, the first is given.
 static ITEMS: [(&str, &str); 12] = [
     ("5", "skip 0 NotFeature"),
     (
@@ -236,7 +236,7 @@ fn an_id_is_a_key_as_it_is_spelled(rt: HostRuntime) -> Result<(), Fail> {
     Ok(())
 }
 
-/// Properties, the member that is asked for, and the text of a Feature at 0, 0.
+/// Properties, the one member that is read if any, and the text of a Feature at 0, 0.
 static PROPERTIES: [(&str, Option<&str>, &str); 18] = [
     ("{\"a\":\"x\",\"b\":1,\"c\":\"y\"}", None, "x\ny"),
     ("{\"a\":\"x\",\"a\":\"y\"}", None, "y"),

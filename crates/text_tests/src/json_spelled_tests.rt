@@ -2,7 +2,7 @@ use json_spelled::{JsonFault, read_tree};
 use std::alloc::{AllocError, Global};
 use std::test::Fail;
 
-/// Texts, and how their values print. The first two are of RFC 8259, section 13.
+/// Texts, and their values as they print. The first two texts are from RFC 8259, section 13.
 static VALUES: [(&str, &str); 24] = [
     (
         "{\n        \"Image\": {\n            \"Width\":  800,\n            \"Height\": 600,\n            \"Title\":  \"View from 15th Floor\",\n            \"Thumbnail\": {\n                \"Url\":    \"http://www.example.com/image/481989943\",\n                \"Height\": 125,\n                \"Width\":  100\n            },\n            \"Animated\" : false,\n            \"IDs\": [116, 943, 234, 38793]\n          }\n      }",
@@ -45,7 +45,7 @@ static VALUES: [(&str, &str); 24] = [
     ("\"é€𝄞\x7f\"", "Text(\"é€𝄞\\u{7f}\")"),
 ];
 
-/// Bytes, and the refusal of them.
+/// Bytes, and why they are refused.
 static REFUSALS: [(&[u8], JsonFault); 58] = [
     (b"", JsonFault::Syntax(0)),
     (b" ", JsonFault::Syntax(1)),
@@ -110,11 +110,11 @@ static REFUSALS: [(&[u8], JsonFault); 58] = [
     ),
 ];
 
-/// A text that has every construct. A character of two bytes begins at its offset 58.
+/// A text that has every construct. A character of two bytes begins at offset 58.
 static TEXT: &str =
     "{\"a\":[1,-0.5e+10,true,false,null],\"\\u00e9\\ud83d\\ude00\\n\":\"é\\\"/\",\"c\":{},\"d\":[ 20E-1, [] ]}";
 
-/// Whether another reader of JSON takes that text with one bit turned over, bit by bit, the lowest of a byte first.
+/// Whether another JSON reader accepts that text with one bit flipped: one digit for each bit, the lowest of a byte first.
 static FLIPPED: &str = concat!(
     "00000000000000001111111000000000000000000000000011110000000000000000010011110000",
     "01000000111000000000010000000000111100001111100000000000000000000000000000000000",
@@ -127,7 +127,7 @@ static FLIPPED: &str = concat!(
     "00000100000000001111000000000000000000000000000000000000000000000000000000000000",
 );
 
-/// How the value of a text prints.
+/// The value of a text as it prints.
 fn shown(alloc: Global, text: &str) -> Result<String, Fail> {
     let tree = read_tree(alloc, text.as_bytes())?;
     Ok(format!(in alloc; "{tree:?}")?)
@@ -142,7 +142,7 @@ fn texts_have_their_values(rt: HostRuntime) -> Result<(), Fail> {
     Ok(())
 }
 
-/// Why bytes are refused, if they are.
+/// Why bytes are refused, or `None` if they are read.
 fn refusal(alloc: Global, bytes: &[u8]) -> Option<JsonFault> {
     read_tree(alloc, bytes).err()
 }
@@ -167,7 +167,7 @@ fn each_truncation_ends_too_early(rt: HostRuntime) {
     }
 }
 
-/// Whether that text is read with some bits of a byte turned over.
+/// Whether that text is read after these bits of one byte are flipped.
 fn is_read_with(alloc: Global, at: usize, bits: u8) -> Result<bool, AllocError> {
     let mut bytes = TEXT.as_bytes().to_vec(alloc)?;
     if let Some(byte) = bytes.get_mut(at) {
@@ -186,7 +186,7 @@ fn each_bit_turned_over_is_judged_as_elsewhere(rt: HostRuntime) -> Result<(), Fa
     Ok(())
 }
 
-/// Why a text in 64 levels of arrays and objects in turn is refused, if it is.
+/// Why a text inside 64 levels of alternating arrays and objects is refused, or `None` if it is read.
 fn refusal_within(alloc: Global, text: &str) -> Result<Option<JsonFault>, AllocError> {
     let mut nested = String::new(alloc);
     for _ in 0..32 {
@@ -202,7 +202,7 @@ fn refusal_within(alloc: Global, text: &str) -> Result<Option<JsonFault>, AllocE
 #[test]
 fn sixty_four_levels_are_read_and_no_more(rt: HostRuntime) -> Result<(), Fail> {
     assert_eq!(rt; refusal_within(rt.alloc(), "1")?, None);
-    // 32 times the six bytes of two brackets and a name stand before it.
+    // The text comes after 32 times six bytes: two brackets and a name.
     assert_eq!(rt;
         refusal_within(rt.alloc(), "[1]")?,
         Some(JsonFault::TooDeep(192))

@@ -1,4 +1,5 @@
-//! Tests of the crates of texts and values: words, numbers, GeoJSON, rows of bytes, command words, and the map of places that scans.
+//! Tests of the crates of texts and values: words, numbers, GeoJSON, rows of bytes, command words, and the map of places that answers
+//! by a scan.
 #![tactic(auto)]
 
 #[cfg(test)]
@@ -12,9 +13,9 @@ mod json_spelled_tests;
 #[cfg(test)]
 mod line_tokens_tests;
 #[cfg(test)]
-mod made_places_tests;
-#[cfg(test)]
 mod number_grammar_tests;
+#[cfg(test)]
+mod place_generator_tests;
 #[cfg(test)]
 mod place_map_tests;
 #[cfg(test)]

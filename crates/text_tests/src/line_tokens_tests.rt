@@ -3,26 +3,26 @@ use std::alloc::{AllocError, Global};
 use std::fmt::Write;
 use std::test::Fail;
 
-/// Lines, and their tokens: a run as `run:..`, what a literal says as `says:..`, each token before a `|`.
+/// Lines, and their tokens: a run as `run:..`, the content of a literal as `says:..`, and each token before a `|`.
 static LINES: [(&str, &str); 9] = [
-    // Nothing but blanks has no token.
+    // A line of blanks only has no token.
     ("", ""),
     (" \t ", ""),
-    // Tabs separate as spaces do, however many stand there.
+    // Tabs separate as spaces do, however many there are.
     ("\tadd  Nyhavn\t12.59 ", "run:add|run:Nyhavn|run:12.59|"),
-    // A parenthesis ends a run and is a token by itself; other marks belong to a run.
+    // A parenthesis ends a run and is a token of its own. Other marks belong to a run.
     (
         "(caf\u{e9})and #1*20",
         "(|run:caf\u{e9}|)|run:and|run:#1*20|",
     ),
-    // A literal keeps its blanks and may be empty; it ends a run, and a run may begin at its end.
+    // A literal keeps its blanks and may be empty. It ends a run, and a run may begin right after it.
     ("show\"a (b)\"\"\"to", "run:show|says:a (b)|says:|run:to|"),
-    // Escapes say other characters; half a surrogate pair says U+FFFD.
+    // Escapes give other characters. Half a surrogate pair gives U+FFFD.
     (
         "\"\\\"\\u00e9\\n\\ud83d\\ude00\\ud83d\" x",
         "says:\"\u{e9}\n\u{1f600}\u{fffd}|run:x|",
     ),
-    // A literal that doesn't end, a tab in one and an escape that is none break the rest of the line.
+    // A literal that does not end, a tab in a literal, and an unknown escape each break the rest of the line.
     ("remove \"a b", "run:remove|broken|"),
     ("x \"a\tb\" c", "run:x|broken|"),
     ("x \"a\\e\" c", "run:x|broken|"),
@@ -47,7 +47,7 @@ fn tell(out: &mut String, token: &Token) -> Result<(), AllocError> {
 fn told(alloc: Global, line: &str) -> Result<String, Fail> {
     let mut told = String::new(alloc);
     let mut text = line;
-    // A token has a byte at least, so one step more finds the end of each line.
+    // A token has at least one byte, so one step more finds the end of each line.
     for _ in 0..=line.len() {
         let Some((token, rest)) = next_token(alloc, text)? else {
             break;

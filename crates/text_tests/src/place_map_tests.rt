@@ -1,8 +1,9 @@
-//! Queries asked of small states, with answers worked out by hand.
+//! Queries over small states, with answers worked out by hand.
 ghost use Rattle.std.specs.Prelude.{IfOk};
-ghost use Rattle.place_map.specs.Update.{NamesText};
+ghost use Rattle.place_values.specs.Update.{NamesText};
 
-use place_map::{Answer, Applied, Chosen, Expr, Hit, Query, State, Terms, Update, Weights};
+use place_map::State;
+use place_values::{Answer, Applied, Chosen, Expr, Hit, Query, Terms, Update, Weights};
 use spatial_base::{Key, Point, Rect};
 use std::alloc::{AllocError, Global};
 use std::fmt::Write;
@@ -33,12 +34,12 @@ fn state_of(alloc: Global, rows: &[Row]) -> Result<State, Fail> {
     Ok(state)
 }
 
-// The word of a text of one.
+// The one word of a text.
 fn word(alloc: Global, text: &str) -> Result<Word, Fail> {
     Ok(one_word(alloc, text)?.ok_or("no word")?)
 }
 
-// Hits as a text: the key, cost, distance and relevance of each.
+// Appends hits as text: the key, cost, distance and relevance of each.
 fn tell_hits(out: &mut String, hits: &[Hit]) -> Result<(), AllocError> {
     for hit in hits {
         let key = hit.key.text().unwrap_or("");
@@ -47,7 +48,7 @@ fn tell_hits(out: &mut String, hits: &[Hit]) -> Result<(), AllocError> {
     Ok(())
 }
 
-// A choice as a text: its cost, and the word, key and distance of each pick.
+// Appends a choice as text: its cost, and the word, key and distance of each pick.
 fn tell_choice(out: &mut String, chosen: &Chosen) -> Result<(), AllocError> {
     write!(out, "{}: ", chosen.cost)?;
     for pick in chosen.picks.as_slice() {
@@ -68,7 +69,7 @@ fn told(alloc: Global, answer: &Answer) -> Result<String, AllocError> {
     Ok(out)
 }
 
-// The answer to a query as a text.
+// The answer to a query, as a text.
 fn answered(alloc: Global, state: &State, query: &Query) -> Result<String, Fail> {
     if !query.is_within_limits() {
         return Ok(String::from_str(alloc, "beyond the limits")?);
@@ -83,7 +84,7 @@ fn is_answered(alloc: Global, rows: &[Row], query: Query, wanted: &str) -> Resul
     Ok(answered(alloc, &state, &query)?.as_str() == wanted)
 }
 
-// Places, the words of a group query at 0 0, and what it is answered.
+// Places, the words of a group query at 0 0, and its answer.
 static GROUPS: [(&[Row], &[&str], &str); 5] = [
     // The nearest place for each word would cost three degrees.
     (
@@ -97,14 +98,14 @@ static GROUPS: [(&[Row], &[&str], &str); 5] = [
         &["a", "b", "c"],
         "14000000: a a1 10000000, b b2 12000000, c c2 11000000, ",
     ),
-    // One place serves both words.
+    // One place has both words.
     (
         &[("m", 0, 10_000_000, "a b")],
         &["a", "b"],
         "10000000: a m 10000000, b m 10000000, ",
     ),
     (&[("m", 0, 10_000_000, "a b")], &["a", "z"], "none"),
-    // Two choices cost the same, and the lesser key decides.
+    // Two choices have the same cost, and the lesser key decides.
     (
         &[
             ("a2", -10_000_000, 0, "a"),
@@ -143,7 +144,7 @@ fn a_group_is_the_cheapest_choice(rt: HostRuntime) -> Result<(), Fail> {
     Ok(())
 }
 
-// Places, how many are asked for by a top query at 0 0, its word and weight, and what it is answered.
+// Places, the most hits, the word and the weight of a top query at 0 0, and its answer.
 static TOPS: [(&[Row], u16, &str, u8, &str); 4] = [
     (
         &[
@@ -163,7 +164,7 @@ static TOPS: [(&[Row], u16, &str, u8, &str); 4] = [
         2,
         "q 1270000000000 0 256, ",
     ),
-    // All cost the same, and the first keys win.
+    // All have the same cost, and the first keys win.
     (
         &[
             ("k3", 10_000_000, 10_000_000, "x"),
@@ -202,7 +203,7 @@ fn top_weighs_distance_against_words(rt: HostRuntime) -> Result<(), Fail> {
     Ok(())
 }
 
-// That a place holds a word.
+// The expression that needs this word.
 fn has(alloc: Global, text: &str) -> Result<Box<Expr>, Fail> {
     Ok(Box::new(alloc, Expr::Has(word(alloc, text)?))?)
 }
@@ -222,15 +223,15 @@ static LADDER: [Row; 3] = [
 
 #[derive(Clone, Copy)]
 enum Asked {
-    // The places at most two degrees from 0 0 that have `a` and neither `b` nor `c`.
+    // The places within two degrees of 0 0 that have `a` and neither `b` nor `c`.
     Range,
     // The places within a degree of longitude and latitude of 0 0.
     Inside,
-    // So many places nearest to 0 0 that don't have `and`.
+    // The nearest places to 0 0, this many at most, that do not have `and`.
     Nearest(u16),
 }
 
-// What is asked of the ladder, and what it is answered.
+// The queries over the ladder, and their answers.
 static CLIMBED: [(Asked, &str); 4] = [
     (Asked::Range, "u 0 0 0, w 20000000 20000000 0, "),
     (Asked::Inside, "u 0 0 0, v 0 0 0, "),
@@ -283,7 +284,7 @@ fn shown(state: &State, x: &Word, y: &Word) -> Option<(i32, u8, u8)> {
     }
 }
 
-// What it does to take the place `a` out.
+// Removes the place `a`.
 fn remove(state: &mut State) -> Option<Applied> {
     let key = Key::of_text("a").ok()?;
     state.apply(Update::Remove { key }).ok()
@@ -301,10 +302,10 @@ fn a_place_is_shown_replaced_and_removed(rt: HostRuntime) -> Result<(), Fail> {
     Ok(())
 }
 
-// A row of a state: the text of its key or the number of its automatic key.
+// The key of a row: the text of a text key, or the number of an automatic key.
 type Given = Result<&'static str, u64>;
 
-// Keys, the next serial, the update number, and how many places the state has.
+// Keys, the next serial, the update number, and how many places the state has, or `None` if no state has these.
 static RESTORED: [(&[Given], u64, u64, Option<u32>); 10] = [
     (&[], 1, 0, Some(0)),
     (
@@ -323,7 +324,7 @@ static RESTORED: [(&[Given], u64, u64, Option<u32>); 10] = [
     (&[], 1, (1 << 40) + 1, None),
 ];
 
-// A place of a key.
+// A row for a place with this key.
 fn row_of(alloc: Global, given: &Given) -> Result<(Key, Point, Words), Fail> {
     let key = match given {
         Ok(text) => Key::of_text(text)?,
@@ -333,7 +334,7 @@ fn row_of(alloc: Global, given: &Given) -> Result<(Key, Point, Words), Fail> {
     Ok((key, at, impacts(alloc, "x")?))
 }
 
-// How many places a state has that is restored from places of these keys, where they are those of a state.
+// How many places the state restored from these keys has, or `None` if no state has them.
 fn restored(alloc: Global, given: &[Given], serial: u64, number: u64) -> Result<Option<u32>, Fail> {
     let mut rows = Vec::new(alloc);
     for one in given {

@@ -9,13 +9,13 @@ static HEAD: [u8; 27] = [
     1, 2, 255,
 ];
 
-// The word café, its form's 27 zero bytes and its length, and 258 places.
+// The word café in its form (its text, 27 zero bytes and its length), and 258 places.
 static CAFE: [u8; 37] = [
     0x63, 0x61, 0x66, 0xc3, 0xa9, 0, 0, 0, 0, 0, 0, 0, 0, 0, 0, 0, 0, 0, 0, 0, 0, 0, 0, 0, 0, 0, 0,
     0, 0, 0, 0, 0, 5, 0, 0, 1, 2,
 ];
 
-// A byte of the place above that is changed, and to what: the value is then of no place.
+// A byte of the place above that is changed, and its new value. The bytes are then not those of a place.
 static BROKEN: [(usize, u8); 6] = [
     // a longitude of more than 180 degrees west
     (0, 0x80),
@@ -23,11 +23,11 @@ static BROKEN: [(usize, u8); 6] = [
     (8, 65),
     // a third word, of number 0 and impact 0
     (8, 3),
-    // the first word's number is above the second's
+    // the first word's number above the second's
     (15, 2),
     // an impact of 0
     (17, 0),
-    // a pair behind the words
+    // a pair after the words
     (584, 1),
 ];
 
@@ -60,7 +60,7 @@ fn a_place_is_585_bytes(rt: HostRuntime) -> Result<(), Fail> {
     Ok(())
 }
 
-// Whether they are those of a place with this byte at this place.
+// Whether the bytes are those of a place after the byte at this offset is changed to this one.
 fn is_place_with(at: usize, byte: u8) -> bool {
     let mut bytes = place_bytes();
     if let Some(changed) = bytes.get_mut(at) {

@@ -16,7 +16,7 @@ static DISTANCES: [(i32, i32, i32, i32, u64); 5] = [
     (0, 0, -2, 2, 2),
 ];
 
-// The distance between two points, and none where one is off the map.
+// The distance between two points, or `None` if one is off the map.
 fn distance(west: i32, south: i32, east: i32, north: i32) -> Option<u64> {
     Some(dist(&Point::new(west, south)?, &Point::new(east, north)?))
 }
@@ -32,7 +32,7 @@ fn a_distance_is_rounded_down(rt: HostRuntime) {
     assert!(rt; isqrt(u128::MAX) == u64::MAX);
 }
 
-// West, south, east and north; a point; whether it is held; and its distance to the nearest point of the rectangle.
+// West, south, east and north; a point; whether the rectangle holds it; and its distance to the nearest point of the rectangle.
 static RECTANGLES: [(i32, i32, i32, i32, i32, i32, bool, u64); 6] = [
     (-1, -1, 1, 1, 0, 0, true, 0),
     (-1, -1, 1, 1, 1, -1, true, 0),
@@ -57,7 +57,7 @@ fn a_border_is_held_and_the_nearest_point_counts(rt: HostRuntime) {
     assert!(rt; Rect::new(1, 0, -1, 0).is_none());
 }
 
-// The rectangle round two corners of the map.
+// The rectangle around two corners of the map.
 fn world() -> Option<Rect> {
     let west = Point::new(-1_800_000_000, 900_000_000)?;
     let east = Point::new(1_800_000_000, -900_000_000)?;
@@ -73,10 +73,10 @@ fn a_rectangle_has_its_sides_and_its_area(rt: HostRuntime) -> Result<(), Fail> {
     Ok(())
 }
 
-// Texts in the order of their keys.
+// Texts, in the order of their keys.
 static TEXTS: [&str; 5] = ["A", "a", "a\0", "ab", "é"];
 
-// Whether the key of a text comes before that of another, and this before an automatic one.
+// Whether the key of `text` comes before that of `other`, and the key of `other` before an automatic one.
 fn is_before(text: &str, other: &str) -> bool {
     match (Key::of_text(text), Key::of_text(other)) {
         (Ok(key), Ok(other)) => key < other && other < Key::auto(2),

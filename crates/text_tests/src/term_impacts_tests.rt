@@ -4,7 +4,7 @@ use std::fmt::Write;
 use std::test::Fail;
 use term_impacts::{Word, Words, impacts, one_word};
 
-/// The pairs of a map, as `word impact` after one another.
+/// The pairs of a map, as `word impact` one after another.
 fn told(alloc: Global, words: &Words) -> Result<String, AllocError> {
     let mut out = String::new(alloc);
     for (word, impact) in words.pairs() {
@@ -21,10 +21,10 @@ static WEIGHED: [(&str, &str); 9] = [
     ("Bar", "bar 255 "),
     ("", ""),
     ("- ? -", ""),
-    // Ten capital I with a dot grow from 20 bytes to 30: with two letters more they fit, with three they don't count.
+    // Ten capital I with a dot grow from 20 bytes to 30. With two more letters they fit; with three, the word does not count.
     ("İİİİİİİİİİab", "i̇i̇i̇i̇i̇i̇i̇i̇i̇i̇ab 255 "),
     ("İİİİİİİİİİabc x", "x 255 "),
-    // Sixteen sharp s are 32 bytes, seventeen are 34; eleven capital ones shrink from 33 bytes to 22.
+    // Sixteen sharp s become 32 bytes, and seventeen 34. Eleven capital ones shrink from 33 bytes to 22.
     ("ßßßßßßßßßßßßßßßß", "ssssssssssssssssssssssssssssssss 255 "),
     (
         "ẞẞẞẞẞẞẞẞẞẞẞ ßßßßßßßßßßßßßßßßß",
@@ -46,7 +46,7 @@ fn impacts_are_shares_of_the_counted_words(rt: HostRuntime) -> Result<(), Fail> 
     Ok(())
 }
 
-/// The numbers from 0 up to a limit, as a text.
+/// The numbers from 0 up to a limit, as one text.
 fn numbers(alloc: Global, limit: u16) -> Result<String, AllocError> {
     let mut text = String::new(alloc);
     for number in 0..limit {
@@ -55,7 +55,7 @@ fn numbers(alloc: Global, limit: u16) -> Result<String, AllocError> {
     Ok(text)
 }
 
-/// The impacts of a text's words, copied.
+/// The impacts of a text's words, as a copy.
 fn copied_impacts(alloc: Global, text: &str) -> Result<Words, Memory> {
     impacts(alloc, text)?.copy(alloc)
 }
@@ -70,7 +70,7 @@ fn are_64_of_3(words: &Words) -> bool {
     words.pairs().len() == 64
 }
 
-/// The impact of a text's one word among these words, and none where it has no one word.
+/// The impact, among these words, of the one word of a text, or `None` if the text does not have exactly one word.
 fn impact_of(alloc: Global, words: &Words, text: &str) -> Option<u8> {
     match one_word(alloc, text) {
         Ok(Some(word)) => Some(words.impact(&word)),
@@ -88,7 +88,7 @@ fn the_65th_word_counts_among_all_but_is_not_kept(rt: HostRuntime) -> Result<(),
     Ok(())
 }
 
-/// Texts with their one word, which is empty where there is none or a second.
+/// Texts with their one word, empty if there is none or more than one.
 static SINGLE: [(&str, &str); 6] = [
     ("Café", "café"),
     (" (3.5) ", "3.5"),
@@ -98,7 +98,7 @@ static SINGLE: [(&str, &str); 6] = [
     ("abcdefghijklmnopqrstuvwxyzabcdefg Z", "z"),
 ];
 
-/// Whether a text has this one word, or none where that is empty.
+/// Whether a text has this one word, or no one word if this is empty.
 fn is_single(alloc: Global, text: &str, wanted: &str) -> bool {
     match one_word(alloc, text) {
         Ok(Some(word)) => word.text() == wanted,
@@ -120,7 +120,7 @@ static CAFE: [u8; 33] = [
     0, 0, 0, 0, 0, 5,
 ];
 
-/// Places of that form, a byte there, and whether it is a form then: with the length 6 it is that of a text that ends in a zero byte.
+/// An offset in that form, the byte put there, and whether the result is a form. With the length 6, the text would end in a zero byte.
 static CHANGES: [(usize, u8, bool); 7] = [
     (32, 5, true),
     (32, 6, true),
@@ -131,7 +131,7 @@ static CHANGES: [(usize, u8, bool); 7] = [
     (31, 1, false),
 ];
 
-/// Whether that form is one with this byte at this place.
+/// Whether the form is still one after the byte at this offset is changed to this one.
 fn is_form_with(at: usize, byte: u8) -> bool {
     let mut form = CAFE;
     if let Some(changed) = form.get_mut(at) {

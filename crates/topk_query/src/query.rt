@@ -2,33 +2,32 @@
 ghost use Rattle.std.specs.Prelude.{◌≡◌, ◌≢◌, Err, IfOk, IsErrOf};
 ghost use Rattle.std.specs.List.{flat_map};
 ghost use Rattle.page_face.specs.Calls.{Reads, FailsReading};
-ghost use Rattle.btree_nodes.specs.Damages.{AreTold};
-ghost use Rattle.ranking.specs.First.{first};
-ghost use Rattle.place_map.specs.Hit.{comes_before};
-ghost use Rattle.place_map.specs.Query.{IsScale, IsWeights};
+ghost use Rattle.btree_nodes.specs.Damages.{AreReadable};
+ghost use Rattle.place_values.specs.First.{first};
+ghost use Rattle.place_values.specs.Hit.{comes_before};
+ghost use Rattle.place_values.specs.Query.{IsScale, IsWeights};
 ghost use Rattle.node_rows.specs.Rows.{bytes_in};
 ghost use Rattle.best_first.specs.Openings.{Opened};
-ghost use Rattle.tree_entries.specs.Entries.{tree_places};
-ghost use Rattle.tree_entries.specs.Hits.{top_item};
-ghost use Rattle.tree_ranking.specs.declared.ask.Ask.{Ask};
-ghost use Rattle.tree_ranking.specs.Asks.{IsTopFor};
-ghost use Rattle.tree_ranking.specs.Fits.{FitsTree, nodes_at};
-ghost use Rattle.tree_ranking.specs.Harms.{IsHarm, IsNodePage};
-ghost use Rattle.tree_ranking.specs.Openings.{StandsIn, opened_in, started_in};
+ghost use Rattle.node_filter.specs.Entries.{tree_places};
+ghost use Rattle.node_filter.specs.Hits.{top_item};
+ghost use Rattle.best_first.specs.declared.ask.Ask.{Ask};
+ghost use Rattle.best_first.specs.Asks.{IsTopFor};
+ghost use Rattle.best_first.specs.Fits.{FitsTree, nodes_at};
+ghost use Rattle.best_first.specs.Harms.{IsHarm, IsNodePage};
+ghost use Rattle.best_first.specs.NodeOpenings.{StandsIn, opened_in, started_in};
 
-use best_first::first_k;
+use best_first::{Ranking, first_k};
+use node_filter::Ids;
 use node_inverted::Tree;
 use page_face::{Damage, PageFault, Pages};
-use place_map::Hit;
+use place_values::Hit;
 use spatial_base::Point;
 use std::alloc::Global;
 use term_impacts::Word;
-use tree_entries::Ids;
-use tree_ranking::Ranking;
 
-/// Returns the first k places by cost and then by key, of the tree's entries that hold one of the words. `alpha` thousandths of a place's cost
-/// are its distance and the rest its missing relevance, such that the distance `reach` weighs as much as all the relevance. `ids` has the
-/// numbers of the words that the store knows.
+/// Returns the first k places by cost and then by key, of the tree's entries that hold one of the words. `alpha` thousandths of a place's
+/// cost are its distance and the rest its missing relevance, such that the distance `reach` weighs as much as all the relevance. `ids` has
+/// the numbers of the words that the store knows.
 ///
 /// Refuses `Damaged` with a rule that a page looked at breaks, never over a whole tree; `Disk`, `Stopped`, and `Memory` if it runs out of
 /// memory.
@@ -50,14 +49,14 @@ pub fn top<P: Pages>(
     requires words { IsWeights words.now }
     ensures found { FitsTree (P.pages pages.old) (P.count pages.old) (P.first pages.old) tree.now → IfOk result (λ found. found.items
         ≡ first comes_before k (flat_map (top_item ids.now at.now alpha reach words.now) (tree_places (nodes_at (P.pages pages.old) tree.now) tree.now.root))) }
-    ensures opened { AreTold (P.pages pages.old) (P.count pages.old) → IfOk result (λ found. (ask : Ask) × IsTopFor alpha reach words.now ask
+    ensures opened { AreReadable (P.pages pages.old) (P.count pages.old) → IfOk result (λ found. (ask : Ask) × IsTopFor alpha reach words.now ask
         × Opened StandsIn (P.pages pages.old) (IsNodePage (P.pages pages.old) tree.now.rows) (FitsTree (P.pages pages.old) (P.count pages.old) (P.first pages.old) tree.now)
         (opened_in ids.now at.now ask (nodes_at (P.pages pages.old) tree.now))
         (started_in ids.now ask (nodes_at (P.pages pages.old) tree.now) (bytes_in (P.pages pages.old) tree.now.rows) tree.now.root)
         tree.now.root (P.asked pages.old) (P.asked pages.new) k found.items) }
-    ensures damaged { AreTold (P.pages pages.old) (P.count pages.old) → (damage : Damage) → IsErrOf result (PageFault.Damaged damage)
+    ensures damaged { AreReadable (P.pages pages.old) (P.count pages.old) → (damage : Damage) → IsErrOf result (PageFault.Damaged damage)
         → IsHarm (P.pages pages.old) (P.count pages.old) tree.now.rows (P.asked pages.old) (P.asked pages.new) damage }
-    ensures honest { FitsTree (P.pages pages.old) (P.count pages.old) (P.first pages.old) tree.now → (damage : Damage) → result ≢ Err (PageFault.Damaged damage) }
+    ensures no_false_damage { FitsTree (P.pages pages.old) (P.count pages.old) (P.first pages.old) tree.now → (damage : Damage) → result ≢ Err (PageFault.Damaged damage) }
     ensures fails { FailsReading P.Pages pages.old pages.new result }
     ensures frame { Reads P.Pages pages.old pages.new }
 {

@@ -1,11 +1,13 @@
-//! Trees in memory from which places are taken out, each with its words. That the rows of each node say the words that are left below its slots,
-//! and that a dissolved leaf leaves its places with their words and no row, is looked at in `split_condense_tests`.
+//! Trees in memory from which places are taken out, each with its words.
+//!
+//! `split_condense_tests` checks that the rows of each node hold the words that are left below its slots. It also checks that a dissolved
+//! leaf leaves its places with their words and no row.
 use crate::irtree_insert_tests::{COMMON, EMPTY, own_word, pair_row, put_places, words_of};
 use crate::split_condense_tests::number_at;
-use irtree_delete::remove_at;
 use node_inverted::{Tree, row};
 use page_face::{Damage, MemoryPages, Page, PageFault, Pages, Rule};
 use rtree_nodes::clear_slot;
+use split_condense::remove_at;
 use split_policy::Quadratic;
 use std::alloc::Global;
 
@@ -21,7 +23,7 @@ fn take_out(
     remove_at(alloc, pages, tree, &mut policy, &[number], &words)
 }
 
-// Whether the leaf at page 1 has the common word of the second place alone.
+// Whether the leaf at page 1 has only the common word of the second place.
 fn has_second_words(pages: &mut MemoryPages, tree: &Tree) -> bool {
     row(pages, tree, 1, COMMON) == Ok(pair_row(0, 2))
         && row(pages, tree, 1, own_word(0)) == Ok([0; 32])

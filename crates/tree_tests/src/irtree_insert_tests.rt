@@ -1,5 +1,6 @@
-//! A tree in memory that grows by single places, each with its words. That the rows of each node say the words below its slots is looked at
-//! in `split_condense_tests`.
+//! A tree in memory that grows by single places, each with its words.
+//!
+//! `split_condense_tests` checks that the rows of each node hold the words below its slots.
 use irtree_insert::insert_at;
 use node_inverted::{Tree, row};
 use page_face::{Damage, MemoryPages, PageFault, Pages};

@@ -1,4 +1,7 @@
 //! Tests of the tree's crates: nodes, the rows of their words, policies, and entries that are put in and taken out.
+//!
+//! Most modules test the crate of their name, on trees in memory. `split_condense_tests` grows and shrinks whole trees, and checks every
+//! node of them against the places that live.
 #![tactic(auto)]
 
 #[cfg(test)]

@@ -1,4 +1,4 @@
-//! Rows of two nodes: the numbers of their words order them otherwise as bytes from the low end would.
+//! Rows of two nodes. The words' numbers are chosen so that their order differs from that of their bytes read from the low end.
 use node_inverted::{
     Tree, column, drop_node, like, move_slots, next_row, raise, refresh, renew, rising, row,
     rows_at, set_impact, set_row, shared_by, take_rows, words_of,
@@ -22,7 +22,7 @@ static ROWS: [Single; 7] = [
     (7, 2, 0, 0),
 ];
 
-// Numbers from which on a node's rows are looked for, and the word of the first one.
+// Numbers from which on a node's rows are searched, and the word of the first one.
 static FIRST: [(u32, u64, Option<u64>); 7] = [
     (7, 0, Some(1)),
     (7, 1, Some(1)),
@@ -54,7 +54,7 @@ static DROPPED: [Single; 5] = [
 // The words of an entry, not in the order of their numbers.
 static SHARED: [(u64, u8); 3] = [(1, 9), (0, 7), (256, 7)];
 
-// A row of zeros but for one byte.
+// A row of zeros except one byte.
 fn single(slot: usize, byte: u8) -> [u8; 32] {
     let mut row = [0; 32];
     if slot < 32 {
@@ -71,7 +71,7 @@ fn fill(pages: &mut MemoryPages, tree: &mut Tree) -> Result<(), PageFault> {
     Ok(())
 }
 
-// Whether these rows stand.
+// Whether these rows are stored.
 fn are_there(pages: &mut MemoryPages, tree: &Tree, rows: &[Single]) -> Result<bool, PageFault> {
     for (node, number, slot, byte) in rows.iter() {
         if row(pages, tree, *node, *number)? != single(*slot, *byte) {
@@ -104,14 +104,14 @@ fn are_in_order(pages: &mut MemoryPages, tree: &Tree) -> Result<bool, PageFault>
     Ok(true)
 }
 
-// Sets a row of one byte, and one of zeros in its place: whether the row is gone then, and its page free.
+// Sets a row of one byte, and then replaces it with one of zeros. Returns whether the row is then gone, and its page free.
 fn set_and_clear(pages: &mut MemoryPages, tree: &mut Tree) -> Result<bool, PageFault> {
     set_row(pages, tree, 7, 1, &single(0, 9))?;
     set_row(pages, tree, 7, 1, &[0; 32])?;
     Ok(tree.rows == 0 && pages.first_free() == 1)
 }
 
-// Raises slot 2 of node 7 by two words, and moves its slots 0 and 1 to node 11: whether the rows are those of `MOVED` then.
+// Raises slot 2 of node 7 by two words, and moves its slots 0 and 1 to node 11. Returns whether the rows are then those of `MOVED`.
 fn raise_and_move(
     alloc: Global,
     pages: &mut MemoryPages,
@@ -122,7 +122,7 @@ fn raise_and_move(
     are_there(pages, tree, &MOVED)
 }
 
-// Gives slot 4 of node 9 the words of node 7, sets and renews one of them, and drops node 7: whether the rows are those of `DROPPED` then.
+// Gives slot 4 of node 9 the words of node 7, sets and renews one of them, and drops node 7. Returns whether the rows are then `DROPPED`.
 fn renew_and_drop(
     alloc: Global,
     pages: &mut MemoryPages,
@@ -165,7 +165,7 @@ fn a_page_of_another_kind_is_damaged(rt: HostRuntime) {
     assert!(rt; are_refused(&mut pages, &Tree { root: 5, rows: 1 }));
 }
 
-// Whether slots 0 and 3 of node 9 alone share a word with the entry, each one.
+// Whether only slots 0 and 3 of node 9 share a word with the entry, each one word.
 fn share_one(alloc: Global, pages: &mut MemoryPages, tree: &Tree) -> bool {
     let mut counts = [0; 32];
     counts[0] = 1;
@@ -205,7 +205,7 @@ fn are_alike(pages: &mut MemoryPages, tree: &Tree) -> bool {
     like(pages, tree, 9, &[(1, 7), (256, 7)]) == Ok(table)
 }
 
-// Whether one word alone stands at slot 31 of node 7.
+// Whether slot 31 of node 7 has one word alone.
 fn has_column(alloc: Global, pages: &mut MemoryPages, tree: &Tree) -> bool {
     match column(alloc, pages, tree, 7, 31) {
         Ok(words) => words.len() == 1 && words.first().copied() == Some((256, 4)),
@@ -213,7 +213,7 @@ fn has_column(alloc: Global, pages: &mut MemoryPages, tree: &Tree) -> bool {
     }
 }
 
-// Whether a node has so many words, from a first one to a last one.
+// Whether a node has `count` words, from a first one to a last one.
 fn has_words(
     alloc: Global,
     pages: &mut MemoryPages,
@@ -233,7 +233,7 @@ fn has_words(
     }
 }
 
-// Takes the rows of node 9: whether they are two, the last one that of word 1, and none is left.
+// Takes the rows of node 9. Returns whether they are two, the last one that of word 1, and none is left.
 fn take_both(alloc: Global, pages: &mut MemoryPages, tree: &mut Tree) -> Result<bool, PageFault> {
     let rows = take_rows(alloc, pages, tree, 9)?;
     let is_last = match rows.last() {
@@ -255,8 +255,8 @@ fn words_and_rows_are_listed_in_order(rt: HostRuntime) {
     assert_eq!(rt; take_both(rt.alloc(), &mut pages, &mut tree), Ok(true));
 }
 
-// Gives node 7 one byte at each of its first 200 words, at the slot of the word's number modulo 32: rows of more than two leaves. Then moves slots
-// 0 to 15, which have 104 of the words, to node 11.
+// Gives node 7 one byte at each of its first 200 words, at the slot of the word's number modulo 32: rows of more than two leaves. Then
+// moves slots 0 to 15, which have 104 of the words, to node 11.
 fn fill_and_move(alloc: Global, pages: &mut MemoryPages, tree: &mut Tree) -> Result<(), PageFault> {
     for number in 0..200u64 {
         set_row(pages, tree, 7, number, &single((number % 32) as usize, 1))?;

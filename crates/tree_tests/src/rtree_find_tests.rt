@@ -1,8 +1,7 @@
 ghost use Rattle.std.specs.Prelude.{◌<◌};
 
 use page_face::{Damage, MemoryPages, Page, PageFault, Pages, Rule};
-use rtree_find::find;
-use rtree_nodes::{Slot, new_node, put_slot};
+use rtree_nodes::{Slot, find, new_node, put_slot};
 use spatial_base::{Key, Point, Rect};
 use std::test::Fail;
 
@@ -39,7 +38,7 @@ fn take_three(pages: &mut MemoryPages) -> Result<(), PageFault> {
     Ok(())
 }
 
-// Looks for a place, and gives the root's level and the slots at level 1 and 0.
+// Searches for a place, and returns the root's level and the slots at level 1 and 0.
 fn look_for(
     pages: &mut MemoryPages,
     root: u32,
@@ -57,7 +56,7 @@ fn look_for(
     }
 }
 
-// A place of the tree: its leaf, its slot, where it is, and its key.
+// A place of the tree: its leaf, its slot, its longitude and latitude, and its key.
 static PLACES: [(u32, usize, i32, i32, u64); 4] = [
     (1, 0, 5, 5, 1),
     (1, 31, 9, 9, 2),
@@ -107,7 +106,8 @@ fn an_entry_is_found_by_its_point_and_its_key(rt: HostRuntime) -> Result<(), Fai
     Ok(())
 }
 
-// A page, bytes of it that are changed, and the page and the rule that are named then: the root at page 3 has one child, the leaf at page 1.
+// A page, bytes of it that are changed, and the page and the rule that are then named. The root at page 3 has one child: the leaf at
+// page 1.
 static BROKEN: [(u32, &[(usize, u8)], Option<(u32, Rule)>); 8] = [
     (1, &[], None),
     (3, &[(27, 255)], None),
@@ -132,7 +132,7 @@ fn change(pages: &mut MemoryPages, number: u32, bytes: &[(usize, u8)]) -> Result
     pages.write(number, &page)
 }
 
-// Looks for a place in a root at page 3 with one child, at page 1, where bytes of one of them are changed.
+// Searches for a place in a root at page 3 with one child, at page 1, after bytes of one of them were changed.
 fn look_in(
     pages: &mut MemoryPages,
     number: u32,
@@ -148,7 +148,7 @@ fn look_in(
     look_for(pages, 3, 5, 5, 1)
 }
 
-// What is answered to it.
+// The answer to that search.
 fn answer_of(broken: &Option<(u32, Rule)>) -> Result<Option<(u8, u8, u8)>, PageFault> {
     match broken {
         Some((page, rule)) => Err(PageFault::Damaged(Damage {

@@ -6,8 +6,8 @@ use rtree_nodes::{
 };
 use spatial_base::{Key, Point, Rect};
 
-// The bytes that aren't 0 of a leaf with two places: at slot 0, 1 degree west and 50 degrees north, the key "ab"; at slot 2, the point
-// 1 -1 in units of 10^-7 degrees, the automatic key 258.
+// The bytes that aren't 0 of a leaf with two places. Slot 0 has 1 degree west and 50 degrees north, and the key "ab". Slot 2 has the
+// point 1 -1 in units of 10^-7 degrees, and the automatic key 258.
 static LEAF: [(usize, u8); 21] = [
     (0, 3),
     (7, 5),
@@ -32,8 +32,8 @@ static LEAF: [(usize, u8); 21] = [
     (237, 8),
 ];
 
-// The bytes that aren't 0 of a node of level 2 with two children: at slot 0, the rectangle -1 -2 1 2 and page 258; at slot 31,
-// the rectangle 0x01020304 5 0x01020305 6 and page 0x0a0b0c0d.
+// The bytes that aren't 0 of a node of level 2 with two children. Slot 0 has the rectangle -1 -2 1 2 and page 258. Slot 31 has the
+// rectangle 0x01020304 5 0x01020305 6 and page 0x0a0b0c0d.
 static INNER: [(usize, u8); 30] = [
     (0, 3),
     (1, 2),
@@ -67,7 +67,7 @@ static INNER: [(usize, u8); 30] = [
     (655, 13),
 ];
 
-// Two bytes of a page that are changed, and the number of the rule that is broken then: 3 Kind, 4 Fill, 6 Spare, 8 Value. Where
+// Two bytes of a page that are changed, and the number of the rule that is then broken: 3 Kind, 4 Fill, 6 Spare, 8 Value. If
 // several are, it is the first in the order of the checks.
 type Broken = (usize, u8, usize, u8, u8);
 
@@ -83,7 +83,7 @@ static BROKEN_LEAF: [Broken; 8] = [
     (15, 1, 15, 1, 6),
     // a byte of slot 1, which isn't used
     (90, 1, 90, 1, 6),
-    // the first byte behind slot 31
+    // the first byte after slot 31
     (2384, 1, 2384, 1, 6),
     // a longitude of more than 180 degrees west
     (16, 0x80, 16, 0x80, 8),
@@ -95,7 +95,7 @@ static BROKEN_LEAF: [Broken; 8] = [
 static BROKEN_INNER: [Broken; 4] = [
     // a byte of slot 30, which isn't used, and a rectangle that is none
     (616, 1, 647, 3, 6),
-    // the first byte behind slot 31
+    // the first byte after slot 31
     (656, 1, 656, 1, 6),
     // the east of slot 31 is less than its west
     (647, 3, 647, 3, 8),
@@ -178,7 +178,7 @@ fn a_leaf_and_an_inner_node_are_these_bytes(rt: HostRuntime) {
     assert_eq!(rt; makes_inner(), Some(true));
 }
 
-// The number of the rule that a page is refused for.
+// The number of the rule for which a page is refused.
 fn broken_rule(page: &Page) -> Option<u8> {
     match Node::decode(page) {
         Ok(_) => None,
@@ -203,7 +203,7 @@ fn the_first_broken_rule_is_named(rt: HostRuntime) {
     assert!(rt; are_refused(&page_of(&INNER), &BROKEN_INNER));
 }
 
-// A leaf whose places lie at two corners of the map, one after the other.
+// A leaf whose places lie at two corners of the map in turn.
 fn full_leaf() -> Option<Page> {
     let corners = [
         Point::new(-1_800_000_000, -900_000_000)?,
@@ -230,7 +230,7 @@ fn is_parted(page: &mut Page) -> bool {
     counts == (16, 16) && page.as_slice() == new_node(0).as_slice()
 }
 
-// Whether a full leaf has no free slot, goes round the whole map, and is parted.
+// Whether a full leaf has no free slot, has the whole map as its rectangle, and is parted.
 fn is_full_and_parted() -> Option<bool> {
     let mut page = full_leaf()?;
     let all = Rect::new(-1_800_000_000, -900_000_000, 1_800_000_000, 900_000_000)?;

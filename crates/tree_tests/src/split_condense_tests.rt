@@ -1,4 +1,4 @@
-//! Trees that grow and shrink in memory, looked at node by node.
+//! Trees that grow and shrink in memory, checked node by node.
 ghost use Rattle.std.specs.Prelude.{◌<◌};
 
 use node_inverted::{Tree, row};
@@ -19,8 +19,8 @@ const WORDS: usize = 64;
 // How many places come and go.
 const PLACES: u64 = 1_500;
 
-// A policy that chooses badly, and keeps what it said last: an entry goes where one across the map would, and a full node is parted as if its
-// entries lay elsewhere.
+// A policy that chooses badly, and keeps its last choices. An entry goes where its mirror image across the map would go, and a full node is
+// parted as if its entries lay elsewhere.
 #[derive(Drop)]
 struct Worst {
     lawful: Halving,
@@ -72,7 +72,7 @@ impl SplitPolicy for Worst {
     }
 }
 
-// How many words a place of this number has: none, one to five, or as many as there are.
+// How many words a place of this number has: none, one to five, or all there are.
 fn word_count(number: u64) -> u8 {
     match number % 16 {
         0 => 0,
@@ -122,7 +122,7 @@ fn empty_grove(alloc: Global, places: usize) -> Result<Grove, Fail> {
     })
 }
 
-// Puts a place for the nth time, takes it out where nth is 0, or both where it lived.
+// Puts a place for the nth time, after taking it out if it lives; if `nth` is 0, only takes it out.
 fn change(
     alloc: Global,
     grove: &mut Grove,
@@ -148,7 +148,7 @@ fn change(
     Ok(())
 }
 
-// A node that is still to be looked at: its page, and the level and rectangle that its parent says it has.
+// A node that is still to be looked at: its page, and the level and rectangle that its parent gives it.
 #[derive(Clone, Copy)]
 struct Said {
     page: u32,
@@ -210,7 +210,7 @@ fn note_child(
     Ok(())
 }
 
-// Refuses a node whose rows say other impacts than stand below its slots.
+// Refuses a node whose rows hold other impacts than are below its slots.
 fn judge_words(
     pages: &mut MemoryPages,
     tree: &Tree,
@@ -235,14 +235,14 @@ fn judge_words(
     Ok(())
 }
 
-// What is still to be looked at: nodes, and for each number of a place how often it was put, 0 if it isn't there or was come upon.
+// What is still to be found: nodes, and for each number of a place how often it was put, 0 if it isn't there or was found already.
 #[derive(Drop)]
 struct Ahead {
     nodes: Vec<Said>,
     places: Vec<u64>,
 }
 
-// Notes that a place was come upon, or that a child of a node of this level is to be looked at.
+// Notes that a place was found, or that a child of a node of this level is to be looked at.
 fn come_upon(ahead: &mut Ahead, slot: &Slot, level: u8) -> Result<(), Fail> {
     match slot {
         Slot::Place { key, .. } => {
@@ -265,7 +265,7 @@ fn come_upon(ahead: &mut Ahead, slot: &Slot, level: u8) -> Result<(), Fail> {
     Ok(())
 }
 
-// The least rectangle round another one, if there is one, and a slot's.
+// The least rectangle around another one, if there is one, and a slot's.
 fn joined(all: Option<Rect>, slot: &Slot) -> Rect {
     match all {
         None => slot.rect(),
@@ -273,7 +273,7 @@ fn joined(all: Option<Rect>, slot: &Slot) -> Rect {
     }
 }
 
-// What a node's slots come to: how many are used, and the least rectangle round them. Notes what it comes upon.
+// How many slots of a node are used, and the least rectangle around them. Notes the places and children found there.
 fn sum_of(node: &Node, ahead: &mut Ahead) -> Result<(u32, Option<Rect>), Fail> {
     let mut used: u32 = 0;
     let mut all: Option<Rect> = None;
@@ -296,7 +296,7 @@ fn is_well(node: &Node, form: Option<(u8, Rect)>, used: u32, all: Option<Rect>) 
     }
 }
 
-// Judges a node, and returns its level. Refuses one that isn't well-formed, or whose rows say other words than stand below it.
+// Checks a node, and returns its level. Refuses one that isn't well-formed, or whose rows hold other words than are below it.
 fn judge(grove: &mut Grove, said: Said, node: &Node, ahead: &mut Ahead) -> Result<u8, Fail> {
     let (used, all) = sum_of(node, ahead)?;
     if !is_well(node, said.form, used, all) {
@@ -307,7 +307,7 @@ fn judge(grove: &mut Grove, said: Said, node: &Node, ahead: &mut Ahead) -> Resul
     Ok(node.level)
 }
 
-// Looks at a page, and returns its node's level. Refuses what is no node, and a node as `judge` does.
+// Looks at a page, and returns its node's level. Refuses a page that is no node's, and a node as `judge` does.
 fn look_at(grove: &mut Grove, said: Said, ahead: &mut Ahead) -> Result<u8, Fail> {
     let page = grove.pages.read(said.page)?;
     match Node::decode(&page) {
@@ -340,7 +340,7 @@ fn is_over(ahead: &Ahead) -> bool {
     ahead.nodes.is_empty()
 }
 
-// What is to be looked at in the beginning: the root, and the places that live.
+// What is to be found in the beginning: the root, and the places that live.
 fn ahead_of(alloc: Global, grove: &Grove) -> Result<Ahead, Fail> {
     let mut nodes = Vec::new(alloc);
     if grove.tree.root != 0 {
@@ -363,7 +363,7 @@ fn levels_and_nodes(alloc: Global, grove: &mut Grove) -> Result<(u8, u32), Fail>
     Ok(found)
 }
 
-// How many pages stand in the free list.
+// How many pages are in the free list.
 fn free(pages: &mut MemoryPages) -> Result<u32, Fail> {
     let mut found: u32 = 0;
     let mut next = pages.first_free();
@@ -377,7 +377,7 @@ fn free(pages: &mut MemoryPages) -> Result<u32, Fail> {
     Ok(found)
 }
 
-// Lets so many places come, change and go in no order, and looks at the tree after each hundred.
+// Lets places come, change and go in no order, one in each of `turns` turns, and checks the tree after each hundred.
 fn come(
     alloc: Global,
     grove: &mut Grove,
@@ -409,7 +409,7 @@ fn go(alloc: Global, grove: &mut Grove, policy: &mut dyn SplitPolicy) -> Result<
     Ok(())
 }
 
-// Lets so many places come, change and go, and takes all out.
+// Lets places come, change and go for `turns` turns, and takes all out.
 fn come_and_go(alloc: Global, policy: &mut dyn SplitPolicy, turns: u64) -> Result<(), Fail> {
     let mut grove = empty_grove(alloc, PLACES as usize)?;
     come(alloc, &mut grove, policy, turns)?;
@@ -449,7 +449,7 @@ fn has_place(node: &Page, number: u64) -> bool {
     false
 }
 
-// Whether the entries of a full node lie where a mask says: those of its bits in one node, the others in another, each in its slot.
+// Whether the entries of a full node are divided as a mask has it: those of its bits in one node, the others in another, each in its slot.
 fn are_parted(full: &Page, stay: &Page, go: &Page, moved: u64) -> bool {
     for at in 0..32 {
         let moves = moved >> at & 1 == 1;
@@ -460,7 +460,8 @@ fn are_parted(full: &Page, stay: &Page, go: &Page, moved: u64) -> bool {
     true
 }
 
-// Puts 33 places and takes 22 of them out, and looks at the tree after each change: whether a second level comes with the last place, and goes.
+// Puts 33 places and takes 22 of them out, and checks the tree after each change. Returns whether a second level comes with the last place
+// put, and goes.
 fn split_and_join(alloc: Global, grove: &mut Grove) -> Result<bool, Fail> {
     let mut policy = Quadratic::new();
     for turn in 0..55 {
@@ -495,7 +496,7 @@ fn places_come_and_go_under_any_policy(rt: HostRuntime) -> Result<(), Fail> {
     come_and_go(rt.alloc(), &mut Halving::new(), 3_000)
 }
 
-// Whether a leaf that was full stands below the root's first slot now, and its entries and place 32 lie where a mask says.
+// Whether a leaf that was full is now below the root's first slot, and its entries and place 32 are divided as a mask has it.
 fn is_split_by(grove: &mut Grove, old: u32, full: &Page, moved: u64) -> Result<bool, Fail> {
     let root = grove.pages.read(grove.tree.root)?;
     let stay = grove.pages.read(old)?;
@@ -516,7 +517,7 @@ fn has_chosen(grove: &mut Grove, chosen: u8, number: u64) -> Result<bool, Fail> 
     Ok(has_place(&child, number))
 }
 
-// Whether the 33rd place goes where the policy's mask says, and each of seven more where it chose.
+// Whether the 33rd place goes where the policy's mask puts it, and each of seven more where it chose.
 fn goes_where_said(alloc: Global, grove: &mut Grove, policy: &mut Worst) -> Result<bool, Fail> {
     for number in 0..32 {
         change(alloc, grove, policy, number, 1)?;

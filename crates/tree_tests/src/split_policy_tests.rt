@@ -1,7 +1,7 @@
 use spatial_base::Rect;
 use split_policy::{Halving, Quadratic, SplitPolicy};
 
-// So many degrees, in units of 10^-7 degrees.
+// This many degrees, in units of 10^-7 degrees.
 fn degrees(count: i32) -> i32 {
     count.saturating_mul(10_000_000)
 }
@@ -16,8 +16,8 @@ fn sides(of: &[i32; 4]) -> Option<Rect> {
     )
 }
 
-// Entries that are split: the sides of the first ones, how many these are, how many degrees east and north of them as many more lie, and so on,
-// and the masks of both policies.
+// Entries that are split, in groups of equal entries. The fields are the sides of the first group's entries, the number of entries in a
+// group, and each group's degrees east and north of the one before. The last two are the masks of both policies.
 type Split = ([i32; 4], usize, i32, i32, u64, u64);
 
 static SPLITS: [Split; 6] = [

@@ -4,19 +4,19 @@ use page_face::{Damage, MemoryPages, PageFault, Pages, Rule};
 use row_codec::{PAIRS_MAX, Stored};
 use rtree_nodes::count;
 use spatial_base::{Key, Point};
+use split_condense::{put_entry, take_entry};
 use split_policy::Halving;
 use std::alloc::Global;
-use tree_updates::{put_entry, take_entry};
 
 static EMPTY: Tree = Tree { root: 0, rows: 0 };
 
-// Where a place is: how many tenths of a degree east, or -1 where there is none, and the number of its word.
+// The spot of a place: how many tenths of a degree east, or -1 if there is no place, and the number of its word.
 type Spot = (i32, u64);
 
 const NOWHERE: Spot = (-1, 0);
 
-// A change of one place: its number, where it was before and where it is now; and how many entries there are then, and how many of these have
-// the words 1 and 2.
+// A change of one place: its number, its spot before and its spot now; then the number of entries, and how many of these have the words
+// 1 and 2.
 static CHANGES: [(u64, Spot, Spot, usize, usize, usize); 9] = [
     (1, NOWHERE, (5, 1), 1, 1, 0),
     (2, NOWHERE, (5, 1), 2, 2, 0),
@@ -63,7 +63,7 @@ fn change(
     }
 }
 
-// How many slots the root has, 0 where there is no root.
+// How many slots of the root are used, 0 if there is no root.
 fn used(pages: &mut MemoryPages, tree: &Tree) -> Result<usize, PageFault> {
     if tree.root == 0 {
         return Ok(0);
@@ -83,7 +83,7 @@ fn having(pages: &mut MemoryPages, tree: &Tree, word: u64) -> Result<usize, Page
     Ok(found)
 }
 
-// Whether the tree is empty and no page is lost: as many can be taken as there are before one more is counted.
+// Whether the tree is empty and no page is lost: the free list has every page counted except page 0.
 fn is_empty(pages: &mut MemoryPages, tree: &Tree) -> Result<bool, PageFault> {
     let mut free: u32 = 0;
     for _ in 0..pages.counted() {
@@ -95,7 +95,7 @@ fn is_empty(pages: &mut MemoryPages, tree: &Tree) -> Result<bool, PageFault> {
     Ok(*tree == EMPTY && free == pages.counted().saturating_sub(1))
 }
 
-// Makes the changes: whether the entries are as they should be after each of them.
+// Makes the changes. Returns whether the entries are as they should be after each of them.
 fn change_all(alloc: Global, pages: &mut MemoryPages, tree: &mut Tree) -> Result<bool, PageFault> {
     for (number, from, to, entries, first, second) in &CHANGES {
         change(alloc, pages, tree, *number, *from, *to)?;
@@ -117,7 +117,7 @@ fn places_are_put_moved_and_taken(rt: HostRuntime) {
     assert_eq!(rt; is_empty(&mut pages, &tree), Ok(true));
 }
 
-// Where a place of forty is at first, after the first turn, and so on.
+// The spot of one of forty places after a turn; turn 0 is the beginning.
 fn spot_of(number: u8, turn: u8) -> Spot {
     let tenths = i32::from(number);
     match turn {
@@ -127,7 +127,7 @@ fn spot_of(number: u8, turn: u8) -> Spot {
     }
 }
 
-// Lets forty places go from where they are before a turn to where they are after it, and returns how many slots the root has then.
+// Moves forty places from their spots before a turn to those after it, and returns how many slots of the root are used then.
 fn turn_forty(
     alloc: Global,
     pages: &mut MemoryPages,

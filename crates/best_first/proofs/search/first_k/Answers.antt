@@ -6,13 +6,13 @@ use Rattle.page_face.specs.FreeList.{PageMap}
 use Rattle.page_face.proofs.Frames.{reads_then}
 use Rattle.btree_nodes.specs.Damages.{AskedSince}
 use Rattle.btree_nodes.proofs.Walks.{same-fault}
-use Rattle.place_map.specs.declared.hit.Hit.{Hit}
+use Rattle.place_values.specs.declared.hit.Hit.{Hit}
 use Rattle.best_first.specs.Items.{places_of, OfNode, IsGivenAt}
 use Rattle.best_first.specs.Queue.{item_of, waiting}
 use Rattle.best_first.proofs.Firsts.{kept_ranked, kept_short}
 use Rattle.best_first.proofs.Steps.{started, node_next, none_waits, enough, node_smaller}
 use Rattle.best_first.proofs.Insides.{first_inside, next_inside, opened_inside}
-use Rattle.best_first.proofs.Logs.{asks_of, asked_sooner}
+use Rattle.best_first.specs.Logs.{asks_of, asked_sooner}
 use Rattle.best_first.proofs.Levels.{led_begun, led_opened, led_off}
 use Rattle.best_first.proofs.Histories.{begun, opened, ended}
 use Rattle.best_first.proofs.search.first_k.Goals as goal
@@ -124,12 +124,12 @@ returns-in_err-items-2-clause-damaged g c =
     (led_off g.R.Ranked.stands has (g.P.Pages.pages c.args.pages.now) _ _ _ _ _ node.page node.level node.bound _ _ (c.open.ensures.asks (kept.told w)) c.in-Some.ensures.some (kept.led w) other) (asked, other)))
     (c.open.ensures.damaged (kept.told w) damage (c.in_err-items-2.was ∙ ap Err (same-fault {T = Vec Hit Global} _ _ e))))
 
-pub returns-in_err-items-2-clause-honest : goal.returns-in_err-items-2-clause-honest
-returns-in_err-items-2-clause-honest g c =
+pub returns-in_err-items-2-clause-no_false_damage : goal.returns-in_err-items-2-clause-no_false_damage
+returns-in_err-items-2-clause-no_false_damage g c =
     let passed = err_from_is_err_and c.from_residual-in_err-items-2.result c.from_residual-in_err-items-2.ensures.1 in
     let kept = c.search.invariant in
     let node = c.in-Some.node in
     let has = g.R.Ranked.has_node c.args.ranked.now c.args.pages.now in
     rw (passed.1, passed.2) (λ f damage e.
-    c.open.ensures.honest (kept.fits f) (kept.stays node.page node.level (next_inside (OfNode has) (item_of node) _ _ c.in-Some.ensures.some (kept.inside f)).0) damage
+    c.open.ensures.no_false_damage (kept.fits f) (kept.stays node.page node.level (next_inside (OfNode has) (item_of node) _ _ c.in-Some.ensures.some (kept.inside f)).0) damage
     (c.in_err-items-2.was ∙ ap Err (same-fault {T = Vec Hit Global} _ _ e)))

@@ -3,9 +3,9 @@ use Rattle.std.specs.BinaryHeap.{heap_items}
 use Rattle.std.specs.List.{AllByRecursion}
 use Rattle.page_face.specs.Calls.{Reads}
 use Rattle.page_face.specs.declared.fault.Damage.{Damage}
-use Rattle.ranking.specs.First.{IsRanked}
+use Rattle.place_values.specs.First.{IsRanked}
 use Rattle.std.proofs.Common.{◌≤◌, length}
-use Rattle.place_map.specs.Hit.{comes_before}
+use Rattle.place_values.specs.Hit.{comes_before}
 use Rattle.best_first.specs.Items.{OfNode}
 use Rattle.best_first.specs.Leads.{leads}
 use Rattle.best_first.specs.Queue.{waiting}

@@ -1,7 +1,7 @@
 use Rattle.std.proofs.Common.{◌≡◌, ◌++◌, take, IsPermutation}
 use Rattle.std.specs.BinaryHeap.{heap_items}
-use Rattle.ranking.specs.First.{first}
-use Rattle.place_map.specs.Hit.{comes_before}
+use Rattle.place_values.specs.First.{first}
+use Rattle.place_values.specs.Hit.{comes_before}
 use Rattle.best_first.specs.Items.{nodes_of, places_of}
 use Rattle.best_first.specs.Queue.{waiting}
 use Rattle.best_first.proofs.search.sort_each.Given as goal

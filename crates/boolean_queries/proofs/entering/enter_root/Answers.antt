@@ -1,7 +1,7 @@
 use Rattle.std.proofs.Common.{ℕ, Err, ap, ◌∙◌, inl, subst}
 use Rattle.page_face.specs.declared.fault.Rule.{Rule}
 use Rattle.btree_nodes.proofs.Walks.{same-fault}
-use Rattle.rtree_find.specs.Harms.{BreaksAlone}
+use Rattle.rtree_nodes.specs.Harms.{BreaksAlone}
 use Rattle.boolean_queries.proofs.entering.enter_root.Goals as goal
 
 pub returns-in-Err-clause-damaged : goal.returns-in-Err-clause-damaged

@@ -1,6 +1,6 @@
 use Rattle.std.proofs.Common.{◌≡◌, ◌<◌, ◌&&◌, ℕ, nat_lt}
 use Rattle.rtree_nodes.specs.Pages.{stored_in}
-use Rattle.tree_entries.specs.Masks.{has_slot}
+use Rattle.node_filter.specs.Masks.{has_slot}
 use Rattle.boolean_queries.specs.Near.{in_order, near_slot, is_near}
 use Rattle.boolean_queries.proofs.near.gather.Given as goal
 

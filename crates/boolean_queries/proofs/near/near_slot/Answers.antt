@@ -1,5 +1,5 @@
 use Rattle.std.proofs.Common.{refl}
-use Rattle.rtree_find.proofs.Rounds.{value-broken}
+use Rattle.rtree_nodes.proofs.Rounds.{value-broken}
 use Rattle.boolean_queries.proofs.near.near_slot.Goals as goal
 
 pub returns-in-Err-clause-breaks : goal.returns-in-Err-clause-breaks

@@ -1,4 +1,4 @@
-use Rattle.tree_entries.proofs.Marking.{slot-added, slot-beside}
+use Rattle.node_filter.proofs.Marking.{slot-added, slot-beside}
 use Rattle.boolean_queries.proofs.near.with_slot.Goals as goal
 
 pub returns-then-is_wanted-clause-here : goal.returns-then-is_wanted-clause-here

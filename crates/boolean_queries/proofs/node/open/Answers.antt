@@ -3,15 +3,15 @@ use Rattle.std.proofs.lemmas.Result.{IfOk-weaker}
 use Rattle.btree_nodes.proofs.Walks.{same-fault}
 use Rattle.std.specs.Prelude.{IfOk, ◌≢◌}
 use Rattle.page_face.specs.FreeList.{PageMap}
-use Rattle.btree_nodes.specs.Damages.{AreTold, AskedSince}
+use Rattle.btree_nodes.specs.Damages.{AreReadable, AskedSince}
 use Rattle.btree_nodes.specs.Tree.{IsMap, map_uses}
-use Rattle.rtree_shape.specs.Stock.{rows_form}
+use Rattle.rtree_nodes.specs.Stock.{rows_form}
 use Rattle.rtree_nodes.specs.Pages.{level_in, is_form}
 use Rattle.node_rows.specs.Rows.{bytes_in}
-use Rattle.best_first.proofs.Logs.{asked_sooner, asked_before}
-use Rattle.tree_entries.specs.Masks.{has_slot, Marks}
-use Rattle.tree_entries.specs.Numbers.{byte_of}
-use Rattle.tree_entries.specs.Filters.{admits_by}
+use Rattle.best_first.specs.Logs.{asked_sooner, asked_before}
+use Rattle.node_filter.specs.Masks.{has_slot, Marks}
+use Rattle.node_filter.specs.Numbers.{byte_of}
+use Rattle.node_filter.specs.Filters.{admits_by}
 use Rattle.boolean_queries.specs.Opens.{filter_in}
 use Rattle.boolean_queries.specs.Walked.{AsksFor}
 use Rattle.node_rows.specs.Damages.{IsRowsDamage}
@@ -22,13 +22,13 @@ use Rattle.boolean_queries.proofs.Opened.{gives-node, gives-none, kept-children,
 use Rattle.boolean_queries.proofs.Fine.{joined-fine}
 use Rattle.boolean_queries.proofs.node.open.Goals as goal
 
-pub returns-in-Err-clause-honest : goal.returns-in-Err-clause-honest
-returns-in-Err-clause-honest g c = λ map rows_counted told node counted damage e.
+pub returns-in-Err-clause-no_false_damage : goal.returns-in-Err-clause-no_false_damage
+returns-in-Err-clause-no_false_damage g c = λ map rows_counted told node counted damage e.
     let d = c.enter_at.ensures.damaged damage (c.in-Err.is ∙ ap Err (same-fault {T = ℕ} _ _ e)) in
     joined-fine damage.rule (g.P.Pages.pages c.args.pages.now) c.args.tree.now.rows (g.P.Pages.count c.args.pages.now) c.args.level c.args.node (λ found. found ≢ c.args.level) node counted (λ at wrong. wrong refl) d.2
 
-pub returns-in-Err-gather-clause-honest : goal.returns-in-Err-gather-clause-honest
-returns-in-Err-gather-clause-honest g c = λ map rows_counted told node counted damage e.
+pub returns-in-Err-gather-clause-no_false_damage : goal.returns-in-Err-gather-clause-no_false_damage
+returns-in-Err-gather-clause-no_false_damage g c = λ map rows_counted told node counted damage e.
     let old : PageMap = g.P.Pages.pages c.args.pages.now in
     let r = joined-read old c.args.tree.now.rows c.args.level c.args.node node in
     let memory = c.in-Err-gather.ensures.ok (ap is_form (c.looked.ensures ∙ c.in-Ok.ensures.gives r.told) ∙ r.form) in
@@ -75,8 +75,8 @@ returns-clause-asks g c = λ told.
     let mid : List ℕ = g.P.Pages.asked c.enter_at.new.pages in
     let new : List ℕ = g.P.Pages.asked c.admit.new.pages in
     let f = c.enter_at.ensures.frame in
-    let more = subst (λ (k : ℕ). AreTold old k → AsksFor [] mine mid new) f.count
-    (subst (λ (x : PageMap). AreTold x (g.P.Pages.count c.enter_at.new.pages) → AsksFor [] (map_uses rows_form x rows) mid new) f.pages c.admit.ensures.asks) told in
+    let more = subst (λ (k : ℕ). AreReadable old k → AsksFor [] mine mid new) f.count
+    (subst (λ (x : PageMap). AreReadable x (g.P.Pages.count c.enter_at.new.pages) → AsksFor [] (map_uses rows_form x rows) mid new) f.pages c.admit.ensures.asks) told in
     asks-then (c.args.node ∷ []) mine _ _ _ (asks-page c.args.node mine _ mid c.enter_at.ensures.asks) (asks-wider [] (c.args.node ∷ []) mine _ _ (λ page h. absurd (contains-none page h)) more)
 
 pub returns-clause-asked : goal.returns-clause-asked
@@ -86,8 +86,8 @@ returns-clause-asked g c = λ told.
     let mid : List ℕ = g.P.Pages.asked c.enter_at.new.pages in
     let new : List ℕ = g.P.Pages.asked c.admit.new.pages in
     let f = c.enter_at.ensures.frame in
-    let more = subst (λ (k : ℕ). AreTold old k → AsksFor [] (map_uses rows_form old rows) mid new) f.count
-    (subst (λ (x : PageMap). AreTold x (g.P.Pages.count c.enter_at.new.pages) → AsksFor [] (map_uses rows_form x rows) mid new) f.pages c.admit.ensures.asks) told in
+    let more = subst (λ (k : ℕ). AreReadable old k → AsksFor [] (map_uses rows_form old rows) mid new) f.count
+    (subst (λ (x : PageMap). AreReadable x (g.P.Pages.count c.enter_at.new.pages) → AsksFor [] (map_uses rows_form x rows) mid new) f.pages c.admit.ensures.asks) told in
     on-always c.admit.result _ (asked_before _ mid more.more new c.args.node c.in-Ok.ensures.here more.log)
 
 pub returns-clause-damaged : goal.returns-clause-damaged
@@ -97,8 +97,8 @@ returns-clause-damaged g c = λ told damage e.
     let f = c.enter_at.ensures.frame in
     let mid : List ℕ = g.P.Pages.asked c.enter_at.new.pages in
     let new : List ℕ = g.P.Pages.asked c.admit.new.pages in
-    let harm = subst (λ (k : ℕ). AreTold old k → IsRowsDamage old k rows mid new damage) f.count
-    (subst (λ (x : PageMap). AreTold x (g.P.Pages.count c.enter_at.new.pages) → IsRowsDamage x (g.P.Pages.count c.enter_at.new.pages) rows mid new damage) f.pages (λ t. c.admit.ensures.damaged t damage e)) told in
+    let harm = subst (λ (k : ℕ). AreReadable old k → IsRowsDamage old k rows mid new damage) f.count
+    (subst (λ (x : PageMap). AreReadable x (g.P.Pages.count c.enter_at.new.pages) → IsRowsDamage x (g.P.Pages.count c.enter_at.new.pages) rows mid new damage) f.pages (λ t. c.admit.ensures.damaged t damage e)) told in
     let first = c.enter_at.ensures.asks in
     inr (harm.0, asked_sooner (g.P.Pages.asked c.args.pages.now) first.more new damage.page (subst (λ (l : List ℕ). AskedSince l new damage.page) first.is harm.1))
 

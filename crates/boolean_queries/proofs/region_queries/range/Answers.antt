@@ -7,5 +7,5 @@ returns-clause-found g c =
     let y : unsigned_abs c.args.at.now.y ≤ 900000000 = subst (λ (z : ℤ). unsigned_abs z ≤ 900000000) c.y-y.ensures.value c.y-y.ensures.within in
     λ free whole. c.walk.ensures.found (x, y) (free, whole)
 
-pub returns-clause-honest : goal.returns-clause-honest
-returns-clause-honest g c = λ free whole. c.walk.ensures.honest (free, whole)
+pub returns-clause-no_false_damage : goal.returns-clause-no_false_damage
+returns-clause-no_false_damage g c = λ free whole. c.walk.ensures.no_false_damage (free, whole)

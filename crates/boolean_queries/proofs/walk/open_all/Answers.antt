@@ -7,15 +7,15 @@ use Rattle.page_face.specs.Causes.{IsUncounted}
 use Rattle.page_face.specs.declared.fault.Damage.{Damage}
 use Rattle.page_face.specs.declared.fault.PageFault.TheVariants.{Damaged}
 use Rattle.page_face.proofs.Frames.{reads_then}
-use Rattle.btree_nodes.specs.Damages.{AreTold, AskedSince}
+use Rattle.btree_nodes.specs.Damages.{AreReadable, AskedSince}
 use Rattle.btree_nodes.specs.Tree.{IsMap, map_uses}
 use Rattle.btree_nodes.proofs.Walks.{same-fault}
 use Rattle.paged_map.specs.Maps.{AreCounted}
-use Rattle.place_map.specs.declared.hit.Hit.{Hit}
-use Rattle.rtree_shape.specs.Stock.{rows_form}
+use Rattle.place_values.specs.declared.hit.Hit.{Hit}
+use Rattle.rtree_nodes.specs.Stock.{rows_form}
 use Rattle.rtree_nodes.specs.Pages.{node_of}
-use Rattle.rtree_find.specs.Subtrees.{IsNodeAt}
-use Rattle.rtree_find.proofs.Subtrees.{page-counted}
+use Rattle.rtree_nodes.specs.Subtrees.{IsNodeAt}
+use Rattle.rtree_nodes.proofs.Subtrees.{page-counted}
 use Rattle.irtree_shape.specs.Made.{nodes_in}
 use Rattle.best_first.specs.declared.item.Item as best
 use Rattle.best_first.specs.declared.item.Item.TheVariants.{Node}
@@ -96,10 +96,10 @@ walk-preserved g c =
     let n : new ≡ rest ++ nodes_of items = c.in-Ok-sort_near.ensures.waiting ∙ ap (λ (l : List Near). rest ++ nodes_of (kept mask l)) c.deref.ensures.value in
     let h : found ≡ now ++ places_of items = c.in-Ok-sort_near.ensures.found ∙ ap (λ (l : List Near). now ++ places_of (kept mask l)) c.deref.ensures.value in
     let gives = subst (λ (x : PageMap). IsMap rows_form x rows → IsNodeAt (nodes_in node_of x rows) level page → items ≡ opens_in region ids filter (nodes_in node_of x rows) page level) f.pages c.in-Ok-open.ensures.gives in
-    let asks = subst (λ (k : ℕ). AreTold old k → AsksFor (page ∷ []) mine mid last) f.count
-    (subst (λ (x : PageMap). AreTold x (p.count c.walk.pages) → AsksFor (page ∷ []) (map_uses rows_form x rows) mid last) f.pages c.open.ensures.asks) in
-    let asked = subst (λ (k : ℕ). AreTold old k → AskedSince mid last page) f.count
-    (subst (λ (x : PageMap). AreTold x (p.count c.walk.pages) → AskedSince mid last page) f.pages c.in-Ok-open.ensures.asked) in
+    let asks = subst (λ (k : ℕ). AreReadable old k → AsksFor (page ∷ []) mine mid last) f.count
+    (subst (λ (x : PageMap). AreReadable x (p.count c.walk.pages) → AsksFor (page ∷ []) (map_uses rows_form x rows) mid last) f.pages c.open.ensures.asks) in
+    let asked = subst (λ (k : ℕ). AreReadable old k → AskedSince mid last page) f.count
+    (subst (λ (x : PageMap). AreReadable x (p.count c.walk.pages) → AskedSince mid last page) f.pages c.in-Ok-open.ensures.asked) in
     let stand = subst (λ (x : PageMap). AllByRecursion (Stands region (x page) level) items) f.pages c.in-Ok-open.ensures.stand in
     let here = λ (good : IsGood old rows count c.args.level root). sound-last nodes count page level node.bound queue rest q (kept_so.sound good) in
     record {
@@ -116,8 +116,8 @@ pub returns-in-Err-sort_near-clause-frame : goal.returns-in-Err-sort_near-clause
 returns-in-Err-sort_near-clause-frame g c = reads_then g.P.Pages g.met.P.Pages.goes_further g.met.P.Pages.reads_further _ _ _ c.walk.invariant.frame c.open.ensures.frame
 
 -- no node of a well-formed tree is refused
-pub returns-in-Err-open-clause-honest : goal.returns-in-Err-open-clause-honest
-returns-in-Err-open-clause-honest g c = λ good told damage e.
+pub returns-in-Err-open-clause-no_false_damage : goal.returns-in-Err-open-clause-no_false_damage
+returns-in-Err-open-clause-no_false_damage g c = λ good told damage e.
     let p = g.P.Pages in
     let old : PageMap = p.pages c.args.pages.now in
     let count : ℕ = p.count c.args.pages.now in
@@ -131,10 +131,10 @@ returns-in-Err-open-clause-honest g c = λ good told damage e.
     let queue : List best.Item = waits c.walk.waiting.items in
     let q : queue ≡ rest ++ Node page level node.bound ∷ [] = ap waits c.in-Some.ensures.items ∙ map-append item_of c.pop.new.self.items (node ∷ []) in
     let here = sound-last nodes count page level node.bound queue rest q (c.walk.invariant.sound good) in
-    let honest = subst (λ (k : ℕ). IsMap rows_form old rows → AreCounted (map_uses rows_form old rows) k → AreTold old k → IsNodeAt nodes level page → (IsUncounted k page → ⊥) → (harm : Damage) → c.open.result ≢ Err (Damaged harm)) f.count
-    (subst (λ (x : PageMap). IsMap rows_form x rows → AreCounted (map_uses rows_form x rows) (p.count c.walk.pages) → AreTold x (p.count c.walk.pages) → IsNodeAt (nodes_in node_of x rows) level page → (IsUncounted (p.count c.walk.pages) page → ⊥) → (harm : Damage) → c.open.result ≢ Err (Damaged harm))
-    f.pages c.open.ensures.honest) in
-    honest good.map good.rows_counted told here.0 (page-counted nodes count level page here.1) damage (c.in-Err-open.is ∙ ap Err (same-fault {T = Vec Hit Global} _ _ e))
+    let no_false_damage = subst (λ (k : ℕ). IsMap rows_form old rows → AreCounted (map_uses rows_form old rows) k → AreReadable old k → IsNodeAt nodes level page → (IsUncounted k page → ⊥) → (harm : Damage) → c.open.result ≢ Err (Damaged harm)) f.count
+    (subst (λ (x : PageMap). IsMap rows_form x rows → AreCounted (map_uses rows_form x rows) (p.count c.walk.pages) → AreReadable x (p.count c.walk.pages) → IsNodeAt (nodes_in node_of x rows) level page → (IsUncounted (p.count c.walk.pages) page → ⊥) → (harm : Damage) → c.open.result ≢ Err (Damaged harm))
+    f.pages c.open.ensures.no_false_damage) in
+    no_false_damage good.map good.rows_counted told here.0 (page-counted nodes count level page here.1) damage (c.in-Err-open.is ∙ ap Err (same-fault {T = Vec Hit Global} _ _ e))
 
 -- a refused node was given by a node that was opened, or is the root
 pub returns-in-Err-open-clause-damaged : goal.returns-in-Err-open-clause-damaged
@@ -155,8 +155,8 @@ returns-in-Err-open-clause-damaged g c = λ told right damage e.
     let rest : List best.Item = waits c.pop.new.self.items in
     let queue : List best.Item = waits c.walk.waiting.items in
     let q : queue ≡ rest ++ Node page level node.bound ∷ [] = ap waits c.in-Some.ensures.items ∙ map-append item_of c.pop.new.self.items (node ∷ []) in
-    let harm = subst (λ (k : ℕ). AreTold old k → (d : Damage) → IsErrOf c.open.result (Damaged d) → IsNodeHarm old k rows level page mid last d) f.count
-    (subst (λ (x : PageMap). AreTold x (p.count c.walk.pages) → (d : Damage) → IsErrOf c.open.result (Damaged d) → IsNodeHarm x (p.count c.walk.pages) rows level page mid last d) f.pages c.open.ensures.damaged) told damage
+    let harm = subst (λ (k : ℕ). AreReadable old k → (d : Damage) → IsErrOf c.open.result (Damaged d) → IsNodeHarm old k rows level page mid last d) f.count
+    (subst (λ (x : PageMap). AreReadable x (p.count c.walk.pages) → (d : Damage) → IsErrOf c.open.result (Damaged d) → IsNodeHarm x (p.count c.walk.pages) rows level page mid last d) f.pages c.open.ensures.damaged) told damage
     (c.in-Err-open.is ∙ ap Err (same-fault {T = Vec Hit Global} _ _ e)) in
     harm-node c.args.query.now.region old (map_uses rows_form old rows) (IsGood old rows count c.args.level root) opens root c.args.level rows count (p.asked c.args.pages.now) mid last page level node.bound queue rest c.walk.found.items damage
     q right harm (c.walk.invariant.history told)

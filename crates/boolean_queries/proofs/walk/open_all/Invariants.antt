@@ -1,9 +1,9 @@
 use Rattle.std.proofs.Common.{◌≡◌, ◌∷◌, []}
 use Rattle.std.specs.List.{AllByRecursion}
 use Rattle.page_face.specs.Calls.{Reads}
-use Rattle.btree_nodes.specs.Damages.{AreTold}
+use Rattle.btree_nodes.specs.Damages.{AreReadable}
 use Rattle.btree_nodes.specs.Tree.{map_uses}
-use Rattle.rtree_shape.specs.Stock.{rows_form}
+use Rattle.rtree_nodes.specs.Stock.{rows_form}
 use Rattle.rtree_nodes.specs.Pages.{node_of}
 use Rattle.irtree_shape.specs.Made.{nodes_in}
 use Rattle.best_first.specs.declared.item.Item.TheVariants.{Node}
@@ -31,5 +31,5 @@ invariant-walk g l =
       faults : p.faults l.pages ≡ p.faults l.fn.pages;
       search : good → Walking opens (leads opens (Node l.tree.root l.level 0 ∷ [])) l.found.items (waits l.waiting.items);
       sound : good → AllByRecursion (IsSound nodes (p.count l.fn.pages)) (waits l.waiting.items);
-      history : AreTold (p.pages l.fn.pages) (p.count l.fn.pages) → Underway l.query.region (p.pages l.fn.pages) (map_uses rows_form (p.pages l.fn.pages) l.tree.rows) good opens l.tree.root l.level (p.asked l.fn.pages) (p.asked l.pages) l.found.items (waits l.waiting.items);
+      history : AreReadable (p.pages l.fn.pages) (p.count l.fn.pages) → Underway l.query.region (p.pages l.fn.pages) (map_uses rows_form (p.pages l.fn.pages) l.tree.rows) good opens l.tree.root l.level (p.asked l.fn.pages) (p.asked l.pages) l.found.items (waits l.waiting.items);
     }

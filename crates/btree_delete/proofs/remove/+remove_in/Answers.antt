@@ -10,7 +10,7 @@ use Rattle.page_face.specs.Nodes.{count_of}
 use Rattle.btree_nodes.specs.Nodes.{width_of, least_of_root, rows_in}
 use Rattle.btree_nodes.specs.Tree.{IsTree, rows_at, uses}
 use Rattle.btree_nodes.specs.Bounds.{upper_of, child_of}
-use Rattle.btree_nodes.specs.Damages.{IsDamaged, AreTold, AskedSince, AsksOnly}
+use Rattle.btree_nodes.specs.Damages.{IsDamaged, AreReadable, AskedSince, AsksOnly}
 use Rattle.std.proofs.Math.Nat.{mul-le-mul_left}
 use Rattle.page_face.specs.Causes.{IsUncounted}
 use Rattle.btree_nodes.proofs.Trees.{tree-size}
@@ -275,8 +275,8 @@ returns-in_err-removed-clause-damaged g t c =
     let lo' : ℕ = number c.lower.result.now in
     let hi' : ℕ = upper_of form.key c.upper.result.now in
     let there = read.gives (told-read old count child told (λ u. let f = read.uncounted u in cc)) in
-    let claim = subst (λ (n : ℕ). AreTold old n → c.in_ok-below.below ≡ old child → IsDamaged form old n damage c.least_at.result l child lo' hi') more
-    (subst (λ (p : PageMap). AreTold p n2 → c.in_ok-below.below ≡ p child → IsDamaged form p n2 damage c.least_at.result l child lo' hi') same
+    let claim = subst (λ (n : ℕ). AreReadable old n → c.in_ok-below.below ≡ old child → IsDamaged form old n damage c.least_at.result l child lo' hi') more
+    (subst (λ (p : PageMap). AreReadable p n2 → c.in_ok-below.below ≡ p child → IsDamaged form p n2 damage c.least_at.result l child lo' hi') same
     (λ a b. c.remove_in.ensures.damaged a b damage was)) in
     damage-below form old c.args.bytes.now c.args.level l page at up is small count damage c.args.least c.least_at.result lo hi lo' hi' child
     c.least_at.ensures.is c.lower.ensures.is c.upper.ensures.is e (claim told there))
@@ -573,7 +573,7 @@ returns-clause-removed g t c = λ free is tree supplied once.
           tree-size form _ old l (child_of form c.args.bytes.now near) _ _ (tree-below form old c.args.bytes.now c.args.level l page near up is (omega arith) c.args.least _ lo hi _ _ (child_of form c.args.bytes.now near) refl refl refl refl tree),
       risen.beside near (subst (λ (k : ℕ). IsBeside at k near) w.1 b),
     ) in
-    let neighbour = beside-is form (g.P.Pages.pages c.read.new.self) old mid (g.P.Pages.count c.read.new.self) l c.args.bytes.now at c.in-Ok.found.count (count_of c.in_ok-below.below) c.in_ok-beside.beside read.pages c.in_ok-beside.ensures.looked c.in_ok-beside.ensures.tells near-told in
+    let neighbour = beside-is form (g.P.Pages.pages c.read.new.self) old mid (g.P.Pages.count c.read.new.self) l c.args.bytes.now at c.in-Ok.found.count (count_of c.in_ok-below.below) c.in_ok-beside.beside read.pages c.in_ok-beside.ensures.looked c.in_ok-beside.ensures.readable near-told in
     let became = c.in_ok-entries.ensures.becomes lo hi risen.free' risen.inner risen.here (out.bytes_are pos ∙ ap mid e) neighbour (less.counted pos) risen.low_child risen.supplied risen.once in
     let r = c.in_ok-entries.ensures.range.0 in
     let whole = risen.then_out (g.P.Pages.pages c.settle_if_low.new.pages) (g.P.Pages.count c.settle_if_low.new.pages) (g.P.Pages.first c.settle_if_low.new.pages) c.in_ok-entries.entries c.settle_if_low.new.bytes r became (c.in_ok-entries.ensures.bytes risen.here) in

@@ -11,7 +11,7 @@ use Rattle.btree_nodes.proofs.Walks.{same-fault, named-read, uses-self, asks-rea
 use Rattle.btree_insert.specs.declared.down.Step.{Step}
 use Rattle.btree_insert.proofs.Grows.{damage-inner}
 use Rattle.btree_insert.proofs.down.go_down.Goals as goal
-use Rattle.btree_search.proofs.Descents.{same-damage}
+use Rattle.btree_nodes.proofs.Descents.{same-damage}
 
 pub returns-in-Err-clause-damaged : goal.returns-in-Err-clause-damaged
 returns-in-Err-clause-damaged g c = λ is damage e.

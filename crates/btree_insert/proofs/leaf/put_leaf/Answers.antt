@@ -9,7 +9,7 @@ use Rattle.btree_nodes.specs.Damages.{BreaksLeaf}
 use Rattle.btree_insert.specs.declared.leaf.Grown.{Grown}
 use Rattle.btree_insert.proofs.Readings.{ok-any}
 use Rattle.btree_insert.proofs.leaf.put_leaf.Goals as goal
-use Rattle.btree_search.proofs.Descents.{same-damage}
+use Rattle.btree_nodes.proofs.Descents.{same-damage}
 
 pub returns-in-Ok-clause-grown : goal.returns-in-Ok-clause-grown
 returns-in-Ok-clause-grown g c = λ free supplied once.
@@ -39,7 +39,7 @@ returns-in-Ok-clause-kept g c = λ told.
 pub returns-in-Ok-clause-supplied : goal.returns-in-Ok-clause-supplied
 returns-in-Ok-clause-supplied g c = λ free supplied damage e.
     let f = c.leaf_count.ensures.frame in
-    absurd (c.put_row.ensures.honest free (rw (f.pages, f.count, f.first) supplied) damage e)
+    absurd (c.put_row.ensures.no_false_damage free (rw (f.pages, f.count, f.first) supplied) damage e)
 
 pub returns-in-Ok-clause-damaged : goal.returns-in-Ok-clause-damaged
 returns-in-Ok-clause-damaged g c = λ damage e. inr (c.put_row.ensures.damaged damage e)

@@ -35,7 +35,7 @@ returns-in_err-right-clause-damaged g c =
 pub returns-then-cells-le4096-clause-kept : goal.returns-then-cells-le4096-clause-kept
 returns-then-cells-le4096-clause-kept g c = λ told. one-kept _ _ _ _ c.args.page (g.P.Pages.count c.args.pages.now) _ _ (g.P.Pages.pages c.args.pages.now) _ told c.in_ok-store_one.ensures.written c.in_ok-store_one.ensures.frame.count
 
-pub returns-in_err-right-clause-honest : goal.returns-in_err-right-clause-honest
-returns-in_err-right-clause-honest g c =
+pub returns-in_err-right-clause-no_false_damage : goal.returns-in_err-right-clause-no_false_damage
+returns-in_err-right-clause-no_false_damage g c =
     let passed = err_from_is_err_and c.from_residual-in_err-right.result c.from_residual-in_err-right.ensures.1 in
-    rw (passed.1, passed.2) (λ free supplied damage e. c.split_page.ensures.honest free supplied damage (c.in_err-right.was ∙ e))
+    rw (passed.1, passed.2) (λ free supplied damage e. c.split_page.ensures.no_false_damage free supplied damage (c.in_err-right.was ∙ e))

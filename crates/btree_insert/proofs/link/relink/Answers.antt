@@ -15,7 +15,7 @@ returns-in-Some-clause-grown g c = λ bytes low high free is inner within.
     free c.args.below c.args.page low high c.args.at c.in-Some.found.at c.args.right (number c.args.middle.now) (g.P.Pages.pages c.link.new.pages) (g.P.Pages.count c.link.new.pages) (g.P.Pages.first c.link.new.pages) (number c.link.new.middle)
     c.link.result bytes (g.P.Pages.looked c.look.new.self) f.pages f.count f.first c.in-Some.ensures.found.0 lent (c.link.ensures.grown low high free) inner
 
-pub returns-in-Some-clause-honest : goal.returns-in-Some-clause-honest
-returns-in-Some-clause-honest g c = λ free inner within supplied damage.
+pub returns-in-Some-clause-no_false_damage : goal.returns-in-Some-clause-no_false_damage
+returns-in-Some-clause-no_false_damage g c = λ free inner within supplied damage.
     let f = c.in-Ok.ensures in
-    c.link.ensures.honest free (rw (f.pages, f.count, f.first) supplied) damage
+    c.link.ensures.no_false_damage free (rw (f.pages, f.count, f.first) supplied) damage

@@ -17,7 +17,7 @@ use Rattle.page_face.proofs.Frames.{changes_then, reads_change}
 use Rattle.btree_nodes.specs.Store.{IsGrown}
 use Rattle.btree_nodes.proofs.Harms.{asked-here, asked-sooner, asks-here, asks-further}
 use Rattle.btree_nodes.proofs.Walks.{same-fault, uses-self}
-use Rattle.btree_search.specs.Steps.{low_of, high_of}
+use Rattle.btree_nodes.specs.Steps.{low_of, high_of}
 use Rattle.btree_insert.specs.Keeps.{KeepsAbove}
 use Rattle.btree_insert.specs.declared.leaf.Grown.{Grown}
 use Rattle.btree_insert.proofs.Grows.{damage-leaf, mid-tree, mid-bytes, mid-supplied, mid-once, mid-had, mid-damage, mid-told, mid-own, mid-kept, whole, stayed, to-be-linked}
@@ -227,7 +227,7 @@ returns-in_err-more-clause-supplied g t c =
     let grew = c.in_ok-grown.ensures.grown free (mid-bytes c.args.least old c.args.page l up is step.steps c.requires.from c.requires.to c.least_at.ensures.is f.pages f.count f.first step.gives tree) (mid-tree c.args.least old c.args.page l up is step.steps c.requires.from c.requires.to c.least_at.ensures.is f.pages f.count f.first step.gives tree) (mid-supplied c.args.least old c.args.page l up is step.steps c.requires.from c.requires.to c.least_at.ensures.is f.pages f.count f.first step.gives free supplied) (mid-once c.args.least old c.args.page l up is step.steps c.requires.from c.requires.to c.least_at.ensures.is f.pages f.count f.first step.gives free once) in
     let same = stayed c.args.least old c.args.page l up is step.steps c.requires.from c.requires.to c.least_at.ensures.is f.pages f.count f.first step.gives c.args.value.now free tree once (g.P.Pages.pages c.put_in.new.pages) (g.P.Pages.count c.put_in.new.pages) (g.P.Pages.first c.put_in.new.pages) c.in_ok-grown.grown.right (number c.put_in.new.middle) grew in
     let k = to-be-linked c.args.least old c.args.page l up is step.steps c.requires.from c.requires.to c.least_at.ensures.is f.pages f.count f.first step.gives c.args.value.now free tree once (g.P.Pages.pages c.put_in.new.pages) (g.P.Pages.count c.put_in.new.pages) (g.P.Pages.first c.put_in.new.pages) c.in_ok-grown.grown.right (number c.put_in.new.middle) grew (omega arith) in
-    absurd (c.relink.ensures.honest k.free_now (subst (IsInner form c.args.least (suc l)) (sym same) k.inner) (subst (λ (b : List ℕ). c.in_ok-step.step.at < count_of b) (is ∙ sym same) step.steps.within) k.supplied damage
+    absurd (c.relink.ensures.no_false_damage k.free_now (subst (IsInner form c.args.least (suc l)) (sym same) k.inner) (subst (λ (b : List ℕ). c.in_ok-step.step.at < count_of b) (is ∙ sym same) step.steps.within) k.supplied damage
     (c.in_err-more.was ∙ ap Err (same-fault {T = Grown} _ _ e))))
 
 pub returns-in_err-more-clause-damaged : goal.returns-in_err-more-clause-damaged

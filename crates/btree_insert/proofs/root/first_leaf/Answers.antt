@@ -2,7 +2,7 @@ use Rattle.std.proofs.Common.{arith, ◌∙◌, ◌^◌, ◌<◌, ℕ, subst}
 use Rattle.std.proofs.lemmas.Result.{err_from_is_err_and}
 use Rattle.page_face.specs.Number.{number}
 use Rattle.btree_nodes.proofs.Numbers.{number_below}
-use Rattle.btree_nodes.proofs.Supplies.{take-honest, refused-same}
+use Rattle.btree_nodes.proofs.Supplies.{take-no_false_damage, refused-same}
 use Rattle.btree_nodes.proofs.Tolds.{image_told}
 use Rattle.btree_insert.proofs.Keeps.{told-taken}
 use Rattle.btree_insert.proofs.Roots.{planted}
@@ -15,10 +15,10 @@ returns-clause-grown g c = λ free supplied once.
     c.in_ok-root.root free c.args.key.now c.args.value.now supplied once t.counts_one t.takes_free t.others c.in_ok-write_leaf.ensures.written c.in_ok-write_leaf.ensures.frame.count c.in_ok-write_leaf.ensures.first c.requires.key c.requires.value
     (subst (λ (n : ℕ). number c.args.key.now < 256 ^ n) c.requires.key (number_below c.args.key.now (λ i. let f = c.type_inv.key i in omega arith)))
 
-pub returns-in_err-root-clause-honest : goal.returns-in_err-root-clause-honest
-returns-in_err-root-clause-honest g c =
+pub returns-in_err-root-clause-no_false_damage : goal.returns-in_err-root-clause-no_false_damage
+returns-in_err-root-clause-no_false_damage g c =
     let passed = err_from_is_err_and c.from_residual.result c.from_residual.ensures.1 in
-    rw (passed.1, passed.2) (λ free supplied damage e. take-honest (g.P.Pages.pages c.args.pages.now) (g.P.Pages.count c.args.pages.now) (g.P.Pages.first c.args.pages.now) free damage supplied
+    rw (passed.1, passed.2) (λ free supplied damage e. take-no_false_damage (g.P.Pages.pages c.args.pages.now) (g.P.Pages.count c.args.pages.now) (g.P.Pages.first c.args.pages.now) free damage supplied
     (c.take.ensures.damaged damage (c.in_err-root.was ∙ e)))
 
 pub returns-in_err-root-clause-damaged : goal.returns-in_err-root-clause-damaged

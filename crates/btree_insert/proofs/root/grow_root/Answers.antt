@@ -2,7 +2,7 @@ use Rattle.std.proofs.Common.{arith, ◌≡◌, replicate, ap, ◌∙◌, ◌+�
 use Rattle.std.specs.Int.{to_be_bytes, w32}
 use Rattle.std.proofs.lemmas.List.{take_at, length-replicate, take-append-le, length-append}
 use Rattle.std.proofs.lemmas.Result.{err_from_is_err_and}
-use Rattle.btree_nodes.proofs.Supplies.{take-honest, refused-same}
+use Rattle.btree_nodes.proofs.Supplies.{take-no_false_damage, refused-same}
 use Rattle.btree_nodes.proofs.Tolds.{image_told}
 use Rattle.btree_nodes.proofs.Numbers.{number-zeros}
 use Rattle.btree_insert.proofs.Keeps.{told-taken}
@@ -28,10 +28,10 @@ returns-clause-grown g c = λ high free fan supplied once.
     (ap number (take-append-le k (replicate k 0 ++ to_be_bytes w32 c.args.left) (c.args.middle.now ++ to_be_bytes w32 c.args.right) (omega (arith, length-append (replicate k 0) (to_be_bytes w32 c.args.left), z)) ∙ take_at (replicate k 0) (to_be_bytes w32 c.args.left) k z) ∙ number-zeros k)
     (root-entries c.args.form c.args.middle.now c.args.left c.args.right c.requires.middle (omega arith) (omega arith))
 
-pub returns-in_err-root-clause-honest : goal.returns-in_err-root-clause-honest
-returns-in_err-root-clause-honest g c =
+pub returns-in_err-root-clause-no_false_damage : goal.returns-in_err-root-clause-no_false_damage
+returns-in_err-root-clause-no_false_damage g c =
     let passed = err_from_is_err_and c.from_residual.result c.from_residual.ensures.1 in
-    rw (passed.1, passed.2) (λ free supplied damage e. take-honest (g.P.Pages.pages c.args.pages.now) (g.P.Pages.count c.args.pages.now) (g.P.Pages.first c.args.pages.now) free damage supplied
+    rw (passed.1, passed.2) (λ free supplied damage e. take-no_false_damage (g.P.Pages.pages c.args.pages.now) (g.P.Pages.count c.args.pages.now) (g.P.Pages.first c.args.pages.now) free damage supplied
     (c.take.ensures.damaged damage (c.in_err-root.was ∙ e)))
 
 pub returns-in_err-root-clause-damaged : goal.returns-in_err-root-clause-damaged

@@ -1,7 +1,7 @@
 use Rattle.std.proofs.Common.{◌∙◌}
 use Rattle.std.proofs.lemmas.Result.{err_from_is_err_and}
 use Rattle.btree_nodes.proofs.Splits.{is_split}
-use Rattle.btree_nodes.proofs.Supplies.{take-honest, refused-same}
+use Rattle.btree_nodes.proofs.Supplies.{take-no_false_damage, refused-same}
 use Rattle.btree_nodes.proofs.store.store_two.Goals as goal
 
 pub returns-clause-split : goal.returns-clause-split
@@ -12,10 +12,10 @@ returns-clause-split g c = λ free supplied once.
     supplied once t.counts_one t.takes_free t.others c.in_ok-store_one.ensures.written c.in_ok-store_one-2.ensures.written _ _
     (c.in_ok-store_one-2.ensures.frame.count ∙ c.in_ok-store_one.ensures.frame.count) (c.in_ok-store_one-2.ensures.first ∙ c.in_ok-store_one.ensures.first)
 
-pub returns-in_err-right-clause-honest : goal.returns-in_err-right-clause-honest
-returns-in_err-right-clause-honest g c =
+pub returns-in_err-right-clause-no_false_damage : goal.returns-in_err-right-clause-no_false_damage
+returns-in_err-right-clause-no_false_damage g c =
     let passed = err_from_is_err_and c.from_residual.result c.from_residual.ensures.1 in
-    rw (passed.1, passed.2) (λ free supplied damage e. take-honest (g.P.Pages.pages c.args.pages.now) (g.P.Pages.count c.args.pages.now) (g.P.Pages.first c.args.pages.now) free damage supplied
+    rw (passed.1, passed.2) (λ free supplied damage e. take-no_false_damage (g.P.Pages.pages c.args.pages.now) (g.P.Pages.count c.args.pages.now) (g.P.Pages.first c.args.pages.now) free damage supplied
     (c.take.ensures.damaged damage (c.in_err-right.was ∙ e)))
 
 pub returns-in_err-right-clause-damaged : goal.returns-in_err-right-clause-damaged

@@ -3,9 +3,9 @@ use Rattle.std.proofs.lemmas.List.Elements.{Contains-append_cases}
 use Rattle.std.proofs.lemmas.Result.{IfOk-weaker}
 use Rattle.std.specs.List.{Contains}
 use Rattle.page_face.specs.FreeList.{PageMap}
-use Rattle.place_map.specs.declared.query.Pick.{Pick}
-use Rattle.rtree_shape.specs.Slots.{NodeMap}
-use Rattle.tree_ranking.specs.Fits.{nodes_at}
+use Rattle.place_values.specs.declared.query.Pick.{Pick}
+use Rattle.rtree_nodes.specs.Slots.{NodeMap}
+use Rattle.best_first.specs.Fits.{nodes_at}
 use Rattle.collective_query.specs.Choices.{IsWithin, IsInBoth, IsCut}
 use Rattle.collective_query.specs.Opened.{FindsPicks}
 use Rattle.collective_query.specs.Picks.{GoesBeyond}

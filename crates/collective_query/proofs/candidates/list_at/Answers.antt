@@ -1,6 +1,6 @@
 use Rattle.std.proofs.Common.{◌≡◌, ◌<◌, List, Vec, Global, get_or, length, rules, subst}
 use Rattle.std.specs.List.{Contains}
-use Rattle.place_map.specs.declared.query.Pick.{Pick}
+use Rattle.place_values.specs.declared.query.Pick.{Pick}
 use Rattle.collective_query.proofs.Members.{contains-flat}
 use Rattle.collective_query.proofs.candidates.list_at.Goals as goal
 

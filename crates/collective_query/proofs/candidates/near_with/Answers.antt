@@ -1,6 +1,6 @@
 use Rattle.std.proofs.Common.{◌∙◌, ℕ, List, map, refl, sym, ap, subst}
 use Rattle.page_face.specs.FreeList.{PageMap}
-use Rattle.place_map.specs.declared.hit.Hit.{Hit}
+use Rattle.place_values.specs.declared.hit.Hit.{Hit}
 use Rattle.collective_query.specs.Opened.{FindsPicks}
 use Rattle.collective_query.specs.TreePicks.{pick_from}
 use Rattle.collective_query.proofs.Opened.{range-finds}

@@ -4,10 +4,10 @@ use Rattle.std.proofs.lemmas.List.Elements.{All-from_recursion, All-get_or, Cont
 use Rattle.std.specs.List.{AllByRecursion, Contains}
 use Rattle.std.specs.declared.alloc.Global.{Global}
 use Rattle.spatial_base.specs.Point.{Position, distance}
-use Rattle.place_map.specs.declared.query.Pick.{Pick}
-use Rattle.place_map.specs.Group.{farthest, diameter, choice_cost}
-use Rattle.place_map.specs.GroupLaws.{popped, cost_front}
-use Rattle.place_map.specs.Search.{lists_in}
+use Rattle.place_values.specs.declared.query.Pick.{Pick}
+use Rattle.place_values.specs.Group.{farthest, diameter, choice_cost}
+use Rattle.place_values.specs.GroupLaws.{popped, cost_front}
+use Rattle.place_values.specs.Search.{lists_in}
 use Rattle.collective_query.specs.Fronts.{Completes}
 use Rattle.collective_query.specs.Picks.{AreMeasured}
 use Rattle.collective_query.proofs.Costs.{far-pushed, wide-pushed, front-cost}

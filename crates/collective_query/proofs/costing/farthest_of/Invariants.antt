@@ -1,5 +1,5 @@
 use Rattle.std.proofs.Common.{◌≡◌, ◌≤◌, take}
-use Rattle.place_map.specs.Group.{farthest}
+use Rattle.place_values.specs.Group.{farthest}
 use Rattle.collective_query.proofs.costing.farthest_of.Given as goal
 
 abbrev pub invariant-loop-pick : goal.invariant-loop-pick

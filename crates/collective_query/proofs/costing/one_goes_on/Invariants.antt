@@ -1,7 +1,7 @@
 use Rattle.std.proofs.Common.{◌+◌, ◌≤◌, max, take}
 use Rattle.std.specs.List.{AllByRecursion}
-use Rattle.place_map.specs.declared.query.Pick.{Pick}
-use Rattle.place_map.specs.Group.{farthest}
+use Rattle.place_values.specs.declared.query.Pick.{Pick}
+use Rattle.place_values.specs.Group.{farthest}
 use Rattle.collective_query.proofs.costing.one_goes_on.Given as goal
 
 -- none so far goes on for less

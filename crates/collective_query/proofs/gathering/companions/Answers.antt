@@ -1,9 +1,9 @@
 use Rattle.std.proofs.Common.{◌≡◌, ◌++◌, ℕ, List, Vec, Global, None, sym, subst, arith}
 use Rattle.std.proofs.lemmas.Result.{IfOk-weaker}
 use Rattle.page_face.specs.FreeList.{PageMap}
-use Rattle.place_map.specs.declared.query.Pick.{Pick}
-use Rattle.rtree_shape.specs.Slots.{NodeMap}
-use Rattle.tree_ranking.specs.Fits.{nodes_at}
+use Rattle.place_values.specs.declared.query.Pick.{Pick}
+use Rattle.rtree_nodes.specs.Slots.{NodeMap}
+use Rattle.best_first.specs.Fits.{nodes_at}
 use Rattle.collective_query.specs.Choices.{IsInBoth, IsCut}
 use Rattle.collective_query.specs.Leads.{IsBeside, IsWanted}
 use Rattle.collective_query.specs.Opened.{FindsPicks}
@@ -18,14 +18,14 @@ returns-in-Some-clause-cut g c = λ fits same.
     let tree = c.args.tree.now in
     let ids = c.args.ids.now in
     let at = c.args.at.now in
-    let lead : Pick = c.args.lead.now in
+    let anchor : Pick = c.args.anchor.now in
     let most = c.in-Some.most in
     let radius = c.saturating_sub-radius.result in
     let word : List ℕ = c.args.word.now in
     let all : List Pick = tree_picks ids at (nodes_at (g.P.Pages.pages c.args.pages.now) tree) tree.root word in
-    let both : Pick → Type 0 = IsInBoth at most lead.point radius in
-    let beside : Pick → Type 0 = IsBeside at lead most in
-    let wider : (pick : Pick) → beside pick → both pick = λ pick h. (h.0, let near = h.1 in let left = c.saturating_sub-radius.ensures in let far = c.requires.lead_measured in omega arith) in
+    let both : Pick → Type 0 = IsInBoth at most anchor.point radius in
+    let beside : Pick → Type 0 = IsBeside at anchor most in
+    let wider : (pick : Pick) → beside pick → both pick = λ pick h. (h.0, let near = h.1 in let left = c.saturating_sub-radius.ensures in let far = c.requires.anchor_measured in omega arith) in
     rw (c.if-is_own.false, c.in-Some.is)
     (IfOk-weaker c.candidates.result (λ (picks : Vec Pick Global). IsCut both all picks.items) (λ (picks : Vec Pick Global). IsCut beside all picks.items)
     (λ picks is. cut-wider both beside all picks.items wider is) (c.candidates.ensures.cut fits same))
@@ -35,13 +35,13 @@ returns-in-None-clause-cut g c = λ fits same.
     let tree = c.args.tree.now in
     let ids = c.args.ids.now in
     let at = c.args.at.now in
-    let lead : Pick = c.args.lead.now in
+    let anchor : Pick = c.args.anchor.now in
     let word : List ℕ = c.args.word.now in
     let nodes : NodeMap = nodes_at (g.P.Pages.pages c.args.pages.now) tree in
     let all : List Pick = tree_picks ids at nodes tree.root word in
-    let firsts : List Pick = first_picks ids at lead.point nodes tree.root word in
-    let wanted : Pick → Type 0 = IsWanted at lead None in
-    let cut : IsCut wanted all firsts = record { among = first-among ids at lead.point nodes tree.root word; whole = λ pick one none. absurd none } in
+    let firsts : List Pick = first_picks ids at anchor.point nodes tree.root word in
+    let wanted : Pick → Type 0 = IsWanted at anchor None in
+    let cut : IsCut wanted all firsts = record { among = first-among ids at anchor.point nodes tree.root word; whole = λ pick one none. absurd none } in
     rw (c.if-is_own.false, c.in-None.is)
     (IfOk-weaker c.nearest_picks.result (λ (picks : Vec Pick Global). picks.items ≡ firsts) (λ (picks : Vec Pick Global). IsCut wanted all picks.items)
     (λ picks is. subst (IsCut wanted all) (sym is) cut) (c.nearest_picks.ensures.picks fits))

@@ -1,8 +1,8 @@
 use Rattle.std.proofs.Common.{◌≡◌, ℕ, List, Vec, Global, ◌++◌, take, Ok}
 use Rattle.std.specs.List.{AllByRecursion, Contains}
-use Rattle.place_map.specs.declared.query.Pick.{Pick}
-use Rattle.place_map.specs.Search.{lists_in}
-use Rattle.tree_ranking.specs.Fits.{FitsTree, nodes_at}
+use Rattle.place_values.specs.declared.query.Pick.{Pick}
+use Rattle.place_values.specs.Search.{lists_in}
+use Rattle.best_first.specs.Fits.{FitsTree, nodes_at}
 use Rattle.collective_query.specs.Choices.{AreCut}
 use Rattle.collective_query.specs.Leads.{led_by, IsWanted}
 use Rattle.collective_query.specs.Opened.{FindsPicks}
@@ -19,11 +19,11 @@ invariant-loop-index g l =
     record {
       cut : FitsTree (p.pages l.fn.pages) (p.count l.fn.pages) (p.first l.fn.pages) l.tree
           → lists_in l.nearest ≡ first_lists l.ids l.at nodes l.tree.root l.words
-          → AreCut (IsWanted l.at l.lead l.most) (take l.index (led_by l.own l.lead (tree_lists l.ids l.at nodes l.tree.root l.words))) (lists_in l.lists.items);
+          → AreCut (IsWanted l.at l.anchor l.most) (take l.index (led_by l.own l.anchor (tree_lists l.ids l.at nodes l.tree.root l.words))) (lists_in l.lists.items);
       near : AllByRecursion (λ (list : Vec Pick Global). AreNear list.items) l.lists.items;
       measured : AllByRecursion (λ (list : Vec Pick Global). AreMeasured l.at list.items) l.lists.items;
       opened : FitsTree (p.pages l.fn.pages) (p.count l.fn.pages) (p.first l.fn.pages) l.tree
-          → (before : List ℕ) → (found : List Pick) → ((pick : Pick) → Contains (picks_of l.nearest) pick → Contains found pick) → Contains found l.lead
+          → (before : List ℕ) → (found : List Pick) → ((pick : Pick) → Contains (picks_of l.nearest) pick → Contains found pick) → Contains found l.anchor
           → FindsPicks (p.pages l.fn.pages) l.tree l.ids l.at l.words before (p.asked l.fn.pages) found
           → FindsPicks (p.pages l.fn.pages) l.tree l.ids l.at l.words before (p.asked l.pages) (found ++ picks_of l.lists.items);
       search : Searches {X = ℕ} p l.tree l.fn.pages l.pages (Ok 0);

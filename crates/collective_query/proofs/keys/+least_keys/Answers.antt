@@ -2,8 +2,8 @@ use Rattle.std.proofs.Common.{◌≡◌, ◌++◌, ◌∷◌, [], List, Vec, Som
 use Rattle.std.specs.List.{AllByRecursion, Contains}
 use Rattle.std.specs.declared.alloc.Global.{Global}
 use Rattle.spatial_base.specs.Point.{Position, distance}
-use Rattle.place_map.specs.declared.query.Pick.{Pick}
-use Rattle.place_map.specs.Search.{lists_in}
+use Rattle.place_values.specs.declared.query.Pick.{Pick}
+use Rattle.place_values.specs.Search.{lists_in}
 use Rattle.collective_query.specs.Fronts.{Completes, IsNext, HasLeastKeys}
 use Rattle.collective_query.specs.Picks.{AreMeasured}
 use Rattle.collective_query.proofs.Costs.{far-pushed, wide-pushed}

@@ -1,8 +1,8 @@
 use Rattle.std.proofs.Common.{◌++◌, ◌+◌, ◌<◌, ◌≤◌, List, sym, subst, arith}
 use Rattle.std.proofs.lemmas.Bool.{leb-true, leb-false}
-use Rattle.place_map.specs.declared.query.Pick.{Pick}
-use Rattle.place_map.specs.Search.{lists_in}
-use Rattle.place_map.specs.Group.{choice_cost}
+use Rattle.place_values.specs.declared.query.Pick.{Pick}
+use Rattle.place_values.specs.Search.{lists_in}
+use Rattle.place_values.specs.Group.{choice_cost}
 use Rattle.collective_query.specs.Fronts.{Completes}
 use Rattle.collective_query.proofs.Costs.{far-pushed, wide-pushed}
 use Rattle.collective_query.proofs.Fronts.{completes-more}

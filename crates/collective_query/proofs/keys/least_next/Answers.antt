@@ -3,9 +3,9 @@ use Rattle.std.proofs.lemmas.List.{take_more}
 use Rattle.std.proofs.lemmas.List.Elements.{Contains-get_or}
 use Rattle.std.specs.List.{Contains}
 use Rattle.spatial_base.specs.Point.{distance}
-use Rattle.place_map.specs.declared.query.Pick.{Pick}
-use Rattle.place_map.specs.Group.{farthest, diameter}
-use Rattle.place_map.specs.Search.{lists_in}
+use Rattle.place_values.specs.declared.query.Pick.{Pick}
+use Rattle.place_values.specs.Group.{farthest, diameter}
+use Rattle.place_values.specs.Search.{lists_in}
 use Rattle.collective_query.specs.Fronts.{IsNext}
 use Rattle.collective_query.proofs.keys.least_next.Goals as goal
 use Rattle.boolean_queries.proofs.Histories.{all-contained}

@@ -2,9 +2,9 @@ use Rattle.std.proofs.Common.{◌≡◌, ◌≤◌, Vec, IfSome, take}
 use Rattle.std.specs.List.{AllByRecursion}
 use Rattle.std.specs.declared.alloc.Global.{Global}
 use Rattle.spatial_base.specs.Point.{Position}
-use Rattle.place_map.specs.declared.query.Pick.{Pick}
-use Rattle.place_map.specs.Group.{farthest, diameter}
-use Rattle.place_map.specs.Search.{lists_in}
+use Rattle.place_values.specs.declared.query.Pick.{Pick}
+use Rattle.place_values.specs.Group.{farthest, diameter}
+use Rattle.place_values.specs.Search.{lists_in}
 use Rattle.collective_query.specs.Fronts.{IsNext}
 use Rattle.collective_query.specs.Picks.{AreMeasured}
 use Rattle.collective_query.proofs.keys.least_next.Given as goal

@@ -3,10 +3,10 @@ use Rattle.std.proofs.lemmas.List.{map-append, take_more}
 use Rattle.std.proofs.lemmas.List.Elements.{Contains-get_or}
 use Rattle.std.specs.List.{AllByRecursion, Contains}
 use Rattle.page_face.specs.FreeList.{PageMap}
-use Rattle.best_first.proofs.Lists.{all_append}
-use Rattle.place_map.specs.declared.query.Pick.{Pick}
-use Rattle.place_map.specs.Search.{lists_in}
-use Rattle.tree_ranking.specs.Fits.{FitsTree, nodes_at}
+use Rattle.best_first.specs.Lists.{all_append}
+use Rattle.place_values.specs.declared.query.Pick.{Pick}
+use Rattle.place_values.specs.Search.{lists_in}
+use Rattle.best_first.specs.Fits.{FitsTree, nodes_at}
 use Rattle.collective_query.specs.Opened.{FindsPicks}
 use Rattle.collective_query.specs.Picks.{AreNear, AreMeasured}
 use Rattle.collective_query.specs.TreePicks.{first_picks}

@@ -1,8 +1,8 @@
 use Rattle.std.proofs.Common.{◌≡◌, ℕ, Vec, Global, take, Ok}
 use Rattle.std.specs.List.{AllByRecursion}
-use Rattle.place_map.specs.declared.query.Pick.{Pick}
-use Rattle.place_map.specs.Search.{lists_in}
-use Rattle.tree_ranking.specs.Fits.{FitsTree, nodes_at}
+use Rattle.place_values.specs.declared.query.Pick.{Pick}
+use Rattle.place_values.specs.Search.{lists_in}
+use Rattle.best_first.specs.Fits.{FitsTree, nodes_at}
 use Rattle.collective_query.specs.Opened.{FindsPicks}
 use Rattle.collective_query.specs.Picks.{AreNear, AreMeasured, picks_of}
 use Rattle.collective_query.specs.Searches.{Searches}

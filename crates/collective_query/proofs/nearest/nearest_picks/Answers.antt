@@ -1,7 +1,7 @@
 use Rattle.std.proofs.Common.{◌∙◌, ◌≤◌, ℕ, ℤ, List, map, refl, sym, ap, subst, unsigned_abs}
 use Rattle.page_face.specs.FreeList.{PageMap}
-use Rattle.place_map.specs.declared.hit.Hit.{Hit}
-use Rattle.place_map.specs.declared.query.Expr.TheVariants.{Has}
+use Rattle.place_values.specs.declared.hit.Hit.{Hit}
+use Rattle.place_values.specs.declared.query.Expr.TheVariants.{Has}
 use Rattle.collective_query.specs.Opened.{FindsPicks}
 use Rattle.collective_query.specs.TreePicks.{pick_from}
 use Rattle.collective_query.proofs.Opened.{nearest-finds}

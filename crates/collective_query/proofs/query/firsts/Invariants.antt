@@ -1,5 +1,5 @@
 use Rattle.std.proofs.Common.{take}
-use Rattle.place_map.specs.Search.{lists_in}
+use Rattle.place_values.specs.Search.{lists_in}
 use Rattle.collective_query.specs.Choices.{IsChoice}
 use Rattle.collective_query.proofs.query.firsts.Given as goal
 

@@ -4,12 +4,12 @@ use Rattle.std.proofs.lemmas.List.Elements.{Contains-append_cases}
 use Rattle.std.specs.List.{AllByRecursion, Contains}
 use Rattle.page_face.specs.FreeList.{PageMap}
 use Rattle.spatial_base.specs.Point.{Position}
-use Rattle.place_map.specs.declared.query.Pick.{Pick}
-use Rattle.place_map.specs.declared.query.Chosen.{Chosen}
-use Rattle.place_map.specs.Group.{least_of}
-use Rattle.place_map.specs.Search.{lists_in}
-use Rattle.rtree_shape.specs.Slots.{NodeMap}
-use Rattle.tree_ranking.specs.Fits.{FitsTree, nodes_at}
+use Rattle.place_values.specs.declared.query.Pick.{Pick}
+use Rattle.place_values.specs.declared.query.Chosen.{Chosen}
+use Rattle.place_values.specs.Group.{least_of}
+use Rattle.place_values.specs.Search.{lists_in}
+use Rattle.rtree_nodes.specs.Slots.{NodeMap}
+use Rattle.best_first.specs.Fits.{FitsTree, nodes_at}
 use Rattle.collective_query.specs.Opened.{FindsPicks}
 use Rattle.collective_query.specs.Picks.{AreMeasured, GoesBeyond, picks_of}
 use Rattle.collective_query.specs.TreePicks.{tree_lists, first_picks, first_lists}
@@ -76,11 +76,11 @@ returns-in_default-clause-opened g c = λ fits.
     let begun : Leads at best nearest = subst (Leads at best) c.deref.ensures.value (subst (IsLeast at (lists_in c.deref.result.now)) c.in-Ok-Some.field-0-is (c.in-Ok-Some.ensures.least measured)) in
     finds-fewer old tree ids at words (P.asked c.args.pages.now) (P.asked c.nearest_each.new.pages) (picks_of nearest) best.picks (choice-picks nearest best.picks begun.0.choice) (c.in-Ok.ensures.opened fits)
 
-pub search_by_lead-requires-clause-measured : goal.search_by_lead-requires-clause-measured
-search_by_lead-requires-clause-measured g c = subst (Measured c.args.at.now) (sym c.deref-3.ensures.value) c.in-Ok.ensures.measured
+pub search_by_anchor-requires-clause-measured : goal.search_by_anchor-requires-clause-measured
+search_by_anchor-requires-clause-measured g c = subst (Measured c.args.at.now) (sym c.deref-3.ensures.value) c.in-Ok.ensures.measured
 
-pub returns-in-Ok-search_by_lead-clause-chosen : goal.returns-in-Ok-search_by_lead-clause-chosen
-returns-in-Ok-search_by_lead-clause-chosen g c = λ fits.
+pub returns-in-Ok-search_by_anchor-clause-chosen : goal.returns-in-Ok-search_by_anchor-clause-chosen
+returns-in-Ok-search_by_anchor-clause-chosen g c = λ fits.
     let P = g.P.Pages in
     let f = c.nearest_each.ensures.search.frame in
     let tree = c.args.tree.now in
@@ -91,10 +91,10 @@ returns-in-Ok-search_by_lead-clause-chosen g c = λ fits.
     let mid : PageMap = P.pages c.nearest_each.new.pages in
     let before : List ℕ = P.asked c.args.pages.now in
     let between : List ℕ = P.asked c.nearest_each.new.pages in
-    let after : List ℕ = P.asked c.search_by_lead.new.pages in
+    let after : List ℕ = P.asked c.search_by_anchor.new.pages in
     let nearest : List (Vec Pick Global) = c.in-Ok.nearest.items in
     let best : Chosen = c.in-Ok-Some.best in
-    let new : Chosen = c.search_by_lead.new.best in
+    let new : Chosen = c.search_by_anchor.new.best in
     let all : PageMap → List (List Pick) = λ p. tree_lists ids at (nodes_at p tree) tree.root words in
     let firsts : PageMap → List (List Pick) = λ p. first_lists ids at (nodes_at p tree) tree.root words in
     let kept : lists_in nearest ≡ firsts old = c.in-Ok.ensures.lists fits in
@@ -112,15 +112,15 @@ returns-in-Ok-search_by_lead-clause-chosen g c = λ fits.
     let there : List (Vec Pick Global) = c.deref-3.result.now in
     let found : (IsChosen at (all old) new × IsFirst at (all old) new) × FindsPicks old tree ids at words before after new.picks =
     subst (λ (p : PageMap). (IsChosen at (all p) new × IsFirst at (all p) new) × FindsPicks p tree ids at words before after new.picks) f.pages
-    (c.in-Ok-search_by_lead.ensures.least still
+    (c.in-Ok-search_by_anchor.ensures.least still
     (ap lists_in c.deref-3.ensures.value ∙ kept ∙ ap firsts (sym f.pages)) inside
     (subst (λ (p : PageMap). IsChosen at (all p) best) (sym f.pages) chosen) before
     (subst (λ (l : List (Vec Pick Global)). FindsPicks mid tree ids at words before between (picks_of l ++ best.picks)) (sym c.deref-3.ensures.value)
     (subst (λ (p : PageMap). FindsPicks p tree ids at words before between (picks_of nearest ++ best.picks)) (sym f.pages) few))) in
     first-least at (all old) new found.0.0 found.0.1
 
-pub returns-in-Ok-search_by_lead-clause-opened : goal.returns-in-Ok-search_by_lead-clause-opened
-returns-in-Ok-search_by_lead-clause-opened g c = λ fits.
+pub returns-in-Ok-search_by_anchor-clause-opened : goal.returns-in-Ok-search_by_anchor-clause-opened
+returns-in-Ok-search_by_anchor-clause-opened g c = λ fits.
     let P = g.P.Pages in
     let f = c.nearest_each.ensures.search.frame in
     let tree = c.args.tree.now in
@@ -131,10 +131,10 @@ returns-in-Ok-search_by_lead-clause-opened g c = λ fits.
     let mid : PageMap = P.pages c.nearest_each.new.pages in
     let before : List ℕ = P.asked c.args.pages.now in
     let between : List ℕ = P.asked c.nearest_each.new.pages in
-    let after : List ℕ = P.asked c.search_by_lead.new.pages in
+    let after : List ℕ = P.asked c.search_by_anchor.new.pages in
     let nearest : List (Vec Pick Global) = c.in-Ok.nearest.items in
     let best : Chosen = c.in-Ok-Some.best in
-    let new : Chosen = c.search_by_lead.new.best in
+    let new : Chosen = c.search_by_anchor.new.best in
     let all : PageMap → List (List Pick) = λ p. tree_lists ids at (nodes_at p tree) tree.root words in
     let firsts : PageMap → List (List Pick) = λ p. first_lists ids at (nodes_at p tree) tree.root words in
     let kept : lists_in nearest ≡ firsts old = c.in-Ok.ensures.lists fits in
@@ -152,7 +152,7 @@ returns-in-Ok-search_by_lead-clause-opened g c = λ fits.
     let there : List (Vec Pick Global) = c.deref-3.result.now in
     let found : (IsChosen at (all old) new × IsFirst at (all old) new) × FindsPicks old tree ids at words before after new.picks =
     subst (λ (p : PageMap). (IsChosen at (all p) new × IsFirst at (all p) new) × FindsPicks p tree ids at words before after new.picks) f.pages
-    (c.in-Ok-search_by_lead.ensures.least still
+    (c.in-Ok-search_by_anchor.ensures.least still
     (ap lists_in c.deref-3.ensures.value ∙ kept ∙ ap firsts (sym f.pages)) inside
     (subst (λ (p : PageMap). IsChosen at (all p) best) (sym f.pages) chosen) before
     (subst (λ (l : List (Vec Pick Global)). FindsPicks mid tree ids at words before between (picks_of l ++ best.picks)) (sym c.deref-3.ensures.value)
@@ -161,5 +161,5 @@ returns-in-Ok-search_by_lead-clause-opened g c = λ fits.
 
 pub returns-clause-damaged : goal.returns-clause-damaged
 returns-clause-damaged g c =
-    (searches-refused g.P.Pages c.args.tree.now _ _ _ _ c.in-Err-search_by_lead.is
-    (searches-then {X = ℕ} g.P.Pages g.met.P.Pages.goes_further g.met.P.Pages.reads_further c.args.tree.now _ _ _ _ _ (searches-give g.P.Pages c.args.tree.now _ _ _ _ 0 c.in-Ok.is c.nearest_each.ensures.search) c.search_by_lead.ensures.search)).damaged
+    (searches-refused g.P.Pages c.args.tree.now _ _ _ _ c.in-Err-search_by_anchor.is
+    (searches-then {X = ℕ} g.P.Pages g.met.P.Pages.goes_further g.met.P.Pages.reads_further c.args.tree.now _ _ _ _ _ (searches-give g.P.Pages c.args.tree.now _ _ _ _ 0 c.in-Ok.is c.nearest_each.ensures.search) c.search_by_anchor.ensures.search)).damaged

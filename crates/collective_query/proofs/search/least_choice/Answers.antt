@@ -3,9 +3,9 @@ use Rattle.std.proofs.lemmas.Result.{on_ok_weaker}
 use Rattle.std.specs.List.{Contains}
 use Rattle.std.specs.declared.alloc.Global.{Global}
 use Rattle.spatial_base.specs.Point.{Position}
-use Rattle.place_map.specs.declared.query.Pick.{Pick}
-use Rattle.place_map.specs.Group.{product, least_of, farthest, diameter, choice_cost}
-use Rattle.place_map.specs.Search.{lists_in}
+use Rattle.place_values.specs.declared.query.Pick.{Pick}
+use Rattle.place_values.specs.Group.{product, least_of, farthest, diameter, choice_cost}
+use Rattle.place_values.specs.Search.{lists_in}
 use Rattle.collective_query.specs.Choices.{IsChoice}
 use Rattle.collective_query.specs.Fronts.{Completes, HasLeastKeys}
 use Rattle.collective_query.proofs.Searched.{Each, each-among, none-cheaper, none-found, one-found, front-costs, no-lists, nothing-completed}

@@ -1,5 +1,5 @@
 use Rattle.std.proofs.Common.{Some, refl, sym, ◌∙◌, ap, cond}
-use Rattle.place_map.specs.GroupLaws.{pushed_next, with_cost}
+use Rattle.place_values.specs.GroupLaws.{pushed_next, with_cost}
 use Rattle.collective_query.proofs.search.offer.Goals as goal
 
 pub returns-in_ok-from_slice-clause-least : goal.returns-in_ok-from_slice-clause-least

@@ -4,9 +4,9 @@ use Rattle.page_face.specs.declared.head.Head.{Head}
 use Rattle.btree_nodes.specs.Supply.{view}
 use Rattle.store_tables.specs.declared.tables.Tables.{Tables}
 use Rattle.store_tables.specs.Holding.{Holds, IsApart, IsChanged}
-use Rattle.store_meaning.specs.Ahead.{CanHoldAhead, StandAhead, held_ahead}
-use Rattle.store_meaning.specs.Stands.{tables_in}
-use Rattle.store_meaning.proofs.Gathered.{few-counted}
+use Rattle.store_model.specs.Ahead.{CanHoldAhead, StandAhead, held_ahead}
+use Rattle.store_model.specs.Stands.{tables_in}
+use Rattle.store_model.proofs.Gathered.{few-counted}
 use Rattle.irtree_engine.specs.declared.fault.EngineFault.{EngineFault}
 use Rattle.irtree_engine.specs.declared.fault.EngineFault.TheVariants.{Damaged}
 use Rattle.irtree_engine.specs.Changes.{AreNumbersAhead, block_with, head_at}
@@ -45,7 +45,7 @@ returns-in_err-numbers-clause-due g c = λ state stand told.
     let passed = err_from_is_err_and c.from_residual-in_err-numbers.result c.from_residual-in_err-numbers.ensures.1 in
     subst (λ (r : Result _ EngineFault). IfErr r (IsDueTo outcome)) (sym passed.1)
     (passed-due outcome c.in_err-numbers.field-0.0 passed.0 passed.2
-    (λ damage is. c.in_err-numbers.ensures.honest stand.entries stand.tables.free holds apart can told damage (ap Err is)))
+    (λ damage is. c.in_err-numbers.ensures.no_false_damage stand.entries stand.tables.free holds apart can told damage (ap Err is)))
 
 pub returns-clause-begun : goal.returns-clause-begun
 returns-clause-begun g c = λ state stand.

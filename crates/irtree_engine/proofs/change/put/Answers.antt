@@ -3,25 +3,25 @@ use Rattle.std.specs.Option.{option_copied}
 use Rattle.std.proofs.lemmas.Result.{err_from_is_err_and}
 use Rattle.page_face.specs.FreeList.{PageMap}
 use Rattle.page_face.specs.declared.head.Head.{Head}
-use Rattle.btree_nodes.specs.Damages.{AreTold}
+use Rattle.btree_nodes.specs.Damages.{AreReadable}
 use Rattle.btree_nodes.specs.Supply.{view}
 use Rattle.paged_map.specs.Maps.{AreCounted}
 use Rattle.row_codec.specs.declared.stored.Stored.{Stored}
 use Rattle.node_rows.specs.declared.roots.Tree.{Tree}
-use Rattle.rtree_shape.specs.Stock as stock
+use Rattle.rtree_nodes.specs.Stock as stock
 use Rattle.rtree_nodes.specs.Pages.{node_of}
 use Rattle.irtree_shape.specs.Made.{nodes_in}
 use Rattle.irtree_shape.specs.Whole.{IsWhole}
 use Rattle.irtree_shape.specs.Entries.{HasEntry, entry_at}
 use Rattle.irtree_shape.specs.Regrown.{IsRegrown}
-use Rattle.place_map.specs.declared.place.Place.{Place}
-use Rattle.place_map.specs.declared.update.Applied.{Applied}
-use Rattle.place_map.specs.declared.update.Applied.TheVariants.{New, Replaced}
-use Rattle.place_map.specs.Update.{Effect, put_at}
-use Rattle.place_map.specs.declared.update.Update.TheVariants.{Put}
-use Rattle.store_meaning.specs.Ahead.{StandAhead, after_put_by, claimed, next_by, pairs_by}
-use Rattle.store_meaning.specs.Stands.{tables_in}
-use Rattle.store_meaning.specs.Updates.{by_number, stored_with}
+use Rattle.place_values.specs.declared.place.Place.{Place}
+use Rattle.place_values.specs.declared.update.Applied.{Applied}
+use Rattle.place_values.specs.declared.update.Applied.TheVariants.{New, Replaced}
+use Rattle.place_values.specs.Update.{Effect, put_at}
+use Rattle.place_values.specs.declared.update.Update.TheVariants.{Put}
+use Rattle.store_model.specs.Ahead.{StandAhead, after_put_by, claimed, next_by, pairs_by}
+use Rattle.store_model.specs.Stands.{tables_in}
+use Rattle.store_model.specs.Updates.{by_number, stored_with}
 use Rattle.store_tables.specs.declared.tables.Tables.{Tables}
 use Rattle.store_tables.specs.Entries.{place_of_key}
 use Rattle.store_tables.specs.Holding.{Holds, IsApart, IsChanged, table_uses}
@@ -58,7 +58,7 @@ returns-in_err-old-clause-due g c = λ state name left stand told.
     let holds : Holds pages tables stand.stand.entries = subst (λ (t : Tables). Holds pages t stand.stand.entries) (sym c.tables_of-tables.ensures) stand.stand.tables.holds in
     let counted : AreCounted (table_uses pages tables) (g.P.Pages.count c.args.pages.now) = subst (λ (t : Tables). AreCounted (table_uses pages t) (g.P.Pages.count c.args.pages.now)) (sym c.tables_of-tables.ensures) (stand-counted stand.stand) in
     subst (λ (r : Result Applied EngineFault). IfErr r (IsDueTo outcome)) (sym passed.1)
-    (passed-due outcome c.in_err-old.field-0.0 passed.0 passed.2 (λ damage is. c.place.ensures.honest stand.stand.entries holds told counted damage (c.in_err-old.was ∙ ap Err is)))
+    (passed-due outcome c.in_err-old.field-0.0 passed.0 passed.2 (λ damage is. c.place.ensures.no_false_damage stand.stand.entries holds told counted damage (c.in_err-old.was ∙ ap Err is)))
 
 -- src/change.rt:209:9
 pub returns-then-head-ge-PLACES_MAX-clause-due : goal.returns-then-head-ge-PLACES_MAX-clause-due
@@ -122,11 +122,11 @@ returns-in_err-new-clause-due g c = λ state name left stand told.
     subst (λ (t : Tables). IsApart (view (g.P.Pages.pages mid) (g.P.Pages.count mid) (g.P.Pages.first mid) there.tables.free) t) (sym tables_are) there.tables.apart in
     let agree : WordTablesAgree (λ n. claimed numbers (Put name c.args.point c.args.words.now ∷ left) n (holders n there.entries.places)) there.entries.texts there.entries.numbers tables.next_word =
     subst (λ (t : Tables). WordTablesAgree (λ n. claimed numbers (Put name c.args.point c.args.words.now ∷ left) n (holders n there.entries.places)) there.entries.texts there.entries.numbers t.next_word) (sym tables_are) there.tables.sound.words in
-    let told_there : AreTold (g.P.Pages.pages mid) (g.P.Pages.count mid) =
-    subst (λ (p : PageMap). AreTold p (g.P.Pages.count mid)) (sym c.place.ensures.frame.pages) (subst (λ n. AreTold (g.P.Pages.pages old) n) (sym c.place.ensures.frame.count) told) in
+    let told_there : AreReadable (g.P.Pages.pages mid) (g.P.Pages.count mid) =
+    subst (λ (p : PageMap). AreReadable p (g.P.Pages.count mid)) (sym c.place.ensures.frame.pages) (subst (λ n. AreReadable (g.P.Pages.pages old) n) (sym c.place.ensures.frame.count) told) in
     subst (λ (r : Result Applied EngineFault). IfErr r (IsDueTo outcome)) (sym passed.1)
     (passed-due outcome c.in_err-new.field-0.0 passed.0 passed.2
-    (λ damage is. c.put_in_batch.ensures.honest there.entries there.tables.free holds apart (c.as_ref.ensures.value ∙ is_found) few name left agree ahead.named told_there damage (c.in_err-new.was ∙ ap Err is)))
+    (λ damage is. c.put_in_batch.ensures.no_false_damage there.entries there.tables.free holds apart (c.as_ref.ensures.value ∙ is_found) few name left agree ahead.named told_there damage (c.in_err-new.was ∙ ap Err is)))
 
 -- src/change.rt:219:5
 pub returns-in_err-put_entry-clause-due : goal.returns-in_err-put_entry-clause-due
@@ -157,13 +157,13 @@ returns-in_err-put_entry-clause-due g c = λ state name left stand told.
     let has : IfSome (option_copied c.as_ref-2.result) (HasEntry (nodes_in node_of (g.P.Pages.pages after) c.tree_of-tree.result.rows) c.tree_of-tree.result.root c.args.key.now) =
     subst₂ (λ (found : Option Stored) (t : Tree). IfSome found (HasEntry (nodes_in node_of (g.P.Pages.pages after) t.rows) t.root c.args.key.now)) (sym c.as_ref-2.ensures.value) (sym tree_is)
     (tree-has block (g.P.Pages.pages mid) state there (g.P.Pages.pages after) (g.P.Pages.count after) (g.P.Pages.first after) now (after_put_by numbers c.args.key.now c.args.point c.args.words.now head.next_word there.entries) moves c.args.key.now c.in_ok-old.old is_found) in
-    let told_there : AreTold (g.P.Pages.pages mid) (g.P.Pages.count mid) =
-    subst (λ (p : PageMap). AreTold p (g.P.Pages.count mid)) (sym c.place.ensures.frame.pages) (subst (λ n. AreTold (g.P.Pages.pages old) n) (sym c.place.ensures.frame.count) told) in
+    let told_there : AreReadable (g.P.Pages.pages mid) (g.P.Pages.count mid) =
+    subst (λ (p : PageMap). AreReadable p (g.P.Pages.count mid)) (sym c.place.ensures.frame.pages) (subst (λ n. AreReadable (g.P.Pages.pages old) n) (sym c.place.ensures.frame.count) told) in
     let told_after = told-changed (view (g.P.Pages.pages mid) (g.P.Pages.count mid) (g.P.Pages.first mid) there.tables.free) (tables_in head) (g.P.Pages.pages after) (g.P.Pages.count after) (g.P.Pages.first after) now (after_put_by numbers c.args.key.now c.args.point c.args.words.now head.next_word there.entries) moves told_there in
     let passed = err_from_is_err_and c.from_residual-in_err-put_entry.result c.from_residual-in_err-put_entry.ensures.1 in
     subst (λ (r : Result Applied EngineFault). IfErr r (IsDueTo outcome)) (sym passed.1)
     (passed-due outcome c.in_err-put_entry.field-0.0 passed.0 passed.2
-    (λ damage is. c.put_entry.ensures.honest moves.free whole has told_after damage (c.in_err-put_entry.was ∙ ap Err is)))
+    (λ damage is. c.put_entry.ensures.no_false_damage moves.free whole has told_after damage (c.in_err-put_entry.was ∙ ap Err is)))
 
 -- src/change.rt:175:1
 pub returns-then-is_new-3-clause-updated : goal.returns-then-is_new-3-clause-updated

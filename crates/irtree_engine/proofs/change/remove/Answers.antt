@@ -2,23 +2,23 @@ use Rattle.std.proofs.Common.{◌≡◌, ⊎_elim, ℕ, ◌-◌, ◌^◌, true, 
 use Rattle.std.proofs.lemmas.Result.{err_from_is_err_and}
 use Rattle.page_face.specs.FreeList.{PageMap}
 use Rattle.page_face.specs.declared.head.Head.{Head}
-use Rattle.btree_nodes.specs.Damages.{AreTold}
+use Rattle.btree_nodes.specs.Damages.{AreReadable}
 use Rattle.btree_nodes.specs.Supply.{view}
 use Rattle.paged_map.specs.Maps.{AreCounted}
 use Rattle.node_rows.specs.declared.roots.Tree.{Tree}
-use Rattle.rtree_shape.specs.Stock as stock
+use Rattle.rtree_nodes.specs.Stock as stock
 use Rattle.rtree_nodes.specs.Pages.{node_of}
 use Rattle.irtree_shape.specs.Made.{nodes_in}
 use Rattle.irtree_shape.specs.Whole.{IsWhole}
 use Rattle.irtree_shape.specs.Entries.{HasEntry, entry_at}
 use Rattle.irtree_shape.specs.Regrown.{IsRegrown}
-use Rattle.place_map.specs.declared.update.Applied.{Applied}
-use Rattle.place_map.specs.Update.{Effect, removed_at}
-use Rattle.place_map.specs.declared.update.Update.TheVariants.{Remove}
-use Rattle.store_meaning.specs.Ahead.{StandAhead, claimed}
-use Rattle.store_meaning.specs.Stands.{tables_in}
-use Rattle.store_meaning.proofs.Batches.{counting-claimed, stand-absent}
-use Rattle.store_meaning.specs.Updates.{after_remove}
+use Rattle.place_values.specs.declared.update.Applied.{Applied}
+use Rattle.place_values.specs.Update.{Effect, removed_at}
+use Rattle.place_values.specs.declared.update.Update.TheVariants.{Remove}
+use Rattle.store_model.specs.Ahead.{StandAhead, claimed}
+use Rattle.store_model.specs.Stands.{tables_in}
+use Rattle.store_model.proofs.Batches.{counting-claimed, stand-absent}
+use Rattle.store_model.specs.Updates.{after_remove}
 use Rattle.row_codec.specs.declared.stored.Stored.{Stored}
 use Rattle.store_tables.specs.declared.tables.Tables.{Tables}
 use Rattle.store_tables.specs.Entries.{place_of_key}
@@ -55,7 +55,7 @@ returns-in_err-old-clause-due g c = λ state left stand told.
     let holds : Holds pages tables stand.stand.entries = subst (λ (t : Tables). Holds pages t stand.stand.entries) (sym c.tables_of-tables.ensures) stand.stand.tables.holds in
     let counted : AreCounted (table_uses pages tables) (g.P.Pages.count c.args.pages.now) = subst (λ (t : Tables). AreCounted (table_uses pages t) (g.P.Pages.count c.args.pages.now)) (sym c.tables_of-tables.ensures) (stand-counted stand.stand) in
     subst (λ (r : Result Applied EngineFault). IfErr r (IsDueTo outcome)) (sym passed.1)
-    (passed-due outcome c.in_err-old.field-0.0 passed.0 passed.2 (λ damage is. c.place.ensures.honest stand.stand.entries holds told counted damage (c.in_err-old.was ∙ ap Err is)))
+    (passed-due outcome c.in_err-old.field-0.0 passed.0 passed.2 (λ damage is. c.place.ensures.no_false_damage stand.stand.entries holds told counted damage (c.in_err-old.was ∙ ap Err is)))
 
 -- src/change.rt:258:9
 pub returns-in_default-clause-updated : goal.returns-in_default-clause-updated
@@ -111,12 +111,12 @@ returns-in_err-remove_place-clause-due g c = λ state left stand told.
     let claims : ℕ → ℕ → ℕ = claimed numbers (Remove c.args.key.now ∷ left) in
     let agree : WordTablesAgree (λ n. claims n (holders n there.entries.places)) there.entries.texts there.entries.numbers tables.next_word =
     subst (λ (t : Tables). WordTablesAgree (λ n. claims n (holders n there.entries.places)) there.entries.texts there.entries.numbers t.next_word) (sym tables_are) there.tables.sound.words in
-    let told_there : AreTold (g.P.Pages.pages mid) (g.P.Pages.count mid) =
-    subst (λ (p : PageMap). AreTold p (g.P.Pages.count mid)) (sym c.place.ensures.frame.pages) (subst (λ n. AreTold (g.P.Pages.pages old) n) (sym c.place.ensures.frame.count) told) in
+    let told_there : AreReadable (g.P.Pages.pages mid) (g.P.Pages.count mid) =
+    subst (λ (p : PageMap). AreReadable p (g.P.Pages.count mid)) (sym c.place.ensures.frame.pages) (subst (λ n. AreReadable (g.P.Pages.pages old) n) (sym c.place.ensures.frame.count) told) in
     let passed = err_from_is_err_and c.from_residual-in_err-remove_place.result c.from_residual-in_err-remove_place.ensures.1 in
     subst (λ (r : Result Applied EngineFault). IfErr r (IsDueTo outcome)) (sym passed.1)
     (passed-due outcome c.in_err-remove_place.field-0.0 passed.0 passed.2
-    (λ damage is. c.remove_place.ensures.honest there.entries there.tables.free holds apart (sym is_found ∙ c.in-Some.is) claims (counting-claimed numbers (Remove c.args.key.now ∷ left)) agree told_there damage (c.in_err-remove_place.was ∙ ap Err is)))
+    (λ damage is. c.remove_place.ensures.no_false_damage there.entries there.tables.free holds apart (sym is_found ∙ c.in-Some.is) claims (counting-claimed numbers (Remove c.args.key.now ∷ left)) agree told_there damage (c.in_err-remove_place.was ∙ ap Err is)))
 
 -- src/change.rt:268:5
 pub returns-in_err-take_entry-clause-due : goal.returns-in_err-take_entry-clause-due
@@ -148,13 +148,13 @@ returns-in_err-take_entry-clause-due g c = λ state left stand told.
     (subst (λ (found : Option Stored). IfSome found (HasEntry (nodes_in node_of (g.P.Pages.pages after) head.rows) head.tree c.args.key.now)) c.in-Some.is
     (tree-has block (g.P.Pages.pages mid) state there (g.P.Pages.pages after) (g.P.Pages.count after) (g.P.Pages.first after) now (after_remove c.args.key.now there.entries) moves c.args.key.now c.in_ok-old.field-0 is_found)) in
     let outcome = (removed_at state c.args.key.now).answer in
-    let told_there : AreTold (g.P.Pages.pages mid) (g.P.Pages.count mid) =
-    subst (λ (p : PageMap). AreTold p (g.P.Pages.count mid)) (sym c.place.ensures.frame.pages) (subst (λ n. AreTold (g.P.Pages.pages old) n) (sym c.place.ensures.frame.count) told) in
+    let told_there : AreReadable (g.P.Pages.pages mid) (g.P.Pages.count mid) =
+    subst (λ (p : PageMap). AreReadable p (g.P.Pages.count mid)) (sym c.place.ensures.frame.pages) (subst (λ n. AreReadable (g.P.Pages.pages old) n) (sym c.place.ensures.frame.count) told) in
     let told_after = told-changed (view (g.P.Pages.pages mid) (g.P.Pages.count mid) (g.P.Pages.first mid) there.tables.free) (tables_in head) (g.P.Pages.pages after) (g.P.Pages.count after) (g.P.Pages.first after) now (after_remove c.args.key.now there.entries) moves told_there in
     let passed = err_from_is_err_and c.from_residual-in_err-take_entry.result c.from_residual-in_err-take_entry.ensures.1 in
     subst (λ (r : Result Applied EngineFault). IfErr r (IsDueTo outcome)) (sym passed.1)
     (passed-due outcome c.in_err-take_entry.field-0.0 passed.0 passed.2
-    (λ damage is. c.take_entry.ensures.honest moves.free whole has told_after damage (c.in_err-take_entry.was ∙ ap Err is)))
+    (λ damage is. c.take_entry.ensures.no_false_damage moves.free whole has told_after damage (c.in_err-take_entry.was ∙ ap Err is)))
 
 -- src/change.rt:230:1
 pub returns-clause-updated : goal.returns-clause-updated

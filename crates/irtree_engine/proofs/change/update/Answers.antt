@@ -1,6 +1,6 @@
 use Rattle.std.proofs.Common.{◌∷◌, []}
 use Rattle.std.proofs.lemmas.Result.{IfOk-weaker}
-use Rattle.store_meaning.proofs.Batches.{stand-plain}
+use Rattle.store_model.proofs.Batches.{stand-plain}
 use Rattle.irtree_engine.proofs.Numbers.{numbers-plain}
 use Rattle.irtree_engine.proofs.change.update.Goals as goal
 

@@ -5,8 +5,8 @@ use Rattle.irtree_engine.specs.declared.fault.EngineFault.{EngineFault}
 use Rattle.irtree_engine.specs.declared.fault.EngineFault.TheVariants.{Damaged, Disk}
 use Rattle.irtree_engine.specs.Changes.{AreNumbersAhead, block_with}
 use Rattle.page_face.proofs.Frames.{changes_then}
-use Rattle.place_map.specs.declared.update.Update.{Update}
-use Rattle.place_map.specs.Update.{NamesText}
+use Rattle.place_values.specs.declared.update.Update.{Update}
+use Rattle.place_values.specs.Update.{NamesText}
 use Rattle.irtree_engine.specs.Updates.{IsDueTo, state_after_all}
 use Rattle.irtree_engine.proofs.Batches.{updated-all, updated-due, updated-more, updated-next, updated-none}
 use Rattle.irtree_engine.proofs.Numbers.{numbers-ended}

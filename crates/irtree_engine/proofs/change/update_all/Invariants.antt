@@ -1,10 +1,10 @@
 use Rattle.std.proofs.Common.{◌≡◌, ◌+◌, ◌≤◌, length, option_map}
 use Rattle.std.specs.List.{AllByRecursion}
 use Rattle.page_face.specs.Calls.{Changes}
-use Rattle.place_map.specs.State.{Contents}
-use Rattle.store_meaning.specs.Stands.{PagesStand}
+use Rattle.place_values.specs.State.{Contents}
+use Rattle.store_model.specs.Stands.{PagesStand}
 use Rattle.irtree_engine.specs.Changes.{AreNumbersAhead, block_with}
-use Rattle.place_map.specs.Update.{NamesText}
+use Rattle.place_values.specs.Update.{NamesText}
 use Rattle.irtree_engine.proofs.Batches.{AreUpdated}
 use Rattle.irtree_engine.proofs.change.update_all.Given as goal
 

@@ -1,11 +1,11 @@
 use Rattle.std.proofs.Common.{◌≡◌, ℕ, ◌+◌, ◌≤◌, List, [], ◌∷◌, Option, option_map, Ok, IfErr, IfOk, refl, sym, ap, subst, arith}
 use Rattle.std.proofs.lemmas.Result.{IfOk-weaker}
 use Rattle.spatial_base.specs.Key.{Name}
-use Rattle.place_map.specs.declared.update.Update.{Update}
-use Rattle.place_map.specs.declared.update.Update.TheVariants.{Put}
-use Rattle.place_map.specs.State.{Contents, IsSerialAbove}
-use Rattle.place_map.specs.Update.{Effect, effect_of, key_for, serial_after, NamesText}
-use Rattle.store_meaning.specs.Ahead.{StandAhead}
+use Rattle.place_values.specs.declared.update.Update.{Update}
+use Rattle.place_values.specs.declared.update.Update.TheVariants.{Put}
+use Rattle.place_values.specs.State.{Contents, IsSerialAbove}
+use Rattle.place_values.specs.Update.{Effect, effect_of, key_for, serial_after, NamesText}
+use Rattle.store_model.specs.Ahead.{StandAhead}
 use Rattle.irtree_engine.specs.Changes.{AreNumbersAhead, block_with}
 use Rattle.irtree_engine.specs.Updates.{IsDueTo}
 use Rattle.irtree_engine.proofs.Named.{named-above, put-effect, serial-rises}

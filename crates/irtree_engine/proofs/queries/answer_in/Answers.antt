@@ -1,7 +1,7 @@
 use Rattle.std.proofs.Common.{◌≡◌, ℕ, List, subst}
 use Rattle.std.specs.Prelude.{IfOk}
-use Rattle.place_map.specs.declared.query.Query.{Query}
-use Rattle.place_map.specs.declared.query.Query.TheVariants.{Group}
+use Rattle.place_values.specs.declared.query.Query.{Query}
+use Rattle.place_values.specs.declared.query.Query.TheVariants.{Group}
 use Rattle.irtree_engine.specs.Changes.{block_with}
 use Rattle.irtree_engine.specs.Queries.{IsFoundByFew}
 use Rattle.irtree_engine.proofs.queries.answer_in.Goals as goal

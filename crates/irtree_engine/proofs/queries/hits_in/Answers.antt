@@ -1,17 +1,17 @@
 use Rattle.std.proofs.Common.{◌≡◌, ℕ, List, Err, sym, ap, subst, ◌∙◌}
 use Rattle.page_face.specs.declared.fault.PageFault.TheVariants.{Damaged}
-use Rattle.place_map.specs.Answer.{answer_of}
-use Rattle.place_map.specs.declared.hit.Hit.{Hit}
-use Rattle.place_map.specs.declared.query.Query.{Query}
-use Rattle.place_map.specs.declared.query.Query.TheVariants.{Range, Inside, Nearest, Top, Group}
-use Rattle.place_map.specs.declared.query.Answer.{Answer}
-use Rattle.place_map.specs.declared.query.Answer.TheVariants as answers
+use Rattle.place_values.specs.Answer.{answer_of}
+use Rattle.place_values.specs.declared.hit.Hit.{Hit}
+use Rattle.place_values.specs.declared.query.Query.{Query}
+use Rattle.place_values.specs.declared.query.Query.TheVariants.{Range, Inside, Nearest, Top, Group}
+use Rattle.place_values.specs.declared.query.Answer.{Answer}
+use Rattle.place_values.specs.declared.query.Answer.TheVariants as answers
 use Rattle.node_rows.specs.declared.roots.Tree.{Tree}
 use Rattle.store_tables.specs.declared.tables.Tables.{Tables}
-use Rattle.store_meaning.specs.Stands.{tables_in}
-use Rattle.tree_answers.specs.Answers.{IsAnswer}
-use Rattle.tree_answers.specs.Damages.{IsAnswerHarm}
-use Rattle.tree_answers.specs.Opened.{AreFewOpened}
+use Rattle.store_model.specs.Stands.{tables_in}
+use Rattle.query_execution.specs.Answers.{IsAnswer}
+use Rattle.query_execution.specs.Damages.{IsAnswerHarm}
+use Rattle.query_execution.specs.Opened.{AreFewOpened}
 use Rattle.irtree_engine.specs.Changes.{tree_in}
 use Rattle.irtree_engine.specs.Queries.{AsksForHits}
 use Rattle.irtree_engine.proofs.Roots.{roots-stand}
@@ -46,12 +46,12 @@ returns-in-Ok-clause-opened g c = λ state stand told.
     (subst (λ (tree : Tree). AreFewOpened (P.pages old) c.tables_of-tables.result tree query before after c.in-Ok.found.items) c.tree_of-tree.ensures
     (c.in-Ok.ensures.opened state roots told)))
 
-pub returns-in-Err-clause-honest : goal.returns-in-Err-clause-honest
-returns-in-Err-clause-honest g c = λ state stand told damage.
+pub returns-in-Err-clause-no_false_damage : goal.returns-in-Err-clause-no_false_damage
+returns-in-Err-clause-no_false_damage g c = λ state stand told damage.
     let P = g.P.Pages in
     let old = c.args.pages.now in
     let roots = roots-stand (P.pages old) (P.count old) (P.first old) c.args.head.now c.tables_of-tables.result c.tree_of-tree.result state c.tables_of-tables.ensures c.tree_of-tree.ensures stand in
-    λ e. (let same : c.in-Err.fault ≡ Damaged damage = cc e in c.in-Err.ensures.honest state roots told damage (ap Err same))
+    λ e. (let same : c.in-Err.fault ≡ Damaged damage = cc e in c.in-Err.ensures.no_false_damage state roots told damage (ap Err same))
 
 pub returns-in-Err-clause-damaged : goal.returns-in-Err-clause-damaged
 returns-in-Err-clause-damaged g c = λ told damage is.

@@ -19,7 +19,7 @@ returns-in-Ok-clause-stored g c = λ t before after holds stand later.
     let same : contents_of (applied (g.D.Disk.world c.set_head.new.self.disk.now).seen) c.set_head.new.self.overlay c.set_head.new.self.current ≡ contents_of area store.overlay block =
     λ i. contents_of (applied (g.D.Disk.world (c.set_head.ensures.disk i).now).seen) (c.set_head.ensures.overlay i) (c.set_head.ensures.current i) in
     commit-stands _ _ (g.D.Disk.world c.commit_all.new.self.disk.now) (contents_of area store.overlay block) after
-    (c.commit_all.new.self.ready t (on ∙ c.set_head.ensures.stopped ∙ c.requires.on)) (c.in-Ok.ensures.committed t ∙ same) (told-stand g.D.Disk.tells area store.overlay block after t stand)
+    (c.commit_all.new.self.ready t (on ∙ c.set_head.ensures.stopped ∙ c.requires.on)) (c.in-Ok.ensures.committed t ∙ same) (told-stand g.D.Disk.readable area store.overlay block after t stand)
 
 pub returns-in-Ok-clause-any_moment : goal.returns-in-Ok-clause-any_moment
 returns-in-Ok-clause-any_moment g c = λ t before after holds stand.
@@ -29,7 +29,7 @@ returns-in-Ok-clause-any_moment g c = λ t before after holds stand.
     let same : contents_of area c.set_head.new.self.overlay c.set_head.new.self.current ≡ contents_of area store.overlay block =
     λ i. contents_of area (c.set_head.ensures.overlay i) (c.set_head.ensures.current i) in
     commit-leaves store.last store.end (g.D.Disk.world store.disk.now) (g.D.Disk.world c.commit_all.new.self.disk.now) (contents_of area store.overlay block) before after
-    (store.ready t c.requires.on) holds (told-stand g.D.Disk.tells area store.overlay block after t stand)
+    (store.ready t c.requires.on) holds (told-stand g.D.Disk.readable area store.overlay block after t stand)
     (subst (λ (contents : Contents). LeavesOnly (g.D.Disk.world store.disk.now) (g.D.Disk.world c.commit_all.new.self.disk.now) (HoldsOneOf (contents_in area) contents (g.D.Disk.world store.disk.now))) same
     (subst (λ disk. LeavesOnly (g.D.Disk.world disk) (g.D.Disk.world c.commit_all.new.self.disk.now) (HoldsOneOf (contents_in (applied (g.D.Disk.world disk).seen)) (contents_of (applied (g.D.Disk.world disk).seen) c.set_head.new.self.overlay c.set_head.new.self.current) (g.D.Disk.world disk))) (λ i. (c.set_head.ensures.disk i).now) (c.commit_all.ensures.any_moment t)))
 
@@ -42,7 +42,7 @@ returns-in-Err-clause-any_moment g c = λ t before after holds stand.
     λ i. contents_of area (c.set_head.ensures.overlay i) (c.set_head.ensures.current i) in
     subst (λ disk. LeavesOnly (g.D.Disk.world store.disk.now) (g.D.Disk.world disk) (LeavesOneOf before after (g.D.Disk.world store.disk.now))) (λ i. (sym c.abandon-in-Err.ensures.disk i).now)
     (commit-leaves store.last store.end (g.D.Disk.world store.disk.now) (g.D.Disk.world c.commit_all.new.self.disk.now) (contents_of area store.overlay block) before after
-    (store.ready t c.requires.on) holds (told-stand g.D.Disk.tells area store.overlay block after t stand)
+    (store.ready t c.requires.on) holds (told-stand g.D.Disk.readable area store.overlay block after t stand)
     (subst (λ (contents : Contents). LeavesOnly (g.D.Disk.world store.disk.now) (g.D.Disk.world c.commit_all.new.self.disk.now) (HoldsOneOf (contents_in area) contents (g.D.Disk.world store.disk.now))) same
     (subst (λ disk. LeavesOnly (g.D.Disk.world disk) (g.D.Disk.world c.commit_all.new.self.disk.now) (HoldsOneOf (contents_in (applied (g.D.Disk.world disk).seen)) (contents_of (applied (g.D.Disk.world disk).seen) c.set_head.new.self.overlay c.set_head.new.self.current) (g.D.Disk.world disk))) (λ i. (c.set_head.ensures.disk i).now) (c.commit_all.ensures.any_moment t))))
 

@@ -1,7 +1,7 @@
 use Rattle.std.proofs.Common.{◌≡◌, ◌<◌, ◌∙◌, ℕ, List, arith, sym, ap, subst}
-use Rattle.rtree_shape.specs.Slots.{Item, Slots, filled, one}
-use Rattle.rtree_shape.specs.Stock.{View, view}
-use Rattle.rtree_shape.proofs.Parts.{put-sum}
+use Rattle.rtree_nodes.specs.Slots.{Item, Slots, filled, one}
+use Rattle.rtree_nodes.specs.Stock.{View, view}
+use Rattle.rtree_nodes.proofs.TreeParts.{put-sum}
 use Rattle.rtree_nodes.specs.Reach.{reach_of, item_of}
 use Rattle.rtree_nodes.specs.Pages.{node_of, slots_in, level_in}
 use Rattle.node_rows.specs.Impacts.{impact_in}
@@ -41,5 +41,5 @@ returns-in_ok-store-in-Some-clause-made g c = λ least level free ready draft fi
 pub returns-in-None-clause-made : goal.returns-in-None-clause-made
 returns-in-None-clause-made g c = λ least level free ready draft fits. c.split.ensures.made least level free ready draft fits (c.in-None.ensures.free draft.form)
 
-pub returns-in-None-clause-honest : goal.returns-in-None-clause-honest
-returns-in-None-clause-honest g c = λ least level free ready draft fits told damage. c.split.ensures.honest least level free ready draft fits (c.in-None.ensures.free draft.form) told damage
+pub returns-in-None-clause-no_false_damage : goal.returns-in-None-clause-no_false_damage
+returns-in-None-clause-no_false_damage g c = λ least level free ready draft fits told damage. c.split.ensures.no_false_damage least level free ready draft fits (c.in-None.ensures.free draft.form) told damage

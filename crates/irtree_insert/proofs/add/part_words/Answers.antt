@@ -2,7 +2,7 @@ use Rattle.std.proofs.Common.{◌≡◌, ℕ, Bool, if◌then◌else◌, ap, sym
 use Rattle.std.proofs.lemmas.Result.{IfOk-weaker, err_from_is_err_and}
 use Rattle.page_face.specs.FreeList.{PageMap}
 use Rattle.btree_nodes.specs.Supply as supply
-use Rattle.rtree_shape.specs.Stock.{View, view, plain}
+use Rattle.rtree_nodes.specs.Stock.{View, view, plain}
 use Rattle.node_rows.specs.Rows.{bytes_in}
 use Rattle.node_rows.specs.Turns.{Turns, moved}
 use Rattle.node_rows.specs.Impacts.{impact_in, raised}
@@ -32,13 +32,13 @@ returns-clause-steps g c = λ free supplied y z apart none.
     (g.P.Pages.first c.raise.new.pages) c.raise.new.tree.rows (raised h c.args.at (impact_in c.args.words.now) (bytes_in mid r1))) home next))
     (c.raise.ensures.turns turn.free turn.rows)
 
-pub returns-clause-honest : goal.returns-clause-honest
-returns-clause-honest g c = λ free supplied y z apart none told damage.
+pub returns-clause-no_false_damage : goal.returns-clause-no_false_damage
+returns-clause-no_false_damage g c = λ free supplied y z apart none told damage.
     let v : View = view (g.P.Pages.pages c.args.pages.now) c.args.tree.now.rows (g.P.Pages.count c.args.pages.now) (g.P.Pages.first c.args.pages.now) free in
     let turn = c.in_ok-move_slots.ensures.turns free apart supplied.rows none in
     let told' = told-turned (plain v) c.args.tree.now.rows (g.P.Pages.pages c.move_slots.new.pages) (g.P.Pages.count c.move_slots.new.pages) (g.P.Pages.first c.move_slots.new.pages) c.move_slots.new.tree.rows
     (moved c.args.page c.args.moves c.args.right (bytes_in (g.P.Pages.pages c.args.pages.now) c.args.tree.now.rows)) turn told in
-    c.raise.ensures.honest turn.free turn.rows told' damage
+    c.raise.ensures.no_false_damage turn.free turn.rows told' damage
 
 pub returns-in_err-move_slots-clause-damaged : goal.returns-in_err-move_slots-clause-damaged
 returns-in_err-move_slots-clause-damaged g c = λ told damage.

@@ -1,10 +1,10 @@
 use Rattle.std.proofs.Common.{◌≡◌, ◌<◌, ◌∙◌, ℕ, List, arith, sym, ap, subst, refl, Err, inr}
 use Rattle.std.proofs.lemmas.Result.{err_from_is_err_and}
-use Rattle.btree_nodes.specs.Damages.{AreTold, AsksOnly}
+use Rattle.btree_nodes.specs.Damages.{AreReadable, AsksOnly}
 use Rattle.btree_nodes.proofs.Walks.{same-fault}
 use Rattle.paged_map.proofs.Maps.{kept-counted}
-use Rattle.rtree_shape.specs.Slots.{Item, Slots, filled}
-use Rattle.rtree_shape.specs.Stock.{View, view, plain, rows_form, spare_in}
+use Rattle.rtree_nodes.specs.Slots.{Item, Slots, filled}
+use Rattle.rtree_nodes.specs.Stock.{View, view, plain, rows_form, spare_in}
 use Rattle.rtree_nodes.specs.Reach.{reach_of, item_of, child_item}
 use Rattle.rtree_nodes.specs.Pages.{node_of, slots_in, level_in}
 use Rattle.node_rows.specs.Impacts.{impact_in}
@@ -20,25 +20,25 @@ use Rattle.btree_nodes.proofs.Harms.{asks-further, asks-nothing}
 use Rattle.node_rows.proofs.Harms.{harm-later}
 use Rattle.irtree_insert.proofs.add.split.Goals as goal
 
-pub returns-in_err-mask-clause-honest : goal.returns-in_err-mask-clause-honest
-returns-in_err-mask-clause-honest g c =
+pub returns-in_err-mask-clause-no_false_damage : goal.returns-in_err-mask-clause-no_false_damage
+returns-in_err-mask-clause-no_false_damage g c =
     let passed = err_from_is_err_and c.from_residual.result c.from_residual.ensures.1 in
     rw (passed.1, passed.2) (λ least level free ready draft fits full told damage e.
     let v : View = view (g.P.Pages.pages c.args.pages.now) c.args.tree.now.rows (g.P.Pages.count c.args.pages.now) (g.P.Pages.first c.args.pages.now) free in
     let kept = ready.supplied.rows.kept in
-    c.ask.ensures.honest kept.map (kept-counted rows_form (plain v) c.args.tree.now.rows kept) told damage (c.in_err-mask.was ∙ ap Err (same-fault {T = Grown} _ _ e)))
+    c.ask.ensures.no_false_damage kept.map (kept-counted rows_form (plain v) c.args.tree.now.rows kept) told damage (c.in_err-mask.was ∙ ap Err (same-fault {T = Grown} _ _ e)))
 
-pub returns-in_err-right-clause-honest : goal.returns-in_err-right-clause-honest
-returns-in_err-right-clause-honest g c =
+pub returns-in_err-right-clause-no_false_damage : goal.returns-in_err-right-clause-no_false_damage
+returns-in_err-right-clause-no_false_damage g c =
     let passed = err_from_is_err_and c.from_residual-in_err-right.result c.from_residual-in_err-right.ensures.1 in
     rw (passed.1, passed.2) (λ least level free ready draft fits full told damage e.
     let looks = c.in_ok-mask.ensures.looks.frame in
     let same = read-same (g.P.Pages.pages c.ask.new.pages) (g.P.Pages.pages c.args.pages.now) (g.P.Pages.count c.ask.new.pages) (g.P.Pages.count c.args.pages.now) (g.P.Pages.first c.ask.new.pages) (g.P.Pages.first c.args.pages.now)
     c.args.tree.now.rows free looks.pages looks.count looks.first in
-    c.store_two.ensures.honest c.args.tree.now.rows free (subst IsSupplied (sym same) ready.supplied) damage (c.in_err-right.was ∙ ap Err (same-fault {T = Grown} _ _ e)))
+    c.store_two.ensures.no_false_damage c.args.tree.now.rows free (subst IsSupplied (sym same) ready.supplied) damage (c.in_err-right.was ∙ ap Err (same-fault {T = Grown} _ _ e)))
 
-pub returns-in_err-part_words-clause-honest : goal.returns-in_err-part_words-clause-honest
-returns-in_err-part_words-clause-honest g c =
+pub returns-in_err-part_words-clause-no_false_damage : goal.returns-in_err-part_words-clause-no_false_damage
+returns-in_err-part_words-clause-no_false_damage g c =
     let passed = err_from_is_err_and c.from_residual-in_err-part_words.result c.from_residual-in_err-part_words.ensures.1 in
     rw (passed.1, passed.2) (λ least level free ready draft fits full told damage e.
     let looks = c.in_ok-mask.ensures.looks.frame in
@@ -51,8 +51,8 @@ returns-in_err-part_words-clause-honest g c =
     c.part-parted.new.draft.bytes c.part-parted.result.other.bytes) same
     (c.in_ok-right.ensures.split c.args.tree.now.rows free (subst IsSupplied (sym same) ready.supplied) (subst (λ (w : View). spare_in w c.args.page ≡ 0) (sym same) unused)) in
     let both = pair-unspared c.args.page c.in_ok-right.right ready.supplied unused pair in
-    let told' : AreTold (g.P.Pages.pages c.ask.new.pages) (g.P.Pages.count c.ask.new.pages) = rw (looks.pages, looks.count) told in
-    c.part_words.ensures.honest pair.free pair.moves.supplied both.0 both.1 pair.apart pair.none (c.in_ok-right.ensures.told told') damage (c.in_err-part_words.was ∙ ap Err (same-fault {T = Grown} _ _ e)))
+    let told' : AreReadable (g.P.Pages.pages c.ask.new.pages) (g.P.Pages.count c.ask.new.pages) = rw (looks.pages, looks.count) told in
+    c.part_words.ensures.no_false_damage pair.free pair.moves.supplied both.0 both.1 pair.apart pair.none (c.in_ok-right.ensures.told told') damage (c.in_err-part_words.was ∙ ap Err (same-fault {T = Grown} _ _ e)))
 
 pub returns-clause-made : goal.returns-clause-made
 returns-clause-made g c = λ least level free ready draft fits full.
@@ -107,7 +107,7 @@ returns-in_err-right-clause-more g c = λ told.
     let a1 : List ℕ = p.asked c.ask.new.pages in
     let a2 : List ℕ = p.asked c.store_two.new.pages in
     let f = c.ask.ensures.looks.frame in
-    let told1 : AreTold (p.pages c.ask.new.pages) (p.count c.ask.new.pages) = rw (f.pages, f.count) told in
+    let told1 : AreReadable (p.pages c.ask.new.pages) (p.count c.ask.new.pages) = rw (f.pages, f.count) told in
     let more2 : AsksOnly (λ _. 1) a0 a2 = asks-further (λ _. 1) a0 a1 a2 (c.ask.ensures.more told) (asks-nothing (λ _. 1) a1 a2 c.store_two.ensures.asked) in
     more2
 
@@ -118,9 +118,9 @@ returns-in_err-part_words-clause-damaged g c = λ told damage.
     let a1 : List ℕ = p.asked c.ask.new.pages in
     let a2 : List ℕ = p.asked c.store_two.new.pages in
     let f = c.ask.ensures.looks.frame in
-    let told1 : AreTold (p.pages c.ask.new.pages) (p.count c.ask.new.pages) = rw (f.pages, f.count) told in
+    let told1 : AreReadable (p.pages c.ask.new.pages) (p.count c.ask.new.pages) = rw (f.pages, f.count) told in
     let more2 : AsksOnly (λ _. 1) a0 a2 = asks-further (λ _. 1) a0 a1 a2 (c.ask.ensures.more told) (asks-nothing (λ _. 1) a1 a2 c.store_two.ensures.asked) in
-    let told2 : AreTold (p.pages c.store_two.new.pages) (p.count c.store_two.new.pages) = c.in_ok-right.ensures.told told1 in
+    let told2 : AreReadable (p.pages c.store_two.new.pages) (p.count c.store_two.new.pages) = c.in_ok-right.ensures.told told1 in
     let a3 : List ℕ = p.asked c.part_words.new.pages in
     let r = err_from_is_err_and c.from_residual-in_err-part_words.result c.from_residual-in_err-part_words.ensures.1 in
     λ e. (let same : c.in_err-part_words.field-0.0 ≡ Damaged damage = cc (r.1, r.2, e) in
@@ -133,9 +133,9 @@ returns-in_err-part_words-clause-more g c = λ told.
     let a1 : List ℕ = p.asked c.ask.new.pages in
     let a2 : List ℕ = p.asked c.store_two.new.pages in
     let f = c.ask.ensures.looks.frame in
-    let told1 : AreTold (p.pages c.ask.new.pages) (p.count c.ask.new.pages) = rw (f.pages, f.count) told in
+    let told1 : AreReadable (p.pages c.ask.new.pages) (p.count c.ask.new.pages) = rw (f.pages, f.count) told in
     let more2 : AsksOnly (λ _. 1) a0 a2 = asks-further (λ _. 1) a0 a1 a2 (c.ask.ensures.more told) (asks-nothing (λ _. 1) a1 a2 c.store_two.ensures.asked) in
-    let told2 : AreTold (p.pages c.store_two.new.pages) (p.count c.store_two.new.pages) = c.in_ok-right.ensures.told told1 in
+    let told2 : AreReadable (p.pages c.store_two.new.pages) (p.count c.store_two.new.pages) = c.in_ok-right.ensures.told told1 in
     let a3 : List ℕ = p.asked c.part_words.new.pages in
     asks-further (λ _. 1) a0 a2 a3 more2 (c.part_words.ensures.more told2)
 
@@ -146,9 +146,9 @@ returns-clause-told g c = λ told.
     let a1 : List ℕ = p.asked c.ask.new.pages in
     let a2 : List ℕ = p.asked c.store_two.new.pages in
     let f = c.ask.ensures.looks.frame in
-    let told1 : AreTold (p.pages c.ask.new.pages) (p.count c.ask.new.pages) = rw (f.pages, f.count) told in
+    let told1 : AreReadable (p.pages c.ask.new.pages) (p.count c.ask.new.pages) = rw (f.pages, f.count) told in
     let more2 : AsksOnly (λ _. 1) a0 a2 = asks-further (λ _. 1) a0 a1 a2 (c.ask.ensures.more told) (asks-nothing (λ _. 1) a1 a2 c.store_two.ensures.asked) in
-    let told2 : AreTold (p.pages c.store_two.new.pages) (p.count c.store_two.new.pages) = c.in_ok-right.ensures.told told1 in
+    let told2 : AreReadable (p.pages c.store_two.new.pages) (p.count c.store_two.new.pages) = c.in_ok-right.ensures.told told1 in
     let a3 : List ℕ = p.asked c.part_words.new.pages in
     c.in_ok-part_words.ensures.told told2
 
@@ -159,8 +159,8 @@ returns-clause-more g c = λ told.
     let a1 : List ℕ = p.asked c.ask.new.pages in
     let a2 : List ℕ = p.asked c.store_two.new.pages in
     let f = c.ask.ensures.looks.frame in
-    let told1 : AreTold (p.pages c.ask.new.pages) (p.count c.ask.new.pages) = rw (f.pages, f.count) told in
+    let told1 : AreReadable (p.pages c.ask.new.pages) (p.count c.ask.new.pages) = rw (f.pages, f.count) told in
     let more2 : AsksOnly (λ _. 1) a0 a2 = asks-further (λ _. 1) a0 a1 a2 (c.ask.ensures.more told) (asks-nothing (λ _. 1) a1 a2 c.store_two.ensures.asked) in
-    let told2 : AreTold (p.pages c.store_two.new.pages) (p.count c.store_two.new.pages) = c.in_ok-right.ensures.told told1 in
+    let told2 : AreReadable (p.pages c.store_two.new.pages) (p.count c.store_two.new.pages) = c.in_ok-right.ensures.told told1 in
     let a3 : List ℕ = p.asked c.part_words.new.pages in
     asks-further (λ _. 1) a0 a2 a3 more2 (c.part_words.ensures.more told2)

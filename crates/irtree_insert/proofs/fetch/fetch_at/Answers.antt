@@ -5,8 +5,8 @@ use Rattle.irtree_insert.proofs.Loads.{some-told}
 use Rattle.btree_nodes.proofs.Walks.{same-fault}
 use Rattle.irtree_insert.proofs.fetch.fetch_at.Goals as goal
 
-pub returns-else-found-level-clause-honest : goal.returns-else-found-level-clause-honest
-returns-else-found-level-clause-honest g c = λ counted some level damage e.
+pub returns-else-found-level-clause-no_false_damage : goal.returns-else-found-level-clause-no_false_damage
+returns-else-found-level-clause-no_false_damage g c = λ counted some level damage e.
     let old : PageMap = g.P.Pages.pages c.args.pages.now in
     let same = c.in-Ok.ensures.bytes (some-told (old c.args.page) some) in
     let found : c.in-Ok.found ≡ c.args.level = c.in-Ok.ensures.level ∙ ap level_in same ∙ level in

@@ -1,10 +1,10 @@
 use Rattle.std.proofs.Common.{◌≡◌, ℕ, ◌∙◌, sym, ap, subst, Err, arith, List}
 use Rattle.page_face.specs.FreeList.{PageMap}
-use Rattle.btree_nodes.specs.Damages.{AreTold}
+use Rattle.btree_nodes.specs.Damages.{AreReadable}
 use Rattle.btree_nodes.proofs.Walks.{same-fault}
-use Rattle.rtree_shape.specs.Slots.{Item}
-use Rattle.rtree_shape.specs.Stock.{View, view}
-use Rattle.rtree_shape.proofs.Climbs.{view-same}
+use Rattle.rtree_nodes.specs.Slots.{Item}
+use Rattle.rtree_nodes.specs.Stock.{View, view}
+use Rattle.rtree_nodes.proofs.Climbs.{view-same}
 use Rattle.rtree_nodes.specs.Pages.{level_in}
 use Rattle.rtree_nodes.specs.Reach.{item_of}
 use Rattle.node_rows.specs.Impacts.{impact_in}
@@ -20,16 +20,16 @@ use Rattle.page_face.specs.declared.fault.PageFault.TheVariants.{Damaged}
 use Rattle.page_face.specs.declared.fault.Rule.TheVariants.{Level}
 use Rattle.irtree_insert.proofs.insert.climb.Goals as goal
 
-pub returns-in-Err-clause-honest : goal.returns-in-Err-clause-honest
-returns-in-Err-clause-honest g c = λ least level free opened fits all_told damage e.
+pub returns-in-Err-clause-no_false_damage : goal.returns-in-Err-clause-no_false_damage
+returns-in-Err-clause-no_false_damage g c = λ least level free opened fits all_told damage e.
     let before : View = view (g.P.Pages.pages c.args.pages.now) c.args.tree.now.rows (g.P.Pages.count c.args.pages.now) (g.P.Pages.first c.args.pages.now) free in
     let x : Item = worded (impact_in c.args.words.now) (item_of c.args.slot.now) in
     let root : ℕ = c.args.root in
     let target : ℕ = c.args.goal in
-    c.fetch.ensures.honest (open-counted before least level root target x opened) (open-some before least level root target x opened) damage (c.in-Err.is ∙ ap Err (same-fault {T = Climbed} _ _ e))
+    c.fetch.ensures.no_false_damage (open-counted before least level root target x opened) (open-some before least level root target x opened) damage (c.in-Err.is ∙ ap Err (same-fault {T = Climbed} _ _ e))
 
-pub returns-then-level-gt-LEVEL_MAX-clause-honest : goal.returns-then-level-gt-LEVEL_MAX-clause-honest
-returns-then-level-gt-LEVEL_MAX-clause-honest g c = λ least level free opened fits all_told damage e.
+pub returns-then-level-gt-LEVEL_MAX-clause-no_false_damage : goal.returns-then-level-gt-LEVEL_MAX-clause-no_false_damage
+returns-then-level-gt-LEVEL_MAX-clause-no_false_damage g c = λ least level free opened fits all_told damage e.
     let old : PageMap = g.P.Pages.pages c.args.pages.now in
     let before : View = view old c.args.tree.now.rows (g.P.Pages.count c.args.pages.now) (g.P.Pages.first c.args.pages.now) free in
     let x : Item = worded (impact_in c.args.words.now) (item_of c.args.slot.now) in
@@ -58,8 +58,8 @@ returns-in-Ok-put_below-clause-made g c = λ least level free opened fits.
     let h = loaded before now c.fetch.new.draft least c.in-Ok.level root target x v fetched.bytes fetched.draft (open-of-level (sym found) opened) in
     (found, puts-level target x found (puts-view target x v (c.in-Ok-put_below.ensures.made least free h.draft_is fetched.used h.bytes_are h.opened fits)))
 
-pub returns-in-Err-put_below-clause-honest : goal.returns-in-Err-put_below-clause-honest
-returns-in-Err-put_below-clause-honest g c = λ least level free opened fits all_told damage e.
+pub returns-in-Err-put_below-clause-no_false_damage : goal.returns-in-Err-put_below-clause-no_false_damage
+returns-in-Err-put_below-clause-no_false_damage g c = λ least level free opened fits all_told damage e.
     let old : PageMap = g.P.Pages.pages c.args.pages.now in
     let rows : ℕ = c.args.tree.now.rows in
     let before : View = view old rows (g.P.Pages.count c.args.pages.now) (g.P.Pages.first c.args.pages.now) free in
@@ -73,7 +73,7 @@ returns-in-Err-put_below-clause-honest g c = λ least level free opened fits all
     let now : View = view (g.P.Pages.pages c.fetch.new.pages) rows (g.P.Pages.count c.fetch.new.pages) (g.P.Pages.first c.fetch.new.pages) free in
     let v = view-same (g.P.Pages.pages c.fetch.new.pages) old rows (g.P.Pages.count c.fetch.new.pages) (g.P.Pages.count c.args.pages.now) (g.P.Pages.first c.fetch.new.pages) (g.P.Pages.first c.args.pages.now) free looks.pages looks.count looks.first in
     let h = loaded before now c.fetch.new.draft least c.in-Ok.level root target x v fetched.bytes fetched.draft (open-of-level (sym found) opened) in
-    c.put_below.ensures.honest least free h.draft_is fetched.used h.bytes_are h.opened fits (subst (λ (w : View). AreTold w.pages w.count) (sym v) all_told) damage (c.in-Err-put_below.is ∙ ap Err (same-fault {T = Climbed} _ _ e))
+    c.put_below.ensures.no_false_damage least free h.draft_is fetched.used h.bytes_are h.opened fits (subst (λ (w : View). AreReadable w.pages w.count) (sym v) all_told) damage (c.in-Err-put_below.is ∙ ap Err (same-fault {T = Climbed} _ _ e))
 
 pub returns-in-Err-clause-damaged : goal.returns-in-Err-clause-damaged
 returns-in-Err-clause-damaged g c = λ told damage e.
@@ -99,7 +99,7 @@ returns-in-Err-put_below-clause-damaged g c = λ told damage e.
     let a0 : List ℕ = p.asked c.args.pages.now in
     let a1 : List ℕ = p.asked c.fetch.new.pages in
     let f = c.fetch.ensures.looks.frame in
-    let told1 : AreTold (p.pages c.fetch.new.pages) (p.count c.fetch.new.pages) = rw (f.pages, f.count) told in
+    let told1 : AreReadable (p.pages c.fetch.new.pages) (p.count c.fetch.new.pages) = rw (f.pages, f.count) told in
     let a2 : List ℕ = p.asked c.put_below.new.pages in
     let fetched = c.in-Ok.ensures in
     let root : ℕ = c.args.root in
@@ -112,7 +112,7 @@ returns-in-Err-put_below-clause-more g c = λ told.
     let a0 : List ℕ = p.asked c.args.pages.now in
     let a1 : List ℕ = p.asked c.fetch.new.pages in
     let f = c.fetch.ensures.looks.frame in
-    let told1 : AreTold (p.pages c.fetch.new.pages) (p.count c.fetch.new.pages) = rw (f.pages, f.count) told in
+    let told1 : AreReadable (p.pages c.fetch.new.pages) (p.count c.fetch.new.pages) = rw (f.pages, f.count) told in
     let a2 : List ℕ = p.asked c.put_below.new.pages in
     asks-further (λ _. 1) a0 a1 a2 c.fetch.ensures.more (c.put_below.ensures.more told1)
 
@@ -120,7 +120,7 @@ pub returns-in-Ok-put_below-clause-told : goal.returns-in-Ok-put_below-clause-to
 returns-in-Ok-put_below-clause-told g c = λ told.
     let p = g.P.Pages in
     let f = c.fetch.ensures.looks.frame in
-    let told1 : AreTold (p.pages c.fetch.new.pages) (p.count c.fetch.new.pages) = rw (f.pages, f.count) told in
+    let told1 : AreReadable (p.pages c.fetch.new.pages) (p.count c.fetch.new.pages) = rw (f.pages, f.count) told in
     c.in-Ok-put_below.ensures.told told1
 
 pub returns-in-Ok-put_below-clause-more : goal.returns-in-Ok-put_below-clause-more
@@ -129,6 +129,6 @@ returns-in-Ok-put_below-clause-more g c = λ told.
     let a0 : List ℕ = p.asked c.args.pages.now in
     let a1 : List ℕ = p.asked c.fetch.new.pages in
     let f = c.fetch.ensures.looks.frame in
-    let told1 : AreTold (p.pages c.fetch.new.pages) (p.count c.fetch.new.pages) = rw (f.pages, f.count) told in
+    let told1 : AreReadable (p.pages c.fetch.new.pages) (p.count c.fetch.new.pages) = rw (f.pages, f.count) told in
     let a2 : List ℕ = p.asked c.put_below.new.pages in
     asks-further (λ _. 1) a0 a1 a2 c.fetch.ensures.more (c.put_below.ensures.more told1)

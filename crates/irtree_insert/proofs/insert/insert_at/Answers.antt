@@ -1,8 +1,8 @@
 use Rattle.std.proofs.Common.{◌≡◌, ◌∙◌, Err, ap, arith, inr}
 use Rattle.std.proofs.lemmas.Result.{err_from_is_err_and}
 use Rattle.btree_nodes.proofs.Walks.{same-fault}
-use Rattle.rtree_shape.specs.Slots.{Item}
-use Rattle.rtree_shape.specs.Stock.{View, view}
+use Rattle.rtree_nodes.specs.Slots.{Item}
+use Rattle.rtree_nodes.specs.Stock.{View, view}
 use Rattle.rtree_nodes.specs.Reach.{item_of}
 use Rattle.node_rows.specs.Impacts.{impact_in}
 use Rattle.irtree_shape.specs.Words.{worded}
@@ -10,19 +10,19 @@ use Rattle.irtree_insert.proofs.Lands.{place-fits, first-planted, empty-whole, s
 use Rattle.page_face.specs.declared.fault.PageFault.TheVariants.{Damaged}
 use Rattle.irtree_insert.proofs.insert.insert_at.Goals as goal
 
-pub returns-in_err-root-clause-honest_standing : goal.returns-in_err-root-clause-honest_standing
-returns-in_err-root-clause-honest_standing g c = λ before free level rest mine sums start standing fits told damage e.
+pub returns-in_err-root-clause-no_false_damage_standing : goal.returns-in_err-root-clause-no_false_damage_standing
+returns-in_err-root-clause-no_false_damage_standing g c = λ before free level rest mine sums start standing fits told damage e.
     let now : View = view (g.P.Pages.pages c.args.pages.now) c.args.tree.now.rows (g.P.Pages.count c.args.pages.now) (g.P.Pages.first c.args.pages.now) free in
     let x : Item = worded (impact_in c.args.words.now) (item_of c.args.slot.now) in
     let some = standing-some before now level c.args.tree.now.root (c.args.goal, x) rest mine sums start standing in
     let zero_is : c.args.tree.now.root ≡ 0 = c.if-tree-eq0.true in
     absurd (omega arith)
 
-pub returns-in_err-root-2-clause-honest_standing : goal.returns-in_err-root-2-clause-honest_standing
-returns-in_err-root-2-clause-honest_standing g c =
+pub returns-in_err-root-2-clause-no_false_damage_standing : goal.returns-in_err-root-2-clause-no_false_damage_standing
+returns-in_err-root-2-clause-no_false_damage_standing g c =
     let passed = err_from_is_err_and c.from_residual-in_err-root-2.result c.from_residual-in_err-root-2.ensures.1 in
     rw (passed.1, passed.2) (λ before free level rest mine sums start standing fits told damage e.
-    c.insert_below.ensures.honest_standing before free level rest mine sums start standing fits told damage (c.in_err-root-2.was ∙ ap Err (same-fault {T = Unit {0}} _ _ e)))
+    c.insert_below.ensures.no_false_damage_standing before free level rest mine sums start standing fits told damage (c.in_err-root-2.was ∙ ap Err (same-fault {T = Unit {0}} _ _ e)))
 
 pub returns-then-tree-eq0-clause-planted : goal.returns-then-tree-eq0-clause-planted
 returns-then-tree-eq0-clause-planted g c = λ free low fits whole.

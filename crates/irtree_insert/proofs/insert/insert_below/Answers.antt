@@ -2,15 +2,15 @@ use Rattle.std.proofs.Common.{◌∙◌, ℕ, suc, Err, Some, ap, arith, refl, s
 use Rattle.std.proofs.lemmas.Result.{IfOk-weaker, err_from_is_err_and}
 use Rattle.page_face.specs.FreeList.{PageMap}
 use Rattle.btree_nodes.proofs.Walks.{same-fault}
-use Rattle.rtree_shape.specs.Slots.{Item, NodeMap}
-use Rattle.rtree_shape.specs.Trees.{root_least}
-use Rattle.rtree_shape.specs.Stock.{View, view}
-use Rattle.rtree_shape.proofs.Plants.{least-some}
+use Rattle.rtree_nodes.specs.Slots.{Item, NodeMap}
+use Rattle.rtree_nodes.specs.Trees.{root_least}
+use Rattle.rtree_nodes.specs.Stock.{View, view}
+use Rattle.rtree_nodes.proofs.Plants.{least-some}
 use Rattle.rtree_nodes.specs.Pages.{node_of}
 use Rattle.rtree_nodes.specs.Reach.{item_of}
 use Rattle.node_rows.specs.Impacts.{impact_in}
 use Rattle.irtree_shape.specs.Words.{worded}
-use Rattle.irtree_shape.specs.Steps.{crowned}
+use Rattle.irtree_shape.specs.Steps.{bounding_child}
 use Rattle.irtree_shape.specs.Made.{nodes_in}
 use Rattle.irtree_shape.specs.Whole.{level_at}
 use Rattle.irtree_shape.proofs.Plants.{planted_same, to_raise, planted_raised}
@@ -24,8 +24,8 @@ use Rattle.btree_nodes.proofs.Harms.{asks-further}
 use Rattle.node_rows.proofs.Harms.{harm-later}
 use Rattle.irtree_insert.proofs.insert.insert_below.Goals as goal
 
-pub returns-in_err-climbed-clause-honest : goal.returns-in_err-climbed-clause-honest
-returns-in_err-climbed-clause-honest g c =
+pub returns-in_err-climbed-clause-no_false_damage : goal.returns-in_err-climbed-clause-no_false_damage
+returns-in_err-climbed-clause-no_false_damage g c =
     let passed = err_from_is_err_and c.from_residual.result c.from_residual.ensures.1 in
     rw (passed.1, passed.2) (λ free low some fits whole told damage e.
     let old : PageMap = g.P.Pages.pages c.args.pages.now in
@@ -34,10 +34,10 @@ returns-in_err-climbed-clause-honest g c =
     let x : Item = worded (impact_in c.args.words.now) (item_of c.args.slot.now) in
     let root : ℕ = c.args.tree.now.root in
     let level : ℕ = level_at (nodes_in node_of old rows) root in
-    c.climb.ensures.honest (root_least level) level free (root-open before root c.args.goal x low some whole) fits told damage (c.in_err-climbed.was ∙ ap Err (same-fault {T = ℕ} _ _ e)))
+    c.climb.ensures.no_false_damage (root_least level) level free (root-open before root c.args.goal x low some whole) fits told damage (c.in_err-climbed.was ∙ ap Err (same-fault {T = ℕ} _ _ e)))
 
-pub returns-in_err-climbed-clause-honest_standing : goal.returns-in_err-climbed-clause-honest_standing
-returns-in_err-climbed-clause-honest_standing g c =
+pub returns-in_err-climbed-clause-no_false_damage_standing : goal.returns-in_err-climbed-clause-no_false_damage_standing
+returns-in_err-climbed-clause-no_false_damage_standing g c =
     let passed = err_from_is_err_and c.from_residual.result c.from_residual.ensures.1 in
     rw (passed.1, passed.2) (λ before free level rest mine sums start standing fits told damage e.
     let old : PageMap = g.P.Pages.pages c.args.pages.now in
@@ -46,7 +46,7 @@ returns-in_err-climbed-clause-honest_standing g c =
     let x : Item = worded (impact_in c.args.words.now) (item_of c.args.slot.now) in
     let root : ℕ = c.args.tree.now.root in
     let opened = standing_open node_of before now level root (c.args.goal, x) rest mine sums standing start in
-    c.climb.ensures.honest 1 level free opened fits told damage (c.in_err-climbed.was ∙ ap Err (same-fault {T = ℕ} _ _ e)))
+    c.climb.ensures.no_false_damage 1 level free opened fits told damage (c.in_err-climbed.was ∙ ap Err (same-fault {T = ℕ} _ _ e)))
 
 pub returns-in-None-clause-planted : goal.returns-in-None-clause-planted
 returns-in-None-clause-planted g c = λ free low some fits whole.
@@ -97,7 +97,7 @@ returns-in-Some-clause-planted g c = λ free low some fits whole.
     let mc : ℕ = g.P.Pages.count c.climb.new.pages in
     let mf : ℕ = g.P.Pages.first c.climb.new.pages in
     let nodes : NodeMap = nodes_in node_of mid mr in
-    let y : Item = crowned nodes (beside_item c.in-Some.more) in
+    let y : Item = bounding_child nodes (beside_item c.in-Some.more) in
     let level : ℕ = level_at (nodes_in node_of old rows) root in
     let m = c.in_ok-climbed.ensures.made (root_least level) level free (root-open before root c.args.goal x low some whole) fits in
     let put = puts-as x low (beside-is nodes c.in_ok-climbed.climbed.grown.more c.in-Some.more c.in-Some.is) m.1 in
@@ -120,7 +120,7 @@ returns-in-Some-clause-standing g c = λ before free level rest mine sums start 
     let mc : ℕ = g.P.Pages.count c.climb.new.pages in
     let mf : ℕ = g.P.Pages.first c.climb.new.pages in
     let nodes : NodeMap = nodes_in node_of mid mr in
-    let y : Item = crowned nodes (beside_item c.in-Some.more) in
+    let y : Item = bounding_child nodes (beside_item c.in-Some.more) in
     let opened = standing_open node_of before now level root (c.args.goal, x) rest mine sums standing start in
     let m = c.in_ok-climbed.ensures.made 1 level free opened fits in
     let put = puts-as x refl (beside-is nodes c.in_ok-climbed.climbed.grown.more c.in-Some.more c.in-Some.is) m.1 in
@@ -134,8 +134,8 @@ returns-in-Some-clause-standing g c = λ before free level rest mine sums start 
     })
     (c.raise_root.ensures.made put.free _ _ 1 (raised-of-level (sym is) raised))
 
-pub returns-in-Some-clause-honest : goal.returns-in-Some-clause-honest
-returns-in-Some-clause-honest g c = λ free low some fits whole told.
+pub returns-in-Some-clause-no_false_damage : goal.returns-in-Some-clause-no_false_damage
+returns-in-Some-clause-no_false_damage g c = λ free low some fits whole told.
     let old : PageMap = g.P.Pages.pages c.args.pages.now in
     let rows : ℕ = c.args.tree.now.rows in
     let before : View = view old rows (g.P.Pages.count c.args.pages.now) (g.P.Pages.first c.args.pages.now) free in
@@ -146,16 +146,16 @@ returns-in-Some-clause-honest g c = λ free low some fits whole told.
     let mc : ℕ = g.P.Pages.count c.climb.new.pages in
     let mf : ℕ = g.P.Pages.first c.climb.new.pages in
     let nodes : NodeMap = nodes_in node_of mid mr in
-    let y : Item = crowned nodes (beside_item c.in-Some.more) in
+    let y : Item = bounding_child nodes (beside_item c.in-Some.more) in
     let level : ℕ = level_at (nodes_in node_of old rows) root in
     let m = c.in_ok-climbed.ensures.made (root_least level) level free (root-open before root c.args.goal x low some whole) fits in
     let put = puts-as x low (beside-is nodes c.in_ok-climbed.climbed.grown.more c.in-Some.more c.in-Some.is) m.1 in
     let raised = to_raise node_of before mid mr mc mf root x y _ _ some whole put in
     let is = m.0 in
-    c.raise_root.ensures.honest put.free _ _ (root_least level) (raised-of-level (sym is) raised) (told-made node_of some-told (least-some level).0 put told)
+    c.raise_root.ensures.no_false_damage put.free _ _ (root_least level) (raised-of-level (sym is) raised) (told-made node_of some-told (least-some level).0 put told)
 
-pub returns-in-Some-clause-honest_standing : goal.returns-in-Some-clause-honest_standing
-returns-in-Some-clause-honest_standing g c = λ before free level rest mine sums start standing fits told.
+pub returns-in-Some-clause-no_false_damage_standing : goal.returns-in-Some-clause-no_false_damage_standing
+returns-in-Some-clause-no_false_damage_standing g c = λ before free level rest mine sums start standing fits told.
     let old : PageMap = g.P.Pages.pages c.args.pages.now in
     let rows : ℕ = c.args.tree.now.rows in
     let now : View = view old rows (g.P.Pages.count c.args.pages.now) (g.P.Pages.first c.args.pages.now) free in
@@ -166,13 +166,13 @@ returns-in-Some-clause-honest_standing g c = λ before free level rest mine sums
     let mc : ℕ = g.P.Pages.count c.climb.new.pages in
     let mf : ℕ = g.P.Pages.first c.climb.new.pages in
     let nodes : NodeMap = nodes_in node_of mid mr in
-    let y : Item = crowned nodes (beside_item c.in-Some.more) in
+    let y : Item = bounding_child nodes (beside_item c.in-Some.more) in
     let opened = standing_open node_of before now level root (c.args.goal, x) rest mine sums standing start in
     let m = c.in_ok-climbed.ensures.made 1 level free opened fits in
     let put = puts-as x refl (beside-is nodes c.in_ok-climbed.climbed.grown.more c.in-Some.more c.in-Some.is) m.1 in
     let raised = standing_raise node_of before now level root (c.args.goal, x) rest mine sums standing mid mr mc mf y _ _ put in
     let is = m.0 in
-    c.raise_root.ensures.honest put.free _ _ 1 (raised-of-level (sym is) raised) (told-made node_of some-told (omega arith) put told)
+    c.raise_root.ensures.no_false_damage put.free _ _ 1 (raised-of-level (sym is) raised) (told-made node_of some-told (omega arith) put told)
 
 pub returns-in_err-climbed-clause-damaged : goal.returns-in_err-climbed-clause-damaged
 returns-in_err-climbed-clause-damaged g c = λ told damage.

@@ -1,4 +1,4 @@
-use Rattle.rtree_shape.specs.Slots.{Slots}
+use Rattle.rtree_nodes.specs.Slots.{Slots}
 use Rattle.irtree_insert.specs.Drafts.{AreOutlined}
 use Rattle.irtree_insert.proofs.Outlines.{IsRound}
 use Rattle.irtree_insert.proofs.outline.outline.Given as goal

@@ -3,7 +3,7 @@ use Rattle.std.proofs.lemmas.Result.{err_from_is_err_and}
 use Rattle.page_face.specs.declared.fault.PageFault.TheVariants.{Damaged}
 use Rattle.btree_nodes.specs.Tree.{map_uses}
 use Rattle.btree_nodes.proofs.Harms.{asks-more}
-use Rattle.rtree_shape.specs.Stock.{rows_form}
+use Rattle.rtree_nodes.specs.Stock.{rows_form}
 use Rattle.node_rows.proofs.Harms.{harm-looked}
 use Rattle.irtree_insert.proofs.part.ask.Goals as goal
 

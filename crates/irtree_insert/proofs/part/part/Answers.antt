@@ -1,5 +1,5 @@
 use Rattle.std.proofs.Common.{◌<◌, ℕ, sym, subst}
-use Rattle.rtree_shape.specs.Slots.{Slots, filled}
+use Rattle.rtree_nodes.specs.Slots.{Slots, filled}
 use Rattle.rtree_nodes.specs.Reach.{item_of}
 use Rattle.rtree_nodes.specs.Pages.{slots_in}
 use Rattle.irtree_insert.specs.Fits.{Fits}

@@ -1,9 +1,9 @@
 use Rattle.std.proofs.Common.{◌≡◌, ◌<◌, ◌∙◌, sym, ap, rules, length, get_or}
 use Rattle.std.proofs.lemmas.List.{get_or_default}
-use Rattle.rtree_shape.specs.Slots.{Slots, filled, tops}
-use Rattle.rtree_shape.specs.Trees.{with_slot}
-use Rattle.rtree_shape.specs.Stock.{View, view}
-use Rattle.rtree_shape.proofs.Amounts.{with_slot-same}
+use Rattle.rtree_nodes.specs.Slots.{Slots, filled, tops}
+use Rattle.rtree_nodes.specs.Trees.{with_slot}
+use Rattle.rtree_nodes.specs.Stock.{View, view}
+use Rattle.rtree_nodes.proofs.Amounts.{with_slot-same}
 use Rattle.rtree_nodes.specs.Reach.{reach_of, child_item, origin_rect}
 use Rattle.rtree_nodes.specs.Pages.{slots_in, level_in}
 use Rattle.irtree_insert.proofs.Counted.{counted-some}

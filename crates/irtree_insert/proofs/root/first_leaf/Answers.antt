@@ -2,8 +2,8 @@ use Rattle.std.proofs.Common.{◌≡◌, ◌∙◌, ℕ, List, ap, Err, refl, in
 use Rattle.std.proofs.lemmas.Result.{err_from_is_err_and}
 use Rattle.page_face.specs.FreeList.{PageMap}
 use Rattle.btree_nodes.proofs.Walks.{same-fault}
-use Rattle.rtree_shape.specs.Slots.{Item, Slots, NodeView}
-use Rattle.rtree_shape.specs.Stock.{View, view}
+use Rattle.rtree_nodes.specs.Slots.{Item, Slots, NodeView}
+use Rattle.rtree_nodes.specs.Stock.{View, view}
 use Rattle.rtree_nodes.specs.Reach.{item_of}
 use Rattle.rtree_nodes.specs.Pages.{node_of, slots_in, level_in}
 use Rattle.node_rows.specs.Impacts.{impact_in}
@@ -11,17 +11,17 @@ use Rattle.irtree_shape.proofs.Plants.{leaf_spare, leaf_planted}
 use Rattle.irtree_shape.proofs.Stepping.{steps-raised}
 use Rattle.irtree_insert.proofs.Loads.{form-level, leaf-fits}
 use Rattle.page_face.specs.declared.fault.PageFault.TheVariants.{Damaged}
-use Rattle.btree_nodes.specs.Damages.{AreTold, AsksOnly}
+use Rattle.btree_nodes.specs.Damages.{AreReadable, AsksOnly}
 use Rattle.btree_nodes.proofs.Harms.{asks-further, asks-nothing}
 use Rattle.node_rows.proofs.Harms.{harm-later}
 use Rattle.irtree_insert.proofs.root.first_leaf.Goals as goal
 
-pub returns-in_err-raise-clause-honest : goal.returns-in_err-raise-clause-honest
-returns-in_err-raise-clause-honest g c =
+pub returns-in_err-raise-clause-no_false_damage : goal.returns-in_err-raise-clause-no_false_damage
+returns-in_err-raise-clause-no_false_damage g c =
     let passed = err_from_is_err_and c.from_residual-in_err-raise.result c.from_residual-in_err-raise.ensures.1 in
     rw (passed.1, passed.2) (λ free whole told damage e.
     let take = c.in_ok-top.ensures.taken c.args.tree.now.rows free whole.supplied in
-    c.raise.ensures.honest take.free take.moves.supplied.rows (c.in_ok-top.ensures.told told) damage (c.in_err-raise.was ∙ ap Err (same-fault {T = ℕ} _ _ e)))
+    c.raise.ensures.no_false_damage take.free take.moves.supplied.rows (c.in_ok-top.ensures.told told) damage (c.in_err-raise.was ∙ ap Err (same-fault {T = ℕ} _ _ e)))
 
 pub returns-clause-planted : goal.returns-clause-planted
 returns-clause-planted g c = λ free place whole.
@@ -68,7 +68,7 @@ returns-in_err-raise-clause-damaged g c = λ told damage.
     let a0 : List ℕ = p.asked c.args.pages.now in
     let a1 : List ℕ = p.asked c.store_new.new.pages in
     let more1 : AsksOnly (λ _. 1) a0 a1 = asks-nothing (λ _. 1) a0 a1 c.store_new.ensures.asked in
-    let told1 : AreTold (p.pages c.store_new.new.pages) (p.count c.store_new.new.pages) = c.in_ok-top.ensures.told told in
+    let told1 : AreReadable (p.pages c.store_new.new.pages) (p.count c.store_new.new.pages) = c.in_ok-top.ensures.told told in
     let a2 : List ℕ = p.asked c.raise.new.pages in
     let r = err_from_is_err_and c.from_residual-in_err-raise.result c.from_residual-in_err-raise.ensures.1 in
     λ e. (let same : c.in_err-raise.field-0.0 ≡ Damaged damage = cc (r.1, r.2, e) in
@@ -80,7 +80,7 @@ returns-in_err-raise-clause-more g c = λ told.
     let a0 : List ℕ = p.asked c.args.pages.now in
     let a1 : List ℕ = p.asked c.store_new.new.pages in
     let more1 : AsksOnly (λ _. 1) a0 a1 = asks-nothing (λ _. 1) a0 a1 c.store_new.ensures.asked in
-    let told1 : AreTold (p.pages c.store_new.new.pages) (p.count c.store_new.new.pages) = c.in_ok-top.ensures.told told in
+    let told1 : AreReadable (p.pages c.store_new.new.pages) (p.count c.store_new.new.pages) = c.in_ok-top.ensures.told told in
     let a2 : List ℕ = p.asked c.raise.new.pages in
     asks-further (λ _. 1) a0 a1 a2 more1 (c.raise.ensures.more told1)
 
@@ -93,6 +93,6 @@ returns-clause-more g c = λ told.
     let a0 : List ℕ = p.asked c.args.pages.now in
     let a1 : List ℕ = p.asked c.store_new.new.pages in
     let more1 : AsksOnly (λ _. 1) a0 a1 = asks-nothing (λ _. 1) a0 a1 c.store_new.ensures.asked in
-    let told1 : AreTold (p.pages c.store_new.new.pages) (p.count c.store_new.new.pages) = c.in_ok-top.ensures.told told in
+    let told1 : AreReadable (p.pages c.store_new.new.pages) (p.count c.store_new.new.pages) = c.in_ok-top.ensures.told told in
     let a2 : List ℕ = p.asked c.raise.new.pages in
     asks-further (λ _. 1) a0 a1 a2 more1 (c.raise.ensures.more told1)

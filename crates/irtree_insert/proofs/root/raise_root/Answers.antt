@@ -3,9 +3,9 @@ use Rattle.std.proofs.lemmas.Result.{err_from_is_err_and}
 use Rattle.page_face.specs.FreeList.{PageMap}
 use Rattle.btree_nodes.proofs.Walks.{same-fault}
 use Rattle.node_rows.proofs.Told.{told-turned}
-use Rattle.rtree_shape.specs.Slots.{Item, Slots, NodeView}
-use Rattle.rtree_shape.specs.Trees.{with_slot}
-use Rattle.rtree_shape.specs.Stock.{View, view, plain}
+use Rattle.rtree_nodes.specs.Slots.{Item, Slots, NodeView}
+use Rattle.rtree_nodes.specs.Trees.{with_slot}
+use Rattle.rtree_nodes.specs.Stock.{View, view, plain}
 use Rattle.rtree_nodes.specs.Reach.{reach_of, child_item}
 use Rattle.rtree_nodes.specs.Pages.{node_of, slots_in, level_in}
 use Rattle.irtree_shape.proofs.Raises.{top_spare, root_apart, more_apart, top_spare1, root_stands}
@@ -13,13 +13,13 @@ use Rattle.irtree_shape.proofs.Stepping.{steps-refreshed}
 use Rattle.irtree_insert.specs.Grown.{beside_item}
 use Rattle.irtree_insert.proofs.Loads.{form-level, inner-fits}
 use Rattle.page_face.specs.declared.fault.PageFault.TheVariants.{Damaged}
-use Rattle.btree_nodes.specs.Damages.{AreTold, AsksOnly}
+use Rattle.btree_nodes.specs.Damages.{AreReadable, AsksOnly}
 use Rattle.btree_nodes.proofs.Harms.{asks-further, asks-nothing}
 use Rattle.node_rows.proofs.Harms.{harm-later}
 use Rattle.irtree_insert.proofs.root.raise_root.Goals as goal
 
-pub returns-in_err-refresh-clause-honest : goal.returns-in_err-refresh-clause-honest
-returns-in_err-refresh-clause-honest g c =
+pub returns-in_err-refresh-clause-no_false_damage : goal.returns-in_err-refresh-clause-no_false_damage
+returns-in_err-refresh-clause-no_false_damage g c =
     let passed = err_from_is_err_and c.from_residual-in_err-refresh.result c.from_residual-in_err-refresh.ensures.1 in
     rw (passed.1, passed.2) (λ free sums wide least raised told damage e.
     let rows : ℕ = c.args.tree.now.rows in
@@ -31,12 +31,12 @@ returns-in_err-refresh-clause-honest g c =
     let c0 : ℕ = g.P.Pages.count c.store_new.new.pages in
     let f0 : ℕ = g.P.Pages.first c.store_new.new.pages in
     let take = c.in_ok-top.ensures.taken rows free raised.supplied in
-    c.refresh.ensures.honest take.free take.moves.supplied.rows
+    c.refresh.ensures.no_false_damage take.free take.moves.supplied.rows
     (root_apart node_of before least c.args.level c.args.root top left more sums wide (reach_of c.args.rect.now) raised refl (λ d. refl) taken rows c0 f0 c.put_slot-2.new.page take)
     (c.in_ok-top.ensures.told told) damage (c.in_err-refresh.was ∙ ap Err (same-fault {T = ℕ} _ _ e)))
 
-pub returns-in_err-refresh-2-clause-honest : goal.returns-in_err-refresh-2-clause-honest
-returns-in_err-refresh-2-clause-honest g c =
+pub returns-in_err-refresh-2-clause-no_false_damage : goal.returns-in_err-refresh-2-clause-no_false_damage
+returns-in_err-refresh-2-clause-no_false_damage g c =
     let passed = err_from_is_err_and c.from_residual-in_err-refresh-2.result c.from_residual-in_err-refresh-2.ensures.1 in
     rw (passed.1, passed.2) (λ free sums wide least raised told damage e.
     let rows : ℕ = c.args.tree.now.rows in
@@ -50,7 +50,7 @@ returns-in_err-refresh-2-clause-honest g c =
     let take = c.in_ok-top.ensures.taken rows free raised.supplied in
     let turn = c.in_ok-refresh.ensures.turns take.free take.moves.supplied.rows
     (root_apart node_of before least c.args.level c.args.root top left more sums wide (reach_of c.args.rect.now) raised refl (λ d. refl) taken rows c0 f0 c.put_slot-2.new.page take) in
-    c.refresh-2.ensures.honest turn.free turn.rows
+    c.refresh-2.ensures.no_false_damage turn.free turn.rows
     (more_apart node_of before least c.args.level c.args.root top left more sums wide (reach_of c.args.rect.now) raised refl (λ d. refl) taken rows c0 f0 c.put_slot-2.new.page take)
     (told-turned (plain (view taken rows c0 f0 take.free)) rows (g.P.Pages.pages c.refresh.new.pages) (g.P.Pages.count c.refresh.new.pages) (g.P.Pages.first c.refresh.new.pages) c.refresh.new.tree.rows _ turn (c.in_ok-top.ensures.told told))
     damage (c.in_err-refresh-2.was ∙ ap Err (same-fault {T = ℕ} _ _ e)))
@@ -115,7 +115,7 @@ returns-in_err-refresh-clause-damaged g c = λ told damage.
     let a0 : List ℕ = p.asked c.args.pages.now in
     let a1 : List ℕ = p.asked c.store_new.new.pages in
     let more1 : AsksOnly (λ _. 1) a0 a1 = asks-nothing (λ _. 1) a0 a1 c.store_new.ensures.asked in
-    let told1 : AreTold (p.pages c.store_new.new.pages) (p.count c.store_new.new.pages) = c.in_ok-top.ensures.told told in
+    let told1 : AreReadable (p.pages c.store_new.new.pages) (p.count c.store_new.new.pages) = c.in_ok-top.ensures.told told in
     let a2 : List ℕ = p.asked c.refresh.new.pages in
     let r = err_from_is_err_and c.from_residual-in_err-refresh.result c.from_residual-in_err-refresh.ensures.1 in
     λ e. (let same : c.in_err-refresh.field-0.0 ≡ Damaged damage = cc (r.1, r.2, e) in
@@ -127,7 +127,7 @@ returns-in_err-refresh-clause-more g c = λ told.
     let a0 : List ℕ = p.asked c.args.pages.now in
     let a1 : List ℕ = p.asked c.store_new.new.pages in
     let more1 : AsksOnly (λ _. 1) a0 a1 = asks-nothing (λ _. 1) a0 a1 c.store_new.ensures.asked in
-    let told1 : AreTold (p.pages c.store_new.new.pages) (p.count c.store_new.new.pages) = c.in_ok-top.ensures.told told in
+    let told1 : AreReadable (p.pages c.store_new.new.pages) (p.count c.store_new.new.pages) = c.in_ok-top.ensures.told told in
     let a2 : List ℕ = p.asked c.refresh.new.pages in
     let more2 : AsksOnly (λ _. 1) a0 a2 = asks-further (λ _. 1) a0 a1 a2 more1 (c.refresh.ensures.more told1) in
     more2
@@ -138,10 +138,10 @@ returns-in_err-refresh-2-clause-damaged g c = λ told damage.
     let a0 : List ℕ = p.asked c.args.pages.now in
     let a1 : List ℕ = p.asked c.store_new.new.pages in
     let more1 : AsksOnly (λ _. 1) a0 a1 = asks-nothing (λ _. 1) a0 a1 c.store_new.ensures.asked in
-    let told1 : AreTold (p.pages c.store_new.new.pages) (p.count c.store_new.new.pages) = c.in_ok-top.ensures.told told in
+    let told1 : AreReadable (p.pages c.store_new.new.pages) (p.count c.store_new.new.pages) = c.in_ok-top.ensures.told told in
     let a2 : List ℕ = p.asked c.refresh.new.pages in
     let more2 : AsksOnly (λ _. 1) a0 a2 = asks-further (λ _. 1) a0 a1 a2 more1 (c.refresh.ensures.more told1) in
-    let told2 : AreTold (p.pages c.refresh.new.pages) (p.count c.refresh.new.pages) = c.in_ok-refresh.ensures.told told1 in
+    let told2 : AreReadable (p.pages c.refresh.new.pages) (p.count c.refresh.new.pages) = c.in_ok-refresh.ensures.told told1 in
     let a3 : List ℕ = p.asked c.refresh-2.new.pages in
     let r = err_from_is_err_and c.from_residual-in_err-refresh-2.result c.from_residual-in_err-refresh-2.ensures.1 in
     λ e. (let same : c.in_err-refresh-2.field-0.0 ≡ Damaged damage = cc (r.1, r.2, e) in
@@ -153,10 +153,10 @@ returns-in_err-refresh-2-clause-more g c = λ told.
     let a0 : List ℕ = p.asked c.args.pages.now in
     let a1 : List ℕ = p.asked c.store_new.new.pages in
     let more1 : AsksOnly (λ _. 1) a0 a1 = asks-nothing (λ _. 1) a0 a1 c.store_new.ensures.asked in
-    let told1 : AreTold (p.pages c.store_new.new.pages) (p.count c.store_new.new.pages) = c.in_ok-top.ensures.told told in
+    let told1 : AreReadable (p.pages c.store_new.new.pages) (p.count c.store_new.new.pages) = c.in_ok-top.ensures.told told in
     let a2 : List ℕ = p.asked c.refresh.new.pages in
     let more2 : AsksOnly (λ _. 1) a0 a2 = asks-further (λ _. 1) a0 a1 a2 more1 (c.refresh.ensures.more told1) in
-    let told2 : AreTold (p.pages c.refresh.new.pages) (p.count c.refresh.new.pages) = c.in_ok-refresh.ensures.told told1 in
+    let told2 : AreReadable (p.pages c.refresh.new.pages) (p.count c.refresh.new.pages) = c.in_ok-refresh.ensures.told told1 in
     let a3 : List ℕ = p.asked c.refresh-2.new.pages in
     asks-further (λ _. 1) a0 a2 a3 more2 (c.refresh-2.ensures.more told2)
 
@@ -166,10 +166,10 @@ returns-clause-told g c = λ told.
     let a0 : List ℕ = p.asked c.args.pages.now in
     let a1 : List ℕ = p.asked c.store_new.new.pages in
     let more1 : AsksOnly (λ _. 1) a0 a1 = asks-nothing (λ _. 1) a0 a1 c.store_new.ensures.asked in
-    let told1 : AreTold (p.pages c.store_new.new.pages) (p.count c.store_new.new.pages) = c.in_ok-top.ensures.told told in
+    let told1 : AreReadable (p.pages c.store_new.new.pages) (p.count c.store_new.new.pages) = c.in_ok-top.ensures.told told in
     let a2 : List ℕ = p.asked c.refresh.new.pages in
     let more2 : AsksOnly (λ _. 1) a0 a2 = asks-further (λ _. 1) a0 a1 a2 more1 (c.refresh.ensures.more told1) in
-    let told2 : AreTold (p.pages c.refresh.new.pages) (p.count c.refresh.new.pages) = c.in_ok-refresh.ensures.told told1 in
+    let told2 : AreReadable (p.pages c.refresh.new.pages) (p.count c.refresh.new.pages) = c.in_ok-refresh.ensures.told told1 in
     let a3 : List ℕ = p.asked c.refresh-2.new.pages in
     c.in_ok-refresh-2.ensures.told told2
 
@@ -179,9 +179,9 @@ returns-clause-more g c = λ told.
     let a0 : List ℕ = p.asked c.args.pages.now in
     let a1 : List ℕ = p.asked c.store_new.new.pages in
     let more1 : AsksOnly (λ _. 1) a0 a1 = asks-nothing (λ _. 1) a0 a1 c.store_new.ensures.asked in
-    let told1 : AreTold (p.pages c.store_new.new.pages) (p.count c.store_new.new.pages) = c.in_ok-top.ensures.told told in
+    let told1 : AreReadable (p.pages c.store_new.new.pages) (p.count c.store_new.new.pages) = c.in_ok-top.ensures.told told in
     let a2 : List ℕ = p.asked c.refresh.new.pages in
     let more2 : AsksOnly (λ _. 1) a0 a2 = asks-further (λ _. 1) a0 a1 a2 more1 (c.refresh.ensures.more told1) in
-    let told2 : AreTold (p.pages c.refresh.new.pages) (p.count c.refresh.new.pages) = c.in_ok-refresh.ensures.told told1 in
+    let told2 : AreReadable (p.pages c.refresh.new.pages) (p.count c.refresh.new.pages) = c.in_ok-refresh.ensures.told told1 in
     let a3 : List ℕ = p.asked c.refresh-2.new.pages in
     asks-further (λ _. 1) a0 a2 a3 more2 (c.refresh-2.ensures.more told2)

@@ -1,15 +1,15 @@
 use Rattle.std.proofs.lemmas.Result.{err_from_is_err_and}
 use Rattle.std.proofs.Common.{◌∙◌, ◌≡◌, ap, Err}
-use Rattle.rtree_shape.specs.Stock.{view}
-use Rattle.irtree_shape.proofs.Stocks.{take-honest}
+use Rattle.rtree_nodes.specs.Stock.{view}
+use Rattle.irtree_shape.proofs.Stocks.{take-no_false_damage}
 use Rattle.irtree_shape.proofs.Stepping.{steps-take}
 use Rattle.page_face.specs.declared.fault.PageFault.TheVariants.{Damaged}
 use Rattle.irtree_insert.proofs.store.store_new.Goals as goal
 
-pub returns-in_err-page-clause-honest : goal.returns-in_err-page-clause-honest
-returns-in_err-page-clause-honest g c =
+pub returns-in_err-page-clause-no_false_damage : goal.returns-in_err-page-clause-no_false_damage
+returns-in_err-page-clause-no_false_damage g c =
     let passed = err_from_is_err_and c.from_residual.result c.from_residual.ensures.1 in
-    rw (passed.1, passed.2) (λ rows free supplied damage e. take-honest (view (g.P.Pages.pages c.args.pages.now) rows (g.P.Pages.count c.args.pages.now) (g.P.Pages.first c.args.pages.now) free) damage supplied
+    rw (passed.1, passed.2) (λ rows free supplied damage e. take-no_false_damage (view (g.P.Pages.pages c.args.pages.now) rows (g.P.Pages.count c.args.pages.now) (g.P.Pages.first c.args.pages.now) free) damage supplied
     (c.take.ensures.damaged damage (c.in_err-page.was ∙ e)))
 
 pub returns-clause-taken : goal.returns-clause-taken

@@ -1,4 +1,4 @@
-use Rattle.rtree_shape.specs.Stock.{view}
+use Rattle.rtree_nodes.specs.Stock.{view}
 use Rattle.irtree_shape.proofs.Stepping.{steps-paired}
 use Rattle.irtree_insert.proofs.Counted.{counted-some}
 use Rattle.std.proofs.Common.{◌≡◌, ap, Err}

@@ -3,10 +3,10 @@ use Rattle.std.specs.Prelude.{Option, Result, Err, IfErr, option_map, string_byt
 use Rattle.disk_model.specs.World.{LeavesOnly}
 use Rattle.disk_model.proofs.Replays.{on_ok_from}
 use Rattle.load_run.specs.Loading.{EndsLoad}
-use Rattle.run_protocol.specs.Causes.{IsEngineEnd, LacksRoomIn}
-use Rattle.run_protocol.specs.Left.{LeftByLoad}
-use Rattle.run_protocol.specs.declared.ended.Ended.{Ended}
-use Rattle.run_protocol.specs.Load.{GivesItems, IsTaken, ReachesLimit}
+use Rattle.run_outcome.specs.Causes.{IsEngineEnd, LacksRoomIn}
+use Rattle.run_outcome.specs.Left.{LeftByLoad}
+use Rattle.run_outcome.specs.declared.ended.Ended.{Ended}
+use Rattle.run_outcome.specs.Load.{GivesItems, IsTaken, ReachesLimit}
 use Rattle.command_words.specs.Job.{asked_of}
 use Rattle.command_words.specs.declared.job.Action.{Action}
 use Rattle.command_words.specs.declared.job.Action.TheVariants as actions
@@ -18,96 +18,96 @@ use Rattle.irtree_top.proofs.Jobs.{engine-unread, load-ends, make-ends, script-e
 use Rattle.irtree_top.proofs.serve.act.Goals as goal
 
 pub returns-in-Run-clause-told : goal.returns-in-Run-clause-told
-returns-in-Run-clause-told g c = λ tells told state holds.
+returns-in-Run-clause-told g c = λ readable told state holds.
     script-ends (asked_of c.args.job.now) state (g.S.Source.left c.args.source.now) c.in-Run.is (g.S.Source.left c.run_script.new.source) (g.T.Disk.world c.args.engine.now.store.disk.now) (g.T.Disk.world c.run_script.new.engine.store.disk.now) c.run_script.result
-    (c.run_script.ensures.told tells told state holds)
+    (c.run_script.ensures.told readable told state holds)
 
 pub returns-in-Run-clause-any_moment : goal.returns-in-Run-clause-any_moment
-returns-in-Run-clause-any_moment g c = λ tells told state holds.
-    script-left (asked_of c.args.job.now) state (g.S.Source.left c.args.source.now) c.requires.some c.in-Run.is (g.T.Disk.world c.args.engine.now.store.disk.now) (g.T.Disk.world c.run_script.new.engine.store.disk.now) (c.run_script.ensures.any_moment tells told state holds)
+returns-in-Run-clause-any_moment g c = λ readable told state holds.
+    script-left (asked_of c.args.job.now) state (g.S.Source.left c.args.source.now) c.requires.some c.in-Run.is (g.T.Disk.world c.args.engine.now.store.disk.now) (g.T.Disk.world c.run_script.new.engine.store.disk.now) (c.run_script.ensures.any_moment readable told state holds)
 
 pub returns-in-Run-clause-opens_few : goal.returns-in-Run-clause-opens_few
-returns-in-Run-clause-opens_few g c = λ runs tells told state holds asks.
-    script-opens state (g.S.Source.left c.args.source.now) c.run_script.result (g.T.Disk.world c.args.engine.now.store.disk.now) (g.T.Disk.world c.run_script.new.engine.store.disk.now) (c.run_script.ensures.opens_few tells told state holds asks)
+returns-in-Run-clause-opens_few g c = λ runs readable told state holds asks.
+    script-opens state (g.S.Source.left c.args.source.now) c.run_script.result (g.T.Disk.world c.args.engine.now.store.disk.now) (g.T.Disk.world c.run_script.new.engine.store.disk.now) (c.run_script.ensures.opens_few readable told state holds asks)
 
 pub returns-in-Load-clause-opens_few : goal.returns-in-Load-clause-opens_few
-returns-in-Load-clause-opens_few g c = λ runs tells told state holds asks. let loads : actions.Load ≡ actions.Run = sym c.in-Load.is ∙ runs in absurd (cc)
+returns-in-Load-clause-opens_few g c = λ runs readable told state holds asks. let loads : actions.Load ≡ actions.Run = sym c.in-Load.is ∙ runs in absurd (cc)
 
 pub returns-in-Make-clause-opens_few : goal.returns-in-Make-clause-opens_few
-returns-in-Make-clause-opens_few g c = λ runs tells told state holds asks. let makes : actions.Make ≡ actions.Run = sym c.in-Make.is ∙ runs in absurd (cc)
+returns-in-Make-clause-opens_few g c = λ runs readable told state holds asks. let makes : actions.Make ≡ actions.Run = sym c.in-Make.is ∙ runs in absurd (cc)
 
 pub returns-in-Load-clause-told : goal.returns-in-Load-clause-told
-returns-in-Load-clause-told g c = λ tells told state holds.
+returns-in-Load-clause-told g c = λ readable told state holds.
     let old = g.T.Disk.world c.args.engine.now.store.disk.now in
     let new = g.T.Disk.world c.run_load.new.engine.store.disk.now in
     load-ends c.outcome_is_one.ensures (asked_of c.args.job.now) state (g.S.Source.left c.args.source.now) c.in-Load.is _ (g.S.Source.left c.run_load.new.source) old new c.run_load.result
-    (subst (λ (only : Option (List ℕ)). EndsLoad c.args.job.now.batch only state (g.S.Source.left c.args.source.now) (g.S.Source.left c.run_load.new.source) old new c.run_load.result) c.property_of-only.ensures (c.run_load.ensures.told tells told state holds))
+    (subst (λ (only : Option (List ℕ)). EndsLoad c.args.job.now.batch only state (g.S.Source.left c.args.source.now) (g.S.Source.left c.run_load.new.source) old new c.run_load.result) c.property_of-only.ensures (c.run_load.ensures.told readable told state holds))
 
 pub returns-in-Load-clause-any_moment : goal.returns-in-Load-clause-any_moment
-returns-in-Load-clause-any_moment g c = λ tells told state holds.
+returns-in-Load-clause-any_moment g c = λ readable told state holds.
     let old = g.T.Disk.world c.args.engine.now.store.disk.now in
     let new = g.T.Disk.world c.run_load.new.engine.store.disk.now in
     load-left (asked_of c.args.job.now) state (g.S.Source.left c.args.source.now) c.requires.some c.outcome_is_one.ensures c.in-Load.is old new
-    (subst (λ (only : Option (List ℕ)). LeavesOnly old new (LeftByLoad c.args.job.now.batch only state (g.S.Source.left c.args.source.now) old.said)) c.property_of-only.ensures (c.run_load.ensures.any_moment tells told state holds))
+    (subst (λ (only : Option (List ℕ)). LeavesOnly old new (LeftByLoad c.args.job.now.batch only state (g.S.Source.left c.args.source.now) old.said)) c.property_of-only.ensures (c.run_load.ensures.any_moment readable told state holds))
 
 pub returns-in-Run-clause-input : goal.returns-in-Run-clause-input
-returns-in-Run-clause-input g c = λ tells fault is.
-    subst (λ (a : Action). IsInputEnd a (option_map string_bytes c.args.job.now.text) (g.S.Source.left c.args.source.now) fault) (sym c.in-Run.is) (c.run_script.ensures.input tells fault is)
+returns-in-Run-clause-input g c = λ readable fault is.
+    subst (λ (a : Action). IsInputEnd a (option_map string_bytes c.args.job.now.text) (g.S.Source.left c.args.source.now) fault) (sym c.in-Run.is) (c.run_script.ensures.input readable fault is)
 
 pub returns-in-Run-clause-whole : goal.returns-in-Run-clause-whole
-returns-in-Run-clause-whole g c = λ tells.
-    subst (λ (a : Action). OnOk c.run_script.result (LeavesInput a (g.S.Source.left c.args.source.now) (g.S.Source.left c.run_script.new.source) × IsWholeInput a (option_map string_bytes c.args.job.now.text) (g.S.Source.left c.args.source.now))) (sym c.in-Run.is) (c.run_script.ensures.whole tells)
+returns-in-Run-clause-whole g c = λ readable.
+    subst (λ (a : Action). OnOk c.run_script.result (LeavesInput a (g.S.Source.left c.args.source.now) (g.S.Source.left c.run_script.new.source) × IsWholeInput a (option_map string_bytes c.args.job.now.text) (g.S.Source.left c.args.source.now))) (sym c.in-Run.is) (c.run_script.ensures.whole readable)
 
 pub returns-in-Run-clause-limits : goal.returns-in-Run-clause-limits
 returns-in-Run-clause-limits g c = λ fault is. subst (λ (a : Action). IsLimitOf a fault) (sym c.in-Run.is) (c.run_script.ensures.limit fault is)
 
 pub returns-in-Run-clause-reached : goal.returns-in-Run-clause-reached
-returns-in-Run-clause-reached g c = λ tells fault is.
+returns-in-Run-clause-reached g c = λ readable fault is.
     let head = c.args.engine.now.store.current.head in
     subst (λ (a : Action). ReachesLimitBy a (asked_of c.args.job.now) fault head.live head.number (g.S.Source.left c.args.source.now)) (sym c.in-Run.is) (c.run_script.ensures.limit fault is)
 
 pub returns-in-Load-clause-input : goal.returns-in-Load-clause-input
-returns-in-Load-clause-input g c = λ tells fault is.
-    let taken = subst (λ (only : Option (List ℕ)). IsTaken only (g.S.Source.left c.args.source.now) (Err fault)) c.property_of-only.ensures (c.run_load.ensures.input tells fault is) in
+returns-in-Load-clause-input g c = λ readable fault is.
+    let taken = subst (λ (only : Option (List ℕ)). IsTaken only (g.S.Source.left c.args.source.now) (Err fault)) c.property_of-only.ensures (c.run_load.ensures.input readable fault is) in
     subst (λ (a : Action). IsInputEnd a (option_map string_bytes c.args.job.now.text) (g.S.Source.left c.args.source.now) fault) (sym c.in-Load.is) taken
 
 pub returns-in-Load-clause-whole : goal.returns-in-Load-clause-whole
-returns-in-Load-clause-whole g c = λ tells.
-    let given = subst (λ (only : Option (List ℕ)). OnOk c.run_load.result ((g.S.Source.left c.run_load.new.source ≡ []) × GivesItems only (g.S.Source.left c.args.source.now))) c.property_of-only.ensures (c.run_load.ensures.whole tells) in
+returns-in-Load-clause-whole g c = λ readable.
+    let given = subst (λ (only : Option (List ℕ)). OnOk c.run_load.result ((g.S.Source.left c.run_load.new.source ≡ []) × GivesItems only (g.S.Source.left c.args.source.now))) c.property_of-only.ensures (c.run_load.ensures.whole readable) in
     subst (λ (a : Action). OnOk c.run_load.result (LeavesInput a (g.S.Source.left c.args.source.now) (g.S.Source.left c.run_load.new.source) × IsWholeInput a (option_map string_bytes c.args.job.now.text) (g.S.Source.left c.args.source.now))) (sym c.in-Load.is) given
 
 pub returns-in-Load-clause-limits : goal.returns-in-Load-clause-limits
 returns-in-Load-clause-limits g c = λ fault is. subst (λ (a : Action). IsLimitOf a fault) (sym c.in-Load.is) tt
 
 pub returns-in-Load-clause-reached : goal.returns-in-Load-clause-reached
-returns-in-Load-clause-reached g c = λ tells fault is.
+returns-in-Load-clause-reached g c = λ readable fault is.
     let head = c.args.engine.now.store.current.head in
-    let reaches = subst (λ (only : Option (List ℕ)). ReachesLimit fault head.live head.number only (g.S.Source.left c.args.source.now)) c.property_of-only.ensures (c.run_load.ensures.limit tells fault is) in
+    let reaches = subst (λ (only : Option (List ℕ)). ReachesLimit fault head.live head.number only (g.S.Source.left c.args.source.now)) c.property_of-only.ensures (c.run_load.ensures.limit readable fault is) in
     subst (λ (a : Action). ReachesLimitBy a (asked_of c.args.job.now) fault head.live head.number (g.S.Source.left c.args.source.now)) (sym c.in-Load.is) reaches
 
 -- ---- a make
 
 pub returns-in-Make-clause-told : goal.returns-in-Make-clause-told
-returns-in-Make-clause-told g c = λ tells told state holds.
+returns-in-Make-clause-told g c = λ readable told state holds.
     let input = g.S.Source.left c.args.source.now in
     make-ends (asked_of c.args.job.now) state input c.in-Make.is (Unit {0}) input (g.T.Disk.world c.args.engine.now.store.disk.now) (g.T.Disk.world c.run_make.new.engine.store.disk.now) c.run_make.result refl
     (c.run_make.ensures.told told state holds)
 
 pub returns-in-Make-clause-any_moment : goal.returns-in-Make-clause-any_moment
-returns-in-Make-clause-any_moment g c = λ tells told state holds.
+returns-in-Make-clause-any_moment g c = λ readable told state holds.
     make-left (asked_of c.args.job.now) state (g.S.Source.left c.args.source.now) c.requires.some c.in-Make.is (g.T.Disk.world c.args.engine.now.store.disk.now) (g.T.Disk.world c.run_make.new.engine.store.disk.now) (c.run_make.ensures.any_moment told state holds)
 
 pub returns-in-Make-clause-cause : goal.returns-in-Make-clause-cause
 returns-in-Make-clause-cause g c =
     let faults = g.S.Source.faults c.args.source.now in
-    job-of-engine g.T.Disk.tells faults faults (g.T.Disk.world c.args.engine.now.store.disk.now) (g.T.Disk.world c.run_make.new.engine.store.disk.now) c.run_make.result refl c.run_make.ensures.cause
+    job-of-engine g.T.Disk.readable faults faults (g.T.Disk.world c.args.engine.now.store.disk.now) (g.T.Disk.world c.run_make.new.engine.store.disk.now) c.run_make.result refl c.run_make.ensures.cause
 
 pub returns-in-Make-clause-input : goal.returns-in-Make-clause-input
-returns-in-Make-clause-input g c = λ tells fault is.
-    absurd (subst (λ (r : Result (Unit {0}) Ended). IfErr r (IsEngineEnd g.T.Disk.tells (g.T.Disk.world c.args.engine.now.store.disk.now) (g.T.Disk.world c.run_make.new.engine.store.disk.now))) is c.run_make.ensures.cause.cause)
+returns-in-Make-clause-input g c = λ readable fault is.
+    absurd (subst (λ (r : Result (Unit {0}) Ended). IfErr r (IsEngineEnd g.T.Disk.readable (g.T.Disk.world c.args.engine.now.store.disk.now) (g.T.Disk.world c.run_make.new.engine.store.disk.now))) is c.run_make.ensures.cause.cause)
 
 pub returns-in-Make-clause-whole : goal.returns-in-Make-clause-whole
-returns-in-Make-clause-whole g c = λ tells.
+returns-in-Make-clause-whole g c = λ readable.
     let input = g.S.Source.left c.args.source.now in
     on_ok_from c.run_make.result (subst (λ (a : Action). LeavesInput a input input × IsWholeInput a (option_map string_bytes c.args.job.now.text) input) (sym c.in-Make.is) (refl, tt))
 
@@ -115,23 +115,23 @@ pub returns-in-Make-clause-limits : goal.returns-in-Make-clause-limits
 returns-in-Make-clause-limits g c = λ fault is. subst (λ (a : Action). IsLimitOf a fault) (sym c.in-Make.is) tt
 
 pub returns-in-Make-clause-reached : goal.returns-in-Make-clause-reached
-returns-in-Make-clause-reached g c = λ tells fault is.
+returns-in-Make-clause-reached g c = λ readable fault is.
     let head = c.args.engine.now.store.current.head in
     subst (λ (a : Action). ReachesLimitBy a (asked_of c.args.job.now) fault head.live head.number (g.S.Source.left c.args.source.now)) (sym c.in-Make.is) (c.run_make.ensures.limit fault is)
 
 pub returns-in-Make-clause-unread : goal.returns-in-Make-clause-unread
-returns-in-Make-clause-unread g c = λ makes. (refl, engine-unread g.T.Disk.tells (g.T.Disk.world c.args.engine.now.store.disk.now) (g.T.Disk.world c.run_make.new.engine.store.disk.now) (Unit {0}) c.run_make.result c.run_make.ensures.cause.cause)
+returns-in-Make-clause-unread g c = λ makes. (refl, engine-unread g.T.Disk.readable (g.T.Disk.world c.args.engine.now.store.disk.now) (g.T.Disk.world c.run_make.new.engine.store.disk.now) (Unit {0}) c.run_make.result c.run_make.ensures.cause.cause)
 
 -- ---- a script that only reads
 
 pub returns-in-Run-clause-met : goal.returns-in-Run-clause-met
-returns-in-Run-clause-met g c = λ runs tells told reads. (c.run_script.ensures.kept tells told reads).met
+returns-in-Run-clause-met g c = λ runs readable told reads. (c.run_script.ensures.kept readable told reads).met
 
 pub returns-in-Load-clause-met : goal.returns-in-Load-clause-met
-returns-in-Load-clause-met g c = λ runs tells told reads. let loads : actions.Load ≡ actions.Run = sym c.in-Load.is ∙ runs in absurd (cc)
+returns-in-Load-clause-met g c = λ runs readable told reads. let loads : actions.Load ≡ actions.Run = sym c.in-Load.is ∙ runs in absurd (cc)
 
 pub returns-in-Make-clause-met : goal.returns-in-Make-clause-met
-returns-in-Make-clause-met g c = λ runs tells told reads. let makes : actions.Make ≡ actions.Run = sym c.in-Make.is ∙ runs in absurd (cc)
+returns-in-Make-clause-met g c = λ runs readable told reads. let makes : actions.Make ≡ actions.Run = sym c.in-Make.is ∙ runs in absurd (cc)
 
 -- ---- the room left
 

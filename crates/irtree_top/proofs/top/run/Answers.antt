@@ -1,87 +1,87 @@
 use Rattle.std.proofs.Common.{◌≡◌, ◌∙◌, ap, subst}
 use Rattle.std.specs.Prelude.{Err, IsErrOf}
-use Rattle.run_protocol.specs.declared.ended.Ended.{Ended}
-use Rattle.run_protocol.specs.declared.ended.Ended.TheVariants as ends
-use Rattle.run_protocol.specs.declared.ended.LimitFault.TheVariants as limits
+use Rattle.run_outcome.specs.declared.ended.Ended.{Ended}
+use Rattle.run_outcome.specs.declared.ended.Ended.TheVariants as ends
+use Rattle.run_outcome.specs.declared.ended.LimitFault.TheVariants as limits
 use Rattle.disk_model.specs.World.{LeavesOnly}
 use Rattle.irtree_top.specs.Run.{EndsBy, EndsJob, HoldsPrefix, IsInputEnd, IsLimitOf, IsLimitReached, IsRunEnd, IsWholeInput, LacksRoomFor, LeavesInput, NamesBrokenRule, SaysFront}
-use Rattle.run_protocol.specs.Turn.{Done}
+use Rattle.run_outcome.specs.Turn.{Done}
 use Rattle.command_words.specs.Job.{Asked, asked_of}
 use Rattle.irtree_top.proofs.Jobs.{decided-front, job-front}
 use Rattle.irtree_top.proofs.Openings.{behind-opening, complete-end}
 use Rattle.irtree_top.proofs.top.run.Goals as goal
 
 pub returns-in-Ok-run_job-clause-done : goal.returns-in-Ok-run_job-clause-done
-returns-in-Ok-run_job-clause-done g c = λ asked wants tells told state holds is.
+returns-in-Ok-run_job-clause-done g c = λ asked wants readable told state holds is.
     let same : asked_of c.in-Ok.job ≡ asked = cc (c.in-Ok.ensures.reading) in
-    subst (λ (a : Asked). EndsBy Done a state (g.S.Source.left c.args.source.now) (g.T.Disk.world c.args.station.now) (g.T.Disk.world c.run_job.new.station) × LeavesInput a.action (g.S.Source.left c.args.source.now) (g.S.Source.left c.run_job.new.source)) same (c.in-Ok-run_job.ensures.told tells told state holds)
+    subst (λ (a : Asked). EndsBy Done a state (g.S.Source.left c.args.source.now) (g.T.Disk.world c.args.station.now) (g.T.Disk.world c.run_job.new.station) × LeavesInput a.action (g.S.Source.left c.args.source.now) (g.S.Source.left c.run_job.new.source)) same (c.in-Ok-run_job.ensures.told readable told state holds)
 
 pub returns-in-Ok-run_job-clause-front : goal.returns-in-Ok-run_job-clause-front
-returns-in-Ok-run_job-clause-front g c = λ asked wants tells told state holds.
+returns-in-Ok-run_job-clause-front g c = λ asked wants readable told state holds.
     let same : asked_of c.in-Ok.job ≡ asked = cc (c.in-Ok.ensures.reading) in
     subst (λ (a : Asked). SaysFront a state (g.S.Source.left c.args.source.now) (g.T.Disk.world c.args.station.now) (g.T.Disk.world c.run_job.new.station)) same
-    (decided-front c.transcript_is_one.ensures Done (asked_of c.in-Ok.job) state _ _ _ (c.in-Ok-run_job.ensures.told tells told state holds).0)
+    (decided-front c.transcript_is_one.ensures Done (asked_of c.in-Ok.job) state _ _ _ (c.in-Ok-run_job.ensures.told readable told state holds).0)
 
 pub returns-in-Ok-run_job-clause-crash : goal.returns-in-Ok-run_job-clause-crash
-returns-in-Ok-run_job-clause-crash g c = λ asked wants tells told state holds.
+returns-in-Ok-run_job-clause-crash g c = λ asked wants readable told state holds.
     let same : asked_of c.in-Ok.job ≡ asked = cc (c.in-Ok.ensures.reading) in
-    subst (λ (a : Asked). LeavesOnly (g.T.Disk.world c.args.station.now) (g.T.Disk.world c.run_job.new.station) (HoldsPrefix a state (g.S.Source.left c.args.source.now) (g.T.Disk.world c.args.station.now))) same (c.run_job.ensures.any_moment tells told state holds)
+    subst (λ (a : Asked). LeavesOnly (g.T.Disk.world c.args.station.now) (g.T.Disk.world c.run_job.new.station) (HoldsPrefix a state (g.S.Source.left c.args.source.now) (g.T.Disk.world c.args.station.now))) same (c.run_job.ensures.any_moment readable told state holds)
 
 pub returns-in-Ok-run_job-clause-opens_few : goal.returns-in-Ok-run_job-clause-opens_few
-returns-in-Ok-run_job-clause-opens_few g c = λ asked wants runs tells told state holds asks is.
+returns-in-Ok-run_job-clause-opens_few g c = λ asked wants runs readable told state holds asks is.
     let same : asked_of c.in-Ok.job ≡ asked = cc (c.in-Ok.ensures.reading) in
-    c.in-Ok-run_job.ensures.opens_few (ap (λ (a : Asked). a.action) same ∙ runs) tells told state holds asks
+    c.in-Ok-run_job.ensures.opens_few (ap (λ (a : Asked). a.action) same ∙ runs) readable told state holds asks
 
 pub returns-in-Ok-clause-opens_few : goal.returns-in-Ok-clause-opens_few
-returns-in-Ok-clause-opens_few g c = λ asked wants runs tells told state holds asks is.
-    absurd (subst (λ (e : Ended). IsRunEnd g.T.Disk.tells (g.S.Source.faults c.args.source.now) (g.S.Source.faults c.run_job.new.source) (g.T.Disk.world c.args.station.now) (g.T.Disk.world c.run_job.new.station) e) is c.in-Err.ensures.cause.cause)
+returns-in-Ok-clause-opens_few g c = λ asked wants runs readable told state holds asks is.
+    absurd (subst (λ (e : Ended). IsRunEnd g.T.Disk.readable (g.S.Source.faults c.args.source.now) (g.S.Source.faults c.run_job.new.source) (g.T.Disk.world c.args.station.now) (g.T.Disk.world c.run_job.new.station) e) is c.in-Err.ensures.cause.cause)
 
 pub returns-in-Ok-clause-input : goal.returns-in-Ok-clause-input
-returns-in-Ok-clause-input g c = λ asked wants tells told state holds fault is.
+returns-in-Ok-clause-input g c = λ asked wants readable told state holds fault is.
     let same : asked_of c.in-Ok.job ≡ asked = cc (c.in-Ok.ensures.reading) in
     subst (λ (a : Asked). EndsJob {T = Unit {0}} a state (g.S.Source.left c.args.source.now) (g.S.Source.left c.run_job.new.source) (g.T.Disk.world c.args.station.now) (g.T.Disk.world c.run_job.new.station) (Err (ends.Input fault))) same
-    (subst (λ (e : Ended). EndsJob {T = Unit {0}} (asked_of c.in-Ok.job) state (g.S.Source.left c.args.source.now) (g.S.Source.left c.run_job.new.source) (g.T.Disk.world c.args.station.now) (g.T.Disk.world c.run_job.new.station) (Err e)) is (c.in-Err.ensures.told tells told state holds))
+    (subst (λ (e : Ended). EndsJob {T = Unit {0}} (asked_of c.in-Ok.job) state (g.S.Source.left c.args.source.now) (g.S.Source.left c.run_job.new.source) (g.T.Disk.world c.args.station.now) (g.T.Disk.world c.run_job.new.station) (Err e)) is (c.in-Err.ensures.told readable told state holds))
 
 pub returns-in-Ok-clause-limit : goal.returns-in-Ok-clause-limit
-returns-in-Ok-clause-limit g c = λ asked wants tells told state holds fault is.
+returns-in-Ok-clause-limit g c = λ asked wants readable told state holds fault is.
     let same : asked_of c.in-Ok.job ≡ asked = cc (c.in-Ok.ensures.reading) in
     subst (λ (a : Asked). EndsJob {T = Unit {0}} a state (g.S.Source.left c.args.source.now) (g.S.Source.left c.run_job.new.source) (g.T.Disk.world c.args.station.now) (g.T.Disk.world c.run_job.new.station) (Err (ends.Limit fault))) same
-    (subst (λ (e : Ended). EndsJob {T = Unit {0}} (asked_of c.in-Ok.job) state (g.S.Source.left c.args.source.now) (g.S.Source.left c.run_job.new.source) (g.T.Disk.world c.args.station.now) (g.T.Disk.world c.run_job.new.station) (Err e)) is (c.in-Err.ensures.told tells told state holds))
+    (subst (λ (e : Ended). EndsJob {T = Unit {0}} (asked_of c.in-Ok.job) state (g.S.Source.left c.args.source.now) (g.S.Source.left c.run_job.new.source) (g.T.Disk.world c.args.station.now) (g.T.Disk.world c.run_job.new.station) (Err e)) is (c.in-Err.ensures.told readable told state holds))
 
 pub returns-in-Ok-clause-source : goal.returns-in-Ok-clause-source
-returns-in-Ok-clause-source g c = λ asked wants tells told state holds is.
+returns-in-Ok-clause-source g c = λ asked wants readable told state holds is.
     let same : asked_of c.in-Ok.job ≡ asked = cc (c.in-Ok.ensures.reading) in
     (subst (λ (a : Asked). EndsJob {T = Unit {0}} a state (g.S.Source.left c.args.source.now) (g.S.Source.left c.run_job.new.source) (g.T.Disk.world c.args.station.now) (g.T.Disk.world c.run_job.new.station) (Err ends.Source)) same
-    (subst (λ (e : Ended). EndsJob {T = Unit {0}} (asked_of c.in-Ok.job) state (g.S.Source.left c.args.source.now) (g.S.Source.left c.run_job.new.source) (g.T.Disk.world c.args.station.now) (g.T.Disk.world c.run_job.new.station) (Err e)) is (c.in-Err.ensures.told tells told state holds))).0
+    (subst (λ (e : Ended). EndsJob {T = Unit {0}} (asked_of c.in-Ok.job) state (g.S.Source.left c.args.source.now) (g.S.Source.left c.run_job.new.source) (g.T.Disk.world c.args.station.now) (g.T.Disk.world c.run_job.new.station) (Err e)) is (c.in-Err.ensures.told readable told state holds))).0
 
 pub returns-in-Ok-clause-front : goal.returns-in-Ok-clause-front
-returns-in-Ok-clause-front g c = λ asked wants tells told state holds.
+returns-in-Ok-clause-front g c = λ asked wants readable told state holds.
     let same : asked_of c.in-Ok.job ≡ asked = cc (c.in-Ok.ensures.reading) in
     subst (λ (a : Asked). SaysFront a state (g.S.Source.left c.args.source.now) (g.T.Disk.world c.args.station.now) (g.T.Disk.world c.run_job.new.station)) same
-    (job-front c.transcript_is_one.ensures (Unit {0}) (asked_of c.in-Ok.job) state (g.S.Source.left c.args.source.now) (g.S.Source.left c.run_job.new.source) (g.T.Disk.world c.args.station.now) (g.T.Disk.world c.run_job.new.station) c.in-Err.end (c.in-Err.ensures.told tells told state holds))
+    (job-front c.transcript_is_one.ensures (Unit {0}) (asked_of c.in-Ok.job) state (g.S.Source.left c.args.source.now) (g.S.Source.left c.run_job.new.source) (g.T.Disk.world c.args.station.now) (g.T.Disk.world c.run_job.new.station) c.in-Err.end (c.in-Err.ensures.told readable told state holds))
 
 pub returns-in-Ok-clause-crash : goal.returns-in-Ok-clause-crash
-returns-in-Ok-clause-crash g c = λ asked wants tells told state holds.
+returns-in-Ok-clause-crash g c = λ asked wants readable told state holds.
     let same : asked_of c.in-Ok.job ≡ asked = cc (c.in-Ok.ensures.reading) in
-    subst (λ (a : Asked). LeavesOnly (g.T.Disk.world c.args.station.now) (g.T.Disk.world c.run_job.new.station) (HoldsPrefix a state (g.S.Source.left c.args.source.now) (g.T.Disk.world c.args.station.now))) same (c.run_job.ensures.any_moment tells told state holds)
+    subst (λ (a : Asked). LeavesOnly (g.T.Disk.world c.args.station.now) (g.T.Disk.world c.run_job.new.station) (HoldsPrefix a state (g.S.Source.left c.args.source.now) (g.T.Disk.world c.args.station.now))) same (c.run_job.ensures.any_moment readable told state holds)
 
 pub returns-in-Ok-run_job-clause-opened : goal.returns-in-Ok-run_job-clause-opened
-returns-in-Ok-run_job-clause-opened g c = λ behind tells. c.in-Ok-run_job.ensures.cause.opened tells
+returns-in-Ok-run_job-clause-opened g c = λ behind readable. c.in-Ok-run_job.ensures.cause.opened readable
 
 pub returns-in-Ok-clause-opened : goal.returns-in-Ok-clause-opened
-returns-in-Ok-clause-opened g c = λ behind tells.
-    behind-opening g.T.Disk.tells (g.S.Source.faults c.args.source.now) (g.S.Source.faults c.run_job.new.source) (g.T.Disk.world c.args.station.now) (g.T.Disk.world c.run_job.new.station) c.in-Err.end c.in-Err.ensures.cause.cause behind tells
+returns-in-Ok-clause-opened g c = λ behind readable.
+    behind-opening g.T.Disk.readable (g.S.Source.faults c.args.source.now) (g.S.Source.faults c.run_job.new.source) (g.T.Disk.world c.args.station.now) (g.T.Disk.world c.run_job.new.station) c.in-Err.end c.in-Err.ensures.cause.cause behind readable
 
 pub returns-in-Ok-run_job-clause-whole : goal.returns-in-Ok-run_job-clause-whole
-returns-in-Ok-run_job-clause-whole g c = λ asked wants tells is.
+returns-in-Ok-run_job-clause-whole g c = λ asked wants readable is.
     let same : asked_of c.in-Ok.job ≡ asked = cc (c.in-Ok.ensures.reading) in
-    subst (λ (a : Asked). LeavesInput a.action (g.S.Source.left c.args.source.now) (g.S.Source.left c.run_job.new.source) × IsWholeInput a.action a.text (g.S.Source.left c.args.source.now)) same (c.in-Ok-run_job.ensures.whole tells)
+    subst (λ (a : Asked). LeavesInput a.action (g.S.Source.left c.args.source.now) (g.S.Source.left c.run_job.new.source) × IsWholeInput a.action a.text (g.S.Source.left c.args.source.now)) same (c.in-Ok-run_job.ensures.whole readable)
 
 pub returns-in-Ok-clause-input_end : goal.returns-in-Ok-clause-input_end
-returns-in-Ok-clause-input_end g c = λ asked wants tells fault is.
+returns-in-Ok-clause-input_end g c = λ asked wants readable fault is.
     let same : asked_of c.in-Ok.job ≡ asked = cc (c.in-Ok.ensures.reading) in
     let named : IsErrOf c.run_job.result (ends.Input fault) = cc in
-    subst (λ (a : Asked). IsInputEnd a.action a.text (g.S.Source.left c.args.source.now) fault) same (c.run_job.ensures.input tells fault named)
+    subst (λ (a : Asked). IsInputEnd a.action a.text (g.S.Source.left c.args.source.now) fault) same (c.run_job.ensures.input readable fault named)
 
 pub returns-in-Ok-clause-limits : goal.returns-in-Ok-clause-limits
 returns-in-Ok-clause-limits g c = λ asked wants fault is.
@@ -90,10 +90,10 @@ returns-in-Ok-clause-limits g c = λ asked wants fault is.
     subst (λ (a : Asked). IsLimitOf a.action fault) same (c.run_job.ensures.limits fault named)
 
 pub returns-in-Ok-clause-reached : goal.returns-in-Ok-clause-reached
-returns-in-Ok-clause-reached g c = λ asked wants tells told fault is.
+returns-in-Ok-clause-reached g c = λ asked wants readable told fault is.
     let same : asked_of c.in-Ok.job ≡ asked = cc (c.in-Ok.ensures.reading) in
     let named : IsErrOf c.run_job.result (ends.Limit fault) = cc in
-    subst (λ (a : Asked). IsLimitReached fault a (g.S.Source.left c.args.source.now) (g.T.Disk.world c.args.station.now).seen) same (c.run_job.ensures.reached tells told fault named)
+    subst (λ (a : Asked). IsLimitReached fault a (g.S.Source.left c.args.source.now) (g.T.Disk.world c.args.station.now).seen) same (c.run_job.ensures.reached readable told fault named)
 
 pub returns-in-Ok-run_job-clause-unread : goal.returns-in-Ok-run_job-clause-unread
 returns-in-Ok-run_job-clause-unread g c = λ asked wants makes.
@@ -126,17 +126,17 @@ returns-in-Ok-clause-sink_told g c = λ other said. c.in-Err.ensures.cause.keeps
 pub returns-in-Ok-clause-complete : goal.returns-in-Ok-clause-complete
 returns-in-Ok-clause-complete g c = λ asked wants told state holds source disk sink.
     let same : asked_of c.in-Ok.job ≡ asked = cc (c.in-Ok.ensures.reading) in
-    complete-end g.T.Disk.tells (g.S.Source.faults c.args.source.now) (g.S.Source.faults c.run_job.new.source) (g.T.Disk.world c.args.station.now) (g.T.Disk.world c.run_job.new.station) asked.action state told holds source disk sink c.in-Err.end
+    complete-end g.T.Disk.readable (g.S.Source.faults c.args.source.now) (g.S.Source.faults c.run_job.new.source) (g.T.Disk.world c.args.station.now) (g.T.Disk.world c.run_job.new.station) asked.action state told holds source disk sink c.in-Err.end
     (λ fault is. let named : IsErrOf c.run_job.result (ends.Limit fault) = cc in subst (λ (a : Asked). IsLimitOf a.action fault) same (c.run_job.ensures.limits fault named))
     c.in-Err.ensures.cause.cause
 
 pub returns-in-Ok-run_job-clause-broken_rule : goal.returns-in-Ok-run_job-clause-broken_rule
-returns-in-Ok-run_job-clause-broken_rule g c = λ asked wants runs tells told reads damage is. absurd (cc)
+returns-in-Ok-run_job-clause-broken_rule g c = λ asked wants runs readable told reads damage is. absurd (cc)
 
 pub returns-in-Ok-clause-broken_rule : goal.returns-in-Ok-clause-broken_rule
-returns-in-Ok-clause-broken_rule g c = λ asked wants runs tells told reads damage is.
+returns-in-Ok-clause-broken_rule g c = λ asked wants runs readable told reads damage is.
     let same : asked_of c.in-Ok.job ≡ asked = cc (c.in-Ok.ensures.reading) in
-    subst (λ (e : Ended). NamesBrokenRule (g.T.Disk.world c.args.station.now).seen e) is (c.in-Err.ensures.broken_rule (ap (λ (a : Asked). a.action) same ∙ runs) tells told reads)
+    subst (λ (e : Ended). NamesBrokenRule (g.T.Disk.world c.args.station.now).seen e) is (c.in-Err.ensures.broken_rule (ap (λ (a : Asked). a.action) same ∙ runs) readable told reads)
 
 pub returns-in-Ok-clause-lacks : goal.returns-in-Ok-clause-lacks
 returns-in-Ok-clause-lacks g c = λ asked wants told is.

@@ -1,12 +1,12 @@
 use Rattle.std.proofs.Common.{◌≡◌, ◌≢◌, length, Ok, Err, ap, sym, subst, ◌∙◌, arith}
 use Rattle.std.proofs.lemmas.Bool.{false≢true}
 use Rattle.irtree_engine.specs.declared.fault.EngineFault.TheVariants as engine
-use Rattle.run_protocol.specs.Causes.{GoesOnBehind, end_of_engine}
-use Rattle.run_protocol.specs.declared.ended.Ended.TheVariants as ends
-use Rattle.run_protocol.specs.declared.ended.LimitFault.TheVariants as limits
-use Rattle.run_protocol.proofs.Counts.{keeps-both}
-use Rattle.run_protocol.proofs.Going.{goes-on}
-use Rattle.run_protocol.proofs.Rooms.{lacks-image}
+use Rattle.run_outcome.specs.Causes.{GoesOnBehind, end_of_engine}
+use Rattle.run_outcome.specs.declared.ended.Ended.TheVariants as ends
+use Rattle.run_outcome.specs.declared.ended.LimitFault.TheVariants as limits
+use Rattle.run_outcome.proofs.Counts.{keeps-both}
+use Rattle.run_outcome.proofs.Going.{goes-on}
+use Rattle.run_outcome.proofs.Rooms.{lacks-image}
 use Rattle.load_run.proofs.Numbers.{ended-full, limit-more, limit-of-engine}
 use Rattle.load_run.proofs.Batches.{failed, outcome-holds, not-stored, not-stored-cause}
 use Rattle.load_run.proofs.load.store_batch.Goals as goal
@@ -44,7 +44,7 @@ pub returns-in-Err-clause-cause : goal.returns-in-Err-clause-cause
 returns-in-Err-clause-cause g c =
     let was = c.in-Err.ensures in
     let on : failed c.in-Err.fault ≢ failed engine.Stopped = λ e. false≢true (sym c.requires.on ∙ was.stopped.0 e) in
-    rw c.ended_by.ensures (not-stored-cause g.T.Disk.tells c.args.updates.now (g.T.Disk.world c.args.engine.now.store.disk.now) (g.T.Disk.world c.apply_batch.new.self.store.disk.now) c.in-Err.fault (Unit {0}) was.causes on
+    rw c.ended_by.ensures (not-stored-cause g.T.Disk.readable c.args.updates.now (g.T.Disk.world c.args.engine.now.store.disk.now) (g.T.Disk.world c.apply_batch.new.self.store.disk.now) c.in-Err.fault (Unit {0}) was.causes on
     was.disk was.due was.no_head was.stays was.later was.sink)
 
 pub returns-in-Ok-clause-rises : goal.returns-in-Ok-clause-rises
@@ -65,7 +65,7 @@ returns-in-Err-clause-lacks g c = λ told is.
     let new = c.apply_batch.new.self in
     let apart : c.in-Err.fault ≡ engine.Disk → ⊥ = λ e. let both : engine.NoRoom ≡ engine.Disk = sym no ∙ e in absurd (cc) in
     let on = sym new.stops ∙ was.goes_on (λ e. apart (cc)) ∙ c.requires.on in
-    lacks-image (length c.args.updates.now) (length c.args.updates.now) _ _ c.args.engine.now.store.current g.T.Disk.tells (g.T.Disk.world new.store.disk.now) new.store.current new.store.last new.store.overlay new.store.end told (omega arith) was.room (was.as_before (ap Err no))
+    lacks-image (length c.args.updates.now) (length c.args.updates.now) _ _ c.args.engine.now.store.current g.T.Disk.readable (g.T.Disk.world new.store.disk.now) new.store.current new.store.last new.store.overlay new.store.end told (omega arith) was.room (was.as_before (ap Err no))
     new.clean new.settled (new.store.ready told on) (was.room_left (ap Err no)) (was.free_left (ap Err no))
 
 pub returns-in-Err-clause-goes_on : goal.returns-in-Err-clause-goes_on

@@ -6,7 +6,7 @@ abbrev pub invariant-pieces : goal.invariant-pieces
 invariant-pieces g l = record {
   short : length l.text.items ≤ 67108864;
   room : vec_len l.piece ≡ 65536;
-  came : IsTrue g.S.Source.tells → g.S.Source.left l.fn.source ≡ l.text.items ++ g.S.Source.left l.source;
+  came : IsTrue g.S.Source.readable → g.S.Source.left l.fn.source ≡ l.text.items ++ g.S.Source.left l.source;
   later : g.S.Source.faults l.fn.source ≤ g.S.Source.faults l.source;
   stays : g.S.Source.faults l.source ≡ g.S.Source.faults l.fn.source;
 }

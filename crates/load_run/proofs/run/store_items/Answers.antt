@@ -5,8 +5,8 @@ use Rattle.std.specs.Vec.Iter.{into_iter_items}
 use Rattle.std.proofs.lemmas.List.Elements.{All-tail}
 use Rattle.geojson_points.specs.Takes.{HasTextKey, item_of}
 use Rattle.geojson_points.specs.declared.taken.Taken.{Taken}
-use Rattle.run_protocol.specs.Causes.{LacksRoomIn}
-use Rattle.run_protocol.specs.Load.{places_among, says_loaded}
+use Rattle.run_outcome.specs.Causes.{LacksRoomIn}
+use Rattle.run_outcome.specs.Load.{places_among, says_loaded}
 use Rattle.load_run.specs.Loading.{stage_at_start}
 use Rattle.load_run.proofs.Causes.{engine-none, engine-then}
 use Rattle.load_run.proofs.Stages.{goes-as, goes-concludes, goes-then}
@@ -35,7 +35,7 @@ loop-item-init g c =
           let same = c.new-load.ensures.stage says_loaded state _ ∙ ap (λ (xs : List Taken). stage_at_start says_loaded c.args.batch state (map item_of xs)) gives.0 in
           (state, goes-as _ _ old (sym same) holds);
       rises = record { live = omega (arith, starts); number = omega (arith, starts); limit = tt };
-      cause = engine-none g.T.Disk.tells old (Unit {0}) tt;
+      cause = engine-none g.T.Disk.readable old (Unit {0}) tt;
     }
 
 pub loop-item-preserved : goal.loop-item-preserved

@@ -8,7 +8,7 @@ use Rattle.btree_nodes.specs.Supply.{View, view}
 use Rattle.btree_nodes.specs.Tree.{map_uses}
 use Rattle.btree_nodes.proofs.Harms.{asks-further, asks-more}
 use Rattle.paged_map.proofs.Maps.{kept-counted}
-use Rattle.rtree_shape.specs.Stock.{rows_form}
+use Rattle.rtree_nodes.specs.Stock.{rows_form}
 use Rattle.node_rows.specs.Rows.{Bytes, IsRows, bytes_in}
 use Rattle.node_rows.specs.Turns.{Turns}
 use Rattle.node_inverted.specs.Drafts.{IsDrafting, edited}
@@ -16,19 +16,19 @@ use Rattle.node_rows.proofs.Harms.{harm-later, harm-looked}
 use Rattle.node_rows.proofs.Turned.{view-same}
 use Rattle.node_inverted.proofs.drafting.edit_leaf.Goals as goal
 
-pub returns-in_err-there-clause-honest : goal.returns-in_err-there-clause-honest
-returns-in_err-there-clause-honest g c free rows told damage =
+pub returns-in_err-there-clause-no_false_damage : goal.returns-in_err-there-clause-no_false_damage
+returns-in_err-there-clause-no_false_damage g c free rows told damage =
     let before : View = view (g.P.Pages.pages c.args.pages.now) (g.P.Pages.count c.args.pages.now) (g.P.Pages.first c.args.pages.now) free in
     let p = err_from_is_err_and c.from_residual.result c.from_residual.ensures.1 in
     λ e. (let same : c.in_err-there.field-0.0 ≡ Damaged damage = cc (p.1, p.2, e) in
-    c.in_err-there.ensures.honest rows.kept.map (kept-counted rows_form before c.args.tree.now.rows rows.kept) told damage (ap Err same))
+    c.in_err-there.ensures.no_false_damage rows.kept.map (kept-counted rows_form before c.args.tree.now.rows rows.kept) told damage (ap Err same))
 
-pub returns-in_err-edit_one-clause-honest : goal.returns-in_err-edit_one-clause-honest
-returns-in_err-edit_one-clause-honest g c free rows told damage =
+pub returns-in_err-edit_one-clause-no_false_damage : goal.returns-in_err-edit_one-clause-no_false_damage
+returns-in_err-edit_one-clause-no_false_damage g c free rows told damage =
     let f = c.in_ok-there.ensures.frame in
     let p = err_from_is_err_and c.from_residual-in_err-edit_one.result c.from_residual-in_err-edit_one.ensures.1 in
     λ e. (let same : c.in_err-edit_one.field-0.0 ≡ Damaged damage = cc (p.1, p.2, e) in
-    c.in_err-edit_one.ensures.honest free (rw (f.pages, f.count, f.first) rows) (rw (f.pages, f.count) told) damage (ap Err same))
+    c.in_err-edit_one.ensures.no_false_damage free (rw (f.pages, f.count, f.first) rows) (rw (f.pages, f.count) told) damage (ap Err same))
 
 pub write-requires : goal.write-requires
 write-requires g c =

@@ -9,7 +9,7 @@ use Rattle.btree_nodes.specs.Supply.{View, view}
 use Rattle.btree_nodes.specs.Tree.{map_uses}
 use Rattle.btree_nodes.proofs.Harms.{asks-further, asks-more}
 use Rattle.paged_map.proofs.Maps.{kept-counted}
-use Rattle.rtree_shape.specs.Stock.{rows_form}
+use Rattle.rtree_nodes.specs.Stock.{rows_form}
 use Rattle.node_rows.specs.Rows.{Bytes, HasBytes, IsRows, bytes_in}
 use Rattle.node_rows.specs.Turns.{Turns}
 use Rattle.node_rows.specs.Impacts.{impact_at, raised, with_byte}
@@ -20,12 +20,12 @@ use Rattle.node_inverted.specs.Drafts.{edited}
 use Rattle.node_inverted.specs.declared.edits.RowEdit.{RowEdit}
 use Rattle.node_inverted.proofs.drafting.edit_one.Goals as goal
 
-pub returns-in_err-spot-in-Raise-clause-honest : goal.returns-in_err-spot-in-Raise-clause-honest
-returns-in_err-spot-in-Raise-clause-honest g c free rows told damage =
+pub returns-in_err-spot-in-Raise-clause-no_false_damage : goal.returns-in_err-spot-in-Raise-clause-no_false_damage
+returns-in_err-spot-in-Raise-clause-no_false_damage g c free rows told damage =
     let before : View = view (g.P.Pages.pages c.args.pages.now) (g.P.Pages.count c.args.pages.now) (g.P.Pages.first c.args.pages.now) free in
     let p = err_from_is_err_and c.from_residual.result c.from_residual.ensures.1 in
     λ e. (let same : c.in_err-spot-in-Raise.field-0.0 ≡ Damaged damage = cc (p.1, p.2, e) in
-    c.in_err-spot-in-Raise.ensures.honest rows.kept.map (kept-counted rows_form before c.args.tree.now.rows rows.kept) told damage (ap Err same))
+    c.in_err-spot-in-Raise.ensures.no_false_damage rows.kept.map (kept-counted rows_form before c.args.tree.now.rows rows.kept) told damage (ap Err same))
 
 pub returns-in_ok-spot-in-Raise-clause-turns : goal.returns-in_ok-spot-in-Raise-clause-turns
 returns-in_ok-spot-in-Raise-clause-turns g c = λ free rows.

@@ -33,13 +33,13 @@ loop-number-preserved g c = record {
   faults = search rules;
 }
 
-pub returns-in_err-left-clause-honest : goal.returns-in_err-left-clause-honest
-returns-in_err-left-clause-honest g c free rows told damage =
+pub returns-in_err-left-clause-no_false_damage : goal.returns-in_err-left-clause-no_false_damage
+returns-in_err-left-clause-no_false_damage g c free rows told damage =
     let before : View = view (g.P.Pages.pages c.args.pages.now) (g.P.Pages.count c.args.pages.now) (g.P.Pages.first c.args.pages.now) free in
     let t = c.loop-number.invariant.turns free rows in
     let p = err_from_is_err_and c.from_residual.result c.from_residual.ensures.1 in
     λ e. (let same : c.in_err-left.field-0.0 ≡ Damaged damage = cc (p.1, p.2, e) in
-    c.in_err-left.ensures.honest t.turn.free t.turn.rows (told-turned before c.args.tree.now.rows (g.P.Pages.pages c.loop-number.pages) (g.P.Pages.count c.loop-number.pages) (g.P.Pages.first c.loop-number.pages) c.loop-number.tree.rows
+    c.in_err-left.ensures.no_false_damage t.turn.free t.turn.rows (told-turned before c.args.tree.now.rows (g.P.Pages.pages c.loop-number.pages) (g.P.Pages.count c.loop-number.pages) (g.P.Pages.first c.loop-number.pages) c.loop-number.tree.rows
     t.bytes t.turn told) damage (ap Err same))
 
 pub returns-clause-turns : goal.returns-clause-turns

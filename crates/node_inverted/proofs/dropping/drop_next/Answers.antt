@@ -2,11 +2,11 @@ use Rattle.std.proofs.Common.{◌≡◌, List, arith, ap, subst, Err}
 use Rattle.std.proofs.lemmas.Result.{err_from_is_err_and}
 use Rattle.page_face.specs.declared.fault.PageFault.TheVariants.{Damaged}
 use Rattle.btree_nodes.specs.Supply.{View, view}
-use Rattle.btree_nodes.specs.Damages.{AreTold}
+use Rattle.btree_nodes.specs.Damages.{AreReadable}
 use Rattle.btree_nodes.specs.Tree.{map_uses}
 use Rattle.btree_nodes.proofs.Harms.{asks-further, asks-more}
 use Rattle.paged_map.proofs.Maps.{kept-counted}
-use Rattle.rtree_shape.specs.Stock.{rows_form}
+use Rattle.rtree_nodes.specs.Stock.{rows_form}
 use Rattle.node_rows.specs.Rows.{IsRows, bytes_in}
 use Rattle.node_rows.specs.Turns.{Turns}
 use Rattle.node_rows.specs.Ascents.{reached}
@@ -35,21 +35,21 @@ returns-then-len-lt-ROWS_AT_ONCE-clause-copy g c = λ before root b held h. c.in
 pub returns-clause-copy : goal.returns-clause-copy
 returns-clause-copy g c = λ before root b held h. c.in_ok-next.ensures.copy before root b held h
 
-pub returns-in_err-next-clause-honest : goal.returns-in_err-next-clause-honest
-returns-in_err-next-clause-honest g c free rows told damage =
+pub returns-in_err-next-clause-no_false_damage : goal.returns-in_err-next-clause-no_false_damage
+returns-in_err-next-clause-no_false_damage g c free rows told damage =
     let before : View = view (g.P.Pages.pages c.args.pages.now) (g.P.Pages.count c.args.pages.now) (g.P.Pages.first c.args.pages.now) free in
     let p = err_from_is_err_and c.from_residual.result c.from_residual.ensures.1 in
     λ e. (let same : c.in_err-next.field-0.0 ≡ Damaged damage = cc (p.1, p.2, e) in
-    c.in_err-next.ensures.honest rows.kept.map (kept-counted rows_form before c.args.tree.now.rows rows.kept) told damage (ap Err same))
+    c.in_err-next.ensures.no_false_damage rows.kept.map (kept-counted rows_form before c.args.tree.now.rows rows.kept) told damage (ap Err same))
 
-pub returns-in_err-set_rows-clause-honest : goal.returns-in_err-set_rows-clause-honest
-returns-in_err-set_rows-clause-honest g c free rows told damage =
+pub returns-in_err-set_rows-clause-no_false_damage : goal.returns-in_err-set_rows-clause-no_false_damage
+returns-in_err-set_rows-clause-no_false_damage g c free rows told damage =
     let r = c.clear_next.ensures.frame in
     let kept : IsRows (view (g.P.Pages.pages c.clear_next.new.pages) (g.P.Pages.count c.clear_next.new.pages) (g.P.Pages.first c.clear_next.new.pages) free) c.args.tree.now.rows = rw (r.pages, r.count, r.first) rows in
-    let told' : AreTold (g.P.Pages.pages c.clear_next.new.pages) (g.P.Pages.count c.clear_next.new.pages) = rw (r.pages, r.count) told in
+    let told' : AreReadable (g.P.Pages.pages c.clear_next.new.pages) (g.P.Pages.count c.clear_next.new.pages) = rw (r.pages, r.count) told in
     let p = err_from_is_err_and c.from_residual-in_err-set_rows.result c.from_residual-in_err-set_rows.ensures.1 in
     λ e. (let same : c.in_err-set_rows.field-0.0 ≡ Damaged damage = cc (p.1, p.2, e) in
-    c.in_err-set_rows.ensures.honest free kept told' damage (ap Err same))
+    c.in_err-set_rows.ensures.no_false_damage free kept told' damage (ap Err same))
 
 pub returns-in_err-next-clause-damaged : goal.returns-in_err-next-clause-damaged
 returns-in_err-next-clause-damaged g c = λ told damage.

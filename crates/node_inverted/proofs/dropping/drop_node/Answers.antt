@@ -5,7 +5,7 @@ use Rattle.page_face.proofs.Frames.{changes_then}
 use Rattle.btree_nodes.specs.Supply.{View, view}
 use Rattle.btree_nodes.specs.Tree.{map_rows}
 use Rattle.btree_nodes.proofs.Harms.{asks-further, asks-nothing}
-use Rattle.rtree_shape.specs.Stock.{rows_form}
+use Rattle.rtree_nodes.specs.Stock.{rows_form}
 use Rattle.node_rows.specs.Rows.{Bytes, bytes_in}
 use Rattle.node_rows.specs.Turns.{Turns, dropped}
 use Rattle.node_rows.specs.Ascents.{until, reached}
@@ -78,22 +78,22 @@ returns-clause-turns g c = λ free rows.
     (g.P.Pages.pages c.set_rows.new.pages) (g.P.Pages.count c.set_rows.new.pages) (g.P.Pages.first c.set_rows.new.pages) c.set_rows.new.tree.rows (with_rows c.args.node rs (bytes_in (g.P.Pages.pages c.loop-from.pages) c.loop-from.tree.rows)))
     c.deref.ensures.value (c.in_ok-set_rows.ensures.turns h.turn.free h.turn.rows)))
 
-pub returns-in_err-from-clause-honest : goal.returns-in_err-from-clause-honest
-returns-in_err-from-clause-honest g c free rows told damage =
+pub returns-in_err-from-clause-no_false_damage : goal.returns-in_err-from-clause-no_false_damage
+returns-in_err-from-clause-no_false_damage g c free rows told damage =
     let before : View = view (g.P.Pages.pages c.args.pages.now) (g.P.Pages.count c.args.pages.now) (g.P.Pages.first c.args.pages.now) free in
     let h = c.loop-from.invariant.dropping free rows in
     let p = err_from_is_err_and c.from_residual.result c.from_residual.ensures.1 in
     λ e. (let same : c.in_err-from.field-0.0 ≡ Damaged damage = cc (p.1, p.2, e) in
-    c.in_err-from.ensures.honest h.turn.free h.turn.rows (told-turned before c.args.tree.now.rows (g.P.Pages.pages c.loop-from.pages) (g.P.Pages.count c.loop-from.pages) (g.P.Pages.first c.loop-from.pages) c.loop-from.tree.rows
+    c.in_err-from.ensures.no_false_damage h.turn.free h.turn.rows (told-turned before c.args.tree.now.rows (g.P.Pages.pages c.loop-from.pages) (g.P.Pages.count c.loop-from.pages) (g.P.Pages.first c.loop-from.pages) c.loop-from.tree.rows
     h.bytes h.turn told) damage (ap Err same))
 
-pub returns-in_err-set_rows-clause-honest : goal.returns-in_err-set_rows-clause-honest
-returns-in_err-set_rows-clause-honest g c free rows told damage =
+pub returns-in_err-set_rows-clause-no_false_damage : goal.returns-in_err-set_rows-clause-no_false_damage
+returns-in_err-set_rows-clause-no_false_damage g c free rows told damage =
     let before : View = view (g.P.Pages.pages c.args.pages.now) (g.P.Pages.count c.args.pages.now) (g.P.Pages.first c.args.pages.now) free in
     let h = c.loop-from.invariant.dropping free rows in
     let p = err_from_is_err_and c.from_residual-in_err-set_rows.result c.from_residual-in_err-set_rows.ensures.1 in
     λ e. (let same : c.in_err-set_rows.field-0.0 ≡ Damaged damage = cc (p.1, p.2, e) in
-    c.in_err-set_rows.ensures.honest h.turn.free h.turn.rows (told-turned before c.args.tree.now.rows (g.P.Pages.pages c.loop-from.pages) (g.P.Pages.count c.loop-from.pages) (g.P.Pages.first c.loop-from.pages) c.loop-from.tree.rows
+    c.in_err-set_rows.ensures.no_false_damage h.turn.free h.turn.rows (told-turned before c.args.tree.now.rows (g.P.Pages.pages c.loop-from.pages) (g.P.Pages.count c.loop-from.pages) (g.P.Pages.first c.loop-from.pages) c.loop-from.tree.rows
     h.bytes h.turn told) damage (ap Err same))
 
 pub returns-in_err-from-clause-damaged : goal.returns-in_err-from-clause-damaged

@@ -5,7 +5,7 @@ use Rattle.page_face.proofs.Frames.{changes_then}
 use Rattle.btree_nodes.specs.Supply.{View, view}
 use Rattle.btree_nodes.specs.Tree.{map_rows}
 use Rattle.btree_nodes.proofs.Harms.{asks-further, asks-nothing}
-use Rattle.rtree_shape.specs.Stock.{rows_form}
+use Rattle.rtree_nodes.specs.Stock.{rows_form}
 use Rattle.node_rows.specs.Rows.{Bytes, bytes_in}
 use Rattle.node_rows.specs.Turns.{moved}
 use Rattle.node_rows.specs.Ascents.{until, reached}
@@ -72,22 +72,22 @@ returns-clause-turns g c = λ free apart rows clear.
     (λ n w i. ap (λ (k : ℕ). until k (f b) b n w i) e ∙ all (2 ^ 64) (f b) b (λ n' w' i' l. moved-idle c.args.node c.args.slots c.args.to b w' (λ j. large c.args.node w' j l) (λ j. large c.args.to w' j l) n' i') n w i)
     (c.in_ok-set_parts.ensures.turns before root c.args.slots (reached c.loop-from.from) b (c.loop-from.invariant.moving free apart rows clear))
 
-pub returns-in_err-from-clause-honest : goal.returns-in_err-from-clause-honest
-returns-in_err-from-clause-honest g c free apart rows clear told damage =
+pub returns-in_err-from-clause-no_false_damage : goal.returns-in_err-from-clause-no_false_damage
+returns-in_err-from-clause-no_false_damage g c free apart rows clear told damage =
     let before : View = view (g.P.Pages.pages c.args.pages.now) (g.P.Pages.count c.args.pages.now) (g.P.Pages.first c.args.pages.now) free in
     let h = c.loop-from.invariant.moving free apart rows clear in
     let p = err_from_is_err_and c.from_residual.result c.from_residual.ensures.1 in
     λ e. (let same : c.in_err-from.field-0.0 ≡ Damaged damage = cc (p.1, p.2, e) in
-    c.in_err-from.ensures.honest h.turn.free h.turn.rows (told-turned before c.args.tree.now.rows (g.P.Pages.pages c.loop-from.pages) (g.P.Pages.count c.loop-from.pages) (g.P.Pages.first c.loop-from.pages) c.loop-from.tree.rows
+    c.in_err-from.ensures.no_false_damage h.turn.free h.turn.rows (told-turned before c.args.tree.now.rows (g.P.Pages.pages c.loop-from.pages) (g.P.Pages.count c.loop-from.pages) (g.P.Pages.first c.loop-from.pages) c.loop-from.tree.rows
     h.bytes h.turn told) damage (ap Err same))
 
-pub returns-in_err-set_parts-clause-honest : goal.returns-in_err-set_parts-clause-honest
-returns-in_err-set_parts-clause-honest g c free apart rows clear told damage =
+pub returns-in_err-set_parts-clause-no_false_damage : goal.returns-in_err-set_parts-clause-no_false_damage
+returns-in_err-set_parts-clause-no_false_damage g c free apart rows clear told damage =
     let before : View = view (g.P.Pages.pages c.args.pages.now) (g.P.Pages.count c.args.pages.now) (g.P.Pages.first c.args.pages.now) free in
     let h = c.loop-from.invariant.moving free apart rows clear in
     let p = err_from_is_err_and c.from_residual-in_err-set_parts.result c.from_residual-in_err-set_parts.ensures.1 in
     λ e. (let same : c.in_err-set_parts.field-0.0 ≡ Damaged damage = cc (p.1, p.2, e) in
-    c.in_err-set_parts.ensures.honest h.turn.free h.turn.rows (told-turned before c.args.tree.now.rows (g.P.Pages.pages c.loop-from.pages) (g.P.Pages.count c.loop-from.pages) (g.P.Pages.first c.loop-from.pages) c.loop-from.tree.rows
+    c.in_err-set_parts.ensures.no_false_damage h.turn.free h.turn.rows (told-turned before c.args.tree.now.rows (g.P.Pages.pages c.loop-from.pages) (g.P.Pages.count c.loop-from.pages) (g.P.Pages.first c.loop-from.pages) c.loop-from.tree.rows
     h.bytes h.turn told) damage (ap Err same))
 
 pub returns-in_err-from-clause-damaged : goal.returns-in_err-from-clause-damaged

@@ -1,6 +1,6 @@
 use Rattle.std.proofs.Common.{◌≡◌, ℕ, List}
 use Rattle.page_face.specs.Calls.{Changes}
-use Rattle.btree_nodes.specs.Damages.{AreTold, AsksOnly}
+use Rattle.btree_nodes.specs.Damages.{AreReadable, AsksOnly}
 use Rattle.btree_nodes.specs.Supply.{view}
 use Rattle.node_rows.specs.Rows.{IsRows, bytes_in}
 use Rattle.node_rows.specs.Turns.{HasNone}
@@ -22,8 +22,8 @@ invariant-loop-from g l =
       copy : (free : List ℕ) → (l.node ≡ l.to → ⊥) → IsRows (view (p.pages l.fn.pages) (p.count l.fn.pages) (p.first l.fn.pages) free) l.fn.tree.rows
           → HasNone (bytes_in (p.pages l.fn.pages) l.fn.tree.rows) l.to
           → IsCopy (bytes_in (p.pages l.fn.pages) l.fn.tree.rows) l.node l.copy;
-      told : AreTold (p.pages l.fn.pages) (p.count l.fn.pages) → AreTold (p.pages l.pages) (p.count l.pages);
-      more : AreTold (p.pages l.fn.pages) (p.count l.fn.pages) → AsksOnly (λ _. 1) (p.asked l.fn.pages) (p.asked l.pages);
+      told : AreReadable (p.pages l.fn.pages) (p.count l.fn.pages) → AreReadable (p.pages l.pages) (p.count l.pages);
+      more : AreReadable (p.pages l.fn.pages) (p.count l.fn.pages) → AsksOnly (λ _. 1) (p.asked l.fn.pages) (p.asked l.pages);
       frame : Changes p l.fn.pages l.pages;
       faults : p.faults l.pages ≡ p.faults l.fn.pages;
     }

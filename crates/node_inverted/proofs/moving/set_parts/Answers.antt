@@ -27,21 +27,21 @@ returns-clause-turns g c = λ before root slots at b h.
     mid (g.P.Pages.count c.set_rows.new.pages) (g.P.Pages.first c.set_rows.new.pages) c.set_rows.new.tree.rows one
     new (g.P.Pages.count c.set_rows-2.new.pages) (g.P.Pages.first c.set_rows-2.new.pages) c.set_rows-2.new.tree.rows two
 
-pub returns-in_err-set_rows-clause-honest : goal.returns-in_err-set_rows-clause-honest
-returns-in_err-set_rows-clause-honest g c free rows told damage =
+pub returns-in_err-set_rows-clause-no_false_damage : goal.returns-in_err-set_rows-clause-no_false_damage
+returns-in_err-set_rows-clause-no_false_damage g c free rows told damage =
     let p = err_from_is_err_and c.from_residual.result c.from_residual.ensures.1 in
     λ e. (let same : c.in_err-set_rows.field-0.0 ≡ Damaged damage = cc (p.1, p.2, e) in
-    c.in_err-set_rows.ensures.honest free rows told damage (ap Err same))
+    c.in_err-set_rows.ensures.no_false_damage free rows told damage (ap Err same))
 
-pub returns-in_err-set_rows-2-clause-honest : goal.returns-in_err-set_rows-2-clause-honest
-returns-in_err-set_rows-2-clause-honest g c free rows told damage =
+pub returns-in_err-set_rows-2-clause-no_false_damage : goal.returns-in_err-set_rows-2-clause-no_false_damage
+returns-in_err-set_rows-2-clause-no_false_damage g c free rows told damage =
     let before : View = view (g.P.Pages.pages c.args.pages.now) (g.P.Pages.count c.args.pages.now) (g.P.Pages.first c.args.pages.now) free in
     let one = c.in_ok-set_rows.ensures.turns free rows in
     let told' = told-turned before c.args.tree.now.rows (g.P.Pages.pages c.set_rows.new.pages) (g.P.Pages.count c.set_rows.new.pages) (g.P.Pages.first c.set_rows.new.pages) c.set_rows.new.tree.rows
     (with_rows c.args.node c.deref.result.now (bytes_in (g.P.Pages.pages c.args.pages.now) c.args.tree.now.rows)) one told in
     let p = err_from_is_err_and c.from_residual-in_err-set_rows-2.result c.from_residual-in_err-set_rows-2.ensures.1 in
     λ e. (let same : c.in_err-set_rows-2.field-0.0 ≡ Damaged damage = cc (p.1, p.2, e) in
-    c.in_err-set_rows-2.ensures.honest one.free one.rows told' damage (ap Err same))
+    c.in_err-set_rows-2.ensures.no_false_damage one.free one.rows told' damage (ap Err same))
 
 pub returns-in_err-set_rows-2-clause-damaged : goal.returns-in_err-set_rows-2-clause-damaged
 returns-in_err-set_rows-2-clause-damaged g c = λ told damage.

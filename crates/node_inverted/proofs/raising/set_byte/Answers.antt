@@ -26,5 +26,5 @@ returns-clause-turns g c = λ free rows is.
     (byte-set c.args.node c.args.number c.args.slot c.args.byte b c.args.row.now c.put_byte.new.row is c.put_byte.ensures) h)
     (c.set_found.ensures.turns free rows)
 
-pub returns-clause-honest : goal.returns-clause-honest
-returns-clause-honest g c free rows damage = c.set_found.ensures.honest free rows.kept damage
+pub returns-clause-no_false_damage : goal.returns-clause-no_false_damage
+returns-clause-no_false_damage g c free rows damage = c.set_found.ensures.no_false_damage free rows.kept damage

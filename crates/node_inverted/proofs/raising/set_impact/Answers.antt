@@ -7,7 +7,7 @@ use Rattle.btree_nodes.specs.Supply.{View, view}
 use Rattle.btree_nodes.specs.Tree.{map_uses}
 use Rattle.btree_nodes.proofs.Harms.{asks-further, asks-more}
 use Rattle.paged_map.proofs.Maps.{kept-counted}
-use Rattle.rtree_shape.specs.Stock.{rows_form}
+use Rattle.rtree_nodes.specs.Stock.{rows_form}
 use Rattle.node_rows.specs.Rows.{HasBytes, IsRows, bytes_in}
 use Rattle.node_rows.specs.Turns.{Turns}
 use Rattle.node_rows.specs.Impacts.{with_byte}
@@ -28,18 +28,18 @@ returns-clause-turns g c = λ free rows.
     (with_byte c.args.node word c.args.slot c.args.impact (bytes_in w.pages root)))) v (c.set_byte.ensures.turns free) in
     step rows there
 
-pub returns-in_err-spot-clause-honest : goal.returns-in_err-spot-clause-honest
-returns-in_err-spot-clause-honest g c free rows told damage =
+pub returns-in_err-spot-clause-no_false_damage : goal.returns-in_err-spot-clause-no_false_damage
+returns-in_err-spot-clause-no_false_damage g c free rows told damage =
     let before : View = view (g.P.Pages.pages c.args.pages.now) (g.P.Pages.count c.args.pages.now) (g.P.Pages.first c.args.pages.now) free in
     let p = err_from_is_err_and c.from_residual.result c.from_residual.ensures.1 in
     λ e. (let same : c.in_err-spot.field-0.0 ≡ Damaged damage = cc (p.1, p.2, e) in
-    c.in_err-spot.ensures.honest rows.kept.map (kept-counted rows_form before c.args.tree.now.rows rows.kept) told damage (ap Err same))
+    c.in_err-spot.ensures.no_false_damage rows.kept.map (kept-counted rows_form before c.args.tree.now.rows rows.kept) told damage (ap Err same))
 
-pub returns-clause-honest : goal.returns-clause-honest
-returns-clause-honest g c free rows told damage =
+pub returns-clause-no_false_damage : goal.returns-clause-no_false_damage
+returns-clause-no_false_damage g c free rows told damage =
     let r = c.find_row.ensures.frame in
     let kept : IsRows (view (g.P.Pages.pages c.find_row.new.pages) (g.P.Pages.count c.find_row.new.pages) (g.P.Pages.first c.find_row.new.pages) free) c.args.tree.now.rows = rw (r.pages, r.count, r.first) rows in
-    c.set_byte.ensures.honest free kept damage
+    c.set_byte.ensures.no_false_damage free kept damage
 
 pub returns-clause-damaged : goal.returns-clause-damaged
 returns-clause-damaged g c = λ told damage e.

@@ -4,12 +4,12 @@ use Rattle.page_face.specs.FreeList.{PageMap}
 use Rattle.page_face.specs.declared.fault.PageFault.TheVariants.{Damaged}
 use Rattle.page_face.proofs.Frames.{changes_then}
 use Rattle.btree_nodes.specs.Supply.{View, view}
-use Rattle.btree_nodes.specs.Damages.{AreTold}
+use Rattle.btree_nodes.specs.Damages.{AreReadable}
 use Rattle.btree_nodes.proofs.Harms.{asks-further, asks-more}
 use Rattle.btree_nodes.specs.Tree.{IsMap, map_rows, map_uses}
 use Rattle.paged_map.specs.Maps.{AreCounted}
 use Rattle.paged_map.proofs.Maps.{kept-counted}
-use Rattle.rtree_shape.specs.Stock.{rows_form}
+use Rattle.rtree_nodes.specs.Stock.{rows_form}
 use Rattle.node_rows.specs.Rows.{Bytes, bytes_in}
 use Rattle.node_rows.specs.Ascents.{until}
 use Rattle.node_rows.specs.Impacts.{refreshed}
@@ -72,8 +72,8 @@ returns-clause-turns g c = λ free rows apart.
     refreshed-all before root (g.P.Pages.pages c.loop-number.pages) (g.P.Pages.count c.loop-number.pages) (g.P.Pages.first c.loop-number.pages) c.loop-number.tree.rows c.args.node c.args.slot c.args.child b c.loop-number.below c.loop-number.above bounded none
     (c.loop-number.invariant.turns before root b bounded apart begun held_low held_high).0
 
-pub returns-in_err-refresh_word-clause-honest : goal.returns-in_err-refresh_word-clause-honest
-returns-in_err-refresh_word-clause-honest g c = λ free rows apart told damage.
+pub returns-in_err-refresh_word-clause-no_false_damage : goal.returns-in_err-refresh_word-clause-no_false_damage
+returns-in_err-refresh_word-clause-no_false_damage g c = λ free rows apart told damage.
     let old : PageMap = g.P.Pages.pages c.args.pages.now in
     let before : View = view old (g.P.Pages.count c.args.pages.now) (g.P.Pages.first c.args.pages.now) free in
     let root : ℕ = c.args.tree.now.rows in
@@ -95,26 +95,26 @@ returns-in_err-refresh_word-clause-honest g c = λ free rows apart told damage.
     let still = told-turned before root (g.P.Pages.pages c.loop-number.pages) (g.P.Pages.count c.loop-number.pages) (g.P.Pages.first c.loop-number.pages) c.loop-number.tree.rows (until h.k (refreshed c.args.node c.args.slot c.args.child b) b) h.turn told in
     let p = err_from_is_err_and c.from_residual-in_err-refresh_word.result c.from_residual-in_err-refresh_word.ensures.1 in
     λ e. (let same : c.in_err-refresh_word.field-0.0 ≡ Damaged damage = cc (p.1, p.2, e) in
-    c.in_err-refresh_word.ensures.honest before root b apart first h still damage (ap Err same))
+    c.in_err-refresh_word.ensures.no_false_damage before root b apart first h still damage (ap Err same))
 
-pub returns-in_err-below-clause-honest : goal.returns-in_err-below-clause-honest
-returns-in_err-below-clause-honest g c = λ free rows apart told damage.
+pub returns-in_err-below-clause-no_false_damage : goal.returns-in_err-below-clause-no_false_damage
+returns-in_err-below-clause-no_false_damage g c = λ free rows apart told damage.
     let before : View = view (g.P.Pages.pages c.args.pages.now) (g.P.Pages.count c.args.pages.now) (g.P.Pages.first c.args.pages.now) free in
     let p = err_from_is_err_and c.from_residual.result c.from_residual.ensures.1 in
     λ e. (let same : c.in_err-below.field-0.0 ≡ Damaged damage = cc (p.1, p.2, e) in
-    c.in_err-below.ensures.honest rows.kept.map (kept-counted rows_form before c.args.tree.now.rows rows.kept) told damage (ap Err same))
+    c.in_err-below.ensures.no_false_damage rows.kept.map (kept-counted rows_form before c.args.tree.now.rows rows.kept) told damage (ap Err same))
 
-pub returns-in_err-above-clause-honest : goal.returns-in_err-above-clause-honest
-returns-in_err-above-clause-honest g c = λ free rows apart told damage.
+pub returns-in_err-above-clause-no_false_damage : goal.returns-in_err-above-clause-no_false_damage
+returns-in_err-above-clause-no_false_damage g c = λ free rows apart told damage.
     let before : View = view (g.P.Pages.pages c.args.pages.now) (g.P.Pages.count c.args.pages.now) (g.P.Pages.first c.args.pages.now) free in
     let root : ℕ = c.args.tree.now.rows in
     let one = c.next_in.ensures.frame in
     let map : IsMap rows_form (g.P.Pages.pages c.next_in.new.pages) root = rw one.pages rows.kept.map in
     let counted : AreCounted (map_uses rows_form (g.P.Pages.pages c.next_in.new.pages) root) (g.P.Pages.count c.next_in.new.pages) = rw (one.pages, one.count) (kept-counted rows_form before root rows.kept) in
-    let told' : AreTold (g.P.Pages.pages c.next_in.new.pages) (g.P.Pages.count c.next_in.new.pages) = rw (one.pages, one.count) told in
+    let told' : AreReadable (g.P.Pages.pages c.next_in.new.pages) (g.P.Pages.count c.next_in.new.pages) = rw (one.pages, one.count) told in
     let p = err_from_is_err_and c.from_residual-in_err-above.result c.from_residual-in_err-above.ensures.1 in
     λ e. (let same : c.in_err-above.field-0.0 ≡ Damaged damage = cc (p.1, p.2, e) in
-    c.in_err-above.ensures.honest map counted told' damage (ap Err same))
+    c.in_err-above.ensures.no_false_damage map counted told' damage (ap Err same))
 
 pub returns-in_err-below-clause-damaged : goal.returns-in_err-below-clause-damaged
 returns-in_err-below-clause-damaged g c = λ told damage.

@@ -4,11 +4,11 @@ use Rattle.page_face.specs.FreeList.{PageMap}
 use Rattle.page_face.specs.declared.fault.PageFault.TheVariants.{Damaged}
 use Rattle.btree_nodes.specs.Supply.{View, view}
 use Rattle.btree_nodes.specs.Tree.{IsMap, map_uses}
-use Rattle.btree_nodes.specs.Damages.{AreTold, AsksOnly}
+use Rattle.btree_nodes.specs.Damages.{AreReadable, AsksOnly}
 use Rattle.btree_nodes.proofs.Harms.{asks-further, asks-more}
 use Rattle.paged_map.specs.Maps.{AreCounted}
 use Rattle.paged_map.proofs.Maps.{kept-counted}
-use Rattle.rtree_shape.specs.Stock.{rows_form}
+use Rattle.rtree_nodes.specs.Stock.{rows_form}
 use Rattle.node_rows.specs.Rows.{Bytes, bytes_in}
 use Rattle.node_rows.specs.Ascents.{until}
 use Rattle.node_rows.specs.Impacts.{refreshed, with_byte, top_at}
@@ -64,14 +64,14 @@ returns-clause-turns g c = λ before root b bounded apart first h held_low held_
     )) (c.pass-2.ensures.ahead b k (subst (λ (p : PageMap). IsMap rows_form p c.set_byte.new.tree.rows) (sym one.pages) next.rows.kept.map)
     (subst (λ (p : PageMap). (w i : ℕ) → word < w → bytes_in p c.set_byte.new.tree.rows node w i ≡ b node w i) (sym one.pages) (λ w i m. after node w i m)) on h.high held_high)
 
-pub returns-in_err-set_byte-clause-honest : goal.returns-in_err-set_byte-clause-honest
-returns-in_err-set_byte-clause-honest g c = λ before root b apart first h told damage.
+pub returns-in_err-set_byte-clause-no_false_damage : goal.returns-in_err-set_byte-clause-no_false_damage
+returns-in_err-set_byte-clause-no_false_damage g c = λ before root b apart first h told damage.
     let p = err_from_is_err_and c.from_residual.result c.from_residual.ensures.1 in
     λ e. (let same : c.in_err-set_byte.field-0.0 ≡ Damaged damage = cc (p.1, p.2, e) in
-    c.in_err-set_byte.ensures.honest h.turn.free h.turn.rows damage (ap Err same))
+    c.in_err-set_byte.ensures.no_false_damage h.turn.free h.turn.rows damage (ap Err same))
 
-pub returns-in_err-pass-clause-honest : goal.returns-in_err-pass-clause-honest
-returns-in_err-pass-clause-honest g c = λ before root b apart first h told damage.
+pub returns-in_err-pass-clause-no_false_damage : goal.returns-in_err-pass-clause-no_false_damage
+returns-in_err-pass-clause-no_false_damage g c = λ before root b apart first h told damage.
     let old : PageMap = g.P.Pages.pages c.args.pages.now in
     let here : View = view old (g.P.Pages.count c.args.pages.now) (g.P.Pages.first c.args.pages.now) h.turn.free in
     let now : Bytes = bytes_in old c.args.tree.now.rows in
@@ -85,10 +85,10 @@ returns-in_err-pass-clause-honest g c = λ before root b apart first h told dama
     (with_byte c.args.node c.args.number c.args.slot c.greatest-byte.result now) set told in
     let p = err_from_is_err_and c.from_residual-in_err-pass.result c.from_residual-in_err-pass.ensures.1 in
     λ e. (let same : c.in_err-pass.field-0.0 ≡ Damaged damage = cc (p.1, p.2, e) in
-    c.in_err-pass.ensures.honest set.rows.kept.map (kept-counted rows_form mid c.set_byte.new.tree.rows set.rows.kept) still damage (ap Err same))
+    c.in_err-pass.ensures.no_false_damage set.rows.kept.map (kept-counted rows_form mid c.set_byte.new.tree.rows set.rows.kept) still damage (ap Err same))
 
-pub returns-clause-honest : goal.returns-clause-honest
-returns-clause-honest g c = λ before root b apart first h told damage.
+pub returns-clause-no_false_damage : goal.returns-clause-no_false_damage
+returns-clause-no_false_damage g c = λ before root b apart first h told damage.
     let old : PageMap = g.P.Pages.pages c.args.pages.now in
     let here : View = view old (g.P.Pages.count c.args.pages.now) (g.P.Pages.first c.args.pages.now) h.turn.free in
     let now : Bytes = bytes_in old c.args.tree.now.rows in
@@ -104,8 +104,8 @@ returns-clause-honest g c = λ before root b apart first h told damage.
     let one = c.pass.ensures.frame in
     let map : IsMap rows_form (g.P.Pages.pages c.pass.new.pages) rows = rw one.pages set.rows.kept.map in
     let counted : AreCounted (map_uses rows_form (g.P.Pages.pages c.pass.new.pages) rows) (g.P.Pages.count c.pass.new.pages) = rw (one.pages, one.count) (kept-counted rows_form mid rows set.rows.kept) in
-    let told' : AreTold (g.P.Pages.pages c.pass.new.pages) (g.P.Pages.count c.pass.new.pages) = rw (one.pages, one.count) still in
-    c.pass-2.ensures.honest map counted told' damage
+    let told' : AreReadable (g.P.Pages.pages c.pass.new.pages) (g.P.Pages.count c.pass.new.pages) = rw (one.pages, one.count) still in
+    c.pass-2.ensures.no_false_damage map counted told' damage
 
 pub returns-in_err-set_byte-clause-damaged : goal.returns-in_err-set_byte-clause-damaged
 returns-in_err-set_byte-clause-damaged g c = λ told damage.
@@ -130,7 +130,7 @@ returns-in_err-pass-clause-more g c = λ told.
 pub returns-clause-damaged : goal.returns-clause-damaged
 returns-clause-damaged g c = λ told damage e.
     let p = g.P.Pages in
-    let told' : AreTold (p.pages c.pass.new.pages) (p.count c.pass.new.pages) = rw (c.pass.ensures.frame.pages, c.pass.ensures.frame.count) (c.in_ok-set_byte.ensures.told told) in
+    let told' : AreReadable (p.pages c.pass.new.pages) (p.count c.pass.new.pages) = rw (c.pass.ensures.frame.pages, c.pass.ensures.frame.count) (c.in_ok-set_byte.ensures.told told) in
     let more : AsksOnly (λ _. 1) (p.asked c.args.pages.now) (p.asked c.pass.new.pages) = asks-further (λ _. 1) (p.asked c.args.pages.now) (p.asked c.set_byte.new.pages) (p.asked c.pass.new.pages) (c.set_byte.ensures.more told)
     (asks-more (map_uses rows_form (p.pages c.set_byte.new.pages) c.set_byte.new.tree.rows) (λ _. 1) (p.asked c.set_byte.new.pages) (p.asked c.pass.new.pages) (λ n h. omega arith) (c.pass.ensures.own (c.in_ok-set_byte.ensures.told told))) in
     harm-later _ (λ _. 1) (p.pages c.pass-2.new.pages) (p.count c.pass-2.new.pages) (p.first c.pass-2.new.pages) (p.asked c.args.pages.now) (p.asked c.pass.new.pages) (p.asked c.pass-2.new.pages) damage
@@ -139,7 +139,7 @@ returns-clause-damaged g c = λ told damage e.
 pub returns-clause-more : goal.returns-clause-more
 returns-clause-more g c = λ told.
     let p = g.P.Pages in
-    let told' : AreTold (p.pages c.pass.new.pages) (p.count c.pass.new.pages) = rw (c.pass.ensures.frame.pages, c.pass.ensures.frame.count) (c.in_ok-set_byte.ensures.told told) in
+    let told' : AreReadable (p.pages c.pass.new.pages) (p.count c.pass.new.pages) = rw (c.pass.ensures.frame.pages, c.pass.ensures.frame.count) (c.in_ok-set_byte.ensures.told told) in
     let more : AsksOnly (λ _. 1) (p.asked c.args.pages.now) (p.asked c.pass.new.pages) = asks-further (λ _. 1) (p.asked c.args.pages.now) (p.asked c.set_byte.new.pages) (p.asked c.pass.new.pages) (c.set_byte.ensures.more told)
     (asks-more (map_uses rows_form (p.pages c.set_byte.new.pages) c.set_byte.new.tree.rows) (λ _. 1) (p.asked c.set_byte.new.pages) (p.asked c.pass.new.pages) (λ n h. omega arith) (c.pass.ensures.own (c.in_ok-set_byte.ensures.told told))) in
     asks-further (λ _. 1) (p.asked c.args.pages.now) (p.asked c.pass.new.pages) (p.asked c.pass-2.new.pages) more
@@ -150,6 +150,6 @@ returns-clause-told g c = λ told.
     let p = g.P.Pages in
     let one = c.pass.ensures.frame in
     let two = c.pass-2.ensures.frame in
-    let told' : AreTold (p.pages c.pass.new.pages) (p.count c.pass.new.pages) = rw (one.pages, one.count) (c.in_ok-set_byte.ensures.told told) in
-    let still : AreTold (p.pages c.pass-2.new.pages) (p.count c.pass-2.new.pages) = rw (two.pages, two.count) told' in
+    let told' : AreReadable (p.pages c.pass.new.pages) (p.count c.pass.new.pages) = rw (one.pages, one.count) (c.in_ok-set_byte.ensures.told told) in
+    let still : AreReadable (p.pages c.pass-2.new.pages) (p.count c.pass-2.new.pages) = rw (two.pages, two.count) told' in
     on_ok_weaker c.pass-2.result (λ past. still) c.pass-2.ensures.past

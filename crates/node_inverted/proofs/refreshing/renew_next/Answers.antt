@@ -5,8 +5,8 @@ use Rattle.page_face.specs.declared.fault.PageFault.TheVariants.{Damaged}
 use Rattle.btree_nodes.specs.Damages.{AsksOnly}
 use Rattle.btree_nodes.specs.Tree.{IsMap, map_uses}
 use Rattle.btree_nodes.proofs.Harms.{asks-further}
-use Rattle.rtree_shape.proofs.Amounts.{same_or}
-use Rattle.rtree_shape.specs.Stock.{rows_form}
+use Rattle.rtree_nodes.proofs.Amounts.{same_or}
+use Rattle.rtree_nodes.specs.Stock.{rows_form}
 use Rattle.node_rows.specs.Rows.{Bytes, bytes_in}
 use Rattle.node_rows.specs.Turns.{Next}
 use Rattle.node_rows.specs.Impacts.{refreshed, top_at}

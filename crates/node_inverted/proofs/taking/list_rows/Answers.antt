@@ -3,11 +3,11 @@ use Rattle.std.proofs.lemmas.Result.{err_from_is_err_and}
 use Rattle.page_face.specs.FreeList.{PageMap}
 use Rattle.page_face.specs.declared.fault.PageFault.TheVariants.{Damaged}
 use Rattle.page_face.proofs.Frames.{reads_then}
-use Rattle.btree_nodes.specs.Damages.{AreTold, AsksOnly}
+use Rattle.btree_nodes.specs.Damages.{AreReadable, AsksOnly}
 use Rattle.btree_nodes.proofs.Harms.{asks-further, asks-nothing}
 use Rattle.btree_nodes.specs.Tree.{IsMap, map_rows, map_uses}
 use Rattle.paged_map.specs.Maps.{AreCounted}
-use Rattle.rtree_shape.specs.Stock.{rows_form}
+use Rattle.rtree_nodes.specs.Stock.{rows_form}
 use Rattle.node_rows.specs.Rows.{Bytes, bytes_in}
 use Rattle.node_rows.specs.Copies.{IsCopy}
 use Rattle.node_rows.specs.Ascents.{until, reached}
@@ -67,16 +67,16 @@ returns-clause-listed g c = λ map w i.
 pub returns-clause-ordered : goal.returns-clause-ordered
 returns-clause-ordered g c = subst (λ (k : ℕ). AreOrdered 0 k c.loop-from.rows.items) (ap reached c.in_default.is) c.loop-from.invariant.ordered
 
-pub returns-in_err-from-clause-honest : goal.returns-in_err-from-clause-honest
-returns-in_err-from-clause-honest g c = λ map counted told damage.
+pub returns-in_err-from-clause-no_false_damage : goal.returns-in_err-from-clause-no_false_damage
+returns-in_err-from-clause-no_false_damage g c = λ map counted told damage.
     let f = c.loop-from.invariant.frame in
     let root : ℕ = c.args.tree.now.rows in
     let map' : IsMap rows_form (g.P.Pages.pages c.loop-from.pages) root = rw f.pages map in
     let counted' : AreCounted (map_uses rows_form (g.P.Pages.pages c.loop-from.pages) root) (g.P.Pages.count c.loop-from.pages) = rw (f.pages, f.count) counted in
-    let still : AreTold (g.P.Pages.pages c.loop-from.pages) (g.P.Pages.count c.loop-from.pages) = rw (f.pages, f.count) told in
+    let still : AreReadable (g.P.Pages.pages c.loop-from.pages) (g.P.Pages.count c.loop-from.pages) = rw (f.pages, f.count) told in
     let p = err_from_is_err_and c.from_residual.result c.from_residual.ensures.1 in
     λ e. (let same : c.in_err-from.field-0.0 ≡ Damaged damage = cc (p.1, p.2, e) in
-    c.in_err-from.ensures.honest map' counted' still damage (ap Err same))
+    c.in_err-from.ensures.no_false_damage map' counted' still damage (ap Err same))
 
 pub returns-in_err-from-clause-own : goal.returns-in_err-from-clause-own
 returns-in_err-from-clause-own g c = λ told. asks-further (map_uses rows_form (g.P.Pages.pages c.args.pages.now) c.args.tree.now.rows) (g.P.Pages.asked c.args.pages.now) (g.P.Pages.asked c.loop-from.pages) (g.P.Pages.asked c.list_next.new.pages) (c.loop-from.invariant.own told)

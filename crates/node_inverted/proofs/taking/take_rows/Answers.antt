@@ -3,11 +3,11 @@ use Rattle.std.proofs.lemmas.Result.{err_from_is_err_and}
 use Rattle.page_face.specs.FreeList.{PageMap}
 use Rattle.page_face.specs.declared.fault.PageFault.TheVariants.{Damaged}
 use Rattle.btree_nodes.specs.Supply.{View, view}
-use Rattle.btree_nodes.specs.Damages.{AreTold}
+use Rattle.btree_nodes.specs.Damages.{AreReadable}
 use Rattle.btree_nodes.specs.Tree.{map_uses}
 use Rattle.btree_nodes.proofs.Harms.{asks-further, asks-more}
 use Rattle.paged_map.proofs.Maps.{kept-counted}
-use Rattle.rtree_shape.specs.Stock.{rows_form}
+use Rattle.rtree_nodes.specs.Stock.{rows_form}
 use Rattle.node_rows.specs.Rows.{IsRows, bytes_in}
 use Rattle.node_rows.specs.Turns.{Turns, dropped}
 use Rattle.node_rows.proofs.Harms.{harm-later}
@@ -28,21 +28,21 @@ returns-clause-taken g c = λ free rows.
       lifted = c.in_ok-rows.ensures.listed rows.kept.map;
     }
 
-pub returns-in_err-rows-clause-honest : goal.returns-in_err-rows-clause-honest
-returns-in_err-rows-clause-honest g c free rows told damage =
+pub returns-in_err-rows-clause-no_false_damage : goal.returns-in_err-rows-clause-no_false_damage
+returns-in_err-rows-clause-no_false_damage g c free rows told damage =
     let before : View = view (g.P.Pages.pages c.args.pages.now) (g.P.Pages.count c.args.pages.now) (g.P.Pages.first c.args.pages.now) free in
     let p = err_from_is_err_and c.from_residual.result c.from_residual.ensures.1 in
     λ e. (let same : c.in_err-rows.field-0.0 ≡ Damaged damage = cc (p.1, p.2, e) in
-    c.in_err-rows.ensures.honest rows.kept.map (kept-counted rows_form before c.args.tree.now.rows rows.kept) told damage (ap Err same))
+    c.in_err-rows.ensures.no_false_damage rows.kept.map (kept-counted rows_form before c.args.tree.now.rows rows.kept) told damage (ap Err same))
 
-pub returns-in_err-drop_node-clause-honest : goal.returns-in_err-drop_node-clause-honest
-returns-in_err-drop_node-clause-honest g c free rows told damage =
+pub returns-in_err-drop_node-clause-no_false_damage : goal.returns-in_err-drop_node-clause-no_false_damage
+returns-in_err-drop_node-clause-no_false_damage g c free rows told damage =
     let f = c.list_rows.ensures.frame in
     let there : IsRows (view (g.P.Pages.pages c.list_rows.new.pages) (g.P.Pages.count c.list_rows.new.pages) (g.P.Pages.first c.list_rows.new.pages) free) c.args.tree.now.rows = rw (f.pages, f.count, f.first) rows in
-    let told' : AreTold (g.P.Pages.pages c.list_rows.new.pages) (g.P.Pages.count c.list_rows.new.pages) = rw (f.pages, f.count) told in
+    let told' : AreReadable (g.P.Pages.pages c.list_rows.new.pages) (g.P.Pages.count c.list_rows.new.pages) = rw (f.pages, f.count) told in
     let p = err_from_is_err_and c.from_residual-in_err-drop_node.result c.from_residual-in_err-drop_node.ensures.1 in
     λ e. (let same : c.in_err-drop_node.field-0.0 ≡ Damaged damage = cc (p.1, p.2, e) in
-    c.in_err-drop_node.ensures.honest free there told' damage (ap Err same))
+    c.in_err-drop_node.ensures.no_false_damage free there told' damage (ap Err same))
 
 pub returns-in_err-rows-clause-damaged : goal.returns-in_err-rows-clause-damaged
 returns-in_err-rows-clause-damaged g c = λ told damage.

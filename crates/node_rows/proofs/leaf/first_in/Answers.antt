@@ -2,7 +2,7 @@ use Rattle.std.proofs.Common.{◌≡◌, length, arith, rules}
 use Rattle.page_face.specs.Number.{number}
 use Rattle.btree_nodes.proofs.Finds.{place_as}
 use Rattle.paged_map.proofs.Rows.{first-missed, first-found}
-use Rattle.rtree_shape.specs.Stock.{rows_form}
+use Rattle.rtree_nodes.specs.Stock.{rows_form}
 use Rattle.node_rows.proofs.leaf.first_in.Goals as goal
 
 pub returns-then-at-rows : goal.returns-then-at-rows

@@ -1,10 +1,10 @@
 use Rattle.std.proofs.Common.{◌≡◌, ◌<◌, ◌≤◌, ℕ, sym, subst, arith}
 use Rattle.std.proofs.lemmas.Result.{IfOk-weaker}
 use Rattle.page_face.specs.FreeList.{PageMap}
-use Rattle.btree_nodes.specs.Damages.{AreTold, AsksOnly}
+use Rattle.btree_nodes.specs.Damages.{AreReadable, AsksOnly}
 use Rattle.btree_nodes.specs.Tree.{IsMap, map_uses}
 use Rattle.btree_nodes.proofs.Harms.{asks-further}
-use Rattle.rtree_shape.specs.Stock.{rows_form}
+use Rattle.rtree_nodes.specs.Stock.{rows_form}
 use Rattle.node_rows.specs.Rows.{Bytes, bytes_in}
 use Rattle.node_rows.specs.Turns.{Next}
 use Rattle.node_rows.specs.Damages.{IsRowsDamage}
@@ -32,7 +32,7 @@ returns-in-Err-seek-clause-damaged g c = λ told damage e.
     let old : PageMap = g.P.Pages.pages c.args.pages.now in
     let count : ℕ = g.P.Pages.count c.args.pages.now in
     let root : ℕ = c.args.tree.now.rows in
-    let still : AreTold (g.P.Pages.pages c.fill.new.pages) (g.P.Pages.count c.fill.new.pages) = rw (f.pages, f.count) told in
+    let still : AreReadable (g.P.Pages.pages c.fill.new.pages) (g.P.Pages.count c.fill.new.pages) = rw (f.pages, f.count) told in
     damage-later old count root (map_uses rows_form old root) (g.P.Pages.asked c.args.pages.now) (g.P.Pages.asked c.fill.new.pages) (g.P.Pages.asked c.next_row.new.pages) damage (c.fill.ensures.own told)
     (subst (λ (n : ℕ). IsRowsDamage old n root (g.P.Pages.asked c.fill.new.pages) (g.P.Pages.asked c.next_row.new.pages) damage) f.count
     (subst (λ (q : PageMap). IsRowsDamage q (g.P.Pages.count c.fill.new.pages) root (g.P.Pages.asked c.fill.new.pages) (g.P.Pages.asked c.next_row.new.pages) damage) f.pages
@@ -43,6 +43,6 @@ returns-in-Err-seek-clause-own g c = λ told.
     let f = c.fill.ensures.frame in
     let old : PageMap = g.P.Pages.pages c.args.pages.now in
     let root : ℕ = c.args.tree.now.rows in
-    let still : AreTold (g.P.Pages.pages c.fill.new.pages) (g.P.Pages.count c.fill.new.pages) = rw (f.pages, f.count) told in
+    let still : AreReadable (g.P.Pages.pages c.fill.new.pages) (g.P.Pages.count c.fill.new.pages) = rw (f.pages, f.count) told in
     asks-further (map_uses rows_form old root) (g.P.Pages.asked c.args.pages.now) (g.P.Pages.asked c.fill.new.pages) (g.P.Pages.asked c.next_row.new.pages) (c.fill.ensures.own told)
     (subst (λ (p : PageMap). AsksOnly (map_uses rows_form p root) (g.P.Pages.asked c.fill.new.pages) (g.P.Pages.asked c.next_row.new.pages)) f.pages (c.next_row.ensures.own still))

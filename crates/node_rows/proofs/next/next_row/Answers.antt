@@ -6,7 +6,7 @@ use Rattle.btree_nodes.specs.Rows.{Row}
 use Rattle.btree_nodes.specs.Tree.{IsMap, map_uses}
 use Rattle.paged_map.specs.Lookups.{IsFirstFound}
 use Rattle.paged_map.proofs.Lookups.{kept-none, kept-some}
-use Rattle.rtree_shape.specs.Stock.{rows_form}
+use Rattle.rtree_nodes.specs.Stock.{rows_form}
 use Rattle.node_rows.specs.Lookups.{IsNextFound}
 use Rattle.node_rows.specs.Rows.{bytes_in, key_of}
 use Rattle.node_rows.specs.Turns.{IsNext, Next}

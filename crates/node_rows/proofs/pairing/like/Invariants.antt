@@ -1,8 +1,8 @@
 use Rattle.std.proofs.Common.{◌≡◌}
 use Rattle.page_face.specs.Calls.{Reads}
-use Rattle.btree_nodes.specs.Damages.{AreTold, AsksOnly}
+use Rattle.btree_nodes.specs.Damages.{AreReadable, AsksOnly}
 use Rattle.btree_nodes.specs.Tree.{IsMap, map_uses}
-use Rattle.rtree_shape.specs.Stock.{rows_form}
+use Rattle.rtree_nodes.specs.Stock.{rows_form}
 use Rattle.node_rows.specs.Rows.{bytes_in}
 use Rattle.node_rows.specs.Copies.{IsCopy}
 use Rattle.node_rows.specs.Ascents.{reached, left_from}
@@ -16,7 +16,7 @@ invariant-loop-from g l =
     record {
       copy : IsMap rows_form (p.pages l.fn.pages) l.tree.rows → IsCopy (bytes_in (p.pages l.fn.pages) l.tree.rows) l.node l.copy;
       counted : IsMap rows_form (p.pages l.fn.pages) l.tree.rows → IsCounted (bytes_in (p.pages l.fn.pages) l.tree.rows) l.node l.words (reached l.from) l.table;
-      own : AreTold (p.pages l.fn.pages) (p.count l.fn.pages) → AsksOnly (map_uses rows_form (p.pages l.fn.pages) l.tree.rows) (p.asked l.fn.pages) (p.asked l.pages);
+      own : AreReadable (p.pages l.fn.pages) (p.count l.fn.pages) → AsksOnly (map_uses rows_form (p.pages l.fn.pages) l.tree.rows) (p.asked l.fn.pages) (p.asked l.pages);
       frame : Reads p l.fn.pages l.pages;
       faults : p.faults l.pages ≡ p.faults l.fn.pages;
     }

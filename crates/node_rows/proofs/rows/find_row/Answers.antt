@@ -5,7 +5,7 @@ use Rattle.btree_nodes.specs.Tree.{IsMap}
 use Rattle.paged_map.specs.Lookups.{IsLookedUp}
 use Rattle.paged_map.specs.Spots.{leaf_of}
 use Rattle.paged_map.proofs.Lookups.{kept-none, kept-some}
-use Rattle.rtree_shape.specs.Stock.{rows_form}
+use Rattle.rtree_nodes.specs.Stock.{rows_form}
 use Rattle.node_rows.specs.Lookups.{IsRowFound}
 use Rattle.node_rows.specs.Rows.{HasBytes, bytes_in, key_of}
 use Rattle.node_rows.proofs.Found.{row-none, row-some}

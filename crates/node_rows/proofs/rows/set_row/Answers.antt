@@ -1,7 +1,7 @@
 use Rattle.std.proofs.Common.{◌∙◌, ◌^◌, sym}
 use Rattle.std.proofs.lemmas.Result.{on_ok_weaker}
 use Rattle.btree_nodes.specs.Supply.{View, view}
-use Rattle.rtree_shape.specs.Stock.{rows_form}
+use Rattle.rtree_nodes.specs.Stock.{rows_form}
 use Rattle.node_rows.proofs.Told.{map-within}
 use Rattle.node_rows.proofs.Turned.{turned-put, turned-without}
 use Rattle.node_rows.proofs.rows.set_row.Goals as goal

@@ -4,11 +4,11 @@ use Rattle.std.proofs.lemmas.Result.{err_from_is_err_and}
 use Rattle.page_face.specs.FreeList.{PageMap}
 use Rattle.page_face.specs.declared.fault.PageFault.TheVariants.{Damaged}
 use Rattle.page_face.proofs.Frames.{reads_then}
-use Rattle.btree_nodes.specs.Damages.{AreTold, AsksOnly}
+use Rattle.btree_nodes.specs.Damages.{AreReadable, AsksOnly}
 use Rattle.btree_nodes.specs.Tree.{IsMap, map_uses}
 use Rattle.btree_nodes.proofs.Harms.{asked-before, asks-further}
 use Rattle.paged_map.specs.Maps.{IsMapDamaged}
-use Rattle.rtree_shape.specs.Stock.{rows_form}
+use Rattle.rtree_nodes.specs.Stock.{rows_form}
 use Rattle.node_rows.specs.Rows.{HasBytes, bytes_in}
 use Rattle.node_rows.specs.Known.{AreRowsAt}
 use Rattle.node_rows.proofs.Known.{known-push}
@@ -31,7 +31,7 @@ loop-pair-preserved g c =
           (subst (λ (ps : List (ℕ × ℕ)). AreRowsAt (bytes_in old root) node ps (c.loop-pair.rows.items ++ c.in_ok-there.there ∷ [])) (sym (take_more c.args.words.now c.loop-pair.pair-index (0, 0) m))
           (known-push (bytes_in old root) node (take c.loop-pair.pair-index c.args.words.now) c.loop-pair.rows.items p c.in_ok-there.there (h.listed map) there));
       own = λ told.
-          let still : AreTold (g.P.Pages.pages c.loop-pair.pages) (g.P.Pages.count c.loop-pair.pages) = rw (f.pages, f.count) told in
+          let still : AreReadable (g.P.Pages.pages c.loop-pair.pages) (g.P.Pages.count c.loop-pair.pages) = rw (f.pages, f.count) told in
           asks-further (map_uses rows_form old root) (g.P.Pages.asked c.args.pages.now) (g.P.Pages.asked c.loop-pair.pages) (g.P.Pages.asked c.row.new.pages) (h.own told)
           (subst (λ (p : PageMap). AsksOnly (map_uses rows_form p root) (g.P.Pages.asked c.loop-pair.pages) (g.P.Pages.asked c.row.new.pages)) f.pages (c.row.ensures.own still));
       frame = reads_then g.P.Pages g.met.P.Pages.goes_further g.met.P.Pages.reads_further _ _ _ f c.row.ensures.frame;
@@ -44,7 +44,7 @@ returns-in_err-there-clause-damaged g c = λ told damage.
     let f = h.frame in
     let old : PageMap = g.P.Pages.pages c.args.pages.now in
     let root : ℕ = c.args.tree.now.rows in
-    let still : AreTold (g.P.Pages.pages c.loop-pair.pages) (g.P.Pages.count c.loop-pair.pages) = rw (f.pages, f.count) told in
+    let still : AreReadable (g.P.Pages.pages c.loop-pair.pages) (g.P.Pages.count c.loop-pair.pages) = rw (f.pages, f.count) told in
     let p = err_from_is_err_and c.from_residual.result c.from_residual.ensures.1 in
     λ e. (let same : c.in_err-there.field-0.0 ≡ Damaged damage = cc (p.1, p.2, e) in
     let d = c.in_err-there.ensures.damaged still damage (ap Err same) in (
@@ -58,7 +58,7 @@ returns-in_err-there-clause-own g c = λ told.
     let f = h.frame in
     let old : PageMap = g.P.Pages.pages c.args.pages.now in
     let root : ℕ = c.args.tree.now.rows in
-    let still : AreTold (g.P.Pages.pages c.loop-pair.pages) (g.P.Pages.count c.loop-pair.pages) = rw (f.pages, f.count) told in
+    let still : AreReadable (g.P.Pages.pages c.loop-pair.pages) (g.P.Pages.count c.loop-pair.pages) = rw (f.pages, f.count) told in
     asks-further (map_uses rows_form old root) (g.P.Pages.asked c.args.pages.now) (g.P.Pages.asked c.loop-pair.pages) (g.P.Pages.asked c.row.new.pages) (h.own told)
     (subst (λ (p : PageMap). AsksOnly (map_uses rows_form p root) (g.P.Pages.asked c.loop-pair.pages) (g.P.Pages.asked c.row.new.pages)) f.pages (c.row.ensures.own still))
 
@@ -68,6 +68,6 @@ returns-in_err-push_row-clause-own g c = λ told.
     let f = h.frame in
     let old : PageMap = g.P.Pages.pages c.args.pages.now in
     let root : ℕ = c.args.tree.now.rows in
-    let still : AreTold (g.P.Pages.pages c.loop-pair.pages) (g.P.Pages.count c.loop-pair.pages) = rw (f.pages, f.count) told in
+    let still : AreReadable (g.P.Pages.pages c.loop-pair.pages) (g.P.Pages.count c.loop-pair.pages) = rw (f.pages, f.count) told in
     asks-further (map_uses rows_form old root) (g.P.Pages.asked c.args.pages.now) (g.P.Pages.asked c.loop-pair.pages) (g.P.Pages.asked c.row.new.pages) (h.own told)
     (subst (λ (p : PageMap). AsksOnly (map_uses rows_form p root) (g.P.Pages.asked c.loop-pair.pages) (g.P.Pages.asked c.row.new.pages)) f.pages (c.row.ensures.own still))

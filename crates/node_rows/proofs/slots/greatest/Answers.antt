@@ -1,5 +1,5 @@
 use Rattle.std.proofs.Common.{◌≡◌, ℕ, ◌∙◌, ap, sym, slice_index, arith}
-use Rattle.rtree_shape.specs.Slots.{top_to}
+use Rattle.rtree_nodes.specs.Slots.{top_to}
 use Rattle.node_rows.proofs.Impacts.{top-next, top-none}
 use Rattle.node_rows.proofs.slots.greatest.Goals as goal
 

@@ -1,5 +1,5 @@
 use Rattle.std.proofs.Common.{◌≡◌, slice_index}
-use Rattle.rtree_shape.specs.Slots.{top_to}
+use Rattle.rtree_nodes.specs.Slots.{top_to}
 use Rattle.node_rows.proofs.slots.greatest.Given as goal
 
 abbrev pub invariant-loop-i : goal.invariant-loop-i

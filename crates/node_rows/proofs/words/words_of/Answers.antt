@@ -3,11 +3,11 @@ use Rattle.std.proofs.lemmas.Result.{err_from_is_err_and}
 use Rattle.page_face.specs.FreeList.{PageMap}
 use Rattle.page_face.specs.declared.fault.PageFault.TheVariants.{Damaged}
 use Rattle.page_face.proofs.Frames.{reads_then}
-use Rattle.btree_nodes.specs.Damages.{AreTold, AsksOnly}
+use Rattle.btree_nodes.specs.Damages.{AreReadable, AsksOnly}
 use Rattle.btree_nodes.specs.Tree.{IsMap, map_rows, map_uses}
 use Rattle.btree_nodes.proofs.Harms.{asks-further, asks-nothing}
 use Rattle.paged_map.specs.Maps.{AreCounted}
-use Rattle.rtree_shape.specs.Stock.{rows_form}
+use Rattle.rtree_nodes.specs.Stock.{rows_form}
 use Rattle.node_rows.specs.Rows.{Bytes, bytes_in}
 use Rattle.node_rows.specs.Copies.{IsCopy}
 use Rattle.node_rows.specs.Ascents.{until, reached}
@@ -49,7 +49,7 @@ loop-from-preserved g c =
           (subst (λ (o : Option ℕ). (n w i : ℕ) → impact_in c.loop-from.words.items w ≡ until (reached o) (tops_of (bytes_in old root) node) no_bytes n w i) c.in-Some.is (h.listed map));
       ordered = c.in_ok-from.ensures.ordered (subst (λ (o : Option ℕ). AreWords 0 (reached o) c.loop-from.words.items) c.in-Some.is h.ordered);
       own = λ told.
-          let still : AreTold (g.P.Pages.pages c.loop-from.pages) (g.P.Pages.count c.loop-from.pages) = rw (f.pages, f.count) told in
+          let still : AreReadable (g.P.Pages.pages c.loop-from.pages) (g.P.Pages.count c.loop-from.pages) = rw (f.pages, f.count) told in
           asks-further (map_uses rows_form old root) (g.P.Pages.asked c.args.pages.now) (g.P.Pages.asked c.loop-from.pages) (g.P.Pages.asked c.add_next.new.pages) (h.own told)
           (subst (λ (p : PageMap). AsksOnly (map_uses rows_form p root) (g.P.Pages.asked c.loop-from.pages) (g.P.Pages.asked c.add_next.new.pages)) f.pages (c.add_next.ensures.own still));
       frame = reads_then g.P.Pages g.met.P.Pages.goes_further g.met.P.Pages.reads_further _ _ _ f c.add_next.ensures.frame;
@@ -68,16 +68,16 @@ returns-clause-words g c = λ map w.
 pub returns-clause-ordered : goal.returns-clause-ordered
 returns-clause-ordered g c = subst (λ (k : ℕ). AreWords 0 k c.loop-from.words.items) (ap reached c.in_default.is) c.loop-from.invariant.ordered
 
-pub returns-in_err-from-clause-honest : goal.returns-in_err-from-clause-honest
-returns-in_err-from-clause-honest g c = λ map counted told damage.
+pub returns-in_err-from-clause-no_false_damage : goal.returns-in_err-from-clause-no_false_damage
+returns-in_err-from-clause-no_false_damage g c = λ map counted told damage.
     let f = c.loop-from.invariant.frame in
     let root : ℕ = c.args.tree.now.rows in
     let map' : IsMap rows_form (g.P.Pages.pages c.loop-from.pages) root = rw f.pages map in
     let counted' : AreCounted (map_uses rows_form (g.P.Pages.pages c.loop-from.pages) root) (g.P.Pages.count c.loop-from.pages) = rw (f.pages, f.count) counted in
-    let still : AreTold (g.P.Pages.pages c.loop-from.pages) (g.P.Pages.count c.loop-from.pages) = rw (f.pages, f.count) told in
+    let still : AreReadable (g.P.Pages.pages c.loop-from.pages) (g.P.Pages.count c.loop-from.pages) = rw (f.pages, f.count) told in
     let p = err_from_is_err_and c.from_residual.result c.from_residual.ensures.1 in
     λ e. (let same : c.in_err-from.field-0.0 ≡ Damaged damage = cc (p.1, p.2, e) in
-    c.in_err-from.ensures.honest map' counted' still damage (ap Err same))
+    c.in_err-from.ensures.no_false_damage map' counted' still damage (ap Err same))
 
 pub returns-in_err-from-clause-damaged : goal.returns-in_err-from-clause-damaged
 returns-in_err-from-clause-damaged g c = λ told damage.
@@ -86,7 +86,7 @@ returns-in_err-from-clause-damaged g c = λ told damage.
     let old : PageMap = g.P.Pages.pages c.args.pages.now in
     let count : ℕ = g.P.Pages.count c.args.pages.now in
     let root : ℕ = c.args.tree.now.rows in
-    let still : AreTold (g.P.Pages.pages c.loop-from.pages) (g.P.Pages.count c.loop-from.pages) = rw (f.pages, f.count) told in
+    let still : AreReadable (g.P.Pages.pages c.loop-from.pages) (g.P.Pages.count c.loop-from.pages) = rw (f.pages, f.count) told in
     let p = err_from_is_err_and c.from_residual.result c.from_residual.ensures.1 in
     λ e. (let same : c.in_err-from.field-0.0 ≡ Damaged damage = cc (p.1, p.2, e) in
     damage-later old count root (map_uses rows_form old root) (g.P.Pages.asked c.args.pages.now) (g.P.Pages.asked c.loop-from.pages) (g.P.Pages.asked c.add_next.new.pages) damage (h.own told)
@@ -100,6 +100,6 @@ returns-in_err-from-clause-own g c = λ told.
     let f = h.frame in
     let old : PageMap = g.P.Pages.pages c.args.pages.now in
     let root : ℕ = c.args.tree.now.rows in
-    let still : AreTold (g.P.Pages.pages c.loop-from.pages) (g.P.Pages.count c.loop-from.pages) = rw (f.pages, f.count) told in
+    let still : AreReadable (g.P.Pages.pages c.loop-from.pages) (g.P.Pages.count c.loop-from.pages) = rw (f.pages, f.count) told in
     asks-further (map_uses rows_form old root) (g.P.Pages.asked c.args.pages.now) (g.P.Pages.asked c.loop-from.pages) (g.P.Pages.asked c.add_next.new.pages) (h.own told)
     (subst (λ (p : PageMap). AsksOnly (map_uses rows_form p root) (g.P.Pages.asked c.loop-from.pages) (g.P.Pages.asked c.add_next.new.pages)) f.pages (c.add_next.ensures.own still))

@@ -1,8 +1,8 @@
 use Rattle.std.proofs.Common.{◌≡◌, ℕ}
 use Rattle.page_face.specs.Calls.{Reads}
-use Rattle.btree_nodes.specs.Damages.{AreTold, AsksOnly}
+use Rattle.btree_nodes.specs.Damages.{AreReadable, AsksOnly}
 use Rattle.btree_nodes.specs.Tree.{IsMap, map_uses}
-use Rattle.rtree_shape.specs.Stock.{rows_form}
+use Rattle.rtree_nodes.specs.Stock.{rows_form}
 use Rattle.node_rows.specs.Rows.{bytes_in}
 use Rattle.node_rows.specs.Copies.{IsCopy}
 use Rattle.node_rows.specs.Ascents.{reached, left_from, until}
@@ -18,7 +18,7 @@ invariant-loop-from g l =
       copy : IsMap rows_form (p.pages l.fn.pages) l.tree.rows → IsCopy (bytes_in (p.pages l.fn.pages) l.tree.rows) l.node l.copy;
       listed : IsMap rows_form (p.pages l.fn.pages) l.tree.rows → (n w i : ℕ) → impact_in l.words.items w ≡ until (reached l.from) (tops_of (bytes_in (p.pages l.fn.pages) l.tree.rows) l.node) no_bytes n w i;
       ordered : AreWords 0 (reached l.from) l.words.items;
-      own : AreTold (p.pages l.fn.pages) (p.count l.fn.pages) → AsksOnly (map_uses rows_form (p.pages l.fn.pages) l.tree.rows) (p.asked l.fn.pages) (p.asked l.pages);
+      own : AreReadable (p.pages l.fn.pages) (p.count l.fn.pages) → AsksOnly (map_uses rows_form (p.pages l.fn.pages) l.tree.rows) (p.asked l.fn.pages) (p.asked l.pages);
       frame : Reads p l.fn.pages l.pages;
       faults : p.faults l.pages ≡ p.faults l.fn.pages;
     }

@@ -10,8 +10,8 @@ invariant-loop-number g l =
       can : (goal.iterator-loop-number g).can_next l.number-iterator;
       ends : (goal.iterator-loop-number g).is_finite l.number-iterator;
       apart : (i : ℕ) → AllButPages (batch_of (kept l.pages.entries)) Pages i → AllButPages (batch_of (kept l.number-iterator)) Pages i;
-      keeps : IsTrue g.D.Disk.tells → Keeps (AllButPages (batch_of (kept l.pages.entries))) (g.D.Disk.world l.fn.disk) (g.D.Disk.world l.disk);
-      done : IsTrue g.D.Disk.tells → with_batch (batch_of (kept l.number-iterator)) ((g.D.Disk.world l.disk).seen Pages) ≡ with_batch (batch_of (kept l.pages.entries)) ((g.D.Disk.world l.fn.disk).seen Pages);
+      keeps : IsTrue g.D.Disk.readable → Keeps (AllButPages (batch_of (kept l.pages.entries))) (g.D.Disk.world l.fn.disk) (g.D.Disk.world l.disk);
+      done : IsTrue g.D.Disk.readable → with_batch (batch_of (kept l.number-iterator)) ((g.D.Disk.world l.disk).seen Pages) ≡ with_batch (batch_of (kept l.pages.entries)) ((g.D.Disk.world l.fn.disk).seen Pages);
       faults : (g.D.Disk.world l.disk).faults ≡ (g.D.Disk.world l.fn.disk).faults;
       room : g.D.Disk.room_of l.disk ≡ g.D.Disk.room_of l.fn.disk;
       sink : (g.D.Disk.world l.disk).sink_faults ≡ (g.D.Disk.world l.fn.disk).sink_faults;

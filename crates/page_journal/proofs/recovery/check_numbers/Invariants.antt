@@ -9,9 +9,9 @@ invariant-loop-k g l =
     record {
       low : 0 < l.k;
       high : l.k ≤ l.count;
-      rested : IsTrue g.D.Disk.tells → WritesNothing (g.D.Disk.world l.fn.disk) (g.D.Disk.world l.disk);
-      last : IsTrue g.D.Disk.tells → l.last ≡ (batch_at ((g.D.Disk.world l.fn.disk).seen Journal) l.at).number (l.k - 1);
-      ascends : IsTrue g.D.Disk.tells → (k : ℕ) → k + 1 < l.k → (batch_at ((g.D.Disk.world l.fn.disk).seen Journal) l.at).number k < (batch_at ((g.D.Disk.world l.fn.disk).seen Journal) l.at).number (k + 1);
+      rested : IsTrue g.D.Disk.readable → WritesNothing (g.D.Disk.world l.fn.disk) (g.D.Disk.world l.disk);
+      last : IsTrue g.D.Disk.readable → l.last ≡ (batch_at ((g.D.Disk.world l.fn.disk).seen Journal) l.at).number (l.k - 1);
+      ascends : IsTrue g.D.Disk.readable → (k : ℕ) → k + 1 < l.k → (batch_at ((g.D.Disk.world l.fn.disk).seen Journal) l.at).number k < (batch_at ((g.D.Disk.world l.fn.disk).seen Journal) l.at).number (k + 1);
       faults : (g.D.Disk.world l.disk).faults ≡ (g.D.Disk.world l.fn.disk).faults;
       room : g.D.Disk.room_of l.disk ≡ g.D.Disk.room_of l.fn.disk;
       sink : (g.D.Disk.world l.disk).sink_faults ≡ (g.D.Disk.world l.fn.disk).sink_faults;

@@ -5,8 +5,8 @@ use Rattle.page_face.specs.Number.{number}
 use Rattle.btree_nodes.specs.declared.form.Form.{Form}
 use Rattle.btree_nodes.specs.Nodes.{IsLeaf, rows_in}
 use Rattle.btree_nodes.specs.Rows.{IsWithin, lookup}
-use Rattle.btree_search.specs.Leaves.{IsShown}
-use Rattle.btree_search.specs.Steps.{low_of, high_of}
+use Rattle.btree_nodes.specs.Leaves.{IsShown}
+use Rattle.btree_nodes.specs.Steps.{low_of, high_of}
 use Rattle.paged_map.specs.Spots.{IsRowAt, leaf_of}
 use Rattle.paged_map.proofs.Leaves.{found-leaf}
 use Rattle.paged_map.proofs.Lookups.{looked-up}

@@ -8,7 +8,7 @@ use Rattle.btree_nodes.specs.declared.form.Form.{Form}
 use Rattle.btree_nodes.specs.Nodes.{IsLeaf, rows_in}
 use Rattle.btree_nodes.specs.Rows.{Row, IsWithin, first_from}
 use Rattle.btree_nodes.specs.Tree.{map_rows}
-use Rattle.btree_search.specs.Steps.{low_of, high_of}
+use Rattle.btree_nodes.specs.Steps.{low_of, high_of}
 use Rattle.paged_map.proofs.Leaves.{first-found-leaf, first-end}
 use Rattle.paged_map.proofs.Lookups.{hit-some}
 use Rattle.paged_map.proofs.Readings.{leaf-read}

@@ -5,12 +5,12 @@ use Rattle.page_face.specs.FreeList.{PageMap}
 use Rattle.page_face.specs.Number.{number}
 use Rattle.btree_nodes.specs.declared.form.Form.{Form}
 use Rattle.btree_nodes.specs.Rows.{Row, first_from}
-use Rattle.btree_nodes.specs.Damages.{AreTold}
+use Rattle.btree_nodes.specs.Damages.{AreReadable}
 use Rattle.btree_nodes.specs.Tree.{IsMap, map_rows, map_uses}
 use Rattle.btree_nodes.proofs.Checks.{upper-some}
 use Rattle.btree_nodes.proofs.Harms.{asks-nothing}
 use Rattle.btree_nodes.proofs.Walks.{same-fault}
-use Rattle.btree_search.specs.Steps.{high_of}
+use Rattle.btree_nodes.specs.Steps.{high_of}
 use Rattle.paged_map.specs.Answers.{HasRead}
 use Rattle.paged_map.specs.Lookups.{IsFirstPast, IsFirstThere}
 use Rattle.paged_map.proofs.Behind.{own-behind, named-behind}
@@ -76,7 +76,7 @@ leaves-preserved g c =
           ∙ subst (λ (x : PageMap). IsMap form x root → first_from (number (take form.key c.leaves.from)) (map_rows form x root) ≡ first_from (high_of form c.first_at.new.bounds) (map_rows form x root)) f.pages past map
           ∙ ap (λ (k : ℕ). first_from k (map_rows form old root)) is;
       first = λ told row keys rest.
-          let there : AreTold (g.P.Pages.pages c.leaves.pages) (g.P.Pages.count c.leaves.pages) = rw (f.pages, f.count) told in
+          let there : AreReadable (g.P.Pages.pages c.leaves.pages) (g.P.Pages.count c.leaves.pages) = rw (f.pages, f.count) told in
           let here = number (take form.key c.leaves.from) in
           let count : ℕ = g.P.Pages.count c.args.pages.now in
           let high_is = high_of form c.first_at.new.bounds in
@@ -98,7 +98,7 @@ leaves-preserved g c =
 pub returns-in-Ok-Some-clause-read : goal.returns-in-Ok-Some-clause-read
 returns-in-Ok-Some-clause-read g c = λ told.
     let f = c.leaves.invariant.frame in
-    let there : AreTold (g.P.Pages.pages c.leaves.pages) (g.P.Pages.count c.leaves.pages) = rw (f.pages, f.count) told in
+    let there : AreReadable (g.P.Pages.pages c.leaves.pages) (g.P.Pages.count c.leaves.pages) = rw (f.pages, f.count) told in
     let form : Form = c.args.form in
     read-behind form (g.P.Pages.pages c.args.pages.now) (g.P.Pages.pages c.leaves.pages) (map_uses form (g.P.Pages.pages c.args.pages.now) c.args.root) (g.P.Pages.asked c.args.pages.now) (g.P.Pages.asked c.leaves.pages) (g.P.Pages.asked c.first_at.new.pages)
     (number c.first_at.new.found, c.first_at.new.value) (Some c.in-Ok-Some.leaf) f.pages (c.leaves.invariant.own told)
@@ -115,7 +115,7 @@ returns-in-Ok-Some-clause-kept g c = λ told.
     let here = number (take form.key c.leaves.from) in
     let high = high_of form c.first_at.new.bounds in
     let row : Row = (number c.first_at.new.found, c.first_at.new.value) in
-    let there : AreTold (g.P.Pages.pages c.leaves.pages) (g.P.Pages.count c.leaves.pages) = rw (f.pages, f.count) told in
+    let there : AreReadable (g.P.Pages.pages c.leaves.pages) (g.P.Pages.count c.leaves.pages) = rw (f.pages, f.count) told in
     let hit : IsFirstThere form (g.P.Pages.pages c.leaves.pages) (g.P.Pages.count c.leaves.pages) root here high (Some row) =
     subst (λ (o : Option ℕ). IsFirstThere form (g.P.Pages.pages c.leaves.pages) (g.P.Pages.count c.leaves.pages) root here high (if is_some o then Some row else None)) c.in-Ok-Some.field-0-is (c.in-Ok-Some.ensures.way there) in
     let mine : IsFirstThere form old count root here high (Some row) =
@@ -133,7 +133,7 @@ returns-then-is_empty-clause-kept g c = λ told.
     let high = high_of form c.first_at.new.bounds in
     let empty : length c.high-high.result.now ≡ 0 = grind (arith, nat_tests) in
     let last : high ≡ 256 ^ form.key = upper-none form.key (take c.first_at.new.bounds.top c.first_at.new.bounds.high) (ap length (sym c.high-high.ensures.is) ∙ empty) in
-    let there : AreTold (g.P.Pages.pages c.leaves.pages) (g.P.Pages.count c.leaves.pages) = rw (f.pages, f.count) told in
+    let there : AreReadable (g.P.Pages.pages c.leaves.pages) (g.P.Pages.count c.leaves.pages) = rw (f.pages, f.count) told in
     let none : IsFirstThere form (g.P.Pages.pages c.leaves.pages) (g.P.Pages.count c.leaves.pages) root here high None =
     subst (λ (o : Option ℕ). IsFirstThere form (g.P.Pages.pages c.leaves.pages) (g.P.Pages.count c.leaves.pages) root here high (if is_some o then Some (number c.first_at.new.found, c.first_at.new.value) else None)) c.in-Ok-None.field-0-is (c.in-Ok-None.ensures.way there) in
     let mine : IsFirstThere form old count root here high None =

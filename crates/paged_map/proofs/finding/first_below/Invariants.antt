@@ -3,7 +3,7 @@ use Rattle.page_face.specs.Calls.{Reads}
 use Rattle.page_face.specs.Number.{number}
 use Rattle.btree_nodes.specs.Rows.{Row, first_from}
 use Rattle.btree_nodes.specs.Tree.{IsMap, map_rows, map_uses}
-use Rattle.btree_nodes.specs.Damages.{AreTold, AsksOnly}
+use Rattle.btree_nodes.specs.Damages.{AreReadable, AsksOnly}
 use Rattle.paged_map.specs.Lookups.{IsFirstPast}
 use Rattle.paged_map.proofs.finding.first_below.Given as goal
 
@@ -17,9 +17,9 @@ invariant-leaves g l =
     record {
       same : IsMap l.form (p.pages l.fn.pages) l.root
           → first_from (number l.key) (map_rows l.form (p.pages l.fn.pages) l.root) ≡ first_from (number (take l.form.key l.from)) (map_rows l.form (p.pages l.fn.pages) l.root);
-      first : AreTold (p.pages l.fn.pages) (p.count l.fn.pages) → (found : Option Row) (keys : List ℕ) → IsFirstPast l.form (p.pages l.fn.pages) (p.count l.fn.pages) l.root keys (number (take l.form.key l.from)) found
+      first : AreReadable (p.pages l.fn.pages) (p.count l.fn.pages) → (found : Option Row) (keys : List ℕ) → IsFirstPast l.form (p.pages l.fn.pages) (p.count l.fn.pages) l.root keys (number (take l.form.key l.from)) found
           → (all : List ℕ) × IsFirstPast l.form (p.pages l.fn.pages) (p.count l.fn.pages) l.root all (number l.key) found;
-      own : AreTold (p.pages l.fn.pages) (p.count l.fn.pages) → AsksOnly (map_uses l.form (p.pages l.fn.pages) l.root) (p.asked l.fn.pages) (p.asked l.pages);
+      own : AreReadable (p.pages l.fn.pages) (p.count l.fn.pages) → AsksOnly (map_uses l.form (p.pages l.fn.pages) l.root) (p.asked l.fn.pages) (p.asked l.pages);
       on : number l.key ≤ number (take l.form.key l.from);
       below : number (take l.form.key l.from) < 256 ^ l.form.key;
       key : length l.key ≡ l.form.key;

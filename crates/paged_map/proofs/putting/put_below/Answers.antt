@@ -11,21 +11,21 @@ use Rattle.btree_nodes.specs.Supply.{view, View, IsSupplied, spare}
 use Rattle.btree_nodes.specs.Rows.{lookup, put}
 use Rattle.btree_nodes.specs.Nodes.{least_of_root, half_of}
 use Rattle.btree_nodes.specs.Tree.{IsTree, IsFan, total, rows_at, uses, map_uses, level_of}
-use Rattle.btree_nodes.specs.Damages.{IsDamaged, IsRefusedTake, AreTold, AskedSince, AsksOnly}
+use Rattle.btree_nodes.specs.Damages.{IsDamaged, IsRefusedTake, AreReadable, AskedSince, AsksOnly}
 use Rattle.btree_nodes.specs.Store.{IsGrown, below_rows}
 use Rattle.btree_nodes.proofs.Trees.{tree-size}
 use Rattle.btree_nodes.proofs.Harms.{asks-more, asks-nothing}
 use Rattle.paged_map.specs.declared.putting.Rooted.{Rooted}
 use Rattle.paged_map.specs.Maps.{HasBecome}
 use Rattle.btree_nodes.proofs.Walks.{same-fault, told-read, uses-self, asks-read, damage-link, named-refused}
-use Rattle.btree_search.specs.Steps.{low_of, high_of}
-use Rattle.btree_search.proofs.Roots.{enter}
+use Rattle.btree_nodes.specs.Steps.{low_of, high_of}
+use Rattle.btree_nodes.proofs.Roots.{enter}
 use Rattle.btree_insert.proofs.Roots.{to-root, rooted}
 use Rattle.paged_map.proofs.Behind.{stays-behind}
 use Rattle.paged_map.proofs.Maps.{map-damage, map-undamaged, kept-counted, becomes}
-use Rattle.btree_search.proofs.Roots.{map-uses}
-use Rattle.btree_search.proofs.Roots.{map-rows}
-use Rattle.btree_search.proofs.Roots.{map-tree}
+use Rattle.btree_nodes.proofs.Roots.{map-uses}
+use Rattle.btree_nodes.proofs.Roots.{map-rows}
+use Rattle.btree_nodes.proofs.Roots.{map-tree}
 use Rattle.paged_map.proofs.putting.put_below.Goals as goal
 
 pub put_in-requires-clause-from : goal.put_in-requires-clause-from
@@ -39,8 +39,8 @@ put_in-requires-clause-to g c =
 pub put_in-requires-clause-counted : goal.put_in-requires-clause-counted
 put_in-requires-clause-counted g c = λ u. let f = c.in-Ok.ensures.uncounted (subst (λ (n : ℕ). IsUncounted n c.args.root) c.in-Ok.ensures.count u) in cc
 
-pub returns-in-Err-clause-honest : goal.returns-in-Err-clause-honest
-returns-in-Err-clause-honest g c =
+pub returns-in-Err-clause-no_false_damage : goal.returns-in-Err-clause-no_false_damage
+returns-in-Err-clause-no_false_damage g c =
     let form : Form = c.args.form in
     let old : PageMap = g.P.Pages.pages c.args.pages.now in
     let count : ℕ = g.P.Pages.count c.args.pages.now in
@@ -88,8 +88,8 @@ returns-in-Err-clause-own g c = λ told.
     let m = map-uses form old root root some in
     subst (λ (x : List ℕ). AsksOnly mine asked x) (sym c.look.ensures.asked) (asks-read mine asked asked root c.look.result (asks-nothing mine asked asked refl) (omega arith))
 
-pub returns-in_err-grown-clause-honest : goal.returns-in_err-grown-clause-honest
-returns-in_err-grown-clause-honest g c =
+pub returns-in_err-grown-clause-no_false_damage : goal.returns-in_err-grown-clause-no_false_damage
+returns-in_err-grown-clause-no_false_damage g c =
     let passed = err_from_is_err_and c.from_residual.result c.from_residual.ensures.1 in
     let form : Form = c.args.form in
     let old : PageMap = g.P.Pages.pages c.args.pages.now in
@@ -128,7 +128,7 @@ returns-in_err-grown-clause-damaged g c =
     let bytes = read.gives (told-read old count root told (λ u. let f = read.uncounted u in cc)) in
     let e_level = c.level-level.ensures ∙ ap level_of c.looked.ensures ∙ ap level_of bytes in
     let e_least = c.root_least.ensures ∙ ap least_of_root e_level in
-    let claim = enter (λ p k v l w h. AreTold p k → g.P.Pages.looked c.look.new.self ≡ p root → (IsDamaged form p k damage l v root w h × AskedSince asked (g.P.Pages.asked c.put_in.new.pages) damage.page) ⊎ IsRefusedTake (g.P.Pages.pages c.put_in.new.pages) (g.P.Pages.count c.put_in.new.pages) (g.P.Pages.first c.put_in.new.pages) damage)
+    let claim = enter (λ p k v l w h. AreReadable p k → g.P.Pages.looked c.look.new.self ≡ p root → (IsDamaged form p k damage l v root w h × AskedSince asked (g.P.Pages.asked c.put_in.new.pages) damage.page) ⊎ IsRefusedTake (g.P.Pages.pages c.put_in.new.pages) (g.P.Pages.count c.put_in.new.pages) (g.P.Pages.first c.put_in.new.pages) damage)
     old (g.P.Pages.pages c.look.new.self) count (g.P.Pages.count c.look.new.self) lv c.level-level.result (least_of_root lv) c.root_least.result 0 (low_of form c.all-bounds.result) (256 ^ form.key) (high_of form c.all-bounds.result) read.pages read.count e_level e_least (c.all-bounds.ensures.low form.key) (c.all-bounds.ensures.high form.key) (λ a b. c.put_in.ensures.damaged asked read.asked a b damage (c.in_err-grown.was ∙ ap Err (same-fault {T = Rooted} _ _ e))) in
     ⊎_elim (λ d. inl (map-damage form old count root damage some d.0, d.1)) (λ r. inr r) (claim told bytes))
 
@@ -159,7 +159,7 @@ returns-in_err-grown-clause-own g c = λ told.
     let bytes = read.gives (told-read old count root told (λ u. let f = read.uncounted u in cc)) in
     let e_level = c.level-level.ensures ∙ ap level_of c.looked.ensures ∙ ap level_of bytes in
     let e_least = c.root_least.ensures ∙ ap least_of_root e_level in
-    let claim = enter (λ p k v l w h. AreTold p k → g.P.Pages.looked c.look.new.self ≡ p root → AsksOnly (uses form p v root) asked (g.P.Pages.asked c.put_in.new.pages))
+    let claim = enter (λ p k v l w h. AreReadable p k → g.P.Pages.looked c.look.new.self ≡ p root → AsksOnly (uses form p v root) asked (g.P.Pages.asked c.put_in.new.pages))
     old (g.P.Pages.pages c.look.new.self) count (g.P.Pages.count c.look.new.self) lv c.level-level.result (least_of_root lv) c.root_least.result 0 (low_of form c.all-bounds.result) (256 ^ form.key) (high_of form c.all-bounds.result) read.pages read.count e_level e_least (c.all-bounds.ensures.low form.key) (c.all-bounds.ensures.high form.key) (c.put_in.ensures.own asked read.asked) in
     asks-more (uses form old lv root) (map_uses form old root) asked _ (λ n h. let m = map-uses form old root n some in omega arith) (claim told bytes)
 
@@ -232,7 +232,7 @@ returns-then-grown-eq0-clause-own g c = λ told.
     let bytes = read.gives (told-read old count root told (λ u. let f = read.uncounted u in cc)) in
     let e_level = c.level-level.ensures ∙ ap level_of c.looked.ensures ∙ ap level_of bytes in
     let e_least = c.root_least.ensures ∙ ap least_of_root e_level in
-    let claim = enter (λ p k v l w h. AreTold p k → g.P.Pages.looked c.look.new.self ≡ p root → AsksOnly (uses form p v root) asked (g.P.Pages.asked c.put_in.new.pages))
+    let claim = enter (λ p k v l w h. AreReadable p k → g.P.Pages.looked c.look.new.self ≡ p root → AsksOnly (uses form p v root) asked (g.P.Pages.asked c.put_in.new.pages))
     old (g.P.Pages.pages c.look.new.self) count (g.P.Pages.count c.look.new.self) lv c.level-level.result (least_of_root lv) c.root_least.result 0 (low_of form c.all-bounds.result) (256 ^ form.key) (high_of form c.all-bounds.result) read.pages read.count e_level e_least (c.all-bounds.ensures.low form.key) (c.all-bounds.ensures.high form.key) (c.put_in.ensures.own asked read.asked) in
     asks-more (uses form old lv root) (map_uses form old root) asked _ (λ n h. let m = map-uses form old root n some in omega arith) (claim told bytes)
 
@@ -250,12 +250,12 @@ returns-then-level-clause-own g c = λ told.
     let bytes = read.gives (told-read old count root told (λ u. let f = read.uncounted u in cc)) in
     let e_level = c.level-level.ensures ∙ ap level_of c.looked.ensures ∙ ap level_of bytes in
     let e_least = c.root_least.ensures ∙ ap least_of_root e_level in
-    let claim = enter (λ p k v l w h. AreTold p k → g.P.Pages.looked c.look.new.self ≡ p root → AsksOnly (uses form p v root) asked (g.P.Pages.asked c.put_in.new.pages))
+    let claim = enter (λ p k v l w h. AreReadable p k → g.P.Pages.looked c.look.new.self ≡ p root → AsksOnly (uses form p v root) asked (g.P.Pages.asked c.put_in.new.pages))
     old (g.P.Pages.pages c.look.new.self) count (g.P.Pages.count c.look.new.self) lv c.level-level.result (least_of_root lv) c.root_least.result 0 (low_of form c.all-bounds.result) (256 ^ form.key) (high_of form c.all-bounds.result) read.pages read.count e_level e_least (c.all-bounds.ensures.low form.key) (c.all-bounds.ensures.high form.key) (c.put_in.ensures.own asked read.asked) in
     asks-more (uses form old lv root) (map_uses form old root) asked _ (λ n h. let m = map-uses form old root n some in omega arith) (claim told bytes)
 
-pub returns-in_err-top-clause-honest : goal.returns-in_err-top-clause-honest
-returns-in_err-top-clause-honest g c =
+pub returns-in_err-top-clause-no_false_damage : goal.returns-in_err-top-clause-no_false_damage
+returns-in_err-top-clause-no_false_damage g c =
     let passed = err_from_is_err_and c.from_residual-in_err-top.result c.from_residual-in_err-top.ensures.1 in
     let form : Form = c.args.form in
     let old : PageMap = g.P.Pages.pages c.args.pages.now in
@@ -277,7 +277,7 @@ returns-in_err-top-clause-honest g c =
     (enter (λ p k v l w h. g.P.Pages.looked c.look.new.self ≡ p root → IsTree form l p v root w h → IsSupplied (view p k (g.P.Pages.first c.look.new.self) free) → ((n : ℕ) → uses form p v root n + spare free k n ≤ 1)
     → IsGrown form l (view p k (g.P.Pages.first c.look.new.self) free) (uses form p v root) (g.P.Pages.pages c.put_in.new.pages) (g.P.Pages.count c.put_in.new.pages) (g.P.Pages.first c.put_in.new.pages) v root w h (put (number c.args.key.now) c.args.value.now (rows_at form p v root)) c.in_ok-grown.grown.right (number c.put_in.new.middle))
     old (g.P.Pages.pages c.look.new.self) count (g.P.Pages.count c.look.new.self) lv c.level-level.result (least_of_root lv) c.root_least.result 0 (low_of form c.all-bounds.result) (256 ^ form.key) (high_of form c.all-bounds.result) read.pages read.count e_level e_least (c.all-bounds.ensures.low form.key) (c.all-bounds.ensures.high form.key) (c.in_ok-grown.ensures.grown free) bytes tree (rw read.first kept.supplied) once) in
-    absurd (c.grow_root.ensures.honest grew.free grew.moves.supplied damage (c.in_err-top.was ∙ ap Err (same-fault {T = Rooted} _ _ e))))
+    absurd (c.grow_root.ensures.no_false_damage grew.free grew.moves.supplied damage (c.in_err-top.was ∙ ap Err (same-fault {T = Rooted} _ _ e))))
 
 pub returns-in_err-top-clause-damaged : goal.returns-in_err-top-clause-damaged
 returns-in_err-top-clause-damaged g c =
@@ -303,7 +303,7 @@ returns-in_err-top-clause-own g c = λ told.
     let bytes = read.gives (told-read old count root told (λ u. let f = read.uncounted u in cc)) in
     let e_level = c.level-level.ensures ∙ ap level_of c.looked.ensures ∙ ap level_of bytes in
     let e_least = c.root_least.ensures ∙ ap least_of_root e_level in
-    let claim = enter (λ p k v l w h. AreTold p k → g.P.Pages.looked c.look.new.self ≡ p root → AsksOnly (uses form p v root) asked (g.P.Pages.asked c.put_in.new.pages))
+    let claim = enter (λ p k v l w h. AreReadable p k → g.P.Pages.looked c.look.new.self ≡ p root → AsksOnly (uses form p v root) asked (g.P.Pages.asked c.put_in.new.pages))
     old (g.P.Pages.pages c.look.new.self) count (g.P.Pages.count c.look.new.self) lv c.level-level.result (least_of_root lv) c.root_least.result 0 (low_of form c.all-bounds.result) (256 ^ form.key) (high_of form c.all-bounds.result) read.pages read.count e_level e_least (c.all-bounds.ensures.low form.key) (c.all-bounds.ensures.high form.key) (c.put_in.ensures.own asked read.asked) in
     subst (λ (x : List ℕ). AsksOnly (map_uses form old root) asked x) (sym c.grow_root.ensures.asked) (asks-more (uses form old lv root) (map_uses form old root) asked _ (λ n h. let m = map-uses form old root n some in omega arith) (claim told bytes))
 
@@ -390,6 +390,6 @@ returns-clause-own g c = λ told.
     let bytes = read.gives (told-read old count root told (λ u. let f = read.uncounted u in cc)) in
     let e_level = c.level-level.ensures ∙ ap level_of c.looked.ensures ∙ ap level_of bytes in
     let e_least = c.root_least.ensures ∙ ap least_of_root e_level in
-    let claim = enter (λ p k v l w h. AreTold p k → g.P.Pages.looked c.look.new.self ≡ p root → AsksOnly (uses form p v root) asked (g.P.Pages.asked c.put_in.new.pages))
+    let claim = enter (λ p k v l w h. AreReadable p k → g.P.Pages.looked c.look.new.self ≡ p root → AsksOnly (uses form p v root) asked (g.P.Pages.asked c.put_in.new.pages))
     old (g.P.Pages.pages c.look.new.self) count (g.P.Pages.count c.look.new.self) lv c.level-level.result (least_of_root lv) c.root_least.result 0 (low_of form c.all-bounds.result) (256 ^ form.key) (high_of form c.all-bounds.result) read.pages read.count e_level e_least (c.all-bounds.ensures.low form.key) (c.all-bounds.ensures.high form.key) (c.put_in.ensures.own asked read.asked) in
     subst (λ (x : List ℕ). AsksOnly (map_uses form old root) asked x) (sym c.grow_root.ensures.asked) (asks-more (uses form old lv root) (map_uses form old root) asked _ (λ n h. let m = map-uses form old root n some in omega arith) (claim told bytes))

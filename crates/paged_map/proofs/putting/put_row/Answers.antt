@@ -12,7 +12,7 @@ use Rattle.btree_nodes.specs.Rows.{lookup, put}
 use Rattle.btree_nodes.specs.Nodes.{rows_in}
 use Rattle.btree_nodes.specs.Damages.{IsRefusedTake}
 use Rattle.btree_nodes.proofs.Puts.{put-edit}
-use Rattle.btree_search.specs.Steps.{low_of, high_of}
+use Rattle.btree_nodes.specs.Steps.{low_of, high_of}
 use Rattle.btree_insert.proofs.PutLeaf.{put-had}
 use Rattle.paged_map.specs.Edits.{edited}
 use Rattle.paged_map.specs.declared.editing.Cut.{Cut}
@@ -21,10 +21,10 @@ use Rattle.paged_map.proofs.Edits.{edit-leaf, edited-sound, put-leaf, room-fits,
 use Rattle.paged_map.proofs.Leaves.{lookup-leaf}
 use Rattle.paged_map.proofs.putting.put_row.Goals as goal
 
-pub returns-in-Err-Damaged-clause-honest : goal.returns-in-Err-Damaged-clause-honest
-returns-in-Err-Damaged-clause-honest g c = λ free kept.
+pub returns-in-Err-Damaged-clause-no_false_damage : goal.returns-in-Err-Damaged-clause-no_false_damage
+returns-in-Err-Damaged-clause-no_false_damage g c = λ free kept.
     let f = c.in-Err-Damaged.ensures.frame in
-    c.put_below.ensures.honest free (kept-behind c.args.form c.args.root (g.P.Pages.pages c.args.pages.now) (g.P.Pages.pages c.locate.new.pages) (g.P.Pages.count c.args.pages.now) (g.P.Pages.count c.locate.new.pages)
+    c.put_below.ensures.no_false_damage free (kept-behind c.args.form c.args.root (g.P.Pages.pages c.args.pages.now) (g.P.Pages.pages c.locate.new.pages) (g.P.Pages.count c.args.pages.now) (g.P.Pages.count c.locate.new.pages)
     (g.P.Pages.first c.args.pages.now) (g.P.Pages.first c.locate.new.pages) free f.pages f.count f.first kept)
 
 pub returns-in-Err-Damaged-clause-damaged : goal.returns-in-Err-Damaged-clause-damaged
@@ -46,10 +46,10 @@ returns-in-Err-Damaged-clause-own g c = λ told.
     own-behind c.args.form c.args.root (g.P.Pages.pages c.args.pages.now) (g.P.Pages.pages c.locate.new.pages) (g.P.Pages.count c.args.pages.now) (g.P.Pages.count c.locate.new.pages) f.pages f.count
     (g.P.Pages.asked c.args.pages.now) (g.P.Pages.asked c.locate.new.pages) (g.P.Pages.asked c.put_below.new.pages) c.in-Err-Damaged.ensures.own c.put_below.ensures.own told
 
-pub returns-then-not-has_room-clause-honest : goal.returns-then-not-has_room-clause-honest
-returns-then-not-has_room-clause-honest g c = λ free kept.
+pub returns-then-not-has_room-clause-no_false_damage : goal.returns-then-not-has_room-clause-no_false_damage
+returns-then-not-has_room-clause-no_false_damage g c = λ free kept.
     let f = c.in-Ok.ensures.frame in
-    c.put_below-then-not-has_room.ensures.honest free (kept-behind c.args.form c.args.root (g.P.Pages.pages c.args.pages.now) (g.P.Pages.pages c.locate.new.pages) (g.P.Pages.count c.args.pages.now) (g.P.Pages.count c.locate.new.pages)
+    c.put_below-then-not-has_room.ensures.no_false_damage free (kept-behind c.args.form c.args.root (g.P.Pages.pages c.args.pages.now) (g.P.Pages.pages c.locate.new.pages) (g.P.Pages.count c.args.pages.now) (g.P.Pages.count c.locate.new.pages)
     (g.P.Pages.first c.args.pages.now) (g.P.Pages.first c.locate.new.pages) free f.pages f.count f.first kept)
 
 pub returns-then-not-has_room-clause-damaged : goal.returns-then-not-has_room-clause-damaged

@@ -11,7 +11,7 @@ use Rattle.btree_nodes.specs.Supply.{view, IsSupplied, spare}
 use Rattle.btree_nodes.specs.Rows.{lookup, without}
 use Rattle.btree_nodes.specs.Nodes.{least_of_root}
 use Rattle.btree_nodes.specs.Tree.{IsTree, rows_at, uses, map_rows, map_uses, level_of}
-use Rattle.btree_nodes.specs.Damages.{IsDamaged, AreTold, AsksOnly}
+use Rattle.btree_nodes.specs.Damages.{IsDamaged, AreReadable, AsksOnly}
 use Rattle.btree_nodes.proofs.Trees.{tree-size}
 use Rattle.btree_nodes.proofs.Harms.{asked-here, asks-here, asks-further, asks-more, asks-nothing}
 use Rattle.btree_delete.specs.Removal.{HasRemoved, IsOut, IsSame, Lessens}
@@ -19,9 +19,9 @@ use Rattle.paged_map.specs.declared.putting.Rooted.{Rooted}
 use Rattle.paged_map.specs.Maps.{HasBecome}
 use Rattle.btree_nodes.proofs.Walks.{same-fault, told-read, uses-self, asks-read, damage-link, named-refused}
 use Rattle.paged_map.proofs.Maps.{enter, map-damage, map-undamaged, kept-counted}
-use Rattle.btree_search.proofs.Roots.{map-uses}
-use Rattle.btree_search.proofs.Roots.{map-rows}
-use Rattle.btree_search.proofs.Roots.{map-tree}
+use Rattle.btree_nodes.proofs.Roots.{map-uses}
+use Rattle.btree_nodes.proofs.Roots.{map-rows}
+use Rattle.btree_nodes.proofs.Roots.{map-tree}
 use Rattle.paged_map.proofs.Removes.{without-absent, is-some, stays}
 use Rattle.paged_map.proofs.removing.remove_below.Goals as goal
 
@@ -42,8 +42,8 @@ root_after-requires-clause-left g c =
     let less = subst (λ (o : Option ℕ). Lessens c.args.form c.level-level.result c.root_least.result c.in_ok-bytes.bytes c.remove_in.new.bytes o) c.in-Some.is c.in_ok-removed.ensures.less in
     less.counted
 
-pub returns-in_err-bytes-clause-honest : goal.returns-in_err-bytes-clause-honest
-returns-in_err-bytes-clause-honest g c =
+pub returns-in_err-bytes-clause-no_false_damage : goal.returns-in_err-bytes-clause-no_false_damage
+returns-in_err-bytes-clause-no_false_damage g c =
     let passed = err_from_is_err_and c.from_residual.result c.from_residual.ensures.1 in
     let form : Form = c.args.form in
     let old : PageMap = g.P.Pages.pages c.args.pages.now in
@@ -92,8 +92,8 @@ returns-in_err-bytes-clause-own g c = λ told.
     let m = map-uses form old root root some in
     subst (λ (x : List ℕ). AsksOnly mine asked x) (sym c.read.ensures.asked) (asks-read mine asked asked root c.read.result (asks-nothing mine asked asked refl) (omega arith))
 
-pub returns-in_err-removed-clause-honest : goal.returns-in_err-removed-clause-honest
-returns-in_err-removed-clause-honest g c =
+pub returns-in_err-removed-clause-no_false_damage : goal.returns-in_err-removed-clause-no_false_damage
+returns-in_err-removed-clause-no_false_damage g c =
     let passed = err_from_is_err_and c.from_residual-in_err-removed.result c.from_residual-in_err-removed.ensures.1 in
     let form : Form = c.args.form in
     let old : PageMap = g.P.Pages.pages c.args.pages.now in
@@ -131,7 +131,7 @@ returns-in_err-removed-clause-damaged g c =
     let bytes = read.gives (told-read old count root told (λ u. let f = read.uncounted u in cc)) in
     let e_level = c.level-level.ensures ∙ ap level_of bytes in
     let e_least = c.root_least.ensures ∙ ap least_of_root e_level in
-    let claim = enter (λ f p k v l w. AreTold p k → c.in_ok-bytes.bytes ≡ p root → IsDamaged f p k damage l v root w (256 ^ f.key))
+    let claim = enter (λ f p k v l w. AreReadable p k → c.in_ok-bytes.bytes ≡ p root → IsDamaged f p k damage l v root w (256 ^ f.key))
     form form old (g.P.Pages.pages c.read.new.self) count (g.P.Pages.count c.read.new.self) lv c.level-level.result (least_of_root lv) c.root_least.result 0 (number c.least_key.result.now) refl read.pages read.count e_level e_least c.least_key.ensures.least (λ a b. c.remove_in.ensures.damaged a b damage was) in
     (map-damage form old count root damage some (claim told bytes), c.remove_in.ensures.named asked (asked-here asked (g.P.Pages.asked c.read.new.self) root read.asked) damage was))
 
@@ -154,7 +154,7 @@ returns-in_err-removed-clause-own g c = λ told.
     let bytes = read.gives (told-read old count root told (λ u. let f = read.uncounted u in cc)) in
     let e_level = c.level-level.ensures ∙ ap level_of bytes in
     let e_least = c.root_least.ensures ∙ ap least_of_root e_level in
-    let claim = enter (λ f p k v l w. AreTold p k → c.in_ok-bytes.bytes ≡ p root → AsksOnly (uses f p v root) (g.P.Pages.asked c.read.new.self) (g.P.Pages.asked c.remove_in.new.pages))
+    let claim = enter (λ f p k v l w. AreReadable p k → c.in_ok-bytes.bytes ≡ p root → AsksOnly (uses f p v root) (g.P.Pages.asked c.read.new.self) (g.P.Pages.asked c.remove_in.new.pages))
     form form old (g.P.Pages.pages c.read.new.self) count (g.P.Pages.count c.read.new.self) lv c.level-level.result (least_of_root lv) c.root_least.result 0 (number c.least_key.result.now) refl read.pages read.count e_level e_least c.least_key.ensures.least c.remove_in.ensures.own in
     let mine : ℕ → ℕ = map_uses form old root in
     let u = uses-self form old lv root in
@@ -177,7 +177,7 @@ returns-in-None-clause-own g c = λ told.
     let bytes = read.gives (told-read old count root told (λ u. let f = read.uncounted u in cc)) in
     let e_level = c.level-level.ensures ∙ ap level_of bytes in
     let e_least = c.root_least.ensures ∙ ap least_of_root e_level in
-    let claim = enter (λ f p k v l w. AreTold p k → c.in_ok-bytes.bytes ≡ p root → AsksOnly (uses f p v root) (g.P.Pages.asked c.read.new.self) (g.P.Pages.asked c.remove_in.new.pages))
+    let claim = enter (λ f p k v l w. AreReadable p k → c.in_ok-bytes.bytes ≡ p root → AsksOnly (uses f p v root) (g.P.Pages.asked c.read.new.self) (g.P.Pages.asked c.remove_in.new.pages))
     form form old (g.P.Pages.pages c.read.new.self) count (g.P.Pages.count c.read.new.self) lv c.level-level.result (least_of_root lv) c.root_least.result 0 (number c.least_key.result.now) refl read.pages read.count e_level e_least c.least_key.ensures.least c.remove_in.ensures.own in
     let mine : ℕ → ℕ = map_uses form old root in
     let u = uses-self form old lv root in
@@ -200,7 +200,7 @@ returns-in_err-top-clause-own g c = λ told.
     let bytes = read.gives (told-read old count root told (λ u. let f = read.uncounted u in cc)) in
     let e_level = c.level-level.ensures ∙ ap level_of bytes in
     let e_least = c.root_least.ensures ∙ ap least_of_root e_level in
-    let claim = enter (λ f p k v l w. AreTold p k → c.in_ok-bytes.bytes ≡ p root → AsksOnly (uses f p v root) (g.P.Pages.asked c.read.new.self) (g.P.Pages.asked c.remove_in.new.pages))
+    let claim = enter (λ f p k v l w. AreReadable p k → c.in_ok-bytes.bytes ≡ p root → AsksOnly (uses f p v root) (g.P.Pages.asked c.read.new.self) (g.P.Pages.asked c.remove_in.new.pages))
     form form old (g.P.Pages.pages c.read.new.self) count (g.P.Pages.count c.read.new.self) lv c.level-level.result (least_of_root lv) c.root_least.result 0 (number c.least_key.result.now) refl read.pages read.count e_level e_least c.least_key.ensures.least c.remove_in.ensures.own in
     let mine : ℕ → ℕ = map_uses form old root in
     let u = uses-self form old lv root in
@@ -223,7 +223,7 @@ returns-clause-own g c = λ told.
     let bytes = read.gives (told-read old count root told (λ u. let f = read.uncounted u in cc)) in
     let e_level = c.level-level.ensures ∙ ap level_of bytes in
     let e_least = c.root_least.ensures ∙ ap least_of_root e_level in
-    let claim = enter (λ f p k v l w. AreTold p k → c.in_ok-bytes.bytes ≡ p root → AsksOnly (uses f p v root) (g.P.Pages.asked c.read.new.self) (g.P.Pages.asked c.remove_in.new.pages))
+    let claim = enter (λ f p k v l w. AreReadable p k → c.in_ok-bytes.bytes ≡ p root → AsksOnly (uses f p v root) (g.P.Pages.asked c.read.new.self) (g.P.Pages.asked c.remove_in.new.pages))
     form form old (g.P.Pages.pages c.read.new.self) count (g.P.Pages.count c.read.new.self) lv c.level-level.result (least_of_root lv) c.root_least.result 0 (number c.least_key.result.now) refl read.pages read.count e_level e_least c.least_key.ensures.least c.remove_in.ensures.own in
     let mine : ℕ → ℕ = map_uses form old root in
     let u = uses-self form old lv root in

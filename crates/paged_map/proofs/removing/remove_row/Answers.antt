@@ -17,7 +17,7 @@ use Rattle.btree_nodes.specs.Tree.{map_rows, map_uses}
 use Rattle.btree_nodes.specs.Damages.{AsksOnly}
 use Rattle.btree_nodes.proofs.Finds.{found, missed}
 use Rattle.btree_nodes.proofs.Puts.{without-edit}
-use Rattle.btree_search.specs.Steps.{low_of, high_of}
+use Rattle.btree_nodes.specs.Steps.{low_of, high_of}
 use Rattle.paged_map.specs.Edits.{edited}
 use Rattle.paged_map.specs.Maps.{HasBecome}
 use Rattle.paged_map.specs.declared.editing.Cut.{Cut}
@@ -28,10 +28,10 @@ use Rattle.paged_map.proofs.Leaves.{lookup-leaf}
 use Rattle.paged_map.proofs.Removes.{without-absent, stays}
 use Rattle.paged_map.proofs.removing.remove_row.Goals as goal
 
-pub returns-in-Err-Damaged-clause-honest : goal.returns-in-Err-Damaged-clause-honest
-returns-in-Err-Damaged-clause-honest g c = λ free kept.
+pub returns-in-Err-Damaged-clause-no_false_damage : goal.returns-in-Err-Damaged-clause-no_false_damage
+returns-in-Err-Damaged-clause-no_false_damage g c = λ free kept.
     let f = c.in-Err-Damaged.ensures.frame in
-    c.remove_below.ensures.honest free (kept-behind c.args.form c.args.root (g.P.Pages.pages c.args.pages.now) (g.P.Pages.pages c.locate.new.pages) (g.P.Pages.count c.args.pages.now) (g.P.Pages.count c.locate.new.pages)
+    c.remove_below.ensures.no_false_damage free (kept-behind c.args.form c.args.root (g.P.Pages.pages c.args.pages.now) (g.P.Pages.pages c.locate.new.pages) (g.P.Pages.count c.args.pages.now) (g.P.Pages.count c.locate.new.pages)
     (g.P.Pages.first c.args.pages.now) (g.P.Pages.first c.locate.new.pages) free f.pages f.count f.first kept)
 
 pub returns-in-Err-Damaged-clause-damaged : goal.returns-in-Err-Damaged-clause-damaged
@@ -78,10 +78,10 @@ returns-then-spot-eq0-clause-removed g c = λ free kept.
           (stays form (view old (g.P.Pages.count c.args.pages.now) (g.P.Pages.first c.args.pages.now) free) (g.P.Pages.pages c.locate.new.pages) (g.P.Pages.count c.locate.new.pages) (g.P.Pages.first c.locate.new.pages) root f.pages f.count f.first kept),
     )
 
-pub returns-then-leaf-clause-honest : goal.returns-then-leaf-clause-honest
-returns-then-leaf-clause-honest g c = λ free kept.
+pub returns-then-leaf-clause-no_false_damage : goal.returns-then-leaf-clause-no_false_damage
+returns-then-leaf-clause-no_false_damage g c = λ free kept.
     let f = c.in-Ok.ensures.frame in
-    c.remove_below-then-leaf.ensures.honest free (kept-behind c.args.form c.args.root (g.P.Pages.pages c.args.pages.now) (g.P.Pages.pages c.locate.new.pages) (g.P.Pages.count c.args.pages.now) (g.P.Pages.count c.locate.new.pages)
+    c.remove_below-then-leaf.ensures.no_false_damage free (kept-behind c.args.form c.args.root (g.P.Pages.pages c.args.pages.now) (g.P.Pages.pages c.locate.new.pages) (g.P.Pages.count c.args.pages.now) (g.P.Pages.count c.locate.new.pages)
     (g.P.Pages.first c.args.pages.now) (g.P.Pages.first c.locate.new.pages) free f.pages f.count f.first kept)
 
 pub returns-then-leaf-clause-damaged : goal.returns-then-leaf-clause-damaged

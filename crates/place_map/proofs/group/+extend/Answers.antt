@@ -1,6 +1,6 @@
 use Rattle.std.proofs.Common.{◌≡◌, ◌++◌, ◌∷◌, [], ◌∙◌, ap, arith, length, vec_len}
-use Rattle.place_map.specs.Search.{lists_in}
-use Rattle.place_map.specs.GroupLaws.{gone_on, tried_more, all_tried, popped}
+use Rattle.place_values.specs.Search.{lists_in}
+use Rattle.place_values.specs.GroupLaws.{gone_on, tried_more, all_tried, popped}
 use Rattle.place_map.proofs.group.+extend.Goals as goal
 
 pub loop-pick-preserved : goal.loop-pick-preserved

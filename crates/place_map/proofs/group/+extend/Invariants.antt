@@ -1,8 +1,8 @@
 use Rattle.std.proofs.Common.{◌≡◌, List, [], ◌∷◌, ◌++◌, take, length}
 use Rattle.std.specs.List.{flat_map}
-use Rattle.place_map.specs.declared.query.Pick.{Pick}
-use Rattle.place_map.specs.Group.{product, least_of}
-use Rattle.place_map.specs.Search.{lists_in, fronted}
+use Rattle.place_values.specs.declared.query.Pick.{Pick}
+use Rattle.place_values.specs.Group.{product, least_of}
+use Rattle.place_values.specs.Search.{lists_in, fronted}
 use Rattle.place_map.proofs.group.+extend.Given as goal
 
 abbrev pub decreases-extend : goal.decreases-extend

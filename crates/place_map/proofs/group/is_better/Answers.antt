@@ -1,5 +1,5 @@
 use Rattle.std.proofs.Common.{sym, ◌∙◌, ap, cond}
-use Rattle.place_map.specs.GroupLaws.{pushed_first, pushed_next, with_cost}
+use Rattle.place_values.specs.GroupLaws.{pushed_first, pushed_next, with_cost}
 use Rattle.place_map.proofs.group.is_better.Goals as goal
 
 pub returns-in-Some : goal.returns-in-Some

@@ -1,5 +1,5 @@
 use Rattle.std.proofs.Common.{sym, ◌∙◌}
-use Rattle.place_map.specs.GroupLaws.{hopeless_kept}
+use Rattle.place_values.specs.GroupLaws.{hopeless_kept}
 use Rattle.place_map.proofs.group.is_hopeless.Goals as goal
 
 pub returns-in-Some : goal.returns-in-Some

@@ -1,7 +1,7 @@
 use Rattle.std.proofs.Common.{[], refl, ◌∙◌, ap}
-use Rattle.place_map.specs.Group.{product, least_of}
-use Rattle.place_map.specs.Search.{lists_in, fronted}
-use Rattle.place_map.specs.GroupLaws.{fronted_none}
+use Rattle.place_values.specs.Group.{product, least_of}
+use Rattle.place_values.specs.Search.{lists_in, fronted}
+use Rattle.place_values.specs.GroupLaws.{fronted_none}
 use Rattle.place_map.proofs.group.least_group.Goals as goal
 
 pub returns : goal.returns

@@ -1,7 +1,7 @@
 use Rattle.std.proofs.Common.{◌++◌, ◌∷◌, [], sym, ap, ◌∙◌}
 use Rattle.spatial_base.specs.Key.{Name}
-use Rattle.place_map.specs.declared.place.Place.{Place}
-use Rattle.place_map.specs.Group.{word_picks}
+use Rattle.place_values.specs.declared.place.Place.{Place}
+use Rattle.place_values.specs.Group.{word_picks}
 use Rattle.place_map.proofs.Picks.{pick_at, picked, not_picked}
 use Rattle.place_map.proofs.Scans.{done_more, gives_none, gives_one}
 use Rattle.place_map.proofs.group.picks_of.Goals as goal

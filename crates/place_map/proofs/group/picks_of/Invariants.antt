@@ -1,6 +1,6 @@
 use Rattle.std.proofs.Common.{◌≡◌, ◌++◌, List}
 use Rattle.std.specs.List.{flat_map}
-use Rattle.place_map.specs.Group.{word_picks}
+use Rattle.place_values.specs.Group.{word_picks}
 use Rattle.place_map.proofs.group.picks_of.Given as goal
 
 abbrev pub invariant-loop-key : goal.invariant-loop-key

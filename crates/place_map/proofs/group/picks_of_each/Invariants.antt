@@ -1,6 +1,6 @@
 use Rattle.std.proofs.Common.{◌≡◌, map, take}
-use Rattle.place_map.specs.Group.{picks_for}
-use Rattle.place_map.specs.Search.{lists_in}
+use Rattle.place_values.specs.Group.{picks_for}
+use Rattle.place_values.specs.Search.{lists_in}
 use Rattle.place_map.proofs.group.picks_of_each.Given as goal
 
 abbrev pub invariant-loop-word : goal.invariant-loop-word

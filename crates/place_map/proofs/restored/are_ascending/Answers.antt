@@ -2,7 +2,7 @@ use Rattle.std.proofs.Common.{rules}
 use Rattle.std.proofs.lemmas.List.Sorted.{answers_always}
 use Rattle.std.specs.Ordering.{is_lt}
 use Rattle.spatial_base.specs.Key.{key_cmp, key_cmp_total}
-use Rattle.place_map.proofs.Ascending.{ascending_answer}
+use Rattle.place_values.proofs.Ascending.{ascending_answer}
 use Rattle.place_map.proofs.restored.are_ascending.Goals as goal
 
 pub returns : goal.returns

@@ -1,4 +1,4 @@
-use Rattle.place_map.proofs.Rows.{restored_more}
+use Rattle.place_values.proofs.Rows.{restored_more}
 use Rattle.place_map.proofs.Scans.{done_more}
 use Rattle.place_map.proofs.restored.map_of.Goals as goal
 

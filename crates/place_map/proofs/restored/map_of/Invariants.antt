@@ -1,5 +1,5 @@
 use Rattle.std.proofs.Common.{◌≡◌, ◌++◌}
-use Rattle.place_map.specs.Restored.{places_in}
+use Rattle.place_values.specs.Restored.{places_in}
 use Rattle.place_map.proofs.restored.map_of.Given as goal
 
 abbrev pub invariant-loop-key : goal.invariant-loop-key

@@ -1,12 +1,12 @@
 use Rattle.std.proofs.Common.{◌++◌, ◌∷◌, [], sym, ap, ◌∙◌}
 use Rattle.std.proofs.lemmas.List.{append-nil}
 use Rattle.std.specs.List.{flat_map}
-use Rattle.ranking.specs.First.{ranked}
-use Rattle.ranking.specs.Members.{ranked_from_sorted}
+use Rattle.place_values.specs.First.{ranked}
+use Rattle.place_values.specs.Members.{ranked_from_sorted}
 use Rattle.spatial_base.specs.Key.{Name}
-use Rattle.place_map.specs.declared.place.Place.{Place}
-use Rattle.place_map.specs.Hit.{comes_before, hits_linear}
-use Rattle.place_map.specs.Answer.{hits_of}
+use Rattle.place_values.specs.declared.place.Place.{Place}
+use Rattle.place_values.specs.Hit.{comes_before, hits_linear}
+use Rattle.place_values.specs.Answer.{hits_of}
 use Rattle.place_map.proofs.Scans.{done_more, gives_none, gives_one}
 use Rattle.place_map.proofs.scan.all_hits.Goals as goal
 

@@ -1,6 +1,6 @@
 use Rattle.std.proofs.Common.{◌≡◌, ◌++◌, List}
 use Rattle.std.specs.List.{flat_map}
-use Rattle.place_map.specs.Answer.{hits_of}
+use Rattle.place_values.specs.Answer.{hits_of}
 use Rattle.place_map.proofs.scan.all_hits.Given as goal
 
 abbrev pub invariant-loop-key : goal.invariant-loop-key

@@ -1,11 +1,11 @@
 use Rattle.std.proofs.Common.{◌++◌, ◌∷◌, [], sym, ap, ◌∙◌, subst}
 use Rattle.std.specs.List.{flat_map}
-use Rattle.ranking.specs.First.{first, IsRanked}
-use Rattle.ranking.specs.Laws.{taken_ranked, ranked_is}
+use Rattle.place_values.specs.First.{first, IsRanked}
+use Rattle.place_values.specs.Laws.{taken_ranked, ranked_is}
 use Rattle.spatial_base.specs.Key.{Name}
-use Rattle.place_map.specs.declared.place.Place.{Place}
-use Rattle.place_map.specs.Hit.{comes_before, hits_linear}
-use Rattle.place_map.specs.Answer.{hits_of}
+use Rattle.place_values.specs.declared.place.Place.{Place}
+use Rattle.place_values.specs.Hit.{comes_before, hits_linear}
+use Rattle.place_values.specs.Answer.{hits_of}
 use Rattle.place_map.proofs.Scans.{done_more, gives_none, scan_step}
 use Rattle.place_map.proofs.scan.first_hits.Goals as goal
 

@@ -1,5 +1,5 @@
 use Rattle.std.proofs.Common.{◌∷◌, ◌++◌, [], ap, ◌∙◌}
-use Rattle.place_map.specs.Query.{IsWeights}
+use Rattle.place_values.specs.Query.{IsWeights}
 use Rattle.line_tokens.specs.Seen.{seen}
 use Rattle.query_lang.proofs.Naming.{terms_sound, if_ok}
 use Rattle.query_lang.proofs.word.terms.Goals as goal

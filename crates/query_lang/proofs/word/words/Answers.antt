@@ -1,5 +1,5 @@
 use Rattle.std.proofs.Common.{◌∷◌, ◌++◌, [], ap, ◌∙◌}
-use Rattle.place_map.specs.Query.{IsTerms}
+use Rattle.place_values.specs.Query.{IsTerms}
 use Rattle.query_lang.proofs.Naming.{words_sound, if_ok}
 use Rattle.query_lang.proofs.word.words.Goals as goal
 

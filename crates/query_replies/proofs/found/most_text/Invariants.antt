@@ -1,5 +1,5 @@
 use Rattle.std.proofs.Common.{◌≡◌, ◌*◌, ◌≤◌, take}
-use Rattle.place_map.specs.Top.{weight_sum}
+use Rattle.place_values.specs.Top.{weight_sum}
 use Rattle.query_replies.proofs.found.most_text.Given as goal
 
 abbrev pub invariant-loop-weight : goal.invariant-loop-weight

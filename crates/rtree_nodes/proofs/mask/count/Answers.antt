@@ -1,5 +1,5 @@
 use Rattle.std.proofs.Common.{◌∙◌, ap}
-use Rattle.rtree_shape.specs.Masks.{marked}
+use Rattle.rtree_nodes.specs.Masks.{marked}
 use Rattle.rtree_nodes.proofs.Masks.{marked-filled}
 use Rattle.rtree_nodes.proofs.mask.count.Goals as goal
 

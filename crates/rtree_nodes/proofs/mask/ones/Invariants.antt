@@ -1,5 +1,5 @@
 use Rattle.std.proofs.Common.{◌≡◌, ◌≤◌}
-use Rattle.rtree_shape.specs.Masks.{marked}
+use Rattle.rtree_nodes.specs.Masks.{marked}
 use Rattle.rtree_nodes.proofs.mask.ones.Given as goal
 
 abbrev pub invariant-loop-i : goal.invariant-loop-i

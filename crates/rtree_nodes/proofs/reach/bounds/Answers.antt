@@ -2,7 +2,7 @@ use Rattle.std.proofs.Common.{◌≡◌, ◌<◌, ◌+◌, ℕ, refl, sym, subst
 use Rattle.std.specs.Prelude.{IsErr}
 use Rattle.std.proofs.lemmas.Bool.{false≢true}
 use Rattle.spatial_base.specs.Rect.{Bounds}
-use Rattle.rtree_shape.specs.Slots.{tops}
+use Rattle.rtree_nodes.specs.Slots.{tops}
 use Rattle.rtree_nodes.specs.Reach.{reach_of}
 use Rattle.rtree_nodes.specs.Pages.{mask_of, stored_in}
 use Rattle.rtree_nodes.proofs.AllBelow.{all_below-none}

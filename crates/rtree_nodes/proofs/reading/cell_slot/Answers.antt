@@ -1,6 +1,6 @@
 use Rattle.std.proofs.Common.{◌≡◌, ◌↔◌, ◌<◌, Bool, true, sym, subst, arith}
 use Rattle.std.specs.Prelude.{IfSome, IsSome}
-use Rattle.rtree_shape.specs.Slots.{Item}
+use Rattle.rtree_nodes.specs.Slots.{Item}
 use Rattle.rtree_nodes.specs.Reach.{item_of}
 use Rattle.rtree_nodes.specs.Pages.{level_in}
 use Rattle.rtree_nodes.proofs.Children.{leaf-form, leaf-item, inner-form, inner-item}

@@ -1,5 +1,5 @@
 use Rattle.std.proofs.Common.{◌≡◌, sym, subst}
-use Rattle.rtree_shape.specs.Slots.{Slots, IsChildAt, got, one}
+use Rattle.rtree_nodes.specs.Slots.{Slots, IsChildAt, got, one}
 use Rattle.rtree_nodes.proofs.Formed.{form-slots}
 use Rattle.rtree_nodes.proofs.Children.{child-read}
 use Rattle.rtree_nodes.proofs.reading.child_at.Goals as goal

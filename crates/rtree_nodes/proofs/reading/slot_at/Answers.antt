@@ -1,7 +1,7 @@
 use Rattle.std.proofs.Common.{◌≡◌, ℕ, true, false, Some, sym, ap, ◌∙◌}
 use Rattle.std.specs.Int.{bit_at}
 use Rattle.std.specs.Prelude.{◌==◌}
-use Rattle.rtree_shape.specs.Slots.{Slots}
+use Rattle.rtree_nodes.specs.Slots.{Slots}
 use Rattle.rtree_nodes.specs.Pages.{is_used}
 use Rattle.rtree_nodes.proofs.Formed.{form-slots, form-parts, stored-used, stored-unused}
 use Rattle.rtree_nodes.proofs.reading.slot_at.Goals as goal

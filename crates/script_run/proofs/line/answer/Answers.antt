@@ -6,8 +6,8 @@ use Rattle.query_lang.specs.Reply.{reply_of}
 use Rattle.query_replies.specs.declared.reply.Reply.TheVariants as replies
 use Rattle.query_replies.specs.Reply.{text_of_reply}
 use Rattle.query_lang.specs.Plain.{plain_line}
-use Rattle.run_protocol.specs.Asking.{IsAsking, ReadsForLine}
-use Rattle.run_protocol.specs.Reading.{IsReading}
+use Rattle.run_outcome.specs.Asking.{IsAsking, ReadsForLine}
+use Rattle.run_outcome.specs.Reading.{IsReading}
 use Rattle.script_run.specs.Lines.{RepliesTo}
 use Rattle.script_run.proofs.Asking.{line-unread}
 use Rattle.script_run.proofs.Replies.{read-replies}

@@ -5,8 +5,8 @@ use Rattle.query_lang.specs.Plain.{plain_line}
 use Rattle.query_lang.specs.declared.line.Line.{Line}
 use Rattle.query_replies.specs.declared.fault.LineFault.{LineFault}
 use Rattle.query_replies.specs.declared.fault.LineFault.TheVariants.{Memory}
-use Rattle.run_protocol.specs.Asking.{IsAsking, ReadsForLine}
-use Rattle.run_protocol.specs.Reading.{IsReading}
+use Rattle.run_outcome.specs.Asking.{IsAsking, ReadsForLine}
+use Rattle.run_outcome.specs.Reading.{IsReading}
 use Rattle.script_run.proofs.Asking.{line-unread}
 use Rattle.script_run.proofs.Replies.{plain-replies, bad-replies}
 use Rattle.script_run.proofs.Causes.{engine-still}

@@ -5,16 +5,16 @@ use Rattle.query_lang.specs.Reply.{reply_of, show_reply}
 use Rattle.query_replies.specs.declared.reply.Reply.{Reply}
 use Rattle.query_replies.specs.declared.reply.Reply.TheVariants as replies
 use Rattle.query_replies.specs.Reply.{text_of_reply}
-use Rattle.run_protocol.specs.Causes.{HasEngineEnd}
-use Rattle.run_protocol.specs.Reading.{IsMetIn}
-use Rattle.run_protocol.specs.declared.ended.Ended.{Ended}
-use Rattle.run_protocol.specs.declared.ended.Ended.TheVariants as ends
-use Rattle.run_protocol.specs.declared.ended.LimitFault.TheVariants as limits
+use Rattle.run_outcome.specs.Causes.{HasEngineEnd}
+use Rattle.run_outcome.specs.Reading.{IsMetIn}
+use Rattle.run_outcome.specs.declared.ended.Ended.{Ended}
+use Rattle.run_outcome.specs.declared.ended.Ended.TheVariants as ends
+use Rattle.run_outcome.specs.declared.ended.LimitFault.TheVariants as limits
 use Rattle.script_run.specs.Lines.{IsLineEnd, RepliesTo}
 use Rattle.script_run.proofs.Ends.{read-ends}
-use Rattle.run_protocol.proofs.Reading.{RefusedRead, met-engine, refused-read-cause, refused-room}
+use Rattle.run_outcome.proofs.Reading.{RefusedRead, met-engine, refused-read-cause, refused-room}
 use Rattle.script_run.proofs.Replies.{read-replies, refused-read}
-use Rattle.run_protocol.proofs.Going.{on-behind}
+use Rattle.run_outcome.proofs.Going.{on-behind}
 use Rattle.script_run.proofs.line.show.Goals as goal
 
 pub returns-in-Ok-Some-clause-told : goal.returns-in-Ok-Some-clause-told
@@ -33,14 +33,14 @@ returns-in-Ok-None-clause-told g c = λ told state holds.
 
 pub returns-in-Err-clause-told : goal.returns-in-Err-clause-told
 returns-in-Err-clause-told g c =
-    let refused : RefusedRead g.T.Disk.tells (g.T.Disk.world c.args.engine.now.store.disk.now) (g.T.Disk.world c.show.new.self.store.disk.now) c.in-Err.fault = record {
+    let refused : RefusedRead g.T.Disk.readable (g.T.Disk.world c.args.engine.now.store.disk.now) (g.T.Disk.world c.show.new.self.store.disk.now) c.in-Err.fault = record {
       causes = c.in-Err.ensures.causes;
       faults = c.in-Err.ensures.later;
       sink = c.in-Err.ensures.sink;
       on = λ e. let stopped : true ≡ false = sym (c.in-Err.ensures.stopped.0 (ap Err e)) ∙ c.requires.on in cc;
       disk = λ e. c.in-Err.ensures.disk (ap Err e);
       stays = λ apart. c.in-Err.ensures.stays (λ e. apart (cc));
-      honest = λ told state holds damage e. c.in-Err.ensures.honest told state holds damage (ap Err e);
+      no_false_damage = λ told state holds damage e. c.in-Err.ensures.no_false_damage told state holds damage (ap Err e);
       no_head = λ told damage e. c.in-Err.ensures.no_head told damage (ap Err e);
       rests = c.in-Err.ensures.rests;
     } in
@@ -49,18 +49,18 @@ returns-in-Err-clause-told g c =
 
 pub returns-in-Err-clause-cause : goal.returns-in-Err-clause-cause
 returns-in-Err-clause-cause g c =
-    let refused : RefusedRead g.T.Disk.tells (g.T.Disk.world c.args.engine.now.store.disk.now) (g.T.Disk.world c.show.new.self.store.disk.now) c.in-Err.fault = record {
+    let refused : RefusedRead g.T.Disk.readable (g.T.Disk.world c.args.engine.now.store.disk.now) (g.T.Disk.world c.show.new.self.store.disk.now) c.in-Err.fault = record {
       causes = c.in-Err.ensures.causes;
       faults = c.in-Err.ensures.later;
       sink = c.in-Err.ensures.sink;
       on = λ e. let stopped : true ≡ false = sym (c.in-Err.ensures.stopped.0 (ap Err e)) ∙ c.requires.on in cc;
       disk = λ e. c.in-Err.ensures.disk (ap Err e);
       stays = λ apart. c.in-Err.ensures.stays (λ e. apart (cc));
-      honest = λ told state holds damage e. c.in-Err.ensures.honest told state holds damage (ap Err e);
+      no_false_damage = λ told state holds damage e. c.in-Err.ensures.no_false_damage told state holds damage (ap Err e);
       no_head = λ told damage e. c.in-Err.ensures.no_head told damage (ap Err e);
       rests = c.in-Err.ensures.rests;
     } in
-    subst (λ (e : Ended). HasEngineEnd {T = Reply} g.T.Disk.tells (g.T.Disk.world c.args.engine.now.store.disk.now) (g.T.Disk.world c.show.new.self.store.disk.now) (Err e)) (sym c.ended_by.ensures)
+    subst (λ (e : Ended). HasEngineEnd {T = Reply} g.T.Disk.readable (g.T.Disk.world c.args.engine.now.store.disk.now) (g.T.Disk.world c.show.new.self.store.disk.now) (Err e)) (sym c.ended_by.ensures)
     (refused-read-cause _ _ _ Reply c.in-Err.fault refused)
 
 pub returns-in-Err-clause-ends : goal.returns-in-Err-clause-ends

@@ -3,10 +3,10 @@ use Rattle.std.specs.Prelude.{Result, Ok, Err, IfErr}
 use Rattle.irtree_engine.specs.declared.fault.EngineFault.TheVariants as engine
 use Rattle.query_lang.specs.declared.line.Line.TheVariants as lines
 use Rattle.query_replies.specs.declared.reply.Reply.{Reply}
-use Rattle.run_protocol.specs.Causes.{GoesOn, HasEngineEnd}
-use Rattle.run_protocol.specs.declared.ended.Ended.{Ended}
+use Rattle.run_outcome.specs.Causes.{GoesOn, HasEngineEnd}
+use Rattle.run_outcome.specs.declared.ended.Ended.{Ended}
 use Rattle.script_run.specs.Lines.{IsLineEnd, RepliesTo}
-use Rattle.run_protocol.proofs.Rooms.{lacks-image}
+use Rattle.run_outcome.proofs.Rooms.{lacks-image}
 use Rattle.script_run.proofs.Ends.{refused-ends, refused-full}
 use Rattle.script_run.proofs.Replies.{AcceptedUpdate, RefusedUpdate, accepted-replies, accepted-goes_on, refused-replies, refused-cause}
 use Rattle.script_run.proofs.Going.{refused-goes_on}
@@ -14,7 +14,7 @@ use Rattle.script_run.proofs.line.update.Goals as goal
 
 pub returns-in-Ok-clause-told : goal.returns-in-Ok-clause-told
 returns-in-Ok-clause-told g c =
-    let accepted : AcceptedUpdate g.T.Disk.tells c.args.update.now (g.T.Disk.world c.args.engine.now.store.disk.now) (g.T.Disk.world c.apply.new.self.store.disk.now) c.in-Ok.applied = record {
+    let accepted : AcceptedUpdate g.T.Disk.readable c.args.update.now (g.T.Disk.world c.args.engine.now.store.disk.now) (g.T.Disk.world c.apply.new.self.store.disk.now) c.in-Ok.applied = record {
       faults = c.in-Ok.ensures.stays (λ e. absurd (cc));
       sink = c.in-Ok.ensures.sink;
       said = c.in-Ok.ensures.silent;
@@ -25,7 +25,7 @@ returns-in-Ok-clause-told g c =
 
 pub returns-in-Ok-clause-cause : goal.returns-in-Ok-clause-cause
 returns-in-Ok-clause-cause g c =
-    let accepted : AcceptedUpdate g.T.Disk.tells c.args.update.now (g.T.Disk.world c.args.engine.now.store.disk.now) (g.T.Disk.world c.apply.new.self.store.disk.now) c.in-Ok.applied = record {
+    let accepted : AcceptedUpdate g.T.Disk.readable c.args.update.now (g.T.Disk.world c.args.engine.now.store.disk.now) (g.T.Disk.world c.apply.new.self.store.disk.now) c.in-Ok.applied = record {
       faults = c.in-Ok.ensures.stays (λ e. absurd (cc));
       sink = c.in-Ok.ensures.sink;
       said = c.in-Ok.ensures.silent;
@@ -36,7 +36,7 @@ returns-in-Ok-clause-cause g c =
 
 pub returns-in-Err-clause-told : goal.returns-in-Err-clause-told
 returns-in-Err-clause-told g c =
-    let refused : RefusedUpdate g.T.Disk.tells c.args.update.now (g.T.Disk.world c.args.engine.now.store.disk.now) (g.T.Disk.world c.apply.new.self.store.disk.now) c.in-Err.fault = record {
+    let refused : RefusedUpdate g.T.Disk.readable c.args.update.now (g.T.Disk.world c.args.engine.now.store.disk.now) (g.T.Disk.world c.apply.new.self.store.disk.now) c.in-Err.fault = record {
       causes = c.in-Err.ensures.causes;
       faults = c.in-Err.ensures.later;
       sink = c.in-Err.ensures.sink;
@@ -54,7 +54,7 @@ returns-in-Err-clause-told g c =
 
 pub returns-in-Err-clause-cause : goal.returns-in-Err-clause-cause
 returns-in-Err-clause-cause g c =
-    let refused : RefusedUpdate g.T.Disk.tells c.args.update.now (g.T.Disk.world c.args.engine.now.store.disk.now) (g.T.Disk.world c.apply.new.self.store.disk.now) c.in-Err.fault = record {
+    let refused : RefusedUpdate g.T.Disk.readable c.args.update.now (g.T.Disk.world c.args.engine.now.store.disk.now) (g.T.Disk.world c.apply.new.self.store.disk.now) c.in-Err.fault = record {
       causes = c.in-Err.ensures.causes;
       faults = c.in-Err.ensures.later;
       sink = c.in-Err.ensures.sink;
@@ -67,7 +67,7 @@ returns-in-Err-clause-cause g c =
       rests = λ told apart. c.in-Err.ensures.rests told (c.in-Err.ensures.goes_on (λ e. apart (cc)));
       left_by = c.in-Err.ensures.any_moment;
     } in
-    subst (λ (r : Result Reply Ended). HasEngineEnd g.T.Disk.tells (g.T.Disk.world c.args.engine.now.store.disk.now) (g.T.Disk.world c.apply.new.self.store.disk.now) r) (sym c.refused.ensures.reply)
+    subst (λ (r : Result Reply Ended). HasEngineEnd g.T.Disk.readable (g.T.Disk.world c.args.engine.now.store.disk.now) (g.T.Disk.world c.apply.new.self.store.disk.now) r) (sym c.refused.ensures.reply)
     (refused-cause _ _ _ _ c.in-Err.fault refused)
 
 pub returns-in-Err-clause-ends : goal.returns-in-Err-clause-ends
@@ -80,7 +80,7 @@ returns-in-Err-clause-lacks g c = λ told is.
     let new = c.apply.new.self in
     let apart : c.in-Err.fault ≡ engine.Disk → ⊥ = λ e. let both : engine.NoRoom ≡ engine.Disk = sym no ∙ e in absurd (cc) in
     let on = sym new.stops ∙ was.goes_on (λ e. apart (cc)) ∙ c.requires.on in
-    lacks-image 1 1 _ _ c.args.engine.now.store.current g.T.Disk.tells (g.T.Disk.world new.store.disk.now) new.store.current new.store.last new.store.overlay new.store.end told (omega arith) was.room (was.as_before (ap Err no))
+    lacks-image 1 1 _ _ c.args.engine.now.store.current g.T.Disk.readable (g.T.Disk.world new.store.disk.now) new.store.current new.store.last new.store.overlay new.store.end told (omega arith) was.room (was.as_before (ap Err no))
     new.clean new.settled (new.store.ready told on) (was.room_left (ap Err no)) (was.free_left (ap Err no))
 
 pub returns-in-Err-clause-goes_on : goal.returns-in-Err-clause-goes_on

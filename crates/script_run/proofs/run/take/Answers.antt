@@ -1,11 +1,11 @@
 use Rattle.std.proofs.Common.{◌≡◌, ◌+◌, ◌-◌, ◌++◌, List, ℕ, length, take, refl, sym, ap, subst, arith}
 use Rattle.std.specs.Prelude.{Ok, Err}
 use Rattle.std.proofs.lemmas.List.{take_all}
-use Rattle.run_protocol.specs.Reading.{AreReading}
-use Rattle.run_protocol.specs.Script.{cut}
-use Rattle.run_protocol.specs.declared.ended.Ended.TheVariants as endings
-use Rattle.run_protocol.specs.declared.ended.InputFault.TheVariants.{Long}
-use Rattle.run_protocol.specs.declared.ended.LimitFault.TheVariants as limits
+use Rattle.run_outcome.specs.Reading.{AreReading}
+use Rattle.run_outcome.specs.Script.{cut}
+use Rattle.run_outcome.specs.declared.ended.Ended.TheVariants as endings
+use Rattle.run_outcome.specs.declared.ended.InputFault.TheVariants.{Long}
+use Rattle.run_outcome.specs.declared.ended.LimitFault.TheVariants as limits
 use Rattle.script_run.specs.Lines.{RunsLines}
 use Rattle.script_run.proofs.Causes.{job-by-failure, job-by-input, job-by-value}
 use Rattle.script_run.proofs.Ends.{piece-line}

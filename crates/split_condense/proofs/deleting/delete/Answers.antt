@@ -3,19 +3,19 @@ use Rattle.std.proofs.lemmas.List.{length-take-le}
 use Rattle.std.specs.Prelude.{IfSome}
 use Rattle.page_face.specs.FreeList.{PageMap}
 use Rattle.page_face.specs.declared.fault.PageFault.TheVariants.{Damaged}
-use Rattle.btree_nodes.specs.Damages.{AreTold}
+use Rattle.btree_nodes.specs.Damages.{AreReadable}
 use Rattle.btree_nodes.proofs.Harms.{asks-further}
 use Rattle.spatial_base.specs.Key.{form_of}
-use Rattle.rtree_shape.specs.Slots.{Item}
-use Rattle.rtree_shape.specs.Stock.{View, view}
-use Rattle.rtree_shape.specs.Made as bare_made
-use Rattle.rtree_shape.specs.Loose.{Leads}
-use Rattle.rtree_shape.specs.Whole as bare
-use Rattle.rtree_shape.proofs.Climbs.{view-same}
+use Rattle.rtree_nodes.specs.Slots.{Item}
+use Rattle.rtree_nodes.specs.Stock.{View, view}
+use Rattle.rtree_nodes.specs.Made as bare_made
+use Rattle.rtree_nodes.specs.Loose.{Leads}
+use Rattle.rtree_nodes.specs.Whole as bare
+use Rattle.rtree_nodes.proofs.Climbs.{view-same}
 use Rattle.rtree_nodes.specs.Reach.{place_item}
 use Rattle.rtree_nodes.specs.Pages.{node_of}
-use Rattle.rtree_find.specs.Entries.{is_entry}
-use Rattle.rtree_find.specs.Ways.{IsWay}
+use Rattle.rtree_nodes.specs.Entries.{is_entry}
+use Rattle.rtree_nodes.specs.Ways.{IsWay}
 use Rattle.node_rows.specs.Impacts.{impact_in}
 use Rattle.irtree_shape.specs.Words.{worded}
 use Rattle.irtree_shape.specs.Made.{nodes_in}
@@ -76,8 +76,8 @@ returns-in-Ok-clause-there g c = λ free whole done.
     let some : 0 < root = let n = c.if-tree-eq0.false in omega arith in
     leads-has old rows root (bare.level_at node_of old root) (take (suc (bare.level_at node_of old root)) c.find.new.path) entry.point (form_of entry.key) some (sym (level-plain old rows root)) way.0
 
-pub returns-in-Err-remove_at-clause-honest : goal.returns-in-Err-remove_at-clause-honest
-returns-in-Err-remove_at-clause-honest g c = λ free whole worded_all told damage e.
+pub returns-in-Err-remove_at-clause-no_false_damage : goal.returns-in-Err-remove_at-clause-no_false_damage
+returns-in-Err-remove_at-clause-no_false_damage g c = λ free whole worded_all told damage e.
     let P = g.P.Pages in
     let old : PageMap = P.pages c.args.pages.now in
     let mid : PageMap = P.pages c.find.new.pages in
@@ -104,17 +104,17 @@ returns-in-Err-remove_at-clause-honest g c = λ free whole worded_all told damag
     let short : length path ≡ c.from.result + 1 = length-take-le (c.from.result + 1) c.find.new.path (let f = c.from.ensures in omega arith) in
     let level_is : level_at (nodes_in node_of mid rows) root ≡ bare.level_at node_of old root = ap (λ (p : PageMap). level_at (nodes_in node_of p rows) root) frame.pages ∙ level-plain old rows root in
     let length_is : length path ≡ suc (level_at (nodes_in node_of mid rows) root) = omega arith in
-    let told_there : AreTold mid (P.count c.find.new.pages) = subst (λ (p : PageMap). AreTold p (P.count c.find.new.pages)) (sym frame.pages) (subst (λ (n : ℕ). AreTold old n) (sym frame.count) told) in
+    let told_there : AreReadable mid (P.count c.find.new.pages) = subst (λ (p : PageMap). AreReadable p (P.count c.find.new.pages)) (sym frame.pages) (subst (λ (n : ℕ). AreReadable old n) (sym frame.count) told) in
     let fault_is : c.in-Err-remove_at.fault ≡ Damaged damage = cc in
-    c.remove_at.ensures.honest free x (subst (λ (w : View). IsWhole node_of w root) (sym v) whole) some leads length_is told_there damage (c.in-Err-remove_at.is ∙ ap Err fault_is)
+    c.remove_at.ensures.no_false_damage free x (subst (λ (w : View). IsWhole node_of w root) (sym v) whole) some leads length_is told_there damage (c.in-Err-remove_at.is ∙ ap Err fault_is)
 
-pub returns-in-Err-clause-honest : goal.returns-in-Err-clause-honest
-returns-in-Err-clause-honest g c = λ free whole worded_all told damage e.
+pub returns-in-Err-clause-no_false_damage : goal.returns-in-Err-clause-no_false_damage
+returns-in-Err-clause-no_false_damage g c = λ free whole worded_all told damage e.
     let pages : PageMap = g.P.Pages.pages c.args.pages.now in
     let rows : ℕ = c.args.tree.now.rows in
     let root : ℕ = c.args.tree.now.root in
     let fault_is : c.in-Err.fault ≡ Damaged damage = cc in
-    c.in-Err.ensures.honest rows free (whole-plain _ root whole) damage (ap Err fault_is)
+    c.in-Err.ensures.no_false_damage rows free (whole-plain _ root whole) damage (ap Err fault_is)
 
 pub returns-in-Err-remove_at-clause-damaged : goal.returns-in-Err-remove_at-clause-damaged
 returns-in-Err-remove_at-clause-damaged g c = λ told damage e.
@@ -132,7 +132,7 @@ returns-in-Err-remove_at-clause-damaged g c = λ told damage e.
     let ten : length c.find.new.path ≡ 10 = c.find.array_long in
     let short : length path ≡ c.from.result + 1 = length-take-le (c.from.result + 1) c.find.new.path (let f = c.from.ensures in omega arith) in
     let length_is : length path ≡ suc level = let f = c.from.ensures in omega arith in
-    let told_there : AreTold mid (P.count c.find.new.pages) = subst (λ (p : PageMap). AreTold p (P.count c.find.new.pages)) (sym frame.pages) (subst (λ (n : ℕ). AreTold old n) (sym frame.count) told) in
+    let told_there : AreReadable mid (P.count c.find.new.pages) = subst (λ (p : PageMap). AreReadable p (P.count c.find.new.pages)) (sym frame.pages) (subst (λ (n : ℕ). AreReadable old n) (sym frame.count) told) in
     let fault_is : c.in-Err-remove_at.fault ≡ Damaged damage = cc in
     tree-later c.remove_at.new.tree.rows (λ _. 1) (P.pages c.remove_at.new.pages) (P.count c.remove_at.new.pages) (P.first c.remove_at.new.pages) (P.asked c.args.pages.now) (P.asked c.find.new.pages) (P.asked c.remove_at.new.pages) damage
     c.find.ensures.more (c.remove_at.ensures.damaged level told_there length_is low way damage (c.in-Err-remove_at.is ∙ ap Err fault_is))
@@ -154,20 +154,20 @@ pub returns-in-Ok-clause-told : goal.returns-in-Ok-clause-told
 returns-in-Ok-clause-told g c = λ told.
     let P = g.P.Pages in
     let frame = c.find.ensures.frame in
-    c.in-Ok.ensures.told (subst (λ (p : PageMap). AreTold p (P.count c.find.new.pages)) (sym frame.pages) (subst (λ (n : ℕ). AreTold (P.pages c.args.pages.now) n) (sym frame.count) told))
+    c.in-Ok.ensures.told (subst (λ (p : PageMap). AreReadable p (P.count c.find.new.pages)) (sym frame.pages) (subst (λ (n : ℕ). AreReadable (P.pages c.args.pages.now) n) (sym frame.count) told))
 
 pub returns-in-Ok-clause-more : goal.returns-in-Ok-clause-more
 returns-in-Ok-clause-more g c = λ told.
     let P = g.P.Pages in
     let frame = c.find.ensures.frame in
-    let told_there : AreTold (P.pages c.find.new.pages) (P.count c.find.new.pages) =
-    subst (λ (p : PageMap). AreTold p (P.count c.find.new.pages)) (sym frame.pages) (subst (λ (n : ℕ). AreTold (P.pages c.args.pages.now) n) (sym frame.count) told) in
+    let told_there : AreReadable (P.pages c.find.new.pages) (P.count c.find.new.pages) =
+    subst (λ (p : PageMap). AreReadable p (P.count c.find.new.pages)) (sym frame.pages) (subst (λ (n : ℕ). AreReadable (P.pages c.args.pages.now) n) (sym frame.count) told) in
     asks-further (λ _. 1) _ _ _ c.find.ensures.more (c.remove_at.ensures.more told_there)
 
 pub returns-in-Err-remove_at-clause-more : goal.returns-in-Err-remove_at-clause-more
 returns-in-Err-remove_at-clause-more g c = λ told.
     let P = g.P.Pages in
     let frame = c.find.ensures.frame in
-    let told_there : AreTold (P.pages c.find.new.pages) (P.count c.find.new.pages) =
-    subst (λ (p : PageMap). AreTold p (P.count c.find.new.pages)) (sym frame.pages) (subst (λ (n : ℕ). AreTold (P.pages c.args.pages.now) n) (sym frame.count) told) in
+    let told_there : AreReadable (P.pages c.find.new.pages) (P.count c.find.new.pages) =
+    subst (λ (p : PageMap). AreReadable p (P.count c.find.new.pages)) (sym frame.pages) (subst (λ (n : ℕ). AreReadable (P.pages c.args.pages.now) n) (sym frame.count) told) in
     asks-further (λ _. 1) _ _ _ c.find.ensures.more (c.remove_at.ensures.more told_there)

@@ -3,22 +3,22 @@ use Rattle.std.specs.List.{flat_map}
 use Rattle.std.specs.Prelude.{IfOk}
 use Rattle.page_face.specs.FreeList.{PageMap}
 use Rattle.spatial_base.specs.Point.{Position}
-use Rattle.ranking.specs.First.{first}
-use Rattle.place_map.specs.declared.hit.Hit.{Hit}
-use Rattle.place_map.specs.Hit.{comes_before}
+use Rattle.place_values.specs.First.{first}
+use Rattle.place_values.specs.declared.hit.Hit.{Hit}
+use Rattle.place_values.specs.Hit.{comes_before}
 use Rattle.node_rows.specs.declared.roots.Tree.{Tree}
 use Rattle.node_rows.specs.Rows.{bytes_in}
 use Rattle.best_first.specs.Openings.{Opened}
-use Rattle.tree_entries.specs.Numbers.{Numbers}
-use Rattle.tree_entries.specs.Entries.{tree_places}
-use Rattle.tree_entries.specs.Hits.{top_item}
-use Rattle.tree_ranking.specs.declared.ask.Ask.{Ask}
-use Rattle.tree_ranking.specs.Asks.{IsTopFor}
-use Rattle.tree_ranking.specs.Fits.{FitsTree, nodes_at}
-use Rattle.tree_ranking.specs.Harms.{IsNodePage}
-use Rattle.tree_ranking.specs.Openings.{StandsIn, opened_in, started_in}
-use Rattle.tree_ranking.specs.Laws.{top-first}
-use Rattle.tree_ranking.proofs.Outcomes.{ok-weaker}
+use Rattle.node_filter.specs.Numbers.{Numbers}
+use Rattle.node_filter.specs.Entries.{tree_places}
+use Rattle.node_filter.specs.Hits.{top_item}
+use Rattle.best_first.specs.declared.ask.Ask.{Ask}
+use Rattle.best_first.specs.Asks.{IsTopFor}
+use Rattle.best_first.specs.Fits.{FitsTree, nodes_at}
+use Rattle.best_first.specs.Harms.{IsNodePage}
+use Rattle.best_first.specs.NodeOpenings.{StandsIn, opened_in, started_in}
+use Rattle.best_first.specs.Laws.{top-first}
+use Rattle.best_first.proofs.Outcomes.{ok-weaker}
 use Rattle.topk_query.proofs.query.top.Goals as goal
 
 pub returns-clause-found : goal.returns-clause-found

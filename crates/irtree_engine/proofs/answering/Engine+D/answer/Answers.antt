@@ -5,8 +5,8 @@ use Rattle.page_face.specs.FreeList.{PageMap}
 use Rattle.page_face.specs.declared.head.Head.{Head}
 use Rattle.page_store.specs.Contents as stores
 use Rattle.page_store.specs.Contents.{Overlay, counted_pages, shown}
-use Rattle.place_map.specs.declared.query.Answer.{Answer}
-use Rattle.store_meaning.specs.Stands.{PagesStand, tables_in}
+use Rattle.place_values.specs.declared.query.Answer.{Answer}
+use Rattle.store_model.specs.Stands.{PagesStand, tables_in}
 use Rattle.irtree_engine.specs.declared.fault.EngineFault.TheVariants.{Damaged}
 use Rattle.irtree_engine.specs.Changes.{block_with, tree_in}
 use Rattle.irtree_engine.specs.Damages.{IsQueryDamage}
@@ -26,11 +26,11 @@ returns-clause-answered g c = λ t state holds.
     let settled = c.clear_log.ensures.current ∙ c.args.self.now.settled ∙ sym c.clear_log.ensures.last in
     let here = subst (λ disk. HoldsState (g.D.Disk.world disk) state) (λ i. (sym c.clear_log.ensures.disk i).now) holds in
     let store = c.clear_log.new.self in
-    let held : PageMap = counted_pages store.current.counted (shown g.D.Disk.tells (applied (g.D.Disk.world store.disk.now).seen) store.overlay) in
-    let committed = committed-stand g.D.Disk.tells (g.D.Disk.world store.disk.now) store.overlay store.current store.last store.end state t clean settled (store.ready t on) here in
+    let held : PageMap = counted_pages store.current.counted (shown g.D.Disk.readable (applied (g.D.Disk.world store.disk.now).seen) store.overlay) in
+    let committed = committed-stand g.D.Disk.readable (g.D.Disk.world store.disk.now) store.overlay store.current store.last store.end state t clean settled (store.ready t on) here in
     let stand : PagesStand (block_with store.current.counted store.current.first_free c.head-head.result) held state =
     subst (λ (h : Head). PagesStand (block_with store.current.counted store.current.first_free h) held state) (sym c.head-head.ensures) committed in
-    let told = store-told g.D.Disk.tells (applied (g.D.Disk.world store.disk.now).seen) store.overlay store.current.counted t store.sized in
+    let told = store-told g.D.Disk.readable (applied (g.D.Disk.world store.disk.now).seen) store.overlay store.current.counted t store.sized in
     c.in_ok-answer_in.ensures.answered state stand told
 
 pub returns-clause-opened : goal.returns-clause-opened
@@ -40,16 +40,16 @@ returns-clause-opened g c = λ t state holds.
     let settled = c.clear_log.ensures.current ∙ c.args.self.now.settled ∙ sym c.clear_log.ensures.last in
     let here = subst (λ disk. HoldsState (g.D.Disk.world disk) state) (λ i. (sym c.clear_log.ensures.disk i).now) holds in
     let store = c.clear_log.new.self in
-    let held : PageMap = counted_pages store.current.counted (shown g.D.Disk.tells (applied (g.D.Disk.world store.disk.now).seen) store.overlay) in
-    let committed = committed-stand g.D.Disk.tells (g.D.Disk.world store.disk.now) store.overlay store.current store.last store.end state t clean settled (store.ready t on) here in
+    let held : PageMap = counted_pages store.current.counted (shown g.D.Disk.readable (applied (g.D.Disk.world store.disk.now).seen) store.overlay) in
+    let committed = committed-stand g.D.Disk.readable (g.D.Disk.world store.disk.now) store.overlay store.current store.last store.end state t clean settled (store.ready t on) here in
     let stand : PagesStand (block_with store.current.counted store.current.first_free c.head-head.result) held state =
     subst (λ (h : Head). PagesStand (block_with store.current.counted store.current.first_free h) held state) (sym c.head-head.ensures) committed in
-    let told = store-told g.D.Disk.tells (applied (g.D.Disk.world store.disk.now).seen) store.overlay store.current.counted t store.sized in
+    let told = store-told g.D.Disk.readable (applied (g.D.Disk.world store.disk.now).seen) store.overlay store.current.counted t store.sized in
     let query = c.args.query.now in
     let log = c.answer_in.new.pages.asked.items in
     let found = c.in_ok-answer_in.ensures.opened state stand told in
-    let same : ◌≡◌ {A = stores.Contents} (record { block = store.current; pages = held }) (record { block = c.args.self.now.store.current; pages = counted_pages c.args.self.now.store.current.counted (shown g.D.Disk.tells (applied (g.D.Disk.world c.args.self.now.store.disk.now).seen) c.args.self.now.store.overlay) }) =
-    λ i. record { block = c.clear_log.ensures.current i; pages = counted_pages (c.clear_log.ensures.current i).counted (shown g.D.Disk.tells (applied (g.D.Disk.world (c.clear_log.ensures.disk i).now).seen) (c.clear_log.ensures.overlay i)) } in
+    let same : ◌≡◌ {A = stores.Contents} (record { block = store.current; pages = held }) (record { block = c.args.self.now.store.current; pages = counted_pages c.args.self.now.store.current.counted (shown g.D.Disk.readable (applied (g.D.Disk.world c.args.self.now.store.disk.now).seen) c.args.self.now.store.overlay) }) =
+    λ i. record { block = c.clear_log.ensures.current i; pages = counted_pages (c.clear_log.ensures.current i).counted (shown g.D.Disk.readable (applied (g.D.Disk.world (c.clear_log.ensures.disk i).now).seen) (c.clear_log.ensures.overlay i)) } in
     subst (λ (s : stores.Contents). IsFoundByFew s.pages s.block query [] log c.in_ok-answer_in.field-0) same
     (subst (λ (before : List ℕ). IsFoundByFew held store.current query before log c.in_ok-answer_in.field-0) c.clear_log.ensures.log
     (subst (λ (h : Head). IsFoundByFew held (block_with store.current.counted store.current.first_free h) query store.asked.items log c.in_ok-answer_in.field-0) c.head-head.ensures found))
@@ -62,17 +62,17 @@ returns-clause-opens_few g c = λ t state holds.
     let settled = c.clear_log.ensures.current ∙ c.args.self.now.settled ∙ sym c.clear_log.ensures.last in
     let here = subst (λ disk. HoldsState (world disk) state) (λ i. (sym c.clear_log.ensures.disk i).now) holds in
     let store = c.clear_log.new.self in
-    let pages : PageMap = counted_pages store.current.counted (shown g.D.Disk.tells (applied (world store.disk.now).seen) store.overlay) in
-    let committed = committed-stand g.D.Disk.tells (world store.disk.now) store.overlay store.current store.last store.end state t clean settled (store.ready t on) here in
+    let pages : PageMap = counted_pages store.current.counted (shown g.D.Disk.readable (applied (world store.disk.now).seen) store.overlay) in
+    let committed = committed-stand g.D.Disk.readable (world store.disk.now) store.overlay store.current store.last store.end state t clean settled (store.ready t on) here in
     let stand : PagesStand (block_with store.current.counted store.current.first_free c.head-head.result) pages state =
     subst (λ (h : Head). PagesStand (block_with store.current.counted store.current.first_free h) pages state) (sym c.head-head.ensures) committed in
-    let told = store-told g.D.Disk.tells (applied (world store.disk.now).seen) store.overlay store.current.counted t store.sized in
+    let told = store-told g.D.Disk.readable (applied (world store.disk.now).seen) store.overlay store.current.counted t store.sized in
     let query = c.args.query.now in
     let log = c.answer_in.new.pages.asked.items in
     let answer = c.in_ok-answer_in.field-0 in
     let held = contents_held (world c.args.self.now.store.disk.now).seen in
     let same : ◌≡◌ {A = stores.Contents} (record { block = store.current; pages = pages }) held =
-    committed-held g.D.Disk.tells (world store.disk.now) store.overlay store.current store.last store.end t clean settled (store.ready t on)
+    committed-held g.D.Disk.readable (world store.disk.now) store.overlay store.current store.last store.end t clean settled (store.ready t on)
     ∙ (λ i. contents_held (world (c.clear_log.ensures.disk i).now).seen) in
     let few : IsFoundByFew held.pages held.block query [] log answer =
     subst (λ (s : stores.Contents). IsFoundByFew s.pages s.block query [] log answer) same
@@ -80,25 +80,25 @@ returns-clause-opens_few g c = λ t state holds.
     (subst (λ (h : Head). IsFoundByFew pages (block_with store.current.counted store.current.first_free h) query store.asked.items log answer) c.head-head.ensures (c.in_ok-answer_in.ensures.opened state stand told))) in
     reads-logged held state query log (world c.args.self.now.store.disk.now) (world c.answer_in.new.pages.disk.now)
     (subst (λ (a : Answer). IsFoundByFew held.pages held.block query [] log a) (c.in_ok-answer_in.ensures.answered state stand told) few)
-    (logged g.D.Disk.tells world c.clear_log.ensures.disk c.clear_log.ensures.log c.answer_in.ensures.frame.only_reads t)
+    (logged g.D.Disk.readable world c.clear_log.ensures.disk c.clear_log.ensures.log c.answer_in.ensures.frame.only_reads t)
 
-pub returns-in_err-answer_in-clause-honest : goal.returns-in_err-answer_in-clause-honest
-returns-in_err-answer_in-clause-honest g c = λ t state holds damage is.
+pub returns-in_err-answer_in-clause-no_false_damage : goal.returns-in_err-answer_in-clause-no_false_damage
+returns-in_err-answer_in-clause-no_false_damage g c = λ t state holds damage is.
     let on = c.clear_log.ensures.stopped ∙ sym c.args.self.now.stops ∙ c.if-self.false in
     let clean = ap (λ (o : Overlay). o.entries) c.clear_log.ensures.overlay ∙ c.args.self.now.clean in
     let settled = c.clear_log.ensures.current ∙ c.args.self.now.settled ∙ sym c.clear_log.ensures.last in
     let here = subst (λ disk. HoldsState (g.D.Disk.world disk) state) (λ i. (sym c.clear_log.ensures.disk i).now) holds in
     let store = c.clear_log.new.self in
-    let held : PageMap = counted_pages store.current.counted (shown g.D.Disk.tells (applied (g.D.Disk.world store.disk.now).seen) store.overlay) in
-    let committed = committed-stand g.D.Disk.tells (g.D.Disk.world store.disk.now) store.overlay store.current store.last store.end state t clean settled (store.ready t on) here in
+    let held : PageMap = counted_pages store.current.counted (shown g.D.Disk.readable (applied (g.D.Disk.world store.disk.now).seen) store.overlay) in
+    let committed = committed-stand g.D.Disk.readable (g.D.Disk.world store.disk.now) store.overlay store.current store.last store.end state t clean settled (store.ready t on) here in
     let stand : PagesStand (block_with store.current.counted store.current.first_free c.head-head.result) held state =
     subst (λ (h : Head). PagesStand (block_with store.current.counted store.current.first_free h) held state) (sym c.head-head.ensures) committed in
-    let told = store-told g.D.Disk.tells (applied (g.D.Disk.world store.disk.now).seen) store.overlay store.current.counted t store.sized in
+    let told = store-told g.D.Disk.readable (applied (g.D.Disk.world store.disk.now).seen) store.overlay store.current.counted t store.sized in
     let passed = err_from_is_err_and c.from_residual.result c.from_residual.ensures.1 in
     let result_is = passed.1 in
     let fault_is = passed.2 in
     let was : fault_of_pages c.in_err-answer_in.field-0.0 ≡ Damaged damage = cc in
-    c.answer_in.ensures.honest state stand told damage (c.in_err-answer_in.was ∙ ap Err (damaged-from _ damage was))
+    c.answer_in.ensures.no_false_damage state stand told damage (c.in_err-answer_in.was ∙ ap Err (damaged-from _ damage was))
 
 pub returns-in_err-answer_in-clause-damaged : goal.returns-in_err-answer_in-clause-damaged
 returns-in_err-answer_in-clause-damaged g c = λ t damage is.
@@ -107,13 +107,13 @@ returns-in_err-answer_in-clause-damaged g c = λ t damage is.
     let result_is = passed.1 in
     let fault_is = passed.2 in
     let was : fault_of_pages c.in_err-answer_in.field-0.0 ≡ Damaged damage = cc in
-    let told = store-told g.D.Disk.tells (applied (g.D.Disk.world store.disk.now).seen) store.overlay store.current.counted t store.sized in
-    let held : PageMap = counted_pages store.current.counted (shown g.D.Disk.tells (applied (g.D.Disk.world store.disk.now).seen) store.overlay) in
+    let told = store-told g.D.Disk.readable (applied (g.D.Disk.world store.disk.now).seen) store.overlay store.current.counted t store.sized in
+    let held : PageMap = counted_pages store.current.counted (shown g.D.Disk.readable (applied (g.D.Disk.world store.disk.now).seen) store.overlay) in
     let query = c.args.query.now in
     let log = c.answer_in.new.pages.asked.items in
     let found = c.answer_in.ensures.damaged told damage (c.in_err-answer_in.was ∙ ap Err (damaged-from _ damage was)) in
-    let same : ◌≡◌ {A = stores.Contents} (record { block = store.current; pages = held }) (record { block = c.args.self.now.store.current; pages = counted_pages c.args.self.now.store.current.counted (shown g.D.Disk.tells (applied (g.D.Disk.world c.args.self.now.store.disk.now).seen) c.args.self.now.store.overlay) }) =
-    λ i. record { block = c.clear_log.ensures.current i; pages = counted_pages (c.clear_log.ensures.current i).counted (shown g.D.Disk.tells (applied (g.D.Disk.world (c.clear_log.ensures.disk i).now).seen) (c.clear_log.ensures.overlay i)) } in
+    let same : ◌≡◌ {A = stores.Contents} (record { block = store.current; pages = held }) (record { block = c.args.self.now.store.current; pages = counted_pages c.args.self.now.store.current.counted (shown g.D.Disk.readable (applied (g.D.Disk.world c.args.self.now.store.disk.now).seen) c.args.self.now.store.overlay) }) =
+    λ i. record { block = c.clear_log.ensures.current i; pages = counted_pages (c.clear_log.ensures.current i).counted (shown g.D.Disk.readable (applied (g.D.Disk.world (c.clear_log.ensures.disk i).now).seen) (c.clear_log.ensures.overlay i)) } in
     subst (λ (s : stores.Contents). IsQueryDamage s.pages s.block [] log damage) same
     (subst (λ (before : List ℕ). IsQueryDamage held store.current before log damage) c.clear_log.ensures.log
     (subst (λ (h : Head). IsQueryDamage held (block_with store.current.counted store.current.first_free h) store.asked.items log damage) c.head-head.ensures found))
@@ -129,13 +129,13 @@ returns-in_err-answer_in-clause-broken g c = λ t damage is.
     let result_is = passed.1 in
     let fault_is = passed.2 in
     let was : fault_of_pages c.in_err-answer_in.field-0.0 ≡ Damaged damage = cc in
-    let told = store-told g.D.Disk.tells (applied (world store.disk.now).seen) store.overlay store.current.counted t store.sized in
-    let pages : PageMap = counted_pages store.current.counted (shown g.D.Disk.tells (applied (world store.disk.now).seen) store.overlay) in
+    let told = store-told g.D.Disk.readable (applied (world store.disk.now).seen) store.overlay store.current.counted t store.sized in
+    let pages : PageMap = counted_pages store.current.counted (shown g.D.Disk.readable (applied (world store.disk.now).seen) store.overlay) in
     let log = c.answer_in.new.pages.asked.items in
     let found = c.answer_in.ensures.damaged told damage (c.in_err-answer_in.was ∙ ap Err (damaged-from _ damage was)) in
     let held = contents_held (world c.args.self.now.store.disk.now).seen in
     let same : ◌≡◌ {A = stores.Contents} (record { block = store.current; pages = pages }) held =
-    committed-held g.D.Disk.tells (world store.disk.now) store.overlay store.current store.last store.end t clean settled (store.ready t on)
+    committed-held g.D.Disk.readable (world store.disk.now) store.overlay store.current store.last store.end t clean settled (store.ready t on)
     ∙ (λ i. contents_held (world (c.clear_log.ensures.disk i).now).seen) in
     record {
       asked = log;
@@ -151,14 +151,14 @@ returns-in_err-answer_in-clause-no_head g c = λ t damage is.
     let result_is = passed.1 in
     let fault_is = passed.2 in
     let was : fault_of_pages c.in_err-answer_in.field-0.0 ≡ Damaged damage = cc in
-    let told = store-told g.D.Disk.tells (applied (g.D.Disk.world store.disk.now).seen) store.overlay store.current.counted t store.sized in
+    let told = store-told g.D.Disk.readable (applied (g.D.Disk.world store.disk.now).seen) store.overlay store.current.counted t store.sized in
     answer-spares_head _ _ (tables_in c.head-head.result) (tree_in c.head-head.result) _ _ damage (c.answer_in.ensures.damaged told damage (c.in_err-answer_in.was ∙ ap Err (damaged-from _ damage was)))
 
 pub returns-then-self-clause-log : goal.returns-then-self-clause-log
-returns-then-self-clause-log g c = logged-none g.D.Disk.tells g.D.Disk.world c.clear_log.ensures.disk c.clear_log.ensures.log c.clear_log.new.self.overlay
+returns-then-self-clause-log g c = logged-none g.D.Disk.readable g.D.Disk.world c.clear_log.ensures.disk c.clear_log.ensures.log c.clear_log.new.self.overlay
 
 pub returns-in_err-answer_in-clause-log : goal.returns-in_err-answer_in-clause-log
-returns-in_err-answer_in-clause-log g c = logged g.D.Disk.tells g.D.Disk.world c.clear_log.ensures.disk c.clear_log.ensures.log c.answer_in.ensures.frame.only_reads
+returns-in_err-answer_in-clause-log g c = logged g.D.Disk.readable g.D.Disk.world c.clear_log.ensures.disk c.clear_log.ensures.log c.answer_in.ensures.frame.only_reads
 
 pub returns-clause-log : goal.returns-clause-log
-returns-clause-log g c = logged g.D.Disk.tells g.D.Disk.world c.clear_log.ensures.disk c.clear_log.ensures.log c.answer_in.ensures.frame.only_reads
+returns-clause-log g c = logged g.D.Disk.readable g.D.Disk.world c.clear_log.ensures.disk c.clear_log.ensures.log c.answer_in.ensures.frame.only_reads

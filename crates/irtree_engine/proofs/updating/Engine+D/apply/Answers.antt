@@ -7,8 +7,8 @@ use Rattle.page_store.specs.declared.superblock.Superblock.{Superblock}
 use Rattle.page_store.specs.Store.{Kept, Rests, rests_then}
 use Rattle.page_store.specs.Takes.{counts_of}
 use Rattle.page_store.specs.Contents.{Overlay, counted_pages, shown}
-use Rattle.place_map.specs.Update.{effect_of}
-use Rattle.store_meaning.specs.Stands.{PagesStand}
+use Rattle.place_values.specs.Update.{effect_of}
+use Rattle.store_model.specs.Stands.{PagesStand}
 use Rattle.irtree_engine.specs.Changes.{AreHeadNumbers, block_with}
 use Rattle.irtree_engine.specs.Holding.{HoldsState}
 use Rattle.irtree_engine.specs.Updates.{LeavesOneOf, most_takes}
@@ -26,11 +26,11 @@ returns-in-Err-update-clause-due g c = λ t state holds.
     let settled = c.begin.ensures.current ∙ c.args.self.now.settled ∙ sym c.begin.ensures.last in
     let here = subst (λ disk. HoldsState (g.D.Disk.world disk) state) (λ i. (sym c.begin.ensures.disk i).now) holds in
     let store = c.begin.new.store in
-    let held : PageMap = counted_pages store.current.counted (shown g.D.Disk.tells (applied (g.D.Disk.world store.disk.now).seen) store.overlay) in
-    let committed = committed-stand g.D.Disk.tells (g.D.Disk.world store.disk.now) store.overlay store.current store.last store.end state t clean settled (store.ready t on) here in
+    let held : PageMap = counted_pages store.current.counted (shown g.D.Disk.readable (applied (g.D.Disk.world store.disk.now).seen) store.overlay) in
+    let committed = committed-stand g.D.Disk.readable (g.D.Disk.world store.disk.now) store.overlay store.current store.last store.end state t clean settled (store.ready t on) here in
     let stand : PagesStand (block_with store.current.counted store.current.first_free c.head-head.result) held state =
     subst (λ (h : Head). PagesStand (block_with store.current.counted store.current.first_free h) held state) (sym c.head-head.ensures) committed in
-    c.in-Err-update.ensures.due state stand (store-told g.D.Disk.tells (applied (g.D.Disk.world store.disk.now).seen) store.overlay store.current.counted t store.sized)
+    c.in-Err-update.ensures.due state stand (store-told g.D.Disk.readable (applied (g.D.Disk.world store.disk.now).seen) store.overlay store.current.counted t store.sized)
 
 pub returns-in-Ok-commit-clause-applied : goal.returns-in-Ok-commit-clause-applied
 returns-in-Ok-commit-clause-applied g c = λ t state holds.
@@ -39,8 +39,8 @@ returns-in-Ok-commit-clause-applied g c = λ t state holds.
     let settled = c.begin.ensures.current ∙ c.args.self.now.settled ∙ sym c.begin.ensures.last in
     let here = subst (λ disk. HoldsState (g.D.Disk.world disk) state) (λ i. (sym c.begin.ensures.disk i).now) holds in
     let store = c.begin.new.store in
-    let held : PageMap = counted_pages store.current.counted (shown g.D.Disk.tells (applied (g.D.Disk.world store.disk.now).seen) store.overlay) in
-    let committed = committed-stand g.D.Disk.tells (g.D.Disk.world store.disk.now) store.overlay store.current store.last store.end state t clean settled (store.ready t on) here in
+    let held : PageMap = counted_pages store.current.counted (shown g.D.Disk.readable (applied (g.D.Disk.world store.disk.now).seen) store.overlay) in
+    let committed = committed-stand g.D.Disk.readable (g.D.Disk.world store.disk.now) store.overlay store.current store.last store.end state t clean settled (store.ready t on) here in
     let stand : PagesStand (block_with store.current.counted store.current.first_free c.head-head.result) held state =
     subst (λ (h : Head). PagesStand (block_with store.current.counted store.current.first_free h) held state) (sym c.head-head.ensures) committed in
     let mid = c.update.new.pages in
@@ -56,8 +56,8 @@ returns-in-Ok-commit-clause-any_moment g c = λ t state holds.
     let settled = c.begin.ensures.current ∙ c.args.self.now.settled ∙ sym c.begin.ensures.last in
     let here = subst (λ disk. HoldsState (g.D.Disk.world disk) state) (λ i. (sym c.begin.ensures.disk i).now) holds in
     let store = c.begin.new.store in
-    let held : PageMap = counted_pages store.current.counted (shown g.D.Disk.tells (applied (g.D.Disk.world store.disk.now).seen) store.overlay) in
-    let committed = committed-stand g.D.Disk.tells (g.D.Disk.world store.disk.now) store.overlay store.current store.last store.end state t clean settled (store.ready t on) here in
+    let held : PageMap = counted_pages store.current.counted (shown g.D.Disk.readable (applied (g.D.Disk.world store.disk.now).seen) store.overlay) in
+    let committed = committed-stand g.D.Disk.readable (g.D.Disk.world store.disk.now) store.overlay store.current store.last store.end state t clean settled (store.ready t on) here in
     let stand : PagesStand (block_with store.current.counted store.current.first_free c.head-head.result) held state =
     subst (λ (h : Head). PagesStand (block_with store.current.counted store.current.first_free h) held state) (sym c.head-head.ensures) committed in
     let mid = c.update.new.pages in
@@ -75,8 +75,8 @@ returns-in-Err-commit-clause-any_moment g c = λ t state holds.
     let settled = c.begin.ensures.current ∙ c.args.self.now.settled ∙ sym c.begin.ensures.last in
     let here = subst (λ disk. HoldsState (g.D.Disk.world disk) state) (λ i. (sym c.begin.ensures.disk i).now) holds in
     let store = c.begin.new.store in
-    let held : PageMap = counted_pages store.current.counted (shown g.D.Disk.tells (applied (g.D.Disk.world store.disk.now).seen) store.overlay) in
-    let committed = committed-stand g.D.Disk.tells (g.D.Disk.world store.disk.now) store.overlay store.current store.last store.end state t clean settled (store.ready t on) here in
+    let held : PageMap = counted_pages store.current.counted (shown g.D.Disk.readable (applied (g.D.Disk.world store.disk.now).seen) store.overlay) in
+    let committed = committed-stand g.D.Disk.readable (g.D.Disk.world store.disk.now) store.overlay store.current store.last store.end state t clean settled (store.ready t on) here in
     let stand : PagesStand (block_with store.current.counted store.current.first_free c.head-head.result) held state =
     subst (λ (h : Head). PagesStand (block_with store.current.counted store.current.first_free h) held state) (sym c.head-head.ensures) committed in
     let mid = c.update.new.pages in
@@ -130,7 +130,7 @@ update-requires-clause-numbers g c = subst AreHeadNumbers (sym (c.head-head.ensu
 
 pub returns-in-Err-update-clause-no_head : goal.returns-in-Err-update-clause-no_head
 returns-in-Err-update-clause-no_head g c = λ t damage is.
-    c.in-Err-update.ensures.no_head (λ p. store-told g.D.Disk.tells (applied (g.D.Disk.world p.disk.now).seen) p.overlay p.current.counted t p.sized) damage is
+    c.in-Err-update.ensures.no_head (λ p. store-told g.D.Disk.readable (applied (g.D.Disk.world p.disk.now).seen) p.overlay p.current.counted t p.sized) damage is
 
 pub returns-in-Ok-commit-clause-absent : goal.returns-in-Ok-commit-clause-absent
 returns-in-Ok-commit-clause-absent g c = λ t is.

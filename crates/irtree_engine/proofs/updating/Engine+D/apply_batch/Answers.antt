@@ -8,7 +8,7 @@ use Rattle.page_store.specs.declared.superblock.Superblock.{Superblock}
 use Rattle.page_store.specs.Store.{Kept}
 use Rattle.page_store.specs.Takes.{counts_of}
 use Rattle.page_store.specs.Contents.{Overlay, counted_pages, shown}
-use Rattle.store_meaning.specs.Stands.{PagesStand}
+use Rattle.store_model.specs.Stands.{PagesStand}
 use Rattle.irtree_engine.specs.Changes.{AreHeadNumbers, block_with}
 use Rattle.irtree_engine.specs.Holding.{HoldsState}
 use Rattle.irtree_engine.specs.Updates.{LeavesAllOrNone, most_takes, state_after_all}
@@ -26,11 +26,11 @@ returns-in-Err-update_all-clause-due g c = λ t state holds.
     let settled = c.begin.ensures.current ∙ c.args.self.now.settled ∙ sym c.begin.ensures.last in
     let here = subst (λ disk. HoldsState (g.D.Disk.world disk) state) (λ i. (sym c.begin.ensures.disk i).now) holds in
     let store = c.begin.new.store in
-    let held : PageMap = counted_pages store.current.counted (shown g.D.Disk.tells (applied (g.D.Disk.world store.disk.now).seen) store.overlay) in
-    let committed = committed-stand g.D.Disk.tells (g.D.Disk.world store.disk.now) store.overlay store.current store.last store.end state t clean settled (store.ready t on) here in
+    let held : PageMap = counted_pages store.current.counted (shown g.D.Disk.readable (applied (g.D.Disk.world store.disk.now).seen) store.overlay) in
+    let committed = committed-stand g.D.Disk.readable (g.D.Disk.world store.disk.now) store.overlay store.current store.last store.end state t clean settled (store.ready t on) here in
     let stand : PagesStand (block_with store.current.counted store.current.first_free c.head-head.result) held state =
     subst (λ (h : Head). PagesStand (block_with store.current.counted store.current.first_free h) held state) (sym c.head-head.ensures) committed in
-    c.in-Err-update_all.ensures.due state stand (λ p. store-told g.D.Disk.tells (applied (g.D.Disk.world p.disk.now).seen) p.overlay p.current.counted t p.sized)
+    c.in-Err-update_all.ensures.due state stand (λ p. store-told g.D.Disk.readable (applied (g.D.Disk.world p.disk.now).seen) p.overlay p.current.counted t p.sized)
 
 pub returns-clause-applied : goal.returns-clause-applied
 returns-clause-applied g c = λ t state holds.
@@ -39,14 +39,14 @@ returns-clause-applied g c = λ t state holds.
     let settled = c.begin.ensures.current ∙ c.args.self.now.settled ∙ sym c.begin.ensures.last in
     let here = subst (λ disk. HoldsState (g.D.Disk.world disk) state) (λ i. (sym c.begin.ensures.disk i).now) holds in
     let store = c.begin.new.store in
-    let held : PageMap = counted_pages store.current.counted (shown g.D.Disk.tells (applied (g.D.Disk.world store.disk.now).seen) store.overlay) in
-    let committed = committed-stand g.D.Disk.tells (g.D.Disk.world store.disk.now) store.overlay store.current store.last store.end state t clean settled (store.ready t on) here in
+    let held : PageMap = counted_pages store.current.counted (shown g.D.Disk.readable (applied (g.D.Disk.world store.disk.now).seen) store.overlay) in
+    let committed = committed-stand g.D.Disk.readable (g.D.Disk.world store.disk.now) store.overlay store.current store.last store.end state t clean settled (store.ready t on) here in
     let stand : PagesStand (block_with store.current.counted store.current.first_free c.head-head.result) held state =
     subst (λ (h : Head). PagesStand (block_with store.current.counted store.current.first_free h) held state) (sym c.head-head.ensures) committed in
     let mid = c.update_all.new.pages in
     let rests = c.update_all.ensures.frame.follows.rests t in
     let holds_mid = rest-stands (g.D.Disk.world store.disk.now) (g.D.Disk.world mid.disk.now) state rests here in
-    let outcome = outcome-is (state_after_all state c.args.updates.now) (block_with mid.current.counted mid.current.first_free c.update_all.new.head) (counted_pages mid.current.counted (shown g.D.Disk.tells (applied (g.D.Disk.world mid.disk.now).seen) mid.overlay)) (c.in-Ok-update_all.ensures.updated state stand) in
+    let outcome = outcome-is (state_after_all state c.args.updates.now) (block_with mid.current.counted mid.current.first_free c.update_all.new.head) (counted_pages mid.current.counted (shown g.D.Disk.readable (applied (g.D.Disk.world mid.disk.now).seen) mid.overlay)) (c.in-Ok-update_all.ensures.updated state stand) in
     on_ok_weaker c.commit.result (outcome-stands (state_after_all state c.args.updates.now) outcome.0 (g.D.Disk.world c.commit.new.store.disk.now).seen outcome.1)
     (c.commit.ensures.stored t state outcome.0 holds_mid outcome.2 (all-rise state c.args.updates.now outcome.0 outcome.1).same)
 
@@ -57,14 +57,14 @@ returns-clause-any_moment g c = λ t state holds.
     let settled = c.begin.ensures.current ∙ c.args.self.now.settled ∙ sym c.begin.ensures.last in
     let here = subst (λ disk. HoldsState (g.D.Disk.world disk) state) (λ i. (sym c.begin.ensures.disk i).now) holds in
     let store = c.begin.new.store in
-    let held : PageMap = counted_pages store.current.counted (shown g.D.Disk.tells (applied (g.D.Disk.world store.disk.now).seen) store.overlay) in
-    let committed = committed-stand g.D.Disk.tells (g.D.Disk.world store.disk.now) store.overlay store.current store.last store.end state t clean settled (store.ready t on) here in
+    let held : PageMap = counted_pages store.current.counted (shown g.D.Disk.readable (applied (g.D.Disk.world store.disk.now).seen) store.overlay) in
+    let committed = committed-stand g.D.Disk.readable (g.D.Disk.world store.disk.now) store.overlay store.current store.last store.end state t clean settled (store.ready t on) here in
     let stand : PagesStand (block_with store.current.counted store.current.first_free c.head-head.result) held state =
     subst (λ (h : Head). PagesStand (block_with store.current.counted store.current.first_free h) held state) (sym c.head-head.ensures) committed in
     let mid = c.update_all.new.pages in
     let rests = c.update_all.ensures.frame.follows.rests t in
     let holds_mid = rest-stands (g.D.Disk.world store.disk.now) (g.D.Disk.world mid.disk.now) state rests here in
-    let outcome = outcome-is (state_after_all state c.args.updates.now) (block_with mid.current.counted mid.current.first_free c.update_all.new.head) (counted_pages mid.current.counted (shown g.D.Disk.tells (applied (g.D.Disk.world mid.disk.now).seen) mid.overlay)) (c.in-Ok-update_all.ensures.updated state stand) in
+    let outcome = outcome-is (state_after_all state c.args.updates.now) (block_with mid.current.counted mid.current.first_free c.update_all.new.head) (counted_pages mid.current.counted (shown g.D.Disk.readable (applied (g.D.Disk.world mid.disk.now).seen) mid.overlay)) (c.in-Ok-update_all.ensures.updated state stand) in
     subst (λ disk. LeavesOnly (g.D.Disk.world disk) (g.D.Disk.world c.commit.new.store.disk.now) (LeavesAllOrNone state c.args.updates.now (g.D.Disk.world disk))) (λ i. (c.begin.ensures.disk i).now)
     (leaves-all (g.D.Disk.world store.disk.now) (g.D.Disk.world c.commit.new.store.disk.now) state c.args.updates.now outcome.0 outcome.1
     (rest-leaves (g.D.Disk.world store.disk.now) (g.D.Disk.world mid.disk.now) (g.D.Disk.world c.commit.new.store.disk.now) state outcome.0 rests
@@ -105,4 +105,4 @@ update_all-requires-clause-numbers g c = subst AreHeadNumbers (sym (c.head-head.
 
 pub returns-in-Err-update_all-clause-no_head : goal.returns-in-Err-update_all-clause-no_head
 returns-in-Err-update_all-clause-no_head g c = λ t damage is.
-    c.in-Err-update_all.ensures.no_head (λ p. store-told g.D.Disk.tells (applied (g.D.Disk.world p.disk.now).seen) p.overlay p.current.counted t p.sized) damage is
+    c.in-Err-update_all.ensures.no_head (λ p. store-told g.D.Disk.readable (applied (g.D.Disk.world p.disk.now).seen) p.overlay p.current.counted t p.sized) damage is

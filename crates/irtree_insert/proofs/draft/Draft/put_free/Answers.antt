@@ -1,6 +1,6 @@
 use Rattle.std.proofs.Common.{arith}
 use Rattle.rtree_nodes.specs.Pages.{slots_in}
-use Rattle.rtree_shape.proofs.Splits.{full-many}
+use Rattle.rtree_nodes.proofs.Splits.{full-many}
 use Rattle.irtree_insert.proofs.draft.Draft.put_free.Goals as goal
 
 pub returns-in-None-clause-put : goal.returns-in-None-clause-put

@@ -1,5 +1,5 @@
 use Rattle.std.proofs.Common.{◌≡◌, ◌∙◌, ◌++◌, [], ap, rules}
-use Rattle.run_protocol.specs.Load.{loaded_line, says_loaded}
+use Rattle.run_outcome.specs.Load.{loaded_line, says_loaded}
 use Rattle.load_run.specs.Loading.{stage}
 use Rattle.load_run.proofs.Stages.{lacks-memory}
 use Rattle.load_run.proofs.load.Load.conclude.Goals as goal

@@ -1,5 +1,5 @@
 use Rattle.std.proofs.Common.{length}
-use Rattle.run_protocol.specs.Load.{says_loaded}
+use Rattle.run_outcome.specs.Load.{says_loaded}
 use Rattle.load_run.proofs.Causes.{engine-then}
 use Rattle.load_run.proofs.Stages.{goes-concludes}
 use Rattle.load_run.proofs.Numbers.{rises-then}

@@ -1,7 +1,7 @@
 use Rattle.std.proofs.Common.{◌≡◌, ◌≤◌, ◌<◌, max, List, [], ◌∷◌, ◌++◌, length, length-append, ap, ◌∙◌, arith, rules}
 use Rattle.geojson_points.specs.Takes.{Placed, place_of}
-use Rattle.run_protocol.specs.Load.{Step, Store, put_of, steps}
-use Rattle.run_protocol.proofs.Rooms.{lacks-more}
+use Rattle.run_outcome.specs.Load.{Step, Store, put_of, steps}
+use Rattle.run_outcome.proofs.Rooms.{lacks-more}
 use Rattle.load_run.specs.declared.load.Load.{Load}
 use Rattle.load_run.specs.Loading.{stage, stage_before}
 use Rattle.load_run.proofs.Stages.{goes-as, lacks-memory}

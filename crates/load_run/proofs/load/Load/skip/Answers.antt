@@ -1,6 +1,6 @@
 use Rattle.std.proofs.Common.{◌+◌, length, ap, arith}
 use Rattle.page_store.specs.declared.superblock.Superblock.{Superblock}
-use Rattle.run_protocol.specs.Load.{steps}
+use Rattle.run_outcome.specs.Load.{steps}
 use Rattle.load_run.specs.Loading.{Stage, stage_before}
 use Rattle.load_run.proofs.Stages.{lacks-memory, goes-moves}
 use Rattle.load_run.proofs.Moves.{goes-skipped, moves-said}

@@ -2,7 +2,7 @@ use Rattle.std.specs.Prelude.{Err}
 use Rattle.std.proofs.Common.{◌≡◌, ◌+◌, List, ℕ, [], ◌++◌, length, refl, sym, ap, subst, ◌∙◌, arith}
 use Rattle.page_store.specs.declared.superblock.Superblock.{Superblock}
 use Rattle.page_face.specs.declared.head.Head.{Head}
-use Rattle.run_protocol.specs.Load.{stored_line}
+use Rattle.run_outcome.specs.Load.{stored_line}
 use Rattle.load_run.specs.Loading.{RisesBy, Stage, stage}
 use Rattle.load_run.proofs.Causes.{engine-then}
 use Rattle.load_run.proofs.Stages.{goes-then, goes-as, goes-concludes, goes-moves, lacks-memory}

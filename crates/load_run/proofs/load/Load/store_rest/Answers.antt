@@ -1,7 +1,7 @@
 use Rattle.std.proofs.Common.{◌≡◌, max, List, [], ◌∷◌, length, sym, ap, ◌∙◌, arith, rules}
-use Rattle.run_protocol.specs.Load.{Step, Store, steps}
-use Rattle.run_protocol.proofs.Rooms.{lacks-more}
-use Rattle.run_protocol.proofs.Lists.{none-left, some-left}
+use Rattle.run_outcome.specs.Load.{Step, Store, steps}
+use Rattle.run_outcome.proofs.Rooms.{lacks-more}
+use Rattle.run_outcome.proofs.Lists.{none-left, some-left}
 use Rattle.load_run.specs.declared.load.Load.{Load}
 use Rattle.load_run.specs.Loading.{stage, stage_before}
 use Rattle.load_run.proofs.Causes.{engine-none}
@@ -27,7 +27,7 @@ returns-clause-told g c = λ told closing state holds.
     moves-as closing s state (steps s.batch s.waiting.items []) (Store c.deref.result.now ∷ []) _ _ _ c.store.result left (c.store.ensures.told told closing state [] holds)
 
 pub returns-then-is_empty-clause-cause : goal.returns-then-is_empty-clause-cause
-returns-then-is_empty-clause-cause g c = engine-none g.T.Disk.tells (g.T.Disk.world c.args.engine.now.store.disk.now) (Unit {0}) tt
+returns-then-is_empty-clause-cause g c = engine-none g.T.Disk.readable (g.T.Disk.world c.args.engine.now.store.disk.now) (Unit {0}) tt
 
 pub returns-then-is_empty-clause-rises : goal.returns-then-is_empty-clause-rises
 returns-then-is_empty-clause-rises g c = record { live = omega arith; number = omega arith; limit = tt }

@@ -1,7 +1,7 @@
 use Rattle.std.proofs.Common.{[], ◌∷◌, length, ap, sym, subst}
 use Rattle.geojson_points.specs.Takes.{item_of}
 use Rattle.geojson_points.specs.declared.taken.Taken.{Taken}
-use Rattle.run_protocol.specs.Load.{places_among, steps}
+use Rattle.run_outcome.specs.Load.{places_among, steps}
 use Rattle.load_run.specs.declared.load.Load.{Load}
 use Rattle.load_run.specs.Loading.{RisesBy}
 use Rattle.load_run.proofs.Moves.{moves-as}

@@ -1,6 +1,6 @@
 use Rattle.std.proofs.Common.{◌≡◌, ℕ, List, sym, ap, ◌∙◌, subst, Option, Some, None, ◌<◌, ◌≤◌}
 use Rattle.btree_nodes.specs.Rows.{lookup}
-use Rattle.btree_search.specs.Steps.{low_of, high_of}
+use Rattle.btree_nodes.specs.Steps.{low_of, high_of}
 use Rattle.paged_map.specs.declared.draft.LeafDraft.{LeafDraft}
 use Rattle.node_rows.specs.Rows.{Bytes, byte_in, key_of}
 use Rattle.node_rows.proofs.Bytes.{bytes-small}

@@ -1,7 +1,7 @@
 use Rattle.std.proofs.Common.{◌≡◌, ℕ, ◌^◌, ◌<◌, ◌≤◌, sym, ◌∙◌, subst, true, false}
 use Rattle.page_face.specs.FreeList.{are_zero}
 use Rattle.btree_nodes.specs.Rows.{put, without}
-use Rattle.btree_search.specs.Steps.{low_of, high_of}
+use Rattle.btree_nodes.specs.Steps.{low_of, high_of}
 use Rattle.paged_map.specs.Drafts.{Drafts}
 use Rattle.paged_map.specs.declared.draft.LeafDraft.{LeafDraft}
 use Rattle.node_rows.specs.Rows.{key_of}

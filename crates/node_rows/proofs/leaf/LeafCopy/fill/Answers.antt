@@ -7,9 +7,9 @@ use Rattle.btree_nodes.specs.Nodes.{IsLeaf, least_of_root, rows_in}
 use Rattle.btree_nodes.specs.Rows.{IsWithin}
 use Rattle.btree_nodes.specs.Tree.{IsMap, level_of, map_uses}
 use Rattle.btree_nodes.proofs.Walks.{same-fault}
-use Rattle.btree_search.specs.Steps.{low_of, high_of}
+use Rattle.btree_nodes.specs.Steps.{low_of, high_of}
 use Rattle.paged_map.proofs.Maps.{map-damage, map-undamaged}
-use Rattle.rtree_shape.specs.Stock.{rows_form}
+use Rattle.rtree_nodes.specs.Stock.{rows_form}
 use Rattle.node_rows.specs.Rows.{key_of}
 use Rattle.node_rows.proofs.Copies.{filled}
 use Rattle.node_rows.proofs.leaf.LeafCopy.fill.Goals as goal
@@ -43,8 +43,8 @@ pub returns-in-Err-clause-own : goal.returns-in-Err-clause-own
 returns-in-Err-clause-own g c = λ told.
     subst (λ (f : Form). AsksOnly (map_uses f (g.P.Pages.pages c.args.pages.now) c.args.tree.now.rows) (g.P.Pages.asked c.args.pages.now) (g.P.Pages.asked c.locate.new.pages)) c.row_form-form.ensures (c.in-Err.ensures.own told)
 
-pub returns-in-Err-clause-honest : goal.returns-in-Err-clause-honest
-returns-in-Err-clause-honest g c = λ map counted told damage e.
+pub returns-in-Err-clause-no_false_damage : goal.returns-in-Err-clause-no_false_damage
+returns-in-Err-clause-no_false_damage g c = λ map counted told damage e.
     let old : PageMap = g.P.Pages.pages c.args.pages.now in
     let count : ℕ = g.P.Pages.count c.args.pages.now in
     let root : ℕ = c.args.tree.now.rows in

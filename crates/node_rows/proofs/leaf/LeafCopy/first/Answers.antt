@@ -1,7 +1,7 @@
 use Rattle.std.proofs.Common.{◌≡◌, ◌<◌, ◌≤◌, ◌^◌, ℕ, List, Some, None, arith, rules, sym, ap, ◌∙◌}
 use Rattle.btree_nodes.specs.Nodes.{rows_in}
 use Rattle.btree_nodes.specs.Rows.{Row, first_from}
-use Rattle.rtree_shape.specs.Stock.{rows_form}
+use Rattle.rtree_nodes.specs.Stock.{rows_form}
 use Rattle.node_rows.specs.Rows.{key_of}
 use Rattle.node_rows.proofs.Copies.{before-le, copy-away, copy-next, copy-none, copy-on, copy-past}
 use Rattle.node_rows.proofs.leaf.LeafCopy.first.Goals as goal

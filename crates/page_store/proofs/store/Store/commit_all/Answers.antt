@@ -1,12 +1,12 @@
 use Rattle.std.proofs.Common.{◌≡◌, ℕ, Option, List, refl, ap, subst, sym, ◌∙◌, rules, arith}
 use Rattle.page_journal.specs.Record.{applied, batch_of, given, with_batch}
-use Rattle.held_pages.specs.Pages.{first_page, page_in}
-use Rattle.held_pages.specs.Rooms.{ordered_page}
+use Rattle.buffer_pool.specs.Pages.{first_page, page_in}
+use Rattle.buffer_pool.specs.Rooms.{ordered_page}
 use Rattle.page_store.specs.declared.superblock.Superblock.{Superblock}
 use Rattle.page_store.specs.Contents.{Overlay, contents_in, shown, counted_pages, IsCommitted}
 use Rattle.page_store.proofs.Committed.{says_then}
 use Rattle.page_store.proofs.Overlays.{committed_by, committed_contents, committed_pages, commit_leaves, cleared_sized, whole_of}
-use Rattle.held_pages.proofs.Sealed.{moved_keeps, true_moved, true_pages}
+use Rattle.buffer_pool.proofs.Sealed.{moved_keeps, true_moved, true_pages}
 use Rattle.page_store.proofs.Holds.{cached_later}
 use Rattle.page_store.proofs.Kept.{kept_after, images_after}
 use Rattle.page_store.proofs.store.Store.commit_all.Goals as goal
@@ -96,7 +96,7 @@ returns-clause-pages g c = λ t fine.
     let r = c.in-Ok.ensures.gathered in
     let whole = whole_of c.args.self.now.overlay c.write.new.overlay c.encode.result _ put.sized put.put put.others r in
     let cleared = c.move_all.new.from in
-    ap (λ (b : Superblock). counted_pages b.counted (shown g.D.Disk.tells (applied (g.D.Disk.world c.append.new.disk).seen) cleared)) c.make_room.ensures.current
-    ∙ ap (λ (area : ℕ → ℕ). counted_pages c.args.self.now.current.counted (shown g.D.Disk.tells area cleared))
+    ap (λ (b : Superblock). counted_pages b.counted (shown g.D.Disk.readable (applied (g.D.Disk.world c.append.new.disk).seen) cleared)) c.make_room.ensures.current
+    ∙ ap (λ (area : ℕ → ℕ). counted_pages c.args.self.now.current.counted (shown g.D.Disk.readable area cleared))
     (c.in-Ok-append.ensures.appended t (given r.ordered.entries) r.are ∙ ap (λ (p : ℕ → ℕ). with_batch (batch_of (given r.ordered.entries)) p) (c.in_ok-make_room.ensures.same t))
-    ∙ committed_pages g.D.Disk.tells cleared c.args.self.now.overlay r.ordered (applied (g.D.Disk.world c.args.self.now.disk.now).seen) c.args.self.now.current.counted t c.move_all.ensures.empty r.ascends whole.sized whole.others
+    ∙ committed_pages g.D.Disk.readable cleared c.args.self.now.overlay r.ordered (applied (g.D.Disk.world c.args.self.now.disk.now).seen) c.args.self.now.current.counted t c.move_all.ensures.empty r.ascends whole.sized whole.others

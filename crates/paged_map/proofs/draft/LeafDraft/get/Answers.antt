@@ -1,7 +1,7 @@
 use Rattle.std.proofs.Common.{arith, ℕ, List, ◌∙◌, refl, sym, ap, Some}
 use Rattle.page_face.specs.Number.{number}
 use Rattle.btree_nodes.proofs.Finds.{found, missed, place_as}
-use Rattle.btree_search.specs.Steps.{low_of, high_of}
+use Rattle.btree_nodes.specs.Steps.{low_of, high_of}
 use Rattle.paged_map.specs.declared.draft.LeafDraft.{LeafDraft}
 use Rattle.paged_map.proofs.Drafts.{drafted-lookup}
 use Rattle.paged_map.proofs.draft.LeafDraft.get.Goals as goal

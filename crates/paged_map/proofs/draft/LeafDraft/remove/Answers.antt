@@ -7,7 +7,7 @@ use Rattle.btree_nodes.specs.Rows.{Row, lookup, without}
 use Rattle.btree_nodes.proofs.Finds.{missed, place_as}
 use Rattle.btree_nodes.proofs.Puts.{without-edit}
 use Rattle.btree_delete.proofs.Joins.{few, width-some}
-use Rattle.btree_search.specs.Steps.{low_of, high_of}
+use Rattle.btree_nodes.specs.Steps.{low_of, high_of}
 use Rattle.paged_map.specs.Drafts.{IsDrafted, IsKeyOf, IsLeafDraft}
 use Rattle.paged_map.specs.Edits.{edited}
 use Rattle.paged_map.specs.declared.draft.LeafDraft.{LeafDraft}

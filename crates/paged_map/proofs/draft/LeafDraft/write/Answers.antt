@@ -2,8 +2,8 @@ use Rattle.std.proofs.Common.{sym, subst}
 use Rattle.page_face.specs.FreeList.{PageMap}
 use Rattle.page_face.specs.Sound.{IsSound}
 use Rattle.page_face.specs.declared.seal.Seal.{Seal}
-use Rattle.btree_search.specs.Steps.{low_of, high_of}
-use Rattle.btree_search.proofs.Soundness.{leaf-sound}
+use Rattle.btree_nodes.specs.Steps.{low_of, high_of}
+use Rattle.btree_nodes.proofs.Soundness.{leaf-sound}
 use Rattle.paged_map.specs.declared.draft.LeafDraft.{LeafDraft}
 use Rattle.paged_map.proofs.Drafts.{drafted-becomes}
 use Rattle.paged_map.proofs.Spots.{on_ok}

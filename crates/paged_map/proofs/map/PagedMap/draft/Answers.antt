@@ -5,15 +5,15 @@ use Rattle.page_face.specs.FreeList.{PageMap}
 use Rattle.btree_nodes.specs.declared.form.Form.{Form}
 use Rattle.btree_nodes.specs.Tree.{IsMap, map_rows, map_uses}
 use Rattle.btree_nodes.specs.Damages.{AsksOnly}
-use Rattle.btree_search.specs.Steps.{low_of, high_of}
+use Rattle.btree_nodes.specs.Steps.{low_of, high_of}
 use Rattle.paged_map.specs.Drafts.{IsDrafted}
 use Rattle.paged_map.specs.Maps.{IsMapDamaged}
 use Rattle.paged_map.specs.declared.draft.LeafDraft.{LeafDraft}
 use Rattle.paged_map.proofs.Maps.{map-undamaged}
 use Rattle.paged_map.proofs.map.PagedMap.draft.Goals as goal
 
-pub returns-in_err-open-clause-honest : goal.returns-in_err-open-clause-honest
-returns-in_err-open-clause-honest g c = λ map counted told damage e.
+pub returns-in_err-open-clause-no_false_damage : goal.returns-in_err-open-clause-no_false_damage
+returns-in_err-open-clause-no_false_damage g c = λ map counted told damage e.
     let old : PageMap = g.P.Pages.pages c.args.pages.now in
     let count : ℕ = g.P.Pages.count c.args.pages.now in
     let root : ℕ = c.args.self.now.root in

@@ -13,8 +13,8 @@ use Rattle.paged_map.proofs.Lookups.{looked-nowhere}
 use Rattle.paged_map.proofs.Maps.{map-undamaged}
 use Rattle.paged_map.proofs.map.PagedMap.find.Goals as goal
 
-pub returns-clause-honest : goal.returns-clause-honest
-returns-clause-honest g c = λ map counted told damage e.
+pub returns-clause-no_false_damage : goal.returns-clause-no_false_damage
+returns-clause-no_false_damage g c = λ map counted told damage e.
     let old : PageMap = g.P.Pages.pages c.args.pages.now in
     let count : ℕ = g.P.Pages.count c.args.pages.now in
     let root : ℕ = c.args.self.now.root in

@@ -17,10 +17,10 @@ use Rattle.btree_nodes.proofs.Walks.{same-fault}
 use Rattle.paged_map.proofs.Maps.{map-none, unused, becomes}
 use Rattle.paged_map.proofs.map.PagedMap.put.Goals as goal
 
-pub returns-in_err-leaf-clause-honest : goal.returns-in_err-leaf-clause-honest
-returns-in_err-leaf-clause-honest g c =
+pub returns-in_err-leaf-clause-no_false_damage : goal.returns-in_err-leaf-clause-no_false_damage
+returns-in_err-leaf-clause-no_false_damage g c =
     let passed = err_from_is_err_and c.from_residual.result c.from_residual.ensures.1 in
-    rw (passed.1, passed.2) (λ free kept damage e. c.first_leaf.ensures.honest free kept.supplied damage (c.in_err-leaf.was ∙ ap Err (same-fault {T = Bool} _ _ e)))
+    rw (passed.1, passed.2) (λ free kept damage e. c.first_leaf.ensures.no_false_damage free kept.supplied damage (c.in_err-leaf.was ∙ ap Err (same-fault {T = Bool} _ _ e)))
 
 pub returns-in_err-leaf-clause-damaged : goal.returns-in_err-leaf-clause-damaged
 returns-in_err-leaf-clause-damaged g c =
@@ -65,8 +65,8 @@ returns-then-empty-clause-had g c = λ map.
     let none : root ≡ 0 = grind (arith, nat_tests, c.if-empty.true) in
     ap (λ rows. is_some (lookup (number c.args.key.now) rows)) (sym (map-none form old root none))
 
-pub returns-in_err-rooted-clause-honest : goal.returns-in_err-rooted-clause-honest
-returns-in_err-rooted-clause-honest g c =
+pub returns-in_err-rooted-clause-no_false_damage : goal.returns-in_err-rooted-clause-no_false_damage
+returns-in_err-rooted-clause-no_false_damage g c =
     let passed = err_from_is_err_and c.from_residual-in_err-rooted.result c.from_residual-in_err-rooted.ensures.1 in
     let form : Form = g.L.Layout.form in
     let old : PageMap = g.P.Pages.pages c.args.pages.now in
@@ -75,7 +75,7 @@ returns-in_err-rooted-clause-honest g c =
     let root : ℕ = c.args.self.now.root in
     let e = c.form_of-form.ensures in
     rw (passed.1, passed.2) (λ free kept damage e'.
-    c.put_row.ensures.honest free (subst (λ (f : Form). IsKept f (view old count first free) root) (sym e) kept) damage (c.in_err-rooted.was ∙ ap Err (same-fault {T = Bool} _ _ e')))
+    c.put_row.ensures.no_false_damage free (subst (λ (f : Form). IsKept f (view old count first free) root) (sym e) kept) damage (c.in_err-rooted.was ∙ ap Err (same-fault {T = Bool} _ _ e')))
 
 pub returns-in_err-rooted-clause-damaged : goal.returns-in_err-rooted-clause-damaged
 returns-in_err-rooted-clause-damaged g c =

@@ -31,8 +31,8 @@ returns-then-self-eq0-clause-removed g c = λ free kept.
 pub returns-then-self-eq0-clause-own : goal.returns-then-self-eq0-clause-own
 returns-then-self-eq0-clause-own g c = λ told. asks-nothing _ _ _ refl
 
-pub returns-in_err-after-clause-honest : goal.returns-in_err-after-clause-honest
-returns-in_err-after-clause-honest g c =
+pub returns-in_err-after-clause-no_false_damage : goal.returns-in_err-after-clause-no_false_damage
+returns-in_err-after-clause-no_false_damage g c =
     let passed = err_from_is_err_and c.from_residual.result c.from_residual.ensures.1 in
     let form : Form = g.L.Layout.form in
     let old : PageMap = g.P.Pages.pages c.args.pages.now in
@@ -41,7 +41,7 @@ returns-in_err-after-clause-honest g c =
     let root : ℕ = c.args.self.now.root in
     let e = c.form_of.ensures in
     rw (passed.1, passed.2) (λ free kept damage e'.
-    c.remove_row.ensures.honest free (subst (λ (f : Form). IsKept f (view old count first free) root) (sym e) kept) damage (c.in_err-after.was ∙ ap Err (same-fault {T = Bool} _ _ e')))
+    c.remove_row.ensures.no_false_damage free (subst (λ (f : Form). IsKept f (view old count first free) root) (sym e) kept) damage (c.in_err-after.was ∙ ap Err (same-fault {T = Bool} _ _ e')))
 
 pub returns-in_err-after-clause-damaged : goal.returns-in_err-after-clause-damaged
 returns-in_err-after-clause-damaged g c =

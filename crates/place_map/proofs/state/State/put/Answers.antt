@@ -1,6 +1,6 @@
 use Rattle.std.proofs.Common.{◌≡◌, ◌≤◌, ◌+◌, ap, arith, rules}
-use Rattle.place_map.specs.State.{Contents}
-use Rattle.place_map.proofs.Serials.{given_put}
+use Rattle.place_values.specs.State.{Contents}
+use Rattle.place_values.proofs.Serials.{given_put}
 use Rattle.place_map.proofs.state.State.put.Goals as goal
 
 pub invariant_of-self-2 : goal.invariant_of-self-2

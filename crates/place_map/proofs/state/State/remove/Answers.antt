@@ -1,7 +1,7 @@
 use Rattle.std.proofs.Common.{arith, rules}
 use Rattle.std.specs.BTreeMap.{is_at}
 use Rattle.spatial_base.specs.Key.{key_cmp}
-use Rattle.place_map.proofs.Serials.{given_removed}
+use Rattle.place_values.proofs.Serials.{given_removed}
 use Rattle.place_map.proofs.state.State.remove.Goals as goal
 
 pub invariant_of-self-2 : goal.invariant_of-self-2

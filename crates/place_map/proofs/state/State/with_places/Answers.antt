@@ -1,7 +1,7 @@
 use Rattle.std.proofs.Common.{◌≡◌, ◌<◌, ◌^◌, length, sym, subst, arith, refl}
 use Rattle.std.proofs.lemmas.List.{length-map}
-use Rattle.place_map.specs.Restored.{AreStatePlaces, places_in}
-use Rattle.place_map.proofs.Serials.{given_restored}
+use Rattle.place_values.specs.Restored.{AreStatePlaces, places_in}
+use Rattle.place_values.proofs.Serials.{given_restored}
 use Rattle.place_map.proofs.state.State.with_places.Goals as goal
 
 pub invariant_of-result : goal.invariant_of-result

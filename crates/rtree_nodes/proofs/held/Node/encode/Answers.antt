@@ -1,5 +1,5 @@
 use Rattle.std.proofs.Common.{◌≡◌, ℕ, ◌<◌, ◌^◌, ap, ◌∙◌, arith, rules}
-use Rattle.rtree_shape.specs.Slots.{NodeView}
+use Rattle.rtree_nodes.specs.Slots.{NodeView}
 use Rattle.rtree_nodes.specs.Nodes.{view_of}
 use Rattle.rtree_nodes.specs.Pages.{slots_in}
 use Rattle.rtree_nodes.proofs.Coded.{items_to, items-none, items-more, coded-node, coded-mask}

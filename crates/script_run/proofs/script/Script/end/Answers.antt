@@ -1,7 +1,7 @@
 use Rattle.std.proofs.Common.{◌≡◌, [], refl, arith}
 use Rattle.script_run.proofs.Feeding.{last-none, last-reads, last-some}
 use Rattle.script_run.proofs.script.Script.end.Goals as goal
-use Rattle.run_protocol.proofs.Lists.{none-left, some-left}
+use Rattle.run_outcome.proofs.Lists.{none-left, some-left}
 
 pub returns-then-is_empty-clause-told : goal.returns-then-is_empty-clause-told
 returns-then-is_empty-clause-told g c = λ front is told state holds.

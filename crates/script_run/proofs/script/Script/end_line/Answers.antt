@@ -1,12 +1,12 @@
 use Rattle.std.proofs.Common.{◌≡◌, List, ℕ, [], ◌∷◌, ◌++◌, refl, ap, subst, sym, arith, ◌∙◌}
 use Rattle.std.specs.Prelude.{Result, Err}
-use Rattle.run_protocol.specs.Causes.{GoesOn}
-use Rattle.run_protocol.specs.declared.ended.Ended.{Ended}
+use Rattle.run_outcome.specs.Causes.{GoesOn}
+use Rattle.run_outcome.specs.declared.ended.Ended.{Ended}
 use Rattle.std.proofs.lemmas.Result.{err_from_is_err_and}
 use Rattle.script_run.specs.Lines.{RunsLines}
 use Rattle.script_run.proofs.Lines.{line-fresh, line-ended}
-use Rattle.run_protocol.specs.declared.ended.Ended.TheVariants as ends
-use Rattle.run_protocol.proofs.Lists.{none-left}
+use Rattle.run_outcome.specs.declared.ended.Ended.TheVariants as ends
+use Rattle.run_outcome.proofs.Lists.{none-left}
 use Rattle.query_lang.specs.Line.{line_of}
 use Rattle.script_run.proofs.Reading.{reading-alike}
 use Rattle.script_run.proofs.Runs.{runs-alike, runs-nothing}

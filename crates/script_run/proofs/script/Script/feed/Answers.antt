@@ -1,11 +1,11 @@
 use Rattle.std.proofs.Common.{◌≡◌, length, refl, sym, ap, subst, ◌∙◌, arith}
 use Rattle.std.specs.Prelude.{Result, Err}
 use Rattle.std.proofs.lemmas.Result.{on_ok_weaker, err_from_is_err_and}
-use Rattle.run_protocol.specs.Causes.{GoesOn, HasEngineEnd}
-use Rattle.run_protocol.specs.declared.ended.Ended.{Ended}
+use Rattle.run_outcome.specs.Causes.{GoesOn, HasEngineEnd}
+use Rattle.run_outcome.specs.declared.ended.Ended.{Ended}
 use Rattle.script_run.proofs.Causes.{engine-still, engine-then, engine-ends}
 use Rattle.script_run.proofs.Feeding.{feeding-start, feeding-line, feeding-breaks, feeding-ends, feeding-kept, feeding-met, feeding-stays}
-use Rattle.run_protocol.proofs.Going.{on-still}
+use Rattle.run_outcome.proofs.Going.{on-still}
 use Rattle.script_run.proofs.script.Script.feed.Goals as goal
 
 pub lines-init : goal.lines-init
@@ -29,7 +29,7 @@ pub returns-in_err-end_line-clause-cause : goal.returns-in_err-end_line-clause-c
 returns-in_err-end_line-clause-cause g c =
     let passed = err_from_is_err_and c.from_residual.result c.from_residual.ensures.1 in
     let same : c.from_residual.result ≡ Err c.in_err-end_line.field-0.0 = cc (passed.1, passed.2) in
-    subst (λ (r : Result (Unit {0}) Ended). HasEngineEnd g.T.Disk.tells (g.T.Disk.world c.args.engine.now.store.disk.now) (g.T.Disk.world c.end_line.new.engine.store.disk.now) r) (sym same)
+    subst (λ (r : Result (Unit {0}) Ended). HasEngineEnd g.T.Disk.readable (g.T.Disk.world c.args.engine.now.store.disk.now) (g.T.Disk.world c.end_line.new.engine.store.disk.now) r) (sym same)
     (engine-then _ _ _ _ tt c.lines.invariant.cause _ c.in_err-end_line.ensures.cause)
 
 pub lines-preserved : goal.lines-preserved

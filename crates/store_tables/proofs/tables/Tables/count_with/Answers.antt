@@ -25,16 +25,16 @@ returns-in-Some-clause-spot g c =
     (sym c.in-Some.ensures.spot)
     (subst (λ (n : ℕ). IfSome (spot_in c.in_ok-row.row) (IsNumberSpot (g.P.Pages.pages c.counted_row.new.pages) (g.P.Pages.count c.counted_row.new.pages) c.args.self.now.numbers (g.P.Pages.looked c.counted_row.new.pages) n)) c.unwrap_or.ensures c.in_ok-row.ensures.spot)
 
-pub returns-in-None-clause-honest : goal.returns-in-None-clause-honest
-returns-in-None-clause-honest g c entries holds was told counted damage =
+pub returns-in-None-clause-no_false_damage : goal.returns-in-None-clause-no_false_damage
+returns-in-None-clause-no_false_damage g c entries holds was told counted damage =
     let is = c.in_ok-row.ensures.found entries holds ∙ ap (λ (n : ℕ). word_of_number n entries.numbers) c.unwrap_or.ensures in
     λ e. (cc, cannot_hold-read c.args.places c.args.word.now c.args.self.now.next_word entries _ _ was is c.in-None.ensures.none)
 
-pub returns-in_err-row-clause-honest : goal.returns-in_err-row-clause-honest
-returns-in_err-row-clause-honest g c entries holds was told counted damage =
+pub returns-in_err-row-clause-no_false_damage : goal.returns-in_err-row-clause-no_false_damage
+returns-in_err-row-clause-no_false_damage g c entries holds was told counted damage =
     let p = err_from_is_err_and c.from_residual.result c.from_residual.ensures.1 in
     λ e. (let same : c.in_err-row.field-0.0 ≡ Damaged damage = cc (p.1, p.2, e) in
-    absurd (c.in_err-row.ensures.honest entries holds told counted damage (ap Err same)))
+    absurd (c.in_err-row.ensures.no_false_damage entries holds told counted damage (ap Err same)))
 
 pub returns-in_err-row-clause-damaged : goal.returns-in_err-row-clause-damaged
 returns-in_err-row-clause-damaged g c told sought damage =

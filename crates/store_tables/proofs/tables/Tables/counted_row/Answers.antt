@@ -14,11 +14,11 @@ use Rattle.store_tables.specs.Holding.{numbers_form}
 use Rattle.store_tables.proofs.LookupLemmas.{number-broken, number-none, number-of_number, number-some, read-some, same_fault, told-none, told-some, value_at}
 use Rattle.store_tables.proofs.tables.Tables.counted_row.Goals as goal
 
-pub returns-in_err-spot-clause-honest : goal.returns-in_err-spot-clause-honest
-returns-in_err-spot-clause-honest g c entries holds told counted damage =
+pub returns-in_err-spot-clause-no_false_damage : goal.returns-in_err-spot-clause-no_false_damage
+returns-in_err-spot-clause-no_false_damage g c entries holds told counted damage =
     let p = err_from_is_err_and c.from_residual.result c.from_residual.ensures.1 in
     λ e. (let same : c.in_err-spot.field-0.0 ≡ Damaged damage = cc (p.1, p.2, e) in
-    c.in_err-spot.ensures.honest holds.numbers.tree told (λ n used. counted n (omega arith)) damage (ap Err same))
+    c.in_err-spot.ensures.no_false_damage holds.numbers.tree told (λ n used. counted n (omega arith)) damage (ap Err same))
 
 pub returns-in_err-spot-clause-own : goal.returns-in_err-spot-clause-own
 returns-in_err-spot-clause-own g c told = c.find_row.ensures.own told
@@ -57,8 +57,8 @@ returns-in-Some-decode-clause-formed g c tree =
     let some = told-some numbers_form (g.P.Pages.pages c.args.pages.now) c.args.self.now.numbers _ c.args.number _ _ c.in-Some.spot.page (number-of_number c.number_bytes-key.result c.args.number (search rules) c.number_bytes-key.ensures) (ap leaf_of c.in-Some.is) (c.in_ok-spot.ensures.found tree) in
     (some.is ∙ ap Some form.1, form.0)
 
-pub returns-in-None-clause-honest : goal.returns-in-None-clause-honest
-returns-in-None-clause-honest g c entries holds told counted damage e =
+pub returns-in-None-clause-no_false_damage : goal.returns-in-None-clause-no_false_damage
+returns-in-None-clause-no_false_damage g c entries holds told counted damage e =
     let pages : PageMap = g.P.Pages.pages c.args.pages.now in
     let root : ℕ = c.args.self.now.numbers in
     let some = told-some numbers_form pages root _ c.args.number _ _ c.in-Some.spot.page (number-of_number c.number_bytes-key.result c.args.number (search rules) c.number_bytes-key.ensures) (ap leaf_of c.in-Some.is) (c.in_ok-spot.ensures.found holds.numbers.tree) in

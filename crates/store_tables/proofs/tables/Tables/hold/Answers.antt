@@ -2,7 +2,7 @@ use Rattle.std.proofs.Common.{◌≡◌, Err, inl, inr, ⊎_elim, ap, sym}
 use Rattle.std.proofs.lemmas.Result.{err_from_is_err_and}
 use Rattle.page_face.specs.declared.fault.PageFault.TheVariants.{Damaged}
 use Rattle.btree_nodes.proofs.Harms.{asked-before, asks-further}
-use Rattle.btree_nodes.specs.Damages.{AreTold, AsksOnly}
+use Rattle.btree_nodes.specs.Damages.{AreReadable, AsksOnly}
 use Rattle.btree_nodes.specs.Supply.{View, view}
 use Rattle.store_tables.specs.Broken.{IsTextSought}
 use Rattle.store_tables.specs.Holding.{Holds, IsApart, texts_form, word_uses}
@@ -12,12 +12,12 @@ use Rattle.store_tables.proofs.TakeLemmas.{takes-read}
 use Rattle.store_tables.proofs.ToldLemmas.{apart-counted, asks-texts}
 use Rattle.store_tables.proofs.tables.Tables.hold.Goals as goal
 
-pub returns-in_err-found-clause-honest : goal.returns-in_err-found-clause-honest
-returns-in_err-found-clause-honest g c entries free holds apart told damage =
+pub returns-in_err-found-clause-no_false_damage : goal.returns-in_err-found-clause-no_false_damage
+returns-in_err-found-clause-no_false_damage g c entries free holds apart told damage =
     let before : View = view (g.P.Pages.pages c.args.pages.now) (g.P.Pages.count c.args.pages.now) (g.P.Pages.first c.args.pages.now) free in
     let p = err_from_is_err_and c.from_residual.result c.from_residual.ensures.1 in
     λ e. (let same : c.in_err-found.field-0.0 ≡ Damaged damage = cc (p.1, p.2, e) in
-    absurd (c.in_err-found.ensures.honest entries holds told (apart-counted before c.args.self.now apart) damage (ap Err same)))
+    absurd (c.in_err-found.ensures.no_false_damage entries holds told (apart-counted before c.args.self.now apart) damage (ap Err same)))
 
 pub returns-in_err-found-clause-damaged : goal.returns-in_err-found-clause-damaged
 returns-in_err-found-clause-damaged g c told damage =
@@ -35,19 +35,19 @@ returns-clause-held g c entries free holds apart =
     let kept : IsApart (view (g.P.Pages.pages c.number_of.new.pages) (g.P.Pages.count c.number_of.new.pages) (g.P.Pages.first c.number_of.new.pages) free) c.args.self.now = rw (f.pages, f.count, f.first) apart in
     rw (sym f.pages, sym f.count, sym f.first) (c.hold_numbered.ensures.held entries free held kept (c.in_ok-found.ensures.found entries holds))
 
-pub returns-clause-honest : goal.returns-clause-honest
-returns-clause-honest g c entries free holds apart told damage =
+pub returns-clause-no_false_damage : goal.returns-clause-no_false_damage
+returns-clause-no_false_damage g c entries free holds apart told damage =
     let f = c.number_of.ensures.frame in
     let held : Holds (g.P.Pages.pages c.number_of.new.pages) c.args.self.now entries = rw f.pages holds in
     let kept : IsApart (view (g.P.Pages.pages c.number_of.new.pages) (g.P.Pages.count c.number_of.new.pages) (g.P.Pages.first c.number_of.new.pages) free) c.args.self.now = rw (f.pages, f.count, f.first) apart in
-    let still : AreTold (g.P.Pages.pages c.number_of.new.pages) (g.P.Pages.count c.number_of.new.pages) = rw (f.pages, f.count) told in
-    c.hold_numbered.ensures.honest entries free held kept (c.in_ok-found.ensures.found entries holds) still damage
+    let still : AreReadable (g.P.Pages.pages c.number_of.new.pages) (g.P.Pages.count c.number_of.new.pages) = rw (f.pages, f.count) told in
+    c.hold_numbered.ensures.no_false_damage entries free held kept (c.in_ok-found.ensures.found entries holds) still damage
 
 pub returns-clause-damaged : goal.returns-clause-damaged
 returns-clause-damaged g c told damage =
     let f = c.number_of.ensures.frame in
     let own : AsksOnly (word_uses (g.P.Pages.pages c.args.pages.now) c.args.self.now) (g.P.Pages.asked c.args.pages.now) (g.P.Pages.asked c.number_of.new.pages) = asks-texts (g.P.Pages.pages c.args.pages.now) c.args.self.now _ _ (c.number_of.ensures.own told) in
-    let still : AreTold (g.P.Pages.pages c.number_of.new.pages) (g.P.Pages.count c.number_of.new.pages) = rw (f.pages, f.count) told in
+    let still : AreReadable (g.P.Pages.pages c.number_of.new.pages) (g.P.Pages.count c.number_of.new.pages) = rw (f.pages, f.count) told in
     let sought : IsTextSought (g.P.Pages.pages c.number_of.new.pages) c.args.self.now c.args.word.now c.in_ok-found.found = rw f.pages c.in_ok-found.ensures.formed in
     λ e. rw (sym f.pages, sym f.count, sym f.first)
     (⊎_elim
@@ -64,7 +64,7 @@ returns-clause-own g c entries free holds apart told =
     let f = c.number_of.ensures.frame in
     let held : Holds (g.P.Pages.pages c.number_of.new.pages) c.args.self.now entries = rw f.pages holds in
     let kept : IsApart (view (g.P.Pages.pages c.number_of.new.pages) (g.P.Pages.count c.number_of.new.pages) (g.P.Pages.first c.number_of.new.pages) free) c.args.self.now = rw (f.pages, f.count, f.first) apart in
-    let still : AreTold (g.P.Pages.pages c.number_of.new.pages) (g.P.Pages.count c.number_of.new.pages) = rw (f.pages, f.count) told in
+    let still : AreReadable (g.P.Pages.pages c.number_of.new.pages) (g.P.Pages.count c.number_of.new.pages) = rw (f.pages, f.count) told in
     asks-further (word_uses (g.P.Pages.pages c.args.pages.now) c.args.self.now) _ _ _ (asks-texts (g.P.Pages.pages c.args.pages.now) c.args.self.now _ _ (c.number_of.ensures.own told)) (rw (sym f.pages) (c.hold_numbered.ensures.own entries free held kept still))
 
 pub returns-in_err-found-clause-no_head : goal.returns-in_err-found-clause-no_head
@@ -78,5 +78,5 @@ returns-clause-takes g c entries free holds apart told =
     let f = c.number_of.ensures.frame in
     let held : Holds (g.P.Pages.pages c.number_of.new.pages) c.args.self.now entries = rw f.pages holds in
     let kept : IsApart (view (g.P.Pages.pages c.number_of.new.pages) (g.P.Pages.count c.number_of.new.pages) (g.P.Pages.first c.number_of.new.pages) free) c.args.self.now = rw (f.pages, f.count, f.first) apart in
-    let still : AreTold (g.P.Pages.pages c.number_of.new.pages) (g.P.Pages.count c.number_of.new.pages) = rw (f.pages, f.count) told in
+    let still : AreReadable (g.P.Pages.pages c.number_of.new.pages) (g.P.Pages.count c.number_of.new.pages) = rw (f.pages, f.count) told in
     takes-read g.P.Pages _ c.args.pages.now c.number_of.new.pages c.hold_numbered.new.pages f (rw (sym f.pages) (c.hold_numbered.ensures.takes entries free held kept still))

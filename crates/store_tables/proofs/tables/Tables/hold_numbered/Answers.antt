@@ -4,7 +4,7 @@ use Rattle.std.specs.Ordering.{nat_cmp}
 use Rattle.std.proofs.lemmas.Result.{err_from_is_err_and}
 use Rattle.page_face.specs.declared.fault.PageFault.TheVariants.{Damaged}
 use Rattle.btree_nodes.proofs.Harms.{asked-before, asks-further}
-use Rattle.btree_nodes.specs.Damages.{AreTold, AsksOnly}
+use Rattle.btree_nodes.specs.Damages.{AreReadable, AsksOnly}
 use Rattle.btree_nodes.specs.Supply.{View, view}
 use Rattle.row_codec.specs.Counted.{number_bytes}
 use Rattle.store_tables.specs.Entries.{Entries}
@@ -15,12 +15,12 @@ use Rattle.store_tables.proofs.TakeLemmas.{takes-read}
 use Rattle.store_tables.proofs.ToldLemmas.{apart-counted}
 use Rattle.store_tables.proofs.tables.Tables.hold_numbered.Goals as goal
 
-pub returns-in_err-hold-clause-honest : goal.returns-in_err-hold-clause-honest
-returns-in_err-hold-clause-honest g c entries free holds apart was told damage =
+pub returns-in_err-hold-clause-no_false_damage : goal.returns-in_err-hold-clause-no_false_damage
+returns-in_err-hold-clause-no_false_damage g c entries free holds apart was told damage =
     let before : View = view (g.P.Pages.pages c.args.pages.now) (g.P.Pages.count c.args.pages.now) (g.P.Pages.first c.args.pages.now) free in
     let p = err_from_is_err_and c.from_residual.result c.from_residual.ensures.1 in
     λ e. (let same : c.in_err-hold.field-0.0 ≡ Damaged damage = cc (p.1, p.2, e) in
-    c.in_err-hold.ensures.honest entries holds was told (apart-counted before c.args.self.now apart) damage (ap Err same))
+    c.in_err-hold.ensures.no_false_damage entries holds was told (apart-counted before c.args.self.now apart) damage (ap Err same))
 
 pub returns-in_err-hold-clause-damaged : goal.returns-in_err-hold-clause-damaged
 returns-in_err-hold-clause-damaged g c told sought damage =
@@ -35,7 +35,7 @@ pub returns-in_err-replace_number-in-Some-clause-damaged : goal.returns-in_err-r
 returns-in_err-replace_number-in-Some-clause-damaged g c told sought damage =
     let p = err_from_is_err_and c.from_residual-in_err-replace_number-in-Some.result c.from_residual-in_err-replace_number-in-Some.ensures.1 in
     λ e. (let same : c.in_err-replace_number-in-Some.field-0.0 ≡ Damaged damage = cc (p.1, p.2, e) in
-    absurd (c.in_err-replace_number-in-Some.ensures.honest damage (ap Err same)))
+    absurd (c.in_err-replace_number-in-Some.ensures.no_false_damage damage (ap Err same)))
 
 pub returns-in_err-replace_number-in-Some-clause-own : goal.returns-in_err-replace_number-in-Some-clause-own
 returns-in_err-replace_number-in-Some-clause-own g c entries free holds apart told =
@@ -84,17 +84,17 @@ returns-in-None-clause-held g c entries free holds apart found_was =
           (rw (sym r.frame.pages, sym r.frame.count, sym r.frame.first) changed),
     ))
 
-pub returns-in-None-clause-honest : goal.returns-in-None-clause-honest
-returns-in-None-clause-honest g c entries free holds apart was told damage =
+pub returns-in-None-clause-no_false_damage : goal.returns-in-None-clause-no_false_damage
+returns-in-None-clause-no_false_damage g c entries free holds apart was told damage =
     let before : View = view (g.P.Pages.pages c.args.pages.now) (g.P.Pages.count c.args.pages.now) (g.P.Pages.first c.args.pages.now) free in
     let r = c.count_with.ensures in
     let held : Holds (g.P.Pages.pages c.count_with.new.pages) c.args.self.now entries = rw r.frame.pages holds in
     let kept : IsApart (view (g.P.Pages.pages c.count_with.new.pages) (g.P.Pages.count c.count_with.new.pages) (g.P.Pages.first c.count_with.new.pages) free) c.args.self.now = rw (r.frame.pages, r.frame.count, r.frame.first) apart in
-    λ e. absurd (c.put_new.ensures.honest entries free held kept damage e)
+    λ e. absurd (c.put_new.ensures.no_false_damage entries free held kept damage e)
 
 pub returns-in-None-clause-damaged : goal.returns-in-None-clause-damaged
 returns-in-None-clause-damaged g c told sought damage =
-    let still : AreTold (g.P.Pages.pages c.count_with.new.pages) (g.P.Pages.count c.count_with.new.pages) = rw (c.count_with.ensures.frame.pages, c.count_with.ensures.frame.count) told in
+    let still : AreReadable (g.P.Pages.pages c.count_with.new.pages) (g.P.Pages.count c.count_with.new.pages) = rw (c.count_with.ensures.frame.pages, c.count_with.ensures.frame.count) told in
     let r = c.count_with.ensures in
     λ e. ⊎_elim
     (λ map. inl (inr (inl (rw (sym r.frame.pages, sym r.frame.count) map.0, asked-before (word_uses (g.P.Pages.pages c.args.pages.now) c.args.self.now) _ _ _ damage.page (r.own told) map.1))))
@@ -107,7 +107,7 @@ returns-in-None-clause-own g c entries free holds apart told =
     let r = c.count_with.ensures in
     let held : Holds (g.P.Pages.pages c.count_with.new.pages) c.args.self.now entries = rw r.frame.pages holds in
     let kept : IsApart (view (g.P.Pages.pages c.count_with.new.pages) (g.P.Pages.count c.count_with.new.pages) (g.P.Pages.first c.count_with.new.pages) free) c.args.self.now = rw (r.frame.pages, r.frame.count, r.frame.first) apart in
-    let still : AreTold (g.P.Pages.pages c.count_with.new.pages) (g.P.Pages.count c.count_with.new.pages) = rw (c.count_with.ensures.frame.pages, c.count_with.ensures.frame.count) told in
+    let still : AreReadable (g.P.Pages.pages c.count_with.new.pages) (g.P.Pages.count c.count_with.new.pages) = rw (c.count_with.ensures.frame.pages, c.count_with.ensures.frame.count) told in
     asks-further (word_uses (g.P.Pages.pages c.args.pages.now) c.args.self.now) _ _ _ (r.own told) (rw (sym r.frame.pages) (c.put_new.ensures.own entries free held kept still))
 
 pub returns-in_err-hold-clause-no_head : goal.returns-in_err-hold-clause-no_head
@@ -120,12 +120,12 @@ pub returns-in_err-replace_number-in-Some-clause-no_head : goal.returns-in_err-r
 returns-in_err-replace_number-in-Some-clause-no_head g c told damage =
     let p = err_from_is_err_and c.from_residual-in_err-replace_number-in-Some.result c.from_residual-in_err-replace_number-in-Some.ensures.1 in
     λ e. (let same : c.in_err-replace_number-in-Some.field-0.0 ≡ Damaged damage = cc (p.1, p.2, e) in
-    absurd (c.in_err-replace_number-in-Some.ensures.honest damage (ap Err same)))
+    absurd (c.in_err-replace_number-in-Some.ensures.no_false_damage damage (ap Err same)))
 
 pub returns-in-None-clause-takes : goal.returns-in-None-clause-takes
 returns-in-None-clause-takes g c entries free holds apart told =
     let r = c.count_with.ensures in
     let held : Holds (g.P.Pages.pages c.count_with.new.pages) c.args.self.now entries = rw r.frame.pages holds in
     let kept : IsApart (view (g.P.Pages.pages c.count_with.new.pages) (g.P.Pages.count c.count_with.new.pages) (g.P.Pages.first c.count_with.new.pages) free) c.args.self.now = rw (r.frame.pages, r.frame.count, r.frame.first) apart in
-    let still : AreTold (g.P.Pages.pages c.count_with.new.pages) (g.P.Pages.count c.count_with.new.pages) = rw (r.frame.pages, r.frame.count) told in
+    let still : AreReadable (g.P.Pages.pages c.count_with.new.pages) (g.P.Pages.count c.count_with.new.pages) = rw (r.frame.pages, r.frame.count) told in
     takes-read g.P.Pages _ c.args.pages.now c.count_with.new.pages c.put_new.new.pages r.frame (rw (sym r.frame.pages) (c.put_new.ensures.takes entries free held kept still))

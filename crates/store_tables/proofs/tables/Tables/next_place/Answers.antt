@@ -15,11 +15,11 @@ use Rattle.store_tables.specs.Holding.{places_form}
 use Rattle.store_tables.proofs.LookupLemmas.{first-none, first-some, next-none, next-some, place-unread, same_fault, value_at}
 use Rattle.store_tables.proofs.tables.Tables.next_place.Goals as goal
 
-pub returns-in_err-leaf-clause-honest : goal.returns-in_err-leaf-clause-honest
-returns-in_err-leaf-clause-honest g c entries holds told counted damage =
+pub returns-in_err-leaf-clause-no_false_damage : goal.returns-in_err-leaf-clause-no_false_damage
+returns-in_err-leaf-clause-no_false_damage g c entries holds told counted damage =
     let p = err_from_is_err_and c.from_residual.result c.from_residual.ensures.1 in
     λ e. (let same : c.in_err-leaf.field-0.0 ≡ Damaged damage = cc (p.1, p.2, e) in
-    c.in_err-leaf.ensures.honest holds.places.tree told (λ n used. counted n (omega arith)) damage (ap Err same))
+    c.in_err-leaf.ensures.no_false_damage holds.places.tree told (λ n used. counted n (omega arith)) damage (ap Err same))
 
 pub returns-in_err-leaf-clause-own : goal.returns-in_err-leaf-clause-own
 returns-in_err-leaf-clause-own g c told = c.first_row.ensures.own told
@@ -60,8 +60,8 @@ returns-in-Some-entry_of_bytes-clause-formed g c tree =
     let some = first-some places_form (g.P.Pages.pages c.args.pages.now) c.args.self.now.places _ (next_code (option_copied c.args.after)) row _ c.in-Some.leaf c.first_behind-from.ensures.number c.in-Some.is (c.in_ok-leaf.ensures.found tree) in
     (some.0 ∙ (λ i. Some (form.1 i, form.2 i)), form.0)
 
-pub returns-in-None-clause-honest : goal.returns-in-None-clause-honest
-returns-in-None-clause-honest g c entries holds told counted damage e =
+pub returns-in-None-clause-no_false_damage : goal.returns-in-None-clause-no_false_damage
+returns-in-None-clause-no_false_damage g c entries holds told counted damage e =
     let pages : PageMap = g.P.Pages.pages c.args.pages.now in
     let root : ℕ = c.args.self.now.places in
     let row : Row = (number c.first_row.new.found, c.first_row.new.value) in

@@ -11,11 +11,11 @@ use Rattle.store_tables.specs.Holding.{places_form}
 use Rattle.store_tables.proofs.LookupLemmas.{number-key, place-broken, place-none, place-some, read-some, same_fault, told-none, told-some, value_at}
 use Rattle.store_tables.proofs.tables.Tables.place.Goals as goal
 
-pub returns-in_err-leaf-clause-honest : goal.returns-in_err-leaf-clause-honest
-returns-in_err-leaf-clause-honest g c entries holds told counted damage =
+pub returns-in_err-leaf-clause-no_false_damage : goal.returns-in_err-leaf-clause-no_false_damage
+returns-in_err-leaf-clause-no_false_damage g c entries holds told counted damage =
     let p = err_from_is_err_and c.from_residual.result c.from_residual.ensures.1 in
     λ e. (let same : c.in_err-leaf.field-0.0 ≡ Damaged damage = cc (p.1, p.2, e) in
-    c.in_err-leaf.ensures.honest holds.places.tree told (λ n used. counted n (omega arith)) damage (ap Err same))
+    c.in_err-leaf.ensures.no_false_damage holds.places.tree told (λ n used. counted n (omega arith)) damage (ap Err same))
 
 pub returns-in_err-leaf-clause-own : goal.returns-in_err-leaf-clause-own
 returns-in_err-leaf-clause-own g c told = c.get_row.ensures.own told
@@ -54,8 +54,8 @@ returns-in-Some-decode-clause-formed g c tree =
     let some = told-some places_form (g.P.Pages.pages c.args.pages.now) c.args.self.now.places _ (key_code c.args.key.now) _ _ c.in-Some.leaf (number-key c.bytes.result c.args.key.now c.bytes.ensures.form) c.in-Some.is (c.in_ok-leaf.ensures.found tree) in
     (some.is ∙ ap Some form.2, (form.0, form.1))
 
-pub returns-in-None-clause-honest : goal.returns-in-None-clause-honest
-returns-in-None-clause-honest g c entries holds told counted damage e =
+pub returns-in-None-clause-no_false_damage : goal.returns-in-None-clause-no_false_damage
+returns-in-None-clause-no_false_damage g c entries holds told counted damage e =
     let pages : PageMap = g.P.Pages.pages c.args.pages.now in
     let root : ℕ = c.args.self.now.places in
     let some = told-some places_form pages root _ (key_code c.args.key.now) _ _ c.in-Some.leaf (number-key c.bytes.result c.args.key.now c.bytes.ensures.form) c.in-Some.is (c.in_ok-leaf.ensures.found holds.places.tree) in

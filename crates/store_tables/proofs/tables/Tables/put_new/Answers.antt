@@ -28,11 +28,11 @@ returns-clause-own g c entries free holds apart told =
     (c.put_number.ensures.own told) (subst (λ (t : Tables). AsksOnly (map_uses texts_form (g.P.Pages.pages c.put_number.new.pages) t.texts) (g.P.Pages.asked c.put_number.new.pages) (g.P.Pages.asked c.put_text.new.pages)) c.put_number.ensures.others
     (c.put_text.ensures.own (told-changed before c.args.self.now _ _ _ _ _ first.1 told)))
 
-pub returns-in_err-put_number-clause-honest : goal.returns-in_err-put_number-clause-honest
-returns-in_err-put_number-clause-honest g c entries free holds apart damage =
+pub returns-in_err-put_number-clause-no_false_damage : goal.returns-in_err-put_number-clause-no_false_damage
+returns-in_err-put_number-clause-no_false_damage g c entries free holds apart damage =
     let p = err_from_is_err_and c.from_residual.result c.from_residual.ensures.1 in
     λ e. (let same : c.in_err-put_number.field-0.0 ≡ Damaged damage = cc (p.1, p.2, e) in
-    c.in_err-put_number.ensures.honest entries free holds apart damage (ap Err same))
+    c.in_err-put_number.ensures.no_false_damage entries free holds apart damage (ap Err same))
 
 pub returns-in_err-put_number-clause-damaged : goal.returns-in_err-put_number-clause-damaged
 returns-in_err-put_number-clause-damaged g c told damage =
@@ -43,12 +43,12 @@ returns-in_err-put_number-clause-damaged g c told damage =
 pub returns-in_err-put_number-clause-own : goal.returns-in_err-put_number-clause-own
 returns-in_err-put_number-clause-own g c entries free holds apart told = asks-numbers (g.P.Pages.pages c.args.pages.now) c.args.self.now _ _ (c.put_number.ensures.own told)
 
-pub returns-in_err-put_text-clause-honest : goal.returns-in_err-put_text-clause-honest
-returns-in_err-put_text-clause-honest g c entries free holds apart damage =
+pub returns-in_err-put_text-clause-no_false_damage : goal.returns-in_err-put_text-clause-no_false_damage
+returns-in_err-put_text-clause-no_false_damage g c entries free holds apart damage =
     let first = c.in_ok-put_number.ensures.put entries free holds apart in
     let p = err_from_is_err_and c.from_residual-in_err-put_text.result c.from_residual-in_err-put_text.ensures.1 in
     λ e. (let same : c.in_err-put_text.field-0.0 ≡ Damaged damage = cc (p.1, p.2, e) in
-    c.in_err-put_text.ensures.honest _ first.1.free first.1.holds first.1.apart damage (ap Err same))
+    c.in_err-put_text.ensures.no_false_damage _ first.1.free first.1.holds first.1.apart damage (ap Err same))
 
 pub returns-in_err-put_text-clause-damaged : goal.returns-in_err-put_text-clause-damaged
 returns-in_err-put_text-clause-damaged g c told damage =
@@ -56,7 +56,7 @@ returns-in_err-put_text-clause-damaged g c told damage =
     λ e. (let same : c.in_err-put_text.field-0.0 ≡ Damaged damage = cc (p.1, p.2, e) in
     inr (inr (λ entries free holds apart.
     let first = c.in_ok-put_number.ensures.put entries free holds apart in
-    c.in_err-put_text.ensures.honest _ first.1.free first.1.holds first.1.apart damage (ap Err same))))
+    c.in_err-put_text.ensures.no_false_damage _ first.1.free first.1.holds first.1.apart damage (ap Err same))))
 
 pub returns-in_err-put_text-clause-own : goal.returns-in_err-put_text-clause-own
 returns-in_err-put_text-clause-own g c entries free holds apart told =

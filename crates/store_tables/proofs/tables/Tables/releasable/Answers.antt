@@ -2,7 +2,7 @@ use Rattle.std.proofs.Common.{◌≡◌, Err, inl, inr, ⊎_elim, ap, sym}
 use Rattle.std.proofs.lemmas.Result.{err_from_is_err_and}
 use Rattle.page_face.specs.declared.fault.PageFault.TheVariants.{Damaged}
 use Rattle.btree_nodes.proofs.Harms.{asked-before, asks-further}
-use Rattle.btree_nodes.specs.Damages.{AreTold}
+use Rattle.btree_nodes.specs.Damages.{AreReadable}
 use Rattle.store_tables.specs.Holding.{word_uses}
 use Rattle.store_tables.proofs.ToldLemmas.{asks-numbers, asks-texts}
 use Rattle.store_tables.proofs.tables.Tables.releasable.Goals as goal
@@ -25,17 +25,17 @@ returns-in_default-clause-own g c told = asks-numbers (g.P.Pages.pages c.args.pa
 pub returns-then-row-gt1-clause-own : goal.returns-then-row-gt1-clause-own
 returns-then-row-gt1-clause-own g c told = asks-numbers (g.P.Pages.pages c.args.pages.now) c.args.self.now _ _ (c.counted_row.ensures.own told)
 
-pub returns-in_err-found-clause-honest : goal.returns-in_err-found-clause-honest
-returns-in_err-found-clause-honest g c entries holds told counted damage =
+pub returns-in_err-found-clause-no_false_damage : goal.returns-in_err-found-clause-no_false_damage
+returns-in_err-found-clause-no_false_damage g c entries holds told counted damage =
     let r = c.counted_row.ensures in
     let p = err_from_is_err_and c.from_residual-in_err-found.result c.from_residual-in_err-found.ensures.1 in
     λ e. (let same : c.in_err-found.field-0.0 ≡ Damaged damage = cc (p.1, p.2, e) in
-    absurd (c.in_err-found.ensures.honest entries (rw r.frame.pages holds) (rw r.frame.pages (rw r.frame.count told)) (rw r.frame.pages (rw r.frame.count counted)) damage (ap Err same)))
+    absurd (c.in_err-found.ensures.no_false_damage entries (rw r.frame.pages holds) (rw r.frame.pages (rw r.frame.count told)) (rw r.frame.pages (rw r.frame.count counted)) damage (ap Err same)))
 
 pub returns-in_err-found-clause-damaged : goal.returns-in_err-found-clause-damaged
 returns-in_err-found-clause-damaged g c told damage =
     let r = c.counted_row.ensures in
-    let still : AreTold (g.P.Pages.pages c.counted_row.new.pages) (g.P.Pages.count c.counted_row.new.pages) = rw r.frame.pages (rw r.frame.count told) in
+    let still : AreReadable (g.P.Pages.pages c.counted_row.new.pages) (g.P.Pages.count c.counted_row.new.pages) = rw r.frame.pages (rw r.frame.count told) in
     let p = err_from_is_err_and c.from_residual-in_err-found.result c.from_residual-in_err-found.ensures.1 in
     λ e. (let same : c.in_err-found.field-0.0 ≡ Damaged damage = cc (p.1, p.2, e) in
     inr (inr (inl (

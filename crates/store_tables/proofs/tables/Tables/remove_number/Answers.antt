@@ -20,9 +20,9 @@ returns-clause-texts g c entries free holds apart =
     let removed = c.in_ok-removed.ensures.removed free (kept-numbers before c.args.self.now entries holds apart) in
     texts-stay before c.args.self.now (g.P.Pages.pages c.remove_row.new.pages) (g.P.Pages.count c.remove_row.new.pages) (g.P.Pages.first c.remove_row.new.pages) c.in_ok-removed.removed.root _ entries holds apart removed.1
 
-pub returns-in_err-removed-clause-honest : goal.returns-in_err-removed-clause-honest
-returns-in_err-removed-clause-honest g c entries free holds apart damage =
+pub returns-in_err-removed-clause-no_false_damage : goal.returns-in_err-removed-clause-no_false_damage
+returns-in_err-removed-clause-no_false_damage g c entries free holds apart damage =
     let before : View = view (g.P.Pages.pages c.args.pages.now) (g.P.Pages.count c.args.pages.now) (g.P.Pages.first c.args.pages.now) free in
     let p = err_from_is_err_and c.from_residual.result c.from_residual.ensures.1 in
     λ e. (let same : c.in_err-removed.field-0.0 ≡ Damaged damage = cc (p.1, p.2, e) in
-    c.in_err-removed.ensures.honest free (kept-numbers before c.args.self.now entries holds apart) damage (ap Err same))
+    c.in_err-removed.ensures.no_false_damage free (kept-numbers before c.args.self.now entries holds apart) damage (ap Err same))

@@ -1,0 +1,23 @@
+-- What slots give, one behind another.
+use Rattle.std.proofs.Common.{◌≡◌, ℕ, ◌+◌, ◌≤◌, List, [], ◌++◌, length, Option, Some, None, refl, arith, add-one, length-append}
+use Rattle.std.specs.Prelude.{IfSome}
+use Rattle.std.specs.List.{AllByRecursion}
+use Rattle.best_first.specs.declared.item.Item.{Item}
+use Rattle.best_first.specs.NodeOpenings.{spread, listed_item}
+
+pub spread-none : (f : ℕ → List Item) → spread 0 f ≡ []
+unfolding spread
+spread-none f = refl
+
+pub spread-more : (n : ℕ) (f : ℕ → List Item) → spread (n + 1) f ≡ spread n f ++ f n
+unfolding spread
+spread-more n f = rw add-one refl
+
+-- one slot more gives one item more at most
+pub few-more : (n : ℕ) (front : List Item) (o : Option Item) → length front ≤ n → length (front ++ listed_item o) ≤ n + 1
+few-more n front None l = let a = length-append front [] in omega arith
+few-more n front (Some item) l = let a = length-append front (listed_item (Some item)) in omega arith
+
+pub all-listed : (P : Item → Type 0) (o : Option Item) → IfSome o P → AllByRecursion P (listed_item o)
+all-listed P None h = tt
+all-listed P (Some item) h = (h, tt)

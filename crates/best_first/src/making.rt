@@ -1,0 +1,66 @@
+//! Making ranked searches.
+ghost use Rattle.std.specs.Prelude.{◌≡◌, None};
+ghost use Rattle.place_values.specs.Query.{IsScale, IsWeights};
+ghost use Rattle.best_first.specs.Asks.{IsTopFor};
+
+use crate::{Ask, Ranking, Terms};
+use node_filter::Ids;
+use node_inverted::Tree;
+use place_values::Expr;
+use spatial_base::Point;
+use term_impacts::Word;
+
+impl<'q> Ranking<'q> {
+    /// Makes a search for the places nearest to a point, of those that meet the filter if there is one. `ids` has the numbers of the
+    /// filter's words that the store knows.
+    pub fn nearest(tree: &Tree, ids: &'q Ids, at: &Point, filter: Option<&'q Expr>) -> Ranking<'q>
+        ensures tree { result.tree ≡ tree.now }
+        ensures ids { result.ids.now ≡ ids.now }
+        ensures at { result.at ≡ at.now }
+        ensures ask { result.ask ≡ Ask.Nearest filter.entry }
+        ensures held { result.held ≡ None }
+    {
+        Ranking::over(tree, ids, at, Ask::Nearest(filter))
+    }
+
+    /// Makes a search for the places of least cost among those that hold one of the words. `ids` has the numbers of the words that the
+    /// store knows.
+    pub fn top(
+        tree: &Tree,
+        ids: &'q Ids,
+        at: &Point,
+        alpha: u16,
+        reach: u64,
+        words: &'q [(Word, u8)],
+    ) -> Ranking<'q>
+        requires scale { IsScale alpha reach }
+        requires words { IsWeights words.now }
+        ensures tree { result.tree ≡ tree.now }
+        ensures ids { result.ids.now ≡ ids.now }
+        ensures at { result.at ≡ at.now }
+        ensures ask { IsTopFor alpha reach words.now result.ask }
+        ensures held { result.held ≡ None }
+    {
+        Ranking::over(tree, ids, at, Ask::Top(Terms::new(alpha, reach, words)))
+    }
+
+    // A search that has met no fault.
+    fn over(tree: &Tree, ids: &'q Ids, at: &Point, ask: Ask<'q>) -> Ranking<'q>
+        ensures tree { result.tree ≡ tree.now }
+        ensures ids { result.ids.now ≡ ids.now }
+        ensures at { result.at ≡ at.now }
+        ensures ask { result.ask ≡ ask.entry }
+        ensures held { result.held ≡ None }
+    {
+        // The point is on the map.
+        let _x = at.x();
+        let _y = at.y();
+        Ranking {
+            tree: *tree,
+            ids,
+            at: *at,
+            ask,
+            held: None,
+        }
+    }
+}

@@ -1,4 +1,0 @@
-pub mod Soundness
-pub mod Roots
-pub mod Places
-pub mod Descents

@@ -1,4 +1,0 @@
-pub mod Steps
-pub mod Below
-pub mod Leaves
-pub mod Ways

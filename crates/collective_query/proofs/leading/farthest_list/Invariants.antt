@@ -1,9 +1,0 @@
-use Rattle.std.proofs.Common.{◌≡◌, ◌<◌, IfSome, IfNone, length}
-use Rattle.collective_query.proofs.leading.farthest_list.Given as goal
-
--- the list is one of those so far
-abbrev pub invariant-loop-index : goal.invariant-loop-index
-invariant-loop-index l = record {
-  some : IfSome l.lead (λ at. at < length l.lists);
-  none : IfNone l.lead (l.index ≡ 0);
-}

@@ -1,4 +1,0 @@
-use Rattle.irtree_delete.proofs.taking.+take_out.Given as goal
-
-abbrev pub decreases-take_out : goal.decreases-take_out
-decreases-take_out g l = l.level

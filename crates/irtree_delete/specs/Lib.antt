@@ -1,2 +1,0 @@
-pub mod Orphans
-pub mod Clears

@@ -1,4 +1,0 @@
-pub mod Ends
-pub mod Hits
-pub mod Items
-pub mod Queries

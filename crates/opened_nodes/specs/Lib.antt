@@ -1,4 +1,0 @@
-pub mod Crowns
-pub mod Bounds
-pub mod Logs
-pub mod Words

@@ -1,0 +1,4 @@
+pub mod Ascending
+pub mod Distinct
+pub mod Rows
+pub mod Serials

@@ -1,0 +1,74 @@
+-- What a query answers: the places are filtered, ordered and cut.
+use Rattle.std.specs.Prelude.{ℕ, ◌&&◌, nat_le, if◌then◌else◌, List, [], ◌∷◌, Option}
+use Rattle.std.specs.List.{flat_map}
+use Rattle.spatial_base.specs.Key.{Name}
+use Rattle.spatial_base.specs.Point.{Position, distance}
+use Rattle.spatial_base.specs.Rect.{Bounds, holds_point}
+use Rattle.place_values.specs.First.{ranked, first}
+use Rattle.place_values.specs.declared.place.Place.{Place}
+use Rattle.place_values.specs.declared.hit.Hit.{Hit}
+use Rattle.place_values.specs.declared.query.Expr.{Expr}
+use Rattle.place_values.specs.declared.query.Query.{Query}
+use Rattle.place_values.specs.declared.query.Query.TheVariants.{Range, Inside, Nearest, Top, Group}
+use Rattle.place_values.specs.declared.query.Answer.{Answer}
+use Rattle.place_values.specs.declared.query.Answer.TheVariants as answers
+use Rattle.place_values.specs.Hit.{comes_before}
+use Rattle.place_values.specs.Filter.{passes}
+use Rattle.place_values.specs.Top.{Weighted, weight_sum, relevance, holds_some, top_cost}
+use Rattle.place_values.specs.Group.{group_of}
+use Rattle.place_values.specs.State.{Contents}
+
+-- the hit of a place whose cost is its distance
+abbrev pub near_hit : Position → Name × Place → Hit
+near_hit at entry = record {
+  cost = distance at entry.1.point;
+  key = entry.0;
+  dist = distance at entry.1.point;
+  text = 0;
+  point = entry.1.point;
+}
+
+-- what a place gives to a nearest query: its hit where it passes the filter
+abbrev pub near_hits : Position → Option Expr → Name × Place → List Hit
+near_hits at filter entry = if passes filter entry.1 then near_hit at entry ∷ [] else []
+
+-- to a range query: the same at most so far away
+abbrev pub range_hits : Position → ℕ → Option Expr → Name × Place → List Hit
+range_hits at radius filter entry =
+    if nat_le (distance at entry.1.point) radius && passes filter entry.1 then near_hit at entry ∷ [] else []
+
+-- to a box query: its hit without a cost where it is in the rectangle and passes the filter
+abbrev pub box_hits : Bounds → Option Expr → Name × Place → List Hit
+box_hits rect filter entry =
+    if holds_point rect entry.1.point && passes filter entry.1
+    then record { cost = 0; key = entry.0; dist = 0; text = 0; point = entry.1.point } ∷ []
+    else []
+
+-- to a top query: its hit where it holds one of the words
+abbrev pub top_hits : Position → ℕ → ℕ → Weighted → Name × Place → List Hit
+top_hits at alpha reach words entry =
+    if holds_some words entry.1
+    then record {
+      cost = top_cost alpha reach (weight_sum words) (distance at entry.1.point) (relevance words entry.1);
+      key = entry.0;
+      dist = distance at entry.1.point;
+      text = relevance words entry.1;
+      point = entry.1.point;
+    } ∷ []
+    else []
+
+-- what a place gives to a query; a group query has no hits
+abbrev pub hits_of : Query → Name × Place → List Hit
+hits_of (Range at radius filter) = range_hits at radius filter
+hits_of (Inside rect filter) = box_hits rect filter
+hits_of (Nearest at k filter) = near_hits at filter
+hits_of (Top at k alpha reach words) = top_hits at alpha reach words
+hits_of (Group at words) = λ entry. []
+
+-- the answer to a query over all places
+abbrev pub answer_of : Contents → Query → Answer
+answer_of state (Range at radius filter) = answers.Hits (ranked comes_before (flat_map (range_hits at radius filter) state.places))
+answer_of state (Inside rect filter) = answers.Hits (ranked comes_before (flat_map (box_hits rect filter) state.places))
+answer_of state (Nearest at k filter) = answers.Hits (first comes_before k (flat_map (near_hits at filter) state.places))
+answer_of state (Top at k alpha reach words) = answers.Hits (first comes_before k (flat_map (top_hits at alpha reach words) state.places))
+answer_of state (Group at words) = answers.Group (group_of state.places at words)

@@ -1,0 +1,16 @@
+pub mod Answer
+pub mod Filter
+pub mod Forms
+pub mod Group
+pub mod GroupLaws
+pub mod Hit
+pub mod Limits
+pub mod Query
+pub mod Restored
+pub mod Search
+pub mod State
+pub mod Top
+pub mod Update
+pub mod First
+pub mod Laws
+pub mod Members

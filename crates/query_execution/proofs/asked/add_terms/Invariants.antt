@@ -1,0 +1,7 @@
+use Rattle.std.proofs.Common.{◌≡◌, ◌++◌, take}
+use Rattle.query_execution.specs.Asked.{words_of}
+use Rattle.query_execution.proofs.asked.add_terms.Given as goal
+
+-- the words so far are added
+abbrev pub invariant-loop-word : goal.invariant-loop-word
+invariant-loop-word l = l.words.items ≡ l.initial.words.items ++ words_of (take l.word-index l.terms)

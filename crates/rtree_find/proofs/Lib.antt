@@ -1,6 +1,0 @@
-pub mod Entries
-pub mod Rounds
-pub mod Subtrees
-pub mod Roots
-pub mod Harms
-pub mod Ways

@@ -1,4 +1,0 @@
-pub mod Entries
-pub mod Subtrees
-pub mod Harms
-pub mod Ways

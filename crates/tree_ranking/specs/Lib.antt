@@ -1,9 +1,0 @@
-pub mod Asks
-pub mod Openings
-pub mod Harms
-pub mod Fits
-pub mod Weighed
-pub mod Belows
-pub mod Trees
-pub mod Leaves
-pub mod Laws

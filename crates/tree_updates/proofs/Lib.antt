@@ -1,4 +1,0 @@
-pub mod Regrowths
-pub mod Told
-pub mod Same
-pub mod Missing
