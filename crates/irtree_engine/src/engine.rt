@@ -1,9 +1,10 @@
 //! The engine, its count, and its output.
-ghost use Rattle.std.specs.Prelude.{◌≡◌, ◌≢◌, ◌≤◌, ◌<◌, true, false, IsTrue, IfOk, IfErr, OnOk, OnErr, IsErrOf, ◌↔◌, ℕ, [], length};
+ghost use Rattle.std.specs.Prelude.{◌≡◌, ◌≢◌, ◌≤◌, ◌<◌, ◌⊎◌, true, false, IsTrue, IfOk, IfErr, OnOk, OnErr, IsErrOf, ◌↔◌, ℕ, [], length};
 ghost use Rattle.disk_model.specs.World.{LeavesOnly, HasSaid, HasSinkCause, ReadsJournalOnly, Rose};
 ghost use Rattle.page_journal.specs.Record.{IsBad, applied};
 ghost use Rattle.page_store.specs.Contents.{IsCommitted};
-ghost use Rattle.page_store.specs.Opening.{SaysNothingReadsHead, head_damage};
+ghost use Rattle.page_store.specs.Opening.{Recovers, SaysNothingReadsHead, head_damage};
+ghost use Rattle.page_store.specs.Held.{room_of};
 ghost use Rattle.place_values.specs.State.{Contents};
 ghost use Rattle.irtree_engine.specs.Holding.{HasBrokenHead, HoldsState, IsForeign, LeavesState, StandsForNone};
 ghost use Rattle.irtree_engine.specs.Faults.{IsOpenFault, IsSettleFault};
@@ -53,6 +54,7 @@ impl<'d, D: Station> Engine<'d, D> {
             → IfOk result (λ engine. LeavesOnly (D.world disk.old) (D.world engine.store.disk.now) (LeavesState state (D.world disk.old))) }
         ensures fresh { IfOk result (λ engine. engine.stopped ≡ false) }
         ensures policy { IfOk result (λ engine. engine.policy ≡ policy) }
+        ensures cache_room { IfOk result (λ engine. (room_of engine.store.cache ≡ cache) ⊎ (room_of engine.store.cache ≡ 0)) }
         ensures not_a_store { IsTrue D.readable → IsErrOf result EngineFault.NotAStore → StandsForNone (D.world disk.old).seen }
         ensures bad { IsTrue D.readable → (at : ℕ) → IsErrOf result (EngineFault.BadJournal at) → IsBad (D.world disk.old).seen at × StandsForNone (D.world disk.old).seen }
         ensures damaged { (damage : Damage) → IsErrOf result (EngineFault.Damaged damage)
@@ -62,7 +64,8 @@ impl<'d, D: Station> Engine<'d, D> {
         ensures causes { IfErr result IsOpenFault }
 
         ensures quiet { IsTrue D.readable → IfOk result (λ engine. SaysNothingReadsHead (D.world disk.old) (D.world engine.store.disk.now)) }
-        ensures later { IfOk result (λ engine. (D.world disk.old).faults ≤ (D.world engine.store.disk.now).faults) }
+        ensures recovers { IsTrue D.readable → IfOk result (λ engine. Recovers (D.world disk.old) (D.world engine.store.disk.now)) }
+        ensures stays { IfOk result (λ engine. (D.world engine.store.disk.now).faults ≡ (D.world disk.old).faults) }
         ensures sink { IfOk result (λ engine. (D.world engine.store.disk.now).sink_faults ≡ (D.world disk.old).sink_faults) }
         ensures room { IfOk result (λ engine. D.room_of engine.store.disk.now ≡ D.room_of disk.old) }
     {
@@ -88,6 +91,7 @@ impl<'d, D: Station> Engine<'d, D> {
         ensures block { result.store.last ≡ block }
         ensures fresh { result.stopped ≡ false }
         ensures policy { result.policy ≡ policy }
+        ensures cache_room { (room_of result.store.cache ≡ cache) ⊎ (room_of result.store.cache ≡ 0) }
     {
         Engine {
             alloc,

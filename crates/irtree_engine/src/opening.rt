@@ -2,7 +2,7 @@
 ghost use Rattle.std.specs.Prelude.{◌≡◌, ◌≢◌, ◌≤◌, IsTrue, IfOk, IfErr, IsErrOf, ℕ};
 ghost use Rattle.disk_model.specs.World.{LeavesOnly, Rose};
 ghost use Rattle.page_journal.specs.Record.{StandsAlike, IsBad};
-ghost use Rattle.page_store.specs.Opening.{IsOpened, SaysNothingReadsHead, head_damage};
+ghost use Rattle.page_store.specs.Opening.{IsOpened, Recovers, SaysNothingReadsHead, head_damage};
 ghost use Rattle.place_values.specs.State.{Contents};
 ghost use Rattle.irtree_engine.specs.Holding.{HasBrokenHead, HoldsState, IsForeign, LeavesState, StandsForNone};
 ghost use Rattle.irtree_engine.specs.Faults.{IsOpenFault};
@@ -28,6 +28,7 @@ pub fn recover_superblock<D: Disk>(disk: &mut D) -> Result<Superblock, EngineFau
 
     // An image that holds no state is left alone, too: at any moment it holds what it held before.
     ensures alike { IsTrue D.readable → LeavesOnly (D.world disk.old) (D.world disk.new) (StandsAlike (D.world disk.old)) }
+    ensures recovers { IsTrue D.readable → Recovers (D.world disk.old) (D.world disk.new) }
     ensures left { IsTrue D.readable → IfErr result (λ fault. LeavesRefused fault (D.world disk.old) (D.world disk.new)) }
 
     // After every refusal except Disk the image holds no state, and the clause gives the rule that it breaks.

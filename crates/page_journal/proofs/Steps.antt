@@ -308,6 +308,13 @@ module _ (w0 wa w1 : World) (n : ℕ) (ra : WritesNothing w0 wa) (rested : Write
   has_start : HasRecords (w0.seen Journal) n
   has_start = subst (λ (m : Image). HasRecords (m Journal) n) ra.seen has_a
 
+  -- before a closed first gate there is no record
+  pub closed_none : w0.seen Journal 0 ≡ 0 → n ≡ 0
+  closed_none closed = ⊎_elim
+      (λ (e : n ≡ 0). e)
+      (λ (ne : n ≡ 0 → ⊥). absurd (first_open w0.seen w0.seen n has_start (omega (arith, ne)) closed))
+      (cases_eq n 0)
+
   module _ (none : n ≡ 0) where
     has_none : HasRecords (w0.seen Journal) 0
     has_none = subst (HasRecords (w0.seen Journal)) none has_start
@@ -327,6 +334,9 @@ module _ (w0 wa w1 : World) (n : ℕ) (ra : WritesNothing w0 wa) (rested : Write
   module _ (w2 : World) (keeps_1 : Keeps (AllButRecords (w1.seen Journal) n) w1 w2) where
     keeps_2 : Keeps (AllButRecords (w0.seen Journal) n) w0 w2
     keeps_2 = keeps_at_later rested (subst (λ (m : Image). Keeps (AllButRecords (m Journal) n) w1 w2) rested.seen keeps_1)
+
+    pub journal_installing : (i : ℕ) → w2.seen Journal i ≡ w0.seen Journal i
+    journal_installing i = keeps_2.seen Journal i (λ e. cc)
 
     pub in_installing : LeavesOnly w0 w2 (StandsAlike w0)
     in_installing = within keeps_2.adds (λ image said d. (

@@ -16,6 +16,7 @@ fn write_behind<D: Disk>(disk: &mut D, at: u64, bytes: &[u8]) -> Result<(), Fail
     ensures keeps { IsTrue D.readable → Keeps (AllBehindGate at) (D.world disk.old) (D.world disk.new) }
     ensures done { IsTrue D.readable → OnOk result (Written areas.Journal (at + 1) bytes.now (D.world disk.old).seen (D.world disk.new).seen) }
     ensures safe { IsTrue D.readable → OnOk result (LeavesOnlySeen (D.world disk.new)) }
+    ensures reads { IsTrue D.readable → (D.world disk.new).reads ≡ (D.world disk.old).reads }
     ensures cause { HasDiskCause (D.world disk.old) (D.world disk.new) result }
     ensures room { D.room_of disk.new ≡ D.room_of disk.old }
 {
@@ -48,6 +49,7 @@ pub fn append<D: Disk>(disk: &mut D, at: u64, gathered: &Record) -> Result<u64, 
     ensures overwritten { IsTrue D.readable → (pages : List (ℕ × List ℕ)) → IsRecordOf pages gathered.now.bytes.items → OnOk result (OverwritesAlso (batch_of pages) (D.world disk.old).seen (D.world disk.new).seen) }
 
     ensures quiet { IsTrue D.readable → SaysNothing (D.world disk.old) (D.world disk.new) }
+    ensures reads { IsTrue D.readable → (D.world disk.new).reads ≡ (D.world disk.old).reads }
     ensures cause { HasJournalCause (D.world disk.old) (D.world disk.new) result }
     ensures disk_alone { IfErr result (λ fault. fault ≡ faults.Disk) }
     ensures room { D.room_of disk.new ≡ D.room_of disk.old }

@@ -19,6 +19,7 @@ fn install<D: Disk>(disk: &mut D, pages: &BTreeMap<u32, Option<Box<Page>>>) -> R
     ensures done { IsTrue D.readable → OnOk result ((D.world disk.new).seen areas.Pages
         ≡ with_batch (batch_of (kept pages.now.entries)) ((D.world disk.old).seen areas.Pages)) }
     ensures safe { IsTrue D.readable → OnOk result (LeavesOnlySeen (D.world disk.new)) }
+    ensures reads { IsTrue D.readable → (D.world disk.new).reads ≡ (D.world disk.old).reads }
     ensures cause { HasDiskCause (D.world disk.old) (D.world disk.new) result }
     ensures room { D.room_of disk.new ≡ D.room_of disk.old }
 {
@@ -54,6 +55,7 @@ pub fn checkpoint<D: Disk>(
     ensures ready { IsTrue D.readable → OnOk result (IsReady 0 (D.world disk.new)) }
 
     ensures quiet { IsTrue D.readable → SaysNothing (D.world disk.old) (D.world disk.new) }
+    ensures reads { IsTrue D.readable → (D.world disk.new).reads ≡ (D.world disk.old).reads }
     ensures cause { HasJournalCause (D.world disk.old) (D.world disk.new) result }
     ensures disk_alone { IfErr result (λ fault. fault ≡ faults.Disk) }
     ensures room { D.room_of disk.new ≡ D.room_of disk.old }

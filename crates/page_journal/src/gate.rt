@@ -13,6 +13,7 @@ pub(crate) fn set_gate<D: Disk>(disk: &mut D, at: u64, value: u8) -> Result<(), 
     ensures keeps { IsTrue D.readable → Keeps (AllButGate at) (D.world disk.old) (D.world disk.new) }
     ensures done { IsTrue D.readable → OnOk result ((D.world disk.new).seen areas.Journal at ≡ value) }
     ensures safe { IsTrue D.readable → OnOk result (LeavesOnlySeen (D.world disk.new)) }
+    ensures reads { IsTrue D.readable → (D.world disk.new).reads ≡ (D.world disk.old).reads }
     ensures cause { HasDiskCause (D.world disk.old) (D.world disk.new) result }
     ensures room { D.room_of disk.new ≡ D.room_of disk.old }
 {

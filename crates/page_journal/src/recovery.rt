@@ -185,6 +185,10 @@ pub fn recover<D: Disk>(disk: &mut D) -> Result<(), JournalFault>
     ensures bad { IsTrue D.readable → (at : ℕ) → IsErrOf result (faults.BadJournal at) → IsBad (D.world disk.old).seen at }
     ensures untouched { IsTrue D.readable → (at : ℕ) → IsErrOf result (faults.BadJournal at) → WritesNothing (D.world disk.old) (D.world disk.new) }
 
+    // If the first gate is closed, nothing is written. Of the journal's bytes only that gate changes.
+    ensures closed { IsTrue D.readable → (D.world disk.old).seen areas.Journal 0 ≡ 0 → WritesNothing (D.world disk.old) (D.world disk.new) }
+    ensures journal { IsTrue D.readable → (i : ℕ) → 0 < i → (D.world disk.new).seen areas.Journal i ≡ (D.world disk.old).seen areas.Journal i }
+
     ensures quiet { IsTrue D.readable → SaysNothing (D.world disk.old) (D.world disk.new) }
     ensures cause { HasJournalCause (D.world disk.old) (D.world disk.new) result }
     ensures room { D.room_of disk.new ≡ D.room_of disk.old }

@@ -1,11 +1,11 @@
 -- What opening a store reads.
-use Rattle.std.proofs.Common.{◌≡◌, inl, inr, ⊎_elim, List, [], ◌∷◌, ◌++◌, ◌*◌, refl, ap, ◌∙◌, arith, append_assoc}
+use Rattle.std.proofs.Common.{◌≡◌, ℕ, ◌<◌, inl, inr, ⊎_elim, List, [], ◌∷◌, ◌++◌, ◌*◌, refl, ap, ◌∙◌, arith, append_assoc}
 use Rattle.std.specs.List.{AllByRecursion}
-use Rattle.disk_model.specs.World.{World, Range}
+use Rattle.disk_model.specs.World.{World, Range, Image, WritesNothing}
 use Rattle.disk_model.specs.declared.disk.Area.TheVariants.{Pages, Journal}
 use Rattle.page_journal.specs.Record.{SaysNothing}
-use Rattle.page_store.specs.Opening.{IsOpeningRead, SaysNothingReadsHead}
-use Rattle.page_store.specs.Store.{ReadsPage}
+use Rattle.page_store.specs.Opening.{IsOpeningRead, SaysNothingReadsHead, Recovers}
+use Rattle.page_store.specs.Store.{ReadsPage, rests_then}
 
 -- reads of the journal alone are an opening's
 are_opening : (reads : List Range) → AllByRecursion (λ (r : Range). r.area ≡ Journal) reads → AllByRecursion IsOpeningRead reads
@@ -32,3 +32,17 @@ opening_is_quiet {a = a} h read = ⊎_elim
       each = are_opening-more h.reads.more (are_opening h.reads.more h.reads.each);
     })
     read.reads
+
+-- a recovery, by what it says of the first gate and of the bytes behind it
+pub recovery_recovers : {a b : World} → (a.seen Journal 0 ≡ 0 → WritesNothing a b) → ((i : ℕ) → 0 < i → b.seen Journal i ≡ a.seen Journal i) → Recovers a b
+recovery_recovers closed journal = record {
+  closed = λ e. let none = closed e in record { seen = none.seen; crash = none.crash; adds = none.adds; said = none.said };
+  journal = journal;
+}
+
+-- a recovery and then a read of page 0
+pub opening_recovers : {a b c : World} → (a.seen Journal 0 ≡ 0 → WritesNothing a b) → ((i : ℕ) → 0 < i → b.seen Journal i ≡ a.seen Journal i) → ReadsPage 0 b c → Recovers a c
+opening_recovers closed journal read = record {
+  closed = λ e. rests_then ((recovery_recovers closed journal).closed e) read.rests;
+  journal = λ i lt. ap (λ (m : Image). m Journal i) read.rests.seen ∙ journal i lt;
+}

@@ -1,4 +1,5 @@
 -- What the pages held in memory say of the disk.
+pub use Rattle.page_cache.specs.Pairs.{room_of}
 use Rattle.std.specs.Prelude.{◌≡◌, ℕ, List, Some, None}
 use Rattle.std.specs.BTreeMap.{IsOrdered}
 use Rattle.std.specs.Ordering.{nat_cmp}

@@ -1,5 +1,5 @@
 -- What opening a store does to its disk, and why it is refused.
-use Rattle.std.specs.Prelude.{◌≡◌, ◌≢◌, ◌⊎◌, ℕ, ◌+◌, ◌≤◌, List, ◌++◌, Result, Err, IsErrOf}
+use Rattle.std.specs.Prelude.{◌≡◌, ◌≢◌, ◌⊎◌, ℕ, ◌+◌, ◌<◌, ◌≤◌, List, ◌++◌, Result, Err, IsErrOf}
 use Rattle.std.specs.List.{AllByRecursion}
 use Rattle.disk_model.specs.World.{World, Image, Range, Rose}
 use Rattle.disk_model.specs.declared.disk.Area.TheVariants.{Pages, Journal}
@@ -10,6 +10,7 @@ use Rattle.page_store.specs.declared.superblock.Superblock.{Superblock}
 use Rattle.page_store.specs.declared.superblock.HeadFault.{HeadFault}
 use Rattle.page_store.specs.declared.opening.OpenFault.{OpenFault}
 use Rattle.page_store.specs.declared.opening.OpenFault.TheVariants as faults
+use Rattle.page_store.specs.Store.{Rests}
 use Rattle.page_store.specs.Superblock.{IsStorePage, IsHeadFault}
 use Rattle.page_store.specs.Contents.{page_bytes, IsCommitted}
 
@@ -36,6 +37,11 @@ pub record IsRefused (fault : HeadFault) (old new : World) : Type 0 where
   pub ready : IsReady 0 new
   pub stands : StandsFor old.seen (applied new.seen)
   pub page : IsHeadFault fault (page_bytes (applied new.seen) 0)
+
+-- Of the journal only its first byte is changed, and if that is 0, no area is.
+pub record Recovers (old new : World) : Type 0 where
+  pub closed : old.seen Journal 0 ≡ 0 → Rests old new
+  pub journal : (i : ℕ) → 0 < i → new.seen Journal i ≡ old.seen Journal i
 
 -- the rule Head, broken at page 0
 abbrev pub head_damage : Damage

@@ -1,6 +1,7 @@
 //! Committing the overlay, dropping it, and writing the journal's pages in their places.
-ghost use Rattle.std.specs.Prelude.{◌≡◌, ◌≢◌, ◌↔◌, ◌≤◌, ◌^◌, ℕ, IsTrue, false, true, [], OnOk, OnErr, IfErr, IsErrOf, ◌⊎◌, length};
+ghost use Rattle.std.specs.Prelude.{◌≡◌, ◌≢◌, ◌↔◌, ◌≤◌, ◌<◌, ◌^◌, ℕ, IsTrue, false, true, [], OnOk, OnErr, IfErr, IsErrOf, ◌⊎◌, length};
 ghost use Rattle.disk_model.specs.World.{LeavesOnly, Rose};
+ghost use Rattle.disk_model.specs.declared.disk.Area.TheVariants as areas;
 ghost use Rattle.page_journal.specs.Record.{SaysNothing, LeavesPages, applied};
 ghost use Rattle.buffer_pool.specs.Pages.{spare};
 ghost use Rattle.buffer_pool.specs.Rooms.{HasRoomFor};
@@ -43,6 +44,10 @@ impl<'d, D: Disk> Store<'d, D> {
         ensures current { self.new.current ≡ self.old.current }
         ensures pages { IsTrue D.readable → result ≢ Err PageFault.Disk → ⟦<Store<'d, D> as Pages>⟧.pages self.new ≡ ⟦<Store<'d, D> as Pages>⟧.pages self.old }
 
+        // A checkpoint comes first exactly if the journal has grown past its limit: else the pages area stays as it is.
+        ensures area { IsTrue D.readable → self.old.end ≤ 2 ^ 24 → (D.world self.new.disk.now).seen areas.Pages ≡ (D.world self.old.disk.now).seen areas.Pages }
+        ensures in_place { IsTrue D.readable → 2 ^ 24 < self.old.end → OnOk result ((D.world self.new.disk.now).seen areas.Pages ≡ applied (D.world self.old.disk.now).seen) }
+
         ensures stopped { IsErrOf result PageFault.Stopped ↔ IsTrue self.old.stopped }
         ensures stops { IsErrOf result PageFault.Disk → self.new.stopped ≡ true }
         ensures goes_on { result ≢ Err PageFault.Disk → self.new.stopped ≡ self.old.stopped }
@@ -56,9 +61,11 @@ impl<'d, D: Disk> Store<'d, D> {
         ensures sink { (D.world self.new.disk.now).sink_faults ≡ (D.world self.old.disk.now).sink_faults }
 
         ensures quiet { IsTrue D.readable → SaysNothing (D.world self.old.disk.now) (D.world self.new.disk.now) }
+        ensures reads { IsTrue D.readable → (D.world self.new.disk.now).reads ≡ (D.world self.old.disk.now).reads }
         ensures room { D.room_of self.new.disk.now ≡ D.room_of self.old.disk.now }
         ensures asked { self.new.asked.items ≡ self.old.asked.items }
         ensures refused { self.new.refused ≡ self.old.refused }
+        ensures takes { self.new.takes_left ≡ self.old.takes_left }
     {
         if self.stopped {
             return Err(PageFault::Stopped);
@@ -95,6 +102,8 @@ impl<'d, D: Disk> Store<'d, D> {
         ensures any_moment { IsTrue D.readable → LeavesOnly (D.world self.old.disk.now) (D.world self.new.disk.now)
             (LeavesPages (applied (D.world self.old.disk.now).seen) (D.world self.old.disk.now)) }
         ensures same { IsTrue D.readable → OnOk result (applied (D.world self.new.disk.now).seen ≡ applied (D.world self.old.disk.now).seen) }
+        ensures area { IsTrue D.readable → self.old.end ≤ 2 ^ 24 → (D.world self.new.disk.now).seen areas.Pages ≡ (D.world self.old.disk.now).seen areas.Pages }
+        ensures in_place { IsTrue D.readable → 2 ^ 24 < self.old.end → OnOk result ((D.world self.new.disk.now).seen areas.Pages ≡ applied (D.world self.old.disk.now).seen) }
         ensures has_rooms { OnOk result (HasRoomFor self.new.overlay self.new.rooms) }
         ensures has_spare { OnOk result (length self.new.overlay.entries ≤ spare self.new.journal) }
         ensures short { OnOk result (self.new.end ≤ 2 ^ 24) }
@@ -113,9 +122,11 @@ impl<'d, D: Disk> Store<'d, D> {
         ensures current { self.new.current ≡ self.old.current }
         ensures last { self.new.last ≡ self.old.last }
         ensures quiet { IsTrue D.readable → SaysNothing (D.world self.old.disk.now) (D.world self.new.disk.now) }
+        ensures reads { IsTrue D.readable → (D.world self.new.disk.now).reads ≡ (D.world self.old.disk.now).reads }
         ensures room { D.room_of self.new.disk.now ≡ D.room_of self.old.disk.now }
         ensures asked { self.new.asked.items ≡ self.old.asked.items }
         ensures refused { self.new.refused ≡ self.old.refused }
+        ensures takes { self.new.takes_left ≡ self.old.takes_left }
     {
         self.place = Place::Spare;
         if self.end <= JOURNAL_MAX {
@@ -147,6 +158,7 @@ impl<'d, D: Disk> Store<'d, D> {
         ensures any_moment { IsTrue D.readable → self.old.stopped ≡ false → LeavesOnly (D.world self.old.disk.now) (D.world self.new.disk.now)
             (LeavesPages (applied (D.world self.old.disk.now).seen) (D.world self.old.disk.now)) }
         ensures same { IsTrue D.readable → OnOk result (applied (D.world self.new.disk.now).seen ≡ applied (D.world self.old.disk.now).seen) }
+        ensures in_place { IsTrue D.readable → OnOk result ((D.world self.new.disk.now).seen areas.Pages ≡ applied (D.world self.old.disk.now).seen) }
         ensures front { OnOk result (self.new.end ≡ 0) }
         ensures retired { self.old.end ≢ 0 → OnOk result (self.new.journal.entries ≡ []) }
         ensures at_rest { self.old.end ≡ 0 → self.new.disk ≡ self.old.disk }
@@ -165,9 +177,11 @@ impl<'d, D: Disk> Store<'d, D> {
         ensures current { self.new.current ≡ self.old.current }
         ensures last { self.new.last ≡ self.old.last }
         ensures quiet { IsTrue D.readable → SaysNothing (D.world self.old.disk.now) (D.world self.new.disk.now) }
+        ensures reads { IsTrue D.readable → (D.world self.new.disk.now).reads ≡ (D.world self.old.disk.now).reads }
         ensures room { D.room_of self.new.disk.now ≡ D.room_of self.old.disk.now }
         ensures asked { self.new.asked.items ≡ self.old.asked.items }
         ensures refused { self.new.refused ≡ self.old.refused }
+        ensures takes { self.new.takes_left ≡ self.old.takes_left }
     {
         if self.stopped {
             return Err(PageFault::Stopped);
@@ -204,6 +218,7 @@ impl<'d, D: Disk> Store<'d, D> {
         ensures stopped { self.new.stopped ≡ self.old.stopped }
         ensures asked { self.new.asked.items ≡ self.old.asked.items }
         ensures refused { self.new.refused ≡ self.old.refused }
+        ensures takes { self.new.takes_left ≡ self.old.takes_left }
     {
         self.place = Place::Spare;
         buffer_pool::clear(&mut self.overlay, &mut self.seals);

@@ -4,7 +4,7 @@ ghost use Rattle.disk_model.specs.World.{LeavesOnly, WritesNothing};
 ghost use Rattle.disk_model.specs.declared.disk.Area.TheVariants as areas;
 ghost use Rattle.page_journal.specs.Record.{StandsAlike, IsBad};
 ghost use Rattle.page_store.specs.declared.superblock.HeadFault.TheVariants as heads;
-ghost use Rattle.page_store.specs.Opening.{SaysNothingReadsHead, IsOpened, IsRefused, head_damage, HasOpenCause};
+ghost use Rattle.page_store.specs.Opening.{SaysNothingReadsHead, IsOpened, IsRefused, Recovers, head_damage, HasOpenCause};
 ghost use Rattle.page_store.specs.Superblock.{IsInRange};
 
 use crate::page::read_page;
@@ -43,6 +43,7 @@ pub fn recover_superblock<D: Disk>(disk: &mut D) -> Result<Superblock, OpenFault
         → (damage ≡ head_damage) × (IsTrue D.readable → IsRefused heads.Broken (D.world disk.old) (D.world disk.new)) }
     ensures bad { IsTrue D.readable → (at : ℕ) → IsErrOf result (OpenFault.BadJournal at) → IsBad (D.world disk.old).seen at }
     ensures untouched { IsTrue D.readable → (at : ℕ) → IsErrOf result (OpenFault.BadJournal at) → WritesNothing (D.world disk.old) (D.world disk.new) }
+    ensures recovers { IsTrue D.readable → Recovers (D.world disk.old) (D.world disk.new) }
     ensures memory { result ≢ Err OpenFault.Memory }
 
     ensures quiet { IsTrue D.readable → SaysNothingReadsHead (D.world disk.old) (D.world disk.new) }

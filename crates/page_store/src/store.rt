@@ -11,7 +11,7 @@ ghost use Rattle.buffer_pool.specs.Rooms.{room_page};
 ghost use Rattle.buffer_pool.specs.declared.place.Place.TheVariants as places;
 ghost use Rattle.page_store.specs.Contents.{IsCommitted};
 ghost use Rattle.page_store.specs.Held.{AreCached, AreImages, AreKept};
-ghost use Rattle.page_store.specs.Opening.{IsOpened, IsNoStore, SaysNothingReadsHead, head_damage};
+ghost use Rattle.page_store.specs.Opening.{IsOpened, IsNoStore, Recovers, SaysNothingReadsHead, head_damage};
 
 use crate::opening::{OpenFault, recover_superblock};
 use crate::superblock::Superblock;
@@ -103,11 +103,12 @@ impl<'d, D: Disk> Store<'d, D> {
         // A crash at any moment leaves what a crash could leave as the call began, or an image that holds the same pages.
         ensures any_moment { IsTrue D.readable → IfOk result (λ store. LeavesOnly (D.world disk.old) (D.world store.disk.now) (StandsAlike (D.world disk.old))) }
         ensures quiet { IsTrue D.readable → IfOk result (λ store. SaysNothingReadsHead (D.world disk.old) (D.world store.disk.now)) }
-        ensures faults { IfOk result (λ store. (D.world disk.old).faults ≤ (D.world store.disk.now).faults) }
+        ensures stays { IfOk result (λ store. (D.world store.disk.now).faults ≡ (D.world disk.old).faults) }
         ensures sink { IfOk result (λ store. (D.world store.disk.now).sink_faults ≡ (D.world disk.old).sink_faults) }
         ensures room { IfOk result (λ store. D.room_of store.disk.now ≡ D.room_of disk.old) }
 
         ensures opened { IsTrue D.readable → IfOk result (λ store. IsOpened store.last (D.world disk.old) (D.world store.disk.now)) }
+        ensures recovers { IsTrue D.readable → IfOk result (λ store. Recovers (D.world disk.old) (D.world store.disk.now)) }
         ensures clean { IfOk result (λ store. (store.overlay.entries ≡ []) × (store.current ≡ store.last)) }
         ensures fresh { IfOk result (λ store. (store.asked.items ≡ []) × (store.refused ≡ 0) × (store.stopped ≡ false)) }
         ensures allowed { IfOk result (λ store. store.takes_left ≡ 2 ^ 64 - 1) }
@@ -204,6 +205,7 @@ impl<'d, D: Disk> Store<'d, D> {
         ensures disk { self.new.disk ≡ self.old.disk }
         ensures log { self.new.asked.items ≡ self.old.asked.items }
         ensures refused { self.new.refused ≡ self.old.refused }
+        ensures takes { self.new.takes_left ≡ self.old.takes_left }
         ensures stopped { self.new.stopped ≡ self.old.stopped }
     {
         self.current.head = *head;
@@ -273,6 +275,7 @@ impl<'d, D: Station> Store<'d, D> {
         ensures overlay { self.new.overlay ≡ self.old.overlay }
         ensures log { self.new.asked.items ≡ self.old.asked.items }
         ensures refused { self.new.refused ≡ self.old.refused }
+        ensures takes { self.new.takes_left ≡ self.old.takes_left }
         ensures stopped { self.new.stopped ≡ self.old.stopped }
     {
         self.disk.say(bytes)

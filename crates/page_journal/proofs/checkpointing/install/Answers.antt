@@ -35,6 +35,7 @@ loop-number-preserved-in-Continue-1 g c =
       done = λ t. page_first e (kept c.next.new.self) _ c.bytes_of.result.now _ _ _ refl c.bytes_of.ensures.size bytes (c.in_ok-write.ensures.told t).written
           (subst (λ (l : List (ℕ × List ℕ)). with_batch (batch_of l) ((g.D.Disk.world c.loop-number.disk).seen Pages) ≡ with_batch (batch_of (kept c.args.pages.now.entries)) ((g.D.Disk.world c.args.disk.now).seen Pages)) left (c.loop-number.invariant.done t));
       faults = search rules;
+      reads = λ t. (c.in_ok-write.ensures.told t).reads ∙ c.loop-number.invariant.reads t;
       room = search rules;
       sink = search rules;
     }

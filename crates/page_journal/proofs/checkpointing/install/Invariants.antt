@@ -13,6 +13,7 @@ invariant-loop-number g l =
       keeps : IsTrue g.D.Disk.readable → Keeps (AllButPages (batch_of (kept l.pages.entries))) (g.D.Disk.world l.fn.disk) (g.D.Disk.world l.disk);
       done : IsTrue g.D.Disk.readable → with_batch (batch_of (kept l.number-iterator)) ((g.D.Disk.world l.disk).seen Pages) ≡ with_batch (batch_of (kept l.pages.entries)) ((g.D.Disk.world l.fn.disk).seen Pages);
       faults : (g.D.Disk.world l.disk).faults ≡ (g.D.Disk.world l.fn.disk).faults;
+      reads : IsTrue g.D.Disk.readable → (g.D.Disk.world l.disk).reads ≡ (g.D.Disk.world l.fn.disk).reads;
       room : g.D.Disk.room_of l.disk ≡ g.D.Disk.room_of l.fn.disk;
       sink : (g.D.Disk.world l.disk).sink_faults ≡ (g.D.Disk.world l.fn.disk).sink_faults;
     }

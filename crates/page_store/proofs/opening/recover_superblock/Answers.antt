@@ -1,6 +1,6 @@
 use Rattle.std.proofs.Common.{IsErrOf}
 use Rattle.page_journal.specs.declared.fault.JournalFault.TheVariants.{BadJournal}
-use Rattle.page_store.proofs.OpeningReads.{recovery_is_quiet, opening_is_quiet}
+use Rattle.page_store.proofs.OpeningReads.{recovery_is_quiet, opening_is_quiet, recovery_recovers, opening_recovers}
 use Rattle.page_store.proofs.opening.recover_superblock.Goals as goal
 
 pub returns-in-Err-BadJournal-clause-bad : goal.returns-in-Err-BadJournal-clause-bad
@@ -27,3 +27,21 @@ returns-in-Err-NotAStore-clause-quiet g c = λ t. opening_is_quiet (c.recover.en
 
 pub returns-in-Err-Broken-clause-quiet : goal.returns-in-Err-Broken-clause-quiet
 returns-in-Err-Broken-clause-quiet g c = λ t. opening_is_quiet (c.recover.ensures.quiet t) (c.read_page.ensures.reads t)
+
+pub returns-in-Err-Disk-clause-recovers : goal.returns-in-Err-Disk-clause-recovers
+returns-in-Err-Disk-clause-recovers g c = λ t. recovery_recovers (c.recover.ensures.closed t) (c.recover.ensures.journal t)
+
+pub returns-in-Err-BadJournal-clause-recovers : goal.returns-in-Err-BadJournal-clause-recovers
+returns-in-Err-BadJournal-clause-recovers g c = λ t. recovery_recovers (c.recover.ensures.closed t) (c.recover.ensures.journal t)
+
+pub returns-in_default-clause-recovers : goal.returns-in_default-clause-recovers
+returns-in_default-clause-recovers g c = λ t. opening_recovers (c.recover.ensures.closed t) (c.recover.ensures.journal t) (c.read_page.ensures.reads t)
+
+pub returns-in-Ok-decode-clause-recovers : goal.returns-in-Ok-decode-clause-recovers
+returns-in-Ok-decode-clause-recovers g c = λ t. opening_recovers (c.recover.ensures.closed t) (c.recover.ensures.journal t) (c.read_page.ensures.reads t)
+
+pub returns-in-Err-NotAStore-clause-recovers : goal.returns-in-Err-NotAStore-clause-recovers
+returns-in-Err-NotAStore-clause-recovers g c = λ t. opening_recovers (c.recover.ensures.closed t) (c.recover.ensures.journal t) (c.read_page.ensures.reads t)
+
+pub returns-in-Err-Broken-clause-recovers : goal.returns-in-Err-Broken-clause-recovers
+returns-in-Err-Broken-clause-recovers g c = λ t. opening_recovers (c.recover.ensures.closed t) (c.recover.ensures.journal t) (c.read_page.ensures.reads t)

@@ -1,5 +1,6 @@
-use Rattle.std.proofs.Common.{refl, arith, sym}
+use Rattle.std.proofs.Common.{ℕ, refl, arith, sym, subst}
 use Rattle.std.proofs.lemmas.Bool.{false≢true}
+use Rattle.page_journal.specs.Record.{IsReady}
 use Rattle.page_journal.proofs.Gates.{ready_0}
 use Rattle.buffer_pool.proofs.Sealed.{filled_is, retired_behind, true_behind, true_none}
 use Rattle.page_store.proofs.Committed.{committed_later}
@@ -48,3 +49,6 @@ invariant_of-self-2 g c =
       sealed = true_behind self.seals self.overlay self.journal c.fill.new.table self.cache c.retire.new.cache shrinks self.sealed;
       lies = λ ne. absurd (ne refl);
     }
+
+pub returns-then-self-eq0-clause-in_place : goal.returns-then-self-eq0-clause-in_place
+returns-then-self-eq0-clause-in_place g c = λ t. sym (ready_0 _ (subst (λ (at : ℕ). IsReady at (g.D.Disk.world c.args.self.now.disk.now)) c.if-self-eq0.true (c.args.self.now.ready t c.if-self.false).ready))
