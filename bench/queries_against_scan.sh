@@ -1,7 +1,7 @@
 #!/usr/bin/env bash
 # Lines of mixed queries over places, against the plain Python scan of the same lines (bench/scan.py): once by the scan of place_map
 # over a map in memory, with query_lang around it, in a program that this script makes, proves and builds in a folder of its own;
-# and once by `irtree - run`, which reads the place table for each query. The replies have to agree byte for byte; seconds and ratios.
+# and once by `irtree - run`, through the tree. The replies have to agree byte for byte; seconds and ratios.
 # The program irtree must be built (./irtree-build builds it).
 # usage: bench/queries_against_scan.sh [PLACES [QUERIES [SEED [QUERIES_OF_THE_PROGRAM]]]]
 set -euo pipefail
@@ -9,7 +9,7 @@ top=$(cd "$(dirname "$0")/.." && pwd)
 work=$(mktemp -d)
 trap 'rm -rf "$work"' EXIT
 mkdir -p "$work/crates/scan_speed/src"
-crates="spatial_base number_grammar ranking term_impacts fixed_coords json_spelled place_map line_tokens query_replies query_lang"
+crates="spatial_base number_grammar term_impacts place_values fixed_coords json_spelled place_map line_tokens query_replies query_lang"
 for crate in $crates; do
     cp -r "$top/crates/$crate" "$work/crates/"
     grep "^$crate:" "$top/crates.txt"
