@@ -5,7 +5,7 @@ ghost use Rattle.best_first.specs.Asks.{IsTopFor};
 
 use crate::{Ask, Ranking, Terms};
 use node_filter::Ids;
-use node_inverted::Tree;
+use node_rows::Tree;
 use place_values::Expr;
 use spatial_base::Point;
 use term_impacts::Word;

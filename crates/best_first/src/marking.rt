@@ -11,7 +11,7 @@ ghost use Rattle.best_first.specs.Asks.{filter_of, qualifies, text_by};
 
 use crate::Ask;
 use node_filter::{Ids, Marks, admitted, relevances};
-use node_inverted::Tree;
+use node_rows::Tree;
 use page_face::{PageFault, Pages};
 use place_values::Expr;
 

@@ -4,7 +4,7 @@ ghost use Rattle.spatial_base.specs.Point.{IsOnMap};
 
 use crate::Ask;
 use node_filter::Ids;
-use node_inverted::Tree;
+use node_rows::Tree;
 use page_face::PageFault;
 use spatial_base::Point;
 

@@ -25,7 +25,7 @@ use crate::gathering::gather;
 use crate::marking::marks;
 use crate::{Ask, Item};
 use node_filter::{Ids, enter, enter_at};
-use node_inverted::Tree;
+use node_rows::Tree;
 use page_face::{Damage, PageFault, Pages};
 use spatial_base::Point;
 use std::alloc::Global;

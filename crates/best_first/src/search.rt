@@ -10,11 +10,11 @@ ghost use Rattle.best_first.specs.Leads.{leads};
 ghost use Rattle.best_first.specs.Queue.{waiting};
 ghost use Rattle.best_first.specs.Openings.{Opened};
 
-use crate::best::{is_settled, keep};
+use crate::best::is_settled;
 use crate::queue::{Queue, Waiting};
 use crate::{Item, Ranked};
 use page_face::{PageFault, Pages};
-use place_values::Hit;
+use place_values::{Hit, keep};
 use std::alloc::{AllocError, Global};
 
 // Puts a node into the queue, and a place among the best k.

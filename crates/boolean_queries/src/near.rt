@@ -1,9 +1,8 @@
 //! The slots of a node that touch a region, read in place in the page.
-ghost use Rattle.std.specs.Prelude.{◌≡◌, ◌≢◌, ◌⊎◌, ◌||◌, ℕ, ◌<◌, ◌≤◌, ◌+◌, ◌==◌, [], ◌++◌, map, true, false, IfOk, IfErr, OnOk, IsOk};
+ghost use Rattle.std.specs.Prelude.{◌≡◌, ◌≢◌, ◌⊎◌, ◌||◌, ℕ, ◌<◌, ◌+◌, ◌==◌, [], ◌++◌, map, true, false, IfOk, IfErr, OnOk, IsOk};
 ghost use Rattle.page_face.specs.declared.fault.Rule.TheVariants.{Value};
-ghost use Rattle.rtree_nodes.specs.Numbers.{int_at, number_at};
 ghost use Rattle.rtree_nodes.specs.Breaks.{BreaksNode};
-ghost use Rattle.rtree_nodes.specs.Pages.{level_in, is_form, is_used as is_used_in, stored_in};
+ghost use Rattle.rtree_nodes.specs.Pages.{level_in, is_form, stored_in};
 ghost use Rattle.rtree_nodes.specs.Reach.{item_of, is_place};
 ghost use Rattle.node_filter.specs.Masks.{has_slot, Marks};
 ghost use Rattle.boolean_queries.specs.Near.{near_item, is_near, nears, numbered, listed, alone_in};
@@ -12,14 +11,8 @@ use crate::region::Region;
 use best_first::Item;
 use btree_nodes::damaged;
 use page_face::{Page, PageFault, Rule};
-use rtree_nodes::{SLOTS, Slot, slot_at};
+use rtree_nodes::{PLACE_BYTES, SLOTS, SLOTS_AT, Slot, i32_at, is_used, slot_at};
 use spatial_base::Point;
-
-// The offset of the first slot of a node's page, after its header.
-const SLOTS_AT: usize = 16;
-
-// The bytes of a place: two coordinates of 4 bytes, and a key's form of 66.
-const PLACE_BYTES: usize = 74;
 
 /// What a slot of a node gives.
 #[derive(Clone, Copy, Debug)]
@@ -28,31 +21,6 @@ pub(crate) struct Near {
     pub slot: usize,
     /// Its place's hit, or its child.
     pub item: Item,
-}
-
-// The number in four bytes of the page.
-#[tactic(auto, unfolding(rtree_nodes::specs::Numbers::number_at))]
-fn number(page: &Page, at: usize) -> u32
-    requires { at + 4 ≤ 4096 }
-    ensures { result ≡ number_at at page.now }
-{
-    u32::from_be_bytes([page[at], page[at + 1], page[at + 2], page[at + 3]])
-}
-
-// The coordinate in four bytes of the page.
-fn coordinate(page: &Page, at: usize) -> i32
-    requires { at + 4 ≤ 4096 }
-    ensures { result ≡ int_at at page.now }
-{
-    number(page, at).cast_signed()
-}
-
-// Whether a slot is used.
-fn is_used(page: &Page, at: usize) -> bool
-    requires { at < 32 }
-    ensures { result ≡ is_used_in page.now at }
-{
-    (number(page, 4) >> at) & 1 == 1
 }
 
 // Whether a leaf's slot may hold a place in the region, by its point alone: the key after it isn't looked at.
@@ -64,7 +32,7 @@ fn may_have(page: &Page, at: usize, region: &Region) -> bool
         return false;
     }
     let start = SLOTS_AT + PLACE_BYTES * at;
-    match Point::new(coordinate(page, start), coordinate(page, start + 4)) {
+    match Point::new(i32_at(page, start), i32_at(page, start + 4)) {
         Some(point) => region.has(&point),
         None => true,
     }

@@ -17,7 +17,7 @@ ghost use Rattle.boolean_queries.specs.Opens.{filter_in};
 
 use best_first::{Ranking, first_k};
 use node_filter::Ids;
-use node_inverted::Tree;
+use node_rows::Tree;
 use page_face::{Damage, PageFault, Pages};
 use place_values::{Expr, Hit};
 use spatial_base::Point;

@@ -24,7 +24,7 @@ ghost use Rattle.boolean_queries.specs.Harms.{IsNodeHarm};
 use crate::near::{Near, gather};
 use crate::query::Query;
 use node_filter::{admitted, enter_at};
-use node_inverted::Tree;
+use node_rows::Tree;
 use page_face::{Damage, PageFault, Pages};
 
 // Those of a node's slots that the filter lets through, or all of them if there is no filter.

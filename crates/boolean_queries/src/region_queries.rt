@@ -21,7 +21,7 @@ use crate::query::Query;
 use crate::region::Region;
 use crate::walk::walk;
 use node_filter::Ids;
-use node_inverted::Tree;
+use node_rows::Tree;
 use page_face::{Damage, PageFault, Pages};
 use place_values::{Expr, Hit};
 use spatial_base::{Point, Rect};

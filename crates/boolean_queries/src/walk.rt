@@ -23,7 +23,7 @@ use crate::entering::enter_root;
 use crate::node::open;
 use crate::query::Query;
 use crate::sorting::{Waiting, sort_near};
-use node_inverted::Tree;
+use node_rows::Tree;
 use page_face::{Damage, PageFault, Pages};
 use place_values::Hit;
 use std::alloc::Global;

@@ -11,9 +11,9 @@ ghost use Rattle.btree_nodes.specs.Damages.{IsDamaged, AreReadable, AskedSince, 
 ghost use Rattle.btree_delete.specs.Mended.{IsBeside};
 ghost use Rattle.btree_delete.specs.Looks.{HasLooked, ReadableBeside};
 
-use crate::node::{check_child, count_in};
+use crate::node::check_child;
 use crate::settling::Beside;
-use btree_nodes::{Form, Found, child_at, damaged, least_at, lower, upper};
+use btree_nodes::{Form, Found, child_at, count, damaged, least_at, lower, upper};
 use page_face::{Damage, Page, PageFault, Pages};
 
 // The place next to this one: the next, or the one before it if this is the last.
@@ -121,7 +121,7 @@ pub fn look_if_low<P: Pages>(
     ensures fails { FailsReading P.Pages pages.old pages.new result }
     ensures frame { Reads P.Pages pages.old pages.new }
 {
-    if count_in(child) > least_at(form, below) {
+    if count(child) > least_at(form, below) {
         return Ok(None);
     }
     let beside = look_beside(pages, form, bytes, below, found, low, high)?;

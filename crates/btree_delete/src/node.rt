@@ -27,14 +27,6 @@ pub fn has_key(page: &Page, form: Form, count: usize, at: usize, key: &[u8]) -> 
     }
 }
 
-/// The number of cells in a page's header.
-#[tactic(auto, unfolding(page_face::specs::Nodes::count_of))]
-pub fn count_in(page: &Page) -> usize
-    ensures { result ≡ count_of page.now }
-{
-    u16::from_be_bytes([page[2], page[3]]) as usize
-}
-
 /// The count of a page of this level, in its place in a tree.
 ///
 /// Refuses the rule that the page breaks there.

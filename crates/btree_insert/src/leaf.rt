@@ -84,8 +84,8 @@ fn store_leaf<P: Pages>(
     Ok(right)
 }
 
-// 1 if the row at this place has the key, and 0 otherwise.
-fn gone_at(bytes: &Page, form: Form, count: usize, at: usize, key: &[u8]) -> usize
+/// Returns 1 if the row at this place of a leaf of `count` rows has the key, and 0 otherwise.
+pub fn gone_at(bytes: &Page, form: Form, count: usize, at: usize, key: &[u8]) -> usize
     requires fits { 16 + (form.key + form.value) * count ≤ 4096 }
     requires key { length key.now ≡ form.key }
     ensures some { result ≡ 1 → (at < count) × (key_at form.key (form.key + form.value) bytes.now at ≡ number key.now) }

@@ -1,6 +1,5 @@
 //! Which rule a page of a map breaks.
-ghost use Rattle.std.specs.Prelude.{◌≡◌, ◌↔◌, ◌==◌, ◌&&◌, ◌+◌, ◌-◌, ◌*◌, ◌<◌, ◌≤◌, length, IfOk, IfErr, IsTrue};
-ghost use Rattle.page_face.specs.FreeList.{are_zero as is_clear};
+ghost use Rattle.std.specs.Prelude.{◌≡◌, ◌↔◌, ◌+◌, ◌-◌, ◌*◌, ◌<◌, ◌≤◌, length, IfOk, IfErr, IsTrue};
 ghost use Rattle.page_face.specs.Number.{number};
 ghost use Rattle.btree_nodes.specs.Rows.{IsWithin};
 ghost use Rattle.page_face.specs.Nodes.{IsNode, count_of};
@@ -11,27 +10,8 @@ ghost use Rattle.btree_nodes.specs.Damages.{Breaks, BreaksLeaf, BreaksInner, IsO
 
 use crate::bounds::is_below;
 use crate::{Form, Shape, ascends, compare, key_of};
-use page_face::{Page, Rule};
+use page_face::{Page, Rule, are_zero};
 use std::cmp::Ordering;
-
-// The greater of two bytes, which is zero if both are.
-fn greater(one: u8, other: u8) -> u8
-    ensures { (result == 0) ≡ ((one == 0) && (other == 0)) }
-{
-    if other > one { other } else { one }
-}
-
-// Whether all bytes are zero. The greatest of all of them is taken, with no early end, so that many are compared at once: most
-// pages have hundreds of spare bytes, which are zero.
-fn are_zero(bytes: &[u8]) -> bool
-    ensures { result ≡ is_clear bytes.now }
-{
-    let mut greatest = 0;
-    for byte in bytes {
-        greatest = greater(greatest, *byte);
-    }
-    greatest == 0
-}
 
 // Whether a key is the least one, all of whose bytes are zero.
 fn is_least(key: &[u8]) -> bool
@@ -40,9 +20,9 @@ fn is_least(key: &[u8]) -> bool
     are_zero(key)
 }
 
+/// Returns the number of cells in a page's header.
 #[tactic(auto, unfolding(page_face::specs::Nodes::count_of))]
-// The number of cells in a page's header.
-fn count(page: &Page) -> usize
+pub fn count(page: &Page) -> usize
     ensures is { result ≡ count_of page.now }
     ensures small { result < 65536 }
 {

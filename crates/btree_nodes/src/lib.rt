@@ -30,14 +30,14 @@ mod store;
 mod writing;
 
 pub use bounds::{child_at, is_below, lower, upper};
-pub use check::{check_inner, check_leaf, half, least_at, level, root_least};
+pub use check::{check_inner, check_leaf, count, half, least_at, level, root_least};
 pub use form::{Form, Shape};
 pub use key::{body, compare, key_of, place};
 pub use locating::{Leaf, locate};
 pub use narrowing::Bounds;
 pub use node::{Found, damaged, find_place};
 pub use order::ascends;
-pub use recheck::{count, seal_of};
-pub use sealed::{inner_count, leaf_count, place_in, row_in};
-pub use store::{store_one, store_two};
+pub use recheck::seal_of;
+pub use sealed::{copy_value, inner_count, leaf_count, place_in, row_in};
+pub use store::store_one;
 pub use writing::{build, clear_key, copy_key, splice, write_at};

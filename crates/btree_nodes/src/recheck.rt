@@ -9,7 +9,7 @@ ghost use Rattle.btree_nodes.specs.Bounds.{upper_of};
 ghost use Rattle.btree_nodes.specs.Damages.{BreaksLeaf, BreaksInner, IsOrdered};
 ghost use Rattle.page_face.specs.Sound.{IsSound};
 
-use crate::{Form, check_inner, check_leaf, compare, is_below, key_of};
+use crate::{Form, check_inner, check_leaf, compare, count, is_below, key_of};
 use page_face::{Page, Rule, Seal};
 use std::cmp::Ordering;
 
@@ -23,14 +23,6 @@ pub fn seal_of(form: Form, level: u8) -> Seal
         value: form.value,
         level,
     }
-}
-
-/// The number of cells in a page's header.
-#[tactic(auto, unfolding(page_face::specs::Nodes::count_of))]
-pub fn count(page: &Page) -> usize
-    ensures { result ≡ count_of page.now }
-{
-    u16::from_be_bytes([page[2], page[3]]) as usize
 }
 
 // Whether the rows of a leaf, whose keys ascend, keep to the bounds. Looks at the first and the last one.

@@ -84,8 +84,8 @@ pub fn inner_count<P: Pages>(
     }
 }
 
-// The value of the row at this place.
-fn copy_value(page: &Page, form: Form, at: usize, value: &mut [u8])
+/// Copies the value of the row at this place of a leaf into `value`.
+pub fn copy_value(page: &Page, form: Form, at: usize, value: &mut [u8])
     requires value { length value.old ≡ form.value }
     requires fits { 16 + (form.key + form.value) * at + (form.key + form.value) ≤ 4096 }
     ensures { value.new ≡ drop form.key (take (form.key + form.value) (drop (16 + (form.key + form.value) * at) page.now)) }

@@ -18,7 +18,7 @@ use crate::filtering::may_anchor;
 use crate::gathering::gather;
 use crate::search::least_choice;
 use node_filter::Ids;
-use node_inverted::Tree;
+use node_rows::Tree;
 use page_face::{PageFault, Pages};
 use place_values::{Chosen, Pick};
 use spatial_base::Point;

@@ -15,7 +15,7 @@ use crate::nearest::NEAREST;
 use crate::picks::picks_from;
 use boolean_queries::range;
 use node_filter::Ids;
-use node_inverted::Tree;
+use node_rows::Tree;
 use page_face::{PageFault, Pages};
 use place_values::{Expr, Pick};
 use spatial_base::Point;

@@ -10,21 +10,8 @@ ghost use Rattle.collective_query.specs.Choices.{IsChoice};
 ghost use Rattle.collective_query.specs.Fronts.{Completes};
 ghost use Rattle.collective_query.specs.Picks.{AreNear, AreMeasured};
 
-use place_values::Pick;
-use spatial_base::{Point, dist};
+use place_values::{Pick, farthest_of};
 use std::alloc::AllocError;
-
-/// Returns the greatest distance from a point to a pick.
-pub(crate) fn farthest_of(point: &Point, picks: &[Pick]) -> u64
-    ensures value { result ≡ farthest point.now picks.now }
-    ensures far { result ≤ 4024922359 }
-{
-    let mut most = 0;
-    for pick in picks {
-        most = most.max(dist(point, &pick.point));
-    }
-    most
-}
 
 // Whether `front` with a pick added costs less than `bound`. `far` is the greatest distance to a pick of `front` and `wide` the greatest
 // one between two.

@@ -20,7 +20,7 @@ use crate::gathering::companions;
 use crate::joining::by_length;
 use crate::nearest::NEAREST;
 use node_filter::Ids;
-use node_inverted::Tree;
+use node_rows::Tree;
 use page_face::{PageFault, Pages};
 use place_values::Pick;
 use spatial_base::Point;

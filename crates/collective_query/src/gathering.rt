@@ -16,7 +16,7 @@ ghost use Rattle.collective_query.specs.TreePicks.{tree_picks, tree_lists, first
 use crate::candidates::{candidates, list_at};
 use crate::nearest::nearest_picks;
 use node_filter::Ids;
-use node_inverted::Tree;
+use node_rows::Tree;
 use page_face::{PageFault, Pages};
 use place_values::Pick;
 use spatial_base::Point;

@@ -10,8 +10,8 @@ ghost use Rattle.place_values.specs.Search.{lists_in};
 ghost use Rattle.collective_query.specs.Fronts.{Completes, IsNext, HasLeastKeys};
 ghost use Rattle.collective_query.specs.Picks.{AreNear, AreMeasured};
 
-use crate::costing::{farthest_of, least_cost};
-use place_values::Pick;
+use crate::costing::least_cost;
+use place_values::{Pick, farthest_of};
 use std::alloc::AllocError;
 use std::cmp::Ordering;
 

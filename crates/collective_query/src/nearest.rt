@@ -13,7 +13,7 @@ ghost use Rattle.collective_query.specs.TreePicks.{first_picks, first_lists};
 use crate::picks::picks_from;
 use boolean_queries::nearest;
 use node_filter::Ids;
-use node_inverted::Tree;
+use node_rows::Tree;
 use page_face::{PageFault, Pages};
 use place_values::{Expr, Pick};
 use spatial_base::Point;

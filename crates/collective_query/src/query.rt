@@ -16,11 +16,11 @@ ghost use Rattle.collective_query.specs.Tried.{IsTaken, IsLeast};
 
 use crate::anchoring::{lead_among, search_by_anchor};
 use crate::nearest::nearest_each;
-use crate::search::{cost_of, least_choice};
+use crate::search::least_choice;
 use node_filter::Ids;
-use node_inverted::Tree;
+use node_rows::Tree;
 use page_face::{Damage, PageFault, Pages};
-use place_values::{Chosen, Pick, Picks};
+use place_values::{Chosen, Pick, Picks, cost_of_choice};
 use spatial_base::Point;
 use std::alloc::{AllocError, Global};
 use term_impacts::Word;
@@ -50,7 +50,7 @@ fn least_among(alloc: Global, at: &Point, lists: &[Vec<Pick>]) -> Result<Option<
         None => return Ok(None),
     };
     let mut best = Chosen {
-        cost: cost_of(at, &picks),
+        cost: cost_of_choice(at, &picks),
         picks: Picks::from_vec(picks),
     };
     least_choice(alloc, lists, &mut best)?;

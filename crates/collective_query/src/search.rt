@@ -1,55 +1,25 @@
 //! The choices of a pick for each word, and the search among them for the one that costs least.
 ghost use Rattle.std.specs.Prelude.{◌≡◌, ◌++◌, ◌∷◌, [], ◌≤◌, max, List, Vec, Some, OnOk};
 ghost use Rattle.std.specs.List.{AllByRecursion};
-ghost use Rattle.std.specs.Cmp.Lexicographic.{slice_cmp};
-ghost use Rattle.std.specs.Ordering.{nat_cmp, ordering_then};
 ghost use Rattle.std.specs.declared.alloc.Global.{Global};
 ghost use Rattle.spatial_base.specs.Point.{Position};
 ghost use Rattle.place_values.specs.declared.query.Pick.{Pick};
-ghost use Rattle.place_values.specs.Group.{product, diameter, choice_cost, pick_cmp, least_of};
+ghost use Rattle.place_values.specs.Group.{product, choice_cost, least_of};
 ghost use Rattle.place_values.specs.Search.{lists_in};
 ghost use Rattle.collective_query.specs.Picks.{AreNear, AreMeasured};
 
-use crate::costing::{farthest_of, least_cost};
+use crate::costing::least_cost;
 use crate::joining::{by_length, joined_lists};
 use crate::keys::least_keys;
-use place_values::{Chosen, Pick, Picks};
-use spatial_base::Point;
+use place_values::{Chosen, Pick, Picks, choice_order};
 use std::alloc::{AllocError, Global};
-use std::cmp::Ordering;
-
-// The greatest distance between two picks.
-fn diameter_of(picks: &[Pick]) -> u64
-    ensures value { result ≡ diameter picks.now }
-    ensures far { result ≤ 4024922359 }
-{
-    match picks.split_first() {
-        Some((pick, others)) => farthest_of(&pick.point, others).max(diameter_of(others)),
-        None => 0,
-    }
-}
-
-/// Returns what a choice costs: the greatest distance from the point to a pick, plus the greatest distance between two picks.
-pub(crate) fn cost_of(at: &Point, picks: &[Pick]) -> u64
-    ensures value { result ≡ choice_cost at.now picks.now }
-    ensures far { result ≤ 8049844718 }
-{
-    farthest_of(at, picks) + diameter_of(picks)
-}
-
-// A choice of this cost against the best one: by cost, and then by the keys in the words' order.
-fn against(picks: &[Pick], cost: u64, best: &Chosen) -> Ordering
-    ensures { result ≡ ordering_then (nat_cmp cost best.now.cost) (slice_cmp pick_cmp picks.now best.now.picks) }
-{
-    cost.cmp(&best.cost).then(picks.cmp(best.picks.as_slice()))
-}
 
 // Keeps a choice of this cost if it comes before the best one.
 fn offer(alloc: Global, picks: &[Pick], cost: u64, best: &mut Chosen) -> Result<(), AllocError>
     ensures cost { OnOk result (best.new.cost ≤ max cost best.old.cost) }
     ensures least { OnOk result ((at : Position) → cost ≡ choice_cost at picks.now → (tried : List (List Pick)) → Some best.old ≡ least_of at tried → Some best.new ≡ least_of at (tried ++ picks.now ∷ [])) }
 {
-    if against(picks, cost, &*best).is_lt() {
+    if choice_order(picks, cost, &*best).is_lt() {
         let picks = Picks::from_vec(Vec::from_slice(alloc, picks)?);
         *best = Chosen { cost, picks };
     }

@@ -6,15 +6,10 @@ ghost use Rattle.fixed_coords.specs.Fixed.{IsReading, IsReadingWithin};
 use crate::fault::NumberFault;
 use crate::number::number_of;
 use crate::size::size_of;
+use spatial_base::{LATITUDE_MAX, LONGITUDE_MAX};
 
 /// The most bytes that a spelling may have.
 const SPELLING_MAX: usize = 64;
-
-/// The greatest longitude, in units of 10^-7 degrees.
-const LONGITUDE_MAX: u64 = 1_800_000_000;
-
-/// The greatest latitude, in units of 10^-7 degrees.
-const LATITUDE_MAX: u64 = 900_000_000;
 
 /// Reads a JSON number times 10^7, rounded to the nearest whole number, halves away from zero.
 ///
@@ -58,7 +53,7 @@ pub fn reading_is_one()
 pub fn longitude(spelling: &str) -> Result<i32, NumberFault>
     ensures { IsReadingWithin 1_800_000_000 spelling.now result }
 {
-    within(spelling, LONGITUDE_MAX)
+    within(spelling, u64::from(LONGITUDE_MAX))
 }
 
 /// Reads a latitude in units of 10^-7 degrees, from -900,000,000 to 900,000,000.
@@ -67,7 +62,7 @@ pub fn longitude(spelling: &str) -> Result<i32, NumberFault>
 pub fn latitude(spelling: &str) -> Result<i32, NumberFault>
     ensures { IsReadingWithin 900_000_000 spelling.now result }
 {
-    within(spelling, LATITUDE_MAX)
+    within(spelling, u64::from(LATITUDE_MAX))
 }
 
 /// Reads a value of at most `most` units on either side of 0.

@@ -1,5 +1,5 @@
 -- Damage that a change or a look finds is of another rule than Head, which is page 0's own.
-use Rattle.std.proofs.Common.{◌≢◌, ⊎_elim, ℕ, ◌<◌, List, Option, Some, None, ap}
+use Rattle.std.proofs.Common.{◌≢◌, inr, ⊎_elim, ℕ, ◌<◌, List, Option, Some, None, ap}
 use Rattle.std.specs.Prelude.{MatchOption}
 use Rattle.page_face.specs.FreeList.{PageMap}
 use Rattle.page_face.specs.declared.fault.Damage.{Damage}
@@ -13,7 +13,7 @@ use Rattle.spatial_base.specs.Point.{Position}
 use Rattle.row_codec.specs.declared.stored.Stored.{Stored}
 use Rattle.store_tables.specs.declared.tables.Tables.{Tables}
 use Rattle.store_tables.specs.Holding.{texts_form}
-use Rattle.store_tables.proofs.Heads.{map-spares_head, number-spares_head, place-spares_head, take-spares_head, words-spares_head}
+use Rattle.store_tables.proofs.Heads.{map-spares_head, number-spares_head, place-spares_head, put-spares_head, words-spares_head}
 use Rattle.irtree_shape.specs.Regrown.{IsMissing}
 use Rattle.query_execution.specs.Damages.{IsAnswerHarm}
 use Rattle.irtree_engine.specs.Damages.{IsShownDamage}
@@ -23,7 +23,7 @@ pub tree-spares_head : (pages : PageMap) (count first rows : ℕ) (before after 
 tree-spares_head pages count first rows before after damage told counted harm e =
     ⊎_elim
     (λ node. ⊎_elim (λ alone. (rw e at alone)) (λ below. (let is = below.0 in cc)) node.breaks)
-    (λ change. ⊎_elim (λ map. map-spares_head rows_form pages count rows damage map.0 e) (λ take. take-spares_head pages count first damage told counted take e) change)
+    (λ change. ⊎_elim (λ map. map-spares_head rows_form pages count rows damage map.0 e) (λ take. put-spares_head rows_form pages count rows pages count first before after damage told counted (inr take) e) change)
     harm
 
 -- that of an entry that is missing

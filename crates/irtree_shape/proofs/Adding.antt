@@ -13,7 +13,7 @@ use Rattle.rtree_nodes.specs.Made.{Reads}
 use Rattle.node_rows.specs.Rows.{Bytes, bytes_in}
 use Rattle.node_rows.specs.Turns.{moved}
 use Rattle.node_rows.specs.Impacts.{raised}
-use Rattle.node_inverted.proofs.Moves.{moved-node, moved-to}
+use Rattle.node_rows.proofs.Moves.{moved-node, moved-to}
 use Rattle.irtree_shape.specs.Words.{joined, worded, words_on, AreBlank}
 use Rattle.irtree_shape.specs.Made.{nodes_in, IsBlank, IsReady, IsSplit, Makes}
 use Rattle.irtree_shape.specs.Steps.{Steps, IsPaired, bounding_child}

@@ -17,7 +17,7 @@ use Rattle.rtree_nodes.proofs.Raises.{two-sum, two-top, two-each}
 use Rattle.node_rows.specs.Rows.{bytes_in}
 use Rattle.node_rows.specs.Impacts.{refreshed}
 use Rattle.node_rows.proofs.Impacts.{top-at-same}
-use Rattle.node_inverted.proofs.Refreshes.{refreshed-here, refreshed-beside}
+use Rattle.node_rows.proofs.Refreshes.{refreshed-here, refreshed-beside}
 use Rattle.irtree_shape.specs.Words.{joined, joined_item, words_on}
 use Rattle.irtree_shape.specs.Stock.{Moves}
 use Rattle.irtree_shape.specs.Steps.{Steps, Takes, bounding_child}

@@ -7,7 +7,7 @@ use Rattle.rtree_nodes.specs.Slots.{Item, NodeMap, tops}
 use Rattle.rtree_nodes.specs.Made.{Reads}
 use Rattle.node_rows.specs.Rows.{Bytes, bytes_in}
 use Rattle.node_rows.specs.Impacts.{impact_in, top_at}
-use Rattle.node_inverted.proofs.Refreshes.{refreshed-here, refreshed-beside}
+use Rattle.node_rows.proofs.Refreshes.{refreshed-here, refreshed-beside}
 use Rattle.irtree_shape.specs.Words.{worded, joined_item}
 use Rattle.irtree_shape.specs.Steps.{bounding_child, relinked}
 use Rattle.irtree_shape.specs.Made.{nodes_in, IsBlank}

@@ -8,9 +8,9 @@ use Rattle.rtree_nodes.proofs.Amounts.{same_or}
 use Rattle.node_rows.specs.Rows.{Bytes, bytes_in}
 use Rattle.node_rows.specs.Turns.{Turns}
 use Rattle.node_rows.specs.Impacts.{impact_in, top_at, raised, refreshed}
-use Rattle.node_inverted.specs.Refreshing.{on_words}
+use Rattle.node_rows.specs.Refreshing.{on_words}
 use Rattle.node_rows.proofs.Impacts.{top-at-same}
-use Rattle.node_inverted.proofs.Refreshes.{refreshed-here, refreshed-elsewhere, refreshed-beside, renewed-all}
+use Rattle.node_rows.proofs.Refreshes.{refreshed-here, refreshed-elsewhere, refreshed-beside, renewed-all}
 use Rattle.node_rows.proofs.Turned.{turns-as, turns-further}
 use Rattle.irtree_shape.specs.Stock.{IsSupplied}
 use Rattle.irtree_shape.specs.Steps.{Steps, relinked}

@@ -5,9 +5,9 @@ use Rattle.page_face.specs.FreeList.{PageMap}
 use Rattle.node_rows.specs.Rows.{bytes_in}
 use Rattle.node_rows.specs.Turns.{HasNone}
 use Rattle.node_rows.specs.Impacts.{impact_at, impact_in, top_at, refreshed}
-use Rattle.node_inverted.specs.Refreshing.{is_named}
+use Rattle.node_rows.specs.Refreshing.{is_named}
 use Rattle.node_rows.proofs.Impacts.{top-clear}
-use Rattle.node_inverted.proofs.Refreshes.{refreshed-here, refreshed-beside}
+use Rattle.node_rows.proofs.Refreshes.{refreshed-here, refreshed-beside}
 use Rattle.rtree_nodes.specs.Slots.{Item, Slots, got, tops}
 use Rattle.rtree_nodes.specs.Trees.{reach_of}
 use Rattle.rtree_nodes.specs.Made.{Reads}

@@ -9,8 +9,8 @@ use Rattle.rtree_nodes.specs.Stock.{View, view, plain, spare_in}
 use Rattle.node_rows.specs.Rows.{Bytes, bytes_in, only}
 use Rattle.node_rows.specs.Turns.{Turns, moved}
 use Rattle.node_rows.specs.Impacts.{raised, refreshed}
-use Rattle.node_inverted.proofs.Moves.{moved-other}
-use Rattle.node_inverted.proofs.Refreshes.{refreshed-elsewhere}
+use Rattle.node_rows.proofs.Moves.{moved-other}
+use Rattle.node_rows.proofs.Refreshes.{refreshed-elsewhere}
 use Rattle.node_rows.proofs.Turned.{turns-as, turns-further}
 use Rattle.irtree_shape.specs.Stock.{IsSupplied}
 use Rattle.irtree_shape.specs.Steps.{Steps, Takes, IsPaired}

@@ -11,7 +11,7 @@ use Rattle.rtree_nodes.proofs.Amounts.{same_or, with_slot-same, with_slot-other,
 use Rattle.node_rows.specs.Rows.{Bytes}
 use Rattle.node_rows.specs.Turns.{moved}
 use Rattle.node_rows.specs.Impacts.{raised, top_at}
-use Rattle.node_inverted.proofs.Moves.{moved-node, moved-to}
+use Rattle.node_rows.proofs.Moves.{moved-node, moved-to}
 use Rattle.irtree_shape.specs.Words.{worded, joined_item, words_on, joined, AreBlank}
 use Rattle.rtree_nodes.proofs.Entries.{same_number}
 

@@ -1,20 +1,11 @@
 // The last line of a make.
 ghost use Rattle.std.specs.Prelude.{◌++◌, decimal};
-ghost use Rattle.run_outcome.specs.Written.{Adds};
+ghost use Rattle.query_replies.specs.Written.{Adds};
 ghost use Rattle.load_run.specs.Making.{made_line};
 
 use crate::found::Found;
-use itoa::Buffer;
-use run_outcome::{write_bytes, write_number};
+use query_replies::{write_bytes, write_number, write_wide};
 use spatial_base::Memory;
-
-// Appends a number in decimal digits.
-fn write_sum(n: u128, out: &mut Vec<u8>) -> Result<(), Memory>
-    ensures { Adds result out.old.items (decimal n) out.new.items }
-{
-    let mut buffer = Buffer::new();
-    write_bytes(buffer.format(n).as_bytes(), out)
-}
 
 // Appends a name and a number.
 fn write_named(name: &[u8], n: u32, out: &mut Vec<u8>) -> Result<(), Memory>
@@ -38,6 +29,6 @@ pub(crate) fn write_made(
     write_named(b" places ", queries, &mut *out)?;
     write_named(b" queries ", found.hits, &mut *out)?;
     write_bytes(b" hits sum ", &mut *out)?;
-    write_sum(found.cost, &mut *out)?;
+    write_wide(found.cost, &mut *out)?;
     write_bytes(b"\n", out)
 }

@@ -1,10 +1,10 @@
 // The lines that a load prints.
 ghost use Rattle.std.specs.Prelude.{◌≡◌};
 ghost use Rattle.run_outcome.specs.Load.{reason_text, skip_line, stored_line, loaded_line};
-ghost use Rattle.run_outcome.specs.Written.{Adds};
+ghost use Rattle.query_replies.specs.Written.{Adds};
 
 use geojson_points::SkipReason;
-use run_outcome::{write_bytes, write_number};
+use query_replies::{write_bytes, write_number};
 use spatial_base::Memory;
 
 // The word for a reason.

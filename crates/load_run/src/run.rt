@@ -15,14 +15,11 @@ use disk_model::{Source, Station};
 use geojson_points::{LoadFault, Taken, take};
 use irtree_engine::Engine;
 use json_spelled::JsonFault;
-use run_outcome::{Ended, InputFault, LimitFault};
+use run_outcome::{Ended, InputFault, LimitFault, PIECE_LEN};
 use std::alloc::Global;
 
 /// The greatest number of bytes of the text of a load.
 pub const LOAD_MAX: usize = 67_108_864;
-
-// How many bytes a read takes at most.
-const PIECE_LEN: usize = 65_536;
 
 // The whole input, read to its end.
 fn read_text<S: Source>(alloc: Global, source: &mut S) -> Result<Vec<u8>, Ended>

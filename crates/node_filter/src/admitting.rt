@@ -10,7 +10,7 @@ ghost use Rattle.node_filter.specs.Rows.{LooksAtRows};
 
 use crate::Ids;
 use crate::masks::above_zero;
-use node_inverted::{Tree, row};
+use node_rows::{Tree, row};
 use page_face::{PageFault, Pages};
 use place_values::Expr;
 use term_impacts::Word;

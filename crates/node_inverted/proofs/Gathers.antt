@@ -12,13 +12,13 @@ use Rattle.node_rows.specs.Copies.{IsCopy}
 use Rattle.node_inverted.specs.Drafts.{with_rows}
 use Rattle.node_inverted.specs.Gathers.{IsDropping, IsMoving, IsRenewing}
 use Rattle.node_rows.specs.Impacts.{refreshed, with_byte}
-use Rattle.node_inverted.specs.Refreshing.{on_words}
+use Rattle.node_rows.specs.Refreshing.{on_words}
 use Rattle.node_rows.specs.declared.leaf.LeafCopy.{LeafCopy}
 use Rattle.node_inverted.specs.declared.taking.NodeRow.{NodeRow}
 use Rattle.node_rows.proofs.Ascents.{until-left}
 use Rattle.node_rows.proofs.Bytes.{with-here, with-elsewhere, with-another}
 use Rattle.node_rows.proofs.Impacts.{byte-here, byte-elsewhere, byte-another, byte-beside}
-use Rattle.node_inverted.proofs.Refreshes.{away, child-same, refreshed-beside}
+use Rattle.node_rows.proofs.Refreshes.{away, child-same, refreshed-beside}
 use Rattle.node_rows.proofs.Turned.{turns-as, turns-further}
 
 -- bytes that are the same everywhere

@@ -8,7 +8,7 @@ use Rattle.node_rows.specs.Ascents.{until}
 use Rattle.node_rows.specs.Copies.{IsCopy}
 use Rattle.node_inverted.specs.Drafts.{with_rows}
 use Rattle.node_rows.specs.Impacts.{refreshed, top_at}
-use Rattle.node_inverted.specs.Refreshing.{on_words}
+use Rattle.node_rows.specs.Refreshing.{on_words}
 use Rattle.node_rows.specs.declared.leaf.LeafCopy.{LeafCopy}
 use Rattle.node_inverted.specs.declared.taking.NodeRow.{NodeRow}
 

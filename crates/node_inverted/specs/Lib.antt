@@ -1,4 +1,3 @@
-pub mod Refreshing
 pub mod Lifts
 pub mod Drafts
 pub mod Gathers

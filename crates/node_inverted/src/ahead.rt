@@ -9,7 +9,7 @@ ghost use Rattle.node_rows.specs.Damages.{IsRowsHarm};
 ghost use Rattle.node_rows.specs.Rows.{Bytes, bytes_in};
 ghost use Rattle.node_rows.specs.Turns.{Next};
 ghost use Rattle.node_rows.specs.Copies.{IsCopy};
-ghost use Rattle.node_inverted.specs.Refreshing.{IsFrom, byte_ahead, is_due_at, lesser_of, word_of};
+ghost use Rattle.node_rows.specs.Refreshing.{IsFrom, byte_ahead, is_due_at, lesser_of, word_of};
 
 use node_rows::{LeafCopy, Tree, after, clear_row, next_in};
 use page_face::{Damage, PageFault, Pages};

@@ -13,7 +13,7 @@ ghost use Rattle.node_rows.specs.Copies.{IsCopy};
 ghost use Rattle.node_rows.specs.Impacts.{refreshed, with_byte};
 ghost use Rattle.node_inverted.specs.Drafts.{with_rows};
 ghost use Rattle.node_inverted.specs.Gathers.{IsRenewing};
-ghost use Rattle.node_inverted.specs.Refreshing.{IsBounded, IsFrom, IsRefreshing, lesser_of, on_words, word_of};
+ghost use Rattle.node_rows.specs.Refreshing.{IsBounded, IsFrom, IsRefreshing, lesser_of, on_words, word_of};
 
 use crate::ahead::{Ahead, next_word, pass, row_ahead};
 use crate::drafting::set_rows;

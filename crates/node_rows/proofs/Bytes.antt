@@ -82,6 +82,10 @@ module _ (rows after : List Row) (node word : ℕ) (value : List ℕ) (small : w
     ]
   ]
 
+-- the first row from a key on isn't all zeros, where none is
+pub first-filled : (low high key : ℕ) (row : Row) (rows : List Row) → IsWithin low high rows → AreFilled rows → first_from key rows ≡ Some row → are_zero row.1 ≡ false
+first-filled low high key row rows within filled is = subst IsFilled (first-some low high key row rows within is).is (filled row.0)
+
 -- the next row of a node
 module _ (rows : List Row) (low high node from : ℕ) (small : from < 2 ^ 64) (within : IsWithin low high rows) where
   pub next-none : first_from (key_of node from) rows ≡ None → (v i : ℕ) → from ≤ v → bytes_of rows node v i ≡ 0

@@ -8,12 +8,13 @@ use Rattle.btree_nodes.specs.Nodes.{IsLeaf, rows_in}
 use Rattle.btree_nodes.specs.Rows.{Row, IsWithin, lookup, first_from}
 use Rattle.btree_nodes.specs.Tree.{map_rows}
 use Rattle.btree_nodes.proofs.Checks.{upper-some}
+use Rattle.btree_nodes.proofs.Spans.{lookup-above, lookup-below}
 use Rattle.btree_nodes.specs.Leaves.{IsLeafOf}
 use Rattle.paged_map.proofs.Leaves.{lookup-leaf}
 use Rattle.paged_map.proofs.Maps.{map-none}
 use Rattle.rtree_nodes.specs.Stock.{rows_form}
 use Rattle.rtree_nodes.proofs.Heights.{under_or}
-use Rattle.node_rows.specs.Rows.{Bytes, byte_in, bytes_in, bytes_of, key_of}
+use Rattle.node_rows.specs.Rows.{AreFilled, Bytes, IsFilled, byte_in, bytes_in, bytes_of, key_of}
 use Rattle.node_rows.specs.Turns.{IsNext, Next}
 use Rattle.node_rows.specs.Copies.{HasRows, IsBefore}
 use Rattle.node_rows.specs.declared.leaf.LeafCopy.{LeafCopy}
@@ -96,6 +97,21 @@ filled form e pages root node from least page low high b bytes next is sound wit
         | inr s ↦ bytes-large (rows_in rows_form bytes) node w i s ∙ sym (bytes-large (map_rows rows_form pages root) node w i s) ∙ same w i l
       ];
     }
+
+-- no row of a leaf is all zeros, where none of the map is
+pub leaf-filled : (form : Form) → form ≡ rows_form → (pages : PageMap) (root least page low high : ℕ) (bytes : List ℕ) → bytes ≡ pages page → IsWithin low high (rows_in form bytes) → IsLeafOf form pages root least page low high
+    → AreFilled (map_rows rows_form pages root) → AreFilled (rows_in rows_form bytes)
+leaf-filled form e pages root least page low high bytes is within leaf filled key =
+    let leaf' : IsLeafOf rows_form pages root least page low high = subst (λ (f : Form). IsLeafOf f pages root least page low high) e leaf in
+    let within' : IsWithin low high (rows_in rows_form bytes) = subst (λ (f : Form). IsWithin low high (rows_in f bytes)) e within in
+    let rows : List Row = rows_in rows_form bytes in
+    elim (under_or key low) [
+      | inl below ↦ subst IsFilled (sym (lookup-below low high key rows within' below)) tt
+      | inr from ↦ elim (under_or key high) [
+        | inl to ↦ subst IsFilled (lookup-leaf rows_form pages root least page low high leaf' key from to ∙ sym (ap (λ (x : List ℕ). lookup key (rows_in rows_form x)) is)) (filled key)
+        | inr past ↦ subst IsFilled (sym (lookup-above low high key rows within' past)) tt
+      ]
+    ]
 
 -- the first row from a word on is that from an earlier one on, if nothing lies between
 pub next-on : (b d : Bytes) (node from at : ℕ) (o : Option (ℕ × List ℕ)) → from ≤ at → ((w i : ℕ) → at ≤ w → d node w i ≡ b node w i) → ((w i : ℕ) → from ≤ w → w < at → b node w i ≡ 0) → Next d node at o → Next b node from o

@@ -1,21 +1,23 @@
 -- What a look-up in the rows' map finds.
-use Rattle.std.proofs.Common.{◌≡◌, ℕ, ◌+◌, ◌*◌, ◌^◌, ◌<◌, ◌≤◌, Option, Some, None, List, arith, sym, ap, subst, ◌∙◌}
+use Rattle.std.proofs.Common.{◌≡◌, ℕ, ◌+◌, ◌*◌, ◌^◌, ◌<◌, ◌≤◌, Option, Some, None, List, false, arith, sym, ap, subst, ◌∙◌}
 use Rattle.std.specs.Prelude.{IfSome}
-use Rattle.page_face.specs.FreeList.{PageMap}
+use Rattle.page_face.specs.FreeList.{PageMap, are_zero}
 use Rattle.btree_nodes.specs.Rows.{Row, lookup, first_from}
 use Rattle.btree_nodes.specs.Tree.{IsMap, map_rows, map_uses}
 use Rattle.paged_map.specs.Answers.{HoldsRow, Locates}
 use Rattle.rtree_nodes.specs.Stock.{rows_form}
-use Rattle.node_rows.specs.Rows.{HasBytes, byte_in, bytes_in, key_of}
+use Rattle.node_rows.specs.Rows.{AreFilled, HasBytes, byte_in, bytes_in, key_of}
 use Rattle.node_rows.specs.Turns.{IsNext, Next}
-use Rattle.node_rows.proofs.Bytes.{bytes-small, next-away, next-here, next-none}
+use Rattle.node_rows.proofs.Bytes.{bytes-small, first-filled, next-away, next-here, next-none}
 use Rattle.node_rows.proofs.Told.{map-within}
 
-located-none : {X : Type 0} (wanted : Option X) (found : X) (Holds : ℕ → Type 0) (at : Option ℕ) → at ≡ None → Locates wanted found Holds at → wanted ≡ None
+-- no page is named: what is wanted isn't there
+pub located-none : {X : Type 0} (wanted : Option X) (found : X) (Holds : ℕ → Type 0) (at : Option ℕ) → at ≡ None → Locates wanted found Holds at → wanted ≡ None
 located-none wanted found Holds None e there = there
 located-none wanted found Holds (Some page) e there = absurd (cc)
 
-located-some : {X : Type 0} (wanted : Option X) (found : X) (Holds : ℕ → Type 0) (at : Option ℕ) (page : ℕ) → at ≡ Some page → Locates wanted found Holds at → wanted ≡ Some found
+-- a page is named: what is wanted is what was found
+pub located-some : {X : Type 0} (wanted : Option X) (found : X) (Holds : ℕ → Type 0) (at : Option ℕ) (page : ℕ) → at ≡ Some page → Locates wanted found Holds at → wanted ≡ Some found
 located-some wanted found Holds None page e there = absurd (cc)
 located-some wanted found Holds (Some leaf) page e there = there.0
 
@@ -52,7 +54,11 @@ module _ (pages : PageMap) (root node from key : ℕ) (small : from < 2 ^ 64) (k
     pub next-found : n ≡ node → IsNext (bytes_in pages root) node from w row.1
     next-found same = next-here (map_rows rows_form pages root) 0 (256 ^ rows_form.key) node from small (map-within rows_form pages root map) n w row.1 fits first-is same
 
-    -- or another node's
+    -- it isn't all zeros, where no row is
+    pub found-filled : AreFilled (map_rows rows_form pages root) → are_zero row.1 ≡ false
+    found-filled filled = first-filled 0 (256 ^ rows_form.key) (key_of node from) (key_of n w, row.1) (map_rows rows_form pages root) (map-within rows_form pages root map) filled first-is
+
+    -- the row that follows is another node's
     pub next-passed : (n ≡ node → ⊥) → Next (bytes_in pages root) node from None
     next-passed other = next-away (map_rows rows_form pages root) 0 (256 ^ rows_form.key) node from small (map-within rows_form pages root map) n w row.1 fits first-is other
 

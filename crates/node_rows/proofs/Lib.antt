@@ -12,3 +12,5 @@ pub mod Counts
 pub mod Copies
 pub mod Known
 pub mod Harms
+pub mod Moves
+pub mod Refreshes

@@ -4,7 +4,7 @@ use Rattle.page_face.specs.Nodes.{count_of}
 use Rattle.btree_nodes.specs.Nodes.{rows_in}
 use Rattle.btree_nodes.specs.Rows.{IsWithin}
 use Rattle.rtree_nodes.specs.Stock.{rows_form}
-use Rattle.node_rows.specs.Rows.{Bytes, bytes_of}
+use Rattle.node_rows.specs.Rows.{AreFilled, Bytes, bytes_of}
 use Rattle.node_rows.specs.Turns.{Next}
 use Rattle.node_rows.specs.declared.leaf.LeafCopy.{LeafCopy}
 
@@ -24,6 +24,10 @@ pub record HasRows (b : Bytes) (node : ℕ) (copy : LeafCopy) : Type 0 where
 -- the same, unless the copy has no word
 abbrev pub IsCopy : Bytes → ℕ → LeafCopy → Type 0
 IsCopy b node copy = IsBefore copy.from copy.next → HasRows b node copy
+
+-- no row of the copied leaf is all zeros, unless the copy has no word
+abbrev pub IsFilledCopy : LeafCopy → Type 0
+IsFilledCopy copy = IsBefore copy.from copy.next → AreFilled (rows_in rows_form copy.page)
 
 -- the first row of a node from a word on, or none before the end of a copy's words
 abbrev pub NextBefore : Bytes → ℕ → ℕ → Option ℕ → Option (ℕ × List ℕ) → Type 0

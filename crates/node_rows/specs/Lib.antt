@@ -8,3 +8,4 @@ pub mod Counts
 pub mod Copies
 pub mod Known
 pub mod Lookups
+pub mod Refreshing

@@ -1,7 +1,7 @@
 -- What calls on the rows of words do, in bytes.
-use Rattle.std.specs.Prelude.{◌≡◌, ℕ, ◌^◌, ◌<◌, ◌≤◌, List, Option, Some, None, ◌==◌, ◌&&◌, if◌then◌else◌, slice_index}
+use Rattle.std.specs.Prelude.{◌≡◌, ℕ, ◌^◌, ◌<◌, ◌≤◌, List, Option, Some, None, ◌==◌, ◌&&◌, if◌then◌else◌, slice_index, false}
 use Rattle.std.specs.Int.{bit_at}
-use Rattle.page_face.specs.FreeList.{PageMap}
+use Rattle.page_face.specs.FreeList.{PageMap, are_zero}
 use Rattle.btree_nodes.specs.Supply.{View, view, Moves}
 use Rattle.btree_nodes.specs.Tree.{map_uses}
 use Rattle.rtree_nodes.specs.Stock.{rows_form}
@@ -44,3 +44,8 @@ pub record IsNext (b : Bytes) (node from word : ℕ) (row : List ℕ) : Type 0 w
 abbrev pub Next : Bytes → ℕ → ℕ → Option (ℕ × List ℕ) → Type 0
 Next b node from None = (w i : ℕ) → from ≤ w → b node w i ≡ 0
 Next b node from (Some found) = IsNext b node from found.0 found.1
+
+-- the row that is given, if any, isn't all zeros
+abbrev pub GivesFilled : Option (ℕ × List ℕ) → Type 0
+GivesFilled None = Unit {0}
+GivesFilled (Some found) = are_zero found.1 ≡ false

@@ -7,13 +7,13 @@ ghost use Rattle.btree_nodes.specs.Bounds.{upper_of};
 ghost use Rattle.btree_nodes.specs.Damages.{AreReadable, AskedSince, AsksOnly};
 ghost use Rattle.btree_nodes.specs.Nodes.{rows_in};
 ghost use Rattle.btree_nodes.specs.Rows.{IsWithin, first_from};
-ghost use Rattle.btree_nodes.specs.Tree.{IsMap, map_uses};
+ghost use Rattle.btree_nodes.specs.Tree.{IsMap, map_rows, map_uses};
 ghost use Rattle.paged_map.specs.Maps.{AreCounted, IsMapDamaged};
 ghost use Rattle.rtree_nodes.specs.Stock.{rows_form};
-ghost use Rattle.node_rows.specs.Rows.{Bytes, bytes_in, key_of as key_number};
-ghost use Rattle.node_rows.specs.Turns.{Next};
+ghost use Rattle.node_rows.specs.Rows.{AreFilled, Bytes, bytes_in, key_of as key_number};
+ghost use Rattle.node_rows.specs.Turns.{GivesFilled, Next};
 ghost use Rattle.node_rows.specs.Damages.{IsRowsDamage};
-ghost use Rattle.node_rows.specs.Copies.{IsBefore, IsCopy, NextBefore, NextOr};
+ghost use Rattle.node_rows.specs.Copies.{IsBefore, IsCopy, IsFilledCopy, NextBefore, NextOr};
 
 use crate::Tree;
 use crate::key::RowKey;
@@ -114,7 +114,8 @@ pub struct LeafCopy {
 impl LeafCopy {
     /// Returns the copy of no leaf: it has no word.
     pub fn none() -> LeafCopy
-        ensures { (b : Bytes) (node : ℕ) → IsCopy b node result }
+        ensures copy { (b : Bytes) (node : ℕ) → IsCopy b node result }
+        ensures filled { IsFilledCopy result }
     {
         LeafCopy {
             page: [0; 4096],
@@ -134,6 +135,7 @@ impl LeafCopy {
     // The first row of a node from one of the copy's words on, if the copy has one.
     fn first(&self, node: u32, from: u64) -> Option<(u64, [u8; 32])>
         ensures next { (b : Bytes) → IsCopy b node self.now → self.now.from ≤ from → IsBefore from self.now.next → NextBefore b node from self.now.next result }
+        ensures filled { (b : Bytes) → IsCopy b node self.now → IsFilledCopy self.now → self.now.from ≤ from → IsBefore from self.now.next → GivesFilled result }
         ensures onto { IfSome result (λ found. from ≤ found.0) }
     {
         let key = RowKey { node, number: from }.bytes();
@@ -159,6 +161,7 @@ impl LeafCopy {
     // before which there is none.
     fn seek(&self, node: u32, from: u64) -> Result<Option<(u64, [u8; 32])>, u64>
         ensures next { (b : Bytes) → IsCopy b node self.now → NextOr b node from result }
+        ensures filled { (b : Bytes) → IsCopy b node self.now → IsFilledCopy self.now → IfOk result GivesFilled }
         ensures onto { IfOk result (λ next. IfSome next (λ found. from ≤ found.0)) }
         ensures further { IfErr result (λ at. from ≤ at) }
     {
@@ -188,6 +191,7 @@ impl LeafCopy {
         requires root { 0 < tree.now.rows }
         ensures copy { (b : Bytes) → IsMap rows_form (P.pages pages.old) tree.now.rows → ((w i : ℕ) → from ≤ w → bytes_in (P.pages pages.old) tree.now.rows node w i ≡ b node w i)
             → OnOk result (IsCopy b node self.new) }
+        ensures filled { IsMap rows_form (P.pages pages.old) tree.now.rows → AreFilled (map_rows rows_form (P.pages pages.old) tree.now.rows) → OnOk result (IsFilledCopy self.new) }
         ensures no_false_damage { IsMap rows_form (P.pages pages.old) tree.now.rows → AreCounted (map_uses rows_form (P.pages pages.old) tree.now.rows) (P.count pages.old)
             → AreReadable (P.pages pages.old) (P.count pages.old) → (damage : Damage) → ¬ IsErrOf result (PageFault.Damaged damage) }
         ensures damaged { AreReadable (P.pages pages.old) (P.count pages.old) → (damage : Damage) → IsErrOf result (PageFault.Damaged damage)
@@ -225,6 +229,8 @@ fn next_filled<P: Pages>(
         → IfOk result (Next b node from) }
     ensures copy { (b : Bytes) → IsMap rows_form (P.pages pages.old) tree.now.rows → ((w i : ℕ) → from ≤ w → bytes_in (P.pages pages.old) tree.now.rows node w i ≡ b node w i)
         → OnOk result (IsCopy b node copy.new) }
+    ensures filled { IsMap rows_form (P.pages pages.old) tree.now.rows → AreFilled (map_rows rows_form (P.pages pages.old) tree.now.rows)
+        → OnOk result (IsFilledCopy copy.new) × IfOk result GivesFilled }
     ensures onto { IfOk result (λ next. IfSome next (λ found. from ≤ found.0)) }
     ensures no_false_damage { IsMap rows_form (P.pages pages.old) tree.now.rows → AreCounted (map_uses rows_form (P.pages pages.old) tree.now.rows) (P.count pages.old)
         → AreReadable (P.pages pages.old) (P.count pages.old) → (damage : Damage) → ¬ IsErrOf result (PageFault.Damaged damage) }
@@ -262,6 +268,10 @@ pub fn next_in<P: Pages>(
         → IsCopy b node copy.old → IfOk result (Next b node from) }
     ensures copy { (b : Bytes) → IsMap rows_form (P.pages pages.old) tree.now.rows → ((w i : ℕ) → from ≤ w → bytes_in (P.pages pages.old) tree.now.rows node w i ≡ b node w i)
         → IsCopy b node copy.old → OnOk result (IsCopy b node copy.new) }
+
+    // Where no row that is stored is all zeros, the row is none of zeros, so that it is stored, and none that is stored was passed over.
+    ensures filled { (b : Bytes) → IsMap rows_form (P.pages pages.old) tree.now.rows → AreFilled (map_rows rows_form (P.pages pages.old) tree.now.rows)
+        → IsCopy b node copy.old → IsFilledCopy copy.old → OnOk result (IsFilledCopy copy.new) × IfOk result GivesFilled }
     ensures onto { IfOk result (λ next. IfSome next (λ found. from ≤ found.0)) }
 
     // On a well-formed map whose pages are counted no page is damaged.

@@ -39,4 +39,4 @@ pub use roots::Tree;
 pub use rows::{find_row, row, set_found, set_row};
 pub use sharing::{rising, rows_at, shared_by};
 pub use slots::{clear_row, greater, greatest, is_clear, moving, put_byte, staying};
-pub use words::words_of;
+pub use words::{push_word, words_of};

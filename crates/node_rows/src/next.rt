@@ -2,11 +2,11 @@
 ghost use Rattle.std.specs.Prelude.{◌≤◌, IfOk, IfSome, IsErrOf};
 ghost use Rattle.page_face.specs.Calls.{Reads, FailsReading};
 ghost use Rattle.btree_nodes.specs.Damages.{AreReadable, AsksOnly};
-ghost use Rattle.btree_nodes.specs.Tree.{IsMap, map_uses};
+ghost use Rattle.btree_nodes.specs.Tree.{IsMap, map_rows, map_uses};
 ghost use Rattle.paged_map.specs.Maps.{AreCounted};
 ghost use Rattle.rtree_nodes.specs.Stock.{rows_form};
-ghost use Rattle.node_rows.specs.Rows.{bytes_in};
-ghost use Rattle.node_rows.specs.Turns.{Next};
+ghost use Rattle.node_rows.specs.Rows.{AreFilled, bytes_in};
+ghost use Rattle.node_rows.specs.Turns.{GivesFilled, Next};
 ghost use Rattle.node_rows.specs.Damages.{IsRowsDamage};
 ghost use Rattle.node_rows.specs.Lookups.{IsNextFound};
 
@@ -31,6 +31,7 @@ pub fn next_row<P: Pages>(
 ) -> Result<Option<(u64, [u8; 32])>, PageFault>
     ensures next { IsMap rows_form (P.pages pages.old) tree.now.rows
         → IfOk result (Next (bytes_in (P.pages pages.old) tree.now.rows) node from) }
+    ensures filled { IsMap rows_form (P.pages pages.old) tree.now.rows → AreFilled (map_rows rows_form (P.pages pages.old) tree.now.rows) → IfOk result GivesFilled }
     ensures onto { IfOk result (λ next. IfSome next (λ found. from ≤ found.0)) }
 
     // Each page on the ways kept the rules in its place. On any pages whose bytes are readable, the row is what their leaves have.

@@ -1,8 +1,9 @@
 //! The row of a node for a word.
-ghost use Rattle.std.specs.Prelude.{◌≡◌, ◌⊎◌, ℕ, List, IfOk, IfSome, OnOk, OnErr, IsErrOf};
+ghost use Rattle.std.specs.Prelude.{◌≡◌, ◌≢◌, ◌⊎◌, ℕ, List, Some, None, IfOk, IfSome, OnOk, OnErr, IsErrOf, false, if◌then◌else◌, is_some};
 ghost use Rattle.page_face.specs.Calls.{Reads, Changes, FailsReading, FailsChanging};
 ghost use Rattle.btree_nodes.specs.Damages.{AreReadable, AskedSince, AsksOnly, IsRefusedTake};
-ghost use Rattle.btree_nodes.specs.Rows.{put, without};
+ghost use Rattle.page_face.specs.FreeList.{are_zero};
+ghost use Rattle.btree_nodes.specs.Rows.{lookup, put, without};
 ghost use Rattle.btree_nodes.specs.Supply.{view};
 ghost use Rattle.btree_nodes.specs.Tree.{IsMap, map_rows, map_uses};
 ghost use Rattle.paged_map.specs.Maps.{AreCounted, HasBecome, IsKept, IsMapDamaged};
@@ -70,6 +71,8 @@ pub fn find_row<P: Pages>(
 ) -> Result<Option<RowSpot>, PageFault>
     ensures row { IsMap rows_form (P.pages pages.old) tree.now.rows
         → OnOk result (HasBytes row.new (bytes_in (P.pages pages.old) tree.now.rows node number)) }
+    ensures there { IsMap rows_form (P.pages pages.old) tree.now.rows
+        → IfOk result (λ found. lookup (key_of node number) (map_rows rows_form (P.pages pages.old) tree.now.rows) ≡ (if is_some found then Some row.new else None)) }
     ensures spot { IfOk result (λ found. IfSome found (IsSpot rows_form (P.pages pages.new) (P.count pages.new) tree.now.rows (P.looked pages.new) (key_of node number))) }
     ensures kept { AreReadable (P.pages pages.old) (P.count pages.old)
         → OnOk result (IsRowFound (P.pages pages.old) (P.count pages.old) tree.now.rows node number row.new) }
@@ -207,6 +210,8 @@ fn replace_row<P: Pages>(
         → OnOk result (HasBecome rows_form (view (P.pages pages.old) (P.count pages.old) (P.first pages.old) free) (P.pages pages.new) (P.count pages.new) (P.first pages.new) tree.now.rows tree.now.rows
         (put (key_of key.node key.number) row.now (map_rows rows_form (P.pages pages.old) tree.now.rows))) }
     ensures told { AreReadable (P.pages pages.old) (P.count pages.old) → OnOk result (AreReadable (P.pages pages.new) (P.count pages.new)) }
+    ensures alone { (n : ℕ) → n ≢ spot.now.page → P.pages pages.new n ≡ P.pages pages.old n }
+    ensures count { P.count pages.new ≡ P.count pages.old }
     ensures no_false_damage { (damage : Damage) → ¬ IsErrOf result (PageFault.Damaged damage) }
     ensures asked { P.asked pages.new ≡ P.asked pages.old }
     ensures fails { FailsChanging P.Pages pages.old pages.new result }
@@ -232,6 +237,10 @@ pub fn set_found<P: Pages>(
     ensures turns { (free : List ℕ) → IsRows (view (P.pages pages.old) (P.count pages.old) (P.first pages.old) free) tree.old.rows
         → OnOk result (Turns (view (P.pages pages.old) (P.count pages.old) (P.first pages.old) free) tree.old.rows (P.pages pages.new) (P.count pages.new) (P.first pages.new) tree.new.rows
         (with_row node number row.now (bytes_in (P.pages pages.old) tree.old.rows))) }
+
+    // If the row was found and isn't all zeros now, there is no way down, no page is taken, and only the row's leaf may change.
+    ensures alone { are_zero row.now ≡ false → IfSome spot (λ found. (tree.new ≡ tree.old) × (P.asked pages.new ≡ P.asked pages.old) × (P.count pages.new ≡ P.count pages.old)
+        × ((n : ℕ) → n ≢ found.page → P.pages pages.new n ≡ P.pages pages.old n)) }
     ensures root { tree.new.root ≡ tree.old.root }
     ensures kept { OnErr result (tree.new ≡ tree.old) }
     ensures told { AreReadable (P.pages pages.old) (P.count pages.old) → OnOk result (AreReadable (P.pages pages.new) (P.count pages.new)) }

@@ -19,12 +19,8 @@ use crate::slots::greatest;
 use page_face::{Damage, PageFault, Pages};
 use std::alloc::Global;
 
-/// Adds a word with its impact, unless that is 0.
-pub(crate) fn push_word(
-    words: &mut Vec<(u64, u8)>,
-    number: u64,
-    impact: u8,
-) -> Result<(), PageFault>
+/// Adds a word with its impact at the end of a list, unless the impact is 0.
+pub fn push_word(words: &mut Vec<(u64, u8)>, number: u64, impact: u8) -> Result<(), PageFault>
     ensures impacts { OnOk result ((w : ℕ) → impact_in words.new.items w ≡ max (impact_in words.old.items w) (impact_at (number, impact) w)) }
     ensures ordered { (at : ℕ) → AreWords 0 at words.old.items → at ≤ number → OnOk result (AreWords 0 (number + 1) words.new.items) }
     ensures items { 0 < impact → OnOk result (words.new.items ≡ words.old.items ++ (number, impact) ∷ []) }

@@ -1,21 +1,12 @@
 //! The pages of a store.
 ghost use Rattle.std.specs.Prelude.{◌≡◌, ◌≢◌, ◌↔◌, ◌≤◌, ◌+◌, ◌⊎◌, IsTrue, IfOk, IfErr, OnOk, OnErr, IsErrOf};
-ghost use Rattle.page_face.specs.Causes.{IsUncounted, Rose, unlinked as link};
+ghost use Rattle.page_face.specs.Causes.{IsUncounted, Rose};
 ghost use Rattle.page_store.specs.Store.{kept_of};
 
 use crate::store::Store;
 use buffer_pool::Place;
 use disk_model::Disk;
-use page_face::{Damage, Page, PageFault, Pages, Rule, Seal, free_next, free_page};
-
-fn unlinked(page: u32) -> PageFault
-    ensures { result ≡ PageFault.Damaged (link page) }
-{
-    PageFault::Damaged(Damage {
-        page,
-        rule: Rule::Link,
-    })
-}
+use page_face::{Damage, Page, PageFault, Pages, Seal, free_next, free_page, unlinked};
 
 fn is_uncounted(counted: u32, page: u32) -> bool
     ensures { IsTrue result ↔ IsUncounted counted page }

@@ -1,5 +1,6 @@
 -- Rows that were found, and are written where they stand.
-use Rattle.std.proofs.Common.{◌≡◌, ℕ, ◌+◌, ◌-◌, ◌*◌, ◌<◌, ◌≤◌, List, length, arith, refl, sym, ap, ◌∙◌, subst, Option, Some, None, Result, Ok, Err, OnOk, is_some}
+use Rattle.std.proofs.Common.{◌≡◌, ◌≢◌, ◌==◌, false, OnErr, ℕ, ◌+◌, ◌-◌, ◌*◌, ◌<◌, ◌≤◌, List, length, arith, refl, sym, ap, ◌∙◌, subst, Option, Some, None, Result, Ok, Err, OnOk, is_some}
+use Rattle.std.proofs.lemmas.Bool.Decides.{nat_tests}
 use Rattle.std.specs.Bool.{then_some}
 use Rattle.std.specs.Prelude.{IfSome}
 use Rattle.page_face.specs.FreeList.{PageMap, with_page}
@@ -28,6 +29,13 @@ leaf-found (Some spot) page h = ap Some h
 pub on_ok : {T E : Type 0} {A B : Type 0} (result : Result T E) → OnOk result A → (A → B) → OnOk result B
 on_ok (Ok x) a f = f a
 on_ok (Err e) a f = tt
+
+-- a page that was written, or not: all others stay
+pub others-stay : {T E : Type 0} (result : Result T E) (old new : PageMap) (page : ℕ) (bytes : List ℕ) → OnOk result (new ≡ with_page page bytes old) → OnErr result (new ≡ old) → (n : ℕ) → n ≢ page → new n ≡ old n
+others-stay (Ok x) old new page bytes written kept n other =
+    let test : (n == page) ≡ false = grind (arith, nat_tests) in
+    ap (λ (p : PageMap). p n) written ∙ rw test refl
+others-stay (Err e) old new page bytes written kept n other = ap (λ (p : PageMap). p n) kept
 
 -- a row that was found in a leaf that a map was searched for
 pub in-leaf : (form : Form) (p p' : PageMap) (root least page low high key : ℕ) (bytes : List ℕ) (spot : RowSpot) → p' ≡ p → spot.page ≡ page

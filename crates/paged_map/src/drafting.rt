@@ -1,5 +1,5 @@
 //! A leaf whose rows are changed in memory, and which is then written once.
-ghost use Rattle.std.specs.Prelude.{◌≡◌, ◌≢◌, ◌↔◌, ℕ, ◌+◌, ◌-◌, ◌*◌, ◌<◌, ◌≤◌, List, length, IsTrue, IsErrOf, OnOk, Some, None, false, if◌then◌else◌};
+ghost use Rattle.std.specs.Prelude.{◌≡◌, ◌≢◌, ◌↔◌, ℕ, ◌+◌, ◌-◌, ◌*◌, ◌<◌, ◌≤◌, List, length, IsTrue, IsErrOf, OnOk, OnErr, Some, None, false, if◌then◌else◌};
 ghost use Rattle.page_face.specs.Calls.{Changes, Reads, FailsReading};
 ghost use Rattle.page_face.specs.FreeList.{PageMap};
 ghost use Rattle.page_face.specs.Number.{number};
@@ -15,8 +15,7 @@ ghost use Rattle.paged_map.specs.Maps.{HasBecome, IsKept, IsMapDamaged};
 
 use crate::draft::LeafDraft;
 use crate::editing::{Cut, cut_of, fill_leaf, has_room, spot_of};
-use crate::finding::copy_value;
-use btree_nodes::{Bounds, compare, locate, seal_of};
+use btree_nodes::{Bounds, compare, copy_value, locate, seal_of};
 use page_face::{Damage, PageFault, Pages};
 use std::cmp::Ordering;
 
@@ -206,6 +205,7 @@ impl LeafDraft {
         ensures becomes { (root : ℕ) (rows : List Row) (free : List ℕ) → IsKept self.now.form (view (P.pages pages.old) (P.count pages.old) (P.first pages.old) free) root
             → Drafts (P.pages pages.old) root rows self.now
             → OnOk result (HasBecome self.now.form (view (P.pages pages.old) (P.count pages.old) (P.first pages.old) free) (P.pages pages.new) (P.count pages.new) (P.first pages.new) root root rows) }
+        ensures kept { OnErr result (P.pages pages.new ≡ P.pages pages.old) }
         ensures told { AreReadable (P.pages pages.old) (P.count pages.old) → OnOk result (AreReadable (P.pages pages.new) (P.count pages.new)) }
         ensures damaged { (damage : Damage) → result ≢ Err (PageFault.Damaged damage) }
         ensures asked { P.asked pages.new ≡ P.asked pages.old }

@@ -1,5 +1,5 @@
 //! A leaf that is written in its place with a row added, removed or replaced.
-ghost use Rattle.std.specs.Prelude.{◌≡◌, ◌≢◌, ◌↔◌, ◌+◌, ◌-◌, ◌*◌, ◌<◌, ◌≤◌, length, replicate, IsTrue, OnOk};
+ghost use Rattle.std.specs.Prelude.{◌≡◌, ◌≢◌, ◌↔◌, ◌+◌, ◌-◌, ◌*◌, ◌<◌, ◌≤◌, length, replicate, IsTrue, OnOk, OnErr};
 ghost use Rattle.page_face.specs.Calls.{Changes, FailsReading};
 ghost use Rattle.page_face.specs.Causes.{IsUncounted};
 ghost use Rattle.page_face.specs.Cells.{IsPlace, key_at};
@@ -10,9 +10,9 @@ ghost use Rattle.btree_nodes.specs.Build.{image};
 ghost use Rattle.btree_nodes.specs.Damages.{AreReadable};
 ghost use Rattle.paged_map.specs.Edits.{edited};
 
-use btree_nodes::{Form, compare, key_of, place, seal_of, splice, write_at};
+use btree_insert::gone_at;
+use btree_nodes::{Form, place, seal_of, splice, write_at};
 use page_face::{Damage, Page, PageFault, Pages};
-use std::cmp::Ordering;
 
 /// The place of a key in a leaf.
 #[derive(Clone, Copy, Debug, PartialEq, Eq)]
@@ -32,24 +32,6 @@ pub struct Cut {
     pub from: usize,
     /// The offset at which the cells after it begin.
     pub until: usize,
-}
-
-// 1 if the row at this place has the key, and 0 otherwise.
-#[tactic(auto, using(btree_nodes::proofs::Spots::fits_at))]
-fn gone_at(page: &Page, form: Form, count: usize, at: usize, key: &[u8]) -> usize
-    requires fits { 16 + (form.key + form.value) * count ≤ 4096 }
-    requires key { length key.now ≡ form.key }
-    ensures some { result ≡ 1 → (at < count) × (key_at form.key (form.key + form.value) page.now at ≡ number key.now) }
-    ensures none { (result ≡ 1 → ⊥) → at < count → key_at form.key (form.key + form.value) page.now at ≡ number key.now → ⊥ }
-    ensures small { result ≤ 1 }
-{
-    if at >= count {
-        return 0;
-    }
-    match compare(key_of(page, form.key, form.key + form.value, at), key) {
-        Ordering::Equal => 1,
-        _ => 0,
-    }
 }
 
 /// The place of a key in a leaf of `count` rows.
@@ -145,6 +127,7 @@ pub fn write_leaf<P: Pages>(
         (image form.map 1 0 count (edited cut.size cut.from cut.until first.now second.now (P.looked pages.old))) }
     ensures written { OnOk result (P.pages pages.new
         ≡ with_page page (image form.map 1 0 count (edited cut.size cut.from cut.until first.now second.now (P.looked pages.old))) (P.pages pages.old)) }
+    ensures kept { OnErr result (P.pages pages.new ≡ P.pages pages.old) }
     ensures told { AreReadable (P.pages pages.old) (P.count pages.old) → OnOk result (AreReadable (P.pages pages.new) (P.count pages.new)) }
 
     ensures damaged { (damage : Damage) → result ≢ Err (PageFault.Damaged damage) }

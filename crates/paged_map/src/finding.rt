@@ -17,7 +17,7 @@ ghost use Rattle.paged_map.specs.Spots.{IsRowAt, IsSpot, leaf_of};
 
 use crate::editing::spot_of;
 use crate::replacing::RowSpot;
-use btree_nodes::{Bounds, Form, Leaf, key_of, locate, place};
+use btree_nodes::{Bounds, Form, Leaf, copy_value, key_of, locate, place};
 use page_face::{Damage, Page, PageFault, Pages};
 
 // The spot of the row at a key in a leaf, if it has one. The row's value is then left in `value`.
@@ -90,16 +90,6 @@ fn copy_key(page: &Page, form: Form, at: usize, found: &mut [u8])
     ensures { found.new ≡ take form.key (drop (16 + (form.key + form.value) * at) page.now) }
 {
     found.copy_from_slice(key_of(page, form.key, form.key + form.value, at));
-}
-
-/// Copies the value of the row at this place into `value`.
-pub fn copy_value(page: &Page, form: Form, at: usize, value: &mut [u8])
-    requires value { length value.old ≡ form.value }
-    requires fits { 16 + (form.key + form.value) * at + (form.key + form.value) ≤ 4096 }
-    ensures { value.new ≡ drop form.key (take (form.key + form.value) (drop (16 + (form.key + form.value) * at) page.now)) }
-{
-    let from = 16 + (form.key + form.value) * at + form.key;
-    value.copy_from_slice(&page[from..from + form.value]);
 }
 
 // Whether a leaf of `count` rows has a row whose key isn't less. The key of the first one is then left in `found` and

@@ -295,8 +295,8 @@ impl<L: Layout> PagedMap<L> {
     /// The spot is that of the key, and its leaf is still the page looked at: no call has changed the pages since, or looked at
     /// another one.
     ///
-    /// Returns `Stopped`, or `Memory` if it runs out of memory; then pages may have changed, and the caller must abandon them. Looks at no
-    /// page except the leaf, with no way down. Writes only the leaf, and copies its bytes once, into the new page.
+    /// Returns `Stopped`, or `Memory` if it runs out of memory; then no page has changed. Looks at no page except the leaf, with no way
+    /// down. Writes only the leaf, and copies its bytes once, into the new page.
     pub fn replace<P: Pages>(
         &self,
         pages: &mut P,
@@ -310,6 +310,9 @@ impl<L: Layout> PagedMap<L> {
         ensures becomes { (free : List ℕ) → IsKept L.form (view (P.pages pages.old) (P.count pages.old) (P.first pages.old) free) self.now.root
             → OnOk result (HasBecome L.form (view (P.pages pages.old) (P.count pages.old) (P.first pages.old) free) (P.pages pages.new) (P.count pages.new) (P.first pages.new) self.now.root self.now.root
             (put (number key.now) value.now (map_rows L.form (P.pages pages.old) self.now.root))) }
+        // Only the leaf's page changes, and none after a refusal.
+        ensures alone { (n : ℕ) → n ≢ spot.now.page → P.pages pages.new n ≡ P.pages pages.old n }
+        ensures kept { OnErr result (P.pages pages.new ≡ P.pages pages.old) }
         ensures told { AreReadable (P.pages pages.old) (P.count pages.old) → OnOk result (AreReadable (P.pages pages.new) (P.count pages.new)) }
 
         // No page is damaged: the leaf was found sound.

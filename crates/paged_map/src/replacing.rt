@@ -1,5 +1,5 @@
 //! A row that was found, and whose value is replaced in its leaf.
-ghost use Rattle.std.specs.Prelude.{◌≡◌, ◌≢◌, ℕ, List, length, OnOk};
+ghost use Rattle.std.specs.Prelude.{◌≡◌, ◌≢◌, ℕ, List, length, OnOk, OnErr};
 ghost use Rattle.page_face.specs.Calls.{Changes, FailsReading};
 ghost use Rattle.page_face.specs.Number.{number};
 ghost use Rattle.btree_nodes.specs.Rows.{put};
@@ -40,6 +40,8 @@ pub fn replace_at<P: Pages>(
     ensures becomes { (root : ℕ) (free : List ℕ) → IsKept form (view (P.pages pages.old) (P.count pages.old) (P.first pages.old) free) root
         → IsInLeaf form (P.pages pages.old) root (P.looked pages.old) (number key.now) spot.now
         → OnOk result (HasBecome form (view (P.pages pages.old) (P.count pages.old) (P.first pages.old) free) (P.pages pages.new) (P.count pages.new) (P.first pages.new) root root (put (number key.now) value.now (map_rows form (P.pages pages.old) root))) }
+    ensures alone { (n : ℕ) → n ≢ spot.now.page → P.pages pages.new n ≡ P.pages pages.old n }
+    ensures kept { OnErr result (P.pages pages.new ≡ P.pages pages.old) }
     ensures told { AreReadable (P.pages pages.old) (P.count pages.old) → OnOk result (AreReadable (P.pages pages.new) (P.count pages.new)) }
 
     ensures no_false_damage { (damage : Damage) → result ≢ Err (PageFault.Damaged damage) }

@@ -1,16 +1,13 @@
 // Finds the least choice of a place for each word.
-ghost use Rattle.std.specs.Prelude.{◌≡◌, ◌++◌, ◌∷◌, [], ◌≤◌, if◌then◌else◌, true, List, map, OnOk, IfOk};
-ghost use Rattle.std.specs.Cmp.Lexicographic.{slice_cmp};
-ghost use Rattle.std.specs.Ordering.{nat_cmp, ordering_then};
+ghost use Rattle.std.specs.Prelude.{◌≡◌, ◌++◌, ◌∷◌, [], if◌then◌else◌, true, List, map, OnOk, IfOk};
 ghost use Rattle.spatial_base.specs.Point.{Position};
 ghost use Rattle.place_values.specs.declared.query.Pick.{Pick};
-ghost use Rattle.place_values.specs.Group.{picks_for, product, farthest, diameter, choice_cost, pick_cmp, least_of, group_of};
+ghost use Rattle.place_values.specs.Group.{picks_for, product, choice_cost, least_of, group_of};
 ghost use Rattle.place_values.specs.Search.{lists_in, fronted};
 
-use place_values::{Chosen, Pick, Picks, Place};
+use place_values::{Chosen, Pick, Picks, Place, choice_order, cost_of_choice};
 use spatial_base::{Key, Point, dist};
 use std::alloc::{AllocError, Global};
-use std::cmp::Ordering;
 use std::collections::BTreeMap;
 use term_impacts::Word;
 
@@ -54,49 +51,12 @@ fn picks_of_each(
     Ok(lists)
 }
 
-// The greatest distance from a point to a pick.
-fn farthest_of(point: &Point, picks: &[Pick]) -> u64
-    ensures value { result ≡ farthest point.now picks.now }
-    ensures far { result ≤ 4024922359 }
-{
-    let mut most = 0;
-    for pick in picks {
-        most = most.max(dist(point, &pick.point));
-    }
-    most
-}
-
-// The greatest distance between two picks.
-fn diameter_of(picks: &[Pick]) -> u64
-    ensures value { result ≡ diameter picks.now }
-    ensures far { result ≤ 4024922359 }
-{
-    match picks.split_first() {
-        Some((pick, others)) => farthest_of(&pick.point, others).max(diameter_of(others)),
-        None => 0,
-    }
-}
-
-// The cost of a choice.
-fn cost_of_choice(at: &Point, picks: &[Pick]) -> u64
-    ensures { result ≡ choice_cost at.now picks.now }
-{
-    farthest_of(at, picks) + diameter_of(picks)
-}
-
-// The order of a choice with this cost and the best one: by cost, then by picks.
-fn against(picks: &[Pick], cost: u64, best: &Chosen) -> Ordering
-    ensures { result ≡ ordering_then (nat_cmp cost best.now.cost) (slice_cmp pick_cmp picks.now best.now.picks) }
-{
-    cost.cmp(&best.cost).then(picks.cmp(best.picks.as_slice()))
-}
-
 // Whether no choice that begins with these picks is better than the best one.
 fn is_hopeless(front: &[Pick], cost: u64, best: &Option<Chosen>) -> bool
     ensures { result ≡ true → (at : Position) → cost ≡ choice_cost at front.now → (tried rest : List (List Pick)) → best.now ≡ least_of at tried → best.now ≡ least_of at (tried ++ fronted front.now rest) }
 {
     match best {
-        Some(best) => against(front, cost, best).is_gt(),
+        Some(best) => choice_order(front, cost, best).is_gt(),
         None => false,
     }
 }
@@ -106,7 +66,7 @@ fn is_better(picks: &[Pick], cost: u64, best: &Option<Chosen>) -> bool
     ensures { (at : Position) → cost ≡ choice_cost at picks.now → (tried : List (List Pick)) → best.now ≡ least_of at tried → least_of at (tried ++ picks.now ∷ []) ≡ (if result then Some record { cost = cost; picks = picks.now } else best.now) }
 {
     match best {
-        Some(best) => against(picks, cost, best).is_lt(),
+        Some(best) => choice_order(picks, cost, best).is_lt(),
         None => true,
     }
 }

@@ -7,7 +7,6 @@
 //! Tests: `text_tests/src/place_map_tests.rt`.
 #![tactic(auto)]
 
-mod best;
 mod group;
 mod restored;
 mod scan;

@@ -6,8 +6,7 @@ ghost use Rattle.place_values.specs.Hit.{comes_before, listed};
 ghost use Rattle.place_values.specs.Query.{IsWithinLimits, IsScale, IsWeights};
 ghost use Rattle.place_values.specs.Answer.{near_hit, near_hits, range_hits, box_hits, top_hits, hits_of};
 
-use crate::best::keep;
-use place_values::{Expr, Hit, Place, Query, cost_of, relevance_of, sum_of_weights};
+use place_values::{Expr, Hit, Place, Query, cost_of, keep, relevance_of, sum_of_weights};
 use spatial_base::{Key, Point, Rect, dist};
 use std::alloc::{AllocError, Global};
 use std::collections::BTreeMap;

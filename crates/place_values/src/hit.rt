@@ -27,6 +27,7 @@ pub struct Hit {
 pub type Hits = Listed<Hit>;
 
 /// Whether a hit comes before another, by cost and then by key.
+#[inline(always)]
 pub fn is_before(a: &Hit, b: &Hit) -> bool
     ensures { result ≡ comes_before a.now b.now }
 {

@@ -7,6 +7,8 @@
 //! Tests: `text_tests/src/place_map_tests.rt`, through `place_map`.
 #![tactic(auto)]
 
+mod best;
+mod choice;
 mod hit;
 mod limits;
 mod listed;
@@ -15,6 +17,8 @@ mod query;
 mod top;
 mod update;
 
+pub use best::keep;
+pub use choice::{choice_order, cost_of_choice, farthest_of};
 pub use hit::{Hit, Hits, is_before};
 pub use limits::{
     ALPHA_MAX, COUNT_MAX, EXPR_LEVELS_MAX, EXPR_WORDS_MAX, NUMBER_MAX, PLACES_MAX, RADIUS_MAX,

@@ -20,7 +20,7 @@ ghost use Rattle.query_execution.specs.Standing.{RootsStand};
 use crate::known::ids_of;
 use boolean_queries::{inside, nearest, range};
 use node_filter::Ids;
-use node_inverted::Tree;
+use node_rows::Tree;
 use page_face::{Damage, PageFault, Pages};
 use place_values::{Hit, Query};
 use std::alloc::Global;

@@ -10,7 +10,7 @@ ghost use Rattle.query_execution.specs.Standing.{RootsStand};
 
 use crate::known::ids_of_words;
 use collective_query::group;
-use node_inverted::Tree;
+use node_rows::Tree;
 use page_face::{Damage, PageFault, Pages};
 use place_values::Chosen;
 use spatial_base::Point;

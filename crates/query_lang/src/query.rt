@@ -11,22 +11,16 @@ use crate::expression::filter;
 use crate::kind::is_word;
 use crate::part::{degrees_part, next, whole_part};
 use crate::word::{terms, words};
-use place_values::{Query, Terms, Weights};
+use place_values::{ALPHA_MAX, COUNT_MAX, Query, RADIUS_MAX, REACH_MAX, Terms, Weights};
 use query_replies::LineFault;
-use spatial_base::{Point, Rect};
+use spatial_base::{LATITUDE_MAX, LONGITUDE_MAX, Point, Rect};
 use std::alloc::Global;
 
-/// The greatest longitude, in units of 10^-7 degrees.
-const LONGITUDE_MAX: i64 = 1_800_000_000;
+// The greatest longitude, signed as the numbers that are read.
+const EAST: i64 = LONGITUDE_MAX as i64;
 
-/// The greatest latitude, in units of 10^-7 degrees.
-const LATITUDE_MAX: i64 = 900_000_000;
-
-/// The greatest radius, in units of 10^-7 degrees.
-const RADIUS_MAX: i64 = 1_000_000_000_000;
-
-/// The greatest reach, in units of 10^-7 degrees: the greatest distance between two points.
-const REACH_MAX: i64 = 4_024_922_359;
+// The greatest latitude, signed.
+const NORTH: i64 = LATITUDE_MAX as i64;
 
 // The point at a longitude and a latitude.
 fn point_at(x: i64, y: i64) -> Result<Point, LineFault>
@@ -44,8 +38,8 @@ fn point_at(x: i64, y: i64) -> Result<Point, LineFault>
 pub(crate) fn point_part(alloc: Global, text: &str) -> Result<(Point, &str), LineFault>
     ensures { Answers (λ got. (got.0, got.1.now)) result (spec.point_part text.now) }
 {
-    let (x, text) = degrees_part(alloc, -LONGITUDE_MAX, LONGITUDE_MAX, text)?;
-    let (y, text) = degrees_part(alloc, -LATITUDE_MAX, LATITUDE_MAX, text)?;
+    let (x, text) = degrees_part(alloc, -EAST, EAST, text)?;
+    let (y, text) = degrees_part(alloc, -NORTH, NORTH, text)?;
     let point = point_at(x, y)?;
     Ok((point, text))
 }
@@ -60,7 +54,7 @@ fn range(alloc: Global, text: &str) -> Result<Query, LineFault>
         Ok(read) => read,
         Err(fault) => return Err(fault),
     };
-    let (radius, text) = degrees_part(alloc, 0, RADIUS_MAX, text)?;
+    let (radius, text) = degrees_part(alloc, 0, RADIUS_MAX as i64, text)?;
     let filter = filter(alloc, text)?;
     Ok(Query::Range {
         at,
@@ -99,10 +93,10 @@ fn rect_at(west: i64, south: i64, east: i64, north: i64) -> Result<Rect, LineFau
 fn rect_part(alloc: Global, text: &str) -> Result<(Rect, &str), LineFault>
     ensures { Answers (λ got. (got.0, got.1.now)) result (spec.rect_part text.now) }
 {
-    let (west, text) = degrees_part(alloc, -LONGITUDE_MAX, LONGITUDE_MAX, text)?;
-    let (south, text) = degrees_part(alloc, -LATITUDE_MAX, LATITUDE_MAX, text)?;
-    let (east, text) = degrees_part(alloc, west, LONGITUDE_MAX, text)?;
-    let (north, text) = degrees_part(alloc, south, LATITUDE_MAX, text)?;
+    let (west, text) = degrees_part(alloc, -EAST, EAST, text)?;
+    let (south, text) = degrees_part(alloc, -NORTH, NORTH, text)?;
+    let (east, text) = degrees_part(alloc, west, EAST, text)?;
+    let (north, text) = degrees_part(alloc, south, NORTH, text)?;
     let rect = rect_at(west, south, east, north)?;
     Ok((rect, text))
 }
@@ -131,7 +125,7 @@ fn nearest(alloc: Global, text: &str) -> Result<Query, LineFault>
         Ok(read) => read,
         Err(fault) => return Err(fault),
     };
-    let (k, text) = whole_part(alloc, 1, 1000, text)?;
+    let (k, text) = whole_part(alloc, 1, COUNT_MAX, text)?;
     let filter = filter(alloc, text)?;
     Ok(Query::Nearest { at, k, filter })
 }
@@ -158,9 +152,9 @@ fn top(alloc: Global, text: &str) -> Result<Query, LineFault>
         Ok(read) => read,
         Err(fault) => return Err(fault),
     };
-    let (k, text) = whole_part(alloc, 1, 1000, text)?;
-    let (alpha, text) = whole_part(alloc, 0, 1000, text)?;
-    let (reach, text) = degrees_part(alloc, 1, REACH_MAX, text)?;
+    let (k, text) = whole_part(alloc, 1, COUNT_MAX, text)?;
+    let (alpha, text) = whole_part(alloc, 0, ALPHA_MAX, text)?;
+    let (reach, text) = degrees_part(alloc, 1, REACH_MAX as i64, text)?;
     let text = behind_words(alloc, text)?;
     let words = terms(alloc, text)?;
     Ok(Query::Top {

@@ -9,9 +9,13 @@ ghost use Rattle.query_lang.specs.Word.{word_of, term_of, at_star, some_words};
 use crate::number::number_in;
 use crate::part::{next, token};
 use line_tokens::Token;
+use place_values::{TERMS_MAX, WEIGHT_MAX};
 use query_replies::LineFault;
 use std::alloc::Global;
 use term_impacts::{Word, one_word};
+
+// The most words after the first one.
+const MORE: u8 = TERMS_MAX as u8 - 1;
 
 // Whether a word is among these.
 fn is_among(words: &[Word], word: &Word) -> bool
@@ -95,7 +99,7 @@ fn bare_term(alloc: Global, text: &str, named: &[(Word, u8)]) -> Result<(Word, u
     };
     let (word, _) = text.split_at(at);
     let word = new_term(alloc, word, named)?;
-    let weight = number_in(&text.as_bytes()[at + 1..], 1, 20)?;
+    let weight = number_in(&text.as_bytes()[at + 1..], 1, WEIGHT_MAX as u16)?;
     Ok((word, weight as u8))
 }
 
@@ -173,7 +177,7 @@ pub(crate) fn words(alloc: Global, text: &str) -> Result<Vec<Word>, LineFault>
     let (token, text) = next(alloc, text)?;
     let first = word(alloc, &token, &[])?;
     let words = pushed(Vec::new(alloc), first)?;
-    more_words(alloc, 7, words, text)
+    more_words(alloc, MORE, words, text)
 }
 
 // These terms and those that follow up to the end of the line, at most `left` more.
@@ -227,5 +231,5 @@ pub(crate) fn terms(alloc: Global, text: &str) -> Result<Vec<(Word, u8)>, LineFa
     let (token, text) = next(alloc, text)?;
     let first = term(alloc, &token, &[])?;
     let terms = pushed(Vec::new(alloc), first)?;
-    more_terms(alloc, 7, terms, text)
+    more_terms(alloc, MORE, terms, text)
 }

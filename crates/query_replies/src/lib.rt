@@ -13,4 +13,5 @@ mod parts;
 mod reply;
 
 pub use fault::LineFault;
+pub use parts::{write_bytes, write_number, write_wide};
 pub use reply::{Reply, UpdateDone, reply_text};

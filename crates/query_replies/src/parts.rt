@@ -10,23 +10,23 @@ use itoa::Buffer;
 use spatial_base::{Key, Memory, Point};
 use std::alloc::Global;
 
-/// Appends bytes.
-pub(crate) fn write_bytes(bytes: &[u8], out: &mut Vec<u8>) -> Result<(), Memory>
+/// Appends bytes. If memory runs out, a part of them may have been appended.
+pub fn write_bytes(bytes: &[u8], out: &mut Vec<u8>) -> Result<(), Memory>
     ensures { Adds result out.old.items bytes.now out.new.items }
 {
     out.extend_from_slice(bytes).map_err(|_| Memory)
 }
 
-/// Appends a number in decimal digits.
-pub(crate) fn write_number(n: u64, out: &mut Vec<u8>) -> Result<(), Memory>
+/// Appends a number in decimal digits. If memory runs out, a part of them may have been appended.
+pub fn write_number(n: u64, out: &mut Vec<u8>) -> Result<(), Memory>
     ensures { Adds result out.old.items (decimal n) out.new.items }
 {
     let mut buffer = Buffer::new();
     write_bytes(buffer.format(n).as_bytes(), out)
 }
 
-/// Appends a number of more than 64 bits in decimal digits.
-pub(crate) fn write_wide(n: u128, out: &mut Vec<u8>) -> Result<(), Memory>
+/// Appends a number of up to 128 bits in decimal digits. If memory runs out, a part of them may have been appended.
+pub fn write_wide(n: u128, out: &mut Vec<u8>) -> Result<(), Memory>
     ensures { Adds result out.old.items (decimal n) out.new.items }
 {
     let mut buffer = Buffer::new();

@@ -14,8 +14,8 @@ pub(crate) fn u32_at(page: &Page, at: usize) -> u32
     u32::from_be_bytes([page[at], page[at + 1], page[at + 2], page[at + 3]])
 }
 
-/// The i32 at a place.
-pub(crate) fn i32_at(page: &Page, at: usize) -> i32
+/// Returns the i32 in the four bytes of a page from offset `at` on, most significant byte first.
+pub fn i32_at(page: &Page, at: usize) -> i32
     requires { at + 4 ≤ 4096 }
     ensures value { result ≡ int_at at page.now }
     ensures fits { FitsSigned w32 result }

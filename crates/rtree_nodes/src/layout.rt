@@ -2,7 +2,7 @@
 ghost use Rattle.std.specs.Prelude.{◌≡◌, ◌<◌, ◌≤◌, ◌+◌, ◌==◌};
 ghost use Rattle.std.specs.Int.{bit_at};
 ghost use Rattle.rtree_nodes.specs.Cells.{cell_width, cell_start};
-ghost use Rattle.rtree_nodes.specs.Pages.{level_in, mask_of as mask_in};
+ghost use Rattle.rtree_nodes.specs.Pages.{level_in, is_used as is_used_in, mask_of as mask_in};
 
 use crate::bytes::u32_at;
 use page_face::Page;
@@ -14,10 +14,10 @@ pub(crate) const NODE_KIND: u8 = 3;
 pub(crate) const MASK_AT: usize = 4;
 
 /// The offset of the first slot, the same as that of the first cell of a map's page.
-pub(crate) const SLOTS_AT: usize = 16;
+pub const SLOTS_AT: usize = 16;
 
 /// The bytes of a place: two coordinates of 4 bytes, and a key's form of 66.
-pub(crate) const PLACE_BYTES: usize = 74;
+pub const PLACE_BYTES: usize = 74;
 
 /// The bytes of a child: four coordinates and a page, of 4 bytes each.
 pub(crate) const CHILD_BYTES: usize = 20;
@@ -42,6 +42,14 @@ pub(crate) fn is_set(mask: u32, at: usize) -> bool
     ensures { result ≡ (bit_at mask at == 1) }
 {
     (mask >> at) & 1 == 1
+}
+
+/// Returns whether a slot of a node's page is used, by the mask in the header.
+pub fn is_used(page: &Page, at: usize) -> bool
+    requires { at < 32 }
+    ensures { result ≡ is_used_in page.now at }
+{
+    (u32_at(page, MASK_AT) >> at) & 1 == 1
 }
 
 /// The bytes of a slot.

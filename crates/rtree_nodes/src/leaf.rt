@@ -1,53 +1,23 @@
 //! The slot of a leaf that holds a place, read in the page itself.
-ghost use Rattle.std.specs.Prelude.{◌≡◌, ◌<◌, ◌≤◌, ◌+◌, ◌==◌, ◌↔◌, ℕ, Some, None, true, false, IsTrue, IfSome};
+ghost use Rattle.std.specs.Prelude.{◌≡◌, ◌<◌, ◌≤◌, ◌+◌, ◌↔◌, ℕ, Some, None, true, false, IsTrue, IfSome};
 ghost use Rattle.rtree_nodes.specs.Slots.{got};
-ghost use Rattle.rtree_nodes.specs.Numbers.{int_at, number_at};
 ghost use Rattle.rtree_nodes.specs.Reach.{place_item};
-ghost use Rattle.rtree_nodes.specs.Pages.{level_in, is_used as is_used_in, stored_in};
+ghost use Rattle.rtree_nodes.specs.Pages.{level_in, stored_in};
 ghost use Rattle.rtree_nodes.specs.Entries.{is_entry, IsPlaceIn};
 
 use crate::SLOTS;
+use crate::bytes::i32_at;
+use crate::layout::{PLACE_BYTES, SLOTS_AT, is_used};
 use page_face::Page;
 use spatial_base::Point;
-
-// The offset of the first slot of a node's page, after its header.
-const SLOTS_AT: usize = 16;
-
-// The bytes of a place: two coordinates of 4 bytes, and a key's form of 66.
-const PLACE_BYTES: usize = 74;
-
-// The u32 in four bytes of the page.
-#[tactic(auto, unfolding(crate::specs::Numbers::number_at))]
-fn number(page: &Page, at: usize) -> u32
-    requires { at + 4 ≤ 4096 }
-    ensures { result ≡ number_at at page.now }
-{
-    u32::from_be_bytes([page[at], page[at + 1], page[at + 2], page[at + 3]])
-}
-
-// The coordinate in four bytes of the page.
-fn coordinate(page: &Page, at: usize) -> i32
-    requires { at + 4 ≤ 4096 }
-    ensures { result ≡ int_at at page.now }
-{
-    number(page, at).cast_signed()
-}
-
-// Whether a slot is used.
-fn is_used(page: &Page, at: usize) -> bool
-    requires { at < 32 }
-    ensures { result ≡ is_used_in page.now at }
-{
-    (number(page, 4) >> at) & 1 == 1
-}
 
 // Whether this point, followed by the key of these bytes, is at an offset.
 fn is_place(page: &Page, start: usize, point: &Point, key: &[u8; 66]) -> bool
     requires { start + 74 ≤ 4096 }
     ensures { IsTrue result ↔ IsPlaceIn page.now start point.now key.now }
 {
-    coordinate(page, start) == point.x()
-        && coordinate(page, start + 4) == point.y()
+    i32_at(page, start) == point.x()
+        && i32_at(page, start + 4) == point.y()
         && page[start + 8..start + PLACE_BYTES] == key[..]
 }
 

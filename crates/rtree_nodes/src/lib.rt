@@ -45,11 +45,13 @@ mod round;
 mod spare;
 mod writing;
 
+pub use bytes::i32_at;
 pub use codec::same_page;
 pub use content::{Header, Slot};
 pub use finding::find;
 pub use head::header;
 pub use held::{Node, Slots};
+pub use layout::{PLACE_BYTES, SLOTS_AT, is_used};
 pub use mask::{count, free_slot};
 pub use parting::split_off;
 pub use reach::{bounds, rects};

@@ -6,13 +6,7 @@ ghost use Rattle.rtree_nodes.specs.Pages.{is_used, cell_at, has_clear_spares as 
 
 use crate::SLOTS;
 use crate::layout::{is_set, level_of, mask_of, start_of, width_at};
-use page_face::Page;
-
-fn are_zero(bytes: &[u8]) -> bool
-    ensures { result ≡ is_clear bytes.now }
-{
-    bytes.iter().all(|byte| *byte == 0)
-}
+use page_face::{Page, are_zero};
 
 // Whether a slot is used, or its bytes are zero.
 fn is_used_or_clear(page: &Page, at: usize) -> bool

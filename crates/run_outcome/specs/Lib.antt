@@ -7,4 +7,3 @@ pub mod Reading
 pub mod Said
 pub mod Script
 pub mod Turn
-pub mod Written

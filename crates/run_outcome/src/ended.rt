@@ -1,10 +1,10 @@
 // How a run ends.
 ghost use Rattle.std.specs.Prelude.{◌≡◌, ◌++◌, OnOk, OnErr};
 ghost use Rattle.run_outcome.specs.Ended.{status_of, line_of_end, line_of_input, line_of_store, line_of_limit, at_line, rule_number};
-ghost use Rattle.run_outcome.specs.Written.{Adds};
+ghost use Rattle.query_replies.specs.Written.{Adds};
 
-use crate::written::{write_bytes, write_number};
 use page_face::{Damage, Rule};
+use query_replies::{write_bytes, write_number};
 use spatial_base::Memory;
 
 /// How a run ended.

@@ -9,9 +9,10 @@
 mod ended;
 mod refused;
 mod say;
-mod written;
 
 pub use ended::{Ended, InputFault, LimitFault, StoreFault};
 pub use refused::ended_by;
 pub use say::say_all;
-pub use written::{write_bytes, write_number};
+
+/// How many bytes one read of an input takes at most.
+pub const PIECE_LEN: usize = 65_536;

@@ -11,4 +11,4 @@ mod line;
 mod run;
 mod script;
 
-pub use run::{INPUT_MAX, PIECE_LEN, run_script};
+pub use run::{INPUT_MAX, run_script};

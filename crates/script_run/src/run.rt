@@ -15,14 +15,11 @@ ghost use Rattle.script_run.specs.Standing.{EndsScript};
 use crate::script::Script;
 use disk_model::{Source, Station};
 use irtree_engine::Engine;
-use run_outcome::{Ended, InputFault, LimitFault};
+use run_outcome::{Ended, InputFault, LimitFault, PIECE_LEN};
 use std::alloc::Global;
 
 /// The greatest number of bytes of a script.
 pub const INPUT_MAX: usize = 268_435_456;
-
-/// How many bytes a read takes at most.
-pub const PIECE_LEN: usize = 65_536;
 
 // Acts on a piece of the input, of which `taken` bytes came before, and returns how many have come by now.
 #[tactic(none)]

@@ -4,10 +4,10 @@ use Rattle.std.proofs.lemmas.Bool.Decides.{nat_tests}
 use Rattle.rtree_nodes.proofs.Amounts.{same_or}
 use Rattle.node_rows.specs.Rows.{Bytes}
 use Rattle.node_rows.specs.Impacts.{with_byte}
-use Rattle.node_inverted.specs.Refreshing.{is_named, on_words}
+use Rattle.node_rows.specs.Refreshing.{is_named, on_words}
 use Rattle.node_rows.proofs.Bytes.{and_false}
 use Rattle.node_rows.proofs.Impacts.{byte-here, byte-elsewhere, byte-another, byte-beside}
-use Rattle.node_inverted.proofs.Refreshes.{named-push, named-same}
+use Rattle.node_rows.proofs.Refreshes.{named-push, named-same}
 use Rattle.split_condense.specs.Clears.{cleared}
 
 module _ (node slot : ℕ) (b : Bytes) (n w i : ℕ) where

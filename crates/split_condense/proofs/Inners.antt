@@ -11,8 +11,8 @@ use Rattle.rtree_nodes.specs.Pages.{node_of, slots_in}
 use Rattle.node_rows.specs.Rows.{bytes_in}
 use Rattle.node_rows.specs.Turns.{Turns}
 use Rattle.node_rows.specs.Impacts.{refreshed, top_at}
-use Rattle.node_inverted.specs.Refreshing.{is_named}
-use Rattle.node_inverted.proofs.Refreshes.{refreshed-here, refreshed-beside, refreshed-elsewhere}
+use Rattle.node_rows.specs.Refreshing.{is_named}
+use Rattle.node_rows.proofs.Refreshes.{refreshed-here, refreshed-beside, refreshed-elsewhere}
 use Rattle.irtree_shape.specs.Words.{joined_item, words_on, joined, AreBlank}
 use Rattle.irtree_shape.specs.Stock.{Moves}
 use Rattle.irtree_shape.specs.Made.{nodes_in}

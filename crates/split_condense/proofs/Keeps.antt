@@ -7,7 +7,7 @@ use Rattle.rtree_nodes.proofs.Sums.{top-same, top-zero}
 use Rattle.node_rows.specs.Rows.{Bytes}
 use Rattle.node_rows.specs.Turns.{HasNone}
 use Rattle.node_rows.specs.Impacts.{top_at}
-use Rattle.node_inverted.specs.Refreshing.{is_named}
+use Rattle.node_rows.specs.Refreshing.{is_named}
 use Rattle.node_rows.proofs.Impacts.{top-at-same, top-clear}
 use Rattle.irtree_shape.specs.Words.{AreBlank}
 use Rattle.split_condense.specs.declared.orphan.Orphan.{Orphan}

@@ -9,7 +9,7 @@ use Rattle.rtree_nodes.specs.Pages.{node_of, slots_in}
 use Rattle.node_rows.specs.Rows.{bytes_in}
 use Rattle.node_rows.specs.Turns.{Turns}
 use Rattle.node_rows.specs.Impacts.{impact_in}
-use Rattle.node_inverted.specs.Refreshing.{is_named, on_words}
+use Rattle.node_rows.specs.Refreshing.{is_named, on_words}
 use Rattle.irtree_shape.specs.Words.{worded, words_on, joined, AreBlank}
 use Rattle.irtree_shape.specs.Stock.{Moves}
 use Rattle.irtree_shape.specs.Made.{nodes_in}

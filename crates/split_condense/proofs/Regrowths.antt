@@ -1,5 +1,6 @@
 -- What an entry that goes and one that comes make of a tree.
-use Rattle.std.proofs.Common.{◌≡◌, ℕ, List, None, Some, Option, arith, ap, subst}
+use Rattle.std.proofs.Common.{◌≡◌, ℕ, List, None, Some, Option, Result, arith, ap, subst}
+use Rattle.std.specs.Prelude.{OnOk}
 use Rattle.page_face.specs.FreeList.{PageMap}
 use Rattle.spatial_base.specs.Key.{Name}
 use Rattle.row_codec.specs.declared.stored.Stored.{Stored}
@@ -49,6 +50,12 @@ planted-regrown before pages rows count first old_root root entry key stored is 
   moves = h.moves;
   sum_is = λ f. let e = h.sum_is f in let same = ap (λ (d : Entry). f (entry_item d)) is in omega (arith, e, same);
 }
+
+-- the entry that came is that of a key's place
+pub planted-for : {E : Type 0} (r : Result (Unit {0}) E) (before : View) (pages : PageMap) (rows count first old_root root : ℕ) (entry : Entry) (key : Name) (stored : Stored) (rise : ℕ → Type 0) → entry ≡ entry_for key stored
+    → OnOk r (IsPlanted node_of before pages rows count first old_root root (entry_item entry) rise) → OnOk r (IsPlanted node_of before pages rows count first old_root root (entry_at key stored) rise)
+planted-for r before pages rows count first old_root root entry key stored rise is h =
+    subst (λ (e : Entry). OnOk r (IsPlanted node_of before pages rows count first old_root root (entry_item e) rise)) is h
 
 -- an entry went, and then one came
 pub regrown-further : (before : View) (mid : PageMap) (mid_rows mid_count mid_first mid_root : ℕ) (pages : PageMap) (rows count first old_root root : ℕ) (x y : Item)

@@ -9,7 +9,7 @@ use Rattle.rtree_nodes.specs.Loose.{Loose, total_loose, AllLoose}
 use Rattle.node_rows.specs.Rows.{Bytes, bytes_in}
 use Rattle.node_rows.specs.Turns.{HasNone}
 use Rattle.node_rows.specs.Impacts.{top_at}
-use Rattle.node_inverted.specs.Refreshing.{is_named}
+use Rattle.node_rows.specs.Refreshing.{is_named}
 use Rattle.irtree_shape.specs.Words.{words_on}
 use Rattle.irtree_shape.specs.Stock.{Moves}
 

@@ -7,7 +7,7 @@ ghost use Rattle.btree_nodes.specs.Supply.{view};
 ghost use Rattle.node_rows.specs.Damages.{IsRowsHarm};
 ghost use Rattle.node_rows.specs.Rows.{IsRows, bytes_in};
 ghost use Rattle.node_rows.specs.Turns.{Turns};
-ghost use Rattle.node_inverted.specs.Refreshing.{on_words};
+ghost use Rattle.node_rows.specs.Refreshing.{on_words};
 ghost use Rattle.split_condense.specs.Clears.{cleared};
 
 use node_inverted::{Tree, set_impact};

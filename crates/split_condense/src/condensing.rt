@@ -1,5 +1,5 @@
 //! What is left of a node from which something was taken out.
-ghost use Rattle.std.specs.Prelude.{◌≡◌, ◌≢◌, ◌<◌, ◌≤◌, ◌+◌, ℕ, List, ◌∷◌, ◌++◌, [], max, Option, None, true, false, option_map, length, IfOk, OnOk, IfErr, IfSome, IsSome, IsErrOf};
+ghost use Rattle.std.specs.Prelude.{◌≡◌, ◌≢◌, ◌<◌, ◌≤◌, ◌+◌, ℕ, List, ◌∷◌, ◌++◌, [], Option, None, true, false, option_map, length, IfOk, OnOk, IfErr, IfSome, IsSome, IsErrOf};
 ghost use Rattle.page_face.specs.Calls.{FailsWriting, FailsChanging, Writes, Changes};
 ghost use Rattle.page_face.specs.Causes.{IsUncounted};
 ghost use Rattle.page_face.specs.FreeList.{with_page};
@@ -13,7 +13,7 @@ ghost use Rattle.rtree_nodes.specs.Reach.{item_of};
 ghost use Rattle.rtree_nodes.specs.Pages.{level_in, stored_in, is_form, slots_in, node_of};
 ghost use Rattle.node_rows.specs.Damages.{IsRowsHarm};
 ghost use Rattle.node_rows.specs.Rows.{IsRows, bytes_in};
-ghost use Rattle.node_rows.specs.Impacts.{impact_in, impact_at};
+ghost use Rattle.node_rows.specs.Impacts.{impact_in};
 ghost use Rattle.node_inverted.specs.Lifts.{lifted_at};
 ghost use Rattle.irtree_shape.specs.Words.{joined, words_on};
 ghost use Rattle.irtree_shape.specs.Stock.{IsSupplied};
@@ -26,23 +26,10 @@ ghost use Rattle.split_condense.specs.Clears.{IsDissolved, KeepsWords};
 use crate::Orphan;
 use btree_nodes::damaged;
 use node_inverted::{NodeRow, Tree, take_rows};
+use node_rows::push_word;
 use page_face::{Page, PageFault, Pages};
 use rtree_nodes::{SLOTS, Slot, bounds, count, slot_at};
 use std::alloc::Global;
-
-// Adds a word with its impact, unless that is 0.
-fn push_word(words: &mut Vec<(u64, u8)>, number: u64, impact: u8) -> Result<(), PageFault>
-    ensures impacts { OnOk result ((w : ℕ) → impact_in words.new.items w ≡ max (impact_in words.old.items w) (impact_at (number, impact) w)) }
-    ensures memory { IfErr result (λ fault. fault ≡ PageFault.Memory) }
-{
-    if impact == 0 {
-        return Ok(());
-    }
-    match words.push((number, impact)) {
-        Ok(()) => Ok(()),
-        Err(_) => Err(PageFault::Memory),
-    }
-}
 
 // The words at one slot of a node, among the node's rows in memory.
 fn words_at(alloc: Global, rows: &[NodeRow], at: usize) -> Result<Vec<(u64, u8)>, PageFault>

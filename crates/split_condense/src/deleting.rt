@@ -46,6 +46,7 @@ pub fn delete<P: Pages>(
     ensures absent { (free : List ℕ) → IsWhole node_of (view (P.pages pages.old) tree.old.rows (P.count pages.old) (P.first pages.old) free) tree.old.root → result ≡ Ok false
         → tree_sum (nodes_in node_of (P.pages pages.old) tree.old.rows) tree.old.root (is_entry entry.now.point (form_of entry.now.key)) ≡ 0 }
     ensures left { result ≡ Ok false → (P.pages pages.new ≡ P.pages pages.old) × (P.count pages.new ≡ P.count pages.old) × (P.first pages.new ≡ P.first pages.old) × (tree.new ≡ tree.old) }
+    ensures unsplit { result ≡ Ok false → (SplitPolicy-dyn policy.new).count policy.new.1 ≡ (SplitPolicy-dyn policy.old).count policy.old.1 }
     ensures no_false_damage { (free : List ℕ) → IsWhole node_of (view (P.pages pages.old) tree.old.rows (P.count pages.old) (P.first pages.old) free) tree.old.root
         → AreWorded (nodes_in node_of (P.pages pages.old) tree.old.rows) tree.old.root entry.now.point (form_of entry.now.key) (impact_of entry.now)
         → AreReadable (P.pages pages.old) (P.count pages.old)

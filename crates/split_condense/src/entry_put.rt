@@ -1,12 +1,13 @@
 //! The entry of a place that is put.
-ghost use Rattle.std.specs.Prelude.{◌≡◌, ◌≢◌, ◌⊎◌, ℕ, List, Ok, Some, IfSome, OnOk, IsErrOf, MatchOption, option_map};
+ghost use Rattle.std.specs.Prelude.{◌≡◌, ◌≢◌, ◌⊎◌, ℕ, List, Ok, None, Some, IfSome, OnOk, IsErrOf, MatchOption, option_map};
 ghost use Rattle.std.specs.Option.{option_copied};
 ghost use Rattle.page_face.specs.Calls.{Changes, FailsChanging};
 ghost use Rattle.btree_nodes.specs.Damages.{AreReadable, AsksOnly};
 ghost use Rattle.rtree_nodes.specs.Stock.{view};
+ghost use Rattle.rtree_nodes.specs.Made.{Rises};
 ghost use Rattle.rtree_nodes.specs.Pages.{node_of};
 ghost use Rattle.irtree_shape.specs.Made.{nodes_in};
-ghost use Rattle.irtree_shape.specs.Whole.{IsWhole};
+ghost use Rattle.irtree_shape.specs.Whole.{IsPlanted, IsWhole};
 ghost use Rattle.irtree_shape.specs.Damages.{IsTreeHarm};
 ghost use Rattle.irtree_shape.specs.Entries.{HasEntry, HasPlace, entry_at};
 ghost use Rattle.irtree_shape.specs.Regrown.{IsMissing, IsRegrown};
@@ -42,6 +43,13 @@ pub fn put_entry<P: Pages>(
     ensures there { (free : List ℕ) → IsWhole node_of (view (P.pages pages.old) tree.old.rows (P.count pages.old) (P.first pages.old) free) tree.old.root
         → OnOk result (IfSome (option_copied old.entry) (λ stored. stored ≢ new.now → HasPlace (nodes_in node_of (P.pages pages.old) tree.old.rows) tree.old.root key.now stored.point)) }
     ensures same { option_copied old.entry ≡ Some new.now → (result ≡ Ok tt) × (pages.new ≡ pages.old) × (tree.new ≡ tree.old) }
+    ensures unsplit { option_copied old.entry ≡ Some new.now → (SplitPolicy-dyn policy.new).count policy.new.1 ≡ (SplitPolicy-dyn policy.old).count policy.old.1 }
+
+    // A new place's entry is put as `insert` puts it: each node stays at its page and level, and the splits count the new ones.
+    ensures planted { (free : List ℕ) → IsWhole node_of (view (P.pages pages.old) tree.old.rows (P.count pages.old) (P.first pages.old) free) tree.old.root
+        → option_copied old.entry ≡ None
+        → OnOk result (IsPlanted node_of (view (P.pages pages.old) tree.old.rows (P.count pages.old) (P.first pages.old) free) (P.pages pages.new) tree.new.rows (P.count pages.new) (P.first pages.new)
+        tree.old.root tree.new.root (entry_at key.now new.now) (Rises ((SplitPolicy-dyn policy.old).count policy.old.1) ((SplitPolicy-dyn policy.new).count policy.new.1))) }
     ensures no_false_damage { (free : List ℕ) → IsWhole node_of (view (P.pages pages.old) tree.old.rows (P.count pages.old) (P.first pages.old) free) tree.old.root
         → IfSome (option_copied old.entry) (HasEntry (nodes_in node_of (P.pages pages.old) tree.old.rows) tree.old.root key.now)
         → AreReadable (P.pages pages.old) (P.count pages.old)

@@ -14,7 +14,7 @@ ghost use Rattle.node_rows.specs.Damages.{IsRowsHarm};
 ghost use Rattle.node_rows.specs.Rows.{IsRows, bytes_in};
 ghost use Rattle.node_rows.specs.Turns.{Turns};
 ghost use Rattle.node_rows.specs.Impacts.{impact_in, refreshed, top_at};
-ghost use Rattle.node_inverted.specs.Refreshing.{is_named};
+ghost use Rattle.node_rows.specs.Refreshing.{is_named};
 ghost use Rattle.irtree_shape.specs.Words.{worded};
 ghost use Rattle.irtree_shape.specs.Made.{nodes_in};
 ghost use Rattle.irtree_shape.specs.Loose.{IsTaking, TakesOut};

@@ -25,3 +25,4 @@ mod writing;
 
 pub use row_codec::Stored;
 pub use tables::Tables;
+pub use words::disagreement;

@@ -69,6 +69,7 @@ impl Tables {
             → (IsMapDamaged numbers_form (P.pages pages.old) (P.count pages.old) self.old.numbers damage × AskedSince (P.asked pages.old) (P.asked pages.new) damage.page)
             ⊎ ((entries : Entries) (free : List ℕ) → Holds (P.pages pages.old) self.old entries → ¬ IsApart (view (P.pages pages.old) (P.count pages.old) (P.first pages.old) free) self.old) }
         ensures no_head { ((p : P) → AreReadable (P.pages p) (P.count p)) → SparesHead result }
+        ensures no_words { ((p : P) → AreReadable (P.pages p) (P.count p)) → ¬ IsErrOf result (PageFault.Damaged words_disagree) }
         ensures own { (entries : Entries) (free : List ℕ) → Holds (P.pages pages.old) self.old entries → IsApart (view (P.pages pages.old) (P.count pages.old) (P.first pages.old) free) self.old
             → AreReadable (P.pages pages.old) (P.count pages.old)
             → AsksOnly (word_uses (P.pages pages.old) self.old) (P.asked pages.old) (P.asked pages.new) }
@@ -109,6 +110,9 @@ impl Tables {
             → IsReleaseDamage (P.pages pages.old) (P.count pages.old) self.old number (P.asked pages.old) (P.asked pages.new) damage
             ⊎ ((entries : Entries) (free : List ℕ) → Holds (P.pages pages.old) self.old entries → ¬ IsApart (view (P.pages pages.old) (P.count pages.old) (P.first pages.old) free) self.old) }
         ensures no_head { ((p : P) → AreReadable (P.pages p) (P.count p)) → SparesHead result }
+
+        // The rule Words is found broken before anything is written.
+        ensures unwritten { ((p : P) → AreReadable (P.pages p) (P.count p)) → IsErrOf result (PageFault.Damaged words_disagree) → P.pages pages.new ≡ P.pages pages.old }
         ensures own { (entries : Entries) (free : List ℕ) → Holds (P.pages pages.old) self.old entries → IsApart (view (P.pages pages.old) (P.count pages.old) (P.first pages.old) free) self.old
             → AreReadable (P.pages pages.old) (P.count pages.old)
             → AsksOnly (word_uses (P.pages pages.old) self.old) (P.asked pages.old) (P.asked pages.new) }

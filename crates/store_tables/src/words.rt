@@ -19,8 +19,8 @@ use paged_map::RowSpot;
 use row_codec::Counted;
 use term_impacts::Word;
 
-/// The tables of words disagree.
-pub(crate) fn disagreement() -> PageFault
+/// Returns the fault of words whose tables disagree: `Damaged` by `Words` at page 0.
+pub fn disagreement() -> PageFault
     ensures { result ≡ PageFault.Damaged words_disagree }
 {
     PageFault::Damaged(Damage {
@@ -114,6 +114,7 @@ impl Tables {
             ⊎ IsRefusedTake (P.pages pages.new) (P.count pages.new) (P.first pages.new) damage
             ⊎ ((entries : Entries) (free : List ℕ) → Holds (P.pages pages.old) self.old entries → ¬ IsApart (view (P.pages pages.old) (P.count pages.old) (P.first pages.old) free) self.old) }
         ensures no_head { ((p : P) → AreReadable (P.pages p) (P.count p)) → SparesHead result }
+        ensures no_words { ((p : P) → AreReadable (P.pages p) (P.count p)) → ¬ IsErrOf result (PageFault.Damaged words_disagree) }
         ensures own { (entries : Entries) (free : List ℕ) → Holds (P.pages pages.old) self.old entries → IsApart (view (P.pages pages.old) (P.count pages.old) (P.first pages.old) free) self.old
             → AreReadable (P.pages pages.old) (P.count pages.old)
             → AsksOnly (word_uses (P.pages pages.old) self.old) (P.asked pages.old) (P.asked pages.new) }
@@ -170,6 +171,9 @@ impl Tables {
             ⊎ (IsTextSought (P.pages pages.old) self.old word.now None
             × ((entries : Entries) (free : List ℕ) → Holds (P.pages pages.old) self.old entries → ¬ IsApart (view (P.pages pages.old) (P.count pages.old) (P.first pages.old) free) self.old)) }
         ensures no_head { ((p : P) → AreReadable (P.pages p) (P.count p)) → SparesHead result }
+
+        // The rule Words is found broken before anything is written.
+        ensures unwritten { ((p : P) → AreReadable (P.pages p) (P.count p)) → IsErrOf result (PageFault.Damaged words_disagree) → P.pages pages.new ≡ P.pages pages.old }
         ensures own { (entries : Entries) (free : List ℕ) → Holds (P.pages pages.old) self.old entries → IsApart (view (P.pages pages.old) (P.count pages.old) (P.first pages.old) free) self.old
             → AreReadable (P.pages pages.old) (P.count pages.old)
             → AsksOnly (word_uses (P.pages pages.old) self.old) (P.asked pages.old) (P.asked pages.new) }
@@ -231,6 +235,9 @@ impl Tables {
             ⊎ (IsTextSought (P.pages pages.old) self.old word.now None
             × ((entries : Entries) (free : List ℕ) → Holds (P.pages pages.old) self.old entries → ¬ IsApart (view (P.pages pages.old) (P.count pages.old) (P.first pages.old) free) self.old)) }
         ensures no_head { ((p : P) → AreReadable (P.pages p) (P.count p)) → SparesHead result }
+
+        // The rule Words is found broken before anything is written.
+        ensures unwritten { ((p : P) → AreReadable (P.pages p) (P.count p)) → IsErrOf result (PageFault.Damaged words_disagree) → P.pages pages.new ≡ P.pages pages.old }
         ensures own { (entries : Entries) (free : List ℕ) → Holds (P.pages pages.old) self.old entries → IsApart (view (P.pages pages.old) (P.count pages.old) (P.first pages.old) free) self.old
             → AreReadable (P.pages pages.old) (P.count pages.old)
             → AsksOnly (word_uses (P.pages pages.old) self.old) (P.asked pages.old) (P.asked pages.new) }

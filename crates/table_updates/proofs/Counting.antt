@@ -8,6 +8,7 @@ use Rattle.std.specs.Str.{bytes_eq}
 use Rattle.indexmap.proofs.MapLemmas.{Found-position, insert_entry-first}
 use Rattle.indexmap.specs.IndexMap.{insert_entry, set_value_at}
 use Rattle.store_model.specs.Ahead.{AreCountedWords, times_counted}
+use Rattle.table_updates.specs.Order.{behind}
 
 -- how often a word was counted; 0 where it wasn't
 abbrev pub times_of : List ℕ → List (List ℕ × ℕ) → ℕ
@@ -79,6 +80,16 @@ pub times-none : (found : Option ℕ) → false ≡ is_some found → unwrap_or 
 times-none None none = refl
 times-none (Some k) none = absurd (true≢false (sym none))
 
+-- a word that is put comes behind the others
+pub keys-put : (word : List ℕ) (k : ℕ) (counts : List (List ℕ × ℕ)) → keys_of (insert_entry bytes_eq counts word k) ≡ behind (keys_of counts) word
+keys-put word k [] = refl
+keys-put word k (c ∷ counts) = by (keys-put word k counts) (bytes_eq word c.0)
+  where
+    by : keys_of (insert_entry bytes_eq counts word k) ≡ behind (keys_of counts) word
+        → (b : Bool) → keys_of (cond b ((c.0, k) ∷ counts) (c ∷ insert_entry bytes_eq counts word k)) ≡ cond b (c.0 ∷ keys_of counts) (c.0 ∷ behind (keys_of counts) word)
+    by rest true = refl
+    by rest false = ap (λ (ws : List (List ℕ)). c.0 ∷ ws) rest
+
 -- a count is written and the words stay
 words-at : (counts : List (List ℕ × ℕ)) (at k : ℕ) → keys_of (set_value_at counts at k) ≡ keys_of counts
 words-at [] at k = refl
@@ -93,6 +104,10 @@ module _ (word : List ℕ) (counts : List (List ℕ × ℕ)) (at k : ℕ) (found
   -- so the words are counted words still
   pub counted-at : AreCountedWords counts → AreCountedWords (set_value_at counts at (k + 1))
   counted-at are = subst AreCountedWords put-at (counted-more word k counts are (subst (IsDistinct bytes_eq) (sym (ap keys_of put-at ∙ words-at counts at (k + 1))) are.distinct))
+
+  -- and their order is that in which they first came
+  pub order-at : keys_of (set_value_at counts at (k + 1)) ≡ behind (keys_of counts) word
+  order-at = ap keys_of (sym put-at) ∙ keys-put word (k + 1) counts
 
   -- with the word counted once more
   pub times-at : (has : List ℕ → Bool) → times_of word counts ≡ k → times_counted has (set_value_at counts at (k + 1)) ≡ times_counted has counts + cond (has word) 1 0

@@ -1,6 +1,8 @@
 //! The words that a batch puts, counted.
-ghost use Rattle.std.specs.Prelude.{◌≡◌, ℕ, ◌+◌, ◌*◌, ◌≤◌, ◌<◌, ◌^◌, List, Bool, true, if◌then◌else◌, [], ◌∷◌, length, IfOk, OnOk, OnErr};
+ghost use Rattle.std.specs.Prelude.{◌≡◌, ℕ, ◌+◌, ◌*◌, ◌≤◌, ◌<◌, ◌^◌, List, Bool, true, if◌then◌else◌, [], ◌∷◌, length, fold, IfOk, OnOk, OnErr};
+ghost use Rattle.std.specs.Map.{keys_of};
 ghost use Rattle.store_model.specs.Ahead.{AreCountedWords, place_count, puts_in, times_counted, word_count, words_put};
+ghost use Rattle.table_updates.specs.Order.{behind, in_order};
 
 use indexmap::IndexMap;
 use page_face::PageFault;
@@ -15,6 +17,7 @@ pub fn gather_words(alloc: Global, updates: &[Update]) -> Result<IndexMap<Word, 
     requires few { length updates.now ≤ 2 ^ 24 }
     ensures gathered { IfOk result (λ counts. (has : List ℕ → Bool) → times_counted has counts.entries ≡ word_count has updates.now) }
     ensures counted { IfOk result (λ counts. AreCountedWords counts.entries) }
+    ensures order { IfOk result (λ counts. keys_of counts.entries ≡ in_order updates.now) }
     ensures few { IfOk result (λ counts. times_counted (λ word. true) counts.entries ≤ 64 * puts_in updates.now) }
     ensures memory { OnErr result (result ≡ Err PageFault.Memory) }
 {
@@ -33,6 +36,7 @@ fn count_update(update: &Update, counts: &mut IndexMap<Word, u32>) -> Result<(),
     requires room { times_counted (λ word. true) counts.old.entries + 64 < 2 ^ 32 }
     ensures counted { OnOk result (AreCountedWords counts.new.entries) }
     ensures more { OnOk result ((has : List ℕ → Bool) → times_counted has counts.new.entries ≡ times_counted has counts.old.entries + place_count has (words_put update.now)) }
+    ensures order { OnOk result (keys_of counts.new.entries ≡ fold behind (keys_of counts.old.entries) (keys_of (words_put update.now))) }
     ensures few { OnOk result (times_counted (λ word. true) counts.new.entries ≤ times_counted (λ word. true) counts.old.entries + 64 * puts_in (update.now ∷ [])) }
     ensures memory { OnErr result (result ≡ Err PageFault.Memory) }
 {
@@ -48,6 +52,7 @@ fn count_words(words: &[(Word, u8)], counts: &mut IndexMap<Word, u32>) -> Result
     requires room { times_counted (λ word. true) counts.old.entries + length words.now < 2 ^ 32 }
     ensures counted { OnOk result (AreCountedWords counts.new.entries) }
     ensures more { OnOk result ((has : List ℕ → Bool) → times_counted has counts.new.entries ≡ times_counted has counts.old.entries + place_count has words.now) }
+    ensures order { OnOk result (keys_of counts.new.entries ≡ fold behind (keys_of counts.old.entries) (keys_of words.now)) }
     ensures memory { OnErr result (result ≡ Err PageFault.Memory) }
 {
     let Some(((word, _), rest)) = words.split_first() else {
@@ -63,6 +68,7 @@ fn count_word(word: &Word, counts: &mut IndexMap<Word, u32>) -> Result<(), PageF
     requires room { times_counted (λ word. true) counts.old.entries + 1 < 2 ^ 32 }
     ensures counted { OnOk result (AreCountedWords counts.new.entries) }
     ensures more { OnOk result ((has : List ℕ → Bool) → times_counted has counts.new.entries ≡ times_counted has counts.old.entries + (if has word.now then 1 else 0)) }
+    ensures order { OnOk result (keys_of counts.new.entries ≡ behind (keys_of counts.old.entries) word.now) }
     ensures memory { OnErr result (result ≡ Err PageFault.Memory) }
 {
     if let Some(at) = counts.get_index_of(word) {

@@ -21,13 +21,12 @@ ghost use Rattle.store_tables.specs.Broken.{SparesHead};
 use crate::pairs::{held_pairs, place_with, put_pair};
 use crate::putting::put_place;
 use crate::releasing::release_words;
-use crate::words::disagree;
 use indexmap::IndexMap;
 use page_face::{Damage, PageFault, Pages};
 use spatial_base::{Key, Point};
 use std::alloc::Global;
 use std::collections::BTreeMap;
-use store_tables::{Stored, Tables};
+use store_tables::{Stored, Tables, disagreement};
 use term_impacts::{Word, Words};
 
 // Maps the number that each word has in the map to the word's impact.
@@ -48,7 +47,7 @@ fn pair_words(
         return Ok(());
     };
     let Some(number) = numbers.get(word) else {
-        return Err(disagree());
+        return Err(disagreement());
     };
     put_pair(pairs, *number, *impact)?;
     pair_words(rest, numbers, pairs)

@@ -10,26 +10,15 @@ ghost use Rattle.row_codec.specs.Stored.{IsStored, held_pairs};
 ghost use Rattle.store_tables.specs.Entries.{Entries, word_cmp};
 ghost use Rattle.store_tables.specs.Holding.{Holds, numbers_form, table_uses};
 ghost use Rattle.store_tables.specs.Words.{words_of_pairs, words_of_place};
-ghost use Rattle.store_tables.specs.Broken.{words_disagree};
 ghost use Rattle.term_impacts.specs.Pairs.{IsWordMap};
 ghost use Rattle.table_updates.specs.Known.{AreKnown, IsWordsDamage};
 ghost use Rattle.table_updates.specs.Shown.{AreWordsFound};
 
-use page_face::{Damage, PageFault, Pages, Rule};
+use page_face::{Damage, PageFault, Pages};
 use std::alloc::Global;
 use std::collections::BTreeMap;
-use store_tables::{Stored, Tables};
+use store_tables::{Stored, Tables, disagreement};
 use term_impacts::{Word, Words};
-
-/// The fault of words whose tables disagree.
-pub(crate) fn disagree() -> PageFault
-    ensures { result ≡ PageFault.Damaged words_disagree }
-{
-    PageFault::Damaged(Damage {
-        page: 0,
-        rule: Rule::Words,
-    })
-}
 
 /// Returns the words of a stored place with their impacts, each read through the words by number.
 ///
@@ -64,7 +53,7 @@ pub fn words_of<P: Pages>(
     let by_word = words_of_pairs(alloc, pages, tables, held)?;
     let mut pairs = Vec::with_capacity(alloc, by_word.len()).map_err(|_| PageFault::Memory)?;
     list_words(&by_word, &mut pairs)?;
-    Words::of_pairs(pairs).ok_or(disagree())
+    Words::of_pairs(pairs).ok_or(disagreement())
 }
 
 // The words of pairs, by word.
@@ -99,7 +88,7 @@ fn words_of_pairs<P: Pages>(
     };
     let mut words = words_of_pairs(alloc, pages, tables, rest)?;
     let Some(word) = tables.word_of(pages, *number)? else {
-        return Err(disagree());
+        return Err(disagreement());
     };
     put_word(&mut words, word, *impact)?;
     Ok(words)

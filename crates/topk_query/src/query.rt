@@ -18,7 +18,7 @@ ghost use Rattle.best_first.specs.NodeOpenings.{StandsIn, opened_in, started_in}
 
 use best_first::{Ranking, first_k};
 use node_filter::Ids;
-use node_inverted::Tree;
+use node_rows::Tree;
 use page_face::{Damage, PageFault, Pages};
 use place_values::Hit;
 use spatial_base::Point;

@@ -14,7 +14,7 @@ returns-clause-least c = λ measured.
     let lists : List (List Pick) = lists_in c.args.lists.now in
     let picks : List Pick = c.in-Some.picks.items in
     let taken : IsChoice lists picks = subst (IsTaken lists) c.in-Some.is c.in_ok-picks.ensures in
-    let cost = c.cost_of.ensures.value ∙ ap (choice_cost at) c.deref.ensures.value in
+    let cost = c.cost_of_choice.ensures.value ∙ ap (choice_cost at) c.deref.ensures.value in
     let begun : Chosen = record { cost = choice_cost at picks; picks = picks } in
     let was : IsChosen at lists begun = record { choice = taken; cost = λ i. choice_cost at picks } in
     let is = c.in_ok-least_choice.ensures.least at measured (picks ∷ []) (λ i. Some record { cost = cost i; picks = c.from_vec.ensures i }) in

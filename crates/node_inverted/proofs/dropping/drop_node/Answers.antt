@@ -34,7 +34,7 @@ loop-from-init g c =
           let f : Bytes = dropped c.args.node b in
           dropping-none before root (g.P.Pages.pages c.args.pages.now) (g.P.Pages.count c.args.pages.now) (g.P.Pages.first c.args.pages.now) root c.args.node b 0 c.new-rows.result.items none
           (turns-as before root (g.P.Pages.pages c.args.pages.now) (g.P.Pages.count c.args.pages.now) (g.P.Pages.first c.args.pages.now) root b (until 0 f b) (start f b) (turns-same before root rows));
-      copy = λ free rows. c.none-copy.ensures (bytes_in (g.P.Pages.pages c.args.pages.now) c.args.tree.now.rows) c.args.node;
+      copy = λ free rows. c.none-copy.ensures.copy (bytes_in (g.P.Pages.pages c.args.pages.now) c.args.tree.now.rows) c.args.node;
       told = λ t. t;
       more = λ t. asks-nothing (λ _. 1) (g.P.Pages.asked c.args.pages.now) (g.P.Pages.asked c.args.pages.now) refl;
       frame = changes-none g.P.Pages c.args.pages.now (g.met.P.Pages.stays c.args.pages.now);

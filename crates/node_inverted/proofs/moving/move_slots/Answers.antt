@@ -17,7 +17,7 @@ use Rattle.node_rows.proofs.Told.{told-turned}
 use Rattle.node_rows.proofs.Faults.{changes-none}
 use Rattle.node_rows.proofs.Ascents.{start, all}
 use Rattle.node_inverted.proofs.Gathers.{moving-none}
-use Rattle.node_inverted.proofs.Moves.{moved-idle}
+use Rattle.node_rows.proofs.Moves.{moved-idle}
 use Rattle.node_inverted.proofs.moving.move_slots.Goals as goal
 
 pub loop-from-init : goal.loop-from-init
@@ -33,7 +33,7 @@ loop-from-init g c =
           let f : Bytes = moved c.args.node c.args.slots c.args.to b in
           moving-none before root (g.P.Pages.pages c.args.pages.now) (g.P.Pages.count c.args.pages.now) (g.P.Pages.first c.args.pages.now) root c.args.node c.args.slots c.args.to b 0 c.new-stays.result.items c.new-goes.result.items none_stays none_goes
           (turns-as before root (g.P.Pages.pages c.args.pages.now) (g.P.Pages.count c.args.pages.now) (g.P.Pages.first c.args.pages.now) root b (until 0 f b) (start f b) (turns-same before root rows));
-      copy = λ free apart rows clear. c.none-copy.ensures (bytes_in (g.P.Pages.pages c.args.pages.now) c.args.tree.now.rows) c.args.node;
+      copy = λ free apart rows clear. c.none-copy.ensures.copy (bytes_in (g.P.Pages.pages c.args.pages.now) c.args.tree.now.rows) c.args.node;
       told = λ t. t;
       more = λ t. asks-nothing (λ _. 1) (g.P.Pages.asked c.args.pages.now) (g.P.Pages.asked c.args.pages.now) refl;
       frame = changes-none g.P.Pages c.args.pages.now (g.met.P.Pages.stays c.args.pages.now);

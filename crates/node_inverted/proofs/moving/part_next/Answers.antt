@@ -5,7 +5,7 @@ use Rattle.node_rows.specs.Ascents.{on_word, until}
 use Rattle.node_inverted.specs.Drafts.{with_rows}
 use Rattle.node_rows.proofs.Turned.{turned-rest}
 use Rattle.node_rows.proofs.Ascents.{ascend, rest, left}
-use Rattle.node_inverted.proofs.Moves.{moved-same, moved-idle, on-here, on-other}
+use Rattle.node_rows.proofs.Moves.{moved-same, moved-idle, on-here, on-other}
 use Rattle.node_inverted.proofs.moving.part_next.Goals as goal
 
 pub returns-clause-parted : goal.returns-clause-parted

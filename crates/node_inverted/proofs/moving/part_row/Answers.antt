@@ -5,7 +5,7 @@ use Rattle.node_rows.specs.Turns.{with_row}
 use Rattle.node_inverted.specs.Drafts.{with_rows}
 use Rattle.node_inverted.specs.declared.taking.NodeRow.{NodeRow}
 use Rattle.node_inverted.proofs.Gathers.{both-more, row-same}
-use Rattle.node_inverted.proofs.Moves.{moved-none, moved-set}
+use Rattle.node_rows.proofs.Moves.{moved-none, moved-set}
 use Rattle.node_inverted.proofs.moving.part_row.Goals as goal
 
 pub returns-then-is_clear-clause-parted : goal.returns-then-is_clear-clause-parted

@@ -13,12 +13,12 @@ use Rattle.rtree_nodes.specs.Stock.{rows_form}
 use Rattle.node_rows.specs.Rows.{Bytes, bytes_in}
 use Rattle.node_rows.specs.Ascents.{until}
 use Rattle.node_rows.specs.Impacts.{refreshed}
-use Rattle.node_inverted.specs.Refreshing.{IsBounded, lesser_of, word_of}
+use Rattle.node_rows.specs.Refreshing.{IsBounded, lesser_of, word_of}
 use Rattle.node_rows.proofs.Bytes.{bytes-large}
 use Rattle.node_rows.proofs.Faults.{changes-none}
 use Rattle.node_rows.proofs.Harms.{harm-later, harm-looked}
 use Rattle.node_rows.proofs.Told.{told-turned}
-use Rattle.node_inverted.proofs.Refreshes.{refresh-begins, refreshed-all}
+use Rattle.node_rows.proofs.Refreshes.{refresh-begins, refreshed-all}
 use Rattle.node_inverted.proofs.refreshing.refresh.Goals as goal
 
 pub loop-number-init : goal.loop-number-init
@@ -61,8 +61,8 @@ returns-clause-turns g c = λ free rows apart.
     let two = c.next_in-2.ensures.frame in
     let map' : IsMap rows_form (g.P.Pages.pages c.next_in.new.pages) root = subst (λ (p : PageMap). IsMap rows_form p root) (sym one.pages) rows.kept.map in
     let same : (w i : ℕ) → 0 ≤ w → bytes_in (g.P.Pages.pages c.next_in.new.pages) root c.args.node w i ≡ b c.args.node w i = λ w i l. ap (λ (p : PageMap). bytes_in p root c.args.node w i) one.pages in
-    let none_low = c.none-below_copy.ensures b c.args.child in
-    let none_high = c.none-above_copy.ensures b c.args.node in
+    let none_low = c.none-below_copy.ensures.copy b c.args.child in
+    let none_high = c.none-above_copy.ensures.copy b c.args.node in
     let held_low = c.in_ok-below.ensures.copy b rows.kept.map (λ w i l. refl) none_low in
     let held_high = c.in_ok-above.ensures.copy b map' same none_high in
     let high = c.in_ok-above.ensures.next b map' same none_high in
@@ -83,8 +83,8 @@ returns-in_err-refresh_word-clause-no_false_damage g c = λ free rows apart told
     let two = c.next_in-2.ensures.frame in
     let map' : IsMap rows_form (g.P.Pages.pages c.next_in.new.pages) root = subst (λ (p : PageMap). IsMap rows_form p root) (sym one.pages) rows.kept.map in
     let same : (w i : ℕ) → 0 ≤ w → bytes_in (g.P.Pages.pages c.next_in.new.pages) root c.args.node w i ≡ b c.args.node w i = λ w i l. ap (λ (p : PageMap). bytes_in p root c.args.node w i) one.pages in
-    let none_low = c.none-below_copy.ensures b c.args.child in
-    let none_high = c.none-above_copy.ensures b c.args.node in
+    let none_low = c.none-below_copy.ensures.copy b c.args.child in
+    let none_high = c.none-above_copy.ensures.copy b c.args.node in
     let held_low = c.in_ok-below.ensures.copy b rows.kept.map (λ w i l. refl) none_low in
     let held_high = c.in_ok-above.ensures.copy b map' same none_high in
     let high = c.in_ok-above.ensures.next b map' same none_high in

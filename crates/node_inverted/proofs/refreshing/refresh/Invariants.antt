@@ -5,7 +5,7 @@ use Rattle.btree_nodes.specs.Supply.{View}
 use Rattle.node_rows.specs.Rows.{Bytes}
 use Rattle.node_rows.specs.Ascents.{left_from}
 use Rattle.node_rows.specs.Copies.{IsCopy}
-use Rattle.node_inverted.specs.Refreshing.{IsRefreshing, IsBounded, lesser_of, word_of}
+use Rattle.node_rows.specs.Refreshing.{IsRefreshing, IsBounded, lesser_of, word_of}
 use Rattle.node_inverted.proofs.refreshing.refresh.Given as goal
 
 -- the words before those that lie ahead are refreshed

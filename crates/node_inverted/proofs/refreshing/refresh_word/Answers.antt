@@ -17,7 +17,7 @@ use Rattle.node_rows.proofs.Harms.{harm-later}
 use Rattle.node_rows.proofs.Turned.{turns-as, turns-further, turned-rest}
 use Rattle.node_rows.proofs.Told.{told-turned}
 use Rattle.node_rows.proofs.Impacts.{top-row}
-use Rattle.node_inverted.proofs.Refreshes.{least, ahead-byte, refreshed-next}
+use Rattle.node_rows.proofs.Refreshes.{least, ahead-byte, refreshed-next}
 use Rattle.node_inverted.proofs.refreshing.refresh_word.Goals as goal
 
 pub returns-clause-turns : goal.returns-clause-turns

@@ -9,7 +9,7 @@ use Rattle.node_rows.specs.Rows.{Bytes, bytes_in}
 use Rattle.node_rows.specs.Turns.{Turns}
 use Rattle.node_inverted.specs.Drafts.{with_rows}
 use Rattle.node_rows.specs.Impacts.{refreshed}
-use Rattle.node_inverted.specs.Refreshing.{on_words}
+use Rattle.node_rows.specs.Refreshing.{on_words}
 use Rattle.node_inverted.specs.declared.taking.NodeRow.{NodeRow}
 use Rattle.node_inverted.specs.Gathers.{IsRenewing}
 use Rattle.node_rows.proofs.Harms.{harm-later}
@@ -29,7 +29,7 @@ loop-pair-init g c =
           let root : ℕ = c.args.tree.now.rows in
           let b : Bytes = bytes_in (g.P.Pages.pages c.args.pages.now) root in
           renewing-none before root (g.P.Pages.pages c.args.pages.now) (g.P.Pages.count c.args.pages.now) (g.P.Pages.first c.args.pages.now) root c.args.node c.args.slot c.args.child b []
-          c.new-rows.result.items c.none-below.result c.none-above.result apart none (c.none-below.ensures b c.args.child) (λ d. c.none-above.ensures d c.args.node) (turns-same before root rows);
+          c.new-rows.result.items c.none-below.result c.none-above.result apart none (c.none-below.ensures.copy b c.args.child) (λ d. c.none-above.ensures.copy d c.args.node) (turns-same before root rows);
       told = λ t. t;
       more = λ t. asks-nothing (λ _. 1) (g.P.Pages.asked c.args.pages.now) (g.P.Pages.asked c.args.pages.now) refl;
       frame = changes-none g.P.Pages c.args.pages.now (g.met.P.Pages.stays c.args.pages.now);

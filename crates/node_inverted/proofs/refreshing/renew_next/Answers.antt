@@ -14,7 +14,7 @@ use Rattle.node_inverted.specs.Drafts.{with_rows}
 use Rattle.node_rows.proofs.Harms.{harm-later, harm-looked}
 use Rattle.node_rows.proofs.Turned.{turned-rest}
 use Rattle.node_rows.proofs.Impacts.{byte-here, byte-another, top-row}
-use Rattle.node_inverted.proofs.Refreshes.{ahead-byte, away, next-from, refreshed-beside, renewed-next}
+use Rattle.node_rows.proofs.Refreshes.{ahead-byte, away, next-from, refreshed-beside, renewed-next}
 use Rattle.node_inverted.proofs.refreshing.renew_next.Goals as goal
 
 pub returns-clause-renewing : goal.returns-clause-renewing

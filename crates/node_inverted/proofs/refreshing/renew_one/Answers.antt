@@ -23,7 +23,7 @@ returns-clause-renewing g c = λ before root impact b words apart h.
     let more : List (ℕ × ℕ) = words ++ (c.args.number, impact) ∷ [] in
     let k = c.in_ok-renew_next.ensures.renewing before root impact b words apart h in
     renewing-none before root (g.P.Pages.pages c.set_rows.new.pages) (g.P.Pages.count c.set_rows.new.pages) (g.P.Pages.first c.set_rows.new.pages) c.set_rows.new.tree.rows c.args.node c.args.slot c.args.child b more
-    c.clear.new.self.items c.renew_next.new.below c.none.result apart c.clear.ensures.items k.low (λ d. c.none.ensures d c.args.node)
+    c.clear.new.self.items c.renew_next.new.below c.none.result apart c.clear.ensures.items k.low (λ d. c.none.ensures.copy d c.args.node)
     (renewing-set before root (g.P.Pages.pages c.renew_next.new.pages) (g.P.Pages.count c.renew_next.new.pages) (g.P.Pages.first c.renew_next.new.pages) c.args.tree.now.rows c.args.node c.args.slot c.args.child b more
     c.renew_next.new.rows.items c.renew_next.new.below c.renew_next.new.above k
     (g.P.Pages.pages c.set_rows.new.pages) (g.P.Pages.count c.set_rows.new.pages) (g.P.Pages.first c.set_rows.new.pages) c.set_rows.new.tree.rows

@@ -24,7 +24,7 @@ pub loop-from-init : goal.loop-from-init
 loop-from-init g c =
     let empty : c.new-rows.result.items ≡ [] = search rules in
     record {
-      copy = λ map. c.none-copy.ensures (bytes_in (g.P.Pages.pages c.args.pages.now) c.args.tree.now.rows) c.args.node;
+      copy = λ map. c.none-copy.ensures.copy (bytes_in (g.P.Pages.pages c.args.pages.now) c.args.tree.now.rows) c.args.node;
       listed = λ map n w i. ap (λ (rs : List NodeRow). lifted_at rs w i) empty ∙ start (bytes_at c.args.node (bytes_in (g.P.Pages.pages c.args.pages.now) c.args.tree.now.rows)) no_bytes n w i;
       ordered = subst (AreOrdered 0 0) (sym empty) (omega arith);
       own = λ t. asks-nothing (map_uses rows_form (g.P.Pages.pages c.args.pages.now) c.args.tree.now.rows) (g.P.Pages.asked c.args.pages.now) (g.P.Pages.asked c.args.pages.now) refl;

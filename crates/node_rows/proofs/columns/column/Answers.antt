@@ -23,7 +23,7 @@ pub loop-from-init : goal.loop-from-init
 loop-from-init g c =
     let empty : c.new-words.result.items ≡ [] = search rules in
     record {
-      copy = λ map. c.none-copy.ensures (bytes_in (g.P.Pages.pages c.args.pages.now) c.args.tree.now.rows) c.args.node;
+      copy = λ map. c.none-copy.ensures.copy (bytes_in (g.P.Pages.pages c.args.pages.now) c.args.tree.now.rows) c.args.node;
       listed = λ map n w i. ap (λ (ps : List (ℕ × ℕ)). impact_in ps w) empty ∙ start (slot_of (bytes_in (g.P.Pages.pages c.args.pages.now) c.args.tree.now.rows) c.args.node c.args.slot) no_bytes n w i;
       ordered = subst (AreWords 0 0) (sym empty) (omega arith);
       own = λ told. asks-nothing (map_uses rows_form (g.P.Pages.pages c.args.pages.now) c.args.tree.now.rows) (g.P.Pages.asked c.args.pages.now) (g.P.Pages.asked c.args.pages.now) refl;

@@ -1,11 +1,12 @@
-use Rattle.std.proofs.Common.{◌≡◌, ◌<◌, ◌≤◌, ℕ, sym, subst, arith}
+use Rattle.std.proofs.Common.{◌≡◌, ◌<◌, ◌≤◌, ℕ, Result, Ok, Err, refl, sym, subst, arith}
+use Rattle.std.specs.Prelude.{OnOk}
 use Rattle.std.proofs.lemmas.Result.{IfOk-weaker}
 use Rattle.page_face.specs.FreeList.{PageMap}
 use Rattle.btree_nodes.specs.Damages.{AreReadable, AsksOnly}
-use Rattle.btree_nodes.specs.Tree.{IsMap, map_uses}
+use Rattle.btree_nodes.specs.Tree.{IsMap, map_rows, map_uses}
 use Rattle.btree_nodes.proofs.Harms.{asks-further}
 use Rattle.rtree_nodes.specs.Stock.{rows_form}
-use Rattle.node_rows.specs.Rows.{Bytes, bytes_in}
+use Rattle.node_rows.specs.Rows.{AreFilled, Bytes, bytes_in}
 use Rattle.node_rows.specs.Turns.{Next}
 use Rattle.node_rows.specs.Damages.{IsRowsDamage}
 use Rattle.node_rows.proofs.Faults.{damage-later}
@@ -46,3 +47,22 @@ returns-in-Err-seek-clause-own g c = λ told.
     let still : AreReadable (g.P.Pages.pages c.fill.new.pages) (g.P.Pages.count c.fill.new.pages) = rw (f.pages, f.count) told in
     asks-further (map_uses rows_form old root) (g.P.Pages.asked c.args.pages.now) (g.P.Pages.asked c.fill.new.pages) (g.P.Pages.asked c.next_row.new.pages) (c.fill.ensures.own told)
     (subst (λ (p : PageMap). AsksOnly (map_uses rows_form p root) (g.P.Pages.asked c.fill.new.pages) (g.P.Pages.asked c.next_row.new.pages)) f.pages (c.next_row.ensures.own still))
+
+-- a fact holds where a call succeeded, if it holds anyway
+on-ok : {T E A : Type 0} (r : Result T E) → A → OnOk r A
+on-ok (Ok v) a = a
+on-ok (Err e) a = tt
+
+pub returns-in-Ok-seek-clause-filled : goal.returns-in-Ok-seek-clause-filled
+returns-in-Ok-seek-clause-filled g c = λ map all.
+    let b : Bytes = bytes_in (g.P.Pages.pages c.args.pages.now) c.args.tree.now.rows in
+    let filled = c.in-Ok.ensures.filled map all in
+    (filled, c.in-Ok-seek.ensures.filled b (c.in-Ok.ensures.copy b map (λ w i l. refl)) filled)
+
+pub returns-in-Err-seek-clause-filled : goal.returns-in-Err-seek-clause-filled
+returns-in-Err-seek-clause-filled g c = λ map all.
+    let f = c.fill.ensures.frame in
+    let root : ℕ = c.args.tree.now.rows in (
+      on-ok c.next_row.result (c.in-Ok.ensures.filled map all),
+      c.next_row.ensures.filled (subst (λ (p : PageMap). IsMap rows_form p root) (sym f.pages) map) (subst (λ (p : PageMap). AreFilled (map_rows rows_form p root)) (sym f.pages) all),
+    )

@@ -16,3 +16,9 @@ returns-else-tree-eq0-clause-next g c = λ b map same copy.
     let quiet : (w i : ℕ) → c.args.from ≤ w → w < at → b node w i ≡ 0 = c.in-Err.ensures.next b copy in
     IfOk-weaker c.next_filled.result (Next b node at) (Next b node c.args.from) (λ o. next-on b b node c.args.from at o le (λ w i l. sym (same w i (omega arith)) ∙ same w i (omega arith)) quiet)
     (c.next_filled.ensures.next b map (λ w i l. same w i (omega arith)))
+
+pub returns-in-Ok-clause-filled : goal.returns-in-Ok-clause-filled
+returns-in-Ok-clause-filled g c = λ b map all copy filled. (filled, c.in-Ok.ensures.filled b copy filled)
+
+pub returns-else-tree-eq0-clause-filled : goal.returns-else-tree-eq0-clause-filled
+returns-else-tree-eq0-clause-filled g c = λ b map all copy filled. c.next_filled.ensures.filled map all

@@ -3,14 +3,14 @@ use Rattle.page_face.specs.FreeList.{PageMap}
 use Rattle.page_face.specs.Number.{number}
 use Rattle.btree_nodes.specs.Damages.{AsksOnly}
 use Rattle.btree_nodes.specs.Rows.{Row}
-use Rattle.btree_nodes.specs.Tree.{IsMap, map_uses}
+use Rattle.btree_nodes.specs.Tree.{IsMap, map_rows, map_uses}
 use Rattle.paged_map.specs.Lookups.{IsFirstFound}
 use Rattle.paged_map.proofs.Lookups.{kept-none, kept-some}
 use Rattle.rtree_nodes.specs.Stock.{rows_form}
 use Rattle.node_rows.specs.Lookups.{IsNextFound}
-use Rattle.node_rows.specs.Rows.{bytes_in, key_of}
+use Rattle.node_rows.specs.Rows.{AreFilled, bytes_in, key_of}
 use Rattle.node_rows.specs.Turns.{IsNext, Next}
-use Rattle.node_rows.proofs.Found.{next-found, next-lost, next-on, next-passed}
+use Rattle.node_rows.proofs.Found.{found-filled, next-found, next-lost, next-on, next-passed}
 use Rattle.node_rows.proofs.next.next_row.Goals as goal
 
 pub returns-in_default-clause-own : goal.returns-in_default-clause-own
@@ -94,3 +94,13 @@ returns-clause-kept g c = λ told.
       kept-some (IsFirstFound rows_form old count c.at-map.result.root) _ (key_of c.args.node c.args.from) row row _ c.in-Some._leaf c.bytes-key.ensures c.in-Some.is refl (c.in_ok-_leaf.ensures.kept told),
       ap (λ (k : ℕ). Some (k, c.first_from.new.value)) (c.of_bytes-next.ensures ∙ ap (λ (n : ℕ). key_of n c.of_bytes-next.result.number) c.if-next-node.false),
     )
+
+pub returns-clause-filled : goal.returns-clause-filled
+returns-clause-filled g c = λ map filled.
+    let old : PageMap = g.P.Pages.pages c.args.pages.now in
+    let same = c.at-map.ensures in
+    let map' : IsMap rows_form old c.at-map.result.root = subst (IsMap rows_form old) (sym same) map in
+    let row : Row = (number c.first_from.new.found, c.first_from.new.value) in
+    let fits : c.of_bytes-next.result.number < 2 ^ 64 = search rules in
+    found-filled old c.at-map.result.root c.args.node c.args.from (number c.bytes-key.result) c.ranges.from.fits c.bytes-key.ensures row c.in_ok-_leaf.field-0 map' (c.in_ok-_leaf.ensures.found map')
+    c.in-Some._leaf c.of_bytes-next.result.node c.of_bytes-next.result.number c.in-Some.is fits c.of_bytes-next.ensures (subst (λ (r : ℕ). AreFilled (map_rows rows_form old r)) (sym same) filled)

@@ -1,14 +1,16 @@
-use Rattle.std.proofs.Common.{◌≡◌, ℕ, Some, None, refl, ◌∙◌, sym, ap, subst}
+use Rattle.std.proofs.Common.{◌≡◌, ℕ, List, Some, None, refl, ◌∙◌, sym, ap, subst}
 use Rattle.page_face.specs.FreeList.{PageMap}
 use Rattle.page_face.specs.Number.{number}
-use Rattle.btree_nodes.specs.Tree.{IsMap}
+use Rattle.btree_nodes.specs.Rows.{Row, lookup}
+use Rattle.btree_nodes.specs.Tree.{IsMap, map_rows, map_uses}
+use Rattle.paged_map.specs.Answers.{HoldsRow}
 use Rattle.paged_map.specs.Lookups.{IsLookedUp}
 use Rattle.paged_map.specs.Spots.{leaf_of}
 use Rattle.paged_map.proofs.Lookups.{kept-none, kept-some}
 use Rattle.rtree_nodes.specs.Stock.{rows_form}
 use Rattle.node_rows.specs.Lookups.{IsRowFound}
 use Rattle.node_rows.specs.Rows.{HasBytes, bytes_in, key_of}
-use Rattle.node_rows.proofs.Found.{row-none, row-some}
+use Rattle.node_rows.proofs.Found.{located-none, located-some, row-none, row-some}
 use Rattle.node_rows.proofs.rows.find_row.Goals as goal
 
 pub returns-in-Some-clause-row : goal.returns-in-Some-clause-row
@@ -47,3 +49,23 @@ returns-in-None-clause-kept g c = λ told.
       kept-none (IsLookedUp rows_form old count c.at.result.root) _ (key_of c.args.node c.args.number) c.find.new.value _ c.bytes-key.ensures c.in-None.is (c.in_ok-spot.ensures.kept told),
       c.clear_row.ensures.none,
     )
+
+pub returns-in-Some-clause-there : goal.returns-in-Some-clause-there
+returns-in-Some-clause-there g c = λ map.
+    let old : PageMap = g.P.Pages.pages c.args.pages.now in
+    let same = c.at.ensures in
+    let there = c.in_ok-spot.ensures.found (subst (IsMap rows_form old) (sym same) map) in
+    let rows : List Row = map_rows rows_form old c.at.result.root in
+    ap (λ (r : ℕ). lookup (key_of c.args.node c.args.number) (map_rows rows_form old r)) (sym same)
+    ∙ ap (λ (k : ℕ). lookup k rows) (sym c.bytes-key.ensures)
+    ∙ located-some (lookup (number c.bytes-key.result) rows) c.find.new.value (HoldsRow rows_form old (map_uses rows_form old c.at.result.root) (number c.bytes-key.result, c.find.new.value)) (leaf_of c.in_ok-spot.field-0) c.in-Some.spot.page (ap leaf_of c.in-Some.is) there
+
+pub returns-in-None-clause-there : goal.returns-in-None-clause-there
+returns-in-None-clause-there g c = λ map.
+    let old : PageMap = g.P.Pages.pages c.args.pages.now in
+    let same = c.at.ensures in
+    let there = c.in_ok-spot.ensures.found (subst (IsMap rows_form old) (sym same) map) in
+    let rows : List Row = map_rows rows_form old c.at.result.root in
+    ap (λ (r : ℕ). lookup (key_of c.args.node c.args.number) (map_rows rows_form old r)) (sym same)
+    ∙ ap (λ (k : ℕ). lookup k rows) (sym c.bytes-key.ensures)
+    ∙ located-none (lookup (number c.bytes-key.result) rows) c.find.new.value (HoldsRow rows_form old (map_uses rows_form old c.at.result.root) (number c.bytes-key.result, c.find.new.value)) (leaf_of c.in_ok-spot.field-0) (ap leaf_of c.in-None.is) there

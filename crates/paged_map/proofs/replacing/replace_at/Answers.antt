@@ -5,7 +5,7 @@ use Rattle.btree_nodes.specs.Build.{image}
 use Rattle.btree_nodes.specs.declared.form.Form.{Form}
 use Rattle.paged_map.specs.Edits.{edited}
 use Rattle.paged_map.specs.declared.editing.Cut.{Cut}
-use Rattle.paged_map.proofs.Spots.{on_ok, replaced, replaced-sound}
+use Rattle.paged_map.proofs.Spots.{on_ok, others-stay, replaced, replaced-sound}
 use Rattle.paged_map.proofs.replacing.replace_at.Goals as goal
 
 pub write_leaf-requires-clause-sound : goal.write_leaf-requires-clause-sound
@@ -26,3 +26,6 @@ returns-clause-becomes g c = λ root free kept leaf.
     (g.P.Pages.pages c.write_leaf.new.pages) (g.P.Pages.count c.write_leaf.new.pages) (g.P.Pages.first c.write_leaf.new.pages) c.requires.key c.requires.value c.requires.row leaf kept
     (written ∙ ap (λ (x : Cut). with_page c.args.spot.now.page (image c.args.form.map 1 0 n (edited x.size x.from x.until c.args.key.now c.args.value.now (g.P.Pages.looked c.args.pages.now))) old) c.cut_of-cut.ensures.is)
     c.write_leaf.ensures.count c.write_leaf.ensures.first)
+
+pub returns-clause-alone : goal.returns-clause-alone
+returns-clause-alone g c = others-stay c.write_leaf.result (g.P.Pages.pages c.args.pages.now) (g.P.Pages.pages c.write_leaf.new.pages) c.args.spot.now.page _ c.write_leaf.ensures.written c.write_leaf.ensures.kept

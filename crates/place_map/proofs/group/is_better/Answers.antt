@@ -4,7 +4,7 @@ use Rattle.place_map.proofs.group.is_better.Goals as goal
 
 pub returns-in-Some : goal.returns-in-Some
 returns-in-Some c = λ at costs tried was.
-    pushed_next at c.args.picks.now c.args.cost c.args.best.now c.in-Some.best c.against.result tried c.in-Some.is c.against.ensures costs was
+    pushed_next at c.args.picks.now c.args.cost c.args.best.now c.in-Some.best c.choice_order.result tried c.in-Some.is c.choice_order.ensures costs was
     ∙ ap (λ t. cond t (with_cost c.args.cost c.args.picks.now) c.args.best.now) (sym c.is_lt.ensures)
 
 pub returns-in-None : goal.returns-in-None

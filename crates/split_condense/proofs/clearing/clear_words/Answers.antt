@@ -7,7 +7,7 @@ use Rattle.btree_nodes.specs.Supply.{View, view}
 use Rattle.btree_nodes.proofs.Harms.{asks-further, asks-nothing}
 use Rattle.node_rows.specs.Rows.{Bytes, bytes_in}
 use Rattle.node_rows.specs.Impacts.{with_byte}
-use Rattle.node_inverted.specs.Refreshing.{on_words}
+use Rattle.node_rows.specs.Refreshing.{on_words}
 use Rattle.node_rows.proofs.Harms.{harm-later}
 use Rattle.node_rows.proofs.Turned.{turns-same, turns-as, turns-further}
 use Rattle.node_rows.proofs.Told.{told-turned}

@@ -4,7 +4,7 @@ use Rattle.btree_nodes.specs.Damages.{AreReadable, AsksOnly}
 use Rattle.btree_nodes.specs.Supply.{view}
 use Rattle.node_rows.specs.Rows.{IsRows, bytes_in}
 use Rattle.node_rows.specs.Turns.{Turns}
-use Rattle.node_inverted.specs.Refreshing.{on_words}
+use Rattle.node_rows.specs.Refreshing.{on_words}
 use Rattle.split_condense.specs.Clears.{cleared}
 use Rattle.split_condense.proofs.clearing.clear_words.Given as goal
 

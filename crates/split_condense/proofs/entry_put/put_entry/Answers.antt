@@ -12,7 +12,7 @@ use Rattle.irtree_shape.specs.Made.{nodes_in}
 use Rattle.irtree_shape.proofs.Harms.{tree-later}
 use Rattle.irtree_shape.specs.Entries.{HasEntry, HasPlace, entry_at}
 use Rattle.irtree_shape.specs.Regrown.{IsMissing, IsRegrown}
-use Rattle.split_condense.proofs.Regrowths.{nothing-regrown, planted-regrown, regrown-further}
+use Rattle.split_condense.proofs.Regrowths.{nothing-regrown, planted-for, planted-regrown, regrown-further}
 use Rattle.split_condense.proofs.Same.{none-same, stored-same}
 use Rattle.split_condense.proofs.Told.{told-regrown}
 use Rattle.split_condense.proofs.entry_put.put_entry.Goals as goal
@@ -138,3 +138,33 @@ returns-in_err-insert-clause-same g c = λ same. absurd (none-same c.args.old c.
 
 pub returns-clause-same : goal.returns-clause-same
 returns-clause-same g c = λ same. absurd (none-same c.args.old c.in-Some.old c.args.new.now c.eq.result c.in-Some.is c.eq.ensures c.if-eq.false same)
+
+-- ---- no split is counted then
+
+pub returns-in_default-clause-unsplit : goal.returns-in_default-clause-unsplit
+returns-in_default-clause-unsplit g c = λ same. let none : None ≡ Some c.args.new.now = sym (ap option_copied c.in_default.is) ∙ same in absurd (cc)
+
+pub returns-in_err-take_entry-clause-unsplit : goal.returns-in_err-take_entry-clause-unsplit
+returns-in_err-take_entry-clause-unsplit g c = λ same. absurd (none-same c.args.old c.in-Some.old c.args.new.now c.eq.result c.in-Some.is c.eq.ensures c.if-eq.false same)
+
+pub returns-in_err-insert-clause-unsplit : goal.returns-in_err-insert-clause-unsplit
+returns-in_err-insert-clause-unsplit g c = λ same. absurd (none-same c.args.old c.in-Some.old c.args.new.now c.eq.result c.in-Some.is c.eq.ensures c.if-eq.false same)
+
+pub returns-clause-unsplit : goal.returns-clause-unsplit
+returns-clause-unsplit g c = λ same. absurd (none-same c.args.old c.in-Some.old c.args.new.now c.eq.result c.in-Some.is c.eq.ensures c.if-eq.false same)
+
+-- ---- a new place's entry
+
+pub returns-in_default-clause-planted : goal.returns-in_default-clause-planted
+returns-in_default-clause-planted g c = λ free whole none.
+    let P = g.P.Pages in
+    let tree = c.args.tree.now in
+    let before : View = view (P.pages c.args.pages.now) tree.rows (P.count c.args.pages.now) (P.first c.args.pages.now) free in
+    planted-for c.insert.result before (P.pages c.insert.new.pages) c.insert.new.tree.rows (P.count c.insert.new.pages) (P.first c.insert.new.pages) tree.root c.insert.new.tree.root c.entry_of.result c.args.key.now c.args.new.now _
+    c.entry_of.ensures (c.insert.ensures.planted free whole)
+
+pub returns-then-eq-clause-planted : goal.returns-then-eq-clause-planted
+returns-then-eq-clause-planted g c = λ free whole none. (let some : Some c.in-Some.old.now ≡ None = sym (ap option_copied c.in-Some.is) ∙ none in absurd (cc))
+
+pub returns-clause-planted : goal.returns-clause-planted
+returns-clause-planted g c = λ free whole none. (let some : Some c.in-Some.old.now ≡ None = sym (ap option_copied c.in-Some.is) ∙ none in absurd (cc))

@@ -22,7 +22,7 @@ use Rattle.rtree_nodes.specs.Ways.{IsWay}
 use Rattle.node_rows.specs.Rows.{IsRows, bytes_in}
 use Rattle.node_rows.specs.Turns.{Turns}
 use Rattle.node_rows.specs.Impacts.{impact_in, refreshed}
-use Rattle.node_inverted.specs.Refreshing.{on_words}
+use Rattle.node_rows.specs.Refreshing.{on_words}
 use Rattle.node_rows.proofs.Turned.{view-same as supply-same}
 use Rattle.node_rows.proofs.Harms.{harm-later}
 use Rattle.irtree_shape.specs.Words.{worded, words_on, joined}

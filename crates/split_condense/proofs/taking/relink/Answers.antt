@@ -2,8 +2,8 @@ use Rattle.std.proofs.lemmas.Result.{on_ok_weaker}
 use Rattle.rtree_nodes.specs.Stock.{view, plain}
 use Rattle.node_rows.specs.Rows.{Bytes, bytes_in}
 use Rattle.node_rows.specs.Impacts.{refreshed}
-use Rattle.node_inverted.specs.Refreshing.{on_words}
-use Rattle.node_inverted.proofs.Refreshes.{renewed-all}
+use Rattle.node_rows.specs.Refreshing.{on_words}
+use Rattle.node_rows.proofs.Refreshes.{renewed-all}
 use Rattle.node_rows.proofs.Turned.{turns-as}
 use Rattle.split_condense.proofs.taking.relink.Goals as goal
 

@@ -3,7 +3,7 @@ use Rattle.std.specs.List.{IsDistinct}
 use Rattle.std.specs.Map.{keys_of}
 use Rattle.std.specs.Str.{bytes_eq}
 use Rattle.store_model.specs.Ahead.{AreCountedWords, times_counted}
-use Rattle.table_updates.proofs.Counting.{counted-at, counted-more, times-at, times-more, times-most, times-none, times_of}
+use Rattle.table_updates.proofs.Counting.{counted-at, counted-more, keys-put, order-at, times-at, times-more, times-most, times-none, times_of}
 use Rattle.table_updates.proofs.gathering.count_word.Goals as goal
 
 pub overflow_add-index_mut : goal.overflow_add-index_mut
@@ -29,3 +29,9 @@ returns-in-Ok-clause-counted c =
 pub returns-in-Ok-clause-more : goal.returns-in-Ok-clause-more
 returns-in-Ok-clause-more c = λ has.
     ap (times_counted has) c.in-Ok.ensures.entries ∙ times-more has c.args.word.now c.args.counts.now.entries 0 (times-none _ c.in_default.ensures.found)
+
+pub returns-in-Some-clause-order : goal.returns-in-Some-clause-order
+returns-in-Some-clause-order c = order-at c.args.word.now c.args.counts.now.entries c.in-Some.at c.index_mut.result.now (sym c.in-Some.ensures.index)
+
+pub returns-in-Ok-clause-order : goal.returns-in-Ok-clause-order
+returns-in-Ok-clause-order c = ap keys_of c.in-Ok.ensures.entries ∙ keys-put c.args.word.now 1 c.args.counts.now.entries

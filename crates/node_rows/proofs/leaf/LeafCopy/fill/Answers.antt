@@ -11,7 +11,7 @@ use Rattle.btree_nodes.specs.Steps.{low_of, high_of}
 use Rattle.paged_map.proofs.Maps.{map-damage, map-undamaged}
 use Rattle.rtree_nodes.specs.Stock.{rows_form}
 use Rattle.node_rows.specs.Rows.{key_of}
-use Rattle.node_rows.proofs.Copies.{filled}
+use Rattle.node_rows.proofs.Copies.{filled, leaf-filled}
 use Rattle.node_rows.proofs.leaf.LeafCopy.fill.Goals as goal
 
 pub returns-in-Ok-clause-copy : goal.returns-in-Ok-clause-copy
@@ -50,3 +50,17 @@ returns-in-Err-clause-no_false_damage g c = λ map counted told damage e.
     let root : ℕ = c.args.tree.now.rows in
     map-undamaged rows_form old count root damage map counted
     (map-damage rows_form old count root damage c.requires.root (subst (λ (f : Form). IsDamaged f old count damage (least_of_root (level_of (old root))) (level_of (old root)) root 0 (256 ^ f.key)) c.row_form-form.ensures (c.locate.ensures.damaged told damage (c.in-Err.is ∙ ap Err (same-fault {T = Unit {0}} _ _ e)))))
+
+pub returns-in-Ok-clause-filled : goal.returns-in-Ok-clause-filled
+returns-in-Ok-clause-filled g c = λ map all begun.
+    let form : Form = c.row_form-form.result in
+    let e : form ≡ rows_form = c.row_form-form.ensures in
+    let old : PageMap = g.P.Pages.pages c.args.pages.now in
+    let root : ℕ = c.args.tree.now.rows in
+    let s = c.in-Ok.ensures.shown in
+    let map' : IsMap form old root = subst (λ (f : Form). IsMap f old root) (sym e) map in
+    let l = c.in-Ok.ensures.located map' in
+    let low : ℕ = low_of form c.locate.new.bounds in
+    let high : ℕ = high_of form c.locate.new.bounds in
+    let bytes : List ℕ = c.looked.result.now in
+    leaf-filled form e old root c.in-Ok._leaf.least c.in-Ok._leaf.page low high bytes (c.looked.ensures ∙ l.0) (subst (λ (x : List ℕ). IsWithin low high (rows_in form x)) (sym c.looked.ensures) s.within) l.1 all

@@ -1,4 +1,4 @@
-use Rattle.std.proofs.Common.{◌≡◌, Err, inl, inr, ⊎_elim, ap, sym}
+use Rattle.std.proofs.Common.{◌≡◌, Err, inl, inr, ⊎_elim, ap, sym, ◌∙◌}
 use Rattle.std.proofs.lemmas.Result.{err_from_is_err_and}
 use Rattle.page_face.specs.declared.fault.PageFault.TheVariants.{Damaged}
 use Rattle.btree_nodes.proofs.Harms.{asked-before, asks-further}
@@ -80,3 +80,6 @@ returns-clause-takes g c entries free holds apart told =
     let kept : IsApart (view (g.P.Pages.pages c.number_of.new.pages) (g.P.Pages.count c.number_of.new.pages) (g.P.Pages.first c.number_of.new.pages) free) c.args.self.now = rw (f.pages, f.count, f.first) apart in
     let still : AreReadable (g.P.Pages.pages c.number_of.new.pages) (g.P.Pages.count c.number_of.new.pages) = rw (f.pages, f.count) told in
     takes-read g.P.Pages _ c.args.pages.now c.number_of.new.pages c.hold_numbered.new.pages f (rw (sym f.pages) (c.hold_numbered.ensures.takes entries free held kept still))
+
+pub returns-clause-unwritten : goal.returns-clause-unwritten
+returns-clause-unwritten g c told = λ e. c.hold_numbered.ensures.unwritten told e ∙ c.number_of.ensures.frame.pages

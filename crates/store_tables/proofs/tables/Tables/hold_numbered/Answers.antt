@@ -7,6 +7,7 @@ use Rattle.btree_nodes.proofs.Harms.{asked-before, asks-further}
 use Rattle.btree_nodes.specs.Damages.{AreReadable, AsksOnly}
 use Rattle.btree_nodes.specs.Supply.{View, view}
 use Rattle.row_codec.specs.Counted.{number_bytes}
+use Rattle.store_tables.specs.Broken.{words_disagree}
 use Rattle.store_tables.specs.Entries.{Entries}
 use Rattle.store_tables.specs.Holding.{Holds, IsApart, IsChanged, word_uses}
 use Rattle.store_tables.specs.Words.{next_after}
@@ -129,3 +130,12 @@ returns-in-None-clause-takes g c entries free holds apart told =
     let kept : IsApart (view (g.P.Pages.pages c.count_with.new.pages) (g.P.Pages.count c.count_with.new.pages) (g.P.Pages.first c.count_with.new.pages) free) c.args.self.now = rw (r.frame.pages, r.frame.count, r.frame.first) apart in
     let still : AreReadable (g.P.Pages.pages c.count_with.new.pages) (g.P.Pages.count c.count_with.new.pages) = rw (r.frame.pages, r.frame.count) told in
     takes-read g.P.Pages _ c.args.pages.now c.count_with.new.pages c.put_new.new.pages r.frame (rw (sym r.frame.pages) (c.put_new.ensures.takes entries free held kept still))
+
+pub returns-in_err-replace_number-in-Some-clause-unwritten : goal.returns-in_err-replace_number-in-Some-clause-unwritten
+returns-in_err-replace_number-in-Some-clause-unwritten g c told =
+    let p = err_from_is_err_and c.from_residual-in_err-replace_number-in-Some.result c.from_residual-in_err-replace_number-in-Some.ensures.1 in
+    λ e. (let same : c.in_err-replace_number-in-Some.field-0.0 ≡ Damaged words_disagree = cc (p.1, p.2, e) in
+    absurd (c.in_err-replace_number-in-Some.ensures.no_false_damage words_disagree (ap Err same)))
+
+pub returns-in-None-clause-unwritten : goal.returns-in-None-clause-unwritten
+returns-in-None-clause-unwritten g c told = λ e. absurd (c.put_new.ensures.no_words told e)

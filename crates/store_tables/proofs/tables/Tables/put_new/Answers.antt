@@ -1,4 +1,4 @@
-use Rattle.std.proofs.Common.{◌≡◌, ◌+◌, ◌∙◌, Err, inl, inr, ⊎_elim, ap, arith, subst}
+use Rattle.std.proofs.Common.{◌≡◌, ◌+◌, ◌∙◌, refl, Err, inl, inr, ⊎_elim, ap, arith, subst}
 use Rattle.std.proofs.lemmas.Result.{err_from_is_err_and}
 use Rattle.page_face.specs.declared.fault.PageFault.TheVariants.{Damaged, NoRoom}
 use Rattle.btree_nodes.specs.Supply.{View, view}
@@ -6,9 +6,10 @@ use Rattle.btree_nodes.specs.Damages.{AsksOnly}
 use Rattle.btree_nodes.specs.Tree.{map_uses}
 use Rattle.paged_map.specs.Heights.{height_of}
 use Rattle.store_tables.specs.declared.tables.Tables.{Tables}
+use Rattle.store_tables.specs.Broken.{words_disagree}
 use Rattle.store_tables.specs.Holding.{numbers_form, texts_form}
 use Rattle.store_tables.proofs.FrameLemmas.{changed-further}
-use Rattle.store_tables.proofs.Heads.{put-spares_head}
+use Rattle.store_tables.proofs.Heads.{put-spares_head, put-spares_words}
 use Rattle.store_tables.proofs.HoldLemmas.{changed-next}
 use Rattle.store_tables.proofs.TakeLemmas.{takes-passed, takes-then, takes-wider}
 use Rattle.store_tables.proofs.ToldLemmas.{asks-both, asks-numbers, told-changed}
@@ -111,3 +112,17 @@ returns-clause-takes g c entries free holds apart told =
       full = λ e. absurd (cc);
       none = λ e. absurd (cc);
     }
+
+pub returns-in_err-put_number-clause-no_words : goal.returns-in_err-put_number-clause-no_words
+returns-in_err-put_number-clause-no_words g c told =
+    let p = err_from_is_err_and c.from_residual.result c.from_residual.ensures.1 in
+    λ e. (let same : c.in_err-put_number.field-0.0 ≡ Damaged words_disagree = cc (p.1, p.2, e) in
+    put-spares_words numbers_form (g.P.Pages.pages c.args.pages.now) (g.P.Pages.count c.args.pages.now) c.args.self.now.numbers (g.P.Pages.pages c.put_number.new.pages) (g.P.Pages.count c.put_number.new.pages) (g.P.Pages.first c.put_number.new.pages) _ _ words_disagree
+    (told c.put_number.new.pages) (g.met.P.Pages.first_is_counted c.put_number.new.pages) (c.in_err-put_number.ensures.damaged (told c.args.pages.now) words_disagree (ap Err same)) refl)
+
+pub returns-in_err-put_text-clause-no_words : goal.returns-in_err-put_text-clause-no_words
+returns-in_err-put_text-clause-no_words g c told =
+    let p = err_from_is_err_and c.from_residual-in_err-put_text.result c.from_residual-in_err-put_text.ensures.1 in
+    λ e. (let same : c.in_err-put_text.field-0.0 ≡ Damaged words_disagree = cc (p.1, p.2, e) in
+    put-spares_words texts_form (g.P.Pages.pages c.put_number.new.pages) (g.P.Pages.count c.put_number.new.pages) c.put_number.new.self.texts (g.P.Pages.pages c.put_text.new.pages) (g.P.Pages.count c.put_text.new.pages) (g.P.Pages.first c.put_text.new.pages) _ _ words_disagree
+    (told c.put_text.new.pages) (g.met.P.Pages.first_is_counted c.put_text.new.pages) (c.in_err-put_text.ensures.damaged (told c.put_number.new.pages) words_disagree (ap Err same)) refl)

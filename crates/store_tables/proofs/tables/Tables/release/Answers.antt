@@ -4,6 +4,7 @@ use Rattle.page_face.specs.declared.fault.PageFault.TheVariants.{Damaged}
 use Rattle.btree_nodes.proofs.Harms.{asked-before}
 use Rattle.btree_nodes.specs.Damages.{AreReadable, AsksOnly}
 use Rattle.btree_nodes.specs.Supply.{View, view}
+use Rattle.store_tables.specs.Broken.{words_disagree}
 use Rattle.store_tables.specs.Holding.{word_uses}
 use Rattle.store_tables.proofs.Heads.{release-spares_head}
 use Rattle.store_tables.proofs.ToldLemmas.{apart-counted}
@@ -56,3 +57,12 @@ returns-in_err-replace_number-clause-no_head g c told damage =
     let p = err_from_is_err_and c.from_residual-in_err-replace_number.result c.from_residual-in_err-replace_number.ensures.1 in
     λ e. (let same : c.in_err-replace_number.field-0.0 ≡ Damaged damage = cc (p.1, p.2, e) in
     absurd (c.in_err-replace_number.ensures.no_false_damage damage (ap Err same)))
+
+pub returns-then-counted-le1-clause-unwritten : goal.returns-then-counted-le1-clause-unwritten
+returns-then-counted-le1-clause-unwritten g c told = λ e. absurd (c.remove_word.ensures.no_words told e)
+
+pub returns-in_err-replace_number-clause-unwritten : goal.returns-in_err-replace_number-clause-unwritten
+returns-in_err-replace_number-clause-unwritten g c told =
+    let p = err_from_is_err_and c.from_residual-in_err-replace_number.result c.from_residual-in_err-replace_number.ensures.1 in
+    λ e. (let same : c.in_err-replace_number.field-0.0 ≡ Damaged words_disagree = cc (p.1, p.2, e) in
+    absurd (c.in_err-replace_number.ensures.no_false_damage words_disagree (ap Err same)))

@@ -1,13 +1,14 @@
-use Rattle.std.proofs.Common.{◌≡◌, Err, inl, inr, ap, subst}
+use Rattle.std.proofs.Common.{◌≡◌, refl, Err, inl, inr, ap, subst}
 use Rattle.std.proofs.lemmas.Result.{err_from_is_err_and}
 use Rattle.page_face.specs.declared.fault.PageFault.TheVariants.{Damaged}
 use Rattle.btree_nodes.specs.Supply.{View, view}
 use Rattle.btree_nodes.specs.Damages.{AsksOnly}
 use Rattle.btree_nodes.specs.Tree.{map_uses}
 use Rattle.store_tables.specs.declared.tables.Tables.{Tables}
+use Rattle.store_tables.specs.Broken.{words_disagree}
 use Rattle.store_tables.specs.Holding.{numbers_form, texts_form}
 use Rattle.store_tables.proofs.FrameLemmas.{changed-further}
-use Rattle.store_tables.proofs.Heads.{map-spares_head}
+use Rattle.store_tables.proofs.Heads.{map-spares_head, map-spares_words}
 use Rattle.store_tables.proofs.ToldLemmas.{asks-both, asks-numbers, told-changed}
 use Rattle.store_tables.proofs.tables.Tables.remove_word.Goals as goal
 
@@ -74,3 +75,15 @@ returns-in_err-remove_text-clause-no_head g c told damage =
     let p = err_from_is_err_and c.from_residual-in_err-remove_text.result c.from_residual-in_err-remove_text.ensures.1 in
     λ e. (let same : c.in_err-remove_text.field-0.0 ≡ Damaged damage = cc (p.1, p.2, e) in
     map-spares_head texts_form (g.P.Pages.pages c.remove_number.new.pages) (g.P.Pages.count c.remove_number.new.pages) c.remove_number.new.self.texts damage (c.in_err-remove_text.ensures.damaged (told c.remove_number.new.pages) damage (ap Err same)).0)
+
+pub returns-in_err-remove_number-clause-no_words : goal.returns-in_err-remove_number-clause-no_words
+returns-in_err-remove_number-clause-no_words g c told =
+    let p = err_from_is_err_and c.from_residual.result c.from_residual.ensures.1 in
+    λ e. (let same : c.in_err-remove_number.field-0.0 ≡ Damaged words_disagree = cc (p.1, p.2, e) in
+    map-spares_words numbers_form (g.P.Pages.pages c.args.pages.now) (g.P.Pages.count c.args.pages.now) c.args.self.now.numbers words_disagree (c.in_err-remove_number.ensures.damaged (told c.args.pages.now) words_disagree (ap Err same)).0 refl)
+
+pub returns-in_err-remove_text-clause-no_words : goal.returns-in_err-remove_text-clause-no_words
+returns-in_err-remove_text-clause-no_words g c told =
+    let p = err_from_is_err_and c.from_residual-in_err-remove_text.result c.from_residual-in_err-remove_text.ensures.1 in
+    λ e. (let same : c.in_err-remove_text.field-0.0 ≡ Damaged words_disagree = cc (p.1, p.2, e) in
+    map-spares_words texts_form (g.P.Pages.pages c.remove_number.new.pages) (g.P.Pages.count c.remove_number.new.pages) c.remove_number.new.self.texts words_disagree (c.in_err-remove_text.ensures.damaged (told c.remove_number.new.pages) words_disagree (ap Err same)).0 refl)

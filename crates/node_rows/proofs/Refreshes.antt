@@ -9,7 +9,7 @@ use Rattle.node_rows.specs.Rows.{Bytes, IsRows, bytes_in}
 use Rattle.node_rows.specs.Turns.{Turns, Next}
 use Rattle.node_rows.specs.Ascents.{until}
 use Rattle.node_rows.specs.Impacts.{with_byte, refreshed, top_at}
-use Rattle.node_inverted.specs.Refreshing.{IsFrom, word_of, lesser_of, byte_ahead, IsRefreshing, IsBounded, is_named, on_words}
+use Rattle.node_rows.specs.Refreshing.{IsFrom, word_of, lesser_of, byte_ahead, IsRefreshing, IsBounded, is_named, on_words}
 use Rattle.node_rows.proofs.Bytes.{and_false}
 use Rattle.node_rows.proofs.Ascents.{ascend, rest, left, all, start}
 use Rattle.node_rows.proofs.Impacts.{byte-here, byte-elsewhere, byte-another, byte-beside, top-clear}

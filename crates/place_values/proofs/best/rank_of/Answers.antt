@@ -3,7 +3,7 @@ use Rattle.std.proofs.lemmas.List.{get_or_default}
 use Rattle.place_values.specs.Laws.{placed_behind}
 use Rattle.place_values.specs.Hit.{comes_before, hits_linear}
 use Rattle.place_values.specs.declared.hit.Hit.{Hit}
-use Rattle.best_first.proofs.best.rank_of.Goals as goal
+use Rattle.place_values.proofs.best.rank_of.Goals as goal
 
 pub returns-else-not-is_before-clause-place : goal.returns-else-not-is_before-clause-place
 returns-else-not-is_before-clause-place c =

@@ -4,7 +4,7 @@ ghost use Rattle.std.specs.List.{insert};
 ghost use Rattle.place_values.specs.First.{placed, IsRanked};
 ghost use Rattle.place_values.specs.Hit.{comes_before};
 
-use place_values::{Hit, is_before};
+use crate::{Hit, is_before};
 use std::alloc::AllocError;
 
 // The rank that a hit has among hits in order. It looks from the end, since most places of a scan come last.
@@ -21,11 +21,13 @@ fn rank_of(best: &[Hit], hit: &Hit) -> usize
     at
 }
 
-/// Keeps a hit if it is among the best k.
+/// Puts a hit among the best `k` so far, which are in order, and keeps only the first `k`.
+///
+/// Costs a comparison for each hit that it comes before, and one more.
 #[inline(always)]
-pub(crate) fn keep(best: &mut Vec<Hit>, hit: &Hit, k: usize) -> Result<(), AllocError>
+pub fn keep(best: &mut Vec<Hit>, hit: &Hit, k: usize) -> Result<(), AllocError>
     requires ranked { IsRanked comes_before best.old.items }
-    requires few { length best.old.items ≤ k }
+    requires short { length best.old.items ≤ k }
     ensures { OnOk result (best.new.items ≡ take k (placed comes_before hit.now best.old.items)) }
 {
     let at = rank_of(&*best, hit);

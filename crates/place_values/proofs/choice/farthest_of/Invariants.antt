@@ -1,6 +1,6 @@
 use Rattle.std.proofs.Common.{◌≡◌, ◌≤◌, take}
 use Rattle.place_values.specs.Group.{farthest}
-use Rattle.place_map.proofs.group.farthest_of.Given as goal
+use Rattle.place_values.proofs.choice.farthest_of.Given as goal
 
 abbrev pub invariant-loop-pick : goal.invariant-loop-pick
 invariant-loop-pick l = record {

@@ -1,6 +1,6 @@
 use Rattle.std.proofs.Common.{◌≡◌, ◌==◌, ◌<◌, ◌≤◌, ◌&&◌, ℕ, Bool, true, false, sym, ◌∙◌, refl, arith}
 use Rattle.std.proofs.lemmas.Bool.{ne_eqb}
-use Rattle.btree_nodes.proofs.check.greater.Goals as goal
+use Rattle.page_face.proofs.zeros.greater.Goals as goal
 
 -- a greater byte isn't zero
 from-greater : (g b : ℕ) (all : Bool) → g < b → (b == 0) ≡ (all && (b == 0))

@@ -1,6 +1,6 @@
 use Rattle.std.proofs.Common.{◌≡◌, ◌==◌, take}
 use Rattle.std.specs.List.{list_all}
-use Rattle.btree_nodes.proofs.check.are_zero.Given as goal
+use Rattle.page_face.proofs.zeros.are_zero.Given as goal
 
 abbrev pub invariant-loop-byte : goal.invariant-loop-byte
 invariant-loop-byte l = record {

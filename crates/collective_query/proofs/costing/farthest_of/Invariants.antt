@@ -1,9 +1,0 @@
-use Rattle.std.proofs.Common.{◌≡◌, ◌≤◌, take}
-use Rattle.place_values.specs.Group.{farthest}
-use Rattle.collective_query.proofs.costing.farthest_of.Given as goal
-
-abbrev pub invariant-loop-pick : goal.invariant-loop-pick
-invariant-loop-pick l = record {
-  value : l.most ≡ farthest l.point (take l.pick-index l.picks);
-  far : l.most ≤ 4024922359;
-}

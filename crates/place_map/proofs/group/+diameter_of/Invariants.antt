@@ -1,5 +1,0 @@
-use Rattle.std.proofs.Common.{length}
-use Rattle.place_map.proofs.group.+diameter_of.Given as goal
-
-abbrev pub decreases-diameter_of : goal.decreases-diameter_of
-decreases-diameter_of l = length l.picks.now
