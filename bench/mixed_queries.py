@@ -1,5 +1,7 @@
 #!/usr/bin/env python3
-"""Writes a script: so many places, and so many mixed queries over them. usage: bench/mixed_queries.py PLACES QUERIES SEED"""
+"""Writes a script: so many places, half of them round the 180th meridian, and so many mixed queries over them, half of them with a scale.
+
+usage: bench/mixed_queries.py PLACES QUERIES SEED"""
 import random
 import sys
 
@@ -13,8 +15,18 @@ def text():
     return " ".join(random.choice(common if random.random() < 0.5 else rare) for _ in range(random.randint(1, 8)))
 
 
+def longitude(x):
+    """A longitude within 20 degrees of 0, or the same from the 180th meridian."""
+    return random.choice([x, x - 180 if x > 0 else x + 180])
+
+
 def point():
-    return f"{random.uniform(-20, 20):.{random.randint(0, 7)}f} {random.uniform(-20, 20):.{random.randint(0, 7)}f}"
+    lon, lat = longitude(random.uniform(-20, 20)), random.uniform(-20, 20)
+    return f"{lon:.{random.randint(0, 7)}f} {lat:.{random.randint(0, 7)}f}"
+
+
+def scale():
+    return f" scale {random.choice([0, 1, 500, 564, 999, 1000])}" if random.random() < 0.5 else ""
 
 
 def word():
@@ -43,17 +55,19 @@ def some_words(pool, least, most):
 def query():
     kind = random.random()
     if kind < 0.2:
-        return f"range {point()} {random.uniform(0, 4):.3f}{where()}"
+        return f"range {point()} {random.uniform(0, 4):.3f}{scale()}{where()}"
     if kind < 0.4:
-        west, south = random.uniform(-20, 18), random.uniform(-20, 18)
-        return f"box {west:.4f} {south:.4f} {west + random.uniform(0, 4):.5f} {south + random.uniform(0, 4):.5f}{where()}"
+        west, south = longitude(random.uniform(-20, 18)), random.uniform(-20, 18)
+        east = min(west + random.uniform(0, 4), 180)
+        return f"box {west:.4f} {south:.4f} {east:.5f} {south + random.uniform(0, 4):.5f}{where()}"
     if kind < 0.65:
-        return f"nearest {point()} {random.randint(1, 20)}{where()}"
+        return f"nearest {point()} {random.randint(1, 20)}{scale()}{where()}"
     if kind < 0.95:
         words = [w + (f"*{random.randint(1, 20)}" if random.random() < 0.3 else "") for w in some_words(common + rare, 1, 4)]
-        return f"top {point()} {random.randint(1, 20)} {random.randint(0, 1000)} {random.uniform(0.1, 20):.2f} words {' '.join(words)}"
+        numbers = f"{random.randint(1, 20)} {random.randint(0, 1000)} {random.uniform(0.1, 20):.2f}"
+        return f"top {point()} {numbers}{scale()} words {' '.join(words)}"
     if kind < 0.97:
-        return f"group {point()} words {' '.join(some_words(rare, 1, 2))}"
+        return f"group {point()}{scale()} words {' '.join(some_words(rare, 1, 2))}"
     return f"show p{random.randrange(places + 5)}" if kind < 0.99 else "count"
 
 

@@ -46,7 +46,9 @@ def database(rows, path):
     return base
 
 
-NEAR = "(p.x - :x) * (p.x - :x) + (p.y - :y) * (p.y - :y)"
+# Longitudes meet at 180 degrees.
+GAP = "min(abs(p.x - :x), 360 - abs(p.x - :x))"
+NEAR = f"{GAP} * {GAP} + (p.y - :y) * (p.y - :y)"
 # The R*Tree keeps floats of 32 bits, so its box is taken a little wider; the exact condition is on the place itself.
 IN_BOX = "b.west >= :west - 0.0001 and b.east <= :east + 0.0001 and b.south >= :south - 0.0001 and b.north <= :north + 0.0001"
 
@@ -59,11 +61,17 @@ def by_box(base, it, condition="", order=NEAR, limit=""):
     return base.execute(f"select p.key, {NEAR} from box b join places p on p.id = b.id where {IN_BOX} and b.id in (select rowid from words where words match :match) {condition} order by {order} {limit}", it).fetchall()
 
 
+def square(x, y, side):
+    """The box that reaches so far to each side of a point; one that would cross the 180th meridian goes round the earth."""
+    crosses = x - side < -180 or x + side > 180
+    return {"west": -180 if crosses else x - side, "east": 180 if crosses else x + side, "south": y - side, "north": y + side}
+
+
 def growing(base, it, words):
     """The k nearest by boxes that grow fourfold until the k-th lies within."""
     side = 0.02
     while True:
-        there = dict(it, west=it["x"] - side, east=it["x"] + side, south=it["y"] - side, north=it["y"] + side)
+        there = it | square(it["x"], it["y"], side)
         inside = "and b.id in (select rowid from words where words match :match)" if words else ""
         found = base.execute(f"select p.key, {NEAR} from box b join places p on p.id = b.id where {IN_BOX} {inside} order by {NEAR} limit :k", there).fetchall()
         if side > 400 or len(found) == it["k"] and found[-1][1] <= side * side:
@@ -120,7 +128,8 @@ def queries(kind, rows, ranked, share, count, rng):
         side = 0.5
         it = {"x": x, "y": y, "r": side, "k": 10, "alpha": 500, "match": " OR ".join(f'"{name}"' for name in names)}
         it |= {"west": max(x - side, -180), "east": min(x + side, 180), "south": max(y - side, -90), "north": min(y + side, 90)}
-        yield it, line_of(kind, it, names)
+        line = line_of(kind, it, names)
+        yield it if kind == "box" else it | square(x, y, side), line
 
 
 def main():

@@ -26,9 +26,16 @@ def degrees(n):
     return f"{whole}.{part:07d}"
 
 
-def dist(p, q):
-    dx, dy = p[0] - q[0], p[1] - q[1]
-    return math.isqrt(dx * dx + dy * dy)
+def dist(p, q, scale):
+    """Longitudes go the shorter way round, and count as many thousandths as the scale says."""
+    gap, dy = abs(p[0] - q[0]), p[1] - q[1]
+    dx = min(gap, 3_600_000_000 - gap)
+    return math.isqrt((scale * dx) ** 2 + (1000 * dy) ** 2) // 1000
+
+
+def scale_of(tokens):
+    """The scale that may come first among the rest of a line, and what follows it."""
+    return (int(tokens[1]), tokens[2:]) if tokens[:1] == ["scale"] else (1000, tokens)
 
 
 def impacts(text):
@@ -112,12 +119,12 @@ class Store:
             return json.loads(token)
         return int(token[1:]) if token.startswith("#") else token
 
-    def near(self, at, keep):
+    def near(self, at, scale, keep):
         hits = []
         for key in self.by_key():
             point, words = self.places[key]
             if keep(words):
-                hits.append((dist(at, point), key_order(key), key, point))
+                hits.append((dist(at, point, scale), key_order(key), key, point))
         hits.sort()
         return hits
 
@@ -128,12 +135,12 @@ class Store:
             yield f"{rank} {key_text(key)} {degrees(cost)}{where}"
 
     def range(self, tokens, explain):
-        at, radius = (units(tokens[0]), units(tokens[1])), units(tokens[2])
-        yield from self.hits([hit for hit in self.near(at, filter_of(tokens[3:])) if hit[0] <= radius], explain)
+        at, radius, (scale, rest) = (units(tokens[0]), units(tokens[1])), units(tokens[2]), scale_of(tokens[3:])
+        yield from self.hits([hit for hit in self.near(at, scale, filter_of(rest)) if hit[0] <= radius], explain)
 
     def nearest(self, tokens, explain):
-        at = units(tokens[0]), units(tokens[1])
-        yield from self.hits(self.near(at, filter_of(tokens[3:]))[: int(tokens[2])], explain)
+        at, (scale, rest) = (units(tokens[0]), units(tokens[1])), scale_of(tokens[3:])
+        yield from self.hits(self.near(at, scale, filter_of(rest))[: int(tokens[2])], explain)
 
     def box(self, tokens, explain):
         west, south, east, north = map(units, tokens[:4])
@@ -150,9 +157,9 @@ class Store:
 
     def top(self, tokens, explain):
         at, k, alpha, reach = (units(tokens[0]), units(tokens[1])), int(tokens[2]), int(tokens[3]), units(tokens[4])
-        weights = {}
-        for token in tokens[6:]:
-            word, _, weight = (token, "", "") if token.startswith('"') else token.rpartition("*")
+        (scale, rest), weights = scale_of(tokens[5:]), {}
+        for token in rest[1:]:
+            word, _, weight = ("", "", "") if token.startswith('"') else token.rpartition("*")
             weights[word_of(word or token)] = int(weight) if word else 1
         total = sum(weights.values())
         hits = []
@@ -160,7 +167,7 @@ class Store:
             point, words = self.places[key]
             if any(word in words for word in weights):
                 text = sum(weight * words.get(word, 0) for word, weight in weights.items())
-                away = dist(at, point)
+                away = dist(at, point, scale)
                 cost = alpha * away * 255 * total + (1000 - alpha) * reach * (255 * total - text)
                 hits.append((cost, key_order(key), key, point, away, text))
         hits.sort()
@@ -173,14 +180,14 @@ class Store:
             yield f"{rank} {key_text(key)} {cost}{more}"
 
     def group(self, tokens, explain):
-        at = units(tokens[0]), units(tokens[1])
-        words = [word_of(token) for token in tokens[3:]]
+        at, (scale, rest) = (units(tokens[0]), units(tokens[1])), scale_of(tokens[2:])
+        words = [word_of(token) for token in rest[1:]]
         columns = [[key for key in self.by_key() if word in self.places[key][1]] for word in words]
         best = None
         for choice in itertools.product(*columns):
             points = [self.places[key][0] for key in choice]
-            far = max(dist(at, point) for point in points)
-            wide = max(dist(p, q) for p in points for q in points)
+            far = max(dist(at, point, scale) for point in points)
+            wide = max(dist(p, q, scale) for p in points for q in points)
             offer = (far + wide, [key_order(key) for key in choice], choice)
             if best is None or offer < best:
                 best = offer
@@ -191,7 +198,7 @@ class Store:
         for rank, (word, key) in enumerate(zip(words, best[2]), 1):
             point = self.places[key][0]
             where = f" at {signed(point[0])} {signed(point[1])}" if explain else ""
-            yield f"{rank} {literal(word)} {key_text(key)} {degrees(dist(at, point))}{where}"
+            yield f"{rank} {literal(word)} {key_text(key)} {degrees(dist(at, point, scale))}{where}"
 
     def line(self, line):
         tokens = TOKEN.findall(line)

@@ -46,10 +46,13 @@ class Drawing:
 
 
 class Map:
-    """A part of the map of degrees as a rectangle of the drawing, at one scale on both axes."""
+    """A part of the map of degrees as a rectangle of the drawing, at one scale on both axes.
 
-    def __init__(self, drawing, bounds, x, y, width, height):
-        self.drawing, (self.west, south, east, self.north) = drawing, bounds
+    Boxes and dots are drawn once at each of the turns, which are added to longitudes: a part that goes beyond 180 degrees needs more.
+    """
+
+    def __init__(self, drawing, bounds, x, y, width, height, turns=(0,)):
+        self.drawing, self.turns, (self.west, south, east, self.north) = drawing, turns, bounds
         self.bounds = bounds
         self.scale = min(width / (east - self.west), height / (self.north - south))
         self.x, self.y, self.width, self.height = x, y, (east - self.west) * self.scale, (self.north - south) * self.scale
@@ -71,14 +74,16 @@ class Map:
 
     def box(self, rectangle, **style):
         """A rectangle of the map, cut off outside of this part."""
-        if self.meets(rectangle):
-            (x, y), (right, low) = self.at((rectangle[0], rectangle[3])), self.at((rectangle[2], rectangle[1]))
+        west, south, east, north = rectangle
+        for turn in filter(lambda turn: self.meets((west + turn, south, east + turn, north)), self.turns):
+            (x, y), (right, low) = self.at((west + turn, north)), self.at((east + turn, south))
             x, y, right, low = max(x, -9), max(y, -9), min(right, self.width + 9), min(low, self.height + 9)
             self.drawing.rectangle(x, y, max(right - x, 0.8), max(low - y, 0.8), **style)
 
     def dots(self, points, size, colour):
         """Points as one path of short lines with round ends, which takes few bytes."""
-        shown = sorted({tuple(number(z) for z in self.at(point)) for point in points if self.meets(point * 2)})
+        turned = [(x + turn, y) for x, y in points for turn in self.turns]
+        shown = sorted({tuple(number(z) for z in self.at(point)) for point in turned if self.meets(point * 2)})
         if shown:
             self.drawing.add("path", d="".join(f"M{x} {y}h0" for x, y in shown), fill="none", stroke=colour, stroke_width=size,
                              stroke_linecap="round")

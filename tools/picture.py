@@ -7,9 +7,10 @@
     python3 tools/picture.py STORE OUT.svg --group LON LAT WORD ..                   a group: its circle and its widest pair
     python3 tools/picture.py STORE OUT.svg --strip                                   the file: a cell a page, by kind
 
-The parts of a query are those of docs/QUERIES.md. Opened is each node whose bound is at most the cost of the last hit: its bound is the
-least cost that its rectangle and the rows of words allow for a place below it. A group goes through all choices that may cost least: of
-words that thousands of places hold that takes long. A store whose journal has records is refused, and so is one that a run has open.
+The parts of a query are those of docs/QUERIES.md; with --scale SCALE it has this scale. Opened is each node whose bound is at most the
+cost of the last hit: its bound is the least cost that its rectangle and the rows of words allow for a place below it. A group goes through
+all choices that may cost least: of words that thousands of places hold that takes long. A store whose journal has records is refused, and
+so is one that a run has open.
 """
 import argparse
 import os
@@ -18,7 +19,7 @@ from collections import Counter
 
 from drawing import HIT, INK, LEVELS, MARGIN, OPENED, PASSED, PLACE, WIDTH, Drawing, Map, key_of_signs, number, signs_for
 from store_file import Refused, Store, key_text
-from tree_search import Nearest, Top, best_first, cheapest_group, counted, degrees, distance, filter_of, folded, mindist, units
+from tree_search import CIRCLE, Nearest, Top, best_first, cheapest_group, counted, degrees, distance, filter_of, folded, mindist, units
 
 LEFT, RIGHT = 690, 438                  # the widths of the two maps
 KINDS = {"page 0": "#000000", "places": "#0072b2", "words by text": "#e69f00", "words by number": "#f5dc78", "rows of words": "#3aa882",
@@ -38,6 +39,23 @@ def around(at, points):
     """The square round a point that has these points."""
     reach = max([int(1.15 * max(abs(x - at[0]), abs(y - at[1]))) for x, y in points] + [20_000])
     return at[0] - reach, at[1] - reach, at[0] + reach, at[1] + reach
+
+
+def beside(at, points):
+    """The points where their longitudes are nearest to a point's, which may be beyond 180 degrees."""
+    return [(x + CIRCLE * round((at[0] - x) / CIRCLE), y) for x, y in points]
+
+
+def turns_of(bounds):
+    """What is to be added to longitudes of the map for each time that it meets a part with these bounds."""
+    return [turn for turn in (0, -CIRCLE, CIRCLE) if bounds[0] <= CIRCLE // 2 + turn and -CIRCLE // 2 + turn <= bounds[2]]
+
+
+def draw_reach(view, at, far, scale):
+    """What is as far from a point: a circle, or with a scale an ellipse."""
+    x, y = view.at(at)
+    view.drawing.add("ellipse", cx=x, cy=y, rx=far * view.scale * 1000 / max(scale, 1), ry=far * view.scale, fill="none", stroke=INK,
+                     stroke_width=1.2, stroke_dasharray="2 3")
 
 
 def rectangles(store, page=None):
@@ -122,7 +140,8 @@ def two_maps(drawing, store, at, points, shown, opened=frozenset(), passed=froze
     least = 1 if leaves_of(store) > LEAVES else 0
     drawing.text(MARGIN, 90, f"the whole store{', without its other leaves' * least}")
     left = Map(drawing, whole(store), MARGIN, 98, LEFT, 430)
-    near = Map(drawing, around(at, points + shown), MARGIN + LEFT + 24, 98, RIGHT, RIGHT)
+    bounds = around(at, beside(at, points) + shown)
+    near = Map(drawing, bounds, MARGIN + LEFT + 24, 98, RIGHT, RIGHT, turns_of(bounds))
     drawing.text(near.x, 90, f"round the point: {degrees(near.bounds[2] - near.bounds[0])[:-4]} degrees wide")
     left.begin()
     draw_tree(store, left, opened, passed, least=least)
@@ -134,24 +153,23 @@ def two_maps(drawing, store, at, points, shown, opened=frozenset(), passed=froze
     return left, near
 
 
-def draw_ranked(store, path, at, k, ask, query):
-    hits, opened = best_first(store, at, k, ask)
+def draw_ranked(store, path, at, k, ask, scale, query):
+    hits, opened = best_first(store, at, k, ask, scale)
     pages = {opening.page for opening in opened}
     points = [store.places[hit.key].point for hit in hits]
-    is_near, far = isinstance(ask, Nearest), max([distance(at, point) for point in points], default=0)
+    is_near, far = isinstance(ask, Nearest), max([distance(at, point, scale) for point in points], default=0)
     passed = {slot.child for page in pages for slot in store.nodes[page].slots if slot.child is not None
               and not ask.admits(store.nodes[page].level, lambda word, page=page, slot=slot: store.impact(page, slot, word))
-              and not (is_near and mindist(slot.rectangle, at) > far)}
+              and not (is_near and mindist(slot.rectangle, at, scale) > far)}
     drawing = Drawing(query)
     headed(drawing, f"{len(store.places):,} places in {len(store.nodes)} nodes: {len(pages)} nodes are opened for {len(hits)} hits")
     left, near = two_maps(drawing, store, at, points, [], pages, passed)
     draw_tree(store, near, pages, passed, 3)
     if is_near:
-        x, y = near.at(at)
-        drawing.add("circle", cx=x, cy=y, r=far * near.scale, fill="none", stroke=INK, stroke_width=1.2, stroke_dasharray="2 3")
+        draw_reach(near, at, far, scale)
     near.dots(points, 7, HIT)
     near.cross(at)
-    near.labels([(point, str(rank)) for rank, point in enumerate(points[:40], 1)], at)
+    near.labels([(point, str(rank)) for rank, point in enumerate(beside(at, points[:40]), 1)], at)
     near.end()
     signs = signs_for(drawing)
     why = "no farther than the last hit, and it may hold one" if is_near else "its bound is at most the last cost"
@@ -171,26 +189,25 @@ def draw_ranked(store, path, at, k, ask, query):
     drawing.write(path, draw_levels(drawing, store, y + 12, pages, passed, hits) + 16)
 
 
-def draw_group(store, path, at, words, query):
-    found = cheapest_group(store, at, words)
+def draw_group(store, path, at, words, scale, query):
+    found = cheapest_group(store, at, words, scale)
     if found is None:
         raise Refused("none: a word has no place")
     cost, keys = found
     points = [store.places[key].point for key in keys]
-    far = max(distance(at, point) for point in points)
-    pair = max(((p, q) for p in points for q in points), key=lambda pair: distance(*pair))
+    far = max(distance(at, point, scale) for point in points)
+    pair = max(((p, q) for p in points for q in points), key=lambda pair: distance(*pair, scale))
     drawing = Drawing(query)
-    headed(drawing, f"{len(store.places):,} places; the group costs {degrees(cost)} = {degrees(far)} + {degrees(distance(*pair))}")
+    headed(drawing, f"{len(store.places):,} places; the group costs {degrees(cost)} = {degrees(far)} + {degrees(distance(*pair, scale))}")
     left, near = two_maps(drawing, store, at, points, [(at[0] + far, at[1] + far)])
     draw_tree(store, near, dot=3)
     near.dots([place.point for place in store.places.values() if any(store.impact_in(place, word) for word in words)], 5, PASSED)
-    x, y = near.at(at)
-    drawing.add("circle", cx=x, cy=y, r=far * near.scale, fill="none", stroke=INK, stroke_width=1.2, stroke_dasharray="2 3")
-    (x1, y1), (x2, y2) = map(near.at, pair)
+    draw_reach(near, at, far, scale)
+    (x1, y1), (x2, y2) = map(near.at, beside(at, pair))
     drawing.add("line", x1=x1, y1=y1, x2=x2, y2=y2, stroke=HIT, stroke_width=2)
     near.dots(points, 8, HIT)
     near.cross(at)
-    near.labels(list(zip(points, words)), at)
+    near.labels(list(zip(beside(at, points), words)), at)
     near.end()
     signs, y = signs_for(drawing), left.y + left.height + 30
     key_of_signs(drawing, MARGIN, y, [
@@ -198,7 +215,7 @@ def draw_group(store, path, at, words, query):
         (signs["place"], "place without them"), (signs["point"], "the point of the query"),
         (signs["circle"], "the greatest distance to the point"), (signs["pair"], "the greatest distance between two")])
     for index, (word, key, point) in enumerate(zip(words, keys, points)):
-        drawing.text(MARGIN + 330, y + 4 + 22 * index, f"{word}  {key_text(key)[:20]}  {degrees(distance(at, point))}", 13, HIT)
+        drawing.text(MARGIN + 330, y + 4 + 22 * index, f"{word}  {key_text(key)[:20]}  {degrees(distance(at, point, scale))}", 13, HIT)
     drawing.write(path, max(y + 140, near.y + near.height) + 24)
 
 
@@ -249,12 +266,15 @@ def draw(options):
         return draw_strip(store, options.out, name)
     if not store.places:
         raise Refused(f"{options.store}: the store has no places")
+    scale, scaled = 1000, ""
+    if options.scale is not None:
+        scale, scaled = counted(options.scale, 0, 1000, "SCALE"), f" scale {options.scale}"
     if options.nearest:
         at = units(options.nearest[0], 180), units(options.nearest[1], 90)
         words = " ".join(options.where or [])
-        query = f"nearest {' '.join(options.nearest)}{' where ' + words if words else ''}"
+        query = f"nearest {' '.join(options.nearest)}{scaled}{' where ' + words if words else ''}"
         ask = Nearest(filter_of(words) if words else None)
-        return draw_ranked(store, options.out, at, counted(options.nearest[2], 1, 1000, "K"), ask, query)
+        return draw_ranked(store, options.out, at, counted(options.nearest[2], 1, 1000, "K"), ask, scale, query)
     if options.top:
         if len(options.top) < 6:
             raise Refused("--top takes LON LAT K ALPHA REACH and words")
@@ -262,14 +282,14 @@ def draw(options):
         if not 1 <= units(reach, 403) <= 4_024_922_359:
             raise Refused(f"REACH is {reach}, not 0.0000001 to 402.4922359")
         ask = Top(counted(alpha, 0, 1000, "ALPHA"), units(reach, 403), words)
-        query = f"top {lon} {lat} {k} {alpha} {reach} words {' '.join(words)}"
-        return draw_ranked(store, options.out, (units(lon, 180), units(lat, 90)), counted(k, 1, 1000, "K"), ask, query)
+        query = f"top {lon} {lat} {k} {alpha} {reach}{scaled} words {' '.join(words)}"
+        return draw_ranked(store, options.out, (units(lon, 180), units(lat, 90)), counted(k, 1, 1000, "K"), ask, scale, query)
     if options.group:
         if not 3 <= len(options.group) <= 10:
             raise Refused("--group takes LON LAT and 1 to 8 words")
         lon, lat, *words = options.group
-        query = f"group {lon} {lat} words {' '.join(words)}"
-        return draw_group(store, options.out, (units(lon, 180), units(lat, 90)), [folded(word) for word in words], query)
+        query = f"group {lon} {lat}{scaled} words {' '.join(words)}"
+        return draw_group(store, options.out, (units(lon, 180), units(lat, 90)), [folded(word) for word in words], scale, query)
     return draw_whole(store, options.out, name)
 
 
@@ -283,9 +303,12 @@ def main():
     one.add_argument("--group", nargs="+", metavar="PART", help="LON LAT WORD ..")
     one.add_argument("--strip", action="store_true")
     parser.add_argument("--where", nargs="+", metavar="FILTER", help="of --nearest; quote parentheses for the shell")
+    parser.add_argument("--scale", metavar="SCALE", help="of a query: 0 to 1000, how many thousandths longitudes count")
     options = parser.parse_args()
     if options.where and not options.nearest:
         parser.error("--where goes with --nearest")
+    if options.scale is not None and not (options.nearest or options.top or options.group):
+        parser.error("--scale goes with --nearest, --top or --group")
     try:
         draw(options)
     except Refused as refused:

@@ -27,7 +27,7 @@ OBJECTS = r"how|what|whether|that|which|the|a|an|it|each|every|no|nothing|damage
 THINGS = rf"it|they|there|that|this|these|one|no|none|nothing|any|both|memory|[{CODE}{NAME}]+"
 FACTS = r"is|are|was|were|isn't|aren't|wasn't|has|have|hasn't|does|doesn't|can|can't|may|needs|fails|failed|breaks|lives|holds"
 DENIED = r"isn't|aren't|wasn't|doesn't|don't|didn't|can't|hasn't|haven't"
-PLACES = re.compile(r"where (it|they) (lies?|belongs?|goes|comes? from|is stored|are stored|was found|is kept)\b", re.I)
+PLACES = re.compile(r"where (it|they) (lies?|belongs?|goes|comes? from|is stored|are stored|was found|is kept)\b|where a degree of longitude\b", re.I)
 
 LEFT = re.compile(r"\b(leave|leaves|leaving|left)( \S+){0,3} $", re.I)
 

@@ -55,10 +55,12 @@ def queries(count, words, points, rng):
         at, some = f"{x + rng.uniform(-1, 1):.7f} {y + rng.uniform(-1, 1):.7f}", [json.dumps(word) for word in rng.sample(words, 3)]
         where = rng.choice(["", f" where {some[0]}", f" where not {some[0]}", f" where {some[0]} and {some[1]}",
                             f" where {some[0]} or not ({some[1]} and {some[2]})"])
-        yield [f"range {at} {rng.uniform(0, 20):.3f}{where}", f"nearest {at} {rng.randint(1, 30)}{where}",
+        scale = rng.choice(["", " scale 564"])
+        yield [f"range {at} {rng.uniform(0, 20):.3f}{scale}{where}", f"nearest {at} {rng.randint(1, 30)}{scale}{where}",
                f"box {x - 9:.7f} {y - 9:.7f} {x + 5:.7f} {y + 3:.7f}{where}",
-               f"top {at} {rng.randint(1, 30)} {rng.randint(0, 1000)} {rng.uniform(0.01, 9):.3f} words {' '.join(some[:rng.randint(1, 3)])}",
-               f"group {at} words {' '.join(some[:2])}"][i % 5]
+               f"top {at} {rng.randint(1, 30)} {rng.randint(0, 1000)} {rng.uniform(0.01, 9):.3f}{scale} words "
+               f"{' '.join(some[:rng.randint(1, 3)])}",
+               f"group {at}{scale} words {' '.join(some[:2])}"][i % 5]
 
 
 class WithStore(unittest.TestCase):
@@ -216,7 +218,12 @@ class Pictures(WithStore):
         counts = {word: sum(n in place.words for place in cls.read.places.values()) for word, n in cls.read.numbers.items()}
         cls.words = [word for word in sorted(counts, key=lambda word: -counts[word]) if word.isascii()][:60]
 
-    def bound_and_chance(self, page, at, ask, top):
+    def point(self, rng):
+        """The point of a place, or a point on one side of the 180th meridian, where longitudes meet."""
+        x, y = rng.choice(list(self.read.places.values())).point
+        return rng.choice([(x, y), (x, y), (1_800_000_000, y), (-1_800_000_000, y)])
+
+    def bound_and_chance(self, page, at, ask, scale, top):
         """By the places below a node alone: the least cost that their rectangle and greatest impacts allow, and whether one may answer."""
         found, _ = below(self.read, page)
         xs, ys = zip(*(place.point for place in found))
@@ -225,10 +232,10 @@ class Pictures(WithStore):
             return max(self.read.impact_in(place, word) for place in found)
 
         chance = any(map(greatest, ask.weights)) if top else ask.tree is None or may_hold(ask.tree, greatest)
-        return ask.cost(mindist((min(xs), min(ys), max(xs), max(ys)), at), greatest), chance
+        return ask.cost(mindist((min(xs), min(ys), max(xs), max(ys)), at, scale), greatest), chance
 
-    def agrees(self, line, at, k, ask, top=False):
-        hits, opened = best_first(self.read, at, k, ask)
+    def agrees(self, line, at, k, ask, scale, top=False):
+        hits, opened = best_first(self.read, at, k, ask, scale)
         pages = [opening.page for opening in opened]
         self.assertEqual(len(set(pages)), len(pages))
         printed = asked(self.store, [line]).split("\n")[1:-1]
@@ -239,7 +246,7 @@ class Pictures(WithStore):
         for hit in hits:
             self.assertIn(leaves[hit.key], pages)
         for page, node in self.read.nodes.items():
-            bound, chance = self.bound_and_chance(page, at, ask, top)
+            bound, chance = self.bound_and_chance(page, at, ask, scale, top)
             is_due = chance and (len(hits) < k or bound <= hits[-1].cost or page == self.read.root)
             is_reached = page == self.read.root or parents[page] in pages
             self.assertEqual(page in pages, is_due and is_reached, (line, page, node.level, bound, hits[-1:]))
@@ -247,37 +254,41 @@ class Pictures(WithStore):
     def test_opened_are_exactly_the_nodes_whose_bound_is_at_most_the_last_cost(self):
         rng = random.Random(4)
         for i in range(24):
-            x, y = rng.choice(list(self.read.places.values())).point
-            at, k, (a, b, c) = (x, y), rng.choice((1, 3, 10)), rng.sample(self.words, 3)
+            at, k, (a, b, c) = self.point(rng), rng.choice((1, 3, 10)), rng.sample(self.words, 3)
+            scale = rng.choice((0, 1, 500, 564, 999, 1000))
             where = ["", a, f"not {a}", f"{a} and not ({b} or {c})", f"{a} or {b} and {c}", "nobodyhasthis"][i % 6]
-            head = f"{degrees(x)} {degrees(y)} {k}"
-            self.agrees(f"nearest {head}{' where ' + where if where else ''}", at, k, Nearest(filter_of(where) if where else None))
+            head = f"{degrees(at[0])} {degrees(at[1])} {k}"
+            ask = Nearest(filter_of(where) if where else None)
+            self.agrees(f"nearest {head} scale {scale}{' where ' + where if where else ''}", at, k, ask, scale)
             alpha = rng.choice((0, 300, 1000))
-            self.agrees(f"top {head} {alpha} 1.5 words {a} {b}*7", at, k, Top(alpha, 15_000_000, [a, f"{b}*7"]), top=True)
+            ask = Top(alpha, 15_000_000, [a, f"{b}*7"])
+            self.agrees(f"top {head} {alpha} 1.5 scale {scale} words {a} {b}*7", at, k, ask, scale, top=True)
 
     @unittest.skipUnless(shutil.which("strace"), "strace isn't installed")
     def test_opened_are_exactly_the_nodes_that_the_program_reads(self):
         rng = random.Random(6)
         for i in range(12):
-            (x, y), k, (a, b) = rng.choice(list(self.read.places.values())).point, rng.choice((1, 3, 10)), rng.sample(self.words, 2)
+            (x, y), k, (a, b) = self.point(rng), rng.choice((1, 3, 10)), rng.sample(self.words, 2)
             where, head = ["", a, f"not {a}", f"{a} and not {b}"][i % 4], f"{degrees(x)} {degrees(y)} {k}"
+            scale = rng.choice((0, 564, 1000))
             if i % 3:
-                line, ask = f"nearest {head}{' where ' + where if where else ''}", Nearest(filter_of(where) if where else None)
+                line = f"nearest {head} scale {scale}{' where ' + where if where else ''}"
+                ask = Nearest(filter_of(where) if where else None)
             else:
-                line, ask = f"top {head} 500 1.5 words {a} {b}*3", Top(500, 15_000_000, [a, f"{b}*3"])
+                line, ask = f"top {head} 500 1.5 scale {scale} words {a} {b}*3", Top(500, 15_000_000, [a, f"{b}*3"])
             trace = ["strace", "-f", "-e", "trace=pread64", "-o", self.path("trace"), PROGRAM, self.store, "run", "--cache", "0"]
             subprocess.run(trace, input=f"{line}\n".encode("utf-8"), stdout=subprocess.DEVNULL, check=True)
             with open(self.path("trace"), encoding="utf-8", errors="replace") as file:
                 read = {int(at) // 4096 for at in re.findall(r", 4096, (\d+)\) ", file.read())}
-            pages = {opening.page for opening in best_first(self.read, (x, y), k, ask)[1]}
+            pages = {opening.page for opening in best_first(self.read, (x, y), k, ask, scale)[1]}
             self.assertEqual(read & set(self.read.nodes), pages, line)
 
     def test_a_group_is_the_programs(self):
         rng = random.Random(5)
         for _ in range(12):
-            (x, y), words = rng.choice(list(self.read.places.values())).point, rng.sample(self.words, 3)
-            cost, keys = cheapest_group(self.read, (x, y), words)
-            head, *picks, _ = asked(self.store, [f"group {degrees(x)} {degrees(y)} words {' '.join(words)}"]).split("\n")
+            (x, y), words, scale = self.point(rng), rng.sample(self.words, 3), rng.choice((0, 564, 1000))
+            cost, keys = cheapest_group(self.read, (x, y), words, scale)
+            head, *picks, _ = asked(self.store, [f"group {degrees(x)} {degrees(y)} scale {scale} words {' '.join(words)}"]).split("\n")
             self.assertEqual(head, f"= 3 {degrees(cost)}")
             self.assertEqual([pick.split(" ")[2] for pick in picks], [key_text(key) for key in keys])
 
@@ -288,6 +299,8 @@ class Pictures(WithStore):
                                 ["--nearest", "-12.5", "-50", "5", "--where", a, "and not", f"({b})"]),
                                (f"top 1 2 5 500 1 words {a}*2", ["--top", "1", "2", "5", "500", "1", f"{a}*2"]),
                                ("nearest 0 0 3 where nobody", ["--nearest", "0", "0", "3", "--where", "nobody"]),
+                               (f"nearest 180 0 3 scale 564 where {a}", ["--nearest", "180", "0", "3", "--scale", "564", "--where", a]),
+                               (f"group -180 2 scale 0 words {a} {b}", ["--group", "-180", "2", a, b, "--scale", "0"]),
                                (f"group 1 2 words {a} {b}", ["--group", "1", "2", a, b])]:
             done = tool("picture", self.store, self.path("out.svg"), *options)
             self.assertEqual((done.returncode, done.stderr), (0, b""), title)
@@ -355,7 +368,7 @@ class Pictures(WithStore):
     def test_wrong_parts_of_a_query_are_refused(self):
         out = self.path("none.svg")
         for options, reason in [("--nearest 181 0 1", "isn't within 180"), ("--nearest 0 x 1", "isn't a number"),
-                                ("--nearest 0 0 0", "K is '0'"),
+                                ("--nearest 0 0 0", "K is '0'"), ("--nearest 0 0 1 --scale 1001", "SCALE is '1001'"),
                                 ("--nearest 0 0 1 --where a and", "lacks a word"), ("--nearest 0 0 1 --where (a", "lacks a parenthesis"),
                                 ("--nearest 0 0 1 --where a b", "goes on after its end"), ("--top 0 0 1", "--top takes"),
                                 ("--top 0 0 1 500 1 a*x", "WEIGHT is 'x'"), ("--top 0 0 1 500 0 a", "REACH"), ("--group 0 0 nobody", "none"),

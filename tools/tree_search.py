@@ -1,8 +1,8 @@
 """Searches the tree of a store that store_file.py read, by the rules of the tree and without the program's code.
 
 `best_first` gives the hits of a `nearest` or a `top` query and the nodes that are opened for it, `cheapest_group` the places of a `group`
-query. Distances are in units of 10^-7 degrees. Words of a query are folded by Python: of a letter that is new in Unicode it may know
-another small form than the program.
+query. Distances are in units of 10^-7 degrees. Longitudes meet at 180 degrees, and count as many thousandths of their size as a scale
+says. Words of a query are folded by Python: of a letter that is new in Unicode it may know another small form than the program.
 """
 import heapq
 import json
@@ -12,6 +12,8 @@ from collections import namedtuple
 from decimal import ROUND_HALF_UP, Decimal, InvalidOperation
 
 from store_file import Refused
+
+CIRCLE = 360 * 10 ** 7                  # the way round the earth
 
 Opening = namedtuple("Opening", "bound level page")
 Hit = namedtuple("Hit", "cost key")
@@ -39,14 +41,26 @@ def degrees(number):
     return f"{'-' if number < 0 else ''}{abs(number) // 10 ** 7}.{abs(number) % 10 ** 7:07d}"
 
 
-def distance(p, q):
-    return math.isqrt((p[0] - q[0]) ** 2 + (p[1] - q[1]) ** 2)
+def line(east, north, scale):
+    """How long a line is that goes so many units east and north."""
+    return math.isqrt((scale * east) ** 2 + (1000 * north) ** 2) // 1000
 
 
-def mindist(rectangle, p):
-    """The distance to the nearest point of a rectangle (Roussopoulos, Kelley and Vincent 1995)."""
+def longitude_gap(a, b):
+    """The lesser of the two ways round from one longitude to another."""
+    gap = abs(a - b)
+    return min(gap, CIRCLE - gap)
+
+
+def distance(p, q, scale):
+    return line(longitude_gap(p[0], q[0]), abs(p[1] - q[1]), scale)
+
+
+def mindist(rectangle, p, scale):
+    """The distance to the nearest point of a rectangle (Roussopoulos, Kelley and Vincent 1995, with longitudes that meet)."""
     west, south, east, north = rectangle
-    return distance(p, (min(max(p[0], west), east), min(max(p[1], south), north)))
+    gap = 0 if west <= p[0] <= east else min(longitude_gap(p[0], west), longitude_gap(p[0], east))
+    return line(gap, max(south - p[1], 0, p[1] - north), scale)
 
 
 class Nearest:
@@ -133,7 +147,7 @@ def _meets(tree, level, impact):
     return (all if name == "and" else any)(_meets(part, level, impact) for part in parts)
 
 
-def best_first(store, at, k, ask):
+def best_first(store, at, k, ask, scale):
     """The first k places by cost and then by key, and the nodes opened for them in their order, each with its bound.
 
     The node of the least bound is opened next, until k places cost less than it (Hjaltason and Samet 1999).
@@ -154,7 +168,7 @@ def best_first(store, at, k, ask):
                 return store.impact(page, slot, word)
             if not ask.admits(node.level, impact):
                 continue
-            cost = ask.cost(mindist(slot.rectangle, at), impact)
+            cost = ask.cost(mindist(slot.rectangle, at, scale), impact)
             if node.level:
                 heapq.heappush(waiting, Opening(cost, node.level - 1, slot.child))
             else:
@@ -162,18 +176,18 @@ def best_first(store, at, k, ask):
     return hits, opened
 
 
-def cheapest_group(store, at, words):
+def cheapest_group(store, at, words, scale):
     """Of all choices of a place for each word the least by greatest distance plus diameter, and then by keys, with its cost; or None."""
     if len(set(words)) < len(words):
         raise Refused("a word comes twice")
-    lists = [sorted((distance(at, place.point), place.key) for place in store.places.values() if store.impact_in(place, word))
+    lists = [sorted((distance(at, place.point, scale), place.key) for place in store.places.values() if store.impact_in(place, word))
              for word in words]
     if not all(lists):
         return None
 
     def cost(keys):
         points = [store.places[key].point for key in keys]
-        return max(distance(at, p) for p in points) + max(distance(p, q) for p in points for q in points)
+        return max(distance(at, p, scale) for p in points) + max(distance(p, q, scale) for p in points for q in points)
 
     first = [found[0][1] for found in lists]
     best = [cost(first), first]

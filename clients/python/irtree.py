@@ -442,6 +442,11 @@ def _within(expr: Expr, bare: Tuple[type, ...]) -> str:
     return _filter(expr) if isinstance(expr, bare) else f"({_filter(expr)})"
 
 
+def _scale(scale: Optional[int]) -> str:
+    """The part of a line with a scale of longitudes, if there is one."""
+    return "" if scale is None else f" scale {_whole(scale, 'a scale')}"
+
+
 def _where(where: Where) -> str:
     """The end of a line with a filter, if there is one."""
     if where is None:
@@ -633,8 +638,8 @@ def _explained(explain: bool) -> str:
     return "explain " if explain else ""
 
 
-def _range(point: Tuple[Degrees, Degrees], radius: Degrees, where: Where, explain: bool) -> Question[List[Hit]]:
-    line = f"{_explained(explain)}range {_point(point)} {_degrees(radius, 'a radius')}{_where(where)}"
+def _range(point: Tuple[Degrees, Degrees], radius: Degrees, scale: Optional[int], where: Where, explain: bool) -> Question[List[Hit]]:
+    line = f"{_explained(explain)}range {_point(point)} {_degrees(radius, 'a radius')}{_scale(scale)}{_where(where)}"
     return Question(_bytes(line), _read_near)
 
 
@@ -643,18 +648,19 @@ def _box(sides: Tuple[Degrees, Degrees, Degrees, Degrees], where: Where, explain
     return Question(_bytes(f"{_explained(explain)}box {degrees}{_where(where)}"), _read_box)
 
 
-def _nearest(point: Tuple[Degrees, Degrees], k: int, where: Where, explain: bool) -> Question[List[Hit]]:
-    line = f"{_explained(explain)}nearest {_point(point)} {_whole(k, 'k')}{_where(where)}"
+def _nearest(point: Tuple[Degrees, Degrees], k: int, scale: Optional[int], where: Where, explain: bool) -> Question[List[Hit]]:
+    line = f"{_explained(explain)}nearest {_point(point)} {_whole(k, 'k')}{_scale(scale)}{_where(where)}"
     return Question(_bytes(line), _read_near)
 
 
-def _top(point: Tuple[Degrees, Degrees], k: int, alpha: int, reach: Degrees, words: Words, explain: bool) -> Question[List[Hit]]:
-    numbers = f"{_whole(k, 'k')} {_whole(alpha, 'alpha')} {_degrees(reach, 'a reach')}"
+def _top(point: Tuple[Degrees, Degrees], k: int, alpha: int, reach: Degrees, words: Words, scale: Optional[int],
+         explain: bool) -> Question[List[Hit]]:
+    numbers = f"{_whole(k, 'k')} {_whole(alpha, 'alpha')} {_degrees(reach, 'a reach')}{_scale(scale)}"
     return Question(_bytes(f"{_explained(explain)}top {_point(point)} {numbers} words {_top_words(words)}"), _read_top)
 
 
-def _group(point: Tuple[Degrees, Degrees], words: Iterable[str], explain: bool) -> Question[Optional[Group]]:
-    return Question(_bytes(f"{_explained(explain)}group {_point(point)} words {_group_words(words)}"), _read_group)
+def _group(point: Tuple[Degrees, Degrees], words: Iterable[str], scale: Optional[int], explain: bool) -> Question[Optional[Group]]:
+    return Question(_bytes(f"{_explained(explain)}group {_point(point)}{_scale(scale)} words {_group_words(words)}"), _read_group)
 
 
 class Reply(Generic[T]):
@@ -813,30 +819,41 @@ class Store:
         return self._now(_count())
 
     # Queries. Each returns a list of hits, which is empty if there is none.
+    #
+    # Longitudes meet at 180 degrees. `scale` (0 to 1000) is how much a step of longitude counts in a distance, in thousandths. Without it
+    # a step counts in full. Where a degree of longitude is half as long as one of latitude, as at latitude 60, it is 500.
 
-    def range(self, point: Tuple[Degrees, Degrees], radius: Degrees, *, where: Where = None, explain: bool = False) -> List[Hit]:
-        """Returns the places at most `radius` from the point, nearest first."""
-        return self._now(_range(point, radius, where, explain))
+    def range(self, point: Tuple[Degrees, Degrees], radius: Degrees, *, scale: Optional[int] = None, where: Where = None,
+              explain: bool = False) -> List[Hit]:
+        """Returns the places at most `radius` from the point, nearest first. `scale` is how much longitudes count, in thousandths."""
+        return self._now(_range(point, radius, scale, where, explain))
 
     def box(self, west: Degrees, south: Degrees, east: Degrees, north: Degrees, *, where: Where = None, explain: bool = False) -> List[Hit]:
         """Returns the places in the box, its border included, by key."""
         return self._now(_box((west, south, east, north), where, explain))
 
-    def nearest(self, point: Tuple[Degrees, Degrees], k: int, *, where: Where = None, explain: bool = False) -> List[Hit]:
-        """Returns the k nearest places."""
-        return self._now(_nearest(point, k, where, explain))
+    def nearest(self, point: Tuple[Degrees, Degrees], k: int, *, scale: Optional[int] = None, where: Where = None,
+                explain: bool = False) -> List[Hit]:
+        """Returns the k nearest places. `scale` is how much longitudes count, in thousandths."""
+        return self._now(_nearest(point, k, scale, where, explain))
 
-    def top(self, point: Tuple[Degrees, Degrees], k: int, alpha: int, reach: Degrees, words: Words, *, explain: bool = False) -> List[Hit]:
+    def top(self, point: Tuple[Degrees, Degrees], k: int, alpha: int, reach: Degrees, words: Words, *, scale: Optional[int] = None,
+            explain: bool = False) -> List[Hit]:
         """Returns the k places of least cost that have one of the words.
 
         `alpha` (0 to 1000) is how much the distance counts, in thousandths; the text counts as much as a distance of `reach`. `words` is a
-        list of 1 to 8 words and of pairs of a word and its weight, or a mapping of words to weights. A weight is 1 to 20.
+        list of 1 to 8 words and of pairs of a word and its weight, or a mapping of words to weights. A weight is 1 to 20. `scale` is how
+        much longitudes count, in thousandths.
         """
-        return self._now(_top(point, k, alpha, reach, words, explain))
+        return self._now(_top(point, k, alpha, reach, words, scale, explain))
 
-    def group(self, point: Tuple[Degrees, Degrees], words: Iterable[str], *, explain: bool = False) -> Optional[Group]:
-        """Returns the cheapest places that have all the words between them, or None if no place has one of the words."""
-        return self._now(_group(point, words, explain))
+    def group(self, point: Tuple[Degrees, Degrees], words: Iterable[str], *, scale: Optional[int] = None,
+              explain: bool = False) -> Optional[Group]:
+        """Returns the cheapest places that have all the words between them, or None if no place has one of the words.
+
+        `scale` is how much longitudes count, in thousandths, also between two places of the group.
+        """
+        return self._now(_group(point, words, scale, explain))
 
     def pipeline(self) -> Pipeline:
         """Returns a pipeline, for many lines without waiting for each reply."""
@@ -1065,27 +1082,30 @@ class Pipeline:
         """As `Store.count`."""
         return self._later(_count())
 
-    def range(self, point: Tuple[Degrees, Degrees], radius: Degrees, *, where: Where = None, explain: bool = False) -> Reply[List[Hit]]:
+    def range(self, point: Tuple[Degrees, Degrees], radius: Degrees, *, scale: Optional[int] = None, where: Where = None,
+              explain: bool = False) -> Reply[List[Hit]]:
         """As `Store.range`."""
-        return self._later(_range(point, radius, where, explain))
+        return self._later(_range(point, radius, scale, where, explain))
 
     def box(self, west: Degrees, south: Degrees, east: Degrees, north: Degrees, *, where: Where = None,
             explain: bool = False) -> Reply[List[Hit]]:
         """As `Store.box`."""
         return self._later(_box((west, south, east, north), where, explain))
 
-    def nearest(self, point: Tuple[Degrees, Degrees], k: int, *, where: Where = None, explain: bool = False) -> Reply[List[Hit]]:
+    def nearest(self, point: Tuple[Degrees, Degrees], k: int, *, scale: Optional[int] = None, where: Where = None,
+                explain: bool = False) -> Reply[List[Hit]]:
         """As `Store.nearest`."""
-        return self._later(_nearest(point, k, where, explain))
+        return self._later(_nearest(point, k, scale, where, explain))
 
-    def top(self, point: Tuple[Degrees, Degrees], k: int, alpha: int, reach: Degrees, words: Words, *,
+    def top(self, point: Tuple[Degrees, Degrees], k: int, alpha: int, reach: Degrees, words: Words, *, scale: Optional[int] = None,
             explain: bool = False) -> Reply[List[Hit]]:
         """As `Store.top`."""
-        return self._later(_top(point, k, alpha, reach, words, explain))
+        return self._later(_top(point, k, alpha, reach, words, scale, explain))
 
-    def group(self, point: Tuple[Degrees, Degrees], words: Iterable[str], *, explain: bool = False) -> Reply[Optional[Group]]:
+    def group(self, point: Tuple[Degrees, Degrees], words: Iterable[str], *, scale: Optional[int] = None,
+              explain: bool = False) -> Reply[Optional[Group]]:
         """As `Store.group`."""
-        return self._later(_group(point, words, explain))
+        return self._later(_group(point, words, scale, explain))
 
 
 def load(store: PathName, source: Union[PathName, bytes], *, batch: Optional[int] = None, text: Optional[str] = None,

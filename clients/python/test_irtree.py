@@ -29,7 +29,7 @@ from irtree import Auto, Group, Hit, Loaded, Pick, Place, Point, Skip, Store, Wo
 LARGE = os.environ.get("IRTREE_LARGE") == "1"
 LONGEST = 3600 if LARGE else 300                    # seconds; a test that takes more has a deadlock
 ORIGIN = (0, 0)
-RESERVED = ["and", "or", "not", "where", "words", "explain"]
+RESERVED = ["and", "or", "not", "where", "words", "explain", "scale"]
 
 
 def units(n):
@@ -178,6 +178,30 @@ class QueriesTest(Case):
         self.assertIsNone(store.group(ORIGIN, ["a", "pub"]))
         self.assertEqual(store.group(ORIGIN, ["a"], explain=True), Group(D(1), (Pick(1, "a", "a1", D(1), point(1, 0)),)))
 
+    def test_longitudes_meet_at_180_degrees(self):
+        store = self.store()
+        store.add("e", (D("179.9"), 0), "a")
+        store.add("f", (D("-179.8"), 0), "b")
+        at = D("-179.9"), 0
+        self.assertEqual(store.nearest(at, 2), [Hit(1, "f", D("0.1")), Hit(2, "e", D("0.2"))])
+        self.assertEqual(self.hits(store.range(at, D("0.2"))), ["f", "e"])
+        self.assertEqual(store.top(at, 1, 1000, 1, ["a"], explain=True)[0].distance, D("0.2"))
+        self.assertEqual(store.group(at, ["a", "b"]).cost, D("0.5"))
+        self.assertEqual(self.hits(store.box(D("179.9"), 0, D(180), 0)), ["e"])
+
+    def test_a_scale_is_how_much_longitudes_count(self):
+        store = self.store()
+        store.add("g", (D(3), D(4)), "a")
+        store.add("h", (D(-3), D(4)), "b")
+        for scale, away, apart in [(None, "5", "6"), (1000, "5", "6"), (500, "4.2720018", "3"), (0, "4", "0")]:
+            near = [Hit(1, "g", D(away)), Hit(2, "h", D(away))]
+            self.assertEqual(store.nearest(ORIGIN, 2, scale=scale), near)
+            self.assertEqual(store.nearest(ORIGIN, 2, scale=scale, where=Word("a")), near[:1])
+            self.assertEqual(store.range(ORIGIN, D(away), scale=scale), near)
+            self.assertEqual(store.range(ORIGIN, D(away) - D("0.0000001"), scale=scale), [])
+            self.assertEqual(store.top(ORIGIN, 1, 1000, 1, ["a"], scale=scale, explain=True)[0].distance, D(away))
+            self.assertEqual(store.group(ORIGIN, ["a", "b"], scale=scale).cost, D(away) + D(apart))
+
     def test_a_tie_goes_to_the_lesser_key_and_automatic_keys_come_last(self):
         feature = '{"type":"Feature","geometry":{"type":"Point","coordinates":[0,0]},"properties":{}}'
         irtree.load(self.file, ('{"type":"FeatureCollection","features":[%s,%s]}' % (feature, feature)).encode())
@@ -220,7 +244,8 @@ class NumbersTest(Case):
                 with self.assertRaisesRegex(TypeError, "Decimal"):
                     call()
         for wrong in (1.0, True, "1", D(1)):
-            for call in (lambda: store.nearest(ORIGIN, wrong), lambda: store.top(ORIGIN, 1, wrong, 1, ["a"]),
+            for call in (lambda: store.nearest(ORIGIN, wrong), lambda: store.nearest(ORIGIN, 1, scale=wrong),
+                         lambda: store.top(ORIGIN, 1, wrong, 1, ["a"]),
                          lambda: store.top(ORIGIN, 1, 1, 1, {"a": wrong}), lambda: Auto(wrong)):
                 with self.assertRaisesRegex(TypeError, "int"):
                     call()
@@ -242,6 +267,7 @@ class RefusalsTest(Case):
             (irtree.BadNumber, lambda: store.add("k", (D("0." + "1" * 63), 0))),
             (irtree.BadNumber, lambda: store.nearest(ORIGIN, 10**20)),
             (irtree.BadNumber, lambda: store.nearest(ORIGIN, -1)),
+            (irtree.BadNumber, lambda: store.nearest(ORIGIN, 1, scale=-1)),
             (irtree.BadRange, lambda: store.add("k", (D("180.0000001"), 0))),
             (irtree.BadRange, lambda: store.add("k", (0, -900_000_001))),
             (irtree.BadRange, lambda: store.add("k", (D("1E+999999999"), 0))),
@@ -251,6 +277,10 @@ class RefusalsTest(Case):
             (irtree.BadRange, lambda: store.range(ORIGIN, D("100000.0000001"))),
             (irtree.BadRange, lambda: store.nearest(ORIGIN, 0)),
             (irtree.BadRange, lambda: store.nearest(ORIGIN, 1001)),
+            (irtree.BadRange, lambda: store.range(ORIGIN, 1, scale=1001)),
+            (irtree.BadRange, lambda: store.nearest(ORIGIN, 1, scale=1001)),
+            (irtree.BadRange, lambda: store.top(ORIGIN, 1, 500, 1, ["a"], scale=1001)),
+            (irtree.BadRange, lambda: store.group(ORIGIN, ["a"], scale=1001)),
             (irtree.BadRange, lambda: store.top(ORIGIN, 1, 1001, 1, ["a"])),
             (irtree.BadRange, lambda: store.top(ORIGIN, 1, 500, 0, ["a"])),
             (irtree.BadRange, lambda: store.top(ORIGIN, 1, 500, D("402.4922360"), ["a"])),
@@ -771,6 +801,7 @@ class Scan:
     """A plain scan over lists of places, in whole units of 10^-7 degrees, as docs/DEFINITIONS.md defines the queries.
 
     A filter is a pair: what it means for a place's words, and words of which each place that passes has one (None if it needs none).
+    A scale is the thousandths that a step of longitude counts.
     """
 
     def __init__(self):
@@ -789,8 +820,13 @@ class Scan:
             return self.places.values()
         return {place[3]: place for word in words for place in self.holders.get(word, ())}.values()
 
-    def distance(self, at, place):
-        return math.isqrt((place[0] - at[0]) ** 2 + (place[1] - at[1]) ** 2)
+    def square(self, at, place, scale):
+        """The square of a distance in thousandths of a unit. Longitudes go the shorter way round."""
+        gap = abs(place[0] - at[0])
+        return (scale * min(gap, 3_600_000_000 - gap)) ** 2 + (1000 * (place[1] - at[1])) ** 2
+
+    def distance(self, at, place, scale):
+        return math.isqrt(self.square(at, place, scale)) // 1000
 
     def point(self, key):
         x, y, _, _ = self.places[key]
@@ -806,27 +842,27 @@ class Scan:
         return [place for place in self.having(needed)
                 if west <= place[0] <= east and south <= place[1] <= north and holds(place[2])]
 
-    def range(self, at, radius, filter, explain):
-        close = self.inside(at[0] - radius, at[1] - radius, at[0] + radius, at[1] + radius, filter)
-        found = [(self.distance(at, place), place[3].encode(), place[3]) for place in close]
+    def range(self, at, radius, scale, filter, explain):
+        close = self.inside(-1_800_000_000, at[1] - radius, 1_800_000_000, at[1] + radius, filter)
+        found = [(self.distance(at, place, scale), place[3].encode(), place[3]) for place in close]
         return self.near([hit for hit in found if hit[0] <= radius], explain)
 
-    def nearest(self, at, k, filter, explain):
-        (lon, lat), (holds, needed) = at, filter
-        squares = [((x - lon) ** 2 + (y - lat) ** 2, key) for x, y, words, key in self.having(needed) if holds(words)]
-        last = max((math.isqrt(square) for square, _ in heapq.nsmallest(k, squares)), default=0)
-        close = [(math.isqrt(square), key.encode(), key) for square, key in squares if square < (last + 1) ** 2]
+    def nearest(self, at, k, scale, filter, explain):
+        holds, needed = filter
+        squares = [(self.square(at, place, scale), place[3]) for place in self.having(needed) if holds(place[2])]
+        last = max((math.isqrt(square) // 1000 for square, _ in heapq.nsmallest(k, squares)), default=0)
+        close = [(math.isqrt(square) // 1000, key.encode(), key) for square, key in squares if square < (1000 * (last + 1)) ** 2]
         return self.near(close, explain)[:k]
 
     def box(self, west, south, east, north, filter, explain):
         found = [place[3] for place in self.inside(west, south, east, north, filter)]
         return [Hit(rank, key, point=self.point(key) if explain else None) for rank, key in enumerate(sorted(found, key=str.encode), 1)]
 
-    def top(self, at, k, alpha, reach, weights, explain):
+    def top(self, at, k, alpha, reach, weights, scale, explain):
         most, found = 255 * sum(weights.values()), []
         for place in self.having(weights):
             text, key = sum(weight * place[2].get(word, 0) for word, weight in weights.items()), place[3]
-            distance = self.distance(at, place)
+            distance = self.distance(at, place, scale)
             found.append((alpha * distance * most + (1000 - alpha) * reach * (most - text), key.encode(), key, distance, text))
         hits = []
         for rank, (cost, _, key, distance, text) in enumerate(sorted(found)[:k], 1):
@@ -834,16 +870,16 @@ class Scan:
             hits.append(Hit(rank, key, *more))
         return hits
 
-    def group(self, at, words, explain):
+    def group(self, at, words, scale, explain):
         best = None
         for choice in itertools.product(*[self.holders.get(word, []) for word in words]):
-            between = [self.distance(one, other) for one, other in itertools.combinations(choice, 2)]
-            cost = max(self.distance(at, place) for place in choice) + max(between, default=0)
+            between = [self.distance(one, other, scale) for one, other in itertools.combinations(choice, 2)]
+            cost = max(self.distance(at, place, scale) for place in choice) + max(between, default=0)
             offer = cost, [place[3].encode() for place in choice], choice
             best = offer if best is None or offer < best else best
         if best is None:
             return None
-        picks = [Pick(rank, word, place[3], units(self.distance(at, place)), self.point(place[3]) if explain else None)
+        picks = [Pick(rank, word, place[3], units(self.distance(at, place, scale)), self.point(place[3]) if explain else None)
                  for rank, (word, place) in enumerate(zip(words, best[2]), 1)]
         return Group(units(best[0]), tuple(picks))
 
@@ -859,10 +895,12 @@ class ScanTest(Case):
         return rng.choices(self.COMMON, k=rng.randint(0, 5)) + [f"r{rng.randrange(self.PLACES // 5)}"]
 
     def point(self, rng):
-        """A point of a coarse grid, so that there are ties, or any point of its quarter of the map."""
-        if rng.random() < 0.3:
-            return rng.randint(-9, 9) * 10**8, rng.randint(-9, 9) * 10**8
-        return rng.randint(-900_000_000, 900_000_000), rng.randint(-900_000_000, 900_000_000)
+        """A point of a coarse grid, so that there are ties, one at most a degree from the 180th meridian, or any point."""
+        kind = rng.choice(["grid", "seam", "any"])
+        if kind == "grid":
+            return rng.randint(-18, 18) * 10**8, rng.randint(-9, 9) * 10**8
+        lon = rng.choice([-1, 1]) * rng.randint(1_790_000_000 if kind == "seam" else 0, 1_800_000_000)
+        return lon, rng.randint(-900_000_000, 900_000_000)
 
     def filled(self, rng, scan, store):
         """Puts the places into the scan and the store."""
@@ -890,23 +928,26 @@ class ScanTest(Case):
     def ask(self, rng, p, scan):
         """Asks for something, and returns the reply to come and the one that is expected."""
         at, explain, (where, filter) = self.point(rng), rng.random() < 0.5, self.filter(rng)
+        scale = rng.choice([None, 0, 1, 500, 564, 999, 1000])
+        counts = 1000 if scale is None else scale
         kind = rng.choice(["range", "box", "nearest", "top", "group"])
         if kind == "range":
             radius = rng.choice([0, 10**7, 10**8])
-            return p.range(at, radius, where=where, explain=explain), lambda: scan.range(at, radius, filter, explain)
+            return p.range(at, radius, scale=scale, where=where, explain=explain), lambda: scan.range(at, radius, counts, filter, explain)
         if kind == "box":
             x, y = self.point(rng)
             box = min(at[0], x), min(at[1], y), max(at[0], x), min(max(at[1], y), min(at[1], y) + 10**8)
             return p.box(*box, where=where, explain=explain), lambda: scan.box(*box, filter, explain)
         if kind == "nearest":
             k = rng.choice([1, 10, 100])
-            return p.nearest(at, k, where=where, explain=explain), lambda: scan.nearest(at, k, filter, explain)
+            return p.nearest(at, k, scale=scale, where=where, explain=explain), lambda: scan.nearest(at, k, counts, filter, explain)
         if kind == "top":
             weights = {word: rng.randint(1, 20) for word in rng.sample(self.COMMON, rng.randint(0, 2)) + self.words(rng)[-1:]}
             k, alpha, reach = rng.choice([1, 10, 50]), rng.choice([0, 300, 1000]), rng.choice([1, 10**7, 4_024_922_359])
-            return p.top(at, k, alpha, reach, weights, explain=explain), lambda: scan.top(at, k, alpha, reach, weights, explain)
+            reply = p.top(at, k, alpha, reach, weights, scale=scale, explain=explain)
+            return reply, lambda: scan.top(at, k, alpha, reach, weights, counts, explain)
         words = list(dict.fromkeys(self.words(rng)[-1] for _ in range(rng.randint(1, 3))))
-        return p.group(at, words, explain=explain), lambda: scan.group(at, words, explain)
+        return p.group(at, words, scale=scale, explain=explain), lambda: scan.group(at, words, counts, explain)
 
     def test_queries_give_what_the_scan_gives(self):
         rng, scan, store = random.Random(11), Scan(), self.store()

@@ -1,7 +1,7 @@
 -- What a ranked search asks of the entries of a tree.
 use Rattle.std.specs.Prelude.{◌≡◌, ℕ, Bool, if◌then◌else◌, List, [], ◌∷◌, Option, Some, None}
 use Rattle.std.specs.Borrow.{Bor}
-use Rattle.spatial_base.specs.Point.{Position, distance}
+use Rattle.spatial_base.specs.Point.{distance, Viewpoint}
 use Rattle.spatial_base.specs.Rect.{mindist_of}
 use Rattle.rtree_nodes.specs.Slots.{Item}
 use Rattle.place_values.specs.declared.hit.Hit.{Hit}
@@ -34,7 +34,7 @@ cost_by (Nearest filter) dist text = dist
 cost_by (Top terms) dist text = top_cost terms.alpha terms.reach (weight_sum terms.words.now) dist text
 
 -- the hit of a place's item, by the impacts of its words
-abbrev pub hit_by : Position → Ask → (List ℕ → ℕ) → Item → Hit
+abbrev pub hit_by : Viewpoint → Ask → (List ℕ → ℕ) → Item → Hit
 hit_by at ask f x = record {
   cost = cost_by ask (distance at (point_of x)) (text_by ask f);
   key = name_of x;
@@ -44,11 +44,11 @@ hit_by at ask f x = record {
 }
 
 -- what a place's item gives
-abbrev pub hits_for : Numbers → Position → Ask → Item → List Hit
+abbrev pub hits_for : Numbers → Viewpoint → Ask → Item → List Hit
 hits_for ids at ask x = if qualifies ask 0 (impact_of ids x) then hit_by at ask (impact_of ids x) x ∷ [] else []
 
 -- no place below an item of these greatest impacts costs less
-abbrev pub bound_by : Position → Ask → (List ℕ → ℕ) → Item → ℕ
+abbrev pub bound_by : Viewpoint → Ask → (List ℕ → ℕ) → Item → ℕ
 bound_by at ask f x = cost_by ask (mindist_of (rect_of_item x) at) (text_by ask f)
 
 -- the search asks for places that hold one of these words, ranked by these numbers

@@ -4,7 +4,7 @@ use Rattle.std.specs.List.{AllByRecursion, flat_map}
 use Rattle.std.proofs.lemmas.Bool.{cases_Bool}
 use Rattle.std.proofs.lemmas.Int.{ints}
 use Rattle.std.proofs.lemmas.List.Sums.{sum_by-append, sum_by-cons}
-use Rattle.spatial_base.specs.Point.{Position, IsOnMap, distance}
+use Rattle.spatial_base.specs.Point.{IsOnMap, distance, Viewpoint, IsViewpoint}
 use Rattle.spatial_base.specs.Rect.{Holds, mindist_of}
 use Rattle.spatial_base.specs.Laws.{mindist-below}
 use Rattle.place_values.specs.declared.hit.Hit.{Hit}
@@ -51,7 +51,7 @@ within-holds y x p w =
     }
 
 -- it is no nearer than MINDIST
-within-far : (at : Position) (y x : shape.Item) → IsOnMap at.x at.y → IsPlaceItem y → IsWithin y x → mindist_of (rect_of_item x) at ≤ distance at (point_of y)
+within-far : (at : Viewpoint) (y x : shape.Item) → IsViewpoint at → IsPlaceItem y → IsWithin y x → mindist_of (rect_of_item x) at ≤ distance at (point_of y)
 within-far at y x on p w = mindist-below (rect_of_item x) at (point_of y) on p.on (within-holds y x p w)
 
 got-reach : (d : ℕ) (o : Option shape.Item) (z : shape.Item) → o ≡ Some z → got (reach_of d) o ≡ z.reach d
@@ -93,7 +93,7 @@ unfolding spread
 all-spread P zero f h = tt
 all-spread P (suc n) f h = all_append P (spread n f) (f n) (all-spread P n f (λ i l. h i (omega arith))) (h n (omega arith))
 
-module _ (ids : Numbers) (at : Position) (ask : Ask) (on : IsOnMap at.x at.y) (nodes : NodeMap) where
+module _ (ids : Numbers) (at : Viewpoint) (ask : Ask) (on : IsViewpoint at) (nodes : NodeMap) where
   abbrev opens : ℕ → ℕ → List Item
   opens = opened_in ids at ask nodes
 

@@ -9,7 +9,7 @@ use Rattle.btree_nodes.specs.Tree.{IsMap, map_uses}
 use Rattle.btree_nodes.proofs.Supplies.{uncounted-past}
 use Rattle.paged_map.specs.Maps.{AreCounted as AreMapCounted}
 use Rattle.paged_map.proofs.Maps.{kept-counted}
-use Rattle.spatial_base.specs.Point.{Position, IsOnMap}
+use Rattle.spatial_base.specs.Point.{Viewpoint, IsViewpoint}
 use Rattle.place_values.specs.First.{first}
 use Rattle.place_values.specs.Members.{SameMembers, ranked_same}
 use Rattle.place_values.specs.declared.hit.Hit.{Hit}
@@ -85,19 +85,19 @@ impacts-at : (pages : PageMap) (tree : Tree) (ids : Numbers) (page i : ℕ) (z :
 impacts-at pages tree ids page i z e = slot-impacts ids (bytes_in pages tree.rows page) i ((node_of (pages page)).slots i) z e
 
 -- the bounds hold
-pub fits-bounded : (pages : PageMap) (count begin : ℕ) (tree : Tree) (ids : Numbers) (at : Position) (ask : Ask) → IsOnMap at.x at.y → FitsTree pages count begin tree
+pub fits-bounded : (pages : PageMap) (count begin : ℕ) (tree : Tree) (ids : Numbers) (at : Viewpoint) (ask : Ask) → IsViewpoint at → FitsTree pages count begin tree
     → Bounds (opened_in ids at ask (nodes_at pages tree)) (started_in ids ask (nodes_at pages tree) (bytes_in pages tree.rows) tree.root)
 fits-bounded pages count begin tree ids at ask on fits = tree-bounds ids at ask on (nodes_at pages tree) (leaves-at pages tree) (bytes_in pages tree.rows) tree.root fits.1.tree
 
 -- a search leads to the hits of the tree's entries
-pub fits-members : (pages : PageMap) (count begin : ℕ) (tree : Tree) (ids : Numbers) (at : Position) (ask : Ask) → IsOnMap at.x at.y → FitsTree pages count begin tree
+pub fits-members : (pages : PageMap) (count begin : ℕ) (tree : Tree) (ids : Numbers) (at : Viewpoint) (ask : Ask) → IsViewpoint at → FitsTree pages count begin tree
     → SameMembers (flat_map (hits_for ids at ask) (tree_places (nodes_at pages tree) tree.root))
     (leads (opened_in ids at ask (nodes_at pages tree)) (started_in ids ask (nodes_at pages tree) (bytes_in pages tree.rows) tree.root))
 fits-members pages count begin tree ids at ask on fits =
     tree-members ids at ask on (nodes_at pages tree) (bytes_in pages tree.rows) tree.root fits.1.tree (λ i z l e. impacts-at pages tree ids tree.root i z e)
 
 -- so the first k that it leads to are the first k of those hits
-pub fits-first : (k : ℕ) (pages : PageMap) (count begin : ℕ) (tree : Tree) (ids : Numbers) (at : Position) (ask : Ask) → IsOnMap at.x at.y → FitsTree pages count begin tree
+pub fits-first : (k : ℕ) (pages : PageMap) (count begin : ℕ) (tree : Tree) (ids : Numbers) (at : Viewpoint) (ask : Ask) → IsViewpoint at → FitsTree pages count begin tree
     → first comes_before k (leads (opened_in ids at ask (nodes_at pages tree)) (started_in ids ask (nodes_at pages tree) (bytes_in pages tree.rows) tree.root))
     ≡ first comes_before k (flat_map (hits_for ids at ask) (tree_places (nodes_at pages tree) tree.root))
 fits-first k pages count begin tree ids at ask on fits = ap (λ (hits : List Hit). take k hits) (ranked_same hits_linear (flat_map (hits_for ids at ask) (tree_places (nodes_at pages tree) tree.root))
@@ -133,7 +133,7 @@ place-of : (P : ℕ → ℕ → Type 0) (b : Bool) (h : Hit) → AllByRecursion 
 place-of P true h = (tt, tt)
 place-of P false h = tt
 
-child-of : (pages : PageMap) (count : ℕ) (tree : Tree) (ids : Numbers) (at : Position) (ask : Ask) (page level i : ℕ) → i < 32 → HasNode pages count tree page level → (o : Option shape.Item) → (nodes_at pages tree page).slots i ≡ o
+child-of : (pages : PageMap) (count : ℕ) (tree : Tree) (ids : Numbers) (at : Viewpoint) (ask : Ask) (page level i : ℕ) → i < 32 → HasNode pages count tree page level → (o : Option shape.Item) → (nodes_at pages tree page).slots i ≡ o
     → AllByRecursion (OfNode (HasNode pages count tree)) (given_at (λ x. given_by at ask level (impact_of ids x) x) o)
 child-of pages count tree ids at ask page level i l h None e = tt
 child-of pages count tree ids at ask page zero i l h (Some x) e = place-of (HasNode pages count tree) (qualifies ask 0 (impact_of ids x)) (hit_by at ask (impact_of ids x) x)
@@ -143,7 +143,7 @@ child-of pages count tree ids at ask page (suc below) i l h (Some x) e =
     (child-node (nodes_at pages tree) (suc below) below page i x.to refl l h.0 child, child-counted (nodes_at pages tree) (suc below) below page i x.to refl l h.0 child count h.1)
 
 -- and opens such nodes
-pub fits-opens : (pages : PageMap) (count : ℕ) (tree : Tree) (ids : Numbers) (at : Position) (ask : Ask) (page level : ℕ) → HasNode pages count tree page level
+pub fits-opens : (pages : PageMap) (count : ℕ) (tree : Tree) (ids : Numbers) (at : Viewpoint) (ask : Ask) (page level : ℕ) → HasNode pages count tree page level
     → AllByRecursion (OfNode (HasNode pages count tree)) (opened_in ids at ask (nodes_at pages tree) page level)
 fits-opens pages count tree ids at ask page level h =
     all-spread (OfNode (HasNode pages count tree)) 32 (λ i. given_at (λ x. given_by at ask level (impact_of ids x) x) ((nodes_at pages tree page).slots i))
@@ -191,7 +191,7 @@ root-level pages count begin tree b fits =
     first-level b tree.root (level_in (pages tree.root)) (level_at (nodes_at pages tree) tree.root) (λ some. let s = root-sound pages count begin tree fits some in sym s.level_is)
 
 -- what a search for words asks is a top query
-pub top-hits : (ids : Numbers) (at : Position) (alpha reach : ℕ) (words : Weighted) (ask : Ask) → IsTopFor alpha reach words ask → hits_for ids at ask ≡ top_item ids at alpha reach words
+pub top-hits : (ids : Numbers) (at : Viewpoint) (alpha reach : ℕ) (words : Weighted) (ask : Ask) → IsTopFor alpha reach words ask → hits_for ids at ask ≡ top_item ids at alpha reach words
 top-hits ids at alpha reach words (Nearest filter) is = absurd is
 top-hits ids at alpha reach words (Top terms) is =
     let a = is.0 in
@@ -200,7 +200,7 @@ top-hits ids at alpha reach words (Top terms) is =
     λ i. top_item ids at (a i) (r i) (w i)
 
 -- the first k of a top query's hits
-pub top-first : (k : ℕ) (pages : PageMap) (count begin : ℕ) (told tree : Tree) (known ids : Numbers) (from at : Position) (alpha reach : ℕ) (words : Weighted) (ask : Ask) → IsOnMap from.x from.y → FitsTree pages count begin told
+pub top-first : (k : ℕ) (pages : PageMap) (count begin : ℕ) (told tree : Tree) (known ids : Numbers) (from at : Viewpoint) (alpha reach : ℕ) (words : Weighted) (ask : Ask) → IsViewpoint from → FitsTree pages count begin told
     → told ≡ tree → known ≡ ids → from ≡ at → IsTopFor alpha reach words ask
     → first comes_before k (leads (opened_in known from ask (nodes_at pages told)) (started_in known ask (nodes_at pages told) (bytes_in pages told.rows) told.root))
     ≡ first comes_before k (flat_map (top_item ids at alpha reach words) (tree_places (nodes_at pages tree) tree.root))
@@ -210,7 +210,7 @@ top-first k pages count begin told tree known ids from at alpha reach words ask 
     ∙ (λ i. first comes_before k (flat_map (top_item (n i) (p i) alpha reach words) (tree_places (nodes_at pages (t i)) (t i).root)))
 
 -- the first k of a nearest query's hits
-pub near-first : (k : ℕ) (pages : PageMap) (count begin : ℕ) (told tree : Tree) (known ids : Numbers) (from at : Position) (filter : Option (Bor Expr)) (ask : Ask) → IsOnMap from.x from.y → FitsTree pages count begin told
+pub near-first : (k : ℕ) (pages : PageMap) (count begin : ℕ) (told tree : Tree) (known ids : Numbers) (from at : Viewpoint) (filter : Option (Bor Expr)) (ask : Ask) → IsViewpoint from → FitsTree pages count begin told
     → told ≡ tree → known ≡ ids → from ≡ at → ask ≡ Nearest filter
     → first comes_before k (leads (opened_in known from ask (nodes_at pages told)) (started_in known ask (nodes_at pages told) (bytes_in pages told.rows) told.root))
     ≡ first comes_before k (flat_map (near_item ids at (filter_of filter)) (tree_places (nodes_at pages tree) tree.root))

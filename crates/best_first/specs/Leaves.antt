@@ -3,7 +3,7 @@ use Rattle.std.proofs.Common.{◌≡◌, ℕ, ℤ, zero, suc, ◌+◌, ◌<◌, 
 use Rattle.std.specs.Prelude.{option_map, unsigned_abs}
 use Rattle.std.proofs.lemmas.Bool.{cases_Bool}
 use Rattle.std.proofs.lemmas.Int.{ints, clamps}
-use Rattle.spatial_base.specs.Point.{Position, IsOnMap}
+use Rattle.spatial_base.specs.Point.{Position, IsOnMap, Viewpoint}
 use Rattle.rtree_nodes.specs.Slots.{NodeView, Held, got, one, filled}
 use Rattle.rtree_nodes.specs.Slots as shape
 use Rattle.rtree_nodes.proofs.Amounts.{amount-same}
@@ -65,11 +65,11 @@ unfolding or_item
 slot-impacts ids b i None z e = absurd (cc)
 slot-impacts ids b i (Some x) z e = ap (λ y. impact_of ids y) (sym (ap (or_item x) e)) ∙ (λ k word. joined-impact ids b i x word k)
 
-given-plain : (at : Position) (ask : Ask) (level : ℕ) (f : List ℕ → ℕ) (b : ℕ → ℕ → ℕ) (i : ℕ) (x : shape.Item) → given_by at ask level f x ≡ given_by at ask level f (joined_item b i x)
+given-plain : (at : Viewpoint) (ask : Ask) (level : ℕ) (f : List ℕ → ℕ) (b : ℕ → ℕ → ℕ) (i : ℕ) (x : shape.Item) → given_by at ask level f x ≡ given_by at ask level f (joined_item b i x)
 given-plain at ask zero f b i x = refl
 given-plain at ask (suc level) f b i x = refl
 
-given-joined : (ids : Numbers) (at : Position) (ask : Ask) (level : ℕ) (b : ℕ → ℕ → ℕ) (i : ℕ) (o : Option shape.Item)
+given-joined : (ids : Numbers) (at : Viewpoint) (ask : Ask) (level : ℕ) (b : ℕ → ℕ → ℕ) (i : ℕ) (o : Option shape.Item)
     → given_at (given_by at ask level (byte_of ids b i)) o ≡ given_at (λ x. given_by at ask level (impact_of ids x) x) (option_map (joined_item b i) o)
 given-joined ids at ask level b i None = refl
 given-joined ids at ask level b i (Some x) =
@@ -77,7 +77,7 @@ given-joined ids at ask level b i (Some x) =
     ∙ ap (λ (f : List ℕ → ℕ). given_by at ask level f (joined_item b i x)) (λ k word. sym (joined-impact ids b i x word) k)
 
 -- what a node's page gives by its rows is what its items give
-pub page-given : (ids : Numbers) (at : Position) (ask : Ask) (level : ℕ) (page : List ℕ) (b : ℕ → ℕ → ℕ) → is_form page ≡ true
+pub page-given : (ids : Numbers) (at : Viewpoint) (ask : Ask) (level : ℕ) (page : List ℕ) (b : ℕ → ℕ → ℕ) → is_form page ≡ true
     → spread 32 (λ i. given_at (given_by at ask level (byte_of ids b i)) (stored_in page i)) ≡ spread 32 (λ i. given_at (λ x. given_by at ask level (impact_of ids x) x) (words_on b (node_of page).slots i))
 page-given ids at ask level page b t =
     ap (λ (f : ℕ → List Item). spread 32 f)

@@ -3,7 +3,7 @@ use Rattle.std.specs.Prelude.{◌≡◌, ℕ, zero, suc, ◌<◌, Bool, true, fa
 use Rattle.page_face.specs.FreeList.{PageMap}
 use Rattle.page_face.specs.Causes.{IsUncounted}
 use Rattle.spatial_base.specs.Key.{form_of}
-use Rattle.spatial_base.specs.Point.{Position}
+use Rattle.spatial_base.specs.Point.{Viewpoint}
 use Rattle.rtree_nodes.specs.Slots as shape
 use Rattle.rtree_nodes.specs.Slots.{Slots, NodeMap, IsChildAt}
 use Rattle.rtree_nodes.specs.Reach.{place_item}
@@ -16,7 +16,7 @@ use Rattle.best_first.specs.declared.ask.Ask.{Ask}
 use Rattle.best_first.specs.Asks.{qualifies, hit_by, bound_by}
 
 -- what the item of a slot gives, by the impacts of its words: a place that qualifies its hit, and a child below which a place may qualify its node with a bound
-abbrev pub given_by : Position → Ask → ℕ → (List ℕ → ℕ) → shape.Item → List Item
+abbrev pub given_by : Viewpoint → Ask → ℕ → (List ℕ → ℕ) → shape.Item → List Item
 given_by at ask zero f x = if qualifies ask 0 f then Place (hit_by at ask f x) ∷ [] else []
 given_by at ask (suc level) f x = if qualifies ask (suc level) f then Node x.to level (bound_by at ask f x) ∷ [] else []
 
@@ -31,7 +31,7 @@ spread zero f = []
 spread (suc n) f = spread n f ++ f n
 
 -- what a node of this level gives
-abbrev pub opened_in : Numbers → Position → Ask → NodeMap → ℕ → ℕ → List Item
+abbrev pub opened_in : Numbers → Viewpoint → Ask → NodeMap → ℕ → ℕ → List Item
 opened_in ids at ask nodes page level = spread 32 (λ i. given_at (λ x. given_by at ask level (impact_of ids x) x) ((nodes page).slots i))
 
 -- one of the first n meets a test

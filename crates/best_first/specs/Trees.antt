@@ -3,7 +3,7 @@ use Rattle.std.proofs.Common.{◌≡◌, ℕ, zero, suc, ◌<◌, ◌≤◌, Boo
 use Rattle.std.specs.List.{AllByRecursion, flat_map}
 use Rattle.std.proofs.lemmas.Bool.{cases_Bool}
 use Rattle.std.proofs.lemmas.List.Sums.{sum_by-append, sum_by-cons}
-use Rattle.spatial_base.specs.Point.{Position, IsOnMap}
+use Rattle.spatial_base.specs.Point.{Viewpoint, IsViewpoint}
 use Rattle.place_values.specs.Members.{SameMembers}
 use Rattle.place_values.specs.declared.hit.Hit.{Hit}
 use Rattle.rtree_nodes.specs.Slots.{NodeMap, got, Held}
@@ -44,7 +44,7 @@ all-zero : (hits : List Hit) → AllByRecursion (λ (h : Hit). 0 ≤ h.cost) hit
 all-zero [] = tt
 all-zero (h ∷ hits) = (omega arith, all-zero hits)
 
-module _ (ids : Numbers) (at : Position) (ask : Ask) (on : IsOnMap at.x at.y) (nodes : NodeMap) where
+module _ (ids : Numbers) (at : Viewpoint) (ask : Ask) (on : IsViewpoint at) (nodes : NodeMap) where
   held-nothing : (w : Hit → ℕ) (level : ℕ) (bytes : List ℕ → ℕ) (o : Option shape.Item) → Held (λ y. IsItem nodes level y) o → ((z : shape.Item) → o ≡ Some z → impact_of ids z ≡ bytes) → qualifies ask 1 bytes ≡ false
       → got (λ y. below_item nodes (λ x. sum_by w (hits_for ids at ask x)) level y) o ≡ 0
   held-nothing w level bytes None h e f = refl

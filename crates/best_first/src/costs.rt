@@ -8,7 +8,7 @@ use place_values::cost_of;
 impl<'q> Ask<'q> {
     /// Returns the cost of a place at a distance and with a relevance.
     pub fn cost(&self, dist: u64, text: u32) -> u64
-        requires { dist ≤ 4024922359 }
+        requires { dist ≤ 2545584412 }
         ensures { result ≡ cost_by self.now dist text }
     {
         match self {

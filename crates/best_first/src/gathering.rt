@@ -19,11 +19,11 @@ use node_filter::Marks;
 use page_face::{Page, PageFault, Rule};
 use place_values::Hit;
 use rtree_nodes::{SLOTS, Slot, slot_at};
-use spatial_base::{Key, Point, Rect, dist};
+use spatial_base::{Key, Origin, Point, Rect};
 use std::alloc::Global;
 
 // The hit of a place with a relevance.
-fn hit_at(ask: &Ask, from: &Point, point: &Point, key: &Key, text: u32) -> Hit
+fn hit_at(ask: &Ask, from: &Origin, point: &Point, key: &Key, text: u32) -> Hit
     ensures key { result.key ≡ key.now }
     ensures point { result.point ≡ point.now }
     ensures hit { (f : List ℕ → ℕ) → text ≡ text_by ask.now f → result ≡ hit_by from.now ask.now f (place_item point.now (form_of key.now)) }
@@ -32,7 +32,7 @@ fn hit_at(ask: &Ask, from: &Point, point: &Point, key: &Key, text: u32) -> Hit
     let _x = point.x();
     let _y = point.y();
     let _form = key.bytes();
-    let dist = dist(from, point);
+    let dist = from.dist(point);
     Hit {
         cost: ask.cost(dist, text),
         key: *key,
@@ -43,16 +43,16 @@ fn hit_at(ask: &Ask, from: &Point, point: &Point, key: &Key, text: u32) -> Hit
 }
 
 // The bound of a child with a relevance: no place below it costs less.
-fn bound_at(ask: &Ask, from: &Point, rect: &Rect, page: u32, text: u32) -> u64
+fn bound_at(ask: &Ask, from: &Origin, rect: &Rect, page: u32, text: u32) -> u64
     ensures { (f : List ℕ → ℕ) → text ≡ text_by ask.now f → result ≡ bound_by from.now ask.now f (child_item rect.now page) }
 {
     // The rectangle is one of the map.
     let _west = rect.west();
-    ask.cost(rect.mindist(from), text)
+    ask.cost(from.mindist(rect), text)
 }
 
 // A place's hit, or a child's node.
-fn item_at(ask: &Ask, from: &Point, slot: &Slot, level: u8, text: u32) -> Item
+fn item_at(ask: &Ask, from: &Origin, slot: &Slot, level: u8, text: u32) -> Item
     requires { is_place slot.now ≡ (level == 0) }
     ensures item { (f : List ℕ → ℕ) → qualifies ask.now level f ≡ true → text ≡ text_by ask.now f → given_by from.now ask.now level f (item_of slot.now) ≡ result ∷ [] }
     ensures level { IsGivenAt level result }
@@ -74,7 +74,7 @@ fn slot_item(
     at: usize,
     level: u8,
     ask: &Ask,
-    from: &Point,
+    from: &Origin,
     marks: &Marks,
 ) -> Result<Option<Item>, Rule>
     requires at { at < 32 }
@@ -128,7 +128,7 @@ pub fn gather(
     node: u32,
     level: u8,
     ask: &Ask,
-    from: &Point,
+    from: &Origin,
     marks: &Marks,
 ) -> Result<Vec<Item>, PageFault>
     requires { level ≡ level_in page.now }

@@ -27,7 +27,7 @@ use crate::{Ask, Item};
 use node_filter::{Ids, enter, enter_at};
 use node_rows::Tree;
 use page_face::{Damage, PageFault, Pages};
-use spatial_base::Point;
+use spatial_base::Origin;
 use std::alloc::Global;
 
 /// Opens a node of a level: returns the hits of a leaf's places that qualify, and of any other node the children below which one may, each
@@ -41,7 +41,7 @@ pub fn opened<P: Pages>(
     tree: &Tree,
     ids: &Ids,
     ask: &Ask,
-    from: &Point,
+    from: &Origin,
     node: u32,
     level: u8,
 ) -> Result<Vec<Item>, PageFault>

@@ -5,7 +5,7 @@ use Rattle.std.proofs.lemmas.Bool.{and_parts, leb-true}
 use Rattle.std.proofs.lemmas.List.{append-nil, append_cancel_left}
 use Rattle.page_face.specs.FreeList.{PageMap}
 use Rattle.btree_nodes.specs.Tree.{map_uses}
-use Rattle.spatial_base.specs.Point.{Position}
+use Rattle.spatial_base.specs.Point.{Viewpoint}
 use Rattle.spatial_base.specs.Rect.{Bounds, mindist_of}
 use Rattle.place_values.specs.declared.hit.Hit.{Hit}
 use Rattle.place_values.specs.declared.query.Expr.{Expr}
@@ -157,12 +157,12 @@ module _ (pages : PageMap) (rows count begin root : ℕ) (region : Area) (ids : 
 
 module _ (pages : PageMap) (rows count begin root : ℕ) (ids : Numbers) (filter : Option Expr) (fits : Fits pages rows count begin root) (found : List Hit) (old new : List ℕ) (empty : root ≡ 0 → new ≡ old) where
   -- a range query
-  pub range-few : (at : Position) (radius : ℕ)
+  pub range-few : (at : Viewpoint) (radius : ℕ)
       → Walked (circle at radius) pages (map_uses rows_form pages rows) (Fits pages rows count begin root) (opens_in (circle at radius) ids filter (nodes_in node_of pages rows)) (starts_at (nodes_in node_of pages rows) root) root old new found
-      → OpensFew (λ page. 0 < map_uses rows_form pages rows page) (range_item ids at radius filter) ids (asked_for.Range at radius filter) (nodes_in node_of pages rows) root old new found
+      → OpensFew (λ page. 0 < map_uses rows_form pages rows page) (range_item ids at radius filter) ids (asked_for.Range at.point at.scale radius filter) (nodes_in node_of pages rows) root old new found
   range-few at radius walked =
       walk-few pages rows count begin root (circle at radius) ids filter (range_item ids at radius filter)
-      (λ x t. if-given (has_point (circle at radius) (point_of x) && admits_by 0 (impact_of ids x) filter) (hit_in (circle at radius) (point_of x) (name_of x)) t) fits (asked_for.Range at radius filter) found
+      (λ x t. if-given (has_point (circle at radius) (point_of x) && admits_by 0 (impact_of ids x) filter) (hit_in (circle at radius) (point_of x) (name_of x)) t) fits (asked_for.Range at.point at.scale radius filter) found
       (λ round is_root c. ⊎_elim (λ (r : is_root). inl r) (λ (h : LetsThrough (circle at radius) ids filter round 0). inr (h.1, leb-true (mindist_of (rect_of_item round) at) radius h.0)) c) old new walked empty
 
   -- a box query

@@ -2,7 +2,7 @@
 use Rattle.std.proofs.Common.{◌≡◌, ℕ, suc, ◌+◌, ◌<◌, ◌≤◌, Bool, true, false, ◌||◌, nat_lt, if◌then◌else◌, List, [], ◌∷◌, length, Option, Some, None, refl, sym, ap, subst, ◌∙◌, arith, ⊎_elim}
 use Rattle.std.specs.List.{AllByRecursion, Contains, flat_map}
 use Rattle.std.proofs.lemmas.Bool.{cases_Bool, ltb-true, lt-ltb}
-use Rattle.spatial_base.specs.Point.{Position, IsOnMap, distance}
+use Rattle.spatial_base.specs.Point.{distance, Viewpoint, IsViewpoint}
 use Rattle.spatial_base.specs.Rect.{mindist_of}
 use Rattle.spatial_base.specs.Laws.{mindist-below}
 use Rattle.place_values.specs.First.{first}
@@ -96,9 +96,9 @@ head-up : (bound : ℕ) (hs : List Hit) → 0 < length hs → AllByRecursion (λ
 head-up bound [] some low up = absurd (omega arith)
 head-up bound (h ∷ hs) some low up = up.0 bound low.0
 
-module _ (ids : Numbers) (at : Position) (ask : Ask) where
+module _ (ids : Numbers) (at : Viewpoint) (ask : Ask) where
   -- no place costs less than the bound of an item that it is under
-  pub under-cost : IsOnMap at.x at.y → (y x : Item) → IsPlace y → IsUnder y x → bound_by at ask (impact_of ids x) x ≤ (hit_by at ask (impact_of ids y) y).cost
+  pub under-cost : IsViewpoint at → (y x : Item) → IsPlace y → IsUnder y x → bound_by at ask (impact_of ids x) x ≤ (hit_by at ask (impact_of ids y) y).cost
   under-cost on y x place u =
       cost-under ask (impact_of ids y) (impact_of ids x) (mindist_of (rect_of_item x) at) (distance at (point_of y)) (impact-under ids x y u)
       (mindist-below (rect_of_item x) at (point_of y) on place.on (under-holds y x place u))
@@ -110,7 +110,7 @@ module _ (ids : Numbers) (at : Position) (ask : Ask) where
     pub full : length found ≡ k → IsUpToLast (bound_by at ask (impact_of ids round) round) found
     pub plain : IsPlain ask → IsUpToLast (bound_by at ask (impact_of ids round) round) found
 
-  module _ (on : IsOnMap at.x at.y) (k : ℕ) (all : List Item) (found : List Hit) (is : found ≡ first comes_before k (flat_map (hits_for ids at ask) all)) where
+  module _ (on : IsViewpoint at) (k : ℕ) (all : List Item) (found : List Hit) (is : found ≡ first comes_before k (flat_map (hits_for ids at ask) all)) where
     up-to : AllByRecursion (λ (h : Hit). (bound : ℕ) → bound ≤ h.cost → IsUpToLast bound found) found
     up-to = all-up-to found (kept_ranked k (flat_map (hits_for ids at ask) all) found is)
 

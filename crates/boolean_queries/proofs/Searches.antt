@@ -6,7 +6,7 @@ use Rattle.std.specs.List.{AllByRecursion, Contains, flat_map}
 use Rattle.std.proofs.lemmas.Bool.{cases_Bool}
 use Rattle.page_face.specs.FreeList.{PageMap}
 use Rattle.btree_nodes.specs.Tree.{map_uses}
-use Rattle.spatial_base.specs.Point.{Position, IsOnMap}
+use Rattle.spatial_base.specs.Point.{Viewpoint, IsViewpoint}
 use Rattle.place_values.specs.First.{first}
 use Rattle.place_values.specs.declared.hit.Hit.{Hit}
 use Rattle.place_values.specs.declared.query.Expr.{Expr}
@@ -71,7 +71,7 @@ byte-under b i n (Some x) blank = let e = word-reach b i n x in omega arith
 same-or : (n k : ℕ) → n ≤ k → (n ≡ k) ⊎ (n < k)
 same-or n k l = grind arith
 
-module _ (ids : Numbers) (at : Position) (ask : Ask) where
+module _ (ids : Numbers) (at : Viewpoint) (ask : Ask) where
   -- a child is let through where a place below it may be an answer, and given with its bound
   abbrev pub LetsThrough : Item → ℕ → Type 0
   LetsThrough x bound = (qualifies ask 1 (impact_of ids x) ≡ true) × (bound ≡ bound_by at ask (impact_of ids x) x)
@@ -109,7 +109,7 @@ root-places : (nodes : NodeMap) (root : ℕ) → 0 < root → node_places nodes 
 root-places nodes zero some = absurd (omega arith)
 root-places nodes (suc m) some = refl
 
-module _ (pages : PageMap) (count begin : ℕ) (tree : Tree) (ids : Numbers) (at : Position) (ask : Ask) (on : IsOnMap at.x at.y) (fits : FitsTree pages count begin tree) where
+module _ (pages : PageMap) (count begin : ℕ) (tree : Tree) (ids : Numbers) (at : Viewpoint) (ask : Ask) (on : IsViewpoint at) (fits : FitsTree pages count begin tree) where
   abbrev nodes : NodeMap
   nodes = nodes_at pages tree
 
@@ -223,32 +223,32 @@ module _ (pages : PageMap) (count begin : ℕ) (tree : Tree) (ids : Numbers) (at
                 found t.from_leaf;
           }
 
-module _ (pages : PageMap) (count begin : ℕ) (tree : Tree) (ids : Numbers) (at : Position) (k : ℕ) (found : List Hit) (old new : List ℕ) where
+module _ (pages : PageMap) (count begin : ℕ) (tree : Tree) (ids : Numbers) (at : Viewpoint) (k : ℕ) (found : List Hit) (old new : List ℕ) where
   -- a nearest query
-  pub nearest-few : (filter : Option (Bor Expr)) → IsOnMap at.x at.y → FitsTree pages count begin tree → 0 < k → found ≡ first comes_before k (flat_map (near_item ids at (filter_in filter)) (tree_places (nodes_at pages tree) tree.root))
+  pub nearest-few : (filter : Option (Bor Expr)) → IsViewpoint at → FitsTree pages count begin tree → 0 < k → found ≡ first comes_before k (flat_map (near_item ids at (filter_in filter)) (tree_places (nodes_at pages tree) tree.root))
       → Opened StandsIn pages (IsNodePage pages tree.rows) (FitsTree pages count begin tree) (opened_in ids at (Nearest filter) (nodes_at pages tree)) (started_in ids (Nearest filter) (nodes_at pages tree) (bytes_in pages tree.rows) tree.root) tree.root old new k found
-      → OpensFew (λ page. 0 < map_uses rows_form pages tree.rows page) (near_item ids at (filter_in filter)) ids (asked_for.Nearest at k (filter_in filter)) (nodes_at pages tree) tree.root old new found
-  nearest-few None on fits some is o = search-few pages count begin tree ids at (Nearest None) on fits k found some is (asked_for.Nearest at k None) (λ round is_root c. c.plain tt) old new o
-  nearest-few (Some filter) on fits some is o = search-few pages count begin tree ids at (Nearest (Some filter)) on fits k found some is (asked_for.Nearest at k (Some filter.now)) (λ round is_root c. (c.may, c.full)) old new o
+      → OpensFew (λ page. 0 < map_uses rows_form pages tree.rows page) (near_item ids at (filter_in filter)) ids (asked_for.Nearest at.point at.scale k (filter_in filter)) (nodes_at pages tree) tree.root old new found
+  nearest-few None on fits some is o = search-few pages count begin tree ids at (Nearest None) on fits k found some is (asked_for.Nearest at.point at.scale k None) (λ round is_root c. c.plain tt) old new o
+  nearest-few (Some filter) on fits some is o = search-few pages count begin tree ids at (Nearest (Some filter)) on fits k found some is (asked_for.Nearest at.point at.scale k (Some filter.now)) (λ round is_root c. (c.may, c.full)) old new o
 
-  top-calls : (alpha reach : ℕ) (words : Weighted) (ask : Ask) → IsTopFor alpha reach words ask → (round : Item) (is_root : Type 0) → IsCalled ids at ask k found round → CallsFor ids (asked_for.Top at k alpha reach words) found is_root round
+  top-calls : (alpha reach : ℕ) (words : Weighted) (ask : Ask) → IsTopFor alpha reach words ask → (round : Item) (is_root : Type 0) → IsCalled ids at ask k found round → CallsFor ids (asked_for.Top at.point at.scale k alpha reach words) found is_root round
   top-calls alpha reach words (Nearest filter) is round is_root c = absurd is
   top-calls alpha reach words (Top terms) is round is_root c =
       let a : terms.alpha ≡ alpha = is.0 in
       let r : terms.reach ≡ reach = is.1 in
       let w : terms.words.now ≡ words = is.2 in
-      subst (λ (n : ℕ). CallsFor ids (asked_for.Top at k n reach words) found is_root round) a
-      (subst (λ (n : ℕ). CallsFor ids (asked_for.Top at k terms.alpha n words) found is_root round) r
-      (subst (λ (v : Weighted). CallsFor ids (asked_for.Top at k terms.alpha terms.reach v) found is_root round) w (c.may, c.plain tt)))
+      subst (λ (n : ℕ). CallsFor ids (asked_for.Top at.point at.scale k n reach words) found is_root round) a
+      (subst (λ (n : ℕ). CallsFor ids (asked_for.Top at.point at.scale k terms.alpha n words) found is_root round) r
+      (subst (λ (v : Weighted). CallsFor ids (asked_for.Top at.point at.scale k terms.alpha terms.reach v) found is_root round) w (c.may, c.plain tt)))
 
   -- a top query
-  pub top-few : (alpha reach : ℕ) (words : Weighted) (ask : Ask) → IsTopFor alpha reach words ask → IsOnMap at.x at.y → FitsTree pages count begin tree → 0 < k
+  pub top-few : (alpha reach : ℕ) (words : Weighted) (ask : Ask) → IsTopFor alpha reach words ask → IsViewpoint at → FitsTree pages count begin tree → 0 < k
       → found ≡ first comes_before k (flat_map (top_item ids at alpha reach words) (tree_places (nodes_at pages tree) tree.root))
       → Opened StandsIn pages (IsNodePage pages tree.rows) (FitsTree pages count begin tree) (opened_in ids at ask (nodes_at pages tree)) (started_in ids ask (nodes_at pages tree) (bytes_in pages tree.rows) tree.root) tree.root old new k found
-      → OpensFew (λ page. 0 < map_uses rows_form pages tree.rows page) (top_item ids at alpha reach words) ids (asked_for.Top at k alpha reach words) (nodes_at pages tree) tree.root old new found
+      → OpensFew (λ page. 0 < map_uses rows_form pages tree.rows page) (top_item ids at alpha reach words) ids (asked_for.Top at.point at.scale k alpha reach words) (nodes_at pages tree) tree.root old new found
   top-few alpha reach words ask top on fits some is o =
       let same = top-hits ids at alpha reach words ask top in
       let hits : found ≡ first comes_before k (flat_map (hits_for ids at ask) (tree_places (nodes_at pages tree) tree.root)) =
       is ∙ ap (λ (g : Item → List Hit). first comes_before k (flat_map g (tree_places (nodes_at pages tree) tree.root))) (sym same) in
-      subst (λ (g : Item → List Hit). OpensFew (λ page. 0 < map_uses rows_form pages tree.rows page) g ids (asked_for.Top at k alpha reach words) (nodes_at pages tree) tree.root old new found) same
-      (search-few pages count begin tree ids at ask on fits k found some hits (asked_for.Top at k alpha reach words) (top-calls alpha reach words ask top) old new o)
+      subst (λ (g : Item → List Hit). OpensFew (λ page. 0 < map_uses rows_form pages tree.rows page) g ids (asked_for.Top at.point at.scale k alpha reach words) (nodes_at pages tree) tree.root old new found) same
+      (search-few pages count begin tree ids at ask on fits k found some hits (asked_for.Top at.point at.scale k alpha reach words) (top-calls alpha reach words ask top) old new o)

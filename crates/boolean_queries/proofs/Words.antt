@@ -3,7 +3,7 @@ use Rattle.std.proofs.Common.{◌≡◌, ℕ, List, [], ◌∷◌, ◌++◌, map
 use Rattle.std.specs.List.{AllByRecursion, Contains}
 use Rattle.std.proofs.lemmas.Bool.{ltb-true}
 use Rattle.std.proofs.lemmas.List.Elements.{Contains-append_left, Contains-append_right}
-use Rattle.spatial_base.specs.Point.{Position}
+use Rattle.spatial_base.specs.Point.{Viewpoint}
 use Rattle.place_values.specs.declared.hit.Hit.{Hit}
 use Rattle.place_values.specs.declared.query.Query.{Query}
 use Rattle.place_values.specs.declared.query.Query.TheVariants.{Range, Nearest}
@@ -94,10 +94,10 @@ module _ (ids : Numbers) (words : List (List ℕ)) (nodes : NodeMap) (root : ℕ
 
   module _ (word : List ℕ) (among : Contains words word) where
     -- a search for a word
-    pub nearest-calls : (at : Position) (k : ℕ) (round : Item) (is_root : Type 0) (found : List Hit) → CallsFor ids (Nearest at k (Some (Has word))) found is_root round → is_root ⊎ HoldsOneOf ids words round
+    pub nearest-calls : (at : Viewpoint) (k : ℕ) (round : Item) (is_root : Type 0) (found : List Hit) → CallsFor ids (Nearest at.point at.scale k (Some (Has word))) found is_root round → is_root ⊎ HoldsOneOf ids words round
     nearest-calls at k round is_root found c = inr (word, among, ltb-true 0 (impact_of ids round word) c.0)
 
-    pub range-calls : (at : Position) (radius : ℕ) (round : Item) (is_root : Type 0) (found : List Hit) → CallsFor ids (Range at radius (Some (Has word))) found is_root round → is_root ⊎ HoldsOneOf ids words round
+    pub range-calls : (at : Viewpoint) (radius : ℕ) (round : Item) (is_root : Type 0) (found : List Hit) → CallsFor ids (Range at.point at.scale radius (Some (Has word))) found is_root round → is_root ⊎ HoldsOneOf ids words round
     range-calls at radius round is_root found c = ⊎_elim (λ (r : is_root). inl r) (λ h. inr (word, among, ltb-true 0 (impact_of ids round word) h.0)) c
 
 -- pages of another kind were asked for before

@@ -1,6 +1,7 @@
 -- Which nodes a query opened, by the log of the pages that were asked for.
 use Rattle.std.specs.Prelude.{◌≡◌, ◌⊎◌, ℕ, suc, ◌<◌, ◌≤◌, true, List, [], ◌∷◌, ◌++◌, length, Some, None}
 use Rattle.std.specs.List.{AllByRecursion, Contains}
+use Rattle.spatial_base.specs.Point.{seen_from}
 use Rattle.spatial_base.specs.Rect.{mindist_of}
 use Rattle.rtree_nodes.specs.Slots.{Item, NodeMap, IsChildAt}
 use Rattle.irtree_shape.specs.Whole.{tree_uses}
@@ -23,14 +24,14 @@ IsUpToLast bound (h ∷ hs) = bound ≤ last_cost (h ∷ hs)
 -- comes as near and a box meets the rectangle, but for the root's, while no place of a nearest or top query costs less than its bound, which is
 -- at most the last hit's cost. Only where a filter leaves fewer than k hits the bound may be greater.
 abbrev pub CallsFor : Numbers → Query → List Hit → Type 0 → Item → Type 0
-CallsFor ids (Range at radius filter) found is_root round = is_root ⊎ ((may_answer ids (Range at radius filter) round ≡ true) × (mindist_of (rect_of_item round) at ≤ radius))
+CallsFor ids (Range at scale radius filter) found is_root round = is_root ⊎ ((may_answer ids (Range at scale radius filter) round ≡ true) × (mindist_of (rect_of_item round) (seen_from at scale) ≤ radius))
 CallsFor ids (Inside rect filter) found is_root round = is_root ⊎ ((may_answer ids (Inside rect filter) round ≡ true) × (overlaps rect (rect_of_item round) ≡ true))
-CallsFor ids (Nearest at k None) found is_root round = IsUpToLast (bound_for ids (Nearest at k None) round) found
-CallsFor ids (Nearest at k (Some filter)) found is_root round =
-    (may_answer ids (Nearest at k (Some filter)) round ≡ true) × (length found ≡ k → IsUpToLast (bound_for ids (Nearest at k (Some filter)) round) found)
-CallsFor ids (Top at k alpha reach words) found is_root round =
-    (may_answer ids (Top at k alpha reach words) round ≡ true) × IsUpToLast (bound_for ids (Top at k alpha reach words) round) found
-CallsFor ids (Group at words) found is_root round = ⊥
+CallsFor ids (Nearest at scale k None) found is_root round = IsUpToLast (bound_for ids (Nearest at scale k None) round) found
+CallsFor ids (Nearest at scale k (Some filter)) found is_root round =
+    (may_answer ids (Nearest at scale k (Some filter)) round ≡ true) × (length found ≡ k → IsUpToLast (bound_for ids (Nearest at scale k (Some filter)) round) found)
+CallsFor ids (Top at scale k alpha reach words) found is_root round =
+    (may_answer ids (Top at scale k alpha reach words) round ≡ true) × IsUpToLast (bound_for ids (Top at scale k alpha reach words) round) found
+CallsFor ids (Group at scale words) found is_root round = ⊥
 
 -- the node at a page is a child of one that was asked for
 pub record IsChildOfAsked (nodes : NodeMap) (asked : List ℕ) (page : ℕ) : Type 0 where

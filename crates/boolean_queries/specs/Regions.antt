@@ -1,7 +1,7 @@
 -- A region of the map: what it meets and has, and the hits of the places in it.
 use Rattle.std.specs.Prelude.{ℕ, ℤ, Bool, ◌&&◌, nat_le, int_le}
 use Rattle.spatial_base.specs.Key.{Name}
-use Rattle.spatial_base.specs.Point.{Position, IsOnMap, distance}
+use Rattle.spatial_base.specs.Point.{Position, distance, Viewpoint, IsViewpoint}
 use Rattle.spatial_base.specs.Rect.{Bounds, IsRect, holds_point, mindist_of}
 use Rattle.place_values.specs.declared.hit.Hit.{Hit}
 use Rattle.boolean_queries.specs.declared.region.Region.{Region}
@@ -12,7 +12,7 @@ abbrev pub Area : Type 0
 Area = Region
 
 -- the points at most so far from a point
-abbrev pub circle : Position → ℕ → Area
+abbrev pub circle : Viewpoint → ℕ → Area
 circle at radius = Within at radius
 
 -- the points of a rectangle
@@ -48,5 +48,5 @@ hit_in region point key = record { cost = cost_in region point; key = key; dist 
 
 -- the region lies on the map
 abbrev pub IsOnTheMap : Region → Type 0
-IsOnTheMap (Within at radius) = IsOnMap at.x at.y
+IsOnTheMap (Within at radius) = IsViewpoint at
 IsOnTheMap (Inside asked) = IsRect asked.west asked.south asked.east asked.north

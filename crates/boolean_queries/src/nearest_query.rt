@@ -1,5 +1,6 @@
 //! The places nearest to a point.
-ghost use Rattle.std.specs.Prelude.{◌≡◌, ◌≢◌, Err, IfOk, IsErrOf};
+ghost use Rattle.std.specs.Prelude.{◌≡◌, ◌≢◌, ◌≤◌, Err, IfOk, IsErrOf};
+ghost use Rattle.spatial_base.specs.Point.{seen_from};
 ghost use Rattle.std.specs.List.{flat_map};
 ghost use Rattle.page_face.specs.Calls.{Reads, FailsReading};
 ghost use Rattle.btree_nodes.specs.Damages.{AreReadable};
@@ -23,9 +24,9 @@ use place_values::{Expr, Hit};
 use spatial_base::Point;
 use std::alloc::Global;
 
-/// Returns the k places of a tree that are nearest to a point and pass the filter, by distance (in degrees times 10^7) and then by key.
-/// Returns all of them if there are fewer. Without a filter every place passes. `ids` are the numbers of the filter's words that the store
-/// knows.
+/// Returns the k places of a tree that are nearest to a point and pass the filter, by distance and then by key. Returns all of them if
+/// there are fewer. A distance is in degrees times 10^7, with this scale of longitudes. Without a filter every place passes. `ids` are the
+/// numbers of the filter's words that the store knows.
 ///
 /// Returns `Damaged` with a rule that a page read in this call breaks, and never over a well-formed tree. Returns also `Disk`, `Stopped`,
 /// and `Memory` if it runs out of memory. The tree is as before in any case.
@@ -39,14 +40,16 @@ pub fn nearest<P: Pages>(
     tree: &Tree,
     ids: &Ids,
     at: &Point,
+    scale: u16,
     k: u16,
     filter: Option<&Expr>,
 ) -> Result<Vec<Hit>, PageFault>
+    requires scale { scale ≤ 1000 }
     ensures found { FitsTree (P.pages pages.old) (P.count pages.old) (P.first pages.old) tree.now → IfOk result (λ found. found.items
-        ≡ first comes_before k (flat_map (near_item ids.now at.now (filter_in filter.entry)) (tree_places (nodes_at (P.pages pages.old) tree.now) tree.now.root))) }
+        ≡ first comes_before k (flat_map (near_item ids.now (seen_from at.now scale) (filter_in filter.entry)) (tree_places (nodes_at (P.pages pages.old) tree.now) tree.now.root))) }
     ensures opened { AreReadable (P.pages pages.old) (P.count pages.old) → IfOk result (λ found.
         Opened StandsIn (P.pages pages.old) (IsNodePage (P.pages pages.old) tree.now.rows) (FitsTree (P.pages pages.old) (P.count pages.old) (P.first pages.old) tree.now)
-        (opened_in ids.now at.now (Nearest filter.entry) (nodes_at (P.pages pages.old) tree.now))
+        (opened_in ids.now (seen_from at.now scale) (Nearest filter.entry) (nodes_at (P.pages pages.old) tree.now))
         (started_in ids.now (Nearest filter.entry) (nodes_at (P.pages pages.old) tree.now) (bytes_in (P.pages pages.old) tree.now.rows) tree.now.root)
         tree.now.root (P.asked pages.old) (P.asked pages.new) k found.items) }
     ensures damaged { AreReadable (P.pages pages.old) (P.count pages.old) → (damage : Damage) → IsErrOf result (PageFault.Damaged damage)
@@ -55,6 +58,6 @@ pub fn nearest<P: Pages>(
     ensures fails { FailsReading P.Pages pages.old pages.new result }
     ensures frame { Reads P.Pages pages.old pages.new }
 {
-    let mut ranking = Ranking::nearest(tree, ids, at, filter);
+    let mut ranking = Ranking::nearest(tree, ids, at, scale, filter);
     first_k(alloc, pages, &mut ranking, k)
 }

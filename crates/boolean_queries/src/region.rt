@@ -5,15 +5,15 @@ ghost use Rattle.spatial_base.specs.Point.{IsOnMap};
 ghost use Rattle.boolean_queries.specs.Regions.{have_common, overlaps, meets, has_point, hit_in};
 
 use place_values::Hit;
-use spatial_base::{Key, Point, Rect, dist};
+use spatial_base::{Key, Origin, Point, Rect};
 
 /// A region of the map in which a query looks for places, its border included.
 #[derive(Clone, Copy, Debug)]
 pub(crate) enum Region {
     /// The points at most so far from a point.
     Within {
-        /// The point from which distances are taken.
-        at: Point,
+        /// The point from which distances are taken, with the scale of longitudes.
+        at: Origin,
         /// The greatest distance, in degrees times 10^7.
         radius: u64,
     },
@@ -45,7 +45,7 @@ impl Region {
         ensures { result ≡ meets self.now rect.now }
     {
         match self {
-            Region::Within { at, radius } => rect.mindist(at) <= *radius,
+            Region::Within { at, radius } => at.mindist(rect) <= *radius,
             Region::Inside { rect: asked } => overlap(asked, rect),
         }
     }
@@ -58,7 +58,7 @@ impl Region {
         // Its point is on the map, by the contracts of `x` and `y`.
         let (_x, _y) = (point.x(), point.y());
         match self {
-            Region::Within { at, radius } => dist(at, point) <= *radius,
+            Region::Within { at, radius } => at.dist(point) <= *radius,
             Region::Inside { rect } => rect.holds(point),
         }
     }
@@ -71,7 +71,7 @@ impl Region {
         // A key's text is well formed, by the contract of `bytes`.
         let _bytes = key.bytes();
         let dist = match self {
-            Region::Within { at, .. } => dist(at, point),
+            Region::Within { at, .. } => at.dist(point),
             Region::Inside { .. } => 0,
         };
         Hit {

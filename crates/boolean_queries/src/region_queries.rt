@@ -1,9 +1,10 @@
 //! The places in a circle, and those in a rectangle.
-ghost use Rattle.std.specs.Prelude.{◌≡◌, ◌≢◌, ℕ, List, Err, IfOk, IsErrOf};
+ghost use Rattle.std.specs.Prelude.{◌≡◌, ◌≢◌, ◌≤◌, ℕ, List, Err, IfOk, IsErrOf};
 ghost use Rattle.std.specs.List.{flat_map};
 ghost use Rattle.page_face.specs.Calls.{Reads, FailsReading};
 ghost use Rattle.btree_nodes.specs.Damages.{AreReadable};
 ghost use Rattle.btree_nodes.specs.Tree.{map_uses};
+ghost use Rattle.spatial_base.specs.Point.{seen_from};
 ghost use Rattle.place_values.specs.First.{ranked};
 ghost use Rattle.place_values.specs.Hit.{comes_before};
 ghost use Rattle.rtree_nodes.specs.Stock.{view, rows_form};
@@ -24,11 +25,12 @@ use node_filter::Ids;
 use node_rows::Tree;
 use page_face::{Damage, PageFault, Pages};
 use place_values::{Expr, Hit};
-use spatial_base::{Point, Rect};
+use spatial_base::{Origin, Point, Rect};
 use std::alloc::Global;
 
-/// Returns the places of a tree that are at most `radius` (in degrees times 10^7) from a point and pass the filter, by distance and then by
-/// key. Without a filter every place passes. `ids` are the numbers of the filter's words that the store knows.
+/// Returns the places of a tree that are at most `radius` from a point and pass the filter, by distance and then by key. Distances are in
+/// degrees times 10^7, with this scale of longitudes. Without a filter every place passes. `ids` are the numbers of the filter's words that
+/// the store knows.
 ///
 /// Returns `Damaged` with a rule that a page read in this call breaks, never over a well-formed tree. For the tree's pages the rules are:
 ///
@@ -49,14 +51,16 @@ pub fn range<P: Pages>(
     tree: &Tree,
     ids: &Ids,
     at: &Point,
+    scale: u16,
     radius: u64,
     filter: Option<&Expr>,
 ) -> Result<Vec<Hit>, PageFault>
+    requires scale { scale ≤ 1000 }
     ensures found { (free : List ℕ) → IsWhole node_of (view (P.pages pages.old) tree.now.rows (P.count pages.old) (P.first pages.old) free) tree.now.root → IfOk result (λ found.
-        found.items ≡ ranked comes_before (flat_map (range_item ids.now at.now radius (filter_in filter.entry)) (tree_places (nodes_in node_of (P.pages pages.old) tree.now.rows) tree.now.root))) }
-    ensures opened { AreReadable (P.pages pages.old) (P.count pages.old) → IfOk result (λ found. Walked (Within at.now radius) (P.pages pages.old) (map_uses rows_form (P.pages pages.old) tree.now.rows)
+        found.items ≡ ranked comes_before (flat_map (range_item ids.now (seen_from at.now scale) radius (filter_in filter.entry)) (tree_places (nodes_in node_of (P.pages pages.old) tree.now.rows) tree.now.root))) }
+    ensures opened { AreReadable (P.pages pages.old) (P.count pages.old) → IfOk result (λ found. Walked (Within (seen_from at.now scale) radius) (P.pages pages.old) (map_uses rows_form (P.pages pages.old) tree.now.rows)
         (Fits (P.pages pages.old) tree.now.rows (P.count pages.old) (P.first pages.old) tree.now.root)
-        (opens_in (Within at.now radius) ids.now (filter_in filter.entry) (nodes_in node_of (P.pages pages.old) tree.now.rows)) (starts_at (nodes_in node_of (P.pages pages.old) tree.now.rows) tree.now.root)
+        (opens_in (Within (seen_from at.now scale) radius) ids.now (filter_in filter.entry) (nodes_in node_of (P.pages pages.old) tree.now.rows)) (starts_at (nodes_in node_of (P.pages pages.old) tree.now.rows) tree.now.root)
         tree.now.root (P.asked pages.old) (P.asked pages.new) found.items) }
     ensures no_false_damage { (free : List ℕ) → IsWhole node_of (view (P.pages pages.old) tree.now.rows (P.count pages.old) (P.first pages.old) free) tree.now.root → AreReadable (P.pages pages.old) (P.count pages.old)
         → (damage : Damage) → result ≢ Err (PageFault.Damaged damage) }
@@ -66,10 +70,11 @@ pub fn range<P: Pages>(
     ensures fails { FailsReading P.Pages pages.old pages.new result }
     ensures frame { Reads P.Pages pages.old pages.new }
 {
-    // The point is on the map, by the contracts of `x` and `y`.
-    let (_x, _y) = (at.x(), at.y());
+    let at = Origin::at(*at, scale);
+    // The point is on the map and the scale at most 1000, by the contract of `point`.
+    let _point = at.point();
     let query = Query {
-        region: Region::Within { at: *at, radius },
+        region: Region::Within { at, radius },
         ids,
         filter,
     };

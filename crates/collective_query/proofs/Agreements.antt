@@ -1,7 +1,7 @@
 -- An entry of a tree gives to a word what the place that it stands for does.
 use Rattle.std.proofs.Common.{◌≡◌, ℕ, nat_lt, if◌then◌else◌, List, [], ◌∷◌, ap}
 use Rattle.spatial_base.specs.Key.{Name, IsName, form_of}
-use Rattle.spatial_base.specs.Point.{Position, IsOnMap, distance}
+use Rattle.spatial_base.specs.Point.{IsOnMap, Viewpoint, distance}
 use Rattle.term_impacts.specs.Pairs.{impact_in}
 use Rattle.place_values.specs.declared.place.Place.{Place}
 use Rattle.place_values.specs.Filter.{has_word}
@@ -17,7 +17,7 @@ use Rattle.collective_query.specs.TreePicks.{pick_in, pick_item}
 
 -- by the impact of the word
 pub pick-agrees : (ids : Numbers) (f : ℕ → ℕ) (key : Name) (place : Place) → IsName key → IsOnMap place.point.x place.point.y
-    → (at : Position) (word : List ℕ) → impact_of ids (worded f (place_item place.point (form_of key))) word ≡ impact_in place.words word
+    → (at : Viewpoint) (word : List ℕ) → impact_of ids (worded f (place_item place.point (form_of key))) word ≡ impact_in place.words word
     → pick_item ids at word (worded f (place_item place.point (form_of key))) ≡ word_picks at word (key, place)
 pick-agrees ids f key place named_so on at word impact =
     let x : Item = worded f (place_item place.point (form_of key)) in

@@ -3,7 +3,7 @@ use Rattle.std.proofs.Common.{◌≡◌, false, List, [], ◌∷◌, ◌++◌, S
 use Rattle.std.proofs.lemmas.List.Elements.{Contains-append_left, Contains-append_right, Contains-append_cases}
 use Rattle.std.specs.List.{AllByRecursion, Contains}
 use Rattle.best_first.specs.Lists.{all_in, all_weaker}
-use Rattle.spatial_base.specs.Point.{Position}
+use Rattle.spatial_base.specs.Point.{Viewpoint}
 use Rattle.place_values.specs.declared.query.Pick.{Pick}
 use Rattle.place_values.specs.declared.query.Chosen.{Chosen}
 use Rattle.place_values.specs.Group.{is_cheaper, least_of}
@@ -49,11 +49,11 @@ module _ (counts : Pick → Type 0) where
       contains-none met.0 (cut.whole met.0 met.2 (all-contained counts choice met.0 all met.1))
 
 -- the least of some choices has its own cost
-own-cost : (at : Position) (choices : List (List Pick)) (found : Chosen) → least_of at choices ≡ Some found → Some found ≡ Some (costed at found.picks)
+own-cost : (at : Viewpoint) (choices : List (List Pick)) (found : Chosen) → least_of at choices ≡ Some found → Some found ≡ Some (costed at found.picks)
 own-cost at choices found is = let own = least_cost at choices found is in λ i. Some record { cost = own i; picks = found.picks }
 
 -- Choices that don't come before one that was tried needn't be.
-pub covered-least : (at : Position) (tried some all : List (List Pick)) (best : Chosen) → Some best ≡ least_of at tried → ((choice : List Pick) → Contains some choice → Contains all choice)
+pub covered-least : (at : Viewpoint) (tried some all : List (List Pick)) (best : Chosen) → Some best ≡ least_of at tried → ((choice : List Pick) → Contains some choice → Contains all choice)
     → ((choice : List Pick) → Contains all choice → (other : List Pick) × Contains (best.picks ∷ some) other × (is_cheaper at choice other ≡ false)) → least_of at (tried ++ some) ≡ least_of at (tried ++ all)
 covered-least at tried some all best was own covered =
     let whole : List (List Pick) = tried ++ some in

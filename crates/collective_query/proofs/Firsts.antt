@@ -5,7 +5,7 @@ use Rattle.std.proofs.lemmas.List.Elements.{Contains-append_right, Contains-appe
 use Rattle.std.specs.List.{AllByRecursion, Contains}
 use Rattle.place_values.specs.First.{ranked, first, IsRanked}
 use Rattle.place_values.specs.Laws.{ranked_is}
-use Rattle.spatial_base.specs.Point.{Position, distance}
+use Rattle.spatial_base.specs.Point.{Viewpoint, distance}
 use Rattle.best_first.proofs.CostLaws.{upto_cost}
 use Rattle.best_first.specs.Lists.{all_in, all_weaker, all_taken, flat_all}
 use Rattle.place_values.specs.declared.hit.Hit.{Hit}
@@ -37,7 +37,7 @@ none-behind : (k : ℕ) (hits : List Hit) (hit : Hit) → length (take k hits) <
 none-behind k hits hit few c = let less = c.1 in omega (arith, length-take k hits, length-drop k hits)
 
 -- the nearest picks are picks of the tree's entries
-pub first-among : (ids : Numbers) (at centre : Position) (nodes : NodeMap) (root : ℕ) (word : List ℕ) (pick : Pick) → Contains (first_picks ids at centre nodes root word) pick → Contains (tree_picks ids at nodes root word) pick
+pub first-among : (ids : Numbers) (at centre : Viewpoint) (nodes : NodeMap) (root : ℕ) (word : List ℕ) (pick : Pick) → Contains (first_picks ids at centre nodes root word) pick → Contains (tree_picks ids at nodes root word) pick
 first-among ids at centre nodes root word pick c =
     let hits : List Hit = word_hits ids centre nodes root word in
     let P : Hit → Type 0 = λ one. Contains (tree_picks ids at nodes root word) (pick_from at word one) in
@@ -45,7 +45,7 @@ first-among ids at centre nodes root word pick c =
     all-contained (Contains (tree_picks ids at nodes root word)) (first_picks ids at centre nodes root word) pick
     (map-all (Contains (tree_picks ids at nodes root word)) (pick_from at word) (take 5 (ranked comes_before hits)) (all_taken P 5 (ranked comes_before hits) (all-ranked hits_linear P hits all))) c
 
-module _ (ids : Numbers) (at : Position) (nodes : NodeMap) (root : ℕ) (word : List ℕ) where
+module _ (ids : Numbers) (at : Viewpoint) (nodes : NodeMap) (root : ℕ) (word : List ℕ) where
   abbrev hits : List Hit
   hits = word_hits ids at nodes root word
 
@@ -113,7 +113,7 @@ module _ (ids : Numbers) (at : Position) (nodes : NodeMap) (root : ℕ) (word : 
           all-contained P (map (pick_from at word) hits) pick all (subst (λ (picks : List Pick). Contains picks pick) (picks-made ids at word nodes root at) c) close;
     }
 
-module _ (ids : Numbers) (at : Position) (nodes : NodeMap) (root : ℕ) where
+module _ (ids : Numbers) (at : Viewpoint) (nodes : NodeMap) (root : ℕ) where
   abbrev Firsts : List (List ℕ) → List (List Pick)
   Firsts words = first_lists ids at nodes root words
 

@@ -3,7 +3,7 @@ use Rattle.std.proofs.Common.{◌≡◌, ◌⊎◌, ℕ, ◌+◌, ◌<◌, ◌�
 use Rattle.std.proofs.lemmas.List.{append_assoc, take_more}
 use Rattle.std.proofs.lemmas.List.Elements.{Contains-append_left, Contains-append_right, Contains-append_cases}
 use Rattle.std.specs.List.{AllByRecursion, Contains}
-use Rattle.spatial_base.specs.Point.{Position, distance}
+use Rattle.spatial_base.specs.Point.{Viewpoint, seen_from, distance}
 use Rattle.place_values.specs.declared.query.Pick.{Pick}
 use Rattle.place_values.specs.Group.{farthest, diameter, choice_cost}
 use Rattle.collective_query.specs.Choices.{IsChoice}
@@ -16,31 +16,31 @@ use Rattle.best_first.proofs.Histories.{contains_head as contains-here}
 use Rattle.boolean_queries.proofs.Histories.{all-contained}
 
 -- where no pick is farther, the farthest isn't
-farthest-within : (point : Position) (picks : List Pick) (most : ℕ) → ((pick : Pick) → Contains picks pick → distance point pick.point ≤ most) → farthest point picks ≤ most
-farthest-within point [] most near = omega arith
-farthest-within point (one ∷ others) most near =
+farthest-within : (from : Viewpoint) (picks : List Pick) (most : ℕ) → ((pick : Pick) → Contains picks pick → distance from pick.point ≤ most) → farthest from picks ≤ most
+farthest-within from [] most near = omega arith
+farthest-within from (one ∷ others) most near =
     let here = near one (contains-here one others) in
-    let rest = farthest-within point others most (λ pick c. near pick (contains-later one others pick c)) in
-    let split = farthest-cons point one others in
+    let rest = farthest-within from others most (λ pick c. near pick (contains-later one others pick c)) in
+    let split = farthest-cons from one others in
     omega arith
 
 -- and where no two are farther apart, the diameter isn't greater
-diameter-within : (picks : List Pick) (most : ℕ) → ((a b : Pick) → Contains picks a → Contains picks b → distance a.point b.point ≤ most) → diameter picks ≤ most
-diameter-within [] most near = omega arith
-diameter-within (one ∷ others) most near =
-    let here = farthest-within one.point others most (λ pick c. near one pick (contains-here one others) (contains-later one others pick c)) in
-    let rest = diameter-within others most (λ a b c d. near a b (contains-later one others a c) (contains-later one others b d)) in
+diameter-within : (scale : ℕ) (picks : List Pick) (most : ℕ) → ((a b : Pick) → Contains picks a → Contains picks b → distance (seen_from a.point scale) b.point ≤ most) → diameter scale picks ≤ most
+diameter-within scale [] most near = omega arith
+diameter-within scale (one ∷ others) most near =
+    let here = farthest-within (seen_from one.point scale) others most (λ pick c. near one pick (contains-here one others) (contains-later one others pick c)) in
+    let rest = diameter-within scale others most (λ a b c d. near a b (contains-later one others a c) (contains-later one others b d)) in
     omega arith
 
 -- some of the picks cost no more
-pub fewer-cost : (at : Position) (some all : List Pick) → ((pick : Pick) → Contains some pick → Contains all pick) → choice_cost at some ≤ choice_cost at all
+pub fewer-cost : (at : Viewpoint) (some all : List Pick) → ((pick : Pick) → Contains some pick → Contains all pick) → choice_cost at some ≤ choice_cost at all
 fewer-cost at some all own =
     let far = farthest-within at some (farthest at all) (λ pick c. member-far at all pick (own pick c)) in
-    let wide = diameter-within some (diameter all) (λ a b c d. member-wide all a b (own a c) (own b d)) in
+    let wide = diameter-within at.scale some (diameter at.scale all) (λ a b c d. member-wide at.scale all a b (own a c) (own b d)) in
     omega arith
 
 -- a front costs no more with some of what it goes on with
-pub behind-cost : (at : Position) (front some all : List Pick) → ((pick : Pick) → Contains some pick → Contains all pick) → choice_cost at (front ++ some) ≤ choice_cost at (front ++ all)
+pub behind-cost : (at : Viewpoint) (front some all : List Pick) → ((pick : Pick) → Contains some pick → Contains all pick) → choice_cost at (front ++ some) ≤ choice_cost at (front ++ all)
 behind-cost at front some all own = fewer-cost at (front ++ some) (front ++ all)
     (λ pick c. ⊎_elim
     (λ (early : Contains front pick). Contains-append_left front all pick early)
@@ -48,28 +48,28 @@ behind-cost at front some all own = fewer-cost at (front ++ some) (front ++ all)
     (Contains-append_cases front some pick c))
 
 -- what a front costs with one more pick
-pub pushed-cost : (at : Position) (front : List Pick) (pick : Pick) (far wide : ℕ) → far ≡ farthest at front → wide ≡ diameter front → pick.dist ≡ distance at pick.point
-    → max far pick.dist + max wide (farthest pick.point front) ≡ choice_cost at (front ++ pick ∷ [])
-pushed-cost at front pick far wide is also dist = omega (arith, farthest-push at front pick, diameter-push front pick, is, also, dist)
+pub pushed-cost : (at : Viewpoint) (front : List Pick) (pick : Pick) (far wide : ℕ) → far ≡ farthest at front → wide ≡ diameter at.scale front → pick.dist ≡ distance at pick.point
+    → max far pick.dist + max wide (farthest (seen_from pick.point at.scale) front) ≡ choice_cost at (front ++ pick ∷ [])
+pushed-cost at front pick far wide is also dist = omega (arith, farthest-push at front pick, diameter-push at.scale front pick, is, also, dist)
 
 -- the only one of a list
 alone : (x pick : Pick) (picks : List Pick) → Contains picks x → Contains (x ∷ []) pick → Contains picks pick
 alone x pick picks among c = ⊎_elim (λ (same : x ≡ pick). subst (Contains picks) same among) (λ (later : Contains [] pick). absurd (contains-none pick later)) (contains-cases x [] pick c)
 
 -- Where no pick of a list goes on a front for less than so much, no choice behind it costs less.
-pub missed : (at : Position) (front : List Pick) (far wide bound : ℕ) (lists : List (List Pick)) (list choice : List Pick) → far ≡ farthest at front → wide ≡ diameter front → AreMeasured at list
-    → AllByRecursion (λ (pick : Pick). bound ≤ max far pick.dist + max wide (farthest pick.point front)) list → Contains lists list → IsChoice lists choice → bound ≤ choice_cost at (front ++ choice)
+pub missed : (at : Viewpoint) (front : List Pick) (far wide bound : ℕ) (lists : List (List Pick)) (list choice : List Pick) → far ≡ farthest at front → wide ≡ diameter at.scale front → AreMeasured at list
+    → AllByRecursion (λ (pick : Pick). bound ≤ max far pick.dist + max wide (farthest (seen_from pick.point at.scale) front)) list → Contains lists list → IsChoice lists choice → bound ≤ choice_cost at (front ++ choice)
 missed at front far wide bound lists list choice is also measured misses among taken =
     let met = choice-meets lists choice list taken among in
     let pick : Pick = met.0 in
     let dist = all-contained (λ (p : Pick). p.dist ≡ distance at p.point) list pick measured met.2 in
-    let least = all-contained (λ (p : Pick). bound ≤ max far p.dist + max wide (farthest p.point front)) list pick misses met.2 in
+    let least = all-contained (λ (p : Pick). bound ≤ max far p.dist + max wide (farthest (seen_from p.point at.scale) front)) list pick misses met.2 in
     let cost = pushed-cost at front pick far wide is also dist in
     let more = behind-cost at front (pick ∷ []) choice (λ p c. alone pick p choice met.1 c) in
     omega arith
 
 -- a front that is completed can be completed with less of it
-pub completes-front : (at : Position) (lists : List (List Pick)) (most : ℕ) (front more : List Pick) → Completes at lists most (front ++ more) → Completes at lists most front
+pub completes-front : (at : Viewpoint) (lists : List (List Pick)) (most : ℕ) (front more : List Pick) → Completes at lists most (front ++ more) → Completes at lists most front
 completes-front at lists most front more done = (
   done.0,
   done.1,
@@ -103,17 +103,17 @@ pub met-choice : {X : Type 0} (lists others : List (List X)) (choice : List X) �
 met-choice lists others choice is own = met-lists others choice (λ list c. choice-meets lists choice list is (own list c))
 
 -- nor is it dearer where more may be spent
-pub completes-more : (at : Position) (lists : List (List Pick)) (least most : ℕ) (front : List Pick) → least ≤ most → Completes at lists least front → Completes at lists most front
+pub completes-more : (at : Viewpoint) (lists : List (List Pick)) (least most : ℕ) (front : List Pick) → least ≤ most → Completes at lists least front → Completes at lists most front
 completes-more at lists least most front more done = (done.0, done.1, (let cheap = done.2 in omega arith))
 
 -- a front that goes on with a pick of a list and then with others is completed by all of these
-pub completes-longer : (at : Position) (front longer list : List Pick) (others : List (List Pick)) (most : ℕ) (pick : Pick) → longer ≡ front ++ pick ∷ [] → Contains list pick
+pub completes-longer : (at : Viewpoint) (front longer list : List Pick) (others : List (List Pick)) (most : ℕ) (pick : Pick) → longer ≡ front ++ pick ∷ [] → Contains list pick
     → Completes at others most longer → Completes at (list ∷ others) most front
 completes-longer at front longer list others most pick is among done =
     (pick ∷ done.0, (among, done.1), subst (λ (picks : List Pick). choice_cost at picks ≤ most) (ap (λ f. f ++ done.0) is ∙ append_assoc front (pick ∷ []) done.0) done.2)
 
 -- One pick of a list more was tried: no choice with those so far costs less than the least one.
-pub more-least : (at : Position) (front longer picks : List Pick) (others : List (List Pick)) (i : ℕ) (pick : Pick) (old least : ℕ) → i < length picks → pick ≡ get_or picks i pick → longer ≡ front ++ pick ∷ [] → least ≤ old
+pub more-least : (at : Viewpoint) (front longer picks : List Pick) (others : List (List Pick)) (i : ℕ) (pick : Pick) (old least : ℕ) → i < length picks → pick ≡ get_or picks i pick → longer ≡ front ++ pick ∷ [] → least ≤ old
     → ((choice : List Pick) → IsChoice (take i picks ∷ others) choice → old ≤ choice_cost at (front ++ choice))
     → ((rest : List Pick) → IsChoice others rest → least ≤ choice_cost at (longer ++ rest))
     → (choice : List Pick) → IsChoice (take (i + 1) picks ∷ others) choice → least ≤ choice_cost at (front ++ choice)
@@ -130,7 +130,7 @@ more-least at front longer picks others i pick old least inside is long less ear
     (Contains-append_cases (take i picks) (pick ∷ []) p (subst (λ (l : List Pick). Contains l p) taken one.0))
 
 -- a front that is completed can go on with a pick of each list and still be
-pub completes-met : (at : Position) (lists : List (List Pick)) (most : ℕ) (front list : List Pick) → Contains lists list → Completes at lists most front
+pub completes-met : (at : Viewpoint) (lists : List (List Pick)) (most : ℕ) (front list : List Pick) → Contains lists list → Completes at lists most front
     → (pick : Pick) × Contains list pick × Completes at lists most (front ++ pick ∷ [])
 completes-met at lists most front list among done =
     let met = choice-meets lists done.0 list done.1 among in

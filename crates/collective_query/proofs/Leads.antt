@@ -5,7 +5,7 @@ use Rattle.std.proofs.lemmas.List.Elements.{Contains-get_or}
 use Rattle.std.specs.List.{AllByRecursion, Contains}
 use Rattle.std.specs.Ordering.{is_lt}
 use Rattle.best_first.specs.Lists.{all_in, all_weaker, all_append}
-use Rattle.spatial_base.specs.Point.{Position, distance}
+use Rattle.spatial_base.specs.Point.{Viewpoint, distance}
 use Rattle.place_values.specs.declared.query.Pick.{Pick}
 use Rattle.place_values.specs.declared.query.Chosen.{Chosen}
 use Rattle.place_values.specs.Group.{product, choice_cost, is_cheaper, least_of}
@@ -85,32 +85,32 @@ led-is (suc at) x (list ∷ lists) [] among is = absurd is
 led-is (suc at) x (list ∷ lists) (y ∷ ys) among is = (is.0, led-is at x lists ys among is.1)
 
 -- a choice with its cost is the least of itself
-pub one-tried : (at : Position) (best : Chosen) → best.cost ≡ choice_cost at best.picks → Some best ≡ least_of at (best.picks ∷ [])
+pub one-tried : (at : Viewpoint) (best : Chosen) → best.cost ≡ choice_cost at best.picks → Some best ≡ least_of at (best.picks ∷ [])
 one-tried at best is = λ i. Some record { cost = is i; picks = best.picks }
 
 -- no choice before a best one comes before a better one
-pub chained : (at : Position) (old new choice : List Pick) → is_cheaper at old new ≡ false → is_cheaper at choice old ≡ false → is_cheaper at choice new ≡ false
+pub chained : (at : Viewpoint) (old new choice : List Pick) → is_cheaper at old new ≡ false → is_cheaper at choice old ≡ false → is_cheaper at choice new ≡ false
 chained at old new choice = (choices_linear at).chain new old choice
 
 -- a choice that costs more comes after
-dear : (at : Position) (lists : List (List Pick)) (best : Chosen) (choice : List Pick) → IsChosen at lists best → best.cost < choice_cost at choice → is_cheaper at choice best.picks ≡ false
+dear : (at : Viewpoint) (lists : List (List Pick)) (best : Chosen) (choice : List Pick) → IsChosen at lists best → best.cost < choice_cost at choice → is_cheaper at choice best.picks ≡ false
 dear at lists best choice chosen more = let costs = chosen.cost in ap is_lt (dearer-after at choice best.picks (omega arith))
 
 -- the picks of a choice that costs at most so much
-pub all-within : (at : Position) (most : ℕ) (choice : List Pick) → choice_cost at choice ≤ most → AllByRecursion (IsWithin at most) choice
+pub all-within : (at : Viewpoint) (most : ℕ) (choice : List Pick) → choice_cost at choice ≤ most → AllByRecursion (IsWithin at most) choice
 all-within at most choice cheap = all_weaker (Contains choice) (IsWithin at most) (λ pick c. let far = member-far at choice pick c in omega arith) choice (all_in choice)
 
-all-beside : (at : Position) (most : ℕ) (anchor : Pick) (choice : List Pick) → Contains choice anchor → choice_cost at choice ≤ most → AllByRecursion (IsBeside at anchor most) choice
+all-beside : (at : Viewpoint) (most : ℕ) (anchor : Pick) (choice : List Pick) → Contains choice anchor → choice_cost at choice ≤ most → AllByRecursion (IsBeside at anchor most) choice
 all-beside at most anchor choice takes cheap = all_weaker (Contains choice) (IsBeside at anchor most)
     (λ pick c.
     let far = member-far at choice pick c in
     let also = member-far at choice anchor takes in
-    let wide = member-wide choice anchor pick takes c in
+    let wide = member-wide at.scale choice anchor pick takes c in
     (omega arith, omega arith))
     choice (all_in choice)
 
 -- the least of the best choice so far and of all choices of lists
-module _ (at : Position) (lists cuts : List (List Pick)) (old new : Chosen) (was : IsChosen at lists old) (own : (choice : List Pick) → IsChoice cuts choice → IsChoice lists choice)
+module _ (at : Viewpoint) (lists cuts : List (List Pick)) (old new : Chosen) (was : IsChosen at lists old) (own : (choice : List Pick) → IsChoice cuts choice → IsChoice lists choice)
     (is : Some new ≡ least_of at (old.picks ∷ product cuts))
   where
     firsts : AllByRecursion (λ picks. is_cheaper at picks new.picks ≡ false) (old.picks ∷ product cuts)
@@ -131,7 +131,7 @@ module _ (at : Position) (lists cuts : List (List Pick)) (old new : Chosen) (was
     }
 
 -- so it betters, where the lists that are searched are cut from others to what counts
-pub cuts-better : (at : Position) (lists : List (List Pick)) (counts : Pick → Type 0) (others cuts : List (List Pick)) (old new : Chosen) → IsChosen at lists old → ((choice : List Pick) → IsChoice others choice → IsChoice lists choice)
+pub cuts-better : (at : Viewpoint) (lists : List (List Pick)) (counts : Pick → Type 0) (others cuts : List (List Pick)) (old new : Chosen) → IsChosen at lists old → ((choice : List Pick) → IsChoice others choice → IsChoice lists choice)
     → AreCut counts others cuts → Some new ≡ least_of at (old.picks ∷ product cuts) → Betters at lists counts others old new
 cuts-better at lists counts others cuts old new was own cut is =
     let mine : (choice : List Pick) → IsChoice cuts choice → IsChoice lists choice = λ choice c. own choice (cut-choice counts others cuts choice cut c) in
@@ -142,7 +142,7 @@ cuts-better at lists counts others cuts old new was own cut is =
     }
 
 -- where no choice counts, the best one stays
-pub none-better : (at : Position) (lists : List (List Pick)) (counts : Pick → Type 0) (others : List (List Pick)) (best : Chosen) → IsChosen at lists best
+pub none-better : (at : Viewpoint) (lists : List (List Pick)) (counts : Pick → Type 0) (others : List (List Pick)) (best : Chosen) → IsChosen at lists best
     → ((choice : List Pick) → IsChoice others choice → AllByRecursion counts choice → ⊥) → Betters at lists counts others best best
 none-better at lists counts others best was none = record {
   chosen = was;
@@ -151,7 +151,7 @@ none-better at lists counts others best was none = record {
 }
 
 -- one lead pick is followed
-pub betters-follows : (at : Position) (lists : List (List Pick)) (own : ℕ) (anchor : Pick) (old new : Chosen) → own < length lists → IsChosen at lists old → Betters at lists (IsWanted at anchor (Some old.cost)) (led_by own anchor lists) old new
+pub betters-follows : (at : Viewpoint) (lists : List (List Pick)) (own : ℕ) (anchor : Pick) (old new : Chosen) → own < length lists → IsChosen at lists old → Betters at lists (IsWanted at anchor (Some old.cost)) (led_by own anchor lists) old new
     → Follows at lists own (anchor ∷ []) old new
 betters-follows at lists own anchor old new inside was better = record {
   chosen = better.chosen;
@@ -166,7 +166,7 @@ betters-follows at lists own anchor old new inside was better = record {
 }
 
 -- one that is farther than the best choice costs needn't be
-pub far-follows : (at : Position) (lists : List (List Pick)) (own : ℕ) (anchor : Pick) (best : Chosen) → own < length lists → IsChosen at lists best → anchor.dist ≡ distance at anchor.point → best.cost < anchor.dist
+pub far-follows : (at : Viewpoint) (lists : List (List Pick)) (own : ℕ) (anchor : Pick) (best : Chosen) → own < length lists → IsChosen at lists best → anchor.dist ≡ distance at anchor.point → best.cost < anchor.dist
     → Follows at lists own (anchor ∷ []) best best
 far-follows at lists own anchor best inside was measured far = record {
   chosen = was;
@@ -180,12 +180,12 @@ far-follows at lists own anchor best inside was measured far = record {
 }
 
 -- nor one with which each choice costs more
-pub dear-follows : (at : Position) (lists : List (List Pick)) (own : ℕ) (anchor : Pick) (best : Chosen) → IsChosen at lists best → ((choice : List Pick) → IsChoice (led_by own anchor lists) choice → best.cost < choice_cost at choice)
+pub dear-follows : (at : Viewpoint) (lists : List (List Pick)) (own : ℕ) (anchor : Pick) (best : Chosen) → IsChosen at lists best → ((choice : List Pick) → IsChoice (led_by own anchor lists) choice → best.cost < choice_cost at choice)
     → Follows at lists own (anchor ∷ []) best best
 dear-follows at lists own anchor best was more = record { chosen = was; after = itself at best.picks; first = (λ choice is. dear at lists best choice was (more choice is), tt) }
 
 -- where the lead is taken for a word, or all picks that count are, a choice with the lead has one of them
-pub companion-met : (at : Position) (lists : List (List Pick)) (own index : ℕ) (anchor : Pick) (most : ℕ) (all picks choice : List Pick) (alone : Bool) → own < length lists → index < length lists
+pub companion-met : (at : Viewpoint) (lists : List (List Pick)) (own index : ℕ) (anchor : Pick) (most : ℕ) (all picks choice : List Pick) (alone : Bool) → own < length lists → index < length lists
     → get_or lists index [] ≡ all → (alone ≡ false → index ≢ own) → IsCut (IsWanted at anchor (Some most)) (if alone then anchor ∷ [] else all) picks
     → IsChoice (led_by own anchor lists) choice → choice_cost at choice ≤ most → (pick : Pick) × Contains choice pick × Contains picks pick
 companion-met at lists own index anchor most all picks choice true inside within is other cut one cheap =
@@ -200,11 +200,11 @@ companion-met at lists own index anchor most all picks choice false inside withi
     (met.0, met.1, cut.whole met.0 (subst (λ (l : List Pick). Contains l met.0) list_is met.2) (all-contained (IsBeside at anchor most) choice met.0 (all-beside at most anchor choice takes cheap) met.1))
 
 -- none is followed
-pub none-follows : (at : Position) (lists : List (List Pick)) (own : ℕ) (best : Chosen) → IsChosen at lists best → Follows at lists own [] best best
+pub none-follows : (at : Viewpoint) (lists : List (List Pick)) (own : ℕ) (best : Chosen) → IsChosen at lists best → Follows at lists own [] best best
 none-follows at lists own best was = record { chosen = was; after = itself at best.picks; first = tt }
 
 -- one after others
-pub follows-then : (at : Position) (lists : List (List Pick)) (own : ℕ) (some more : List Pick) (old mid new : Chosen) → Follows at lists own some old mid → Follows at lists own more mid new → Follows at lists own (some ++ more) old new
+pub follows-then : (at : Viewpoint) (lists : List (List Pick)) (own : ℕ) (some more : List Pick) (old mid new : Chosen) → Follows at lists own some old mid → Follows at lists own more mid new → Follows at lists own (some ++ more) old new
 follows-then at lists own some more old mid new a b = record {
   chosen = b.chosen;
   after = chained at mid.picks new.picks old.picks b.after a.after;
@@ -214,7 +214,7 @@ follows-then at lists own some more old mid new a b = record {
 }
 
 -- where all picks of a list that are no farther than the best choice costs were followed, no choice comes before the best one
-pub follows-all : (at : Position) (lists : List (List Pick)) (own : ℕ) (leads : List Pick) (old new : Chosen) → own < length lists → IsChosen at lists old → IsCut (IsWithin at old.cost) (get_or lists own []) leads
+pub follows-all : (at : Viewpoint) (lists : List (List Pick)) (own : ℕ) (leads : List Pick) (old new : Chosen) → own < length lists → IsChosen at lists old → IsCut (IsWithin at old.cost) (get_or lists own []) leads
     → Follows at lists own leads old new → IsFirst at lists new
 follows-all at lists own leads old new inside was cut follows choice is =
     let led = led-choice own lists choice inside is in
@@ -226,14 +226,14 @@ follows-all at lists own leads old new inside was cut follows choice is =
     (cases_lt old.cost (choice_cost at choice))
 
 -- and so it is where a choice of lists that have all picks that are no farther is the first of these lists
-pub cut-first : (at : Position) (lists cuts : List (List Pick)) (best : Chosen) → IsChosen at lists best → AreCut (IsWithin at best.cost) lists cuts → IsFirst at cuts best → IsFirst at lists best
+pub cut-first : (at : Viewpoint) (lists cuts : List (List Pick)) (best : Chosen) → IsChosen at lists best → AreCut (IsWithin at best.cost) lists cuts → IsFirst at cuts best → IsFirst at lists best
 cut-first at lists cuts best was cut first choice is = ⊎_elim
     (λ (more : best.cost < choice_cost at choice). dear at lists best choice was more)
     (λ (cheap : choice_cost at choice ≤ best.cost). first choice (counted-choice (IsWithin at best.cost) lists cuts choice cut is (all-within at best.cost choice cheap)))
     (cases_lt best.cost (choice_cost at choice))
 
 -- a choice that none comes before is the least
-pub first-least : (at : Position) (lists : List (List Pick)) (best : Chosen) → IsChosen at lists best → IsFirst at lists best → Some best ≡ least_of at (product lists)
+pub first-least : (at : Viewpoint) (lists : List (List Pick)) (best : Chosen) → IsChosen at lists best → IsFirst at lists best → Some best ≡ least_of at (product lists)
 first-least at lists best was first =
     (λ i. Some record { cost = was.cost i; picks = best.picks })
     ∙ sym (least-is at (product lists) best.picks (choice-among lists best.picks was.choice)

@@ -10,7 +10,7 @@ use Rattle.place_values.specs.First.{ranked, IsRanked}
 use Rattle.place_values.specs.Laws.{ranked_is}
 use Rattle.place_values.specs.Members.{SameMembers, ranked_same}
 use Rattle.best_first.specs.Lists.{all_in}
-use Rattle.spatial_base.specs.Point.{Position}
+use Rattle.spatial_base.specs.Point.{Viewpoint}
 use Rattle.place_values.specs.declared.query.Pick.{Pick}
 use Rattle.place_values.specs.declared.query.Chosen.{Chosen}
 use Rattle.place_values.specs.Group.{choice_cost, choice_cmp, pick_cmp, is_cheaper, head_of, least_of}
@@ -19,14 +19,14 @@ use Rattle.collective_query.proofs.Members.{all-ranked, ranked-all, among-ranked
 use Rattle.boolean_queries.proofs.Histories.{all-contained}
 
 -- a choice with its cost
-abbrev pub costed : Position → List Pick → Chosen
+abbrev pub costed : Viewpoint → List Pick → Chosen
 costed at picks = record { cost = choice_cost at picks; picks = picks }
 
 -- none comes before itself
-pub itself : (at : Position) (picks : List Pick) → is_cheaper at picks picks ≡ false
+pub itself : (at : Viewpoint) (picks : List Pick) → is_cheaper at picks picks ≡ false
 itself at picks = ⊎_elim (λ (t : is_cheaper at picks picks ≡ true). (choices_linear at).one_way picks picks t) (λ f. f) (cases_Bool (is_cheaper at picks picks))
 
-module _ (at : Position) (choices : List (List Pick)) where
+module _ (at : Viewpoint) (choices : List (List Pick)) where
   head-holds : (P : List Pick → Type 0) (best : Chosen) (in_order : List (List Pick)) → AllByRecursion P in_order → head_of at (take 1 in_order) ≡ Some best → P best.picks
   head-holds P best [] all is = absurd (cc)
   head-holds P best (picks ∷ rest) all is = let same : costed at picks ≡ best = cc in subst (λ (c : Chosen). P c.picks) same all.0
@@ -68,9 +68,9 @@ module _ (at : Position) (choices : List (List Pick)) where
           ap (λ p. Some (costed at p)) same
 
 -- a choice of a greater cost comes after
-pub dearer-after : (at : Position) (picks best : List Pick) → choice_cost at best < choice_cost at picks → choice_cmp at picks best ≡ Greater
+pub dearer-after : (at : Viewpoint) (picks best : List Pick) → choice_cost at best < choice_cost at picks → choice_cmp at picks best ≡ Greater
 dearer-after at picks best less = ap (λ o. ordering_then o (slice_cmp pick_cmp picks best)) (sym (nat_cmp_is (choice_cost at picks) (choice_cost at best) Greater less))
 
 -- the same choices have the same least one
-pub least-same : (at : Position) (choices others : List (List Pick)) → SameMembers choices others → least_of at others ≡ least_of at choices
+pub least-same : (at : Viewpoint) (choices others : List (List Pick)) → SameMembers choices others → least_of at others ≡ least_of at choices
 least-same at choices others same = ap (λ in_order. head_of at (take 1 in_order)) (ranked_same (choices_linear at) choices others same)

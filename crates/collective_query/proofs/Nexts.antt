@@ -10,7 +10,7 @@ use Rattle.std.specs.declared.cmp.Ordering.TheVariants.{Less, Equal, Greater}
 use Rattle.place_values.specs.First.{IsLinear}
 use Rattle.place_values.specs.Laws.{linear_from_total}
 use Rattle.best_first.specs.Lists.{all_append, all_weaker}
-use Rattle.spatial_base.specs.Point.{Position}
+use Rattle.spatial_base.specs.Point.{Viewpoint}
 use Rattle.place_values.specs.declared.query.Pick.{Pick}
 use Rattle.place_values.specs.Group.{pick_cmp}
 use Rattle.place_values.specs.GroupLaws.{pick_cmp_total, pick_cmp_same}
@@ -28,7 +28,7 @@ picks-linear = linear_from_total pick_cmp_total pick_cmp_same
 itself : (pick : Pick) → is_lt (pick_cmp pick pick) ≡ false
 itself pick = ⊎_elim (λ (t : is_lt (pick_cmp pick pick) ≡ true). picks-linear.one_way pick pick t) (λ f. f) (cases_Bool (is_lt (pick_cmp pick pick)))
 
-module _ (at : Position) (lists : List (List Pick)) (most : ℕ) (front picks : List Pick) (pick : Pick) where
+module _ (at : Viewpoint) (lists : List (List Pick)) (most : ℕ) (front picks : List Pick) (pick : Pick) where
   -- one more that comes after the next one
   pub next-passed : (next : Option Pick) → IsNext at lists most front picks next → IsSomeAnd next (λ other. is_lt (pick_cmp pick other) ≡ false) → IsNext at lists most front (picks ++ pick ∷ []) next
   next-passed None is after = absurd after
@@ -59,7 +59,7 @@ module _ (at : Position) (lists : List (List Pick)) (most : ℕ) (front picks : 
       )
 
 -- the least pick, and then the least others
-module _ (at : Position) (firsts lists : List (List Pick)) (most : ℕ) (list front longer new : List Pick) (pick : Pick) (longer_is : longer ≡ front ++ pick ∷ []) (next : IsNext at lists most front list (Some pick))
+module _ (at : Viewpoint) (firsts lists : List (List Pick)) (most : ℕ) (list front longer new : List Pick) (pick : Pick) (longer_is : longer ≡ front ++ pick ∷ []) (next : IsNext at lists most front list (Some pick))
     (rest : HasLeastKeys at firsts lists most longer new)
   where
     keys-after : (other : Pick) (others : List Pick) (o : Ordering) → pick_cmp other pick ≡ o → is_lt (pick_cmp other pick) ≡ false → IsChoice firsts others → Completes at lists most (front ++ other ∷ others)

@@ -7,7 +7,7 @@ use Rattle.std.specs.List.{Contains, flat_map}
 use Rattle.std.specs.declared.alloc.Global.{Global}
 use Rattle.page_face.specs.FreeList.{PageMap}
 use Rattle.btree_nodes.specs.Tree.{map_uses}
-use Rattle.spatial_base.specs.Point.{Position, IsOnMap, distance}
+use Rattle.spatial_base.specs.Point.{Viewpoint, IsViewpoint, distance}
 use Rattle.place_values.specs.First.{first}
 use Rattle.place_values.specs.declared.hit.Hit.{Hit}
 use Rattle.place_values.specs.declared.query.Expr.{Expr}
@@ -55,7 +55,7 @@ made-where true x hit given make pick is c = ⊎_elim
     (contains-cases given [] hit c)
 made-where false x hit given make pick is c = absurd (contains-none hit c)
 
-module _ (ids : Numbers) (at centre : Position) (word : List ℕ) where
+module _ (ids : Numbers) (at centre : Viewpoint) (word : List ℕ) where
   -- the hit that a place gives to a word is its pick
   pub near-made : (x : Item) (hit : Hit) → Contains (near_item ids centre (Some (Has word)) x) hit → Contains (pick_item ids at word x) (pick_from at word hit)
   near-made x hit c = made-where (nat_lt 0 (impact_of ids x word)) x hit (hit_near centre x) (pick_from at word) (pick_in at word x) refl c
@@ -78,7 +78,7 @@ choice-picks (list ∷ lists) (one ∷ others) is pick c = ⊎_elim
     (contains-cases one others pick c)
 
 -- the least of one choice and of all choices of lists has its picks from these
-pub least-picks : (at : Position) (lists : List (Vec Pick Global)) (old new : Chosen) → Some new ≡ least_of at (old.picks ∷ product (lists_in lists)) → (pick : Pick) → Contains new.picks pick → Contains (old.picks ++ picks_of lists) pick
+pub least-picks : (at : Viewpoint) (lists : List (Vec Pick Global)) (old new : Chosen) → Some new ≡ least_of at (old.picks ∷ product (lists_in lists)) → (pick : Pick) → Contains new.picks pick → Contains (old.picks ++ picks_of lists) pick
 least-picks at lists old new is pick c =
     let all : List (List Pick) = product (lists_in lists) in
     ⊎_elim
@@ -90,7 +90,7 @@ least-picks at lists old new is pick c =
 picks-pushed : (lists pushed : List (Vec Pick Global)) (picks : Vec Pick Global) → pushed ≡ lists ++ picks ∷ [] → picks_of pushed ≡ picks_of lists ++ picks.items
 picks-pushed lists pushed picks is = ap picks_of is ∙ flat_map-append (λ (list : Vec Pick Global). list.items) lists (picks ∷ []) ∙ ap (λ l. picks_of lists ++ l) (append-nil picks.items)
 
-module _ (pages : PageMap) (tree : Tree) (ids : Numbers) (at : Position) (words : List (List ℕ)) where
+module _ (pages : PageMap) (tree : Tree) (ids : Numbers) (at : Viewpoint) (words : List (List ℕ)) where
   abbrev Finds : List ℕ → List ℕ → List Pick → Type 0
   Finds old new picks = FindsPicks pages tree ids at words old new picks
 
@@ -112,7 +112,7 @@ module _ (pages : PageMap) (tree : Tree) (ids : Numbers) (at : Position) (words 
   pub finds-behind : (old new : List ℕ) (front : List Pick) (lists pushed : List (Vec Pick Global)) (picks : Vec Pick Global) → pushed ≡ lists ++ picks ∷ [] → Finds old new ((front ++ picks_of lists) ++ picks.items) → Finds old new (front ++ picks_of pushed)
   finds-behind old new front lists pushed picks is a = subst (Finds old new) (append_assoc front (picks_of lists) picks.items ∙ ap (λ l. front ++ l) (sym (picks-pushed lists pushed picks is))) a
 
-module _ (pages : PageMap) (count begin : ℕ) (tree : Tree) (ids : Numbers) (at centre : Position) (words : List (List ℕ)) (word : List ℕ) (among : Contains words word) (fits : FitsTree pages count begin tree) (old new : List ℕ) (found : List Hit) where
+module _ (pages : PageMap) (count begin : ℕ) (tree : Tree) (ids : Numbers) (at centre : Viewpoint) (words : List (List ℕ)) (word : List ℕ) (among : Contains words word) (fits : FitsTree pages count begin tree) (old new : List ℕ) (found : List Hit) where
   abbrev nodes : NodeMap
   nodes = nodes_at pages tree
 
@@ -120,13 +120,13 @@ module _ (pages : PageMap) (count begin : ℕ) (tree : Tree) (ids : Numbers) (at
   kind page = 0 < map_uses rows_form pages tree.rows page
 
   -- what the nearest places with a word say of the log
-  pub nearest-finds : IsOnMap centre.x centre.y → (lent : Bor Expr) → lent.now ≡ Has word → found ≡ first comes_before 5 (flat_map (near_item ids centre (filter_in (Some lent))) (tree_places nodes tree.root))
+  pub nearest-finds : IsViewpoint centre → (lent : Bor Expr) → lent.now ≡ Has word → found ≡ first comes_before 5 (flat_map (near_item ids centre (filter_in (Some lent))) (tree_places nodes tree.root))
       → Opened StandsIn pages (IsNodePage pages tree.rows) (FitsTree pages count begin tree) (opened_in ids centre (Nearest (Some lent)) nodes) (started_in ids (Nearest (Some lent)) nodes (bytes_in pages tree.rows) tree.root) tree.root old new 5 found
       → FindsPicks pages tree ids at words old new (map (pick_from at word) found)
   nearest-finds on lent asks is opened =
       let few = nearest-few pages count begin tree ids centre 5 found old new (Some lent) on fits (omega arith) is opened in
-      few-made ids words nodes tree.root kind (given_to ids at) (asked_for.Nearest centre 5 (Some (Has word))) (nearest-calls ids words nodes tree.root word among centre 5) (near_item ids centre (Some (Has word))) (pick_from at word) (near-made ids at centre word) old new found
-      (subst (λ (filter : Expr). OpensFew kind (near_item ids centre (Some filter)) ids (asked_for.Nearest centre 5 (Some filter)) nodes tree.root old new found) asks few)
+      few-made ids words nodes tree.root kind (given_to ids at) (asked_for.Nearest centre.point centre.scale 5 (Some (Has word))) (nearest-calls ids words nodes tree.root word among centre 5) (near_item ids centre (Some (Has word))) (pick_from at word) (near-made ids at centre word) old new found
+      (subst (λ (filter : Expr). OpensFew kind (near_item ids centre (Some filter)) ids (asked_for.Nearest centre.point centre.scale 5 (Some filter)) nodes tree.root old new found) asks few)
 
   -- and those in a circle
   pub range-finds : (radius : ℕ) (filter : Option Expr) → filter ≡ Some (Has word) → (tree.root ≡ 0 → new ≡ old)
@@ -134,5 +134,5 @@ module _ (pages : PageMap) (count begin : ℕ) (tree : Tree) (ids : Numbers) (at
       → FindsPicks pages tree ids at words old new (map (pick_from at word) found)
   range-finds radius filter asks empty walked =
       let few = range-few pages tree.rows count begin tree.root ids filter (fits.0, fits.1) found old new empty centre radius walked in
-      few-made ids words nodes tree.root kind (given_to ids at) (asked_for.Range centre radius (Some (Has word))) (range-calls ids words nodes tree.root word among centre radius) (range_item ids centre radius (Some (Has word))) (pick_from at word) (range-made ids at centre word radius) old new found
-      (subst (λ (f : Option Expr). OpensFew kind (range_item ids centre radius f) ids (asked_for.Range centre radius f) nodes tree.root old new found) asks few)
+      few-made ids words nodes tree.root kind (given_to ids at) (asked_for.Range centre.point centre.scale radius (Some (Has word))) (range-calls ids words nodes tree.root word among centre radius) (range_item ids centre radius (Some (Has word))) (pick_from at word) (range-made ids at centre word radius) old new found
+      (subst (λ (f : Option Expr). OpensFew kind (range_item ids centre radius f) ids (asked_for.Range centre.point centre.scale radius f) nodes tree.root old new found) asks few)

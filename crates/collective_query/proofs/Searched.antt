@@ -9,7 +9,7 @@ use Rattle.std.specs.Ordering.{is_lt, ordering_then}
 use Rattle.std.specs.declared.alloc.Global.{Global}
 use Rattle.std.specs.declared.cmp.Ordering.TheVariants.{Equal}
 use Rattle.best_first.specs.Lists.{all_in, all_weaker}
-use Rattle.spatial_base.specs.Point.{Position}
+use Rattle.spatial_base.specs.Point.{Viewpoint}
 use Rattle.place_values.specs.declared.query.Pick.{Pick}
 use Rattle.place_values.specs.declared.query.Chosen.{Chosen}
 use Rattle.place_values.specs.Group.{product, choice_cost, is_cheaper, least_of, pick_cmp}
@@ -27,25 +27,25 @@ use Rattle.collective_query.proofs.Products.{choice-among, all-choices}
 use Rattle.boolean_queries.proofs.Histories.{all-contained}
 
 -- the picks of each list are as far as they say
-abbrev pub Each : Position → List (Vec Pick Global) → Type 0
+abbrev pub Each : Viewpoint → List (Vec Pick Global) → Type 0
 Each at lists = AllByRecursion (λ (list : Vec Pick Global). AreMeasured at list.items) lists
 
 -- lists that are among others are measured as these are
-pub each-among : (at : Position) (lists others : List (Vec Pick Global)) → ((list : List Pick) → Contains (lists_in lists) list → Contains (lists_in others) list) → Each at others → Each at lists
+pub each-among : (at : Viewpoint) (lists others : List (Vec Pick Global)) → ((list : List Pick) → Contains (lists_in lists) list → Contains (lists_in others) list) → Each at others → Each at lists
 each-among at lists others own all =
     all-map (AreMeasured at) (λ (list : Vec Pick Global). list.items) lists
     (all_weaker (Contains (lists_in lists)) (AreMeasured at) (λ list c. all-contained (AreMeasured at) (lists_in others) list (map-all (AreMeasured at) (λ (list : Vec Pick Global). list.items) others all) (own list c)) (lists_in lists) (all_in (lists_in lists)))
 
 -- a choice that costs more doesn't come before
-dearer : (at : Position) (choice best : List Pick) → choice_cost at best < choice_cost at choice → is_cheaper at choice best ≡ false
+dearer : (at : Viewpoint) (choice best : List Pick) → choice_cost at best < choice_cost at choice → is_cheaper at choice best ≡ false
 dearer at choice best more = ap is_lt (dearer-after at choice best more)
 
 -- nor does one of the same cost and no lesser keys
-tied : (at : Position) (choice best : List Pick) → choice_cost at choice ≡ choice_cost at best → is_lt (slice_cmp pick_cmp choice best) ≡ false → is_cheaper at choice best ≡ false
+tied : (at : Viewpoint) (choice best : List Pick) → choice_cost at choice ≡ choice_cost at best → is_lt (slice_cmp pick_cmp choice best) ≡ false → is_cheaper at choice best ≡ false
 tied at choice best same after =
     ap (λ o. is_lt (ordering_then o (slice_cmp pick_cmp choice best))) (sym (nat_cmp_is (choice_cost at choice) (choice_cost at best) Equal same)) ∙ after
 
-module _ (at : Position) (lists kept sorted tried : List (List Pick)) (best : Chosen) (least : ℕ)
+module _ (at : Viewpoint) (lists kept sorted tried : List (List Pick)) (best : Chosen) (least : ℕ)
     (own : (choice : List Pick) → IsChoice kept choice → IsChoice lists choice)
     (all : (choice : List Pick) → IsChoice lists choice → choice_cost at choice ≤ best.cost → IsChoice kept choice)
     (among : (list : List Pick) → Contains sorted list → Contains kept list)
@@ -162,5 +162,5 @@ no-lists [] others own none = refl
 no-lists {X} (list ∷ lists) others own none = absurd (contains-none list (subst (λ (l : List X). Contains l list) none (own list (contains-here list lists))))
 
 -- nothing is completed at no cost
-pub nothing-completed : (at : Position) (lists : List (List Pick)) (most : ℕ) → lists ≡ [] → Completes at lists most []
+pub nothing-completed : (at : Viewpoint) (lists : List (List Pick)) (most : ℕ) → lists ≡ [] → Completes at lists most []
 nothing-completed at lists most none = subst (λ (l : List (List Pick)). Completes at l most []) (sym none) ([], tt, omega arith)

@@ -3,7 +3,7 @@ use Rattle.std.proofs.Common.{◌≡◌, ℕ, ◌≤◌, Bool, true, false, ◌&
 use Rattle.std.proofs.lemmas.Bool.Decides.{nat_tests}
 use Rattle.std.proofs.lemmas.List.{map-append}
 use Rattle.std.specs.List.{AllByRecursion, Contains, flat_map}
-use Rattle.spatial_base.specs.Point.{Position, distance}
+use Rattle.spatial_base.specs.Point.{Viewpoint, distance}
 use Rattle.best_first.specs.Lists.{all_in, all_weaker, flat_all}
 use Rattle.place_values.specs.declared.hit.Hit.{Hit}
 use Rattle.place_values.specs.declared.query.Expr.TheVariants.{Has}
@@ -24,8 +24,8 @@ one-made : (there : Bool) (pick : Pick) (hit : Hit) (f : Hit → Pick) → pick 
 one-made true pick hit f is = ap (λ p. p ∷ []) is
 one-made false pick hit f is = refl
 
-module _ (ids : Numbers) (at : Position) (word : List ℕ) where
-  made-each : (from : Position) (places : List Item) → flat_map (pick_item ids at word) places ≡ map (pick_from at word) (flat_map (near_item ids from (Some (Has word))) places)
+module _ (ids : Numbers) (at : Viewpoint) (word : List ℕ) where
+  made-each : (from : Viewpoint) (places : List Item) → flat_map (pick_item ids at word) places ≡ map (pick_from at word) (flat_map (near_item ids from (Some (Has word))) places)
   made-each from [] = refl
   made-each from (x ∷ places) =
       (λ i. one-made (nat_lt 0 (impact_of ids x word)) (pick_in at word x) (hit_near from x) (pick_from at word) refl i ++ made-each from places i)
@@ -33,14 +33,14 @@ module _ (ids : Numbers) (at : Position) (word : List ℕ) where
 
   module _ (nodes : NodeMap) (root : ℕ) where
     -- the picks are made of the hits from any point
-    pub picks-made : (from : Position) → tree_picks ids at nodes root word ≡ map (pick_from at word) (word_hits ids from nodes root word)
+    pub picks-made : (from : Viewpoint) → tree_picks ids at nodes root word ≡ map (pick_from at word) (word_hits ids from nodes root word)
     picks-made from = made-each from (tree_places nodes root)
 
     -- a hit is the pick of an entry
-    pub hit-among : (from : Position) (hit : Hit) → Contains (word_hits ids from nodes root word) hit → Contains (tree_picks ids at nodes root word) (pick_from at word hit)
+    pub hit-among : (from : Viewpoint) (hit : Hit) → Contains (word_hits ids from nodes root word) hit → Contains (tree_picks ids at nodes root word) (pick_from at word hit)
     hit-among from hit c = subst (λ (picks : List Pick). Contains picks (pick_from at word hit)) (sym (picks-made from)) (contains-map (pick_from at word) (word_hits ids from nodes root word) hit c)
 
-    module _ (centre : Position) (radius : ℕ) where
+    module _ (centre : Viewpoint) (radius : ℕ) where
       abbrev in_range : Item → List Hit
       in_range = range_item ids centre radius (Some (Has word))
 

@@ -1,7 +1,7 @@
 -- Choices of one member of each of some lists, and lists that are cut to what counts.
 use Rattle.std.specs.Prelude.{ℕ, ◌≤◌, List, [], ◌∷◌}
 use Rattle.std.specs.List.{Contains}
-use Rattle.spatial_base.specs.Point.{Position, distance}
+use Rattle.spatial_base.specs.Point.{Viewpoint, distance}
 use Rattle.place_values.specs.declared.query.Pick.{Pick}
 
 -- one member of each list, in the lists' order
@@ -12,11 +12,11 @@ IsChoice (list ∷ lists) [] = ⊥
 IsChoice (list ∷ lists) (x ∷ xs) = Contains list x × IsChoice lists xs
 
 -- a pick is at most so far from a point
-abbrev pub IsWithin : Position → ℕ → Pick → Type 0
+abbrev pub IsWithin : Viewpoint → ℕ → Pick → Type 0
 IsWithin at most pick = distance at pick.point ≤ most
 
 -- it lies in two circles
-abbrev pub IsInBoth : Position → ℕ → Position → ℕ → Pick → Type 0
+abbrev pub IsInBoth : Viewpoint → ℕ → Viewpoint → ℕ → Pick → Type 0
 IsInBoth at most centre radius pick = IsWithin at most pick × IsWithin centre radius pick
 
 -- some of a list's picks, and all of those that count

@@ -3,7 +3,7 @@ use Rattle.std.specs.Prelude.{◌≡◌, ℕ, zero, suc, ◌<◌, ◌+◌, ◌�
 use Rattle.std.specs.List.{AllByRecursion, Contains}
 use Rattle.std.specs.Ordering.{is_lt}
 use Rattle.std.specs.declared.alloc.Global.{Global}
-use Rattle.spatial_base.specs.Point.{Position, distance}
+use Rattle.spatial_base.specs.Point.{Viewpoint, seen_from, distance}
 use Rattle.place_values.specs.declared.query.Pick.{Pick}
 use Rattle.place_values.specs.declared.query.Chosen.{Chosen}
 use Rattle.place_values.specs.Group.{pick_cmp, is_cheaper}
@@ -28,11 +28,11 @@ abbrev pub IsBehind : Pick → Pick → Type 0
 IsBehind pick other = (pick.point ≡ other.point) × (is_lt (pick_cmp pick other) ≡ false)
 
 -- A pick in a cut round a lead place: a choice with both may cost at most so much, by the distance to the point of either and that between them.
-abbrev pub IsBeside : Position → Pick → ℕ → Pick → Type 0
-IsBeside from anchor most pick = (distance from pick.point ≤ most) × (distance from anchor.point + distance anchor.point pick.point ≤ most)
+abbrev pub IsBeside : Viewpoint → Pick → ℕ → Pick → Type 0
+IsBeside from anchor most pick = (distance from pick.point ≤ most) × (distance from anchor.point + distance (seen_from anchor.point from.scale) pick.point ≤ most)
 
 -- so it is where a cost is given; where none is, no pick has to be there
-abbrev pub IsWanted : Position → Pick → Option ℕ → Pick → Type 0
+abbrev pub IsWanted : Viewpoint → Pick → Option ℕ → Pick → Type 0
 IsWanted from anchor None pick = ⊥
 IsWanted from anchor (Some most) pick = IsBeside from anchor most pick
 
@@ -53,14 +53,14 @@ gathered_picks (Some lists) = picks_of lists.items
 
 -- The best choice after more were tried: it is one of the lists, the best choice until then doesn't come before it, nor does a choice of the
 -- other lists all of whose picks count.
-pub record Betters (from : Position) (lists : List (List Pick)) (counts : Pick → Type 0) (others : List (List Pick)) (old new : Chosen) : Type 0 where
+pub record Betters (from : Viewpoint) (lists : List (List Pick)) (counts : Pick → Type 0) (others : List (List Pick)) (old new : Chosen) : Type 0 where
   pub chosen : IsChosen from lists new
   pub after : is_cheaper from old.picks new.picks ≡ false
   pub first : (choice : List Pick) → IsChoice others choice → AllByRecursion counts choice → is_cheaper from choice new.picks ≡ false
 
 -- The best choice after some lead picks were followed: no choice of the lists that takes one of these comes before it, and the best choice
 -- until then doesn't either.
-pub record Follows (from : Position) (lists : List (List Pick)) (at : ℕ) (leads : List Pick) (old new : Chosen) : Type 0 where
+pub record Follows (from : Viewpoint) (lists : List (List Pick)) (at : ℕ) (leads : List Pick) (old new : Chosen) : Type 0 where
   pub chosen : IsChosen from lists new
   pub after : is_cheaper from old.picks new.picks ≡ false
   pub first : AllByRecursion (λ anchor. IsFirst from (led_by at anchor lists) new) leads

@@ -2,7 +2,7 @@
 use Rattle.std.specs.Prelude.{ℕ, ◌<◌, List, [], Option, Some, None}
 use Rattle.page_face.specs.FreeList.{PageMap}
 use Rattle.btree_nodes.specs.Tree.{map_uses}
-use Rattle.spatial_base.specs.Point.{Position}
+use Rattle.spatial_base.specs.Point.{Viewpoint}
 use Rattle.place_values.specs.declared.query.Pick.{Pick}
 use Rattle.place_values.specs.declared.query.Chosen.{Chosen}
 use Rattle.rtree_nodes.specs.Slots.{Item}
@@ -19,11 +19,11 @@ picks_in None = []
 picks_in (Some chosen) = chosen.picks
 
 -- what a place's item gives to the word of a pick
-abbrev pub given_to : Numbers → Position → Pick → Item → List Pick
+abbrev pub given_to : Numbers → Viewpoint → Pick → Item → List Pick
 given_to ids at pick = pick_item ids at pick.word
 
 -- Few nodes of a tree were opened for words, and beside them pages of its rows alone were asked for; and each pick is that of an item in a leaf
 -- that was asked for.
-abbrev pub FindsPicks : PageMap → Tree → Numbers → Position → List (List ℕ) → List ℕ → List ℕ → List Pick → Type 0
+abbrev pub FindsPicks : PageMap → Tree → Numbers → Viewpoint → List (List ℕ) → List ℕ → List ℕ → List Pick → Type 0
 FindsPicks pages tree ids at words old new picks =
     OpensFewForWords (λ page. 0 < map_uses rows_form pages tree.rows page) (given_to ids at) ids words (nodes_at pages tree) tree.root old new picks

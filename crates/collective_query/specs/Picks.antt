@@ -2,15 +2,15 @@
 use Rattle.std.specs.Prelude.{◌≡◌, ◌⊎◌, ℕ, ◌<◌, ◌≤◌, List, Vec, length}
 use Rattle.std.specs.List.{AllByRecursion, Contains, flat_map}
 use Rattle.std.specs.declared.alloc.Global.{Global}
-use Rattle.spatial_base.specs.Point.{Position, distance}
+use Rattle.spatial_base.specs.Point.{Viewpoint, distance}
 use Rattle.place_values.specs.declared.query.Pick.{Pick}
 
 -- no pick is farther than two points of the map can be apart
 abbrev pub AreNear : List Pick → Type 0
-AreNear picks = AllByRecursion (λ (pick : Pick). pick.dist ≤ 4024922359) picks
+AreNear picks = AllByRecursion (λ (pick : Pick). pick.dist ≤ 2545584412) picks
 
 -- each pick is as far from the point as it says
-abbrev pub AreMeasured : Position → List Pick → Type 0
+abbrev pub AreMeasured : Viewpoint → List Pick → Type 0
 AreMeasured at picks = AllByRecursion (λ (pick : Pick). pick.dist ≡ distance at pick.point) picks
 
 -- there are fewer than so many picks, or one of them is farther than so far

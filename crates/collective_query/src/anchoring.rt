@@ -21,7 +21,7 @@ use node_filter::Ids;
 use node_rows::Tree;
 use page_face::{PageFault, Pages};
 use place_values::{Chosen, Pick};
-use spatial_base::Point;
+use spatial_base::Origin;
 use std::alloc::Global;
 use std::cmp::Ordering;
 use term_impacts::Word;
@@ -71,7 +71,7 @@ fn try_beside<P: Pages>(
     pages: &mut P,
     tree: &Tree,
     ids: &Ids,
-    at: &Point,
+    at: &Origin,
     words: &[Word],
     nearest: &[Vec<Pick>],
     anchor: &Pick,
@@ -81,9 +81,9 @@ fn try_beside<P: Pages>(
 ) -> Result<(), PageFault>
     requires near { AllByRecursion (λ (list : Vec Pick Global). AreNear list.items) nearest.now }
     requires measured { AllByRecursion (λ (list : Vec Pick Global). AreMeasured at.now list.items) nearest.now }
-    requires anchor { anchor.now.dist ≤ 4024922359 }
+    requires anchor { anchor.now.dist ≤ 2545584412 }
     requires anchor_measured { anchor.now.dist ≡ distance at.now anchor.now.point }
-    requires cost { best.old.cost ≤ 8049844718 }
+    requires cost { best.old.cost ≤ 5091168824 }
     ensures tried { FitsTree (P.pages pages.old) (P.count pages.old) (P.first pages.old) tree.now
         → lists_in nearest.now ≡ first_lists ids.now at.now (nodes_at (P.pages pages.old) tree.now) tree.now.root words.now
         → AreLeads (tree_lists ids.now at.now (nodes_at (P.pages pages.old) tree.now) tree.now.root words.now) own (anchor.now ∷ []) → IsChosen at.now (tree_lists ids.now at.now (nodes_at (P.pages pages.old) tree.now) tree.now.root words.now) best.old
@@ -101,7 +101,7 @@ fn try_beside<P: Pages>(
         Ok(None) => return Ok(()),
         Err(fault) => return Err(fault),
     };
-    match least_choice(alloc, &lists, best) {
+    match least_choice(alloc, at, &lists, best) {
         Ok(()) => Ok(()),
         Err(_) => Err(PageFault::Memory),
     }
@@ -113,7 +113,7 @@ fn begin<P: Pages>(
     pages: &mut P,
     tree: &Tree,
     ids: &Ids,
-    at: &Point,
+    at: &Origin,
     words: &[Word],
     nearest: &[Vec<Pick>],
     leads: &[Pick],
@@ -124,7 +124,7 @@ fn begin<P: Pages>(
     requires measured { AllByRecursion (λ (list : Vec Pick Global). AreMeasured at.now list.items) nearest.now }
     requires leads { AreNear leads.now }
     requires leads_measured { AreMeasured at.now leads.now }
-    requires cost { best.old.cost ≤ 8049844718 }
+    requires cost { best.old.cost ≤ 5091168824 }
     ensures chosen { FitsTree (P.pages pages.old) (P.count pages.old) (P.first pages.old) tree.now
         → lists_in nearest.now ≡ first_lists ids.now at.now (nodes_at (P.pages pages.old) tree.now) tree.now.root words.now
         → AreLeads (tree_lists ids.now at.now (nodes_at (P.pages pages.old) tree.now) tree.now.root words.now) own leads.now → IsChosen at.now (tree_lists ids.now at.now (nodes_at (P.pages pages.old) tree.now) tree.now.root words.now) best.old
@@ -149,7 +149,7 @@ fn follow<P: Pages>(
     pages: &mut P,
     tree: &Tree,
     ids: &Ids,
-    at: &Point,
+    at: &Origin,
     words: &[Word],
     nearest: &[Vec<Pick>],
     anchor: &Pick,
@@ -158,9 +158,9 @@ fn follow<P: Pages>(
 ) -> Result<(), PageFault>
     requires near { AllByRecursion (λ (list : Vec Pick Global). AreNear list.items) nearest.now }
     requires measured { AllByRecursion (λ (list : Vec Pick Global). AreMeasured at.now list.items) nearest.now }
-    requires anchor { anchor.now.dist ≤ 4024922359 }
+    requires anchor { anchor.now.dist ≤ 2545584412 }
     requires anchor_measured { anchor.now.dist ≡ distance at.now anchor.now.point }
-    requires cost { best.old.cost ≤ 8049844718 }
+    requires cost { best.old.cost ≤ 5091168824 }
     ensures followed { FitsTree (P.pages pages.old) (P.count pages.old) (P.first pages.old) tree.now
         → lists_in nearest.now ≡ first_lists ids.now at.now (nodes_at (P.pages pages.old) tree.now) tree.now.root words.now
         → AreLeads (tree_lists ids.now at.now (nodes_at (P.pages pages.old) tree.now) tree.now.root words.now) own (anchor.now ∷ []) → IsChosen at.now (tree_lists ids.now at.now (nodes_at (P.pages pages.old) tree.now) tree.now.root words.now) best.old
@@ -186,7 +186,7 @@ fn follow_likely<P: Pages>(
     pages: &mut P,
     tree: &Tree,
     ids: &Ids,
-    at: &Point,
+    at: &Origin,
     words: &[Word],
     nearest: &[Vec<Pick>],
     anchor: &Pick,
@@ -195,9 +195,9 @@ fn follow_likely<P: Pages>(
 ) -> Result<(), PageFault>
     requires near { AllByRecursion (λ (list : Vec Pick Global). AreNear list.items) nearest.now }
     requires measured { AllByRecursion (λ (list : Vec Pick Global). AreMeasured at.now list.items) nearest.now }
-    requires anchor { anchor.now.dist ≤ 4024922359 }
+    requires anchor { anchor.now.dist ≤ 2545584412 }
     requires anchor_measured { anchor.now.dist ≡ distance at.now anchor.now.point }
-    requires cost { best.old.cost ≤ 8049844718 }
+    requires cost { best.old.cost ≤ 5091168824 }
     ensures followed { FitsTree (P.pages pages.old) (P.count pages.old) (P.first pages.old) tree.now
         → lists_in nearest.now ≡ first_lists ids.now at.now (nodes_at (P.pages pages.old) tree.now) tree.now.root words.now
         → AreLeads (tree_lists ids.now at.now (nodes_at (P.pages pages.old) tree.now) tree.now.root words.now) own (anchor.now ∷ []) → IsChosen at.now (tree_lists ids.now at.now (nodes_at (P.pages pages.old) tree.now) tree.now.root words.now) best.old
@@ -246,7 +246,7 @@ fn follow_each<P: Pages>(
     pages: &mut P,
     tree: &Tree,
     ids: &Ids,
-    at: &Point,
+    at: &Origin,
     words: &[Word],
     nearest: &[Vec<Pick>],
     leads: &[Pick],
@@ -257,7 +257,7 @@ fn follow_each<P: Pages>(
     requires measured { AllByRecursion (λ (list : Vec Pick Global). AreMeasured at.now list.items) nearest.now }
     requires leads { AreNear leads.now }
     requires leads_measured { AreMeasured at.now leads.now }
-    requires cost { best.old.cost ≤ 8049844718 }
+    requires cost { best.old.cost ≤ 5091168824 }
     ensures followed { FitsTree (P.pages pages.old) (P.count pages.old) (P.first pages.old) tree.now
         → lists_in nearest.now ≡ first_lists ids.now at.now (nodes_at (P.pages pages.old) tree.now) tree.now.root words.now
         → AreLeads (tree_lists ids.now at.now (nodes_at (P.pages pages.old) tree.now) tree.now.root words.now) own leads.now → IsChosen at.now (tree_lists ids.now at.now (nodes_at (P.pages pages.old) tree.now) tree.now.root words.now) best.old
@@ -300,7 +300,7 @@ pub(crate) fn search_by_anchor<P: Pages>(
     pages: &mut P,
     tree: &Tree,
     ids: &Ids,
-    at: &Point,
+    at: &Origin,
     words: &[Word],
     nearest: &[Vec<Pick>],
     own: usize,
@@ -308,7 +308,7 @@ pub(crate) fn search_by_anchor<P: Pages>(
 ) -> Result<(), PageFault>
     requires near { AllByRecursion (λ (list : Vec Pick Global). AreNear list.items) nearest.now }
     requires measured { AllByRecursion (λ (list : Vec Pick Global). AreMeasured at.now list.items) nearest.now }
-    requires cost { best.old.cost ≤ 8049844718 }
+    requires cost { best.old.cost ≤ 5091168824 }
     ensures least { FitsTree (P.pages pages.old) (P.count pages.old) (P.first pages.old) tree.now
         → lists_in nearest.now ≡ first_lists ids.now at.now (nodes_at (P.pages pages.old) tree.now) tree.now.root words.now
         → own < length words.now → IsChosen at.now (tree_lists ids.now at.now (nodes_at (P.pages pages.old) tree.now) tree.now.root words.now) best.old

@@ -2,7 +2,7 @@
 ghost use Rattle.std.specs.Prelude.{◌≡◌, ◌<◌, ◌++◌, ℕ, List, true, Vec, IfOk, length, get_or};
 ghost use Rattle.std.specs.List.{AllByRecursion, Contains};
 ghost use Rattle.std.specs.declared.alloc.Global.{Global};
-ghost use Rattle.spatial_base.specs.Point.{Position};
+ghost use Rattle.spatial_base.specs.Point.{Viewpoint};
 ghost use Rattle.place_values.specs.declared.query.Pick.{Pick};
 ghost use Rattle.best_first.specs.Fits.{FitsTree, nodes_at};
 ghost use Rattle.collective_query.specs.Choices.{IsInBoth, IsCut};
@@ -18,7 +18,7 @@ use node_filter::Ids;
 use node_rows::Tree;
 use page_face::{PageFault, Pages};
 use place_values::{Expr, Pick};
-use spatial_base::Point;
+use spatial_base::Origin;
 use std::alloc::Global;
 use term_impacts::Word;
 
@@ -31,8 +31,8 @@ pub(crate) fn near_with<P: Pages>(
     pages: &mut P,
     tree: &Tree,
     ids: &Ids,
-    at: &Point,
-    centre: &Point,
+    at: &Origin,
+    centre: &Origin,
     radius: u64,
     word: &Word,
 ) -> Result<Vec<Pick>, PageFault>
@@ -45,7 +45,17 @@ pub(crate) fn near_with<P: Pages>(
     ensures search { Searches P.Pages tree.now pages.old pages.new result }
 {
     let filter = Expr::Has(*word);
-    let hits = match range(alloc, pages, tree, ids, centre, radius, Some(&filter)) {
+    let (point, scale) = (centre.point(), centre.scale());
+    let hits = match range(
+        alloc,
+        pages,
+        tree,
+        ids,
+        &point,
+        scale,
+        radius,
+        Some(&filter),
+    ) {
         Ok(hits) => hits,
         Err(fault) => return Err(fault),
     };
@@ -73,9 +83,9 @@ pub(crate) fn candidates<P: Pages>(
     pages: &mut P,
     tree: &Tree,
     ids: &Ids,
-    at: &Point,
+    at: &Origin,
     most: u64,
-    centre: &Point,
+    centre: &Origin,
     radius: u64,
     word: &Word,
     nearest: &[Pick],
@@ -108,7 +118,7 @@ pub(crate) fn list_at(lists: &[Vec<Pick>], at: usize) -> &[Pick]
     ensures list { at < length lists.now → (d : Vec Pick Global) → result.now ≡ (get_or lists.now at d).items }
     ensures among { (pick : Pick) → Contains result.now pick → Contains (picks_of lists.now) pick }
     ensures near { AreNear result.now }
-    ensures measured { (at : Position) → AllByRecursion (λ (list : Vec Pick Global). AreMeasured at list.items) lists.now → AreMeasured at result.now }
+    ensures measured { (at : Viewpoint) → AllByRecursion (λ (list : Vec Pick Global). AreMeasured at list.items) lists.now → AreMeasured at result.now }
 {
     match lists.get(at) {
         Some(list) => list,

@@ -2,7 +2,7 @@
 ghost use Rattle.std.specs.Prelude.{◌≡◌, ◌≢◌, ◌≤◌, ◌<◌, ◌++◌, false, ℕ, List, Vec, length, IfOk};
 ghost use Rattle.std.specs.List.{AllByRecursion, Contains};
 ghost use Rattle.std.specs.declared.alloc.Global.{Global};
-ghost use Rattle.spatial_base.specs.Point.{Position, distance};
+ghost use Rattle.spatial_base.specs.Point.{distance};
 ghost use Rattle.place_values.specs.declared.query.Pick.{Pick};
 ghost use Rattle.place_values.specs.Group.{choice_cost};
 ghost use Rattle.place_values.specs.Search.{lists_in};
@@ -23,7 +23,7 @@ use node_filter::Ids;
 use node_rows::Tree;
 use page_face::{PageFault, Pages};
 use place_values::Pick;
-use spatial_base::Point;
+use spatial_base::Origin;
 use std::alloc::{AllocError, Global};
 use term_impacts::Word;
 
@@ -59,15 +59,15 @@ fn is_alone(index: usize, own: usize, nearest: &[Pick], radius: u64) -> bool
 }
 
 // Whether picks of which each list has one may cost at most so much.
-fn may_cost(alloc: Global, lists: &[Vec<Pick>], most: u64) -> Result<bool, AllocError>
+fn may_cost(alloc: Global, at: &Origin, lists: &[Vec<Pick>], most: u64) -> Result<bool, AllocError>
     requires near { AllByRecursion (λ (list : Vec Pick Global). AreNear list.items) lists.now }
-    requires most { most ≤ 8049844718 }
-    ensures { IfOk result (λ may. may ≡ false → (at : Position) → AllByRecursion (λ (list : Vec Pick Global). AreMeasured at list.items) lists.now
-        → (picks : List Pick) → ((list : List Pick) → Contains (lists_in lists.now) list → (pick : Pick) × Contains picks pick × Contains list pick) → most < choice_cost at picks) }
+    requires most { most ≤ 5091168824 }
+    ensures { IfOk result (λ may. may ≡ false → AllByRecursion (λ (list : Vec Pick Global). AreMeasured at.now list.items) lists.now
+        → (picks : List Pick) → ((list : List Pick) → Contains (lists_in lists.now) list → (pick : Pick) × Contains picks pick × Contains list pick) → most < choice_cost at.now picks) }
 {
     let sorted = by_length(alloc, lists)?;
     let mut front = Vec::new(alloc);
-    let least = least_cost(&sorted, &mut front, 0, 0, most + 1, most)?;
+    let least = least_cost(at, &sorted, &mut front, 0, 0, most + 1, most)?;
     Ok(least <= most)
 }
 
@@ -77,7 +77,7 @@ fn rare_companions<P: Pages>(
     pages: &mut P,
     tree: &Tree,
     ids: &Ids,
-    at: &Point,
+    at: &Origin,
     words: &[Word],
     nearest: &[Vec<Pick>],
     anchor: &Pick,
@@ -86,7 +86,7 @@ fn rare_companions<P: Pages>(
 ) -> Result<Vec<Vec<Pick>>, PageFault>
     requires near { AllByRecursion (λ (list : Vec Pick Global). AreNear list.items) nearest.now }
     requires measured { AllByRecursion (λ (list : Vec Pick Global). AreMeasured at.now list.items) nearest.now }
-    requires anchor { anchor.now.dist ≤ 4024922359 }
+    requires anchor { anchor.now.dist ≤ 2545584412 }
     requires anchor_measured { anchor.now.dist ≡ distance at.now anchor.now.point }
     ensures met { FitsTree (P.pages pages.old) (P.count pages.old) (P.first pages.old) tree.now
         → lists_in nearest.now ≡ first_lists ids.now at.now (nodes_at (P.pages pages.old) tree.now) tree.now.root words.now → own < length words.now
@@ -129,7 +129,7 @@ pub(crate) fn may_anchor<P: Pages>(
     pages: &mut P,
     tree: &Tree,
     ids: &Ids,
-    at: &Point,
+    at: &Origin,
     words: &[Word],
     nearest: &[Vec<Pick>],
     anchor: &Pick,
@@ -138,9 +138,9 @@ pub(crate) fn may_anchor<P: Pages>(
 ) -> Result<bool, PageFault>
     requires near { AllByRecursion (λ (list : Vec Pick Global). AreNear list.items) nearest.now }
     requires measured { AllByRecursion (λ (list : Vec Pick Global). AreMeasured at.now list.items) nearest.now }
-    requires anchor { anchor.now.dist ≤ 4024922359 }
+    requires anchor { anchor.now.dist ≤ 2545584412 }
     requires anchor_measured { anchor.now.dist ≡ distance at.now anchor.now.point }
-    requires most { most ≤ 8049844718 }
+    requires most { most ≤ 5091168824 }
     ensures refused { FitsTree (P.pages pages.old) (P.count pages.old) (P.first pages.old) tree.now
         → lists_in nearest.now ≡ first_lists ids.now at.now (nodes_at (P.pages pages.old) tree.now) tree.now.root words.now → own < length words.now
         → IfOk result (λ may. may ≡ false → (choice : List Pick) → IsChoice (led_by own anchor.now (tree_lists ids.now at.now (nodes_at (P.pages pages.old) tree.now) tree.now.root words.now)) choice
@@ -160,7 +160,7 @@ pub(crate) fn may_anchor<P: Pages>(
         Ok(lists) => lists,
         Err(fault) => return Err(fault),
     };
-    match may_cost(alloc, &lists, most) {
+    match may_cost(alloc, at, &lists, most) {
         Ok(may) => Ok(may),
         Err(_) => Err(PageFault::Memory),
     }

@@ -19,7 +19,7 @@ use node_filter::Ids;
 use node_rows::Tree;
 use page_face::{PageFault, Pages};
 use place_values::Pick;
-use spatial_base::Point;
+use spatial_base::Origin;
 use std::alloc::{AllocError, Global};
 use term_impacts::Word;
 
@@ -39,7 +39,7 @@ pub(crate) fn companions<P: Pages>(
     pages: &mut P,
     tree: &Tree,
     ids: &Ids,
-    at: &Point,
+    at: &Origin,
     word: &Word,
     nearest: &[Pick],
     anchor: &Pick,
@@ -48,7 +48,7 @@ pub(crate) fn companions<P: Pages>(
 ) -> Result<Vec<Pick>, PageFault>
     requires near { AreNear nearest.now }
     requires measured { AreMeasured at.now nearest.now }
-    requires anchor { anchor.now.dist ≤ 4024922359 }
+    requires anchor { anchor.now.dist ≤ 2545584412 }
     requires anchor_measured { anchor.now.dist ≡ distance at.now anchor.now.point }
     ensures cut { FitsTree (P.pages pages.old) (P.count pages.old) (P.first pages.old) tree.now
         → nearest.now ≡ first_picks ids.now at.now at.now (nodes_at (P.pages pages.old) tree.now) tree.now.root word.now
@@ -67,23 +67,16 @@ pub(crate) fn companions<P: Pages>(
             Err(_) => Err(PageFault::Memory),
         };
     }
+    let scale = at.scale();
+    let centre = Origin::at(anchor.point, scale);
     match most {
         Some(most) => {
             let radius = most.saturating_sub(anchor.dist);
             candidates(
-                alloc,
-                pages,
-                tree,
-                ids,
-                at,
-                most,
-                &anchor.point,
-                radius,
-                word,
-                nearest,
+                alloc, pages, tree, ids, at, most, &centre, radius, word, nearest,
             )
         }
-        None => nearest_picks(alloc, pages, tree, ids, at, &anchor.point, word),
+        None => nearest_picks(alloc, pages, tree, ids, at, &centre, word),
     }
 }
 
@@ -98,7 +91,7 @@ pub(crate) fn gather<P: Pages>(
     pages: &mut P,
     tree: &Tree,
     ids: &Ids,
-    at: &Point,
+    at: &Origin,
     words: &[Word],
     nearest: &[Vec<Pick>],
     anchor: &Pick,
@@ -107,7 +100,7 @@ pub(crate) fn gather<P: Pages>(
 ) -> Result<Option<Vec<Vec<Pick>>>, PageFault>
     requires near { AllByRecursion (λ (list : Vec Pick Global). AreNear list.items) nearest.now }
     requires measured { AllByRecursion (λ (list : Vec Pick Global). AreMeasured at.now list.items) nearest.now }
-    requires anchor { anchor.now.dist ≤ 4024922359 }
+    requires anchor { anchor.now.dist ≤ 2545584412 }
     requires anchor_measured { anchor.now.dist ≡ distance at.now anchor.now.point }
     ensures gathered { FitsTree (P.pages pages.old) (P.count pages.old) (P.first pages.old) tree.now
         → lists_in nearest.now ≡ first_lists ids.now at.now (nodes_at (P.pages pages.old) tree.now) tree.now.root words.now

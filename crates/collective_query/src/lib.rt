@@ -1,7 +1,8 @@
 //! The places of an IR-tree that together hold the words of a query, lie near a point and lie near each other. These are collective spatial
 //! keyword queries (Cao, Cong, Jensen and Ooi, SIGMOD 2011, their type 2).
 //!
-//! A choice has a place for each word. It costs the greatest distance to the point plus the greatest distance between two of its places.
+//! A choice has a place for each word. It costs the greatest distance to the point plus the greatest distance between two of its places,
+//! both with the scale of longitudes at the point.
 //! The least choice among some nearest places of each word is found first. No place that is farther from the point than it costs can be in
 //! a choice that costs less. Mostly all places that are as near are among these nearest ones, and nothing else is searched.
 //!

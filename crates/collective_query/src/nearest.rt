@@ -16,7 +16,7 @@ use node_filter::Ids;
 use node_rows::Tree;
 use page_face::{PageFault, Pages};
 use place_values::{Expr, Pick};
-use spatial_base::Point;
+use spatial_base::Origin;
 use std::alloc::Global;
 use term_impacts::Word;
 
@@ -32,8 +32,8 @@ pub(crate) fn nearest_picks<P: Pages>(
     pages: &mut P,
     tree: &Tree,
     ids: &Ids,
-    at: &Point,
-    centre: &Point,
+    at: &Origin,
+    centre: &Origin,
     word: &Word,
 ) -> Result<Vec<Pick>, PageFault>
     ensures picks { FitsTree (P.pages pages.old) (P.count pages.old) (P.first pages.old) tree.now → IfOk result (λ picks. picks.items
@@ -45,9 +45,17 @@ pub(crate) fn nearest_picks<P: Pages>(
     ensures search { Searches P.Pages tree.now pages.old pages.new result }
 {
     let filter = Expr::Has(*word);
-    // The centre is on the map, by the contracts of `x` and `y`.
-    let (_x, _y) = (centre.x(), centre.y());
-    let hits = match nearest(alloc, pages, tree, ids, centre, NEAREST, Some(&filter)) {
+    let (point, scale) = (centre.point(), centre.scale());
+    let hits = match nearest(
+        alloc,
+        pages,
+        tree,
+        ids,
+        &point,
+        scale,
+        NEAREST,
+        Some(&filter),
+    ) {
         Ok(hits) => hits,
         Err(fault) => return Err(fault),
     };
@@ -66,7 +74,7 @@ pub(crate) fn nearest_each<P: Pages>(
     pages: &mut P,
     tree: &Tree,
     ids: &Ids,
-    at: &Point,
+    at: &Origin,
     words: &[Word],
 ) -> Result<Vec<Vec<Pick>>, PageFault>
     ensures lists { FitsTree (P.pages pages.old) (P.count pages.old) (P.first pages.old) tree.now → IfOk result (λ lists. lists_in lists.items

@@ -4,19 +4,19 @@ ghost use Rattle.collective_query.specs.Picks.{AreNear, AreMeasured};
 ghost use Rattle.collective_query.specs.TreePicks.{pick_from};
 
 use place_values::{Hit, Pick};
-use spatial_base::{Point, dist};
+use spatial_base::Origin;
 use std::alloc::{AllocError, Global};
 use term_impacts::Word;
 
 /// Returns the place of a hit as the pick for a word, with its distance from the point.
-pub(crate) fn pick_from_hit(at: &Point, word: &Word, hit: &Hit) -> Pick
+pub(crate) fn pick_from_hit(at: &Origin, word: &Word, hit: &Hit) -> Pick
     ensures pick { result ≡ pick_from at.now word.now hit.now }
-    ensures near { result.dist ≤ 4024922359 }
+    ensures near { result.dist ≤ 2545584412 }
 {
     Pick {
         key: hit.key,
         word: *word,
-        dist: dist(at, &hit.point),
+        dist: at.dist(&hit.point),
         point: hit.point,
     }
 }
@@ -24,7 +24,7 @@ pub(crate) fn pick_from_hit(at: &Point, word: &Word, hit: &Hit) -> Pick
 /// Returns the places of hits as picks for a word, in the hits' order.
 pub(crate) fn picks_from(
     alloc: Global,
-    at: &Point,
+    at: &Origin,
     word: &Word,
     hits: &[Hit],
 ) -> Result<Vec<Pick>, AllocError>

@@ -2,7 +2,7 @@
 ghost use Rattle.std.specs.Prelude.{◌≡◌, ◌++◌, ◌∷◌, [], ◌≤◌, max, List, Vec, Some, OnOk};
 ghost use Rattle.std.specs.List.{AllByRecursion};
 ghost use Rattle.std.specs.declared.alloc.Global.{Global};
-ghost use Rattle.spatial_base.specs.Point.{Position};
+ghost use Rattle.spatial_base.specs.Point.{Viewpoint};
 ghost use Rattle.place_values.specs.declared.query.Pick.{Pick};
 ghost use Rattle.place_values.specs.Group.{product, choice_cost, least_of};
 ghost use Rattle.place_values.specs.Search.{lists_in};
@@ -12,12 +12,13 @@ use crate::costing::least_cost;
 use crate::joining::{by_length, joined_lists};
 use crate::keys::least_keys;
 use place_values::{Chosen, Pick, Picks, choice_order};
+use spatial_base::Origin;
 use std::alloc::{AllocError, Global};
 
 // Keeps a choice of this cost if it comes before the best one.
 fn offer(alloc: Global, picks: &[Pick], cost: u64, best: &mut Chosen) -> Result<(), AllocError>
     ensures cost { OnOk result (best.new.cost ≤ max cost best.old.cost) }
-    ensures least { OnOk result ((at : Position) → cost ≡ choice_cost at picks.now → (tried : List (List Pick)) → Some best.old ≡ least_of at tried → Some best.new ≡ least_of at (tried ++ picks.now ∷ [])) }
+    ensures least { OnOk result ((at : Viewpoint) → cost ≡ choice_cost at picks.now → (tried : List (List Pick)) → Some best.old ≡ least_of at tried → Some best.new ≡ least_of at (tried ++ picks.now ∷ [])) }
 {
     if choice_order(picks, cost, &*best).is_lt() {
         let picks = Picks::from_vec(Vec::from_slice(alloc, picks)?);
@@ -32,23 +33,24 @@ fn offer(alloc: Global, picks: &[Pick], cost: u64, best: &mut Chosen) -> Result<
 /// for with the shortest lists first. Last come the least picks with which a choice costs no more, in the lists' order.
 pub(crate) fn least_choice(
     alloc: Global,
+    at: &Origin,
     lists: &[Vec<Pick>],
     best: &mut Chosen,
 ) -> Result<(), AllocError>
     requires near { AllByRecursion (λ (list : Vec Pick Global). AreNear list.items) lists.now }
-    requires cost { best.old.cost ≤ 8049844718 }
-    ensures least { OnOk result ((at : Position) → AllByRecursion (λ (list : Vec Pick Global). AreMeasured at list.items) lists.now → (tried : List (List Pick)) → Some best.old ≡ least_of at tried
-        → Some best.new ≡ least_of at (tried ++ product (lists_in lists.now))) }
+    requires cost { best.old.cost ≤ 5091168824 }
+    ensures least { OnOk result (AllByRecursion (λ (list : Vec Pick Global). AreMeasured at.now list.items) lists.now → (tried : List (List Pick)) → Some best.old ≡ least_of at.now tried
+        → Some best.new ≡ least_of at.now (tried ++ product (lists_in lists.now))) }
     ensures cost { OnOk result (best.new.cost ≤ best.old.cost) }
 {
-    let kept = joined_lists(alloc, lists, best.cost)?;
+    let kept = joined_lists(alloc, at, lists, best.cost)?;
     let sorted = by_length(alloc, &kept)?;
     let mut front = Vec::new(alloc);
-    let least = least_cost(&sorted, &mut front, 0, 0, best.cost + 1, 0)?;
+    let least = least_cost(at, &sorted, &mut front, 0, 0, best.cost + 1, 0)?;
     if least > best.cost {
         return Ok(());
     }
-    if !least_keys(&kept, &sorted, &mut front, 0, 0, least)? {
+    if !least_keys(at, &kept, &sorted, &mut front, 0, 0, least)? {
         return Ok(());
     }
     offer(alloc, &front, least, best)

@@ -7,6 +7,7 @@ use Rattle.page_journal.specs.Record.{applied}
 use Rattle.page_store.specs.Contents as stores
 use Rattle.page_store.specs.Store.{IsReadOf}
 use Rattle.page_store.specs.declared.superblock.Superblock.{Superblock}
+use Rattle.spatial_base.specs.Point.{seen_from}
 use Rattle.place_values.specs.Answer.{answer_of}
 use Rattle.place_values.specs.State.{Contents}
 use Rattle.place_values.specs.declared.query.Query.{Query}
@@ -19,13 +20,13 @@ use Rattle.irtree_engine.specs.Changes.{tree_in}
 
 -- the query asks for hits: it is of another kind than group
 abbrev pub AsksForHits : Query → Type 0
-AsksForHits (queries.Group at words) = ⊥
+AsksForHits (queries.Group at scale words) = ⊥
 AsksForHits _ = Unit {0}
 
 -- Few nodes were opened for an answer, with the pages asked for before and after: of hits and of a choice, each as its query's kind says it.
 abbrev pub IsFoundByFew : PageMap → Superblock → Query → List ℕ → List ℕ → Answer → Type 0
 IsFoundByFew pages block query before after (Hits hits) = AreFewOpened pages (tables_in block.head) (tree_in block.head) query before after hits
-IsFoundByFew pages block (queries.Group at words) before after (Group chosen) = AreFewOpenedForGroup pages (tables_in block.head) (tree_in block.head) at words before after chosen
+IsFoundByFew pages block (queries.Group at scale words) before after (Group chosen) = AreFewOpenedForGroup pages (tables_in block.head) (tree_in block.head) (seen_from at scale) words before after chosen
 IsFoundByFew pages block _ before after (Group chosen) = ⊥
 
 -- what an image holds, with its journal applied: page 0's fields and the pages counted

@@ -1,5 +1,6 @@
 //! The answer to a query, over any pages.
-ghost use Rattle.std.specs.Prelude.{◌≡◌, ◌≢◌, Err, IfOk, IsErrOf};
+ghost use Rattle.std.specs.Prelude.{◌≡◌, ◌≢◌, ◌≤◌, Err, IfOk, IsErrOf};
+ghost use Rattle.spatial_base.specs.Point.{seen_from};
 ghost use Rattle.page_face.specs.Calls.{Reads, FailsReading};
 ghost use Rattle.btree_nodes.specs.Damages.{AreReadable};
 ghost use Rattle.place_values.specs.Answer.{answer_of};
@@ -47,7 +48,9 @@ pub(crate) fn answer_in<P: Pages>(
     match query {
         Query::Range { .. } | Query::Inside { .. } | Query::Nearest { .. } | Query::Top { .. } =>
             hits_in(alloc, pages, head, query),
-        Query::Group { at, words } => choice_in(alloc, pages, head, at, words.as_slice()),
+        Query::Group { at, scale, words } => {
+            choice_in(alloc, pages, head, at, *scale, words.as_slice())
+        }
     }
 }
 
@@ -86,13 +89,15 @@ fn choice_in<P: Pages>(
     pages: &mut P,
     head: &Head,
     at: &Point,
+    scale: u16,
     words: &[Word],
 ) -> Result<Answer, PageFault>
+    requires { scale ≤ 1000 }
     ensures answered { (state : Contents) → PagesStand (block_with (P.count pages.old) (P.first pages.old) head.now) (P.pages pages.old) state
-        → AreReadable (P.pages pages.old) (P.count pages.old) → IfOk result (λ answer. answer ≡ Answer.Group (group_of state.places at.now words.now)) }
+        → AreReadable (P.pages pages.old) (P.count pages.old) → IfOk result (λ answer. answer ≡ Answer.Group (group_of state.places (seen_from at.now scale) words.now)) }
     ensures opened { (state : Contents) → PagesStand (block_with (P.count pages.old) (P.first pages.old) head.now) (P.pages pages.old) state
         → AreReadable (P.pages pages.old) (P.count pages.old)
-        → IfOk result (IsFoundByFew (P.pages pages.old) (block_with (P.count pages.old) (P.first pages.old) head.now) (Query.Group at.now words.now) (P.asked pages.old) (P.asked pages.new)) }
+        → IfOk result (IsFoundByFew (P.pages pages.old) (block_with (P.count pages.old) (P.first pages.old) head.now) (Query.Group at.now scale words.now) (P.asked pages.old) (P.asked pages.new)) }
     ensures no_false_damage { (state : Contents) → PagesStand (block_with (P.count pages.old) (P.first pages.old) head.now) (P.pages pages.old) state
         → AreReadable (P.pages pages.old) (P.count pages.old) → (damage : Damage) → result ≢ Err (PageFault.Damaged damage) }
     ensures damaged { AreReadable (P.pages pages.old) (P.count pages.old) → (damage : Damage) → IsErrOf result (PageFault.Damaged damage)
@@ -102,7 +107,7 @@ fn choice_in<P: Pages>(
 {
     let tables = tables_of(head);
     let tree = tree_of(head);
-    match chosen(alloc, pages, &tables, &tree, at, words) {
+    match chosen(alloc, pages, &tables, &tree, at, scale, words) {
         Ok(choice) => Ok(Answer::Group(choice)),
         Err(fault) => Err(fault),
     }

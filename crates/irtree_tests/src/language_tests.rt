@@ -4,7 +4,7 @@ use irtree_top::Ended;
 use std::test::Fail;
 
 // A script, and what it prints.
-static SCRIPTS: [(&[u8], &[u8]); 8] = [
+static SCRIPTS: [(&[u8], &[u8]); 10] = [
     // A place is shown with its words in their order.
     (
         b"add k 0 0 Caf\xc3\xa9 caf\xc3\xa9 bar\nshow k\nshow z\n",
@@ -39,6 +39,16 @@ static SCRIPTS: [(&[u8], &[u8]); 8] = [
     (
         b"fly\nadd\nadd #1 0 0\nadd \"\" 0 0\nadd a x 0\nadd a 181 0\nrange 0 0 5 where (a\nrange 0 0 5 where and\nremove a b\ntop 0 0 1 500 1 words a*21\n",
         b"bad command\nbad missing\nbad key\nbad key\nbad number\nbad range\nbad missing\nbad expression\nbad extra\nbad range\n",
+    ),
+    // Longitudes meet at the 180th meridian.
+    (
+        b"add e 179.9 0\nadd f -179.8 0\nnearest -179.9 0 2\n",
+        b"ok\nok\n= 2\n1 \"f\" 0.1000000\n2 \"e\" 0.2000000\n",
+    ),
+    // A scale of longitudes, and what is none.
+    (
+        b"add g 3 4\nnearest 0 0 1 scale 500\nnearest 0 0 1 scale 0\nnearest 0 0 1 scale 1001\nnearest 0 0 1 scale\nnearest 0 0 1 \"scale\" 0\nbox 0 0 5 5 scale 500\n",
+        b"ok\n= 1\n1 \"g\" 4.2720018\n= 1\n1 \"g\" 4.0000000\nbad range\nbad missing\nbad extra\nbad extra\n",
     ),
     // A key that holds a tab.
     (

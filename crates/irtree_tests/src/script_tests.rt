@@ -9,7 +9,7 @@ use split_policy::Quadratic;
 use std::test::Fail;
 
 // A script, and what it prints.
-static SCRIPTS: [(&[u8], &[u8]); 9] = [
+static SCRIPTS: [(&[u8], &[u8]); 11] = [
     (
         b"add a 0 0\nadd b 3 4\nnearest 0 0 2\n",
         b"ok\nok\n= 2\n1 \"a\" 0.0000000\n2 \"b\" 5.0000000\n",
@@ -18,7 +18,7 @@ static SCRIPTS: [(&[u8], &[u8]); 9] = [
     (b"# note\n\n  \n", b""),
     (
         b"add w -180 -90\nnearest 180 90 1\n",
-        b"ok\n= 1\n1 \"w\" 402.4922359\n",
+        b"ok\n= 1\n1 \"w\" 180.0000000\n",
     ),
     (
         b"add a 0 0\nadd b 3 4\nadd c 3 -4\nnearest 0 0 2\n",
@@ -36,6 +36,16 @@ static SCRIPTS: [(&[u8], &[u8]); 9] = [
     (
         b"nearest 0 0 1000\nnearest 0 0 0\nnearest 0 0 1001\n\n\xff\ncount",
         b"= 0\nbad range\nbad range\nbad utf8\ncount 0\n",
+    ),
+    // Longitudes meet in each query by distance, and in no box.
+    (
+        b"add e 179.9 0 a\nadd f -179.8 0 b\nrange 180 0 0.1\ntop -179.9 0 1 1000 1 words a\ngroup 179.9 0 words a b\nbox 179 -1 -179 1\nadd e 180 0\nnearest 0 0 1\n",
+        b"ok\nok\n= 1\n1 \"e\" 0.1000000\n= 1\n1 \"e\" 510000000000\n= 2 0.6000000\n1 \"a\" \"e\" 0.0000000\n2 \"b\" \"f\" 0.3000000\nbad range\nok replaced\n= 1\n1 \"f\" 179.8000000\n",
+    ),
+    // So a scale is in each of them.
+    (
+        b"add g 3 4 a\nrange 0 0 4 scale 0 where a\ntop 0 0 1 1000 1 scale 0 words a\ngroup 0 0 scale 500 words a\nrange 0 0 4 where a scale 0\ngroup 0 0 scale -1 words a\nadd g 180 0\nnearest 0 0 1\n",
+        b"ok\n= 1\n1 \"g\" 4.0000000\n= 1\n1 \"g\" 10200000000000\n= 1 4.2720018\n1 \"a\" \"g\" 4.2720018\nbad extra\nbad number\nok replaced\n= 1\n1 \"g\" 180.0000000\n",
     ),
 ];
 

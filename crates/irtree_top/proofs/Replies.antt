@@ -195,17 +195,17 @@ group-quiet explain (Some chosen) =
 
 -- an answer is quiet
 found-quiet : (explain : Bool) (query : Query) (answer : Answer) → is_quiet true (found_text explain query answer) ≡ true
-found-quiet explain (queries.Range at radius filter) (Hits hits) = hits-quiet _ (λ hit. hit-in explain hit (32 ∷ units_text hit.dist) [] (fixed-in _) refl) hits
+found-quiet explain (queries.Range at scale radius filter) (Hits hits) = hits-quiet _ (λ hit. hit-in explain hit (32 ∷ units_text hit.dist) [] (fixed-in _) refl) hits
 found-quiet explain (queries.Inside rect filter) (Hits hits) = hits-quiet _ (λ hit. hit-in explain hit [] [] refl refl) hits
-found-quiet explain (queries.Nearest at k filter) (Hits hits) = hits-quiet _ (λ hit. hit-in explain hit (32 ∷ units_text hit.dist) [] (fixed-in _) refl) hits
-found-quiet explain (queries.Top at k alpha reach words) (Hits hits) =
+found-quiet explain (queries.Nearest at scale k filter) (Hits hits) = hits-quiet _ (λ hit. hit-in explain hit (32 ∷ units_text hit.dist) [] (fixed-in _) refl) hits
+found-quiet explain (queries.Top at scale k alpha reach words) (Hits hits) =
     hits-quiet _ (λ hit. hit-in explain hit (32 ∷ decimal hit.cost) _ (decimal-in hit.cost) (why-in explain (255 * weight_sum words) hit)) hits
-found-quiet explain (queries.Group at words) (Hits hits) = refl
-found-quiet explain (queries.Group at words) (Group chosen) = group-quiet explain chosen
-found-quiet explain (queries.Range at radius filter) (Group chosen) = refl
+found-quiet explain (queries.Group at scale words) (Hits hits) = refl
+found-quiet explain (queries.Group at scale words) (Group chosen) = group-quiet explain chosen
+found-quiet explain (queries.Range at scale radius filter) (Group chosen) = refl
 found-quiet explain (queries.Inside rect filter) (Group chosen) = refl
-found-quiet explain (queries.Nearest at k filter) (Group chosen) = refl
-found-quiet explain (queries.Top at k alpha reach words) (Group chosen) = refl
+found-quiet explain (queries.Nearest at scale k filter) (Group chosen) = refl
+found-quiet explain (queries.Top at scale k alpha reach words) (Group chosen) = refl
 
 -- the lines of words are quiet
 words-quiet : (words : List (List ℕ × ℕ)) → is_quiet true (flat_map word_line words) ≡ true

@@ -6,7 +6,7 @@
 use disk_model::Station;
 use irtree_engine::{Engine, EngineFault};
 use place_values::{Answer, Query};
-use spatial_base::Point;
+use spatial_base::{Point, SCALE_MAX};
 use split_policy::SplitPolicy;
 use std::alloc::Global;
 
@@ -21,6 +21,7 @@ pub fn ten_nearest<S: Station>(
 ) -> Result<Answer, EngineFault> {
     let nearest = Query::Nearest {
         at: point,
+        scale: SCALE_MAX,
         k: 10,
         filter: None,
     };

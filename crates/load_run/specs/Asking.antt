@@ -15,9 +15,10 @@ use Rattle.load_run.specs.declared.found.Found.{Found}
 abbrev pub queries_of : ℕ → ℕ
 queries_of count = min count 100
 
--- The query for a place: the ten places of least cost from its point, by the word `place` and, twice as heavy, by its own word of the kind a.
+-- The query for a place: the ten places of least cost from its point, by the word `place` and, twice as heavy, by its own word of the kind a,
+-- with the scale 1000.
 unfoldable pub query_for : Place → Query
-query_for place = Top place.point 10 500 10000000 ((codes "place", 1) ∷ (codes "a" ++ decimal place.first, 2) ∷ [])
+query_for place = Top place.point 1000 10 500 10000000 ((codes "place", 1) ∷ (codes "a" ++ decimal place.first, 2) ∷ [])
 
 -- the hits of an answer
 abbrev pub hits_in : Answer → List Hit

@@ -7,7 +7,7 @@ ghost use Rattle.load_run.specs.Asking as spec;
 use crate::found::HITS_MAX;
 use place_generator::Made;
 use place_values::{Query, Weights};
-use spatial_base::Memory;
+use spatial_base::{Memory, SCALE_MAX};
 use std::alloc::Global;
 use term_impacts::{WORD_MAX, Word};
 
@@ -43,7 +43,8 @@ fn own_word(alloc: Global, number: u8) -> Result<Word, Memory>
     }
 }
 
-/// The query for a place: ten hits, by the word `place` and by the place's own word of the kind a, which weighs twice as much.
+/// The query for a place: ten hits, by the word `place` and by the place's own word of the kind a, which weighs twice as much. Longitudes
+/// count in full.
 ///
 /// Fails only if it runs out of memory.
 #[tactic(auto, unfolding(crate::specs::Asking::query_for))]
@@ -58,6 +59,7 @@ pub(crate) fn query_for(alloc: Global, made: &Made) -> Result<Query, Memory>
     };
     Ok(Query::Top {
         at: made.point,
+        scale: SCALE_MAX,
         k: HITS_MAX,
         alpha: ALPHA,
         reach: REACH,

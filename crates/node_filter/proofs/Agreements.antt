@@ -4,7 +4,7 @@ use Rattle.std.proofs.lemmas.Bool.Decides.{nat_tests}
 use Rattle.std.proofs.lemmas.Int.{ints, clamps}
 use Rattle.std.proofs.lemmas.List.Sums.{sum_by-cons}
 use Rattle.spatial_base.specs.Key.{Name, IsName, form_of}
-use Rattle.spatial_base.specs.Point.{Position, IsOnMap, distance}
+use Rattle.spatial_base.specs.Point.{Position, IsOnMap, Viewpoint, distance}
 use Rattle.spatial_base.specs.Rect.{Bounds, holds_point}
 use Rattle.term_impacts.specs.Pairs.{impact_in}
 use Rattle.place_values.specs.declared.place.Place.{Place}
@@ -85,10 +85,10 @@ point-back f p key on =
     λ i. record { x = x i; y = y i }
 
 -- a hit by what the distance and the relevance cost
-abbrev hit_with : (ℕ → ℕ → ℕ) → Position → Position → Name → ℕ → Hit
+abbrev hit_with : (ℕ → ℕ → ℕ) → Viewpoint → Position → Name → ℕ → Hit
 hit_with cost at p m s = record { cost = cost (distance at p) s; key = m; dist = distance at p; text = s; point = p }
 
-hit-same : (cost : ℕ → ℕ → ℕ) (at : Position) (p q : Position) (m n : Name) (s t : ℕ) → p ≡ q → m ≡ n → s ≡ t → hit_with cost at p m s ≡ hit_with cost at q n t
+hit-same : (cost : ℕ → ℕ → ℕ) (at : Viewpoint) (p q : Position) (m n : Name) (s t : ℕ) → p ≡ q → m ≡ n → s ≡ t → hit_with cost at p m s ≡ hit_with cost at q n t
 hit-same cost at p q m n s t e k r = λ i. record { cost = cost (distance at (e i)) (r i); key = k i; dist = distance at (e i); text = r i; point = e i }
 
 chosen : (a b : Bool) (x y : Hit) → a ≡ b → x ≡ y → (if a then x ∷ [] else []) ≡ (if b then y ∷ [] else [])
@@ -96,7 +96,7 @@ chosen a b x y e k = ap (λ (t : Bool). if t then x ∷ [] else []) e ∙ ap (λ
 
 module _ (ids : Numbers) (f : ℕ → ℕ) (key : Name) (place : Place) (named_so : IsName key) (on : IsOnMap place.point.x place.point.y) where
   -- to a nearest query
-  pub near-agrees : (at : Position) (filter : Option Expr) → AgreeBy (impact_of ids (worded f (place_item place.point (form_of key)))) (impact_in place.words) filter
+  pub near-agrees : (at : Viewpoint) (filter : Option Expr) → AgreeBy (impact_of ids (worded f (place_item place.point (form_of key)))) (impact_in place.words) filter
       → near_item ids at filter (worded f (place_item place.point (form_of key))) ≡ near_hits at filter (key, place)
   near-agrees at filter e =
       let x : Item = worded f (place_item place.point (form_of key)) in
@@ -104,7 +104,7 @@ module _ (ids : Numbers) (f : ℕ → ℕ) (key : Name) (place : Place) (named_s
       (hit-same (λ d s. d) at (point_of x) place.point (name_of x) key 0 0 (point-back f place.point (form_of key) on) (named key named_so) refl)
 
   -- to a range query
-  pub range-agrees : (at : Position) (radius : ℕ) (filter : Option Expr) → AgreeBy (impact_of ids (worded f (place_item place.point (form_of key)))) (impact_in place.words) filter
+  pub range-agrees : (at : Viewpoint) (radius : ℕ) (filter : Option Expr) → AgreeBy (impact_of ids (worded f (place_item place.point (form_of key)))) (impact_in place.words) filter
       → range_item ids at radius filter (worded f (place_item place.point (form_of key))) ≡ range_hits at radius filter (key, place)
   range-agrees at radius filter e =
       let x : Item = worded f (place_item place.point (form_of key)) in
@@ -125,7 +125,7 @@ module _ (ids : Numbers) (f : ℕ → ℕ) (key : Name) (place : Place) (named_s
       (λ i. record { cost = 0; key = n i; dist = 0; text = 0; point = p i })
 
   -- to a top query
-  pub top-agrees : (at : Position) (alpha reach : ℕ) (words : Weighted) → AgreeWeighed (impact_of ids (worded f (place_item place.point (form_of key)))) (impact_in place.words) words
+  pub top-agrees : (at : Viewpoint) (alpha reach : ℕ) (words : Weighted) → AgreeWeighed (impact_of ids (worded f (place_item place.point (form_of key)))) (impact_in place.words) words
       → top_item ids at alpha reach words (worded f (place_item place.point (form_of key))) ≡ top_hits at alpha reach words (key, place)
   top-agrees at alpha reach words e =
       let x : Item = worded f (place_item place.point (form_of key)) in

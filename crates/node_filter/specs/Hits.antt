@@ -1,6 +1,6 @@
 -- What an entry of a tree gives to a query, as the places of a map do.
 use Rattle.std.specs.Prelude.{ℕ, ◌&&◌, nat_le, if◌then◌else◌, Bool, List, [], ◌∷◌, Option}
-use Rattle.spatial_base.specs.Point.{Position, distance}
+use Rattle.spatial_base.specs.Point.{Viewpoint, distance}
 use Rattle.spatial_base.specs.Rect.{Bounds, holds_point}
 use Rattle.rtree_nodes.specs.Slots.{Item}
 use Rattle.place_values.specs.declared.hit.Hit.{Hit}
@@ -19,7 +19,7 @@ abbrev pub relevance_of : Numbers → Weighted → Item → ℕ
 relevance_of ids words x = relevance_by (impact_of ids x) words
 
 -- the hit of a place whose cost is its distance
-abbrev pub hit_near : Position → Item → Hit
+abbrev pub hit_near : Viewpoint → Item → Hit
 hit_near at x = record {
   cost = distance at (point_of x);
   key = name_of x;
@@ -33,7 +33,7 @@ abbrev pub hit_in_box : Item → Hit
 hit_in_box x = record { cost = 0; key = name_of x; dist = 0; text = 0; point = point_of x }
 
 -- the hit of a place by its distance and its relevance
-abbrev pub hit_of_top : Numbers → Position → ℕ → ℕ → Weighted → Item → Hit
+abbrev pub hit_of_top : Numbers → Viewpoint → ℕ → ℕ → Weighted → Item → Hit
 hit_of_top ids at alpha reach words x = record {
   cost = top_cost alpha reach (weight_sum words) (distance at (point_of x)) (relevance_of ids words x);
   key = name_of x;
@@ -43,11 +43,11 @@ hit_of_top ids at alpha reach words x = record {
 }
 
 -- what a place's item gives to a nearest query: its hit where it passes the filter
-abbrev pub near_item : Numbers → Position → Option Expr → Item → List Hit
+abbrev pub near_item : Numbers → Viewpoint → Option Expr → Item → List Hit
 near_item ids at filter x = if passes_item ids filter x then hit_near at x ∷ [] else []
 
 -- to a range query: the same at most so far away
-abbrev pub range_item : Numbers → Position → ℕ → Option Expr → Item → List Hit
+abbrev pub range_item : Numbers → Viewpoint → ℕ → Option Expr → Item → List Hit
 range_item ids at radius filter x = if nat_le (distance at (point_of x)) radius && passes_item ids filter x then hit_near at x ∷ [] else []
 
 -- to a box query: its hit without a cost where it is in the rectangle and passes the filter
@@ -55,5 +55,5 @@ abbrev pub box_item : Numbers → Bounds → Option Expr → Item → List Hit
 box_item ids rect filter x = if holds_point rect (point_of x) && passes_item ids filter x then hit_in_box x ∷ [] else []
 
 -- to a top query: its hit where it holds one of the words
-abbrev pub top_item : Numbers → Position → ℕ → ℕ → Weighted → Item → List Hit
+abbrev pub top_item : Numbers → Viewpoint → ℕ → ℕ → Weighted → Item → List Hit
 top_item ids at alpha reach words x = if holds_by (impact_of ids x) words then hit_of_top ids at alpha reach words x ∷ [] else []

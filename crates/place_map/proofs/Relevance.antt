@@ -4,7 +4,7 @@ use Rattle.std.proofs.lemmas.Bool.{lt-ltb}
 use Rattle.std.proofs.lemmas.List.Elements.{All-head, All-tail}
 use Rattle.std.proofs.lemmas.List.Sums.{sum_by-cons}
 use Rattle.spatial_base.specs.Key.{Name}
-use Rattle.spatial_base.specs.Point.{Position, distance}
+use Rattle.spatial_base.specs.Point.{Viewpoint, distance}
 use Rattle.term_impacts.specs.Pairs.{impact_in}
 use Rattle.place_values.specs.declared.place.Place.{Place}
 use Rattle.place_values.specs.Filter.{has_word}
@@ -37,7 +37,7 @@ above_none : (n : ℕ) → (n ≡ 0 → ⊥) → nat_lt 0 n ≡ true
 above_none zero some = absurd (some refl)
 above_none (suc n) some = lt-ltb 0 (suc n) (omega arith)
 
-module _ (at : Position) (alpha reach : ℕ) (words : Weighted) (entry : Name × Place) (weights : All IsWeight words) where
+module _ (at : Viewpoint) (alpha reach : ℕ) (words : Weighted) (entry : Name × Place) (weights : All IsWeight words) where
   -- a place of no relevance gives nothing to a top query
   pub irrelevant : relevance words entry.1 ≡ 0 → top_hits at alpha reach words entry ≡ []
   irrelevant none =

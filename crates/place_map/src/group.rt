@@ -1,12 +1,12 @@
 // Finds the least choice of a place for each word.
 ghost use Rattle.std.specs.Prelude.{◌≡◌, ◌++◌, ◌∷◌, [], if◌then◌else◌, true, List, map, OnOk, IfOk};
-ghost use Rattle.spatial_base.specs.Point.{Position};
+ghost use Rattle.spatial_base.specs.Point.{Viewpoint};
 ghost use Rattle.place_values.specs.declared.query.Pick.{Pick};
 ghost use Rattle.place_values.specs.Group.{picks_for, product, choice_cost, least_of, group_of};
 ghost use Rattle.place_values.specs.Search.{lists_in, fronted};
 
 use place_values::{Chosen, Pick, Picks, Place, choice_order, cost_of_choice};
-use spatial_base::{Key, Point, dist};
+use spatial_base::{Key, Origin};
 use std::alloc::{AllocError, Global};
 use std::collections::BTreeMap;
 use term_impacts::Word;
@@ -15,7 +15,7 @@ use term_impacts::Word;
 fn picks_of(
     alloc: Global,
     places: &BTreeMap<Key, Place>,
-    at: &Point,
+    at: &Origin,
     word: &Word,
 ) -> Result<Vec<Pick>, AllocError>
     ensures { IfOk result (λ picks. picks.items ≡ picks_for places.now.entries at.now word.now) }
@@ -26,7 +26,7 @@ fn picks_of(
             picks.push(Pick {
                 key: *key,
                 word: *word,
-                dist: dist(at, &place.point),
+                dist: at.dist(&place.point),
                 point: place.point,
             })?;
         }
@@ -38,7 +38,7 @@ fn picks_of(
 fn picks_of_each(
     alloc: Global,
     places: &BTreeMap<Key, Place>,
-    at: &Point,
+    at: &Origin,
     words: &[Word],
 ) -> Result<Vec<Vec<Pick>>, AllocError>
     ensures { IfOk result (λ lists. lists_in lists.items ≡ map (picks_for places.now.entries at.now) words.now) }
@@ -53,7 +53,7 @@ fn picks_of_each(
 
 // Whether no choice that begins with these picks is better than the best one.
 fn is_hopeless(front: &[Pick], cost: u64, best: &Option<Chosen>) -> bool
-    ensures { result ≡ true → (at : Position) → cost ≡ choice_cost at front.now → (tried rest : List (List Pick)) → best.now ≡ least_of at tried → best.now ≡ least_of at (tried ++ fronted front.now rest) }
+    ensures { result ≡ true → (at : Viewpoint) → cost ≡ choice_cost at front.now → (tried rest : List (List Pick)) → best.now ≡ least_of at tried → best.now ≡ least_of at (tried ++ fronted front.now rest) }
 {
     match best {
         Some(best) => choice_order(front, cost, best).is_gt(),
@@ -63,7 +63,7 @@ fn is_hopeless(front: &[Pick], cost: u64, best: &Option<Chosen>) -> bool
 
 // Whether a choice is better than the best one.
 fn is_better(picks: &[Pick], cost: u64, best: &Option<Chosen>) -> bool
-    ensures { (at : Position) → cost ≡ choice_cost at picks.now → (tried : List (List Pick)) → best.now ≡ least_of at tried → least_of at (tried ++ picks.now ∷ []) ≡ (if result then Some record { cost = cost; picks = picks.now } else best.now) }
+    ensures { (at : Viewpoint) → cost ≡ choice_cost at picks.now → (tried : List (List Pick)) → best.now ≡ least_of at tried → least_of at (tried ++ picks.now ∷ []) ≡ (if result then Some record { cost = cost; picks = picks.now } else best.now) }
 {
     match best {
         Some(best) => choice_order(picks, cost, best).is_lt(),
@@ -78,7 +78,7 @@ fn offer(
     cost: u64,
     best: &mut Option<Chosen>,
 ) -> Result<(), AllocError>
-    ensures { OnOk result ((at : Position) → cost ≡ choice_cost at picks.now → (tried : List (List Pick)) → best.old ≡ least_of at tried → best.new ≡ least_of at (tried ++ picks.now ∷ [])) }
+    ensures { OnOk result ((at : Viewpoint) → cost ≡ choice_cost at picks.now → (tried : List (List Pick)) → best.old ≡ least_of at tried → best.new ≡ least_of at (tried ++ picks.now ∷ [])) }
 {
     if is_better(picks, cost, &*best) {
         let picks = Picks::from_vec(Vec::from_slice(alloc, picks)?);
@@ -91,7 +91,7 @@ fn offer(
 // choice, all of them are skipped: what completes a choice never makes it come earlier.
 fn extend(
     alloc: Global,
-    at: &Point,
+    at: &Origin,
     lists: &[Vec<Pick>],
     front: &mut Vec<Pick>,
     best: &mut Option<Chosen>,
@@ -118,7 +118,7 @@ fn extend(
 pub(crate) fn least_group(
     alloc: Global,
     places: &BTreeMap<Key, Place>,
-    at: &Point,
+    at: &Origin,
     words: &[Word],
 ) -> Result<Option<Chosen>, AllocError>
     ensures { IfOk result (λ chosen. chosen ≡ group_of places.now.entries at.now words.now) }

@@ -3,21 +3,21 @@ ghost use Rattle.std.specs.Prelude.{◌≡◌, IfOk};
 ghost use Rattle.std.specs.List.{flat_map};
 ghost use Rattle.place_values.specs.First.{ranked, first};
 ghost use Rattle.place_values.specs.Hit.{comes_before, listed};
-ghost use Rattle.place_values.specs.Query.{IsWithinLimits, IsScale, IsWeights};
+ghost use Rattle.place_values.specs.Query.{IsWithinLimits, IsBlend, IsWeights};
 ghost use Rattle.place_values.specs.Answer.{near_hit, near_hits, range_hits, box_hits, top_hits, hits_of};
 
 use place_values::{Expr, Hit, Place, Query, cost_of, keep, relevance_of, sum_of_weights};
-use spatial_base::{Key, Point, Rect, dist};
+use spatial_base::{Key, Origin, Rect};
 use std::alloc::{AllocError, Global};
 use std::collections::BTreeMap;
 use term_impacts::Word;
 
 // The hit of a place whose cost is its distance.
 #[inline(always)]
-fn hit_at(at: &Point, key: &Key, place: &Place) -> Hit
+fn hit_at(at: &Origin, key: &Key, place: &Place) -> Hit
     ensures { result ≡ near_hit at.now (key.now, place.now) }
 {
-    let dist = dist(at, &place.point);
+    let dist = at.dist(&place.point);
     Hit {
         cost: dist,
         key: *key,
@@ -29,7 +29,7 @@ fn hit_at(at: &Point, key: &Key, place: &Place) -> Hit
 
 // The hit of a place in a nearest query, if the place passes its filter.
 #[inline(always)]
-fn hit_near(at: &Point, filter: &Option<Expr>, key: &Key, place: &Place) -> Option<Hit>
+fn hit_near(at: &Origin, filter: &Option<Expr>, key: &Key, place: &Place) -> Option<Hit>
     ensures { listed result ≡ near_hits at.now filter.now (key.now, place.now) }
 {
     if place.passes(filter) {
@@ -42,7 +42,7 @@ fn hit_near(at: &Point, filter: &Option<Expr>, key: &Key, place: &Place) -> Opti
 // The same if the place is also within `radius` of the point.
 #[inline(always)]
 fn hit_in_range(
-    at: &Point,
+    at: &Origin,
     radius: u64,
     filter: &Option<Expr>,
     key: &Key,
@@ -50,7 +50,7 @@ fn hit_in_range(
 ) -> Option<Hit>
     ensures { listed result ≡ range_hits at.now radius filter.now (key.now, place.now) }
 {
-    if dist(at, &place.point) <= radius && place.passes(filter) {
+    if at.dist(&place.point) <= radius && place.passes(filter) {
         Some(hit_at(at, key, place))
     } else {
         None
@@ -78,14 +78,14 @@ fn hit_in_box(rect: &Rect, filter: &Option<Expr>, key: &Key, place: &Place) -> O
 // The hit of a place that has at least one of a top query's words.
 #[inline(always)]
 fn hit_of_top(
-    at: &Point,
+    at: &Origin,
     alpha: u16,
     reach: u64,
     words: &[(Word, u8)],
     key: &Key,
     place: &Place,
 ) -> Option<Hit>
-    requires scale { IsScale alpha reach }
+    requires blend { IsBlend alpha reach }
     requires words { IsWeights words.now }
     ensures { listed result ≡ top_hits at.now alpha reach words.now (key.now, place.now) }
 {
@@ -93,7 +93,7 @@ fn hit_of_top(
     if text == 0 {
         return None;
     }
-    let dist = dist(at, &place.point);
+    let dist = at.dist(&place.point);
     Some(Hit {
         cost: cost_of(alpha, reach, sum_of_weights(words), dist, text),
         key: *key,
@@ -110,17 +110,35 @@ fn hit_of(query: &Query, key: &Key, place: &Place) -> Option<Hit>
     ensures { listed result ≡ hits_of query.now (key.now, place.now) }
 {
     match query {
-        Query::Range { at, radius, filter } => hit_in_range(at, *radius, filter, key, place),
+        Query::Range {
+            at,
+            scale,
+            radius,
+            filter,
+        } => hit_in_range(&Origin::at(*at, *scale), *radius, filter, key, place),
         Query::Inside { rect, filter } => hit_in_box(rect, filter, key, place),
-        Query::Nearest { at, k: _, filter } => hit_near(at, filter, key, place),
+        Query::Nearest {
+            at,
+            scale,
+            k: _,
+            filter,
+        } => hit_near(&Origin::at(*at, *scale), filter, key, place),
         Query::Top {
             at,
+            scale,
             k: _,
             alpha,
             reach,
             words,
-        } => hit_of_top(at, *alpha, *reach, words.as_slice(), key, place),
-        Query::Group { at: _, words: _ } => None,
+        } => hit_of_top(
+            &Origin::at(*at, *scale),
+            *alpha,
+            *reach,
+            words.as_slice(),
+            key,
+            place,
+        ),
+        Query::Group { .. } => None,
     }
 }
 

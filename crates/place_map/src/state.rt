@@ -18,7 +18,7 @@ use crate::scan::{all_hits, first_hits};
 use place_values::{
     Answer, Applied, Hits, NUMBER_MAX, PLACES_MAX, Place, Query, Update, UpdateFault,
 };
-use spatial_base::{Key, Memory, Point};
+use spatial_base::{Key, Memory, Origin, Point};
 use std::alloc::Global;
 use std::collections::BTreeMap;
 use std::marker::Model;
@@ -212,8 +212,9 @@ impl State {
         match query {
             Query::Range { .. } | Query::Inside { .. } => self.all_hits(query),
             Query::Nearest { k, .. } | Query::Top { k, .. } => self.first_hits(query, *k),
-            Query::Group { at, words } => {
-                let chosen = least_group(self.alloc, &self.places, at, words.as_slice()).map_err(
+            Query::Group { at, scale, words } => {
+                let at = Origin::at(*at, *scale);
+                let chosen = least_group(self.alloc, &self.places, &at, words.as_slice()).map_err(
                     |_| Memory,
                 )?;
                 Ok(Answer::Group(chosen))

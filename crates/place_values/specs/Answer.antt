@@ -2,7 +2,7 @@
 use Rattle.std.specs.Prelude.{ℕ, ◌&&◌, nat_le, if◌then◌else◌, List, [], ◌∷◌, Option}
 use Rattle.std.specs.List.{flat_map}
 use Rattle.spatial_base.specs.Key.{Name}
-use Rattle.spatial_base.specs.Point.{Position, distance}
+use Rattle.spatial_base.specs.Point.{Viewpoint, seen_from, distance}
 use Rattle.spatial_base.specs.Rect.{Bounds, holds_point}
 use Rattle.place_values.specs.First.{ranked, first}
 use Rattle.place_values.specs.declared.place.Place.{Place}
@@ -19,7 +19,7 @@ use Rattle.place_values.specs.Group.{group_of}
 use Rattle.place_values.specs.State.{Contents}
 
 -- the hit of a place whose cost is its distance
-abbrev pub near_hit : Position → Name × Place → Hit
+abbrev pub near_hit : Viewpoint → Name × Place → Hit
 near_hit at entry = record {
   cost = distance at entry.1.point;
   key = entry.0;
@@ -29,11 +29,11 @@ near_hit at entry = record {
 }
 
 -- what a place gives to a nearest query: its hit where it passes the filter
-abbrev pub near_hits : Position → Option Expr → Name × Place → List Hit
+abbrev pub near_hits : Viewpoint → Option Expr → Name × Place → List Hit
 near_hits at filter entry = if passes filter entry.1 then near_hit at entry ∷ [] else []
 
 -- to a range query: the same at most so far away
-abbrev pub range_hits : Position → ℕ → Option Expr → Name × Place → List Hit
+abbrev pub range_hits : Viewpoint → ℕ → Option Expr → Name × Place → List Hit
 range_hits at radius filter entry =
     if nat_le (distance at entry.1.point) radius && passes filter entry.1 then near_hit at entry ∷ [] else []
 
@@ -45,7 +45,7 @@ box_hits rect filter entry =
     else []
 
 -- to a top query: its hit where it holds one of the words
-abbrev pub top_hits : Position → ℕ → ℕ → Weighted → Name × Place → List Hit
+abbrev pub top_hits : Viewpoint → ℕ → ℕ → Weighted → Name × Place → List Hit
 top_hits at alpha reach words entry =
     if holds_some words entry.1
     then record {
@@ -59,16 +59,18 @@ top_hits at alpha reach words entry =
 
 -- what a place gives to a query; a group query has no hits
 abbrev pub hits_of : Query → Name × Place → List Hit
-hits_of (Range at radius filter) = range_hits at radius filter
+hits_of (Range at scale radius filter) = range_hits (seen_from at scale) radius filter
 hits_of (Inside rect filter) = box_hits rect filter
-hits_of (Nearest at k filter) = near_hits at filter
-hits_of (Top at k alpha reach words) = top_hits at alpha reach words
-hits_of (Group at words) = λ entry. []
+hits_of (Nearest at scale k filter) = near_hits (seen_from at scale) filter
+hits_of (Top at scale k alpha reach words) = top_hits (seen_from at scale) alpha reach words
+hits_of (Group at scale words) = λ entry. []
 
--- the answer to a query over all places
+-- the answer to a query over all places: each distance is measured with the query's scale
 abbrev pub answer_of : Contents → Query → Answer
-answer_of state (Range at radius filter) = answers.Hits (ranked comes_before (flat_map (range_hits at radius filter) state.places))
+answer_of state (Range at scale radius filter) =
+    answers.Hits (ranked comes_before (flat_map (range_hits (seen_from at scale) radius filter) state.places))
 answer_of state (Inside rect filter) = answers.Hits (ranked comes_before (flat_map (box_hits rect filter) state.places))
-answer_of state (Nearest at k filter) = answers.Hits (first comes_before k (flat_map (near_hits at filter) state.places))
-answer_of state (Top at k alpha reach words) = answers.Hits (first comes_before k (flat_map (top_hits at alpha reach words) state.places))
-answer_of state (Group at words) = answers.Group (group_of state.places at words)
+answer_of state (Nearest at scale k filter) = answers.Hits (first comes_before k (flat_map (near_hits (seen_from at scale) filter) state.places))
+answer_of state (Top at scale k alpha reach words) =
+    answers.Hits (first comes_before k (flat_map (top_hits (seen_from at scale) alpha reach words) state.places))
+answer_of state (Group at scale words) = answers.Group (group_of state.places (seen_from at scale) words)

@@ -6,7 +6,7 @@ use Rattle.std.specs.declared.cmp.Ordering.{Ordering}
 use Rattle.std.specs.Cmp.Lexicographic.{slice_cmp}
 use Rattle.std.specs.Ordering.{nat_cmp, int_cmp, is_lt, on, then_cmp}
 use Rattle.spatial_base.specs.Key.{Name, key_cmp}
-use Rattle.spatial_base.specs.Point.{Position, distance}
+use Rattle.spatial_base.specs.Point.{Viewpoint, seen_from, distance}
 use Rattle.place_values.specs.First.{first}
 use Rattle.place_values.specs.declared.place.Place.{Place}
 use Rattle.place_values.specs.declared.query.Pick.{Pick}
@@ -15,15 +15,15 @@ use Rattle.place_values.specs.Filter.{has_word}
 use Rattle.place_values.specs.State.{Places}
 
 -- a place as the pick for a word
-abbrev pub pick_of : Position → List ℕ → Name × Place → Pick
+abbrev pub pick_of : Viewpoint → List ℕ → Name × Place → Pick
 pick_of at word entry = record { key = entry.0; word = word; dist = distance at entry.1.point; point = entry.1.point }
 
 -- what a place gives to a word: its pick where it holds the word
-abbrev pub word_picks : Position → List ℕ → Name × Place → List Pick
+abbrev pub word_picks : Viewpoint → List ℕ → Name × Place → List Pick
 word_picks at word entry = if has_word entry.1 word then pick_of at word entry ∷ [] else []
 
 -- the picks for a word
-abbrev pub picks_for : Places → Position → List ℕ → List Pick
+abbrev pub picks_for : Places → Viewpoint → List ℕ → List Pick
 picks_for places at word = flat_map (word_picks at word) places
 
 -- all lists of one member of each list, in the lists' order
@@ -32,21 +32,21 @@ product [] = [] ∷ []
 product (xs ∷ rest) = flat_map (λ x. map (λ others. x ∷ others) (product rest)) xs
 
 -- all choices: a pick for each word, in the words' order
-abbrev pub choices : Places → Position → List (List ℕ) → List (List Pick)
+abbrev pub choices : Places → Viewpoint → List (List ℕ) → List (List Pick)
 choices places at words = product (map (picks_for places at) words)
 
--- the greatest distance from a point to a pick
-abbrev pub farthest : Position → List Pick → ℕ
-farthest point picks = fold (λ most (pick : Pick). max most (distance point pick.point)) 0 picks
+-- the greatest distance to a pick
+abbrev pub farthest : Viewpoint → List Pick → ℕ
+farthest from picks = fold (λ most (pick : Pick). max most (distance from pick.point)) 0 picks
 
--- the greatest distance between two picks
-abbrev pub diameter : List Pick → ℕ
-diameter [] = 0
-diameter (pick ∷ others) = max (farthest pick.point others) (diameter others)
+-- the greatest distance between two picks, with a scale of longitudes
+abbrev pub diameter : ℕ → List Pick → ℕ
+diameter scale [] = 0
+diameter scale (pick ∷ others) = max (farthest (seen_from pick.point scale) others) (diameter scale others)
 
 -- what a choice costs
-abbrev pub choice_cost : Position → List Pick → ℕ
-choice_cost at picks = farthest at picks + diameter picks
+abbrev pub choice_cost : Viewpoint → List Pick → ℕ
+choice_cost at picks = farthest at picks + diameter at.scale picks
 
 -- by key, then by all else
 abbrev pub pick_cmp : Pick → Pick → Ordering
@@ -57,22 +57,22 @@ pick_cmp =
     (then_cmp (on (λ (p : Pick). p.point.x) int_cmp) (on (λ (p : Pick). p.point.y) int_cmp))))
 
 -- by cost, then by the keys in the words' order
-abbrev pub choice_cmp : Position → List Pick → List Pick → Ordering
+abbrev pub choice_cmp : Viewpoint → List Pick → List Pick → Ordering
 choice_cmp at = then_cmp (on (choice_cost at) nat_cmp) (slice_cmp pick_cmp)
 
 -- a choice comes before another
-abbrev pub is_cheaper : Position → List Pick → List Pick → Bool
+abbrev pub is_cheaper : Viewpoint → List Pick → List Pick → Bool
 is_cheaper at a b = is_lt (choice_cmp at a b)
 
 -- the first of some choices, with its cost
-abbrev pub head_of : Position → List (List Pick) → Option Chosen
+abbrev pub head_of : Viewpoint → List (List Pick) → Option Chosen
 head_of at [] = None
 head_of at (picks ∷ others) = Some record { cost = choice_cost at picks; picks = picks }
 
 -- the least of some choices, where there is one
-abbrev pub least_of : Position → List (List Pick) → Option Chosen
+abbrev pub least_of : Viewpoint → List (List Pick) → Option Chosen
 least_of at choices = head_of at (first (is_cheaper at) 1 choices)
 
 -- the answer to a group query: the least of all choices
-abbrev pub group_of : Places → Position → List (List ℕ) → Option Chosen
+abbrev pub group_of : Places → Viewpoint → List (List ℕ) → Option Chosen
 group_of places at words = least_of at (choices places at words)

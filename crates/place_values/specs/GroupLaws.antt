@@ -15,7 +15,7 @@ use Rattle.std.proofs.Math.Seq.{take-append_seam}
 use Rattle.std.specs.declared.alloc.Global.{Global}
 use Rattle.std.proofs.lemmas.List.Sums.{fold-append}
 use Rattle.spatial_base.specs.Key.{key_cmp, key_cmp_total, key_cmp_same, both_tie}
-use Rattle.spatial_base.specs.Point.{Position, distance}
+use Rattle.spatial_base.specs.Point.{Viewpoint, seen_from, distance}
 use Rattle.place_values.specs.First.{IsLinear, placed, first}
 use Rattle.place_values.specs.Laws.{linear_from_total, first_push}
 use Rattle.place_values.specs.declared.query.Pick.{Pick}
@@ -48,28 +48,28 @@ pick_cmp_same x y h =
     λ i. record { key = p i; word = q i; dist = r i; point = record { x = s i; y = t i } }
 
 -- choices have one order
-pub choices_linear : (at : Position) → IsLinear (is_cheaper at)
+pub choices_linear : (at : Viewpoint) → IsLinear (is_cheaper at)
 choices_linear at =
     linear_from_total
     (then_total (on_total (choice_cost at) nat_cmp_total) (lists_total pick_cmp_total))
     (λ a b e. slice_cmp-IsAntisymmetric pick_cmp_same a b (both_tie (nat_cmp (choice_cost at a) (choice_cost at b)) (slice_cmp pick_cmp a b) e).1)
 
 -- a choice with its cost
-abbrev costed : Position → List Pick → Chosen
+abbrev costed : Viewpoint → List Pick → Chosen
 costed at picks = record { cost = choice_cost at picks; picks = picks }
 
 -- the better of a choice and the best so far
-abbrev pub better_of : Position → List Pick → Option Chosen → Option Chosen
+abbrev pub better_of : Viewpoint → List Pick → Option Chosen → Option Chosen
 better_of at picks None = Some (costed at picks)
 better_of at picks (Some best) = cond (is_cheaper at picks best.picks) (Some (costed at picks)) (Some best)
 
-placed_go : (at : Position) (picks x : List Pick) (a b : Bool) → is_cheaper at x picks ≡ a → is_cheaper at picks x ≡ b → cond a (Some (costed at x)) (Some (costed at picks)) ≡ cond b (Some (costed at picks)) (Some (costed at x))
+placed_go : (at : Viewpoint) (picks x : List Pick) (a b : Bool) → is_cheaper at x picks ≡ a → is_cheaper at picks x ≡ b → cond a (Some (costed at x)) (Some (costed at picks)) ≡ cond b (Some (costed at picks)) (Some (costed at x))
 placed_go at picks x true true p q = absurd (false≢true (sym ((choices_linear at).one_way x picks p) ∙ q))
 placed_go at picks x true false p q = refl
 placed_go at picks x false true p q = refl
 placed_go at picks x false false p q = ap (λ c. Some (costed at c)) ((choices_linear at).same picks x q p)
 
-head_placed : (at : Position) (picks : List Pick) (xs : List (List Pick)) → head_of at (take 1 (placed (is_cheaper at) picks xs)) ≡ better_of at picks (head_of at xs)
+head_placed : (at : Viewpoint) (picks : List Pick) (xs : List (List Pick)) → head_of at (take 1 (placed (is_cheaper at) picks xs)) ≡ better_of at picks (head_of at xs)
 head_placed at picks [] = refl
 head_placed at picks (x ∷ xs) = heads (is_cheaper at x picks) refl ∙ placed_go at picks x _ _ refl refl
   where
@@ -78,12 +78,12 @@ head_placed at picks (x ∷ xs) = heads (is_cheaper at x picks) refl ∙ placed_
     heads false p = rw p refl
 
 -- one more choice
-pub least_push : (at : Position) (tried : List (List Pick)) (picks : List Pick) → least_of at (tried ++ picks ∷ []) ≡ better_of at picks (least_of at tried)
+pub least_push : (at : Viewpoint) (tried : List (List Pick)) (picks : List Pick) → least_of at (tried ++ picks ∷ []) ≡ better_of at picks (least_of at tried)
 least_push at tried picks =
     ap (head_of at) (first_push (choices_linear at) 1 tried picks) ∙ head_placed at picks (first (is_cheaper at) 1 tried)
 
 -- choices that aren't better change nothing
-pub least_kept : (at : Position) (tried more : List (List Pick)) (best : Chosen) → least_of at tried ≡ Some best → AllByRecursion (λ picks. is_cheaper at picks best.picks ≡ false) more → least_of at (tried ++ more) ≡ Some best
+pub least_kept : (at : Viewpoint) (tried more : List (List Pick)) (best : Chosen) → least_of at tried ≡ Some best → AllByRecursion (λ picks. is_cheaper at picks best.picks ≡ false) more → least_of at (tried ++ more) ≡ Some best
 least_kept at tried [] best is h = ap (least_of at) (append-nil tried) ∙ is
 least_kept at tried (picks ∷ more) best is h =
     let pushed : least_of at (tried ++ picks ∷ []) ≡ Some best =
@@ -91,7 +91,7 @@ least_kept at tried (picks ∷ more) best is h =
     ap (least_of at) (sym (append_assoc tried (picks ∷ []) more)) ∙ least_kept at (tried ++ picks ∷ []) more best pushed h.1
 
 -- the least choice has its own cost
-pub least_cost : (at : Position) (tried : List (List Pick)) (best : Chosen) → least_of at tried ≡ Some best → best.cost ≡ choice_cost at best.picks
+pub least_cost : (at : Viewpoint) (tried : List (List Pick)) (best : Chosen) → least_of at tried ≡ Some best → best.cost ≡ choice_cost at best.picks
 least_cost at tried best is = head_cost (first (is_cheaper at) 1 tried) is
   where
     head_cost : (xs : List (List Pick)) → head_of at xs ≡ Some best → best.cost ≡ choice_cost at best.picks
@@ -102,16 +102,16 @@ most_from : (f : Pick → ℕ) (a : ℕ) (xs : List Pick) → fold (λ m p. max 
 most_from f a [] = omega arith
 most_from f a (x ∷ xs) = omega (arith, most_from f (max a (f x)) xs, most_from f (max 0 (f x)) xs)
 
-farthest_front : (point : Position) (xs ys : List Pick) → farthest point xs ≤ farthest point (xs ++ ys)
-farthest_front point xs ys = omega (arith, fold-append (λ m (p : Pick). max m (distance point p.point)) 0 xs ys, most_from (λ p. distance point p.point) (farthest point xs) ys)
+farthest_front : (from : Viewpoint) (xs ys : List Pick) → farthest from xs ≤ farthest from (xs ++ ys)
+farthest_front from xs ys = omega (arith, fold-append (λ m (p : Pick). max m (distance from p.point)) 0 xs ys, most_from (λ p. distance from p.point) (farthest from xs) ys)
 
-diameter_front : (xs ys : List Pick) → diameter xs ≤ diameter (xs ++ ys)
-diameter_front [] ys = omega arith
-diameter_front (x ∷ xs) ys = omega (arith, farthest_front x.point xs ys, diameter_front xs ys)
+diameter_front : (scale : ℕ) (xs ys : List Pick) → diameter scale xs ≤ diameter scale (xs ++ ys)
+diameter_front scale [] ys = omega arith
+diameter_front scale (x ∷ xs) ys = omega (arith, farthest_front (seen_from x.point scale) xs ys, diameter_front scale xs ys)
 
 -- a front never costs more than a choice that completes it
-pub cost_front : (at : Position) (xs ys : List Pick) → choice_cost at xs ≤ choice_cost at (xs ++ ys)
-cost_front at xs ys = omega (arith, farthest_front at xs ys, diameter_front xs ys)
+pub cost_front : (at : Viewpoint) (xs ys : List Pick) → choice_cost at xs ≤ choice_cost at (xs ++ ys)
+cost_front at xs ys = omega (arith, farthest_front at xs ys, diameter_front at.scale xs ys)
 
 list_go : (x y : Pick) (front rest b : List Pick) (o : Ordering) → o ≡ pick_cmp x y → ordering_then o (slice_cmp pick_cmp front b) ≡ Greater → (slice_cmp pick_cmp front b ≡ Greater → slice_cmp pick_cmp (front ++ rest) b ≡ Greater) → ordering_then o (slice_cmp pick_cmp (front ++ rest) b) ≡ Greater
 list_go x y front rest b Less e h ih = absurd (cc)
@@ -134,12 +134,12 @@ cost_go m n c k l Greater Equal le e f h g = absurd (let a = ranked m c Greater 
 cost_go m n c k l Greater Less le e f h g = absurd (let a = ranked m c Greater e in let b = ranked n c Less f in omega arith)
 
 -- what completes a front that comes after a choice isn't cheaper than that choice
-pub front_hopeless : (at : Position) (front rest best : List Pick) → choice_cmp at front best ≡ Greater → is_cheaper at (front ++ rest) best ≡ false
+pub front_hopeless : (at : Viewpoint) (front rest best : List Pick) → choice_cmp at front best ≡ Greater → is_cheaper at (front ++ rest) best ≡ false
 front_hopeless at front rest best h =
     cost_go (choice_cost at front) (choice_cost at (front ++ rest)) (choice_cost at best) (slice_cmp pick_cmp front best) (slice_cmp pick_cmp (front ++ rest) best) _ _ (cost_front at front rest) refl refl h (list_greater front rest best)
 
 -- the same for all that complete it
-pub all_hopeless : (at : Position) (front best : List Pick) (lists : List (List Pick)) → choice_cmp at front best ≡ Greater → AllByRecursion (λ picks. is_cheaper at picks best ≡ false) (fronted front lists)
+pub all_hopeless : (at : Viewpoint) (front best : List Pick) (lists : List (List Pick)) → choice_cmp at front best ≡ Greater → AllByRecursion (λ picks. is_cheaper at picks best ≡ false) (fronted front lists)
 all_hopeless at front best [] h = tt
 all_hopeless at front best (rest ∷ lists) h = (front_hopeless at front rest best h, all_hopeless at front best lists h)
 
@@ -166,13 +166,13 @@ is_greater Less h = absurd (cc)
 is_greater Equal h = absurd (cc)
 
 -- comparing a choice's cost and picks with the least one's compares the choices
-compared : (at : Position) (tried : List (List Pick)) (picks : List Pick) (cost : ℕ) (best : Chosen) → least_of at tried ≡ Some best → cost ≡ choice_cost at picks → ordering_then (nat_cmp cost best.cost) (slice_cmp pick_cmp picks best.picks) ≡ choice_cmp at picks best.picks
+compared : (at : Viewpoint) (tried : List (List Pick)) (picks : List Pick) (cost : ℕ) (best : Chosen) → least_of at tried ≡ Some best → cost ≡ choice_cost at picks → ordering_then (nat_cmp cost best.cost) (slice_cmp pick_cmp picks best.picks) ≡ choice_cmp at picks best.picks
 compared at tried picks cost best is costs =
     ap (λ n. ordering_then (nat_cmp n best.cost) (slice_cmp pick_cmp picks best.picks)) costs
     ∙ ap (λ n. ordering_then (nat_cmp (choice_cost at picks) n) (slice_cmp pick_cmp picks best.picks)) (least_cost at tried best is)
 
 -- a front that comes after the least choice: what completes it changes nothing
-pub hopeless_kept : (at : Position) (front : List Pick) (cost : ℕ) (least : Option Chosen) (best : Chosen) (o : Ordering) (tried rest : List (List Pick)) → least ≡ Some best → o ≡ ordering_then (nat_cmp cost best.cost) (slice_cmp pick_cmp front best.picks) → is_gt o ≡ true → cost ≡ choice_cost at front → least ≡ least_of at tried → least ≡ least_of at (tried ++ fronted front rest)
+pub hopeless_kept : (at : Viewpoint) (front : List Pick) (cost : ℕ) (least : Option Chosen) (best : Chosen) (o : Ordering) (tried rest : List (List Pick)) → least ≡ Some best → o ≡ ordering_then (nat_cmp cost best.cost) (slice_cmp pick_cmp front best.picks) → is_gt o ≡ true → cost ≡ choice_cost at front → least ≡ least_of at tried → least ≡ least_of at (tried ++ fronted front rest)
 hopeless_kept at front cost least best o tried rest is compares gt costs was =
     let known : least_of at tried ≡ Some best = sym was ∙ is in
     let after : choice_cmp at front best.picks ≡ Greater = sym (compared at tried front cost best known costs) ∙ sym compares ∙ is_greater o gt in
@@ -183,12 +183,12 @@ abbrev pub with_cost : ℕ → List Pick → Option Chosen
 with_cost cost picks = Some record { cost = cost; picks = picks }
 
 -- the first choice is the least
-pub pushed_first : (at : Position) (picks : List Pick) (cost : ℕ) (least : Option Chosen) (tried : List (List Pick)) → least ≡ None → cost ≡ choice_cost at picks → least ≡ least_of at tried → least_of at (tried ++ picks ∷ []) ≡ with_cost cost picks
+pub pushed_first : (at : Viewpoint) (picks : List Pick) (cost : ℕ) (least : Option Chosen) (tried : List (List Pick)) → least ≡ None → cost ≡ choice_cost at picks → least ≡ least_of at tried → least_of at (tried ++ picks ∷ []) ≡ with_cost cost picks
 pushed_first at picks cost least tried is costs was =
     least_push at tried picks ∙ ap (better_of at picks) (sym was ∙ is) ∙ ap (λ n. with_cost n picks) (sym costs)
 
 -- another is it where it comes before the least so far
-pub pushed_next : (at : Position) (picks : List Pick) (cost : ℕ) (least : Option Chosen) (best : Chosen) (o : Ordering) (tried : List (List Pick)) → least ≡ Some best → o ≡ ordering_then (nat_cmp cost best.cost) (slice_cmp pick_cmp picks best.picks) → cost ≡ choice_cost at picks → least ≡ least_of at tried → least_of at (tried ++ picks ∷ []) ≡ cond (is_lt o) (with_cost cost picks) least
+pub pushed_next : (at : Viewpoint) (picks : List Pick) (cost : ℕ) (least : Option Chosen) (best : Chosen) (o : Ordering) (tried : List (List Pick)) → least ≡ Some best → o ≡ ordering_then (nat_cmp cost best.cost) (slice_cmp pick_cmp picks best.picks) → cost ≡ choice_cost at picks → least ≡ least_of at tried → least_of at (tried ++ picks ∷ []) ≡ cond (is_lt o) (with_cost cost picks) least
 pushed_next at picks cost least best o tried is compares costs was =
     let known : least_of at tried ≡ Some best = sym was ∙ is in
     let cheaper : is_cheaper at picks best.picks ≡ is_lt o = ap is_lt (sym (compared at tried picks cost best known costs) ∙ sym compares) in
@@ -202,7 +202,7 @@ abbrev pub gone_on : List Pick → List (List Pick) → List Pick → List (List
 gone_on front others picks = flat_map (λ pick. fronted (front ++ pick ∷ []) (product others)) picks
 
 -- one more pick tried
-pub tried_more : (at : Position) (tried : List (List Pick)) (front longer : List Pick) (others : List (List Pick)) (picks : List Pick) (i : ℕ) (d : Pick) (least : Option Chosen) → i < length picks → longer ≡ front ++ get_or picks i d ∷ [] → least ≡ least_of at ((tried ++ gone_on front others (take i picks)) ++ fronted longer (product others)) → least ≡ least_of at (tried ++ gone_on front others (take (i + 1) picks))
+pub tried_more : (at : Viewpoint) (tried : List (List Pick)) (front longer : List Pick) (others : List (List Pick)) (picks : List Pick) (i : ℕ) (d : Pick) (least : Option Chosen) → i < length picks → longer ≡ front ++ get_or picks i d ∷ [] → least ≡ least_of at ((tried ++ gone_on front others (take i picks)) ++ fronted longer (product others)) → least ≡ least_of at (tried ++ gone_on front others (take (i + 1) picks))
 tried_more at tried front longer others picks i d least below is was =
     let here : List (List Pick) = fronted (front ++ get_or picks i d ∷ []) (product others) in
     let more : gone_on front others (take (i + 1) picks) ≡ gone_on front others (take i picks) ++ here =
@@ -214,7 +214,7 @@ tried_more at tried front longer others picks i d least below is was =
     ∙ ap (least_of at) (append_assoc tried (gone_on front others (take i picks)) here ∙ ap (λ l. tried ++ l) (sym more))
 
 -- all picks tried
-pub all_tried : (at : Position) (tried : List (List Pick)) (front : List Pick) (lists : List (Vec Pick Global)) (list : Vec Pick Global) (others : List (Vec Pick Global)) (picks : List Pick) (n : ℕ) (least : Option Chosen) → lists ≡ list ∷ others → picks ≡ list.items → length picks ≤ n → least ≡ least_of at (tried ++ gone_on front (lists_in others) (take n picks)) → least ≡ least_of at (tried ++ fronted front (product (lists_in lists)))
+pub all_tried : (at : Viewpoint) (tried : List (List Pick)) (front : List Pick) (lists : List (Vec Pick Global)) (list : Vec Pick Global) (others : List (Vec Pick Global)) (picks : List Pick) (n : ℕ) (least : Option Chosen) → lists ≡ list ∷ others → picks ≡ list.items → length picks ≤ n → least ≡ least_of at (tried ++ gone_on front (lists_in others) (take n picks)) → least ≡ least_of at (tried ++ fronted front (product (lists_in lists)))
 all_tried at tried front lists list others picks n least is same all was =
     was
     ∙ ap (λ l. least_of at (tried ++ gone_on front (lists_in others) l)) (take_all n picks all ∙ same)

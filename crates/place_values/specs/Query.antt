@@ -28,15 +28,15 @@ pub record IsWeights (terms : List (List ℕ × ℕ)) : Type 0 where
   pub weights : All IsWeight terms
 
 -- the numbers of a top query: the share of the distance in thousandths, and the distance that weighs as much as the words
-pub record IsScale (alpha reach : ℕ) : Type 0 where
+pub record IsBlend (alpha reach : ℕ) : Type 0 where
   pub share : alpha ≤ 1000
   pub some : 1 ≤ reach
   pub far : reach ≤ 4024922359
 
 -- the query keeps the limits
 abbrev pub IsWithinLimits : Query → Type 0
-IsWithinLimits (Range at radius filter) = (radius ≤ 10 ^ 12) × IsFilter filter
+IsWithinLimits (Range at scale radius filter) = (scale ≤ 1000) × (radius ≤ 10 ^ 12) × IsFilter filter
 IsWithinLimits (Inside rect filter) = IsFilter filter
-IsWithinLimits (Nearest at k filter) = IsCount k × IsFilter filter
-IsWithinLimits (Top at k alpha reach words) = IsCount k × IsScale alpha reach × IsWeights words
-IsWithinLimits (Group at words) = IsTerms words
+IsWithinLimits (Nearest at scale k filter) = (scale ≤ 1000) × IsCount k × IsFilter filter
+IsWithinLimits (Top at scale k alpha reach words) = (scale ≤ 1000) × IsCount k × IsBlend alpha reach × IsWeights words
+IsWithinLimits (Group at scale words) = (scale ≤ 1000) × IsTerms words

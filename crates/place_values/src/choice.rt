@@ -5,38 +5,42 @@ ghost use Rattle.std.specs.Ordering.{nat_cmp, ordering_then};
 ghost use Rattle.place_values.specs.Group.{farthest, diameter, choice_cost, pick_cmp};
 
 use crate::{Chosen, Pick};
-use spatial_base::{Point, dist};
+use spatial_base::Origin;
 use std::cmp::Ordering;
 
-/// Returns the greatest distance from a point to a pick, in degrees times 10^7, and 0 if there is no pick.
-pub fn farthest_of(point: &Point, picks: &[Pick]) -> u64
-    ensures value { result ≡ farthest point.now picks.now }
-    ensures far { result ≤ 4024922359 }
+/// Returns the greatest distance to a pick, in degrees times 10^7, and 0 if there is no pick.
+pub fn farthest_of(from: &Origin, picks: &[Pick]) -> u64
+    ensures value { result ≡ farthest from.now picks.now }
+    ensures far { result ≤ 2545584412 }
 {
     let mut most = 0;
     for pick in picks {
-        most = most.max(dist(point, &pick.point));
+        most = most.max(from.dist(&pick.point));
     }
     most
 }
 
-// The greatest distance between two picks.
-fn diameter_of(picks: &[Pick]) -> u64
-    ensures value { result ≡ diameter picks.now }
-    ensures far { result ≤ 4024922359 }
+// The greatest distance between two picks, with a scale of longitudes.
+fn diameter_of(picks: &[Pick], scale: u16) -> u64
+    requires { scale ≤ 1000 }
+    ensures value { result ≡ diameter scale picks.now }
+    ensures far { result ≤ 2545584412 }
 {
     match picks.split_first() {
-        Some((pick, others)) => farthest_of(&pick.point, others).max(diameter_of(others)),
+        Some((pick, others)) => {
+            let from = Origin::at(pick.point, scale);
+            farthest_of(&from, others).max(diameter_of(others, scale))
+        }
         None => 0,
     }
 }
 
-/// Returns what a choice costs: the greatest distance from the point to a pick, plus the greatest distance between two picks.
-pub fn cost_of_choice(at: &Point, picks: &[Pick]) -> u64
+/// Returns what a choice costs: the greatest distance to a pick, plus the greatest distance between two picks.
+pub fn cost_of_choice(at: &Origin, picks: &[Pick]) -> u64
     ensures value { result ≡ choice_cost at.now picks.now }
-    ensures far { result ≤ 8049844718 }
+    ensures far { result ≤ 5091168824 }
 {
-    farthest_of(at, picks) + diameter_of(picks)
+    farthest_of(at, picks) + diameter_of(picks, at.scale())
 }
 
 /// Returns the order of a choice of this cost and another one: by cost, and then by the picks, in the words' order.

@@ -5,9 +5,10 @@ ghost use Rattle.std.specs.Str.{bytes_eq};
 ghost use Rattle.place_values.specs.Forms.{form_seen};
 ghost use Rattle.place_values.specs.Limits as limits;
 ghost use Rattle.place_values.specs.Limits.{IsExpression, IsFilter, levels_as, words_in};
-ghost use Rattle.place_values.specs.Query.{IsCount, IsScale, IsTerms, IsWeight, IsWeights, IsWithinLimits};
+ghost use Rattle.place_values.specs.Query.{IsBlend, IsCount, IsTerms, IsWeight, IsWeights, IsWithinLimits};
 
 use crate::{Expr, Query};
+use spatial_base::SCALE_MAX;
 use term_impacts::Word;
 
 /// At this many live places or more, a new key is refused.
@@ -19,7 +20,7 @@ pub const NUMBER_MAX: u64 = 1 << 40;
 /// The greatest radius of a range query, in degrees times 10^7.
 pub const RADIUS_MAX: u64 = 1_000_000_000_000;
 
-/// The greatest reach of a top query: the greatest distance that there is, in degrees times 10^7.
+/// The greatest reach of a top query, in degrees times 10^7. It is greater than the greatest distance.
 pub const REACH_MAX: u64 = 4_024_922_359;
 
 /// The most hits that a query may ask for.
@@ -127,8 +128,8 @@ fn is_count(k: u16) -> bool
 }
 
 // Whether a top query may have this alpha and this reach.
-fn is_scale(alpha: u16, reach: u64) -> bool
-    ensures { IsTrue result ↔ IsScale alpha reach }
+fn is_blend(alpha: u16, reach: u64) -> bool
+    ensures { IsTrue result ↔ IsBlend alpha reach }
 {
     alpha <= ALPHA_MAX && 1 <= reach && reach <= REACH_MAX
 }
@@ -200,6 +201,7 @@ fn are_weights(words: &[(Word, u8)]) -> bool
 impl Query {
     /// Returns whether the query is within the limits that `State::answer` requires:
     ///
+    /// - a scale of longitudes of at most 1000,
     /// - a radius of at most 10^12,
     /// - 1 to 1000 hits,
     /// - an alpha of at most 1000 and a reach of 1 to 4,024,922,359,
@@ -211,17 +213,35 @@ impl Query {
         ensures { IsTrue result ↔ IsWithinLimits self.now }
     {
         match self {
-            Query::Range { radius, filter, .. } => *radius <= RADIUS_MAX && is_filter(filter),
+            Query::Range {
+                scale,
+                radius,
+                filter,
+                ..
+            } => *scale <= SCALE_MAX && *radius <= RADIUS_MAX && is_filter(filter),
             Query::Inside { filter, .. } => is_filter(filter),
-            Query::Nearest { k, filter, .. } => is_count(*k) && is_filter(filter),
+            Query::Nearest {
+                scale,
+                k,
+                filter,
+                ..
+            } => *scale <= SCALE_MAX && is_count(*k) && is_filter(filter),
             Query::Top {
+                scale,
                 k,
                 alpha,
                 reach,
                 words,
                 ..
-            } => is_count(*k) && is_scale(*alpha, *reach) && are_weights(words.as_slice()),
-            Query::Group { words, .. } => are_terms(words.as_slice()),
+            } => {
+                *scale <= SCALE_MAX
+                    && is_count(*k)
+                    && is_blend(*alpha, *reach)
+                    && are_weights(words.as_slice())
+            }
+            Query::Group { scale, words, .. } => {
+                *scale <= SCALE_MAX && are_terms(words.as_slice())
+            }
         }
     }
 }

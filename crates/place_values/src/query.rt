@@ -29,6 +29,8 @@ pub enum Query {
     Range {
         /// The point that distances are measured from.
         at: Point,
+        /// How many thousandths of its size a step of longitude counts in a distance: 0 to 1000.
+        scale: u16,
         /// The greatest distance that counts, in degrees times 10^7: at most 10^12.
         radius: u64,
         /// The condition on each place, with at most 64 words and 32 levels of `not` and parentheses.
@@ -45,6 +47,8 @@ pub enum Query {
     Nearest {
         /// The point that distances are measured from.
         at: Point,
+        /// How many thousandths of its size a step of longitude counts in a distance: 0 to 1000.
+        scale: u16,
         /// The most hits in the answer, 1 to 1000.
         k: u16,
         /// The condition on each place, with at most 64 words and 32 levels of `not` and parentheses.
@@ -54,6 +58,8 @@ pub enum Query {
     Top {
         /// The point that distances are measured from.
         at: Point,
+        /// How many thousandths of its size a step of longitude counts in a distance: 0 to 1000.
+        scale: u16,
         /// The most hits in the answer, 1 to 1000.
         k: u16,
         /// How much the distance counts against the words, in thousandths: 0 to 1000.
@@ -67,6 +73,8 @@ pub enum Query {
     Group {
         /// The point that distances are measured from.
         at: Point,
+        /// How many thousandths of its size a step of longitude counts in a distance: 0 to 1000.
+        scale: u16,
         /// One to 8 distinct words.
         words: Terms,
     },
@@ -81,7 +89,7 @@ pub struct Pick {
     pub key: Key,
     /// The word.
     pub word: Word,
-    /// The distance to the query's point, in degrees times 10^7.
+    /// The distance to the query's point with the query's scale, in degrees times 10^7.
     pub dist: u64,
     /// The position of the place.
     pub point: Point,

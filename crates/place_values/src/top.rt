@@ -1,6 +1,6 @@
 // The cost of a place in a top query.
 ghost use Rattle.std.specs.Prelude.{◌≡◌, ◌≤◌, ◌<◌, ◌*◌, ◌^◌, length, All};
-ghost use Rattle.place_values.specs.Query.{IsWeight, IsScale};
+ghost use Rattle.place_values.specs.Query.{IsBlend, IsWeight};
 ghost use Rattle.place_values.specs.Top.{weight_sum, relevance, holds_some, top_cost};
 
 use crate::Place;
@@ -44,9 +44,9 @@ pub fn has_some(words: &[(Word, u8)], place: &Place) -> bool
 /// The distance counts with `alpha` thousandths, and the relevance that is missing with the rest. They are scaled so that the distance
 /// `reach` counts as much as all the relevance.
 pub fn cost_of(alpha: u16, reach: u64, weight: u32, dist: u64, text: u32) -> u64
-    requires scale { IsScale alpha reach }
+    requires blend { IsBlend alpha reach }
     requires weight { weight ≤ 160 }
-    requires dist { dist ≤ 4024922359 }
+    requires dist { dist ≤ 2545584412 }
     ensures cost { result ≡ top_cost alpha reach weight dist text }
     ensures most { result < 2 ^ 59 }
 {

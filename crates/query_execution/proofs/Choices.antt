@@ -2,7 +2,7 @@
 use Rattle.std.proofs.Common.{◌≡◌, ℕ, List, [], ◌∷◌, All, map, sym, ap, subst, ◌∙◌}
 use Rattle.std.specs.List.{AllByRecursion, Contains}
 use Rattle.spatial_base.specs.Key.{Name}
-use Rattle.spatial_base.specs.Point.{Position}
+use Rattle.spatial_base.specs.Point.{Viewpoint}
 use Rattle.place_values.specs.Members.{SameMembers}
 use Rattle.best_first.specs.Lists.{flat_map_same}
 use Rattle.best_first.specs.Lists.{all_in}
@@ -33,7 +33,7 @@ use Rattle.query_execution.proofs.Kept.{AreKept}
 use Rattle.query_execution.proofs.Members.{item_at, same-entries, given-same, impacts-agree}
 
 module _ (ids : Numbers) (entries : Entries) (next_word : ℕ) (agree : WordsAgree entries next_word) (nodes : NodeMap) (root : ℕ)
-    (are : (f : Item → ℕ) → tree_sum nodes root f ≡ entry_sum f entries.places) (each : All IsPlaceEntry entries.places) (at : Position) (words : List (List ℕ)) (known : AreKnown ids entries.texts words)
+    (are : (f : Item → ℕ) → tree_sum nodes root f ≡ entry_sum f entries.places) (each : All IsPlaceEntry entries.places) (at : Viewpoint) (words : List (List ℕ)) (known : AreKnown ids entries.texts words)
   where
     -- an entry gives to a word what its place gives
     pick-same : (word : List ℕ) → Contains words word → (e : Name × Stored) → IsPlaceEntry e → pick_item ids at word (item_at e) ≡ word_picks at word (e.0, place_in entries.numbers e.1)
@@ -59,7 +59,7 @@ module _ (ids : Numbers) (entries : Entries) (next_word : ℕ) (agree : WordsAgr
 
 -- so it is over pages that keep the entries
 pub kept-least : (pages : PageMap) (count first : ℕ) (tables : Tables) (tree : Tree) (state : Contents) → (kept : AreKept pages count first tables tree state)
-    → (ids : Numbers) (at : Position) (words : List (List ℕ)) → AreKnown ids kept.entries.texts words → least_of at (tree_choices ids at (nodes_at pages tree) tree.root words) ≡ group_of state.places at words
+    → (ids : Numbers) (at : Viewpoint) (words : List (List ℕ)) → AreKnown ids kept.entries.texts words → least_of at (tree_choices ids at (nodes_at pages tree) tree.root words) ≡ group_of state.places at words
 kept-least pages count first tables tree state kept ids at words known =
     least-entries ids kept.entries tables.next_word kept.agree (nodes_at pages tree) tree.root kept.entries_are kept.holds.places.each at words known
     ∙ ap (λ (s : Contents). group_of s.places at words) (sym kept.is)

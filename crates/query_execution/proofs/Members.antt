@@ -4,6 +4,7 @@ use Rattle.std.proofs.lemmas.List.Elements.{All-head, All-tail}
 use Rattle.std.specs.List.{flat_map}
 use Rattle.spatial_base.specs.Key.{Name, form_of}
 use Rattle.term_impacts.specs.Pairs as texts
+use Rattle.spatial_base.specs.Point.{seen_from}
 use Rattle.place_values.specs.First.{ranked, first}
 use Rattle.place_values.specs.Members.{SameMembers, ranked_same}
 use Rattle.best_first.specs.Lists.{flat_map_same}
@@ -72,19 +73,19 @@ module _ (ids : Numbers) (entries : Entries) (next_word : ℕ) (agree : WordsAgr
 
   -- an entry gives to a query what its place gives
   gives-same : (query : Query) → AreKnown ids entries.texts (asked_in query) → (e : Name × Stored) → IsPlaceEntry e → hits_by ids query (item_at e) ≡ hits_of query (e.0, place_in entries.numbers e.1)
-  gives-same (Range at radius filter) known e is =
-      range-agrees ids (impact_in (held_pairs e.1)) e.0 (place_in entries.numbers e.1) is.0 is.1.0.point at radius filter
+  gives-same (Range at scale radius filter) known e is =
+      range-agrees ids (impact_in (held_pairs e.1)) e.0 (place_in entries.numbers e.1) is.0 is.1.0.point (seen_from at scale) radius filter
       (agree-by (impact_of ids (item_at e)) (texts.impact_in (words_of_place entries.numbers e.1)) filter (impacts-agree _ known e is))
   gives-same (Inside rect filter) known e is =
       box-agrees ids (impact_in (held_pairs e.1)) e.0 (place_in entries.numbers e.1) is.0 is.1.0.point rect filter
       (agree-by (impact_of ids (item_at e)) (texts.impact_in (words_of_place entries.numbers e.1)) filter (impacts-agree _ known e is))
-  gives-same (Nearest at k filter) known e is =
-      near-agrees ids (impact_in (held_pairs e.1)) e.0 (place_in entries.numbers e.1) is.0 is.1.0.point at filter
+  gives-same (Nearest at scale k filter) known e is =
+      near-agrees ids (impact_in (held_pairs e.1)) e.0 (place_in entries.numbers e.1) is.0 is.1.0.point (seen_from at scale) filter
       (agree-by (impact_of ids (item_at e)) (texts.impact_in (words_of_place entries.numbers e.1)) filter (impacts-agree _ known e is))
-  gives-same (Top at k alpha reach words) known e is =
-      top-agrees ids (impact_in (held_pairs e.1)) e.0 (place_in entries.numbers e.1) is.0 is.1.0.point at alpha reach words
+  gives-same (Top at scale k alpha reach words) known e is =
+      top-agrees ids (impact_in (held_pairs e.1)) e.0 (place_in entries.numbers e.1) is.0 is.1.0.point (seen_from at scale) alpha reach words
       (agree-weighed (impact_of ids (item_at e)) (texts.impact_in (words_of_place entries.numbers e.1)) words (impacts-agree _ known e is))
-  gives-same (Group at words) known e is = refl
+  gives-same (Group at scale words) known e is = refl
 
   -- so the tree's entries, ranked, are the places, ranked
   ranked-same : (nodes : NodeMap) (root : ℕ) → ((f : Item → ℕ) → tree_sum nodes root f ≡ entry_sum f entries.places) → All IsPlaceEntry entries.places
@@ -100,11 +101,11 @@ module _ (ids : Numbers) (entries : Entries) (next_word : ℕ) (agree : WordsAgr
     where
       by_kind : (query : Query) → ranked comes_before (flat_map (hits_by ids query) (tree_places nodes root)) ≡ ranked comes_before (flat_map (hits_of query) (places_in entries))
           → IsAnswer query (answer_of (state_in entries serial number) query) (cut_by query (flat_map (hits_by ids query) (tree_places nodes root)))
-      by_kind (Range at radius filter) same = ap answers.Hits (sym same)
+      by_kind (Range at scale radius filter) same = ap answers.Hits (sym same)
       by_kind (Inside rect filter) same = ap answers.Hits (sym same)
-      by_kind (Nearest at k filter) same = ap (λ hits. answers.Hits (take k hits)) (sym same)
-      by_kind (Top at k alpha reach words) same = ap (λ hits. answers.Hits (take k hits)) (sym same)
-      by_kind (Group at words) same = no-hits (tree_places nodes root)
+      by_kind (Nearest at scale k filter) same = ap (λ hits. answers.Hits (take k hits)) (sym same)
+      by_kind (Top at scale k alpha reach words) same = ap (λ hits. answers.Hits (take k hits)) (sym same)
+      by_kind (Group at scale words) same = no-hits (tree_places nodes root)
 
 -- so it is over pages that keep the entries
 pub kept-answer : (pages : PageMap) (count first : ℕ) (tables : Tables) (tree : Tree) (state : Contents) → (kept : AreKept pages count first tables tree state)

@@ -28,11 +28,11 @@ words_of terms = map (λ term. term.0) terms
 
 -- the words that a query asks about; a group query has no hits, and none of its words is asked about
 abbrev pub asked_in : Query → List (List ℕ)
-asked_in (Range at radius filter) = words_by filter
+asked_in (Range at scale radius filter) = words_by filter
 asked_in (Inside rect filter) = words_by filter
-asked_in (Nearest at k filter) = words_by filter
-asked_in (Top at k alpha reach words) = words_of words
-asked_in (Group at words) = []
+asked_in (Nearest at scale k filter) = words_by filter
+asked_in (Top at scale k alpha reach words) = words_of words
+asked_in (Group at scale words) = []
 
 -- a word's form with its number
 abbrev pub form_with : List ℕ → Option ℕ → Numbers

@@ -1,7 +1,7 @@
 -- Which nodes a query over tables and a tree opened.
 use Rattle.std.specs.Prelude.{◌⊎◌, ℕ, ◌<◌, List, Option}
 use Rattle.page_face.specs.FreeList.{PageMap}
-use Rattle.spatial_base.specs.Point.{Position}
+use Rattle.spatial_base.specs.Point.{Viewpoint}
 use Rattle.btree_nodes.specs.Tree.{map_uses}
 use Rattle.place_values.specs.declared.hit.Hit.{Hit}
 use Rattle.place_values.specs.declared.query.Chosen.{Chosen}
@@ -43,12 +43,12 @@ pub record AreFewOpened (pages : PageMap) (tables : Tables) (tree : Tree) (query
 
 -- Few nodes of a tree were opened for the words of a group query, where these words have these numbers: beside them pages of this kind alone were
 -- asked for; and each place of the choice, where there is one, is an item of a leaf that was asked for.
-abbrev pub FewOpenedForGroup : (ℕ → Type 0) → PageMap → Tree → Numbers → Position → List (List ℕ) → List ℕ → List ℕ → Option Chosen → Type 0
+abbrev pub FewOpenedForGroup : (ℕ → Type 0) → PageMap → Tree → Numbers → Viewpoint → List (List ℕ) → List ℕ → List ℕ → Option Chosen → Type 0
 FewOpenedForGroup beside pages tree ids at words old new chosen = OpensFewForWords beside (given_to ids at) ids words (nodes_in node_of pages tree.rows) tree.root old new (picks_in chosen)
 
 -- Few nodes were opened for a group query, each of whose words has the number that the words by text have for it. Beside the nodes pages of the
 -- words by text and of the tree's rows were asked for, and no others.
-pub record AreFewOpenedForGroup (pages : PageMap) (tables : Tables) (tree : Tree) (at : Position) (words : List (List ℕ)) (old new : List ℕ) (chosen : Option Chosen) : Type 0 where
+pub record AreFewOpenedForGroup (pages : PageMap) (tables : Tables) (tree : Tree) (at : Viewpoint) (words : List (List ℕ)) (old new : List ℕ) (chosen : Option Chosen) : Type 0 where
   pub entries : Entries
   pub holds : Holds pages tables entries
   pub ids : Numbers

@@ -48,17 +48,35 @@ fn tree_hits<P: Pages>(
     ensures frame { Reads P.Pages pages.old pages.new }
 {
     match query {
-        Query::Range { at, radius, filter } => {
-            range(alloc, pages, tree, ids, at, *radius, filter.as_ref())
-        }
+        Query::Range {
+            at,
+            scale,
+            radius,
+            filter,
+        } => range(
+            alloc,
+            pages,
+            tree,
+            ids,
+            at,
+            *scale,
+            *radius,
+            filter.as_ref(),
+        ),
         Query::Inside { rect, filter } => inside(alloc, pages, tree, ids, rect, filter.as_ref()),
-        Query::Nearest { at, k, filter } => {
+        Query::Nearest {
+            at,
+            scale,
+            k,
+            filter,
+        } => {
             // The point is on the map.
             let (_x, _y) = (at.x(), at.y());
-            nearest(alloc, pages, tree, ids, at, *k, filter.as_ref())
+            nearest(alloc, pages, tree, ids, at, *scale, *k, filter.as_ref())
         }
         Query::Top {
             at,
+            scale,
             k,
             alpha,
             reach,
@@ -72,13 +90,14 @@ fn tree_hits<P: Pages>(
                 tree,
                 ids,
                 at,
+                *scale,
                 *k,
                 *alpha,
                 *reach,
                 words.as_slice(),
             )
         }
-        Query::Group { at: _, words: _ } => Ok(Vec::new(alloc)),
+        Query::Group { .. } => Ok(Vec::new(alloc)),
     }
 }
 

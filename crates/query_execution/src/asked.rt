@@ -55,25 +55,11 @@ fn add_asked(query: &Query, words: &mut Vec<Word>) -> Result<(), AllocError>
     ensures { OnOk result (words.new.items ≡ words.old.items ++ asked_in query.now) }
 {
     match query {
-        Query::Range {
-            at: _,
-            radius: _,
-            filter,
-        } => add_filter(filter, words),
-        Query::Inside { rect: _, filter } => add_filter(filter, words),
-        Query::Nearest {
-            at: _,
-            k: _,
-            filter,
-        } => add_filter(filter, words),
-        Query::Top {
-            at: _,
-            k: _,
-            alpha: _,
-            reach: _,
-            words: terms,
-        } => add_terms(terms.as_slice(), words),
-        Query::Group { at: _, words: _ } => Ok(()),
+        Query::Range { filter, .. } => add_filter(filter, words),
+        Query::Inside { filter, .. } => add_filter(filter, words),
+        Query::Nearest { filter, .. } => add_filter(filter, words),
+        Query::Top { words: terms, .. } => add_terms(terms.as_slice(), words),
+        Query::Group { .. } => Ok(()),
     }
 }
 

@@ -1,5 +1,6 @@
 //! The choice of a group query.
-ghost use Rattle.std.specs.Prelude.{◌≡◌, ◌≢◌, IfOk, IsErrOf, Err};
+ghost use Rattle.std.specs.Prelude.{◌≡◌, ◌≢◌, ◌≤◌, IfOk, IsErrOf, Err};
+ghost use Rattle.spatial_base.specs.Point.{seen_from};
 ghost use Rattle.page_face.specs.Calls.{Reads, FailsReading};
 ghost use Rattle.btree_nodes.specs.Damages.{AreReadable};
 ghost use Rattle.place_values.specs.Group.{group_of};
@@ -35,14 +36,16 @@ pub fn chosen<P: Pages>(
     tables: &Tables,
     tree: &Tree,
     at: &Point,
+    scale: u16,
     words: &[Word],
 ) -> Result<Option<Chosen>, PageFault>
+    requires scale { scale ≤ 1000 }
     ensures answered { (state : Contents) → RootsStand (P.pages pages.old) (P.count pages.old) (P.first pages.old) tables.now tree.now state
         → AreReadable (P.pages pages.old) (P.count pages.old)
-        → IfOk result (λ chosen. chosen ≡ group_of state.places at.now words.now) }
+        → IfOk result (λ chosen. chosen ≡ group_of state.places (seen_from at.now scale) words.now) }
     ensures opened { (state : Contents) → RootsStand (P.pages pages.old) (P.count pages.old) (P.first pages.old) tables.now tree.now state
         → AreReadable (P.pages pages.old) (P.count pages.old)
-        → IfOk result (λ chosen. AreFewOpenedForGroup (P.pages pages.old) tables.now tree.now at.now words.now (P.asked pages.old) (P.asked pages.new) chosen) }
+        → IfOk result (λ chosen. AreFewOpenedForGroup (P.pages pages.old) tables.now tree.now (seen_from at.now scale) words.now (P.asked pages.old) (P.asked pages.new) chosen) }
     ensures no_false_damage { (state : Contents) → RootsStand (P.pages pages.old) (P.count pages.old) (P.first pages.old) tables.now tree.now state
         → AreReadable (P.pages pages.old) (P.count pages.old) → (damage : Damage) → result ≢ Err (PageFault.Damaged damage) }
     ensures damaged { AreReadable (P.pages pages.old) (P.count pages.old) → (damage : Damage) → IsErrOf result (PageFault.Damaged damage)
@@ -54,5 +57,5 @@ pub fn chosen<P: Pages>(
         Ok(ids) => ids,
         Err(fault) => return Err(fault),
     };
-    group(alloc, pages, tree, &ids, at, words)
+    group(alloc, pages, tree, &ids, at, scale, words)
 }

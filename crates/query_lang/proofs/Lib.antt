@@ -5,5 +5,6 @@ pub mod Lines
 pub mod Naming
 pub mod Numbers
 pub mod Readings
+pub mod Scales
 pub mod Stars
 pub mod Wording

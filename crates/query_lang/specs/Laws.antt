@@ -3,6 +3,7 @@ use Rattle.std.proofs.Common.{◌≡◌, Bool, List, Option, Some, None, Ok, ref
 use Rattle.std.specs.Prelude.{not, ◌&&◌, ◌||◌}
 use Rattle.std.specs.List.{flat_map}
 use Rattle.spatial_base.specs.Key.{Name}
+use Rattle.spatial_base.specs.Point.{seen_from}
 use Rattle.place_values.specs.First.{first, ranked}
 use Rattle.place_values.specs.declared.place.Place.{Place}
 use Rattle.place_values.specs.declared.hit.Hit.{Hit}
@@ -42,25 +43,25 @@ given_same give other entries same = ap (λ (g : Name × Place → List Hit). fl
 
 -- so a query's answer is its plain form's
 pub answer_of-plain : (state : Contents) (query : Query) → answer_of state (plain_query query) ≡ answer_of state query
-answer_of-plain state (Range at radius filter) =
+answer_of-plain state (Range at scale radius filter) =
     ap (λ (hits : List Hit). answers.Hits (ranked comes_before hits))
-    (given_same (range_hits at radius (plain_filter filter)) (range_hits at radius filter) state.places (λ entry. rw (passes-plain filter entry.1) refl))
+    (given_same (range_hits (seen_from at scale) radius (plain_filter filter)) (range_hits (seen_from at scale) radius filter) state.places (λ entry. rw (passes-plain filter entry.1) refl))
 answer_of-plain state (Inside rect filter) =
     ap (λ (hits : List Hit). answers.Hits (ranked comes_before hits))
     (given_same (box_hits rect (plain_filter filter)) (box_hits rect filter) state.places (λ entry. rw (passes-plain filter entry.1) refl))
-answer_of-plain state (Nearest at k filter) =
+answer_of-plain state (Nearest at scale k filter) =
     ap (λ (hits : List Hit). answers.Hits (first comes_before k hits))
-    (given_same (near_hits at (plain_filter filter)) (near_hits at filter) state.places (λ entry. rw (passes-plain filter entry.1) refl))
-answer_of-plain state (Top at k alpha reach words) = refl
-answer_of-plain state (Group at words) = refl
+    (given_same (near_hits (seen_from at scale) (plain_filter filter)) (near_hits (seen_from at scale) filter) state.places (λ entry. rw (passes-plain filter entry.1) refl))
+answer_of-plain state (Top at scale k alpha reach words) = refl
+answer_of-plain state (Group at scale words) = refl
 
 -- the reply to a query is written as its plain form's
 found-plain : (state : Contents) (query : Query) (explain : Bool) → found_text explain (plain_query query) (answer_of state (plain_query query)) ≡ found_text explain query (answer_of state query)
-found-plain state (Range at radius filter) explain = ap (found_text explain (Range at radius filter)) (answer_of-plain state (Range at radius filter))
+found-plain state (Range at scale radius filter) explain = ap (found_text explain (Range at scale radius filter)) (answer_of-plain state (Range at scale radius filter))
 found-plain state (Inside rect filter) explain = ap (found_text explain (Inside rect filter)) (answer_of-plain state (Inside rect filter))
-found-plain state (Nearest at k filter) explain = ap (found_text explain (Nearest at k filter)) (answer_of-plain state (Nearest at k filter))
-found-plain state (Top at k alpha reach words) explain = refl
-found-plain state (Group at words) explain = refl
+found-plain state (Nearest at scale k filter) explain = ap (found_text explain (Nearest at scale k filter)) (answer_of-plain state (Nearest at scale k filter))
+found-plain state (Top at scale k alpha reach words) explain = refl
+found-plain state (Group at scale words) explain = refl
 
 -- so a line is answered in the words of its plain form
 pub reply_of-plain : (state : Contents) (line : Line) → text_of_reply (reply_of state (Ok (plain_line line))) ≡ text_of_reply (reply_of state (Ok line))

@@ -9,7 +9,7 @@ use Rattle.place_values.specs.declared.update.Update.TheVariants as updates
 use Rattle.place_values.specs.declared.query.Expr.{Expr}
 use Rattle.place_values.specs.declared.query.Query.{Query}
 use Rattle.place_values.specs.declared.query.Query.TheVariants as queries
-use Rattle.line_tokens.specs.Token.{Token, Bare, Quoted, Open, Close, Broken, after_blanks}
+use Rattle.line_tokens.specs.Token.{Token, Bare, Quoted, Open, Close, Broken, after_blanks, token_of}
 use Rattle.query_replies.specs.declared.fault.LineFault.{LineFault}
 use Rattle.query_replies.specs.declared.fault.LineFault.TheVariants as faults
 use Rattle.query_lang.specs.declared.line.Line.{Line}
@@ -23,7 +23,7 @@ use Rattle.query_lang.specs.Number.{whole_of}
 use Rattle.query_lang.specs.Degrees.{degrees_of}
 use Rattle.query_lang.specs.Key.{key_of}
 use Rattle.query_lang.specs.Word.{word_of, term_of, some_words}
-use Rattle.query_lang.specs.Expression.{filter_of}
+use Rattle.query_lang.specs.Expression.{filter_of, behind_word, if_behind}
 
 -- LON LAT
 unfoldable pub point_part : Reader Position
@@ -36,12 +36,17 @@ point_part = do
 abbrev pub filtered : (Option Expr → Query) → List ℕ → Result Query LineFault
 filtered make text = made make (filter_of text)
 
--- LON LAT R
+-- `scale` and SCALE, where that is the next token; without them the scale is 1000
+unfoldable pub scale_part : Reader ℕ
+scale_part text = if_behind (part (whole_of 0 1000)) (Ok (1000, text)) (behind_word (codes "scale") (token_of text))
+
+-- LON LAT R, the scale, and the filter
 unfoldable pub range_query : List ℕ → Result Query LineFault
 range_query = do
   at ← point_part
   radius ← part (degrees_of (pos 0) (pos (10 ^ 12)))
-  filtered (queries.Range at (unsigned_abs radius))
+  scale ← scale_part
+  filtered (queries.Range at scale (unsigned_abs radius))
 
 -- W S E N
 unfoldable pub rect_part : Reader Bounds
@@ -52,39 +57,42 @@ rect_part = do
   north ← part (degrees_of south (pos 900000000))
   gives record { west = west; south = south; east = east; north = north }
 
--- W S E N, and the filter
+-- W S E N, and the filter: a box has no scale
 unfoldable pub box_query : List ℕ → Result Query LineFault
 box_query = do
   rect ← rect_part
   filtered (queries.Inside rect)
 
--- LON LAT K
+-- LON LAT K, the scale, and the filter
 unfoldable pub nearest_query : List ℕ → Result Query LineFault
 nearest_query = do
   at ← point_part
   k ← part (whole_of 1 1000)
-  filtered (queries.Nearest at k)
+  scale ← scale_part
+  filtered (queries.Nearest at scale k)
 
 -- `words`
 abbrev pub words_sign : Token → Result (Unit {0}) LineFault
 words_sign token = if is_word (codes "words") token then Ok tt else Err faults.Extra
 
--- LON LAT K ALPHA REACH words, and the words with their weights
+-- LON LAT K ALPHA REACH, the scale, words, and the words with their weights
 unfoldable pub top_query : List ℕ → Result Query LineFault
 top_query = do
   at ← point_part
   k ← part (whole_of 1 1000)
   alpha ← part (whole_of 0 1000)
   reach ← part (degrees_of (pos 1) (pos 4024922359))
+  scale ← scale_part
   _ ← part words_sign
-  λ text. made (queries.Top at k alpha (unsigned_abs reach)) (some_words term_of text)
+  λ text. made (queries.Top at scale k alpha (unsigned_abs reach)) (some_words term_of text)
 
--- LON LAT words, and the words
+-- LON LAT, the scale, words, and the words
 unfoldable pub group_query : List ℕ → Result Query LineFault
 group_query = do
   at ← point_part
+  scale ← scale_part
   _ ← part words_sign
-  λ text. made (queries.Group at) (some_words word_of text)
+  λ text. made (queries.Group at scale) (some_words word_of text)
 
 -- the query behind its command
 abbrev pub query_by : Asked → List ℕ → Result Query LineFault

@@ -29,11 +29,11 @@ plain_filter filter = option_map plain filter
 
 -- the query
 abbrev pub plain_query : Query → Query
-plain_query (Range at radius filter) = Range at radius (plain_filter filter)
+plain_query (Range at scale radius filter) = Range at scale radius (plain_filter filter)
 plain_query (Inside rect filter) = Inside rect (plain_filter filter)
-plain_query (Nearest at k filter) = Nearest at k (plain_filter filter)
-plain_query (Top at k alpha reach words) = Top at k alpha reach words
-plain_query (Group at words) = Group at words
+plain_query (Nearest at scale k filter) = Nearest at scale k (plain_filter filter)
+plain_query (Top at scale k alpha reach words) = Top at scale k alpha reach words
+plain_query (Group at scale words) = Group at scale words
 
 -- the line
 abbrev pub plain_line : Line → Line

@@ -16,8 +16,12 @@ use place_values::{EXPR_LEVELS_MAX, Expr};
 use query_replies::LineFault;
 use std::alloc::Global;
 
-// The text after a bare word, if that word is the next token.
-fn behind_word<'a>(alloc: Global, word: &str, text: &'a str) -> Result<Option<&'a str>, LineFault>
+/// Returns the text after a bare word, if that word is the next token. Refuses only if memory runs out.
+pub(crate) fn behind_word<'a>(
+    alloc: Global,
+    word: &str,
+    text: &'a str,
+) -> Result<Option<&'a str>, LineFault>
     ensures says { IfOk result (λ rest. option_map (λ r. r.now) rest ≡ behind_word word.now (token_of text.now)) }
     ensures memory { IfErr result (λ fault. fault ≡ LineFault.Memory) }
 {

@@ -3,7 +3,7 @@
 //! [`read_line`] returns exactly the line that the definition `line_of` of `specs/Line.antt` gives, or the reason of its first offence
 //! from the left. The replies to lines are in the crate `query_replies`, whose names this crate exports too.
 //!
-//! Tests: the crate has none of its own; `irtree_tests/src/language_tests.rt` and those of `random_tests` reach it.
+//! Tests: `text_tests/src/query_lang_tests.rt`; `irtree_tests/src/language_tests.rt` and those of `random_tests` reach it, too.
 #![tactic(auto)]
 
 mod clause;

@@ -1,5 +1,5 @@
 //! Reads a query after its command.
-ghost use Rattle.std.specs.Prelude.{◌≡◌, ◌≤ℤ◌, Ok, IfOk, pos, neg_ℤ};
+ghost use Rattle.std.specs.Prelude.{◌≡◌, ◌≤◌, ◌≤ℤ◌, Ok, IfOk, pos, neg_ℤ};
 ghost use Rattle.place_values.specs.Query.{IsWithinLimits};
 ghost use Rattle.query_lang.specs.Line as spec;
 ghost use Rattle.query_lang.specs.Line.{range_query, box_query, nearest_query, top_query, group_query, query_by};
@@ -7,13 +7,13 @@ ghost use Rattle.query_lang.specs.Plain.{plain_query};
 ghost use Rattle.query_lang.specs.Reader.{Answers, part};
 
 use crate::command::Asked;
-use crate::expression::filter;
+use crate::expression::{behind_word, filter};
 use crate::kind::is_word;
 use crate::part::{degrees_part, next, whole_part};
 use crate::word::{terms, words};
 use place_values::{ALPHA_MAX, COUNT_MAX, Query, RADIUS_MAX, REACH_MAX, Terms, Weights};
 use query_replies::LineFault;
-use spatial_base::{LATITUDE_MAX, LONGITUDE_MAX, Point, Rect};
+use spatial_base::{LATITUDE_MAX, LONGITUDE_MAX, Point, Rect, SCALE_MAX};
 use std::alloc::Global;
 
 // The greatest longitude, signed as the numbers that are read.
@@ -44,7 +44,18 @@ pub(crate) fn point_part(alloc: Global, text: &str) -> Result<(Point, &str), Lin
     Ok((point, text))
 }
 
-// LON LAT R, and an optional filter.
+// An optional `scale` and SCALE, and the text after them. Without them the scale is 1000. A quoted "scale" is left, as any other token.
+fn scale_part(alloc: Global, text: &str) -> Result<(u16, &str), LineFault>
+    ensures says { Answers (λ got. (got.0, got.1.now)) result (spec.scale_part text.now) }
+    ensures within { IfOk result (λ got. got.0 ≤ 1000) }
+{
+    match behind_word(alloc, "scale", text)? {
+        Some(rest) => whole_part(alloc, 0, SCALE_MAX, rest),
+        None => Ok((SCALE_MAX, text)),
+    }
+}
+
+// LON LAT R, an optional scale, and an optional filter.
 #[tactic(auto, unfolding(crate::specs::Line::range_query))]
 fn range(alloc: Global, text: &str) -> Result<Query, LineFault>
     ensures says { Answers plain_query result (range_query text.now) }
@@ -55,9 +66,11 @@ fn range(alloc: Global, text: &str) -> Result<Query, LineFault>
         Err(fault) => return Err(fault),
     };
     let (radius, text) = degrees_part(alloc, 0, RADIUS_MAX as i64, text)?;
+    let (scale, text) = scale_part(alloc, text)?;
     let filter = filter(alloc, text)?;
     Ok(Query::Range {
         at,
+        scale,
         radius: radius.unsigned_abs(),
         filter,
     })
@@ -115,7 +128,7 @@ fn inside(alloc: Global, text: &str) -> Result<Query, LineFault>
     Ok(Query::Inside { rect, filter })
 }
 
-// LON LAT K, and an optional filter.
+// LON LAT K, an optional scale, and an optional filter.
 #[tactic(auto, unfolding(crate::specs::Line::nearest_query))]
 fn nearest(alloc: Global, text: &str) -> Result<Query, LineFault>
     ensures says { Answers plain_query result (nearest_query text.now) }
@@ -126,8 +139,14 @@ fn nearest(alloc: Global, text: &str) -> Result<Query, LineFault>
         Err(fault) => return Err(fault),
     };
     let (k, text) = whole_part(alloc, 1, COUNT_MAX, text)?;
+    let (scale, text) = scale_part(alloc, text)?;
     let filter = filter(alloc, text)?;
-    Ok(Query::Nearest { at, k, filter })
+    Ok(Query::Nearest {
+        at,
+        scale,
+        k,
+        filter,
+    })
 }
 
 // The text after `words`.
@@ -142,7 +161,7 @@ fn behind_words(alloc: Global, text: &str) -> Result<&str, LineFault>
     }
 }
 
-// LON LAT K ALPHA REACH `words`, and the words with their weights.
+// LON LAT K ALPHA REACH, an optional scale, `words`, and the words with their weights.
 #[tactic(auto, unfolding(crate::specs::Line::top_query))]
 fn top(alloc: Global, text: &str) -> Result<Query, LineFault>
     ensures says { Answers plain_query result (top_query text.now) }
@@ -155,10 +174,12 @@ fn top(alloc: Global, text: &str) -> Result<Query, LineFault>
     let (k, text) = whole_part(alloc, 1, COUNT_MAX, text)?;
     let (alpha, text) = whole_part(alloc, 0, ALPHA_MAX, text)?;
     let (reach, text) = degrees_part(alloc, 1, REACH_MAX as i64, text)?;
+    let (scale, text) = scale_part(alloc, text)?;
     let text = behind_words(alloc, text)?;
     let words = terms(alloc, text)?;
     Ok(Query::Top {
         at,
+        scale,
         k,
         alpha,
         reach: reach.unsigned_abs(),
@@ -166,7 +187,7 @@ fn top(alloc: Global, text: &str) -> Result<Query, LineFault>
     })
 }
 
-// LON LAT `words`, and the words.
+// LON LAT, an optional scale, `words`, and the words.
 #[tactic(auto, unfolding(crate::specs::Line::group_query))]
 fn group(alloc: Global, text: &str) -> Result<Query, LineFault>
     ensures says { Answers plain_query result (group_query text.now) }
@@ -176,10 +197,12 @@ fn group(alloc: Global, text: &str) -> Result<Query, LineFault>
         Ok(read) => read,
         Err(fault) => return Err(fault),
     };
+    let (scale, text) = scale_part(alloc, text)?;
     let text = behind_words(alloc, text)?;
     let words = words(alloc, text)?;
     Ok(Query::Group {
         at,
+        scale,
         words: Terms::from_vec(words),
     })
 }

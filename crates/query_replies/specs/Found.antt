@@ -16,11 +16,11 @@ use Rattle.query_replies.specs.declared.found.Column.TheVariants.{Key, Dist, Cos
 
 -- what the line of a hit has: its key; `KEY DIST`; or `KEY COST`, where the words count for so much at most
 abbrev pub column_of : Query → Option Column
-column_of (queries.Range at radius filter) = Some Dist
+column_of (queries.Range at scale radius filter) = Some Dist
 column_of (queries.Inside rect filter) = Some Key
-column_of (queries.Nearest at k filter) = Some Dist
-column_of (queries.Top at k alpha reach words) = Some (Cost (255 * weight_sum words))
-column_of (queries.Group at words) = None
+column_of (queries.Nearest at scale k filter) = Some Dist
+column_of (queries.Top at scale k alpha reach words) = Some (Cost (255 * weight_sum words))
+column_of (queries.Group at scale words) = None
 
 -- the number behind the key
 abbrev pub number_text : Column → Hit → List ℕ
@@ -63,11 +63,11 @@ column_hits explain (Some column) hits = hits_text explain column hits
 
 -- the choice of a query that chooses
 abbrev pub query_group : Bool → Query → Option Chosen → List ℕ
-query_group explain (queries.Group at words) chosen = group_text explain chosen
-query_group explain (queries.Range at radius filter) chosen = []
+query_group explain (queries.Group at scale words) chosen = group_text explain chosen
+query_group explain (queries.Range at scale radius filter) chosen = []
 query_group explain (queries.Inside rect filter) chosen = []
-query_group explain (queries.Nearest at k filter) chosen = []
-query_group explain (queries.Top at k alpha reach words) chosen = []
+query_group explain (queries.Nearest at scale k filter) chosen = []
+query_group explain (queries.Top at scale k alpha reach words) chosen = []
 
 -- an answer to a query; one to a query of another kind has no byte
 abbrev pub found_text : Bool → Query → Answer → List ℕ

@@ -1,7 +1,7 @@
 //! Which nodes a query needs, judged by what bounds the places below each.
 use crate::tree_nodes::{Node, Round};
 use place_values::{Expr, Hit, Query};
-use spatial_base::{Point, Rect, dist};
+use spatial_base::{Origin, Point, Rect};
 use term_impacts::Word;
 
 // Whether places with these bounds could pass a filter. A word that one of them has may be absent from another.
@@ -21,14 +21,24 @@ fn may_pass(round: &Round, filter: &Option<Expr>) -> bool {
     }
 }
 
-// The distance from a point to the nearest point of a rectangle.
-fn least_distance(rect: &Rect, at: &Point) -> u64 {
-    let x = at.x().max(rect.west()).min(rect.east());
-    let y = at.y().max(rect.south()).min(rect.north());
+// The distance to the point at a longitude and a latitude.
+fn distance(from: &Origin, x: i32, y: i32) -> u64 {
     match Point::new(x, y) {
-        Some(nearest) => dist(at, &nearest),
+        Some(point) => from.dist(&point),
         None => u64::MAX,
     }
+}
+
+// The distance to the nearest point of a rectangle. Of the longitudes beside it the nearer edge counts, by either way round.
+fn least_distance(rect: &Rect, at: &Point, scale: u16) -> u64 {
+    let Some(from) = Origin::new(*at, scale) else {
+        return u64::MAX;
+    };
+    let (x, y) = (at.x(), at.y().max(rect.south()).min(rect.north()));
+    if rect.west() <= x && x <= rect.east() {
+        return distance(&from, x, y);
+    }
+    distance(&from, rect.west(), y).min(distance(&from, rect.east(), y))
 }
 
 // Whether two rectangles have a point in common.
@@ -87,22 +97,32 @@ fn has_some(round: &Round, words: &[Word]) -> bool {
 // Whether a query with these hits needs a node that is not the root.
 fn calls_for(query: &Query, hits: &[Hit], round: &Round) -> bool {
     match query {
-        Query::Range { at, radius, filter } => {
-            may_pass(round, filter) && least_distance(&round.rect, at) <= *radius
-        }
+        Query::Range {
+            at,
+            scale,
+            radius,
+            filter,
+        } => may_pass(round, filter) && least_distance(&round.rect, at, *scale) <= *radius,
         Query::Inside { rect, filter } => may_pass(round, filter) && meet(&round.rect, rect),
-        Query::Nearest { at, k, filter } => {
+        Query::Nearest {
+            at,
+            scale,
+            k,
+            filter,
+        } => {
             let few = filter.is_some() && hits.len() < usize::from(*k);
-            may_pass(round, filter) && (few || is_up_to_last(least_distance(&round.rect, at), hits))
+            let far = least_distance(&round.rect, at, *scale);
+            may_pass(round, filter) && (few || is_up_to_last(far, hits))
         }
         Query::Top {
             at,
+            scale,
             alpha,
             reach,
             words,
             ..
         } => {
-            let far = least_distance(&round.rect, at);
+            let far = least_distance(&round.rect, at, *scale);
             match least_cost(round, words.as_slice(), *alpha, *reach, far) {
                 Some(cost) => is_up_to_last(cost, hits),
                 None => false,

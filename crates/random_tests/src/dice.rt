@@ -12,6 +12,16 @@ static SHARES: [&str; 4] = [" 0", " 300", " 500", " 1000"];
 
 static REACHES: [&str; 4] = [" 0.0000001", " 1", " 50", " 402.4922359"];
 
+/// The scales of queries, in turn.
+pub(crate) static SCALES: [&str; 6] = [
+    " scale 0",
+    " scale 1",
+    " scale 500",
+    " scale 564",
+    " scale 999",
+    " scale 1000",
+];
+
 // Filters: the text before each of their words, and the text after the last.
 static FILTERS: [(&[&str], &str); 6] = [
     (&[" where "], ""),
@@ -57,14 +67,28 @@ impl Dice {
         first.min(self.below(40))
     }
 
-    // A point in thousandths of a degree from the map's south-west corner: a corner, a point on a border, one fixed point, any point,
-    // or one in one of twelve clusters.
+    // A number at most a thousand from 0 or from `most`.
+    fn end(&mut self, most: u32) -> u32 {
+        let far = self.below(1_001);
+        if self.below(2) == 0 {
+            far
+        } else {
+            most.saturating_sub(far)
+        }
+    }
+
+    // A point in thousandths of a degree from the map's south-west corner. Half of them are at most a degree from the 180th meridian or
+    // from a pole: a corner, a point on a border, and points near one border or two. The others are one fixed point, any point, or in one
+    // of twelve clusters.
     pub(crate) fn point(&mut self) -> (u32, u32) {
         match self.below(20) {
             0 => (360_000 * self.below(2), 180_000 * self.below(2)),
-            1 => (360_000, self.below(180_001)),
-            2 | 3 => (185_000, 95_000),
-            4..=6 => (self.below(360_001), self.below(180_001)),
+            1 => (360_000 * self.below(2), self.below(180_001)),
+            2..=5 => (self.end(360_000), self.below(180_001)),
+            6 | 7 => (self.below(360_001), self.end(180_000)),
+            8 | 9 => (self.end(360_000), self.end(180_000)),
+            10 | 11 => (185_000, 95_000),
+            12 | 13 => (self.below(360_001), self.below(180_001)),
             _ => {
                 let cluster = self.below(12);
                 let (x, y) = (27_000 * cluster, 13_000 * (cluster * 7 % 12));
@@ -158,35 +182,45 @@ fn write_box(line: &mut String, first: (u32, u32), second: (u32, u32)) -> Result
     write_point(line, (first.0.max(second.0), first.1.max(second.1)), "")
 }
 
-// Writes what a top query has after its point. Its words are an even and an odd one, and a store may have neither.
-fn write_ranking(line: &mut String, dice: &mut Dice) -> Result<(), AllocError> {
+// Writes what a top query has after its point, with its scale. Its words are an even and an odd one, and a store may have neither.
+fn write_ranking(line: &mut String, dice: &mut Dice, scale: &str) -> Result<(), AllocError> {
     line.push_str(COUNTS[dice.below(8) as usize])?;
     line.push_str(SHARES[dice.below(4) as usize])?;
     line.push_str(REACHES[dice.below(4) as usize])?;
+    line.push_str(scale)?;
     write_pair(line, 2 * dice.below(22), "*3", 2 * dice.below(22) + 1)
 }
 
-// Writes a query of each kind in turn. Group queries are rare, since each tries many choices.
+// Writes a query of each kind in turn, with a scale. Group queries are rare, since each tries many choices. One box in four has all
+// longitudes.
 fn write_query(
     line: &mut String,
     dice: &mut Dice,
     turn: u32,
     at: (u32, u32),
     corner: (u32, u32),
+    scale: &str,
 ) -> Result<(), AllocError> {
     match turn % 17 {
         0 => {
             line.push_str("group")?;
             write_point(line, at, "")?;
+            line.push_str(scale)?;
             write_pair(line, 2 * dice.below(20), "", 2 * dice.below(20) + 1)
         }
         1..=4 => {
             line.push_str("range")?;
             write_point(line, at, "")?;
             line.push_str(RADII[dice.below(5) as usize])?;
+            line.push_str(scale)?;
             write_filter(line, dice)
         }
-        5..=8 => {
+        5 => {
+            line.push_str("box")?;
+            write_box(line, (0, at.1), (360_000, corner.1))?;
+            write_filter(line, dice)
+        }
+        6..=8 => {
             line.push_str("box")?;
             write_box(line, at, corner)?;
             write_filter(line, dice)
@@ -195,12 +229,13 @@ fn write_query(
             line.push_str("nearest")?;
             write_point(line, at, "")?;
             line.push_str(COUNTS[dice.below(8) as usize])?;
+            line.push_str(scale)?;
             write_filter(line, dice)
         }
         _ => {
             line.push_str("top")?;
             write_point(line, at, "")?;
-            write_ranking(line, dice)
+            write_ranking(line, dice, scale)
         }
     }
 }
@@ -214,6 +249,7 @@ pub(crate) fn query_line(
 ) -> Result<String, AllocError> {
     let mut line = String::new(alloc);
     let (at, corner) = (dice.asked(ground), dice.asked(ground));
-    write_query(&mut line, dice, turn, at, corner)?;
+    let scale = SCALES[(turn % 6) as usize];
+    write_query(&mut line, dice, turn, at, corner, scale)?;
     Ok(line)
 }

@@ -2,7 +2,7 @@
 ghost use Rattle.std.specs.Prelude.{IfOk};
 ghost use Rattle.query_replies.specs.Reply.{HasReason};
 
-use crate::dice::Dice;
+use crate::dice::{Dice, SCALES};
 use crate::making::{ROOM, run_well};
 use disk_model::MemoryStation;
 use place_map::State;
@@ -24,6 +24,14 @@ const GROUPS: u32 = 5;
 
 // Words, from the most common to the rarest.
 static WORDS: [&str; 6] = [" a", " b", " c", " d", " e", " f"];
+
+// The longitudes of places in two maps of which one is round the 180th meridian, and those that queries are asked from there.
+static LONGITUDES: [[&str; 5]; 2] = [
+    ["0", "1", "2", "3", "4"],
+    ["179", "180", "-180", "-179", "-178"],
+];
+
+static ASKED: [[&str; 4]; 2] = [["0", "1.1", "2.2", "4"], ["179.2", "180", "-180", "-178.9"]];
 
 // A place of a map: its point on a small grid, and its words as bits, bit n for the nth word.
 #[derive(Clone, Copy)]
@@ -81,14 +89,16 @@ fn has_tie(spots: &[Spot]) -> bool {
     false
 }
 
-// Writes a line that puts a place.
+// Writes a line that puts a place on one of the two maps.
 fn write_add(
     script: &mut String,
     dice: &mut Dice,
+    side: usize,
     number: usize,
     spot: &Spot,
 ) -> Result<(), AllocError> {
-    let (key, x, y) = (dice.below(90), spot.x, spot.y);
+    let (key, y) = (dice.below(90), spot.y);
+    let x = LONGITUDES[side % 2][spot.x as usize % 5];
     write!(script, "add k{key}n{number} {x} {y}")?;
     let mut left = spot.words;
     for word in &WORDS {
@@ -101,9 +111,15 @@ fn write_add(
 }
 
 // Writes a group query for one to four words, from a point on the grid or between its points.
-fn write_group(script: &mut String, dice: &mut Dice) -> Result<(), AllocError> {
-    let (x, y, part) = (dice.below(5), dice.below(4), dice.below(3));
-    write!(script, "group {x}.{part} {y} words")?;
+fn write_group(
+    script: &mut String,
+    dice: &mut Dice,
+    side: usize,
+    scale: &str,
+) -> Result<(), AllocError> {
+    let x = ASKED[side % 2][dice.below(4) as usize];
+    let y = dice.below(4);
+    write!(script, "group {x} {y}{scale} words")?;
     let (first, count) = (dice.below(6), dice.below(4).saturating_add(1));
     for n in 0..count {
         script.push_str(WORDS[(first.saturating_add(n) % 6) as usize])?;
@@ -111,14 +127,21 @@ fn write_group(script: &mut String, dice: &mut Dice) -> Result<(), AllocError> {
     script.push_str("\n")
 }
 
-// A script over a map.
-fn script_over(alloc: Global, dice: &mut Dice, spots: &[Spot]) -> Result<String, AllocError> {
+// A script over the map of this number, of which every other one is round the 180th meridian.
+fn script_over(
+    alloc: Global,
+    dice: &mut Dice,
+    map: u32,
+    spots: &[Spot],
+) -> Result<String, AllocError> {
     let mut script = String::new(alloc);
+    let side = (map % 2) as usize;
     for (number, spot) in spots.iter().enumerate() {
-        write_add(&mut script, dice, number, spot)?;
+        write_add(&mut script, dice, side, number, spot)?;
     }
-    for _ in 0..GROUPS {
-        write_group(&mut script, dice)?;
+    for turn in 0..GROUPS {
+        let scale = SCALES[(map.wrapping_add(turn) % 6) as usize];
+        write_group(&mut script, dice, side, scale)?;
     }
     Ok(script)
 }
@@ -164,11 +187,11 @@ fn is_told(alloc: Global, script: &str, wanted: &[u8]) -> Result<bool, Fail> {
 fn groups_are_those_of_the_scan(rt: HostRuntime) -> Result<(), Fail> {
     let mut dice = Dice { seed: 7 };
     let (mut lone, mut tied) = (0_u32, 0_u32);
-    for _ in 0..MAPS {
+    for map in 0..MAPS {
         let spots = spots(rt.alloc(), &mut dice)?;
         lone = lone.saturating_add(u32::from(has_lone_word(&spots)));
         tied = tied.saturating_add(u32::from(has_tie(&spots)));
-        let script = script_over(rt.alloc(), &mut dice, &spots)?;
+        let script = script_over(rt.alloc(), &mut dice, map, &spots)?;
         let wanted = replies_to(rt.alloc(), script.as_str())?;
         assert!(rt; is_told(rt.alloc(), script.as_str(), &wanted)?, "{script}");
     }

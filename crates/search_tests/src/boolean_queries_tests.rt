@@ -5,7 +5,7 @@ use node_inverted::Tree;
 use page_face::{Damage, PageFault, Pages, Rule};
 use place_values::Expr;
 use rtree_nodes::new_node;
-use spatial_base::{Point, Rect};
+use spatial_base::{Point, Rect, SCALE_MAX};
 use std::alloc::Global;
 use std::test::Fail;
 
@@ -31,35 +31,41 @@ static ROWS: [Row; 6] = [
 static WORDS: [(&str, u64); 2] = [("café", 0), ("wifi", 1)];
 
 // Whether the places in range of the point 0 0 are these.
-fn are_near(alloc: Global, grown: &mut Grown, radius: u64, wanted: &str) -> bool {
+fn are_near(alloc: Global, grown: &mut Grown, scale: u16, radius: u64, wanted: &str) -> bool {
     let Some(at) = Point::new(0, 0) else {
         return false;
     };
+    if scale > SCALE_MAX {
+        return false;
+    }
     let answer = range(
         alloc,
         &mut grown.pages,
         &grown.tree,
         &grown.ids,
         &at,
+        scale,
         radius,
         None,
     );
     readable(alloc, &answer, wanted)
 }
 
-// A radius, and the answer.
-static RANGES: [(u64, &str); 3] = [
-    (6, "c 0, "),
-    (7, "c 0, a 7, d 7, "),
-    (20, "c 0, a 7, d 7, b 12, e 20, "),
+// A scale, a radius, and the answer.
+static RANGES: [(u16, u64, &str); 5] = [
+    (1000, 6, "c 0, "),
+    (1000, 7, "c 0, a 7, d 7, "),
+    (1000, 20, "c 0, a 7, d 7, b 12, e 20, "),
+    (500, 10, "c 0, a 5, d 5, b 10, e 10, "),
+    (0, 8, "c 0, e 0, a 5, d 5, "),
 ];
 
 #[test]
 fn places_in_range_come_by_distance_and_key(rt: HostRuntime) -> Result<(), Fail> {
     let tree = planted(rt.alloc(), &LEAVES, &PLACES, &ROWS, &WORDS);
     let mut tree = tree.ok_or("no tree")?;
-    for (radius, wanted) in &RANGES {
-        assert!(rt; are_near(rt.alloc(), &mut tree, *radius, wanted));
+    for (scale, radius, wanted) in &RANGES {
+        assert!(rt; are_near(rt.alloc(), &mut tree, *scale, *radius, wanted));
     }
     Ok(())
 }

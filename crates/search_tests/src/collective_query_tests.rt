@@ -6,7 +6,7 @@ use node_inverted::Tree;
 use page_face::{Damage, PageFault, Pages, Rule};
 use place_values::Chosen;
 use rtree_nodes::new_node;
-use spatial_base::Point;
+use spatial_base::{Point, SCALE_MAX};
 use std::alloc::Global;
 use std::fmt::Write;
 use std::test::Fail;
@@ -123,9 +123,13 @@ fn words_of(alloc: Global, texts: &[&str]) -> Option<Vec<Word>> {
 fn group_of(
     alloc: Global,
     grown: &mut Grown,
+    scale: u16,
     texts: &[&str],
 ) -> Option<Result<Option<Chosen>, PageFault>> {
     let at = Point::new(0, 0)?;
+    if scale > SCALE_MAX {
+        return None;
+    }
     let words = words_of(alloc, texts)?;
     Some(group(
         alloc,
@@ -133,42 +137,47 @@ fn group_of(
         &grown.tree,
         &grown.ids,
         &at,
+        scale,
         &words,
     ))
 }
 
 // Whether the choice for some words from 0 0 is this.
-fn is_chosen(alloc: Global, grown: &mut Grown, texts: &[&str], wanted: &str) -> bool {
-    match group_of(alloc, grown, texts) {
+fn is_chosen(alloc: Global, grown: &mut Grown, scale: u16, texts: &[&str], wanted: &str) -> bool {
+    match group_of(alloc, grown, scale, texts) {
         Some(answer) => readable(alloc, &answer, wanted),
         None => false,
     }
 }
 
-// The words of a query, and the answer: the cost and the keys. Five places of "m" are nearer than those of "r", and three pairs cost 114.
-static GROUPS: [(&[&str], &str); 11] = [
-    (&["b"], "10 b1"),
-    (&["e"], "0 e1"),
-    (&["f", "g"], "5 fg fg"),
-    (&["a", "b", "c"], "14 a1 b2 c2"),
-    (&["c", "a", "b"], "14 c2 a1 b2"),
-    (&["d", "e"], "20 d1 e1"),
-    (&["a", "h"], ""),
-    (&["tea", "a"], ""),
-    (&["m", "r"], "114 m5 r2"),
-    (&["r", "m"], "114 r1 m8"),
-    (&["m", "r", "m"], "114 m5 r2 m5"),
+// The scale and the words of a query, and the answer: the cost and the keys. Five places of "m" are nearer than those of "r", and three
+// pairs cost 114.
+static GROUPS: [(u16, &[&str], &str); 14] = [
+    (1000, &["b"], "10 b1"),
+    (1000, &["e"], "0 e1"),
+    (1000, &["f", "g"], "5 fg fg"),
+    (1000, &["a", "b", "c"], "14 a1 b2 c2"),
+    (1000, &["c", "a", "b"], "14 c2 a1 b2"),
+    (1000, &["d", "e"], "20 d1 e1"),
+    (1000, &["a", "h"], ""),
+    (1000, &["tea", "a"], ""),
+    (1000, &["m", "r"], "114 m5 r2"),
+    (1000, &["r", "m"], "114 r1 m8"),
+    (1000, &["m", "r", "m"], "114 m5 r2 m5"),
+    (500, &["a", "b"], "7 a1 b2"),
+    (0, &["a", "b", "c"], "0 a1 b1 c2"),
+    (0, &["r", "m"], "50 r1 m5"),
 ];
 
 #[test]
 fn places_that_are_near_together_cost_least(rt: HostRuntime) -> Result<(), Fail> {
     let tree = planted(rt.alloc(), &LEAVES, &PLACES, &ROWS, &WORDS);
     let mut tree = tree.ok_or("no tree")?;
-    for (texts, wanted) in &GROUPS {
-        assert!(rt; is_chosen(rt.alloc(), &mut tree, texts, wanted));
+    for (scale, texts, wanted) in &GROUPS {
+        assert!(rt; is_chosen(rt.alloc(), &mut tree, *scale, texts, wanted));
     }
     tree.tree = Tree { root: 0, rows: 0 };
-    assert!(rt; is_chosen(rt.alloc(), &mut tree, &["a"], ""));
+    assert!(rt; is_chosen(rt.alloc(), &mut tree, SCALE_MAX, &["a"], ""));
     Ok(())
 }
 
@@ -178,7 +187,7 @@ fn is_named(alloc: Global, grown: &mut Grown) -> bool {
         page: 2,
         rule: Rule::Fill,
     };
-    match group_of(alloc, grown, &["a", "e"]) {
+    match group_of(alloc, grown, SCALE_MAX, &["a", "e"]) {
         Some(answer) => answer.err() == Some(PageFault::Damaged(damage)),
         None => false,
     }
@@ -189,7 +198,7 @@ fn a_broken_page_is_named_with_its_rule(rt: HostRuntime) -> Result<(), Fail> {
     let tree = planted(rt.alloc(), &LEAVES, &PLACES, &ROWS, &WORDS);
     let mut tree = tree.ok_or("no tree")?;
     assert_eq!(rt; tree.pages.write(2, &new_node(0)), Ok(()));
-    assert!(rt; is_chosen(rt.alloc(), &mut tree, &["f", "g"], "5 fg fg"));
+    assert!(rt; is_chosen(rt.alloc(), &mut tree, SCALE_MAX, &["f", "g"], "5 fg fg"));
     assert!(rt; is_named(rt.alloc(), &mut tree));
     Ok(())
 }

@@ -9,7 +9,7 @@ use irtree_engine::{Engine, EngineFault};
 use page_face::Head;
 use page_store::Store;
 use place_values::{Answer, Applied, Place, Query, Update};
-use spatial_base::{Key, Point};
+use spatial_base::{Key, Point, SCALE_MAX};
 use split_policy::{Halving, Quadratic, SplitPolicy};
 use std::alloc::Global;
 use std::test::Fail;
@@ -220,6 +220,7 @@ fn is_nearest(engine: &mut Engine<'_, MemoryStation>, key: &Key) -> Result<bool,
 {
     let query = Query::Nearest {
         at: Point::new(0, 0).ok_or("off the map")?,
+        scale: SCALE_MAX,
         k: 2,
         filter: None,
     };

@@ -9,7 +9,7 @@ use page_face::Pages;
 use page_store::Store;
 use place_values::{Answer, Query, Weights};
 use rtree_nodes::child_at;
-use spatial_base::Point;
+use spatial_base::{Point, SCALE_MAX};
 use split_policy::Halving;
 use std::alloc::Global;
 use std::test::Fail;
@@ -39,6 +39,7 @@ fn nodes_of(alloc: Global, station: &mut MemoryStation) -> Result<Nodes, Fail> {
 fn nearest_three() -> Result<Query, Fail> {
     Ok(Query::Nearest {
         at: Point::new(0, 0).ok_or("off the map")?,
+        scale: SCALE_MAX,
         k: 3,
         filter: None,
     })
@@ -50,6 +51,7 @@ fn top_three(alloc: Global, word: &str) -> Result<Query, Fail> {
     words.push((one_word(alloc, word)?.ok_or("no word")?, 1))?;
     Ok(Query::Top {
         at: Point::new(0, 0).ok_or("off the map")?,
+        scale: SCALE_MAX,
         k: 3,
         alpha: 1_000,
         reach: 10_000_000,

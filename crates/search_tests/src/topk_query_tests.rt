@@ -6,7 +6,7 @@ use node_inverted::Tree;
 use page_face::{Damage, PageFault, Pages, Rule};
 use place_values::{Expr, Query, Weights};
 use rtree_nodes::new_node;
-use spatial_base::Point;
+use spatial_base::{Point, SCALE_MAX};
 use std::alloc::Global;
 use std::test::Fail;
 use topk_query::top;
@@ -36,7 +36,7 @@ fn are_nearest(
     let Some(at) = Point::new(0, 0) else {
         return false;
     };
-    let mut ranking = Ranking::nearest(&grown.tree, &grown.ids, &at, filter);
+    let mut ranking = Ranking::nearest(&grown.tree, &grown.ids, &at, SCALE_MAX, filter);
     let answer = first_k(alloc, &mut grown.pages, &mut ranking, k);
     readable(alloc, &answer, wanted)
 }
@@ -76,32 +76,48 @@ fn the_nearest_come_by_distance_and_meet_a_filter(rt: HostRuntime) -> Result<(),
     Ok(())
 }
 
-// How many hits are requested, alpha, words with their weights, and the answer.
-type Top = (u16, u16, &'static [(&'static str, u8)], &'static str);
+// The scale, how many hits are requested, alpha, words with their weights, and the answer.
+type Top = (u16, u16, u16, &'static [(&'static str, u8)], &'static str);
 
-static TOPS: [Top; 7] = [
+static TOPS: [Top; 8] = [
     (
+        1000,
         9,
         500,
         &[("café", 1), ("wifi", 2)],
         "b 9175000, a 9362500, c 10300000, ",
     ),
-    (1, 500, &[("café", 1), ("wifi", 2)], "b 9175000, "),
+    (1000, 1, 500, &[("café", 1), ("wifi", 2)], "b 9175000, "),
     (
+        1000,
         9,
         0,
         &[("café", 1), ("wifi", 2)],
         "c 5300000, b 10700000, a 14900000, ",
     ),
     (
+        1000,
         2,
         1000,
         &[("café", 1), ("wifi", 2)],
         "a 3825000, b 7650000, ",
     ),
-    (9, 500, &[("café", 4)], "a 11950000, b 14100000, "),
-    (9, 500, &[("tea", 1), ("café", 1)], "a 6175000, b 7350000, "),
-    (9, 500, &[("tea", 1)], ""),
+    (
+        0,
+        2,
+        1000,
+        &[("café", 1), ("wifi", 2)],
+        "a 3060000, b 6120000, ",
+    ),
+    (1000, 9, 500, &[("café", 4)], "a 11950000, b 14100000, "),
+    (
+        1000,
+        9,
+        500,
+        &[("tea", 1), ("café", 1)],
+        "a 6175000, b 7350000, ",
+    ),
+    (1000, 9, 500, &[("tea", 1)], ""),
 ];
 
 // The words of a query with their weights.
@@ -115,9 +131,10 @@ fn weights_of(alloc: Global, words: &[(&str, u8)]) -> Option<Weights> {
 
 // A top query from 0 0, in which the distance 20 weighs as much as the words.
 fn query_of(alloc: Global, of: &Top) -> Option<Query> {
-    let (k, alpha, words, _) = of;
+    let (scale, k, alpha, words, _) = of;
     Some(Query::Top {
         at: Point::new(0, 0)?,
+        scale: *scale,
         k: *k,
         alpha: *alpha,
         reach: 20,
@@ -133,6 +150,7 @@ fn are_first(alloc: Global, grown: &mut Grown, query: &Query, wanted: &str) -> b
     match query {
         Query::Top {
             at,
+            scale,
             k,
             alpha,
             reach,
@@ -144,6 +162,7 @@ fn are_first(alloc: Global, grown: &mut Grown, query: &Query, wanted: &str) -> b
                 &grown.tree,
                 &grown.ids,
                 at,
+                *scale,
                 *k,
                 *alpha,
                 *reach,
@@ -158,7 +177,7 @@ fn are_first(alloc: Global, grown: &mut Grown, query: &Query, wanted: &str) -> b
 // Whether the hits are those in the table.
 fn are_ranked(alloc: Global, grown: &mut Grown, of: &Top) -> bool {
     match query_of(alloc, of) {
-        Some(query) => are_first(alloc, grown, &query, of.3),
+        Some(query) => are_first(alloc, grown, &query, of.4),
         None => false,
     }
 }
@@ -178,7 +197,7 @@ fn is_named(alloc: Global, grown: &mut Grown, rule: Rule) -> bool {
     let Some(at) = Point::new(0, 0) else {
         return false;
     };
-    let mut ranking = Ranking::nearest(&grown.tree, &grown.ids, &at, None);
+    let mut ranking = Ranking::nearest(&grown.tree, &grown.ids, &at, SCALE_MAX, None);
     let answer = first_k(alloc, &mut grown.pages, &mut ranking, 3);
     answer.err() == Some(PageFault::Damaged(Damage { page: 2, rule }))
 }

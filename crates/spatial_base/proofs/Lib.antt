@@ -1,4 +1,3 @@
-pub mod Gaps
 pub mod KeyForms
 pub mod KeyOrder
 pub mod Names

@@ -1,7 +1,7 @@
 -- Rectangles, what they hold, and how far they are from a point.
-use Rattle.std.specs.Prelude.{ℕ, ℤ, ◌*◌, ◌≤ℤ◌, ◌&&◌, Bool, int_le}
+use Rattle.std.specs.Prelude.{ℕ, ℤ, ◌*◌, ◌≤ℤ◌, ◌&&◌, Bool, int_le, min}
 use Rattle.std.specs.Int.{int_min, int_max}
-use Rattle.spatial_base.specs.Point.{Position, IsOnMap, gap, distance}
+use Rattle.spatial_base.specs.Point.{Position, IsOnMap, Viewpoint, gap, longitude_gap, line_of}
 
 -- the least and the greatest longitude and latitude of a rectangle, in degrees times 10^7
 pub record Bounds : Type 0 where
@@ -57,10 +57,12 @@ area_of r = gap r.west r.east * gap r.south r.north
 abbrev pub clamped : ℤ → ℤ → ℤ → ℤ
 clamped low high a = int_max (int_min a high) low
 
--- the point of a rectangle that is nearest to one
-abbrev pub nearest_in : Bounds → Position → Position
-nearest_in r p = record { x = clamped r.west r.east p.x; y = clamped r.south r.north p.y }
+-- How far a longitude is from a range of longitudes, on the circle: straight to the range, or to one of its ends by the shorter way
+-- round, whichever is least. So it is 0 inside, and else the lesser of the ways to the two ends.
+abbrev pub longitude_gap_to : ℤ → ℤ → ℤ → ℕ
+longitude_gap_to west east a = min (gap a (clamped west east a)) (min (longitude_gap a west) (longitude_gap a east))
 
--- MINDIST (Roussopoulos, Kelley and Vincent 1995, definition 2; there it is squared)
-abbrev pub mindist_of : Bounds → Position → ℕ
-mindist_of r p = distance p (nearest_in r p)
+-- MINDIST (Roussopoulos, Kelley and Vincent 1995, definition 2; there it is squared, on a plane): the least distance to a point of the
+-- rectangle
+abbrev pub mindist_of : Bounds → Viewpoint → ℕ
+mindist_of r from = line_of from.scale (longitude_gap_to r.west r.east from.point.x) (gap from.point.y (clamped r.south r.north from.point.y))

@@ -1,10 +1,10 @@
 // Rectangles on the map.
-ghost use Rattle.std.specs.Prelude.{◌≡◌, ◌≤◌, ◌≤ℤ◌, ◌↔◌, IsTrue, IsSome, IfSome};
-ghost use Rattle.spatial_base.specs.Point.{Position, distance, gap};
-ghost use Rattle.spatial_base.specs.Rect.{Bounds, IsRect, Holds, holds_point, Covers, rect_of, joined, area_of, mindist_of, clamped, is_in_range};
+ghost use Rattle.std.specs.Prelude.{◌≡◌, ◌≤◌, ◌≤ℤ◌, ◌↔◌, IsTrue, IsSome, IfSome, unsigned_abs};
+ghost use Rattle.spatial_base.specs.Point.{Position, distance, gap, seen_from};
+ghost use Rattle.spatial_base.specs.Rect.{Bounds, IsRect, Holds, holds_point, Covers, rect_of, joined, area_of, mindist_of, clamped, is_in_range, longitude_gap_to};
 
 use crate::Point;
-use crate::distance::line;
+use crate::distance::{east_gap, line};
 use crate::point::is_on_map;
 use std::marker::Model;
 
@@ -129,17 +129,37 @@ impl Rect {
 
     /// Returns the distance from a point to the nearest point of the rectangle, in degrees times 10^7, rounded down.
     ///
-    /// It is 0 inside the rectangle and on its border. No point of the rectangle is nearer than this.
-    pub fn mindist(&self, p: &Point) -> u64
-        ensures value { result ≡ mindist_of self.now p.now }
+    /// Longitudes go the shorter way round and count `scale` thousandths of their size. It is 0 inside the rectangle and on its border.
+    /// No point of the rectangle is nearer than this, and one is as near.
+    pub fn mindist(&self, p: &Point, scale: u16) -> u64
+        requires { scale ≤ 1000 }
+        ensures value { result ≡ mindist_of self.now (seen_from p.now scale) }
         ensures inside { Holds self.now p.now → result ≡ 0 }
-        ensures below { (q : Position) → Holds self.now q → result ≤ distance p.now q }
-        ensures far { result ≤ 4024922359 }
+        ensures below { (q : Position) → Holds self.now q → result ≤ distance (seen_from p.now scale) q }
+        ensures reached { (q : Position) × Holds self.now q × (result ≡ distance (seen_from p.now scale) q) }
+        ensures far { result ≤ 2545584412 }
     {
         line(
-            outside(self.west, self.east, p.x()),
+            east_gap_to(self.west, self.east, p.x()),
             outside(self.south, self.north, p.y()),
+            scale,
         )
+    }
+}
+
+// The distance from a longitude to a range of longitudes by the shorter way round, 0 if it is in the range.
+fn east_gap_to(west: i32, east: i32, a: i32) -> u64
+    requires order { west ≤ℤ east }
+    requires west { unsigned_abs west ≤ 1800000000 }
+    requires east { unsigned_abs east ≤ 1800000000 }
+    requires a { unsigned_abs a ≤ 1800000000 }
+    ensures value { result ≡ longitude_gap_to west east a }
+    ensures within { result ≤ 1800000000 }
+{
+    if west <= a && a <= east {
+        0
+    } else {
+        east_gap(a, west).min(east_gap(a, east))
     }
 }
 

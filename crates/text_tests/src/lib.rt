@@ -1,5 +1,5 @@
-//! Tests of the crates of texts and values: words, numbers, GeoJSON, rows of bytes, command words, and the map of places that answers
-//! by a scan.
+//! Tests of the crates of texts and values: words, numbers, GeoJSON, rows of bytes, command words, the lines of scripts, and the map of
+//! places that answers by a scan.
 #![tactic(auto)]
 
 #[cfg(test)]
@@ -18,6 +18,8 @@ mod number_grammar_tests;
 mod place_generator_tests;
 #[cfg(test)]
 mod place_map_tests;
+#[cfg(test)]
+mod query_lang_tests;
 #[cfg(test)]
 mod row_codec_tests;
 #[cfg(test)]

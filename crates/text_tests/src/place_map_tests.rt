@@ -130,6 +130,7 @@ fn group(alloc: Global, texts: &[&str]) -> Result<Query, Fail> {
     }
     Ok(Query::Group {
         at: Point::new(0, 0).ok_or("off the map")?,
+        scale: 1000,
         words: Terms::from_vec(words),
     })
 }
@@ -186,6 +187,7 @@ fn top(alloc: Global, k: u16, text: &str, weight: u8) -> Result<Query, Fail> {
     words.push((word(alloc, text)?, weight))?;
     Ok(Query::Top {
         at: Point::new(0, 0).ok_or("off the map")?,
+        scale: 1000,
         k,
         alpha: 500,
         reach: 10_000_000,
@@ -244,6 +246,7 @@ fn query_of(alloc: Global, asked: Asked) -> Result<Query, Fail> {
     Ok(match asked {
         Asked::Range => Query::Range {
             at,
+            scale: 1000,
             radius: 20_000_000,
             filter: Some(a_alone(alloc)?),
         },
@@ -255,6 +258,7 @@ fn query_of(alloc: Global, asked: Asked) -> Result<Query, Fail> {
         },
         Asked::Nearest(k) => Query::Nearest {
             at,
+            scale: 1000,
             k,
             filter: Some(Expr::Not(has(alloc, "and")?)),
         },

@@ -1,58 +1,81 @@
-use spatial_base::{Key, Point, Rect, dist, isqrt};
+use spatial_base::{Key, Origin, Point, Rect, dist, isqrt};
 use std::test::Fail;
 
-// Longitude and latitude of two points, and the distance between them.
-static DISTANCES: [(i32, i32, i32, i32, u64); 5] = [
-    (0, 0, 30_000_000, 40_000_000, 50_000_000),
+// Longitude and latitude of two points, the scale of longitudes, and the distance between the points.
+static DISTANCES: [(i32, i32, i32, i32, u16, u64); 13] = [
+    (0, 0, 30_000_000, 40_000_000, 1000, 50_000_000),
+    (0, 0, 30_000_000, 40_000_000, 500, 42_720_018),
+    (0, 0, 30_000_000, 40_000_000, 0, 40_000_000),
+    (5, 5, 5, 5, 1000, 0),
+    (0, 0, 1, 1, 1000, 1),
+    (0, 0, -2, 2, 1000, 2),
+    (0, 0, 3, 0, 500, 1),
+    // The 180th meridian is one line, and the shorter way goes across it.
+    (1_800_000_000, 0, -1_800_000_000, 0, 1000, 0),
+    (1_799_000_000, 0, -1_799_000_000, 0, 1000, 2_000_000),
+    (1_799_000_000, 0, -1_799_000_000, 0, 250, 500_000),
+    (0, 0, 1_800_000_000, 0, 1000, 1_800_000_000),
+    (-900_000_001, 0, 900_000_000, 0, 1000, 1_799_999_999),
+    // The greatest distance.
     (
-        -1_800_000_000,
+        0,
         -900_000_000,
-        1_800_000_000,
+        -1_800_000_000,
         900_000_000,
-        4_024_922_359,
+        1000,
+        2_545_584_412,
     ),
-    (5, 5, 5, 5, 0),
-    (0, 0, 1, 1, 1),
-    (0, 0, -2, 2, 2),
 ];
 
-// The distance between two points, or `None` if one is off the map.
-fn distance(west: i32, south: i32, east: i32, north: i32) -> Option<u64> {
-    Some(dist(&Point::new(west, south)?, &Point::new(east, north)?))
+// The distance between two points, or `None` if one is off the map or the scale is above 1000.
+fn distance(west: i32, south: i32, east: i32, north: i32, scale: u16) -> Option<u64> {
+    let from = Origin::new(Point::new(west, south)?, scale)?;
+    let to = Point::new(east, north)?;
+    Some(dist(&from.point(), &to, from.scale()))
 }
 
 #[test]
-fn a_distance_is_rounded_down(rt: HostRuntime) {
-    for &(west, south, east, north, wanted) in &DISTANCES {
+fn a_distance_goes_the_shorter_way_and_is_rounded_down(rt: HostRuntime) {
+    for &(west, south, east, north, scale, wanted) in &DISTANCES {
         assert!(rt;
-            distance(west, south, east, north) == Some(wanted),
+            distance(west, south, east, north, scale) == Some(wanted),
             "{wanted}"
         );
     }
+    assert!(rt; distance(0, 0, 0, 0, 1001).is_none());
     assert!(rt; isqrt(u128::MAX) == u64::MAX);
 }
 
-// West, south, east and north; a point; whether the rectangle holds it; and its distance to the nearest point of the rectangle.
-static RECTANGLES: [(i32, i32, i32, i32, i32, i32, bool, u64); 6] = [
-    (-1, -1, 1, 1, 0, 0, true, 0),
-    (-1, -1, 1, 1, 1, -1, true, 0),
-    (-1, -1, 1, 1, 2, 0, false, 1),
-    (0, 0, 10, 10, 13, 14, false, 5),
-    (0, 0, 10, 10, -3, 5, false, 3),
-    (7, 7, 7, 7, 4, 3, false, 5),
+// West, south, east and north; a point and a scale; whether the rectangle holds the point; and its distance to the nearest point of the
+// rectangle.
+static RECTANGLES: [(i32, i32, i32, i32, i32, i32, u16, bool, u64); 10] = [
+    (-1, -1, 1, 1, 0, 0, 1000, true, 0),
+    (-1, -1, 1, 1, 1, -1, 1000, true, 0),
+    (-1, -1, 1, 1, 2, 0, 1000, false, 1),
+    (0, 0, 10, 10, 13, 14, 1000, false, 5),
+    (0, 0, 10, 10, -3, 5, 1000, false, 3),
+    (7, 7, 7, 7, 4, 3, 1000, false, 5),
+    (0, 0, 10, 10, 16, 14, 500, false, 5),
+    (0, 0, 10, 10, 1_000_000_000, 14, 0, false, 4),
+    // The west border is nearer across the 180th meridian, and so is the east border.
+    (-1_799_999_990, 0, 0, 10, 1_799_999_995, 5, 1000, false, 15),
+    (0, 0, 1_799_999_990, 10, -1_799_999_995, 5, 1000, false, 15),
 ];
 
-// Whether a rectangle holds a point, and the distance to its nearest point.
-fn seen_from(rect: Option<Rect>, x: i32, y: i32) -> Option<(bool, u64)> {
+// Whether a rectangle holds a point, and the distance to its nearest point with a scale.
+fn seen_from(rect: Option<Rect>, x: i32, y: i32, scale: u16) -> Option<(bool, u64)> {
     let (rect, p) = (rect?, Point::new(x, y)?);
-    Some((rect.holds(&p), rect.mindist(&p)))
+    Some((rect.holds(&p), Origin::new(p, scale)?.mindist(&rect)))
 }
 
 #[test]
 fn a_border_is_held_and_the_nearest_point_counts(rt: HostRuntime) {
-    for &(west, south, east, north, x, y, held, least) in &RECTANGLES {
+    for &(west, south, east, north, x, y, scale, held, least) in &RECTANGLES {
         let rect = Rect::new(west, south, east, north);
-        assert!(rt; seen_from(rect, x, y) == Some((held, least)), "{x} {y}");
+        assert!(rt;
+            seen_from(rect, x, y, scale) == Some((held, least)),
+            "{x} {y}"
+        );
     }
     assert!(rt; Rect::new(1, 0, -1, 0).is_none());
 }

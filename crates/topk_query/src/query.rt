@@ -1,11 +1,12 @@
 //! Top queries.
-ghost use Rattle.std.specs.Prelude.{◌≡◌, ◌≢◌, Err, IfOk, IsErrOf};
+ghost use Rattle.std.specs.Prelude.{◌≡◌, ◌≢◌, ◌≤◌, Err, IfOk, IsErrOf};
+ghost use Rattle.spatial_base.specs.Point.{seen_from};
 ghost use Rattle.std.specs.List.{flat_map};
 ghost use Rattle.page_face.specs.Calls.{Reads, FailsReading};
 ghost use Rattle.btree_nodes.specs.Damages.{AreReadable};
 ghost use Rattle.place_values.specs.First.{first};
 ghost use Rattle.place_values.specs.Hit.{comes_before};
-ghost use Rattle.place_values.specs.Query.{IsScale, IsWeights};
+ghost use Rattle.place_values.specs.Query.{IsBlend, IsWeights};
 ghost use Rattle.node_rows.specs.Rows.{bytes_in};
 ghost use Rattle.best_first.specs.Openings.{Opened};
 ghost use Rattle.node_filter.specs.Entries.{tree_places};
@@ -40,18 +41,20 @@ pub fn top<P: Pages>(
     tree: &Tree,
     ids: &Ids,
     at: &Point,
+    scale: u16,
     k: u16,
     alpha: u16,
     reach: u64,
     words: &[(Word, u8)],
 ) -> Result<Vec<Hit>, PageFault>
-    requires scale { IsScale alpha reach }
+    requires scale { scale ≤ 1000 }
+    requires blend { IsBlend alpha reach }
     requires words { IsWeights words.now }
     ensures found { FitsTree (P.pages pages.old) (P.count pages.old) (P.first pages.old) tree.now → IfOk result (λ found. found.items
-        ≡ first comes_before k (flat_map (top_item ids.now at.now alpha reach words.now) (tree_places (nodes_at (P.pages pages.old) tree.now) tree.now.root))) }
+        ≡ first comes_before k (flat_map (top_item ids.now (seen_from at.now scale) alpha reach words.now) (tree_places (nodes_at (P.pages pages.old) tree.now) tree.now.root))) }
     ensures opened { AreReadable (P.pages pages.old) (P.count pages.old) → IfOk result (λ found. (ask : Ask) × IsTopFor alpha reach words.now ask
         × Opened StandsIn (P.pages pages.old) (IsNodePage (P.pages pages.old) tree.now.rows) (FitsTree (P.pages pages.old) (P.count pages.old) (P.first pages.old) tree.now)
-        (opened_in ids.now at.now ask (nodes_at (P.pages pages.old) tree.now))
+        (opened_in ids.now (seen_from at.now scale) ask (nodes_at (P.pages pages.old) tree.now))
         (started_in ids.now ask (nodes_at (P.pages pages.old) tree.now) (bytes_in (P.pages pages.old) tree.now.rows) tree.now.root)
         tree.now.root (P.asked pages.old) (P.asked pages.new) k found.items) }
     ensures damaged { AreReadable (P.pages pages.old) (P.count pages.old) → (damage : Damage) → IsErrOf result (PageFault.Damaged damage)
@@ -60,6 +63,6 @@ pub fn top<P: Pages>(
     ensures fails { FailsReading P.Pages pages.old pages.new result }
     ensures frame { Reads P.Pages pages.old pages.new }
 {
-    let mut ranking = Ranking::top(tree, ids, at, alpha, reach, words);
+    let mut ranking = Ranking::top(tree, ids, at, scale, alpha, reach, words);
     first_k(alloc, pages, &mut ranking, k)
 }

@@ -3,7 +3,7 @@ use Rattle.std.specs.Borrow.{Bor}
 use Rattle.std.specs.Prelude.{IfOk}
 use Rattle.std.specs.List.{flat_map}
 use Rattle.page_face.specs.FreeList.{PageMap}
-use Rattle.spatial_base.specs.Point.{Position}
+use Rattle.spatial_base.specs.Point.{Viewpoint, seen_from}
 use Rattle.place_values.specs.First.{first}
 use Rattle.place_values.specs.declared.hit.Hit.{Hit}
 use Rattle.place_values.specs.declared.query.Expr.{Expr}
@@ -38,11 +38,11 @@ returns-clause-found g c = λ fits.
     let r = c.nearest-ranking.result in
     let made = c.nearest-ranking.ensures in
     let still : FitsTree p n b r.tree = subst (λ (t : Tree). FitsTree p n b t) (sym made.tree) fits in
-    let same = ap (λ (f : Option Expr). first comes_before c.args.k (flat_map (near_item c.args.ids.now c.args.at.now f) (tree_places (nodes_at p c.args.tree.now) c.args.tree.now.root))) (same-filter c.args.filter) in
+    let same = ap (λ (f : Option Expr). first comes_before c.args.k (flat_map (near_item c.args.ids.now (seen_from c.args.at.now c.args.scale) f) (tree_places (nodes_at p c.args.tree.now) c.args.tree.now.root))) (same-filter c.args.filter) in
     ok-weaker _
-    (λ (found : Vec Hit Global). found.items ≡ first comes_before c.args.k (flat_map (near_item c.args.ids.now c.args.at.now (filter_in c.args.filter)) (tree_places (nodes_at p c.args.tree.now) c.args.tree.now.root)))
+    (λ (found : Vec Hit Global). found.items ≡ first comes_before c.args.k (flat_map (near_item c.args.ids.now (seen_from c.args.at.now c.args.scale) (filter_in c.args.filter)) (tree_places (nodes_at p c.args.tree.now) c.args.tree.now.root)))
     c.first_k.result
-    (λ found e. e ∙ near-first c.args.k p n b r.tree c.args.tree.now r.ids.now c.args.ids.now r.at c.args.at.now c.args.filter r.ask r.on_map still made.tree made.ids made.at made.ask ∙ same)
+    (λ found e. e ∙ near-first c.args.k p n b r.tree c.args.tree.now r.ids.now c.args.ids.now r.at (seen_from c.args.at.now c.args.scale) c.args.filter r.ask r.on_map still made.tree made.ids made.at made.ask ∙ same)
     (c.first_k.ensures.found still)
 
 pub returns-clause-opened : goal.returns-clause-opened
@@ -52,9 +52,9 @@ returns-clause-opened g c = λ told.
     let b : ℕ = g.P.Pages.first c.args.pages.now in
     let r = c.nearest-ranking.result in
     let made = c.nearest-ranking.ensures in
-    let So : Tree → Numbers → Position → Ask → Type 0 = λ t ids at ask. IfOk c.first_k.result (λ found. Opened StandsIn p (IsNodePage p t.rows) (FitsTree p n b t) (opened_in ids at ask (nodes_at p t)) (started_in ids ask (nodes_at p t) (bytes_in p t.rows) t.root) t.root (g.P.Pages.asked c.args.pages.now) (g.P.Pages.asked c.first_k.new.pages) c.args.k found.items) in
-    subst (λ (t : Tree). So t c.args.ids.now c.args.at.now (Nearest c.args.filter)) made.tree
-    (subst (λ (ids : Numbers). So r.tree ids c.args.at.now (Nearest c.args.filter)) made.ids
-    (subst (λ (at : Position). So r.tree r.ids.now at (Nearest c.args.filter)) made.at
+    let So : Tree → Numbers → Viewpoint → Ask → Type 0 = λ t ids at ask. IfOk c.first_k.result (λ found. Opened StandsIn p (IsNodePage p t.rows) (FitsTree p n b t) (opened_in ids at ask (nodes_at p t)) (started_in ids ask (nodes_at p t) (bytes_in p t.rows) t.root) t.root (g.P.Pages.asked c.args.pages.now) (g.P.Pages.asked c.first_k.new.pages) c.args.k found.items) in
+    subst (λ (t : Tree). So t c.args.ids.now (seen_from c.args.at.now c.args.scale) (Nearest c.args.filter)) made.tree
+    (subst (λ (ids : Numbers). So r.tree ids (seen_from c.args.at.now c.args.scale) (Nearest c.args.filter)) made.ids
+    (subst (λ (at : Viewpoint). So r.tree r.ids.now at (Nearest c.args.filter)) made.at
     (subst (λ (ask : Ask). So r.tree r.ids.now r.at ask) made.ask
     (c.first_k.ensures.opened told))))

@@ -64,7 +64,7 @@ returns-in-Ok-clause-tried g c = λ fits same leads was before known has takes s
     let cut : AreCut wanted led (lists_in lists) = subst (AreGathered wanted led) c.in-Ok-Some.field-0-is (c.in-Ok-Some.ensures.gathered fits same) in
     let measured : AllByRecursion (λ (list : Vec Pick Global). AreMeasured at list.items) lists = subst (OfEach (AreMeasured at)) c.in-Ok-Some.field-0-is c.in-Ok-Some.ensures.measured in
     let is : Some new ≡ least_of at (best.picks ∷ product (lists_in lists)) =
-    c.in-Ok.ensures.least at (subst (AllByRecursion (λ (list : Vec Pick Global). AreMeasured at list.items)) (sym c.deref.ensures.value) measured) (best.picks ∷ []) (one-tried at best was.cost)
+    c.in-Ok.ensures.least (subst (AllByRecursion (λ (list : Vec Pick Global). AreMeasured at list.items)) (sym c.deref.ensures.value) measured) (best.picks ∷ []) (one-tried at best was.cost)
     ∙ ap (λ (l : List (Vec Pick Global)). least_of at (best.picks ∷ product (lists_in l))) c.deref.ensures.value in
     let few : FindsPicks old tree ids at words before after (front ++ picks_of lists) =
     subst (λ o. FindsPicks old tree ids at words before after (front ++ gathered_picks o)) c.in-Ok-Some.field-0-is

@@ -16,7 +16,7 @@ returns-in-Ok-may_cost-clause-refused g c = λ fits same inside f choice one. �
     (λ (cheap : choice_cost c.args.at.now choice ≤ c.args.most).
     let at = c.args.at.now in
     let back = c.deref.ensures.value in
-    c.in-Ok-may_cost.ensures f at (subst (Each at) (sym back) c.in-Ok.ensures.measured) choice
+    c.in-Ok-may_cost.ensures f (subst (Each at) (sym back) c.in-Ok.ensures.measured) choice
     (λ list there. c.in-Ok.ensures.met fits same inside choice one cheap list (subst (λ (l : List (Vec Pick Global)). Contains (lists_in l) list) back there)))
     (cases_lt c.args.most (choice_cost c.args.at.now choice))
 

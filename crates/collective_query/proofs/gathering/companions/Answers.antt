@@ -1,6 +1,7 @@
-use Rattle.std.proofs.Common.{◌≡◌, ◌++◌, ℕ, List, Vec, Global, None, sym, subst, arith}
+use Rattle.std.proofs.Common.{◌≡◌, ◌≤◌, ◌++◌, ◌∙◌, ℕ, List, Vec, Global, None, ap, sym, subst, arith}
 use Rattle.std.proofs.lemmas.Result.{IfOk-weaker}
 use Rattle.page_face.specs.FreeList.{PageMap}
+use Rattle.spatial_base.specs.Point.{Viewpoint, seen_from, distance}
 use Rattle.place_values.specs.declared.query.Pick.{Pick}
 use Rattle.rtree_nodes.specs.Slots.{NodeMap}
 use Rattle.best_first.specs.Fits.{nodes_at}
@@ -23,9 +24,12 @@ returns-in-Some-clause-cut g c = λ fits same.
     let radius = c.saturating_sub-radius.result in
     let word : List ℕ = c.args.word.now in
     let all : List Pick = tree_picks ids at (nodes_at (g.P.Pages.pages c.args.pages.now) tree) tree.root word in
-    let both : Pick → Type 0 = IsInBoth at most anchor.point radius in
+    let centre : Viewpoint = c.at-centre.result in
+    let centre_is : centre ≡ seen_from anchor.point at.scale = c.at-centre.ensures ∙ ap (seen_from anchor.point) c.scale-scale.ensures.value in
+    let both : Pick → Type 0 = IsInBoth at most centre radius in
     let beside : Pick → Type 0 = IsBeside at anchor most in
-    let wider : (pick : Pick) → beside pick → both pick = λ pick h. (h.0, let near = h.1 in let left = c.saturating_sub-radius.ensures in let far = c.requires.anchor_measured in omega arith) in
+    let wider : (pick : Pick) → beside pick → both pick = λ pick h.
+    (h.0, subst (λ (from : Viewpoint). distance from pick.point ≤ radius) (sym centre_is) (let near = h.1 in let left = c.saturating_sub-radius.ensures in let far = c.requires.anchor_measured in omega arith)) in
     rw (c.if-is_own.false, c.in-Some.is)
     (IfOk-weaker c.candidates.result (λ (picks : Vec Pick Global). IsCut both all picks.items) (λ (picks : Vec Pick Global). IsCut beside all picks.items)
     (λ picks is. cut-wider both beside all picks.items wider is) (c.candidates.ensures.cut fits same))
@@ -39,9 +43,10 @@ returns-in-None-clause-cut g c = λ fits same.
     let word : List ℕ = c.args.word.now in
     let nodes : NodeMap = nodes_at (g.P.Pages.pages c.args.pages.now) tree in
     let all : List Pick = tree_picks ids at nodes tree.root word in
-    let firsts : List Pick = first_picks ids at anchor.point nodes tree.root word in
+    let centre : Viewpoint = c.at-centre.result in
+    let firsts : List Pick = first_picks ids at centre nodes tree.root word in
     let wanted : Pick → Type 0 = IsWanted at anchor None in
-    let cut : IsCut wanted all firsts = record { among = first-among ids at anchor.point nodes tree.root word; whole = λ pick one none. absurd none } in
+    let cut : IsCut wanted all firsts = record { among = first-among ids at centre nodes tree.root word; whole = λ pick one none. absurd none } in
     rw (c.if-is_own.false, c.in-None.is)
     (IfOk-weaker c.nearest_picks.result (λ (picks : Vec Pick Global). picks.items ≡ firsts) (λ (picks : Vec Pick Global). IsCut wanted all picks.items)
     (λ picks is. subst (IsCut wanted all) (sym is) cut) (c.nearest_picks.ensures.picks fits))

@@ -12,6 +12,7 @@ use Rattle.boolean_queries.proofs.Histories.{all-contained}
 
 pub loop-pick-preserved : goal.loop-pick-preserved
 loop-pick-preserved c =
+    let at = c.args.at.now in
     let h = c.loop-pick.invariant in
     let list = c.args.list.now in
     let lists = c.args.lists.now in
@@ -23,10 +24,10 @@ loop-pick-preserved c =
     record {
       same = c.in_ok-next.ensures.same ∙ h.same;
       near = c.in_ok-next.ensures.near;
-      next = λ at far wide sorted measured.
+      next = λ far wide sorted measured.
           subst (λ (l : List Pick). IsNext at (lists_in lists) c.args.most front l c.in_ok-next.next) (sym taken)
           (subst (λ (f : List Pick). IsNext at (lists_in lists) c.args.most f (take i list ++ pick ∷ []) c.in_ok-next.next) h.same
-          (c.in_ok-next.ensures.next at (far ∙ ap (farthest at) (sym h.same)) (wide ∙ ap diameter (sym h.same)) sorted
+          (c.in_ok-next.ensures.next (far ∙ ap (farthest at) (sym h.same)) (wide ∙ ap (diameter at.scale) (sym h.same)) sorted
           (all-contained (λ (p : Pick). p.dist ≡ distance at p.point) list pick measured among) (take i list)
-          (subst (λ (f : List Pick). IsNext at (lists_in lists) c.args.most f (take i list) c.loop-pick.next) (sym h.same) (h.next at far wide sorted measured))));
+          (subst (λ (f : List Pick). IsNext at (lists_in lists) c.args.most f (take i list) c.loop-pick.next) (sym h.same) (h.next far wide sorted measured))));
     }

@@ -1,7 +1,6 @@
 use Rattle.std.proofs.Common.{◌≡◌, ◌≤◌, Vec, IfSome, take}
 use Rattle.std.specs.List.{AllByRecursion}
 use Rattle.std.specs.declared.alloc.Global.{Global}
-use Rattle.spatial_base.specs.Point.{Position}
 use Rattle.place_values.specs.declared.query.Pick.{Pick}
 use Rattle.place_values.specs.Group.{farthest, diameter}
 use Rattle.place_values.specs.Search.{lists_in}
@@ -13,8 +12,8 @@ use Rattle.collective_query.proofs.keys.least_next.Given as goal
 abbrev pub invariant-loop-pick : goal.invariant-loop-pick
 invariant-loop-pick l = record {
   same : l.front.items ≡ l.fn.front.items;
-  near : IfSome l.next (λ next. next.dist ≤ 4024922359);
-  next : (at : Position) → l.far ≡ farthest at l.fn.front.items → l.wide ≡ diameter l.fn.front.items
-      → AllByRecursion (λ (list : Vec Pick Global). AreMeasured at list.items) l.lists → AreMeasured at l.list
-      → IsNext at (lists_in l.lists) l.most l.fn.front.items (take l.pick-index l.list) l.next;
+  near : IfSome l.next (λ next. next.dist ≤ 2545584412);
+  next : l.far ≡ farthest l.at l.fn.front.items → l.wide ≡ diameter l.at.scale l.fn.front.items
+      → AllByRecursion (λ (list : Vec Pick Global). AreMeasured l.at list.items) l.lists → AreMeasured l.at l.list
+      → IsNext l.at (lists_in l.lists) l.most l.fn.front.items (take l.pick-index l.list) l.next;
 }

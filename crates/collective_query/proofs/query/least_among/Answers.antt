@@ -17,5 +17,5 @@ returns-clause-least c = λ measured.
     let cost = c.cost_of_choice.ensures.value ∙ ap (choice_cost at) c.deref.ensures.value in
     let begun : Chosen = record { cost = choice_cost at picks; picks = picks } in
     let was : IsChosen at lists begun = record { choice = taken; cost = λ i. choice_cost at picks } in
-    let is = c.in_ok-least_choice.ensures.least at measured (picks ∷ []) (λ i. Some record { cost = cost i; picks = c.from_vec.ensures i }) in
+    let is = c.in_ok-least_choice.ensures.least measured (picks ∷ []) (λ i. Some record { cost = cost i; picks = c.from_vec.ensures i }) in
     (new-chosen at lists lists begun c.least_choice.new.best was (λ choice one. one) is, new-first at lists lists begun c.least_choice.new.best was (λ choice one. one) is)

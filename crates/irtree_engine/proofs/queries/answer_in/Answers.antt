@@ -13,6 +13,6 @@ returns-in-Group-clause-opened g c = λ state stand told.
     let before : List ℕ = P.asked old in
     let after : List ℕ = P.asked c.choice_in.new.pages in
     let words : List (List ℕ) = c.as_slice.result.now in
-    let same : Group c.in-Group.at words ≡ c.args.query.now = cc (c.as_slice.ensures, c.in-Group.is) in
+    let same : Group c.in-Group.at c.in-Group.scale words ≡ c.args.query.now = cc (c.as_slice.ensures, c.in-Group.is) in
     subst (λ (query : Query). IfOk c.choice_in.result (IsFoundByFew (P.pages old) (block_with (P.count old) (P.first old) c.args.head.now) query before after)) same
     (c.choice_in.ensures.opened state stand told)

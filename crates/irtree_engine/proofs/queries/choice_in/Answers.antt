@@ -1,4 +1,5 @@
 use Rattle.std.proofs.Common.{◌≡◌, ℕ, List, Err, ap, subst}
+use Rattle.spatial_base.specs.Point.{seen_from}
 use Rattle.page_face.specs.declared.fault.PageFault.TheVariants.{Damaged}
 use Rattle.store_tables.specs.declared.tables.Tables.{Tables}
 use Rattle.node_rows.specs.declared.roots.Tree.{Tree}
@@ -20,7 +21,7 @@ pub returns-in-Ok-clause-opened : goal.returns-in-Ok-clause-opened
 returns-in-Ok-clause-opened g c = λ state stand told.
     let P = g.P.Pages in
     let old = c.args.pages.now in
-    let at = c.args.at.now in
+    let at = seen_from c.args.at.now c.args.scale in
     let words = c.args.words.now in
     let before : List ℕ = P.asked old in
     let after : List ℕ = P.asked c.chosen.new.pages in

@@ -19,11 +19,11 @@ use Rattle.irtree_engine.proofs.queries.hits_in.Goals as goal
 
 -- the answer to a query that asks for hits is its hits
 answer-hits : (query : Query) (answer : Answer) (hits : List Hit) → AsksForHits query → IsAnswer query answer hits → answers.Hits hits ≡ answer
-answer-hits (Range at radius filter) answer hits asks is = sym is
+answer-hits (Range at scale radius filter) answer hits asks is = sym is
 answer-hits (Inside rect filter) answer hits asks is = sym is
-answer-hits (Nearest at k filter) answer hits asks is = sym is
-answer-hits (Top at k alpha reach words) answer hits asks is = sym is
-answer-hits (Group at words) answer hits asks is = absurd asks
+answer-hits (Nearest at scale k filter) answer hits asks is = sym is
+answer-hits (Top at scale k alpha reach words) answer hits asks is = sym is
+answer-hits (Group at scale words) answer hits asks is = absurd asks
 
 pub returns-in-Ok-clause-answered : goal.returns-in-Ok-clause-answered
 returns-in-Ok-clause-answered g c = λ state stand told.

@@ -2,6 +2,7 @@ use Rattle.std.proofs.Common.{◌≡◌, ℕ, ℤ, ◌<◌, ◌≤◌, List, Opt
 use Rattle.std.specs.List.{flat_map}
 use Rattle.std.specs.Prelude.{IfOk}
 use Rattle.std.proofs.lemmas.Result.{IfOk-weaker}
+use Rattle.spatial_base.specs.Point.{seen_from}
 use Rattle.page_face.specs.FreeList.{PageMap}
 use Rattle.place_values.specs.declared.hit.Hit.{Hit}
 use Rattle.place_values.specs.declared.query.Expr.{Expr}
@@ -38,9 +39,9 @@ returns-in-Range-clause-opened g c = λ free whole told.
     let lent : Option Expr = filter_in c.as_ref.result in
     let same : lent ≡ r.filter = lent-filter c.as_ref.result ∙ c.as_ref.ensures.value in
     let Few : Query → Vec Hit Global → Type 0 = λ q found. FewOpened (IsRowsPage pages tree) pages tree ids q old new found.items in
-    subst (λ (q : Query). IfOk c.range.result (Few q)) (ap (λ (f : Option Expr). Range r.at r.radius f) same ∙ sym r.is)
-    (IfOk-weaker c.range.result _ (Few (Range r.at r.radius lent))
-    (λ found walked. range-few pages tree.rows (P.count c.args.pages.now) (P.first c.args.pages.now) tree.root ids lent (free, whole) found.items old new c.range.ensures.empty r.at r.radius walked)
+    subst (λ (q : Query). IfOk c.range.result (Few q)) (ap (λ (f : Option Expr). Range r.at r.scale r.radius f) same ∙ sym r.is)
+    (IfOk-weaker c.range.result _ (Few (Range r.at r.scale r.radius lent))
+    (λ found walked. range-few pages tree.rows (P.count c.args.pages.now) (P.first c.args.pages.now) tree.root ids lent (free, whole) found.items old new c.range.ensures.empty (seen_from r.at r.scale) r.radius walked)
     (c.range.ensures.opened told))
 
 pub returns-in-Inside-clause-opened : goal.returns-in-Inside-clause-opened
@@ -73,12 +74,12 @@ returns-in-Nearest-clause-opened g c = λ free whole told.
     let same : lent ≡ r.filter = lent-filter c.as_ref-in-Nearest.result ∙ c.as_ref-in-Nearest.ensures.value in
     let x : unsigned_abs r.at.x ≤ 1800000000 = subst (λ (z : ℤ). unsigned_abs z ≤ 1800000000) c.x-x.ensures.value c.x-x.ensures.within in
     let y : unsigned_abs r.at.y ≤ 900000000 = subst (λ (z : ℤ). unsigned_abs z ≤ 900000000) c.y-y.ensures.value c.y-y.ensures.within in
-    let limits : IsWithinLimits (Nearest r.at r.k r.filter) = subst IsWithinLimits r.is c.requires in
-    let some : 0 < r.k = let one = limits.0.some in omega arith in
+    let limits : IsWithinLimits (Nearest r.at r.scale r.k r.filter) = subst IsWithinLimits r.is c.requires in
+    let some : 0 < r.k = let one = limits.1.some in omega arith in
     let Few : Query → Vec Hit Global → Type 0 = λ q found. FewOpened (IsRowsPage pages tree) pages tree ids q old new found.items in
-    subst (λ (q : Query). IfOk c.nearest.result (Few q)) (ap (λ (f : Option Expr). Nearest r.at r.k f) same ∙ sym r.is)
-    (ok-both c.nearest.result _ _ (Few (Nearest r.at r.k lent))
-    (λ found is opened. nearest-few pages (P.count c.args.pages.now) (P.first c.args.pages.now) tree ids r.at r.k found.items old new c.as_ref-in-Nearest.result (x, y) (free, whole, told) some is opened)
+    subst (λ (q : Query). IfOk c.nearest.result (Few q)) (ap (λ (f : Option Expr). Nearest r.at r.scale r.k f) same ∙ sym r.is)
+    (ok-both c.nearest.result _ _ (Few (Nearest r.at r.scale r.k lent))
+    (λ found is opened. nearest-few pages (P.count c.args.pages.now) (P.first c.args.pages.now) tree ids (seen_from r.at r.scale) r.k found.items old new c.as_ref-in-Nearest.result ((x, y), limits.0) (free, whole, told) some is opened)
     (c.nearest.ensures.found (free, whole, told)) (c.nearest.ensures.opened told))
 
 pub returns-in-Top-clause-opened : goal.returns-in-Top-clause-opened
@@ -93,10 +94,10 @@ returns-in-Top-clause-opened g c = λ free whole told.
     let words = c.as_slice.result.now in
     let x : unsigned_abs r.at.x ≤ 1800000000 = subst (λ (z : ℤ). unsigned_abs z ≤ 1800000000) c.x-x-in-Top.ensures.value c.x-x-in-Top.ensures.within in
     let y : unsigned_abs r.at.y ≤ 900000000 = subst (λ (z : ℤ). unsigned_abs z ≤ 900000000) c.y-y-in-Top.ensures.value c.y-y-in-Top.ensures.within in
-    let limits : IsWithinLimits (Top r.at r.k r.alpha r.reach r.words) = subst IsWithinLimits r.is c.requires in
-    let some : 0 < r.k = let one = limits.0.some in omega arith in
+    let limits : IsWithinLimits (Top r.at r.scale r.k r.alpha r.reach r.words) = subst IsWithinLimits r.is c.requires in
+    let some : 0 < r.k = let one = limits.1.some in omega arith in
     let Few : Query → Vec Hit Global → Type 0 = λ q found. FewOpened (IsRowsPage pages tree) pages tree ids q old new found.items in
-    subst (λ (q : Query). IfOk c.top.result (Few q)) (ap (λ (w : Weighted). Top r.at r.k r.alpha r.reach w) c.as_slice.ensures ∙ sym r.is)
-    (ok-both c.top.result _ _ (Few (Top r.at r.k r.alpha r.reach words))
-    (λ found is opened. top-few pages (P.count c.args.pages.now) (P.first c.args.pages.now) tree ids r.at r.k found.items old new r.alpha r.reach words opened.0 opened.1 (x, y) (free, whole, told) some is opened.2)
+    subst (λ (q : Query). IfOk c.top.result (Few q)) (ap (λ (w : Weighted). Top r.at r.scale r.k r.alpha r.reach w) c.as_slice.ensures ∙ sym r.is)
+    (ok-both c.top.result _ _ (Few (Top r.at r.scale r.k r.alpha r.reach words))
+    (λ found is opened. top-few pages (P.count c.args.pages.now) (P.first c.args.pages.now) tree ids (seen_from r.at r.scale) r.k found.items old new r.alpha r.reach words opened.0 opened.1 ((x, y), limits.0) (free, whole, told) some is opened.2)
     (c.top.ensures.found (free, whole, told)) (c.top.ensures.opened told))

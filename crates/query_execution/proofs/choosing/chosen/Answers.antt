@@ -1,5 +1,6 @@
 use Rattle.std.proofs.Common.{◌≡◌, ℕ, List, Option, Err, inr, ap, subst, ◌∙◌}
 use Rattle.std.proofs.lemmas.Result.{IfOk-weaker}
+use Rattle.spatial_base.specs.Point.{seen_from}
 use Rattle.page_face.specs.FreeList.{PageMap}
 use Rattle.page_face.specs.declared.fault.PageFault.TheVariants.{Damaged}
 use Rattle.btree_nodes.specs.Damages.{AreReadable}
@@ -24,7 +25,7 @@ returns-clause-answered g c = λ state roots told.
     let kept = roots-kept (P.pages c.args.pages.now) (P.count c.args.pages.now) (P.first c.args.pages.now) c.args.tables.now c.args.tree.now state roots in
     let f = c.ids_of_words.ensures.frame in
     let tree = c.args.tree.now in
-    let at = c.args.at.now in
+    let at = seen_from c.args.at.now c.args.scale in
     let words : List (List ℕ) = c.args.words.now in
     let ids = c.in-Ok.ids in
     let fits : Fits (P.pages c.ids_of_words.new.pages) tree.rows (P.count c.ids_of_words.new.pages) (P.first c.ids_of_words.new.pages) tree.root = rw (f.pages, f.count, f.first) kept.whole in
@@ -77,7 +78,7 @@ returns-clause-opened g c = λ state roots told.
     let old : PageMap = P.pages c.args.pages.now in
     let tree = c.args.tree.now in
     let tables = c.args.tables.now in
-    let at = c.args.at.now in
+    let at = seen_from c.args.at.now c.args.scale in
     let words : List (List ℕ) = c.args.words.now in
     let kept = roots-kept old (P.count c.args.pages.now) (P.first c.args.pages.now) tables tree state roots in
     let f = c.ids_of_words.ensures.frame in

@@ -1,18 +1,13 @@
 use Rattle.std.proofs.Common.{arith}
-use Rattle.spatial_base.proofs.Gaps.{squares-le}
-use Rattle.spatial_base.specs.RootLaws.{root-is, root_below}
+use Rattle.std.proofs.lemmas.Nat.{mul-le}
+use Rattle.spatial_base.specs.Laws.{line-is, line-far}
 use Rattle.spatial_base.proofs.distance.line.Goals as goal
 
-pub overflow_add-east : goal.overflow_add-east
-overflow_add-east c = omega (arith, squares-le _ _ c.requires.east c.requires.north)
+pub overflow_add-scaled_square : goal.overflow_add-scaled_square
+overflow_add-scaled_square c = omega (arith, c.scaled_square.ensures.far, mul-le c.args.north c.args.north 1800000000 1800000000 c.requires.north c.requires.north)
 
 pub returns-clause-value : goal.returns-clause-value
-returns-clause-value c =
-    let few = squares-le _ _ c.requires.east c.requires.north in
-    rw c.into.ensures
-    (root-is _ _ (omega (arith, few)) c.root_of_u64.ensures.root)
+returns-clause-value c = rw c.into.ensures (line-is c.args.scale c.args.east c.args.north _ _ c.requires.scale c.requires.east c.requires.north c.scaled_square.ensures.value c.root_of_u64.ensures.root)
 
 pub returns-clause-far : goal.returns-clause-far
-returns-clause-far c =
-    let few = squares-le _ _ c.requires.east c.requires.north in
-    rw c.into.ensures (root_below _ _ 4024922359 c.root_of_u64.ensures.root (omega (arith, few)))
+returns-clause-far c = rw (returns-clause-value c) (line-far c.args.scale c.args.east c.args.north c.requires.scale c.requires.east c.requires.north)
