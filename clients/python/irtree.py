@@ -757,7 +757,7 @@ class Store:
     """A store: the program run on it, until `close` or the end of the `with` block.
 
     `path` is the file of the store, or "-" for a store in memory. `cache` is how many pages of 4,096 bytes are kept in memory, `policy` is
-    "quadratic" or "halving", and `program` is the program's path (`find_program` says where it is looked for otherwise).
+    "quadratic", "halving" or "words", and `program` is the program's path (`find_program` says where it is looked for otherwise).
 
     A store that can't be opened raises `Ended` here. One process at a time has a store.
     """

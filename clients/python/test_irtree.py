@@ -116,7 +116,7 @@ class PlacesTest(Case):
     def test_a_store_in_a_file_keeps_its_places(self):
         with Store(self.file, cache=7, policy="halving") as store:
             store.add("k", ORIGIN, "cafe")
-        with Store(Path(self.file)) as store:
+        with Store(Path(self.file), policy="words") as store:
             self.assertEqual(store.show("k").words, (("cafe", 255),))
 
     def test_places_can_be_compared_and_be_in_sets(self):

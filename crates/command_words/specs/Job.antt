@@ -10,7 +10,7 @@ use Rattle.command_words.specs.declared.job.Action.{Action}
 use Rattle.command_words.specs.declared.job.Action.TheVariants.{Run, Load, Make}
 use Rattle.command_words.specs.declared.job.Job.{Job}
 use Rattle.command_words.specs.declared.job.PolicyName.{PolicyName}
-use Rattle.command_words.specs.declared.job.PolicyName.TheVariants.{Quadratic, Halving}
+use Rattle.command_words.specs.declared.job.PolicyName.TheVariants.{Quadratic, Halving, Words}
 use Rattle.command_words.specs.declared.job.WordsFault.{WordsFault}
 use Rattle.command_words.specs.declared.job.WordsFault.TheVariants.{Line, Unused, Memory}
 
@@ -52,6 +52,7 @@ abbrev pub policy_of : Text → Option PolicyName
 policy_of word =
     if bytes_eq word (codes "quadratic") then Some Quadratic
     else if bytes_eq word (codes "halving") then Some Halving
+    else if bytes_eq word (codes "words") then Some Words
     else None
 
 -- the policy of an option's text, quadratic where the option is absent

@@ -92,7 +92,7 @@ fn policy<'a>(alloc: Global) -> Arg<'a>
     Arg::new(alloc, POLICY)
         .long(POLICY)
         .value_name("POLICY")
-        .help("How full nodes of the tree are split: quadratic, as if absent, or halving")
+        .help("How full nodes of the tree are split: quadratic, as if absent, halving or words")
 }
 
 fn from<'a>(alloc: Global) -> Arg<'a>

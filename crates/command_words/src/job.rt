@@ -56,6 +56,8 @@ pub enum PolicyName {
     Quadratic,
     /// In the middle of the axis on which the entries are spread most.
     Halving,
+    /// By the words that the entries share.
+    Words,
 }
 
 /// What the command words ask for.

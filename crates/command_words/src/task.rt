@@ -56,7 +56,10 @@ impl fmt::Display for Refusal<'_> {
                 write!(f, "unknown action '{word}', expected run, load or make")
             }
             Refusal::NotAPolicy(word) => {
-                write!(f, "unknown policy '{word}', expected quadratic or halving")
+                write!(
+                    f,
+                    "unknown policy '{word}', expected quadratic, halving or words"
+                )
             }
             Refusal::Unused(action, option) => {
                 write!(f, "the action {action} doesn't use '--{option}'")
@@ -95,6 +98,8 @@ fn policy_of(word: &str) -> Option<PolicyName>
         Some(PolicyName::Quadratic)
     } else if word == "halving" {
         Some(PolicyName::Halving)
+    } else if word == "words" {
+        Some(PolicyName::Words)
     } else {
         None
     }

@@ -18,6 +18,7 @@ use std::alloc::Global;
 use std::io::{ErrorKind, Write};
 use std::process::ExitCode;
 use std_devices::{FileStation, ScratchStation, StdSource};
+use text_policy::WordAware;
 
 // How a run ended, and the lines that follow the end's own on standard error, if any.
 #[derive(Drop)]
@@ -150,6 +151,10 @@ fn run_words(rt: &HostRuntime) -> Result<Outcome, Memory> {
         }
         PolicyName::Halving => {
             let policy = Box::new(rt.alloc(), Halving::new()).map_err(|_| Memory)?;
+            run_task(rt, task, policy)
+        }
+        PolicyName::Words => {
+            let policy = Box::new(rt.alloc(), WordAware::new()).map_err(|_| Memory)?;
             run_task(rt, task, policy)
         }
     }

@@ -1,5 +1,5 @@
 //! What makes print.
-use crate::runs::ends_well_under_both;
+use crate::runs::ends_well_under_each;
 use std::test::Fail;
 
 // Words of a make, and what it prints; the sums were worked out by another program from the definitions.
@@ -41,7 +41,7 @@ static MAKES: [(&[&str], &[u8]); 6] = [
 fn a_make_says_its_batches_and_what_is_found(rt: HostRuntime) -> Result<(), Fail> {
     for (row, (given, said)) in MAKES.iter().enumerate() {
         assert!(rt;
-            ends_well_under_both(rt.alloc(), given, b"", said)?,
+            ends_well_under_each(rt.alloc(), given, b"", said)?,
             "row {row}"
         );
     }

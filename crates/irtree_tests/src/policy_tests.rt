@@ -1,5 +1,5 @@
 //! What scripts print under each policy, and when a policy is let go.
-use crate::runs::{ROOM, RUN, ends_under, ends_well_under_both, numbered};
+use crate::runs::{ROOM, RUN, ends_under, ends_well_under_each, numbered};
 use disk_model::{MemorySource, MemoryStation};
 use irtree_engine::Engine;
 use irtree_top::Ended;
@@ -11,7 +11,7 @@ use std::test::Fail;
 
 // A script stores 33 places in a line, one more than a node of the tree holds, and removes two thirds of them.
 #[test]
-fn both_policies_give_the_same_replies(rt: HostRuntime) -> Result<(), Fail> {
+fn all_policies_give_the_same_replies(rt: HostRuntime) -> Result<(), Fail> {
     let mut script = numbered(rt.alloc(), 33, "add t# 0.# 0\n")?;
     script.push_str(numbered(rt.alloc(), 22, "remove t#\n")?.as_str())?;
     script.push_str("count\nnearest 0 0 3\n")?;
@@ -20,7 +20,7 @@ fn both_policies_give_the_same_replies(rt: HostRuntime) -> Result<(), Fail> {
         "count 11\n= 3\n1 \"t22\" 0.2200000\n2 \"t23\" 0.2300000\n3 \"t24\" 0.2400000\n",
     )?;
     let (script, replies) = (script.as_bytes(), replies.as_bytes());
-    assert!(rt; ends_well_under_both(rt.alloc(), &RUN, script, replies)?);
+    assert!(rt; ends_well_under_each(rt.alloc(), &RUN, script, replies)?);
     Ok(())
 }
 

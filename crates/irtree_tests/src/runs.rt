@@ -5,6 +5,7 @@ use split_policy::{Halving, Quadratic, SplitPolicy};
 use std::alloc::{AllocError, Global};
 use std::fmt::Write;
 use std::test::Fail;
+use text_policy::WordAware;
 
 /// The words of a script.
 pub(crate) static RUN: [&str; 2] = ["-", "run"];
@@ -76,8 +77,8 @@ pub(crate) fn ends_so(
     ends_under(alloc, given, &mut source, policy, end, said)
 }
 
-/// Whether a run on these words over an empty store ends well under both policies, and has printed this.
-pub(crate) fn ends_well_under_both(
+/// Whether a run on these words over an empty store ends well under each of the three policies, and has printed this.
+pub(crate) fn ends_well_under_each(
     alloc: Global,
     given: &[&str],
     input: &[u8],
@@ -88,6 +89,11 @@ pub(crate) fn ends_well_under_both(
     }
     let mut source = MemorySource::new(alloc, input, 65_536, &[])?;
     let policy = Box::new(alloc, Halving::new())?;
+    if !ends_under(alloc, given, &mut source, policy, Ended::Done, said)? {
+        return Ok(false);
+    }
+    let mut source = MemorySource::new(alloc, input, 65_536, &[])?;
+    let policy = Box::new(alloc, WordAware::new())?;
     ends_under(alloc, given, &mut source, policy, Ended::Done, said)
 }
 

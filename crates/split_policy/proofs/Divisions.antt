@@ -51,7 +51,7 @@ begun-divided i j staying moving order within stays moves =
     }
 
 -- equal parts, equal splits
-division-same : (d e : Division) → d.left ≡ e.left → d.moved ≡ e.moved → d.staying ≡ e.staying → d.moving ≡ e.moving → d ≡ e
+pub division-same : (d e : Division) → d.left ≡ e.left → d.moved ≡ e.moved → d.staying ≡ e.staying → d.moving ≡ e.moving → d ≡ e
 division-same d e left moved staying moving = λ i. record { left = left i; moved = moved i; staying = staying i; moving = moving i }
 
 -- the entry joins the group that moves

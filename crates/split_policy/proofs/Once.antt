@@ -47,7 +47,7 @@ none-more moved left none = same_from_bits _ _ (λ i.
     omega arith)
 
 -- a test succeeds or fails
-true-or : (b : Bool) → (b ≡ true) ⊎ (b ≡ false)
+pub true-or : (b : Bool) → (b ≡ true) ⊎ (b ≡ false)
 true-or true = inl refl
 true-or false = inr refl
 
@@ -122,7 +122,7 @@ open-once rects d at mask other divided is_open is_next once ends = elim (invert
 ]
 
 -- a split part way has one end
-ends-once : (rects : List Bounds) (d : Division) (mask other : ℕ) → IsDivided d → EndsWith rects d mask → EndsWith rects d other → mask ≡ other
+pub ends-once : (rects : List Bounds) (d : Division) (mask other : ℕ) → IsDivided d → EndsWith rects d mask → EndsWith rects d other → mask ≡ other
 ends-once rects d mask other divided (none_left _ none) ends = ended-once rects d _ other divided (none-ended d none) ends
 ends-once rects d mask other divided (rest_stays _ needs) ends = ended-once rects d _ other divided (stays-ended d divided needs) ends
 ends-once rects d mask other divided (rest_moves _ needs) ends = ended-once rects d _ other divided (moves-ended d needs) ends

@@ -7,7 +7,7 @@ use crate::mask::is_set;
 use spatial_base::Rect;
 
 /// Returns the used slot that grows least by joining `add`. Among equals it is the smallest, and among equals again the first.
-pub(crate) fn least_growth(used: u32, rects: &[Rect; 32], add: &Rect) -> u8
+pub fn least_growth(used: u32, rects: &[Rect; 32], add: &Rect) -> u8
     requires { used ≢ 0 }
     ensures { IsLeastGrowth used rects.now add.now result }
 {

@@ -6,14 +6,14 @@ use spatial_base::Rect;
 
 /// The area that a rectangle gains by joining another, and the area that it had before, in square units of 10^-7 degrees.
 #[derive(Clone, Copy, PartialEq, Eq)]
-pub(crate) struct Cost {
-    pub(crate) gained: u64,
-    pub(crate) had: u64,
+pub struct Cost {
+    pub gained: u64,
+    pub had: u64,
 }
 
 impl Cost {
     /// Returns the cost of joining `add` to a rectangle.
-    pub(crate) fn of(rect: &Rect, add: &Rect) -> Cost
+    pub fn of(rect: &Rect, add: &Rect) -> Cost
         ensures gained { result.gained ≡ growth_of rect.now add.now }
         ensures had { result.had ≡ rect_area rect.now }
     {

@@ -15,16 +15,16 @@ const FEWEST: u32 = 12;
 
 /// A split that is under way: the mask of the entries left, the mask of those that move so far, and the two groups.
 #[derive(Clone, Copy)]
-pub(crate) struct Division {
-    pub(crate) left: u64,
-    pub(crate) moved: u64,
-    pub(crate) staying: Group,
-    pub(crate) moving: Group,
+pub struct Division {
+    pub left: u64,
+    pub moved: u64,
+    pub staying: Group,
+    pub moving: Group,
 }
 
 impl Division {
     /// Returns the split at its beginning: the first seed stays and the second moves.
-    pub(crate) fn begin(rects: &[Rect; 33], first: usize, second: usize) -> Division
+    pub fn begin(rects: &[Rect; 33], first: usize, second: usize) -> Division
         requires order { first < second }
         requires within { second < 33 }
         ensures begun { result ≡ begun rects.now first second }
@@ -47,7 +47,7 @@ impl Division {
     }
 
     /// Returns whether the next entry is to be placed: some are left, and neither group needs all of them to have 12.
-    pub(crate) fn is_open(&self) -> bool
+    pub fn is_open(&self) -> bool
         requires { IsDivided self.now }
         ensures { IsTrue result ↔ IsOpen self.now }
     {
@@ -119,7 +119,7 @@ impl Division {
     }
 
     /// Returns the mask of the entries that move, once none are left or a group needs all that are left.
-    pub(crate) fn end(&self, rects: &[Rect; 33]) -> u64
+    pub fn end(&self, rects: &[Rect; 33]) -> u64
         requires divided { IsDivided self.now }
         requires closed { IsOpen self.now → ⊥ }
         ensures ends { EndsWith rects.now self.now result }

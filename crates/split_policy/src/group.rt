@@ -7,9 +7,9 @@ use spatial_base::Rect;
 
 /// A group of entries: the least rectangle around them, and how many there are.
 #[derive(Clone, Copy)]
-pub(crate) struct Group {
-    pub(crate) bounds: Rect,
-    pub(crate) count: u32,
+pub struct Group {
+    pub bounds: Rect,
+    pub count: u32,
 }
 
 impl Group {
@@ -24,7 +24,7 @@ impl Group {
     }
 
     /// Returns the group with one more entry.
-    pub(crate) fn with(&self, rect: &Rect) -> Group
+    pub fn with(&self, rect: &Rect) -> Group
         requires { self.now.count < 33 }
         ensures { result ≡ with_entry rect.now self.now }
     {

@@ -4,6 +4,8 @@
 //! A policy is a [`SplitPolicy`]. It decides the shape of the tree, and never the result of a query. [`Quadratic`] is Guttman's
 //! quadratic split, and [`Halving`] cuts the entries in the middle of an axis. No call allocates memory or fails.
 //!
+//! The other public items are the parts of a quadratic split, for crates that divide entries otherwise.
+//!
 //! Tests: `tree_tests/src/split_policy_tests.rt`.
 #![tactic(auto)]
 
@@ -18,6 +20,11 @@ mod policy;
 mod quadratic;
 mod seeds;
 
+pub use choice::least_growth;
+pub use cost::Cost;
+pub use division::Division;
+pub use group::Group;
 pub use halving::Halving;
+pub use mask::{bit, is_set};
 pub use policy::SplitPolicy;
 pub use quadratic::Quadratic;

@@ -3,7 +3,7 @@ ghost use Rattle.std.specs.Prelude.{◌≡◌, ◌<◌, ◌^◌, ◌==◌};
 ghost use Rattle.std.specs.Int.{bit_at};
 
 /// Returns whether bit `at` is set.
-pub(crate) fn is_set(mask: u64, at: usize) -> bool
+pub fn is_set(mask: u64, at: usize) -> bool
     requires { at < 64 }
     ensures { result ≡ (bit_at mask at == 1) }
 {
@@ -11,7 +11,7 @@ pub(crate) fn is_set(mask: u64, at: usize) -> bool
 }
 
 /// Returns the mask in which bit `at` alone is set.
-pub(crate) fn bit(at: usize) -> u64
+pub fn bit(at: usize) -> u64
     requires { at < 64 }
     ensures { result ≡ 2 ^ at }
 {

@@ -16,10 +16,13 @@ town.store load > town.store load 1000 1024 Quadratic 0 1000
 --cache=3 -- -x run > -x run 1000 3 Quadratic 0 1000
 - run --policy quadratic > - run 1000 1024 Quadratic 0 1000
 - run --policy=halving > - run 1000 1024 Halving 0 1000
+- run --policy=words > - run 1000 1024 Words 0 1000
 --policy halving - load --text name > - load 1000 1024 Halving 0 1000 [name]
 - make > - make 1000 1024 Quadratic 0 1000
 - make --from 7 --count 5000 > - make 1000 1024 Quadratic 7 5000
 - make --from=0 --count=1 --batch 10 --cache 0 --policy halving > - make 10 0 Halving 0 1
+--policy words - load --batch 5 > - load 5 1024 Words 0 1000
+- make --policy words > - make 1000 1024 Words 0 1000
 --count 100000 - --from 18446744073709551615 make > - make 1000 1024 Quadratic 18446744073709551615 100000
 > Line
 - > Line
@@ -52,6 +55,8 @@ town.store load > town.store load 1000 1024 Quadratic 0 1000
 - run --policy > Line
 - run --policy= > Line
 - run --policy Halving > Line
+- run --policy word > Line
+- run --policy Words > Line
 - load --policy linear > Line
 - run --policy halving --policy halving > Line
 - run --batch 1 --policy linear > Line
@@ -118,7 +123,7 @@ static REFUSALS: &str = "\
 - dance > unknown action 'dance', expected run, load or make
 - run --batch 1 > the action run doesn't use '--batch'
 - load --from 1 > the action load doesn't use '--from'
-- load --policy linear > unknown policy 'linear', expected quadratic or halving
+- load --policy linear > unknown policy 'linear', expected quadratic, halving or words
 - run --policy > a value is required for '--policy <POLICY>' but none was supplied
 - load --batch 0 > invalid value '0' for '--batch <PLACES>': 0 is not in 1..=10000
 - make --count 0 > invalid value '0' for '--count <NUMBER>': 0 is not in 1..=100000

@@ -19,4 +19,6 @@ mod split_condense_tests;
 #[cfg(test)]
 mod split_policy_tests;
 #[cfg(test)]
+mod text_policy_tests;
+#[cfg(test)]
 mod tree_updates_tests;

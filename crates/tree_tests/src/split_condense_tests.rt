@@ -10,6 +10,7 @@ use split_condense::{Entry, delete, insert};
 use split_policy::{Halving, Quadratic, SplitPolicy};
 use std::alloc::Global;
 use std::test::Fail;
+use text_policy::WordAware;
 
 static EMPTY: Tree = Tree { root: 0, rows: 0 };
 
@@ -493,7 +494,8 @@ fn a_leaf_is_split_and_its_halves_become_one(rt: HostRuntime) -> Result<(), Fail
 fn places_come_and_go_under_any_policy(rt: HostRuntime) -> Result<(), Fail> {
     come_and_go(rt.alloc(), &mut Worst::new(), 10_000)?;
     come_and_go(rt.alloc(), &mut Quadratic::new(), 3_000)?;
-    come_and_go(rt.alloc(), &mut Halving::new(), 3_000)
+    come_and_go(rt.alloc(), &mut Halving::new(), 3_000)?;
+    come_and_go(rt.alloc(), &mut WordAware::new(), 3_000)
 }
 
 // Whether a leaf that was full is now below the root's first slot, and its entries and place 32 are divided as a mask has it.

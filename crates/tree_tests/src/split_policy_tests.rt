@@ -1,5 +1,6 @@
 use spatial_base::Rect;
 use split_policy::{Halving, Quadratic, SplitPolicy};
+use text_policy::WordAware;
 
 // This many degrees, in units of 10^-7 degrees.
 fn degrees(count: i32) -> i32 {
@@ -17,25 +18,54 @@ fn sides(of: &[i32; 4]) -> Option<Rect> {
 }
 
 // Entries that are split, in groups of equal entries. The fields are the sides of the first group's entries, the number of entries in a
-// group, and each group's degrees east and north of the one before. The last two are the masks of both policies.
-type Split = ([i32; 4], usize, i32, i32, u64, u64);
+// group, and each group's degrees east and north of the one before. The last are the masks of the three policies.
+type Split = ([i32; 4], usize, i32, i32, [u64; 3]);
 
 static SPLITS: [Split; 6] = [
     // points in a line
-    ([0, 0, 0, 0], 1, 1, 0, 2_863_311_530, 8_589_803_520),
-    ([7, 7, 7, 7], 1, 0, 0, 2_863_311_530, 8_589_803_520),
-    ([0, 0, 0, 0], 1, 0, -1, 2_863_311_530, 65_535),
-    ([-16, 16, -16, 16], 1, 1, -1, 8_589_803_520, 8_589_803_520),
+    (
+        [0, 0, 0, 0],
+        1,
+        1,
+        0,
+        [2_863_311_530, 8_589_803_520, 2_863_311_530],
+    ),
+    (
+        [7, 7, 7, 7],
+        1,
+        0,
+        0,
+        [2_863_311_530, 8_589_803_520, 2_863_311_530],
+    ),
+    (
+        [0, 0, 0, 0],
+        1,
+        0,
+        -1,
+        [2_863_311_530, 65_535, 2_863_311_530],
+    ),
+    (
+        [-16, 16, -16, 16],
+        1,
+        1,
+        -1,
+        [8_589_803_520, 8_589_803_520, 4_194_302],
+    ),
     // the whole map
-    ([-180, -90, 180, 90], 33, 0, 0, 2_863_311_530, 8_589_803_520),
+    (
+        [-180, -90, 180, 90],
+        33,
+        0,
+        0,
+        [2_863_311_530, 8_589_803_520, 2_863_311_530],
+    ),
     // two corners of it
     (
         [-180, -90, -180, -90],
         17,
         360,
         180,
-        8_589_803_520,
-        8_589_803_520,
+        [8_589_803_520, 8_589_803_520, 1_073_654_442],
     ),
 ];
 
@@ -67,13 +97,18 @@ fn moved<P: SplitPolicy>(policy: &mut P, rects: &[Rect; 33]) -> u64 {
     policy.split(rects, &[[0; 33]; 33])
 }
 
-// Whether both policies move what they should.
-fn are_split(quadratic: &mut Quadratic, halving: &mut Halving) -> bool {
+// Whether the policies move what they should.
+fn are_split(quadratic: &mut Quadratic, halving: &mut Halving, words: &mut WordAware) -> bool {
     for split in &SPLITS {
         let Some(rects) = rects_of(split) else {
             return false;
         };
-        if moved(quadratic, &rects) != split.4 || moved(halving, &rects) != split.5 {
+        let masks = [
+            moved(quadratic, &rects),
+            moved(halving, &rects),
+            moved(words, &rects),
+        ];
+        if masks != split.4 {
             return false;
         }
     }
@@ -84,8 +119,9 @@ fn are_split(quadratic: &mut Quadratic, halving: &mut Halving) -> bool {
 fn points_in_a_line_and_the_whole_map_are_split(rt: HostRuntime) {
     let mut quadratic = Quadratic::new();
     let mut halving = Halving::new();
-    assert!(rt; are_split(&mut quadratic, &mut halving));
-    assert!(rt; quadratic.splits() == 6 && halving.splits() == 6);
+    let mut words = WordAware::new();
+    assert!(rt; are_split(&mut quadratic, &mut halving, &mut words));
+    assert!(rt; quadratic.splits() == 6 && halving.splits() == 6 && words.splits() == 6);
 }
 
 // The used slots; the sides of slots 0 and 1 and of a new point; and the slot it goes into.
@@ -121,8 +157,10 @@ fn chosen<P: SplitPolicy>(policy: &mut P, choice: &Choice) -> Option<u8> {
 fn the_slot_that_grows_least_is_chosen(rt: HostRuntime) {
     let mut quadratic = Quadratic::new();
     let mut halving = Halving::new();
+    let mut words = WordAware::new();
     for choice in &CHOICES {
         assert_eq!(rt; chosen(&mut quadratic, choice), Some(choice.4));
         assert_eq!(rt; chosen(&mut halving, choice), Some(choice.4));
+        assert_eq!(rt; chosen(&mut words, choice), Some(choice.4));
     }
 }

@@ -1,0 +1,3 @@
+pub mod Choices
+pub mod Splits
+pub mod Words
