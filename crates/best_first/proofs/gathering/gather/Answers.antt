@@ -10,7 +10,7 @@ use Rattle.best_first.proofs.gathering.gather.Goals as goal
 
 pub loop-at-init : goal.loop-at-init
 loop-at-init c =
-    let e : c.new-items.result.items ≡ [] = c.new-items.ensures.items in
+    let e : c.in-Ok.items.items ≡ [] = c.in-Ok.ensures.items in
     record {
       given = λ f s t. e ∙ sym (spread-none (λ i. given_at (given_by c.args.from.now c.args.ask.now c.args.level (f i)) (stored_in c.args.page.now i)));
       few = let n = ap length e in omega arith;
@@ -24,15 +24,15 @@ loop-at-preserved c =
     let at : ℕ = c.loop-at.at in
     let l : at < 32 = omega arith in
     let front : List Item = c.loop-at.items.items in
-    let item = c.in-Ok.item in
+    let item = c.in-Ok-slot_item.item in
     let e : c.push_item.new.items.items ≡ front ++ listed_item item = c.in-Ok-push_item.ensures.items in
     record {
       given = λ f s t.
           let F : ℕ → List Item = λ i. given_at (given_by c.args.from.now c.args.ask.now c.args.level (f i)) (stored_in c.args.page.now i) in
-          e ∙ ap (λ (xs : List Item). xs ++ listed_item item) (h.given f s t) ∙ ap (λ (xs : List Item). spread at F ++ xs) (c.in-Ok.ensures.given (f at) (s at l) (t at l)) ∙ sym (spread-more at F);
+          e ∙ ap (λ (xs : List Item). xs ++ listed_item item) (h.given f s t) ∙ ap (λ (xs : List Item). spread at F ++ xs) (c.in-Ok-slot_item.ensures.given (f at) (s at l) (t at l)) ∙ sym (spread-more at F);
       few = subst (λ (xs : List Item). length xs ≤ at + 1) (sym e) (few-more at front item h.few);
-      levels = subst (AllByRecursion (IsGivenAt c.args.level)) (sym e) (all_append (IsGivenAt c.args.level) front (listed_item item) h.levels (all-listed (IsGivenAt c.args.level) item c.in-Ok.ensures.level));
-      stand = subst (AllByRecursion (IsIn (stored_in c.args.page.now))) (sym e) (all_append (IsIn (stored_in c.args.page.now)) front (listed_item item) h.stand (all-listed (IsIn (stored_in c.args.page.now)) item c.in-Ok.ensures.stands));
+      levels = subst (AllByRecursion (IsGivenAt c.args.level)) (sym e) (all_append (IsGivenAt c.args.level) front (listed_item item) h.levels (all-listed (IsGivenAt c.args.level) item c.in-Ok-slot_item.ensures.level));
+      stand = subst (AllByRecursion (IsIn (stored_in c.args.page.now))) (sym e) (all_append (IsIn (stored_in c.args.page.now)) front (listed_item item) h.stand (all-listed (IsIn (stored_in c.args.page.now)) item c.in-Ok-slot_item.ensures.stands));
     }
 
 pub returns-clause-given : goal.returns-clause-given
