@@ -24,8 +24,9 @@ def _words(rng):
     return list(found)
 
 
-def places(count, seed=7, words_each=None):
-    """Yields (key, longitude, latitude, text); a key of None is automatic. Each text has so many words, if a number is given."""
+def places(count, seed=7, words_each=None, lengths=None):
+    """Yields (key, longitude, latitude, text); a key of None is automatic. Each text has so many words, if a number is given, or from the first to the
+    second of two `lengths`, each as often."""
     rng = random.Random(seed)
     words = _words(random.Random(1))
     weights = list(accumulate(1 / (rank + 3) for rank in range(WORDS)))
@@ -38,7 +39,7 @@ def places(count, seed=7, words_each=None):
             east, north, spread = rng.choices(clusters, cum_weights=sizes)[0]
             x, y = rng.gauss(east, spread), rng.gauss(north, spread)
         x, y = min(max(x, -180), 180), min(max(y, -90), 90)
-        length = words_each or min(20, 1 + int(rng.expovariate(1 / 7)))
+        length = rng.randint(*lengths) if lengths else words_each or min(20, 1 + int(rng.expovariate(1 / 7)))
         key = None if rng.random() < 0.1 else f"{rng.getrandbits(48):012x}"
         yield key, round(x, 7), round(y, 7), " ".join(rng.choices(words, cum_weights=weights, k=length))
 

@@ -44,8 +44,13 @@ fn show(alloc: Global, state: &State, key: Key) -> Result<Reply, Memory>
     ensures reason { IfOk result HasReason }
 {
     match state.show(&key) {
-        Some((point, words)) => match words.copy(alloc) {
-            Ok(words) => Ok(Reply::Place { key, point, words }),
+        Some((point, words, label)) => match words.copy(alloc) {
+            Ok(words) => Ok(Reply::Place {
+                key,
+                point,
+                words,
+                label,
+            }),
             Err(_) => Err(Memory),
         },
         None => Ok(Reply::Absent),

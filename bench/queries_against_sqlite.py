@@ -176,4 +176,5 @@ def main():
                 print(f"{kind:15}{name:7}{asked / ours:12.0f}{theirs}{sum(count for _, count in replies) / asked:8.1f}{same:>8}  cold {asked / max(once - opening, 1e-9):.0f}", flush=True)
 
 
-main()
+if __name__ == "__main__":
+    main()

@@ -45,6 +45,11 @@ def impacts(text):
     return {word: 1 + 254 * words.count(word) // len(words) for word in kept}
 
 
+def label_of(text):
+    """The text, which is one line, cut to as many whole characters as have at most 63 bytes."""
+    return text.encode()[:63].decode(errors="ignore")
+
+
 def key_order(key):
     return (0, key.encode(), 0) if isinstance(key, str) else (1, b"", key)
 
@@ -122,7 +127,7 @@ class Store:
     def near(self, at, scale, keep):
         hits = []
         for key in self.by_key():
-            point, words = self.places[key]
+            point, words, _ = self.places[key]
             if keep(words):
                 hits.append((dist(at, point, scale), key_order(key), key, point))
         hits.sort()
@@ -147,7 +152,7 @@ class Store:
         keep = filter_of(tokens[4:])
         found = []
         for key in self.by_key():
-            (x, y), words = self.places[key]
+            (x, y), words, _ = self.places[key]
             if west <= x <= east and south <= y <= north and keep(words):
                 found.append((key, (x, y)))
         yield f"= {len(found)}"
@@ -164,7 +169,7 @@ class Store:
         total = sum(weights.values())
         hits = []
         for key in self.by_key():
-            point, words = self.places[key]
+            point, words, _ = self.places[key]
             if any(word in words for word in weights):
                 text = sum(weight * words.get(word, 0) for word, weight in weights.items())
                 away = dist(at, point, scale)
@@ -206,10 +211,11 @@ class Store:
             return
         command = tokens[0]
         if command == "add":
-            key, text = self.key(tokens[1]), line.split(None, 4)
+            key, parts = self.key(tokens[1]), line.split(None, 4)
+            text = parts[4] if len(parts) > 4 else ""
             self.order = None if key not in self.places else self.order
             yield "ok replaced" if key in self.places else "ok"
-            self.places[key] = (units(tokens[2]), units(tokens[3])), impacts(text[4] if len(text) > 4 else "")
+            self.places[key] = (units(tokens[2]), units(tokens[3])), impacts(text), label_of(text)
         elif command == "remove":
             key = self.key(tokens[1])
             if key in self.places:
@@ -225,8 +231,8 @@ class Store:
             if key not in self.places:
                 yield "absent"
                 return
-            point, words = self.places[key]
-            yield f"place {key_text(key)} {signed(point[0])} {signed(point[1])} {len(words)}"
+            point, words, label = self.places[key]
+            yield f"place {key_text(key)} {signed(point[0])} {signed(point[1])} {len(words)} {literal(label)}"
             for word in sorted(words, key=str.encode):
                 yield f"{literal(word)} {words[word]}"
         elif command == "explain":

@@ -32,7 +32,7 @@ ask() {
 fixed_line() {
     case $1 in
         0) ;;
-        2) echo "usage: irtree STORE run|load|verify|make [options]" ;;
+        2) echo "usage: irtree STORE run|load|verify|make|upgrade [options]" ;;
         3) echo "irtree: disk" ;;
         4) echo "irtree: source" ;;
         5) echo "irtree: sink" ;;

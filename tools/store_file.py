@@ -11,9 +11,9 @@ from collections import namedtuple
 PAGE = 4096
 SLOTS = 32
 # Of each map its name and the bytes of a key and of a value, by its number.
-MAPS = {1: ("places", 66, 585), 2: ("words by text", 33, 8), 3: ("words by number", 8, 37), 4: ("rows of words", 12, 32)}
+MAPS = {5: ("places", 66, 649), 2: ("words by text", 33, 8), 3: ("words by number", 8, 37), 4: ("rows of words", 12, 32)}
 
-Place = namedtuple("Place", "key point words")                  # key: bytes of its form; words: the impact of each word's number
+Place = namedtuple("Place", "key point words label")            # key: bytes of its form; words: the impact of each word's number
 Slot = namedtuple("Slot", "index rectangle child key")          # child: a page, or None in a leaf; key: bytes, or None above it
 Node = namedtuple("Node", "page level slots")
 
@@ -33,13 +33,15 @@ class Store:
     def __init__(self, path):
         self.data = self._bytes(path)
         magic, self.counted, free, *roots, self.live = struct.unpack(">8sIIIIIIII", self.data[:40])
-        if magic != b"IRTREE01":
-            raise Refused(f"{path}: not a store: it doesn't begin with IRTREE01")
+        if magic == b"IRTREE01":
+            raise Refused(f"{path}: a store of version 1: it begins with IRTREE01")
+        if magic != b"IRTREE02":
+            raise Refused(f"{path}: not a store: it doesn't begin with IRTREE02")
         if len(self.data) < PAGE * self.counted:
             raise Refused(f"{path}: not a whole store: page 0 counts {self.counted} pages, and the file is shorter")
         self.kinds, self.nodes, self.rows = {0: "page 0"}, {}, {}
         try:
-            self.places = {key: self._place(key, value) for key, value in self._map(1, roots[0])}
+            self.places = {key: self._place(key, value) for key, value in self._map(5, roots[0])}
             self.numbers = {key[:key[32]].decode("utf-8"): int.from_bytes(value, "big") for key, value in self._map(2, roots[1])}
             for _ in self._map(3, roots[2]):
                 pass
@@ -103,7 +105,8 @@ class Store:
     @staticmethod
     def _place(key, value):
         point = struct.unpack_from(">ii", value)
-        return Place(key, point, dict(struct.unpack_from(">QB", value, 9 + 9 * i) for i in range(value[8])))
+        words = dict(struct.unpack_from(">QB", value, 9 + 9 * i) for i in range(value[8]))
+        return Place(key, point, words, value[585:585 + value[648]].decode("utf-8"))
 
     def _walk(self, number, level):
         """Reads the node at a page and all below it."""

@@ -20,11 +20,11 @@ PROGRAM = os.environ.get("IRTREE", f"{TOP}/crates/irtree_cli/out/irtree_cli")
 sys.path[:0] = [TOOLS, f"{TOP}/bench"]
 from places import geojson, places  # noqa: E402
 from store_file import Store, key_text  # noqa: E402
-from to_geojson import repeats  # noqa: E402
+from to_geojson import PLACE, repeats  # noqa: E402
 from tree_search import Nearest, Top, best_first, cheapest_group, degrees, filter_of, mindist  # noqa: E402
 
 ODD_TEXTS = ["Café \"Bølgen\" \\ naïve, STRASSE Straße", "", "... !", "one one one two", "\u0363 \u0364x", "a\u0363b 3.14 can't wi-fi",
-             "  \u0363\n\u0365", " ".join(f"w{i}" for i in range(90)), "東京 カフェ ไทย",
+             "  \u0363\n\u0365", " ".join(f"w{i}" for i in range(90)), "東京 カフェ ไทย", "Joe's Bar, 3.14 & 12:30", "e\u0301te\u0301 हिन्दी", "one\r\ntwo", "\none", " \tone two",
              " ".join(["many"] * 3000 + [f"w{i}" for i in range(63)] + ["last"] * 40)]
 ODD_KEYS = ["#7", "a b", "\"q\"", "é\n\t\\", "0" * 64, "ключ", "\u0001"]
 
@@ -48,16 +48,21 @@ def feature(key, x, y, text):
     return {"type": "Feature", **named, "geometry": {"type": "Point", "coordinates": [x, y]}, "properties": {"text": text}}
 
 
+def on_map(x, y):
+    """The nearest point of the map, as a line has it."""
+    return f"{min(max(x, -180), 180):.7f} {min(max(y, -90), 90):.7f}"
+
+
 def queries(count, words, points, rng):
     """So many lines of queries, of each kind in turn."""
     for i in range(count):
         x, y = rng.choice(points)
-        at, some = f"{x + rng.uniform(-1, 1):.7f} {y + rng.uniform(-1, 1):.7f}", [json.dumps(word) for word in rng.sample(words, 3)]
+        at, some = on_map(x + rng.uniform(-1, 1), y + rng.uniform(-1, 1)), [json.dumps(word) for word in rng.sample(words, 3)]
         where = rng.choice(["", f" where {some[0]}", f" where not {some[0]}", f" where {some[0]} and {some[1]}",
                             f" where {some[0]} or not ({some[1]} and {some[2]})"])
         scale = rng.choice(["", " scale 564"])
         yield [f"range {at} {rng.uniform(0, 20):.3f}{scale}{where}", f"nearest {at} {rng.randint(1, 30)}{scale}{where}",
-               f"box {x - 9:.7f} {y - 9:.7f} {x + 5:.7f} {y + 3:.7f}{where}",
+               f"box {on_map(x - 9, y - 9)} {on_map(x + 5, y + 3)}{where}",
                f"top {at} {rng.randint(1, 30)} {rng.randint(0, 1000)} {rng.uniform(0.01, 9):.3f}{scale} words "
                f"{' '.join(some[:rng.randint(1, 3)])}",
                f"group {at}{scale} words {' '.join(some[:2])}"][i % 5]
@@ -94,13 +99,25 @@ class Export(WithStore):
         irtree(cls.store, "load", json.dumps({"type": "FeatureCollection", "features": odd}).encode())
         asked(cls.store, ["remove #3", "remove #1", "add x -180 90 one two two", "remove x"])
         exported = tool("to_geojson", "--export", cls.store, "--program", PROGRAM)
-        assert (exported.returncode, exported.stderr) == (0, b""), exported
+        assert exported.returncode == 0, exported
+        cls.warned = exported.stderr.decode()
         cls.text = exported.stdout
         cls.features = json.loads(cls.text)["features"]
         cls.copy = f"{cls.room.name}/copy.store"
         cls.loaded = irtree(cls.copy, "load", cls.text)
         numbers = [each["properties"]["number"] for each in cls.features if "number" in each["properties"]]
         cls.renamed = {f"#{new}": f"#{old}" for new, old in enumerate(numbers, 1)}
+
+    @classmethod
+    def lost(cls, each):
+        """Whether an export couldn't keep the label of a place."""
+        return "label" not in each["properties"]
+
+    def with_kept_labels(self, text, keys):
+        """Replies to `show` without the labels of places whose labels the export couldn't keep."""
+        lost = {key for key, each in zip(keys, self.features) if self.lost(each)}
+        places = ((line, PLACE.fullmatch(line)) for line in text.split("\n"))
+        return "\n".join(line[:place.start("label")] if place and place["key"] in lost else line for line, place in places)
 
     def with_old_keys(self, text):
         """Replies of the copy with the automatic keys of the store."""
@@ -114,19 +131,27 @@ class Export(WithStore):
         self.assertGreater(len(self.renamed), 50)
         self.assertNotEqual(self.renamed["#1"], "#1")
 
-    def test_points_words_and_impacts_are_kept(self):
+    def test_points_words_impacts_and_labels_are_kept(self):
         keys = [json.dumps(each["id"]) if "id" in each else f"#{each['properties']['number']}" for each in self.features]
         new = {old: new for new, old in self.renamed.items()}
         before = asked(self.store, [f"show {key}" for key in keys])
         after = asked(self.copy, [f"show {new.get(key, key)}" for key in keys])
         self.assertFalse("absent" in before)
-        self.assertTrue(before == self.with_old_keys(after))
+        self.assertTrue(self.with_kept_labels(before, keys) == self.with_kept_labels(self.with_old_keys(after), keys))
+
+    def test_few_labels_are_lost(self):
+        lost = sum(map(self.lost, self.features))
+        self.assertEqual(self.warned, f"to_geojson: {self.store}: the labels of {lost} places can't be kept\n")
+        self.assertLess(lost, 10)
 
     def test_an_export_of_the_copy_is_the_same_except_for_automatic_keys(self):
         again = json.loads(tool("to_geojson", "--export", self.copy, "--program", PROGRAM).stdout)["features"]
         first = json.loads(self.text)["features"]
         for each in first + again:
             each["properties"].pop("number", None)
+        for each, same in zip(first, again):
+            if self.lost(each):
+                each["properties"] = same["properties"] = {"impacts": each["properties"]["impacts"]}
         self.assertEqual(first, again)
 
     def test_two_hundred_queries_have_the_same_replies(self):
@@ -162,7 +187,8 @@ class Replies(unittest.TestCase):
              {"query": 1, "rank": 1, "key": "k", "distance": 0.0009219, "cost": 39226267500, "text": 51, "of": 765}),
             ('= 1 0.5000000\n1 "café" "k" 0.2500000 at 1.0000000 2.0000000\n',
              {"query": 1, "rank": 1, "key": "k", "word": "café", "distance": 0.25, "group_cost": 0.5}),
-            ('place "k" 1.0000000 2.0000000 2\n"bar" 85\n"café" 170\n', {"query": 1, "key": "k", "impacts": {"bar": 85, "café": 170}}),
+            ('place "k" 1.0000000 2.0000000 2 "Café \\"café\\", bar"\n"bar" 85\n"café" 170\n',
+             {"query": 1, "key": "k", "label": 'Café "café", bar', "impacts": {"bar": 85, "café": 170}}),
         ]:
             self.assertEqual(self.properties(replies), [properties])
 
@@ -324,7 +350,7 @@ class Pictures(WithStore):
     def test_an_export_passes_on_why_a_run_ends(self):
         store = self.path("damaged.store")
         with open(self.store, "rb") as whole, open(store, "wb") as file:
-            file.write(whole.read().replace(b"IRTREE01", b"IRTREE01\xff", 1))
+            file.write(whole.read().replace(b"IRTREE02", b"IRTREE02\xff", 1))
         done = tool("to_geojson", "--export", store, "--program", PROGRAM)
         lines = done.stderr.decode().split("\n")
         self.assertEqual((done.returncode, done.stdout, lines[1]), (1, b"", "irtree: damaged 0 1"))
@@ -342,9 +368,13 @@ class Pictures(WithStore):
             file.write(b"a letter\n" * 1000)
         with open(cut, "wb") as file, open(self.store, "rb") as whole:
             file.write(whole.read()[:40_000])
-        for path, reason in [(letter, "not a store"), (self.path("absent"), "No such file"), (cut, "not a whole store")]:
+        older = self.path("older.store")
+        with open(older, "wb") as file, open(self.store, "rb") as whole:
+            file.write(whole.read().replace(b"IRTREE02", b"IRTREE01", 1))
+        named = (older, "a store of version 1")
+        for path, reason in [(letter, "not a store"), (self.path("absent"), "No such file"), (cut, "not a whole store"), named]:
             self.refuses(tool("picture", path, out), reason, out)
-        for path, reason in [(letter, "not a store"), (self.path("absent"), "No such file")]:
+        for path, reason in [(letter, "not a store"), (self.path("absent"), "No such file"), named]:
             self.refuses(tool("to_geojson", "--export", path, "--program", PROGRAM), reason, out)
         self.assertEqual(sorted(name for name in os.listdir(self.room.name) if name[:6] in ("letter", "absent")), ["letter.txt"])
         with open(letter, "rb") as file:

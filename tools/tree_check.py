@@ -1,6 +1,7 @@
 """Checks the tree of a store at rest with the rows of its words, written without the program's code: every node's level and number of slots, every
 rectangle the least one, each byte of a row the greatest impact of its word below its slot, no row without a byte, each counted page in just one of the
-maps, the tree and the free list, as many entries as places live, and no key twice. Prints how many nodes each level has and how full they are.
+maps, the tree and the free list, as many entries as places live, no key twice, and each label of its form. Prints how many nodes each level has and how
+full they are.
 
 usage: python3 tools/tree_check.py STORE
 """
@@ -10,13 +11,22 @@ from collections import Counter
 
 PAGE = 4096
 # The bytes of a key and of a value by a map's number: places, words by text, words by number, rows.
-MAPS = {1: (66, 585), 2: (33, 8), 3: (8, 37), 4: (12, 32)}
+MAPS = {5: (66, 649), 2: (33, 8), 3: (8, 37), 4: (12, 32)}
+
+
+def is_label(form):
+    """Whether these 64 bytes are a label's: UTF-8 of at most 63 bytes without LF, zeros to 63 bytes, and its length."""
+    text, zeros = form[:form[63]], form[form[63]:63]
+    try:
+        return form[63] <= 63 and not any(zeros) and "\n" not in text.decode("utf-8")
+    except UnicodeDecodeError:
+        return False
 
 
 def main(path):
     data = open(path, "rb").read()
     magic, counted, free, *roots, live = struct.unpack(">8sIIIIIIII", data[:40])
-    assert magic == b"IRTREE01", "no store"
+    assert magic == b"IRTREE02", "no store of version 2"
     nodes, slots, seen, keys = Counter(), Counter(), set(), set()
 
     def page(number):
@@ -42,7 +52,8 @@ def main(path):
                 yield from rows_of(number_of_map, int.from_bytes(cell[key:], "big"))
 
     words = {}
-    for key, value in rows_of(1, roots[0]):
+    for key, value in rows_of(5, roots[0]):
+        assert is_label(value[585:]), "a label isn't of its form"
         pairs = (struct.unpack_from(">QB", value, 9 + 9 * i) for i in range(value[8]))
         words[key] = {number: impact for number, impact in pairs}
     for number_of_map in (2, 3):

@@ -117,7 +117,7 @@ class Absent(Refused):
 
 
 class Full(Refused):
-    """200,000 places live, and the key is new. Replace a place that is there, or remove one."""
+    """1,000,000 places live, and the key is new. Replace a place that is there, or remove one."""
 
 
 class Worn(Refused):
@@ -248,11 +248,15 @@ class Point(NamedTuple):
 
 @dataclass(frozen=True)
 class Place:
-    """A place. `words` has its words with their impacts (1 to 255), ordered by the words' bytes; `dict(place.words)` looks them up."""
+    """A place. `words` has its words with their impacts (1 to 255), ordered by the words' bytes; `dict(place.words)` looks them up.
+
+    `label` is the first line of its text, cut to as many whole characters as have at most 63 bytes of UTF-8.
+    """
 
     key: Key
     point: Point
     words: Tuple[Tuple[str, int], ...]
+    label: str
 
 
 @dataclass(frozen=True)
@@ -496,7 +500,7 @@ _NAME = r'("(?:[^"\\]|\\.)*"|#[0-9]+)'
 _DEGREES = r"(-?[0-9]+\.[0-9]{7})"
 _AT = rf"(?: at {_DEGREES} {_DEGREES})?"
 _COUNT = re.compile(r"count ([0-9]+)")
-_PLACE = re.compile(rf"place {_NAME} {_DEGREES} {_DEGREES} [0-9]+")
+_PLACE = re.compile(rf"place {_NAME} {_DEGREES} {_DEGREES} ([0-9]+) {_TEXT}")
 _IMPACT = re.compile(rf"{_TEXT} ([0-9]+)")
 _BOX = re.compile(rf"([0-9]+) {_NAME}{_AT}")
 _NEAR = re.compile(rf"([0-9]+) {_NAME} {_DEGREES}{_AT}")
@@ -530,10 +534,10 @@ def _place_at(lon: Optional[str], lat: Optional[str]) -> Optional[Point]:
 
 def _rows_after(header: str) -> int:
     """How many lines of a reply follow its first one."""
-    words = header.split(" ")
+    words = header.split(" ", 2)
     if words[0] == "=":
         return int(words[1])
-    return int(words[-1]) if words[0] == "place" else 0
+    return int(_fields(_PLACE, header)[3]) if words[0] == "place" else 0
 
 
 # Each of these makes the result of a line from the first line of its reply and those after it. `ValueError` and `LookupError` mean that
@@ -553,9 +557,9 @@ def _read_count(header: str, rows: List[str]) -> int:
 
 
 def _read_place(header: str, rows: List[str]) -> Place:
-    name, lon, lat = _fields(_PLACE, header)
-    words = [_fields(_IMPACT, row) for row in rows]
-    return Place(_named(name), Point(Decimal(lon), Decimal(lat)), tuple((_text_of(word), int(impact)) for word, impact in words))
+    name, lon, lat, _, label = _fields(_PLACE, header)
+    words = tuple((_text_of(word), int(impact)) for word, impact in (_fields(_IMPACT, row) for row in rows))
+    return Place(_named(name), Point(Decimal(lon), Decimal(lat)), words, _text_of(label))
 
 
 def _read_box(header: str, rows: List[str]) -> List[Hit]:
@@ -800,7 +804,7 @@ class Store:
     # Places.
 
     def add(self, key: str, point: Tuple[Degrees, Degrees], text: str = "", *, join_lines: bool = False) -> bool:
-        """Puts a place with the words of the text at the key. Returns whether it replaced a place. It is stored when this returns.
+        """Puts a place with the words and the label of the text at the key. Returns whether it replaced a place. By then it is stored.
 
         A text with an LF or a CR raises `LineBreak`, or has each replaced by a space with `join_lines=True`.
         """
@@ -1112,8 +1116,9 @@ def load(store: PathName, source: Union[PathName, bytes], *, batch: Optional[int
          cache: Optional[int] = None, policy: Optional[str] = None, program: Optional[PathName] = None) -> Loaded:
     """Runs `irtree STORE load` on a GeoJSON text: the path of a file, or the text itself as bytes.
 
-    `batch` is how many places are stored at a time, and `text` names the one property whose words are taken. Raises `LoadEnded` if the text
-    is refused or the load ends early, and `OSError` if the file can't be read. No other process, and no `Store`, may have the store.
+    `batch` is how many places are stored at a time, and `text` names the one property that is the text of a place. Raises `LoadEnded` if
+    the text is refused or the load ends early, and `OSError` if the file can't be read. No other process, and no `Store`, may have the
+    store.
     """
     words = [find_program(program), _store_word(store), "load", *_options(batch=batch, text=text, cache=cache, policy=policy)]
     if isinstance(source, (bytes, bytearray, memoryview)):

@@ -37,6 +37,11 @@ def units(n):
     return D(n).scaleb(-7)
 
 
+def label(text):
+    """The first line of a text, cut to as many whole characters as have at most 63 bytes."""
+    return text.split("\n")[0].encode()[:63].decode(errors="ignore")
+
+
 def point(lon, lat):
     return Point(D(lon), D(lat))
 
@@ -100,14 +105,20 @@ class PlacesTest(Case):
     def test_a_place_is_put_shown_replaced_and_removed(self):
         store = self.store()
         self.assertIs(store.add("k", ORIGIN, "Café café bar"), False)
-        self.assertEqual(store.show("k"), Place("k", point(0, 0), (("bar", 85), ("café", 170))))
+        self.assertEqual(store.show("k"), Place("k", point(0, 0), (("bar", 85), ("café", 170)), "Café café bar"))
         self.assertIs(store.add("k", (D(1), D(1))), True)
-        self.assertEqual(store.show("k"), Place("k", point(1, 1), ()))
+        self.assertEqual(store.show("k"), Place("k", point(1, 1), (), ""))
         self.assertIsNone(store.remove("k"))
         with self.assertRaises(irtree.Absent) as caught:
             store.remove("k")
         self.assertEqual((caught.exception.reply, caught.exception.line), ("absent", 'remove "k"'))
         self.assertEqual(store.count(), 0)
+
+    def test_a_label_is_cut_at_a_whole_character(self):
+        store = self.store()
+        store.add("p", ORIGIN, "Pizza, pasta, pizza, pasta, pizza, pasta, pizza and pasta, café")
+        self.assertEqual(store.show("p"), Place("p", point(0, 0), (("and", 26), ("café", 26), ("pasta", 102), ("pizza", 102)),
+                                                "Pizza, pasta, pizza, pasta, pizza, pasta, pizza and pasta, caf"))
 
     def test_show_of_an_absent_key(self):
         with self.assertRaises(irtree.Absent):
@@ -315,11 +326,13 @@ class RefusalsTest(Case):
 
     @unittest.skipUnless(LARGE, "IRTREE_LARGE=1: fills a store")
     def test_a_full_store(self):
-        with Store("-") as store:
-            with store.pipeline() as p:
-                for n in range(200_000):
-                    p.add(f"k{n}", (n, n))
-            self.assertEqual(p.results, [False] * 200_000)
+        for first in range(0, 1_000_000, 250_000):
+            features = ",".join(f'{{"type":"Feature","id":"k{n}","geometry":{{"type":"Point","coordinates":[0,{n}e-7]}},"properties":{{}}}}'
+                                for n in range(first, first + 250_000))
+            loaded = irtree.load(self.file, f'{{"type":"FeatureCollection","features":[{features}]}}'.encode(), batch=10_000)
+            self.assertEqual(loaded, Loaded(250_000, ()))
+        with Store(self.file) as store:
+            self.assertEqual(store.count(), 1_000_000)
             with self.assertRaises(irtree.Full):
                 store.add("new", ORIGIN)
             self.assertIs(store.add("k7", ORIGIN), True)
@@ -341,7 +354,7 @@ class HostileTest(Case):
         self.assertEqual(store.count(), len(self.KEYS))
         self.assertEqual(self.hits(store.box(0, 0, 1000, 0)), sorted(self.KEYS, key=str.encode))
         for n, key in enumerate(self.KEYS):
-            self.assertEqual(store.show(key), Place(key, Point(units(n), D(0)), (("x", 255),)))
+            self.assertEqual(store.show(key), Place(key, Point(units(n), D(0)), (("x", 255),), "x"))
             self.assertEqual(store.nearest((n, 0), 1)[0].key, key)
             store.remove(key)
         self.assertEqual(store.count(), 0)
@@ -373,7 +386,7 @@ class HostileTest(Case):
                 store.add("a", ORIGIN, text)
         self.assertEqual(store.count(), 0)
         store.add("a", ORIGIN, "cafe\nadd\r\nb\r0 0", join_lines=True)
-        self.assertEqual(store.show("a").words, (("0", 102), ("add", 51), ("b", 51), ("cafe", 51)))
+        self.assertEqual(store.show("a"), Place("a", point(0, 0), (("0", 102), ("add", 51), ("b", 51), ("cafe", 51)), "cafe add b 0 0"))
         self.assertEqual(store.count(), 1)
 
     def test_a_text_is_taken_as_it_is(self):
@@ -382,7 +395,16 @@ class HostileTest(Case):
                             ("where cafe", ["cafe", "where"]), ("\\u0061", ["u0061"]), ("x" * 32, ["x" * 32]), ("x" * 33, []),
                             ("x" * 255, []), ("x" * 256, []), ("a " * 127 + "a", ["a"]), ("a " * 128, ["a"]), ("É", ["é"])]:
             store.add("k", ORIGIN, text)
-            self.assertEqual([word for word, _ in store.show("k").words], words, text)
+            shown = store.show("k")
+            self.assertEqual([word for word, _ in shown.words], words, text)
+            self.assertEqual(shown.label, label(text.lstrip(" \t")), text)
+
+    def test_a_label_has_any_characters(self):
+        store = self.store()
+        texts = ['"a \\"b\\"" \\', "\x01\x1f\x7f\x85\u2028", 'x" 2 "', "é" * 40, "x" + "é" * 40, "東京" * 20, "😀" * 20, "xyz" + "😀" * 20]
+        for text in texts + ["x" * ascii + character for character in "xé京😀" for ascii in range(58, 65)]:
+            store.add("k", ORIGIN, text)
+            self.assertEqual(store.show("k").label, label(text), text)
 
     def test_a_line_has_at_most_65536_bytes(self):
         store = self.store()
@@ -549,7 +571,7 @@ class EndsTest(Case):
             self.ended(lambda: Store(self.file), 3, "irtree: disk", "another process has the store open; wait for it to end")
 
     def test_options_that_are_refused(self):
-        usage = "usage: irtree STORE run|load|verify|make [options]"
+        usage = "usage: irtree STORE run|load|verify|make|upgrade [options]"
         self.ended(lambda: Store("-", cache=65_537), 2, usage, "--cache")
         self.ended(lambda: Store("-", policy="best"), 2, usage, "best")
 
@@ -649,7 +671,8 @@ class EndsTest(Case):
 
     def test_what_is_no_reply(self):
         for reply in ("no\n", "\n", "ok\n", "= 1\n1 a 0.0000000\n", "= x\n", "=\n", "count x\n", "\x00\n", "bad luck\n",
-                      '= 1\n2 "a" 0.0000000\n', '= 1\n1 "a" 0.0\n'):
+                      '= 1\n2 "a" 0.0000000\n', '= 1\n1 "a" 0.0\n', 'place "a" 0.0000000 0.0000000 0\n', "place\n",
+                      'place "a" 0.0000000 0.0000000 x ""\n', 'place "a" 0.0000000 0.0000000 0 x\n'):
             store = self.store(program=self.fake(reply))
             with self.assertRaises(irtree.UnknownReply):
                 store.nearest(ORIGIN, 1)
@@ -978,7 +1001,7 @@ class LoadTest(Case):
             self.assertEqual(irtree.load("-", source), Loaded(1, (Skip(1, "no-geometry"),)))
         irtree.load(self.file, self.TEXT)
         with Store(self.file) as store:
-            self.assertEqual(store.show(Auto(1)), Place(Auto(1), point("12.57", "55.68"), (("bar", 255),)))
+            self.assertEqual(store.show(Auto(1)), Place(Auto(1), point("12.57", "55.68"), (("bar", 255),), "Bar"))
 
     def test_each_reason_to_skip(self):
         def feature(geometry, id="null"):
@@ -995,7 +1018,16 @@ class LoadTest(Case):
         for name, word in [('a "b"', "one"), ("-c", "two")]:
             self.assertEqual(irtree.load(self.file, text, batch=1, text=name, cache=0, policy="halving"), Loaded(1, ()))
             with Store(self.file) as store:
-                self.assertEqual(store.show("x"), Place("x", Point(D(1), D(2)), ((word, 255),)))
+                self.assertEqual(store.show("x"), Place("x", Point(D(1), D(2)), ((word, 255),), word))
+
+    def test_a_label_is_the_first_line_of_the_first_string(self):
+        for properties, expected in [
+                ('"n":7,"a":"One\\ntwo","b":"Three"', "One"), ('"a":"One\\r\\ntwo"', "One\r"), ('"a":"","b":"Two"', ""),
+                ('"b":"Two","a":"One"', "Two"), ('"l":["One"],"n":2', ""), ('"a":" \\t One"', " \t One")]:
+            text = f'{{"type":"Feature","id":"x","geometry":{{"type":"Point","coordinates":[0,0]}},"properties":{{{properties}}}}}'
+            irtree.load(self.file, text.encode())
+            with Store(self.file) as store:
+                self.assertEqual(store.show("x").label, expected, properties)
 
     def test_an_open_store_loads(self):
         with Store(self.file) as store:

@@ -16,6 +16,8 @@ pub enum Action {
     Load,
     /// Makes places from a seed, and asks queries over them.
     Make,
+    /// Carries a store of version 1 over to version 2.
+    Upgrade,
 }
 
 impl Action {
@@ -35,6 +37,7 @@ impl Action {
                     || option == FROM
                     || option == COUNT
             }
+            Action::Upgrade => option == CACHE,
         }
     }
 }
@@ -45,6 +48,7 @@ impl fmt::Display for Action {
             Action::Run => "run",
             Action::Load => "load",
             Action::Make => "make",
+            Action::Upgrade => "upgrade",
         })
     }
 }

@@ -53,7 +53,10 @@ impl fmt::Display for Refusal<'_> {
             Refusal::NoStore => f.write_str("no store is given"),
             Refusal::NoAction => f.write_str("no action is given"),
             Refusal::NotAnAction(word) => {
-                write!(f, "unknown action '{word}', expected run, load or make")
+                write!(
+                    f,
+                    "unknown action '{word}', expected run, load, make or upgrade"
+                )
             }
             Refusal::NotAPolicy(word) => {
                 write!(
@@ -85,6 +88,8 @@ fn action_of(word: &str) -> Option<Action>
         Some(Action::Load)
     } else if word == "make" {
         Some(Action::Make)
+    } else if word == "upgrade" {
+        Some(Action::Upgrade)
     } else {
         None
     }

@@ -30,11 +30,12 @@ impl Task<'_> {
         Ok(line)
     }
 
-    // What is stored after an end that came in the middle of the run.
+    // What is stored after an end that came in the middle of the run: an upgrade stores all in one commit.
     fn kept(&self) -> &'static str {
-        match self.store {
-            Some(_) => "what was acknowledged is stored",
-            None => "the store in memory ended with the run",
+        match (self.store, self.action) {
+            (None, _) => "the store in memory ended with the run",
+            (Some(_), Action::Upgrade) => "the store is as it was, or all of it was carried over",
+            (Some(_), _) => "what was acknowledged is stored",
         }
     }
 
@@ -42,7 +43,7 @@ impl Task<'_> {
     fn kept_of_input(&self) -> &'static str {
         match self.action {
             Action::Load => "nothing was stored",
-            Action::Run | Action::Make => self.kept(),
+            Action::Run | Action::Make | Action::Upgrade => self.kept(),
         }
     }
 }
@@ -94,7 +95,7 @@ fn two_lines_kept(
 
 fn on_memory(alloc: Global, task: Task<'_>) -> Result<String, AllocError> {
     let step = match task.action {
-        Action::Run => "free some memory, or use a smaller --cache",
+        Action::Run | Action::Upgrade => "free some memory, or use a smaller --cache",
         Action::Load | Action::Make => "free some memory, or use a smaller --cache or --batch",
     };
     let store = task.store_name(alloc)?;
@@ -133,7 +134,7 @@ fn on_pages(alloc: Global, task: Task<'_>) -> Result<String, AllocError> {
 fn on_source(alloc: Global, task: Task<'_>) -> Result<String, AllocError> {
     let step = match task.action {
         Action::Load => "check where it comes from, and load again",
-        Action::Run | Action::Make => {
+        Action::Run | Action::Make | Action::Upgrade => {
             "check where it comes from, and send the lines that have no reply yet"
         }
     };
@@ -147,11 +148,11 @@ fn on_source(alloc: Global, task: Task<'_>) -> Result<String, AllocError> {
 }
 
 fn on_sink(alloc: Global, task: Task<'_>) -> Result<String, AllocError> {
-    let step = match task.store {
-        Some(_) => {
+    let step = match (task.store, task.action) {
+        (None, _) | (Some(_), Action::Upgrade) => "check where it goes, and run again",
+        (Some(_), _) => {
             "check where it goes, and run again; the update whose reply is missing may be stored, too"
         }
-        None => "check where it goes, and run again",
     };
     two_lines_kept(
         alloc,
@@ -203,7 +204,7 @@ fn on_length(alloc: Global, task: Task<'_>) -> Result<String, AllocError> {
             "nothing was stored",
             "split it into several FeatureCollections, and load one after the other",
         ),
-        Action::Run | Action::Make => (
+        Action::Run | Action::Make | Action::Upgrade => (
             "script",
             INPUT_MAX,
             "the lines that end within them were run",
@@ -227,6 +228,12 @@ fn on_store(alloc: Global, fault: StoreFault, task: Task<'_>) -> Result<String, 
         ),
         StoreFault::BadJournal(at) => on_journal(alloc, store.as_str(), at),
         StoreFault::Damaged(damage) => on_damage(alloc, store.as_str(), damage),
+        StoreFault::Version1 => two_lines(
+            alloc,
+            store.as_str(),
+            "it was made by version 1 of irtree; nothing was stored in it",
+            "carry it over with irtree STORE upgrade",
+        ),
     }
 }
 
@@ -274,7 +281,7 @@ fn on_limit(alloc: Global, fault: LimitFault, task: Task<'_>) -> Result<String, 
     let store = task.store_name(alloc)?;
     let (reached, step) = match fault {
         LimitFault::Full => (
-            "it holds 200,000 places, as many as it may",
+            "it holds 1,000,000 places, as many as it may",
             "remove places, or use a second store for the rest",
         ),
         LimitFault::Worn => (
@@ -283,7 +290,10 @@ fn on_limit(alloc: Global, fault: LimitFault, task: Task<'_>) -> Result<String, 
         ),
         LimitFault::NoRoom => (
             "it has as many pages as it may have",
-            "remove places, or use a second store for the rest",
+            match task.action {
+                Action::Upgrade => "remove places with version 1 of irtree, and upgrade it again",
+                _ => "remove places, or use a second store for the rest",
+            },
         ),
     };
     two_lines_kept(alloc, store.as_str(), reached, task.kept(), step)

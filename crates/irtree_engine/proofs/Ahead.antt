@@ -33,6 +33,7 @@ begun-range old range pages count first tables free apart counted more last abov
     let rows = range.rows in
     let tree = range.tree in
     record {
+      version = range.version;
       counted = omega (arith, some);
       first_free = counted;
       places = used-counted pages count first free tables apart tables.places (λ root. (let one = root-used places_form pages tables.places root in omega (arith, one)));
@@ -48,7 +49,7 @@ begun-range old range pages count first tables free apart counted more last abov
     }
 
 module _ (head : Head) (count first : ℕ) (pages : PageMap) (state : states.Contents) (stand : PagesStand (block_with count first head) pages state) (updates : List Update) (counts : List (List ℕ × ℕ)) (are : AreCountedWords counts)
-    (gathered : (has : List ℕ → Bool) → times_counted has counts ≡ word_count has updates) (few : times_counted (λ w. true) counts ≤ 64 * puts_in updates) (lives : head.live + length updates ≤ 200000) (numbers_left : head.number + length updates ≤ 2 ^ 40) where
+    (gathered : (has : List ℕ → Bool) → times_counted has counts ≡ word_count has updates) (few : times_counted (λ w. true) counts ≤ 64 * puts_in updates) (lives : head.live + length updates ≤ 1000000) (numbers_left : head.number + length updates ≤ 2 ^ 40) where
   room-for : head.live + 64 * puts_in updates < 2 ^ 32
   room-for = omega (arith, lives, puts-most updates)
 

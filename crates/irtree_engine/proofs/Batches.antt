@@ -18,7 +18,7 @@ use Rattle.store_model.specs.Ahead.{StandAhead}
 use Rattle.store_model.specs.Stands.{PagesStand, Stands}
 use Rattle.store_model.proofs.Batches.{stand-ended}
 use Rattle.irtree_engine.specs.declared.fault.EngineFault.{EngineFault}
-use Rattle.irtree_engine.specs.declared.fault.EngineFault.TheVariants.{Disk, NotAStore, BadJournal, Damaged, Full, Worn, NoRoom, Stopped, Memory}
+use Rattle.irtree_engine.specs.declared.fault.EngineFault.TheVariants.{Disk, NotAStore, BadJournal, Damaged, Full, Worn, NoRoom, Stopped, Version1, Memory}
 use Rattle.irtree_engine.specs.Updates.{IsDueTo, IsLater, LeavesAllOrNone, LeavesOneOf, StandForOutcome, StandsForOutcome, accepted, state_after_all}
 
 -- Page 0's fields and the pages stand for the state after the first of some updates, from which those that are left go on.
@@ -62,6 +62,7 @@ module _ {held : Option (List (List ℕ × ℕ))} {state : Contents} {updates le
   updated-due (BadJournal at) due = tt
   updated-due NoRoom due = tt
   updated-due Stopped due = tt
+  updated-due Version1 due = tt
   updated-due Memory due = tt
 
 -- where none is left the pages stand for the outcome
@@ -100,7 +101,7 @@ rises before after more = record { later = omega (arith, more); same = λ e. abs
 
 -- a put
 put-rises : (state : Contents) (key : Name) (serial : ℕ) (place : Place) → Rises state (put_at state key serial place).state
-put-rises state key serial place = full (nat_le 200000 (length state.places) && is_none (place_at key state.places))
+put-rises state key serial place = full (nat_le 1000000 (length state.places) && is_none (place_at key state.places))
   where
     put : Effect
     put = record { state = record { places = with_place key place state.places; serial = serial; number = state.number + 1 }; answer = Ok (cond (is_some (place_at key state.places)) Replaced New) }
@@ -130,7 +131,7 @@ remove-rises state key = absent (is_none (place_at key state.places))
 
 -- any update
 pub effect-rises : (state : Contents) (update : Update) → Rises state (effect_of state update).state
-effect-rises state (Put key point words) = put-rises state (key_for state key) (serial_after state key) (record { point = point; words = words })
+effect-rises state (Put key point words label) = put-rises state (key_for state key) (serial_after state key) (record { point = point; words = words; label = label })
 effect-rises state (Remove key) = remove-rises state key
 
 -- one rise after another

@@ -3,7 +3,7 @@ use Rattle.std.proofs.Common.{◌≡◌, ℕ, Bool, true, ⊎_elim, inl, inr, re
 use Rattle.disk_model.specs.World.{World, Image, LeavesOnly}
 use Rattle.disk_model.proofs.Moments.{rested, then, within}
 use Rattle.page_journal.specs.Record.{applied}
-use Rattle.page_store.specs.Contents.{Contents, HoldsContents, HoldsOneOf, IsCommitted, Overlay, contents_in, counted_pages, shown}
+use Rattle.page_store.specs.Contents.{Contents, HoldsContents, HoldsOneOf, IsCommitted, IsVersion1Page, Overlay, contents_in, counted_pages, page_bytes, shown}
 use Rattle.page_store.specs.Store.{Rests}
 use Rattle.page_store.specs.Superblock.{IsInRange}
 use Rattle.page_store.specs.declared.superblock.Superblock.{Superblock}
@@ -33,6 +33,7 @@ commit-stands block at world contents state committed is stand = record {
     stands = (committed.ready.journal, refl);
     holds = is;
     page = λ range. committed.page (subst IsInRange (sym (ap (λ (c : Contents). c.block) is) ∙ committed.head) range);
+    version1 = subst (λ (b : Superblock). IsVersion1Page b (page_bytes (applied world.seen) 0)) (sym committed.head ∙ ap (λ (c : Contents). c.block) is) committed.version1;
   };
   stand = stand;
 }

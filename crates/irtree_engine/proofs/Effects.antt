@@ -71,6 +71,7 @@ module _ (old : Superblock) (last_before : ℕ) (range : IsInRange (at_number la
       let rows = range.rows in
       let tree = range.tree in
       record {
+        version = range.version;
         counted = omega (arith, some);
         first_free = counted;
         places = used-counted pages count first free tables apart tables.places (λ root. (let one = root-used places_form pages tables.places root in omega (arith, one)));
@@ -89,7 +90,7 @@ module _ (old : Superblock) (last_before : ℕ) (range : IsInRange (at_number la
 
 -- what a put does, by whether it finds no room, the last update number, and the key
 put-is : (state : states.Contents) (key : Name) (serial : ℕ) (place : Place) (full worn lived : Bool)
-    → (nat_le 200000 (length state.places) && is_none (states.place_at key state.places)) ≡ full → (state.number == 2 ^ 40) ≡ worn → is_some (states.place_at key state.places) ≡ lived
+    → (nat_le 1000000 (length state.places) && is_none (states.place_at key state.places)) ≡ full → (state.number == 2 ^ 40) ≡ worn → is_some (states.place_at key state.places) ≡ lived
     → put_at state key serial place
     ≡ cond full (refuses state Full) (cond worn (refuses state Worn)
     (record { state = record { places = states.with_place key place state.places; serial = serial; number = state.number + 1 }; answer = Ok (cond lived Replaced New) }))
@@ -131,37 +132,37 @@ module _ {claims : ℕ → ℕ → ℕ} {last : ℕ} (head : Head) (count first 
   not-worn less = ne_eqb state.number (2 ^ 40) (λ e. less (sym number-is ∙ e))
 
   module _ (serial : ℕ) (place : Place) where
-    -- a new key is full where 200,000 places live
-    pub put-full : is_none found ≡ true → 200000 ≤ head.live → (put_at state key serial place).answer ≡ Err Full
+    -- a new key is full where 1,000,000 places live
+    pub put-full : is_none found ≡ true → 1000000 ≤ head.live → (put_at state key serial place).answer ≡ Err Full
     put-full new many =
         let new_place : is_none (states.place_at key state.places) ≡ true = ap not lives ∙ new in
-        let full : nat_le 200000 (length state.places) ≡ true = le-leb 200000 (length state.places) (omega (arith, live-is, many)) in
-        let test : (nat_le 200000 (length state.places) && is_none (states.place_at key state.places)) ≡ true = λ i. full i && new_place i in
+        let full : nat_le 1000000 (length state.places) ≡ true = le-leb 1000000 (length state.places) (omega (arith, live-is, many)) in
+        let test : (nat_le 1000000 (length state.places) && is_none (states.place_at key state.places)) ≡ true = λ i. full i && new_place i in
         ap (λ (e : Effect). e.answer) (put-is state key serial place true (state.number == 2 ^ 40) (is_some (states.place_at key state.places)) test refl refl)
 
     -- where there is room the key is not refused
-    room-test : (is_none found ≡ true → head.live < 200000) → (nat_le 200000 (length state.places) && is_none (states.place_at key state.places)) ≡ false
+    room-test : (is_none found ≡ true → head.live < 1000000) → (nat_le 1000000 (length state.places) && is_none (states.place_at key state.places)) ≡ false
     room-test room = split (is_none found) refl
       where
-        split : (b : Bool) → is_none found ≡ b → (nat_le 200000 (length state.places) && is_none (states.place_at key state.places)) ≡ false
+        split : (b : Bool) → is_none found ≡ b → (nat_le 1000000 (length state.places) && is_none (states.place_at key state.places)) ≡ false
         split true new =
-            let few : nat_le 200000 (length state.places) ≡ false = lt-leb 200000 (length state.places) (let less = room new in omega (arith, live-is, less)) in
+            let few : nat_le 1000000 (length state.places) ≡ false = lt-leb 1000000 (length state.places) (let less = room new in omega (arith, live-is, less)) in
             rw few refl
         split false old =
             let lived : is_none (states.place_at key state.places) ≡ false = ap not lives ∙ old in
-            rw lived (either (nat_le 200000 (length state.places)))
+            rw lived (either (nat_le 1000000 (length state.places)))
           where
             either : (b : Bool) → (b && false) ≡ false
             either true = refl
             either false = refl
 
     -- at the last update number a put is worn
-    pub put-worn : (is_none found ≡ true → head.live < 200000) → head.number ≡ 2 ^ 40 → (put_at state key serial place).answer ≡ Err Worn
+    pub put-worn : (is_none found ≡ true → head.live < 1000000) → head.number ≡ 2 ^ 40 → (put_at state key serial place).answer ≡ Err Worn
     put-worn room last =
         ap (λ (e : Effect). e.answer) (put-is state key serial place false true (is_some (states.place_at key state.places)) (room-test room) (is-worn last) refl)
 
     -- and else it puts the place
-    pub put-done : (is_none found ≡ true → head.live < 200000) → head.number ≢ 2 ^ 40
+    pub put-done : (is_none found ≡ true → head.live < 1000000) → head.number ≢ 2 ^ 40
         → put_at state key serial place
         ≡ record { state = record { places = states.with_place key place state.places; serial = serial; number = head.number + 1 }; answer = Ok (cond (is_none found) New Replaced) }
     put-done room less =
@@ -194,7 +195,7 @@ module _ {claims : ℕ → ℕ → ℕ} {last : ℕ} (head : Head) (count first 
   counted-as b is = ap (λ (f : Option Stored). cond (is_some f) 1 0) (sym is_found) ∙ ap (λ d. cond d 1 0) is
 
   -- where a place is put there is room for it
-  pub room-left : (is_none found ≡ true → head.live < 200000) → head.live < 2 ^ 32 → head.live + 1 < 2 ^ 32 + cond (is_some (place_of_key key stand.entries.places)) 1 0
+  pub room-left : (is_none found ≡ true → head.live < 1000000) → head.live < 2 ^ 32 → head.live + 1 < 2 ^ 32 + cond (is_some (place_of_key key stand.entries.places)) 1 0
   room-left room small = at (is_some found) refl
     where
       at : (b : Bool) → is_some found ≡ b → head.live + 1 < 2 ^ 32 + cond (is_some (place_of_key key stand.entries.places)) 1 0
@@ -202,7 +203,7 @@ module _ {claims : ℕ → ℕ → ℕ} {last : ℕ} (head : Head) (count first 
       at false new = let less = room (ap not new) in omega (arith, less)
 
   -- and in the tables beside it
-  pub few-left : (is_none found ≡ true → head.live < 200000) → head.live < 2 ^ 32 → length (without_place key stand.entries.places) + 1 < 2 ^ 32
+  pub few-left : (is_none found ≡ true → head.live < 1000000) → head.live < 2 ^ 32 → length (without_place key stand.entries.places) + 1 < 2 ^ 32
   few-left room small = let left = room-left room small in let live = stand.tables.live in omega (arith, left, live, length-without_place key stand.entries.places)
 
   -- one place more lives where the key was new
@@ -221,28 +222,28 @@ module _ (held : Option (List (List ℕ × ℕ))) (left : List Update) (head : H
     (between : PageMap) (count_between first_between : ℕ) (counted : first_between < count_between) (more : count ≤ count_between) (tables : Tables)
     (after : PageMap) (count_after first_after : ℕ) (counted_after : first_after < count_after) (more_after : count_between ≤ count_after) (tree : Tree) where
   -- after a put of the tables and then of the tree, page 0's fields and the pages stand for the state with the place
-  pub put-stands : (name : Option Name) (point : Position) (words : List (List ℕ × ℕ)) (serial live : ℕ) → (is : StandAhead held (Put name point words ∷ left) (block_with count first head) pages state) → (is_found : found ≡ place_of_key key is.stand.entries.places)
-      → IsWordMap words → (is_none found ≡ true → head.live < 200000) → head.live < 2 ^ 32 → head.number ≢ 2 ^ 40
+  pub put-stands : (name : Option Name) (point : Position) (words : List (List ℕ × ℕ)) (label : List ℕ) (serial live : ℕ) → (is : StandAhead held (Put name point words label ∷ left) (block_with count first head) pages state) → (is_found : found ≡ place_of_key key is.stand.entries.places)
+      → IsWordMap words → (is_none found ≡ true → head.live < 1000000) → head.live < 2 ^ 32 → head.number ≢ 2 ^ 40
       → head.serial ≤ serial → serial ≤ head.number + 2 → IsSerialAbove serial key → live ≡ cond (is_none found) (head.live + 1) head.live
       → tables.next_word ≡ next_by held key words head.next_word is.stand.entries
-      → (changed : IsChanged (view pages count first is.stand.tables.free) (tables_in head) between count_between first_between tables (after_put_by held key point words head.next_word is.stand.entries))
-      → IsRegrown node_of (stock.view between head.rows count_between first_between changed.free) after tree.rows count_after first_after head.tree tree.root (option_map (entry_at key) found) (Some (entry_at key (stored_with point (by_number (pairs_by held key words head.next_word is.stand.entries)))))
-      → StandAhead held left (block_with count_after first_after (head_with head tables tree live serial)) after (put_at state key serial (record { point = point; words = words })).state
-  put-stands name point words serial live is is_found map_of_words room small less later serials above lives_then next_is changed regrown =
+      → (changed : IsChanged (view pages count first is.stand.tables.free) (tables_in head) between count_between first_between tables (after_put_by held key point words label head.next_word is.stand.entries))
+      → IsRegrown node_of (stock.view between head.rows count_between first_between changed.free) after tree.rows count_after first_after head.tree tree.root (option_map (entry_at key) found) (Some (entry_at key (stored_with point (by_number (pairs_by held key words head.next_word is.stand.entries)) label)))
+      → StandAhead held left (block_with count_after first_after (head_with head tables tree live serial)) after (put_at state key serial (record { point = point; words = words; label = label })).state
+  put-stands name point words label serial live is is_found map_of_words room small less later serials above lives_then next_is changed regrown =
       let old = block_with count first head in
       let spare = room-left head count first pages state is.stand key found is_found room small in
-      let next = next-by held left name key point words map_of_words old pages state is spare in
+      let next = next-by held left name key point words label map_of_words old pages state is spare in
       let words_then : head.next_word ≤ tables.next_word = omega (arith, next.0, next_is) in
       let words_most : tables.next_word ≤ 64 * (last_number held left (head.number + 1) + 1) = omega (arith, next.1, next_is) in
-      let last = last-put held left name point words old pages state is (below-last head.number most less) in
-      let range = after-range old (last_number held (Put name point words ∷ left) head.number) is.stand.tables.range between count_between first_between tables live serial changed.free changed.apart counted more (last_number held left (head.number + 1)) last.0 last.1 later serials words_then words_most in
-      let within = regrown-range head (last_number held left (head.number + 1)) tables live serial count_between first_between range (stock.view between head.rows count_between first_between changed.free) after count_after first_after tree (option_map (entry_at key) found) (Some (entry_at key (stored_with point (by_number (pairs_by held key words head.next_word is.stand.entries))))) regrown more_after counted_after in
+      let last = last-put held left name point words label old pages state is (below-last head.number most less) in
+      let range = after-range old (last_number held (Put name point words label ∷ left) head.number) is.stand.tables.range between count_between first_between tables live serial changed.free changed.apart counted more (last_number held left (head.number + 1)) last.0 last.1 later serials words_then words_most in
+      let within = regrown-range head (last_number held left (head.number + 1)) tables live serial count_between first_between range (stock.view between head.rows count_between first_between changed.free) after count_after first_after tree (option_map (entry_at key) found) (Some (entry_at key (stored_with point (by_number (pairs_by held key words head.next_word is.stand.entries)) label))) regrown more_after counted_after in
       let gone : option_map (entry_at key) found ≡ option_map (entry_at key) (place_of_key key is.stand.entries.places) = ap (option_map (entry_at key)) is_found in
-      subst (λ (e : Effect). StandAhead held left (block_with count_after first_after (head_with head tables tree live serial)) after e.state) (sym (put-done head count first pages state is.stand key found is_found serial (record { point = point; words = words }) room less))
-      (stand-put-by held left name key point words map_of_words old pages state is spare (block_with count_between first_between (head_with head tables (tree_in head) live serial)) between changed range (omega (arith, serials)) refl refl next_is later above
+      subst (λ (e : Effect). StandAhead held left (block_with count_after first_after (head_with head tables tree live serial)) after e.state) (sym (put-done head count first pages state is.stand key found is_found serial (record { point = point; words = words; label = label }) room less))
+      (stand-put-by held left name key point words label map_of_words old pages state is spare (block_with count_between first_between (head_with head tables (tree_in head) live serial)) between changed range (omega (arith, serials)) refl refl next_is later above
       (counts-more head count first pages state is.stand key found is_found live lives_then)
       (block_with count_after first_after (head_with head tables tree live serial)) after
-      (subst (λ (item : Option Item). IsRegrown node_of (stock.view between head.rows count_between first_between changed.free) after tree.rows count_after first_after head.tree tree.root item (Some (entry_at key (stored_with point (by_number (pairs_by held key words head.next_word is.stand.entries)))))) gone regrown)
+      (subst (λ (item : Option Item). IsRegrown node_of (stock.view between head.rows count_between first_between changed.free) after tree.rows count_after first_after head.tree tree.root item (Some (entry_at key (stored_with point (by_number (pairs_by held key words head.next_word is.stand.entries)) label)))) gone regrown)
       within (omega (arith, serials)) refl (record { tables = refl; serial = refl; live = refl }))
 
   -- after a removal from the tables and then from the tree, they stand for the state without the place

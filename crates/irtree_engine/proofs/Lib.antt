@@ -16,3 +16,4 @@ pub mod Roots
 pub mod Standing
 pub mod Takes
 pub mod Trees
+pub mod Upgrades

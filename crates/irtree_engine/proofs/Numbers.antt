@@ -38,13 +38,13 @@ numbers-begun numbers updates head made are few number serial next =
     record { number = omega (arith, number, most); serial = omega (arith, number, serial, serials); words = omega (arith, number, words, next); last = omega (arith, few, number) }
 
 -- a place is put: its words take at most 64 numbers, and none where they were held ahead
-pub numbers-put : (held : Option (List (List ℕ × ℕ))) (name : Option Name) (point : Position) (words : List (List ℕ × ℕ)) (left : List Update) (head made : Head) → AreNumbersAhead held (Put name point words ∷ left) head → head.number ≢ 2 ^ 40
+pub numbers-put : (held : Option (List (List ℕ × ℕ))) (name : Option Name) (point : Position) (words : List (List ℕ × ℕ)) (label : List ℕ) (left : List Update) (head made : Head) → AreNumbersAhead held (Put name point words label ∷ left) head → head.number ≢ 2 ^ 40
     → made.number ≡ head.number + 1 → made.serial ≤ head.number + 2 → made.next_word ≤ head.next_word + 64 → (IsSome held → made.next_word ≡ head.next_word) → AreNumbersAhead held left made
-numbers-put None name point words left head made are less number serial next none =
+numbers-put None name point words label left head made are less number serial next none =
     let most = are.number in
     let before = are.words in
     record { number = omega (arith, number, most, less); serial = omega (arith, number, serial); words = omega (arith, number, before, next); last = tt }
-numbers-put (Some numbers) name point words left head made are less number serial next none =
+numbers-put (Some numbers) name point words label left head made are less number serial next none =
     let most = are.number in
     let before = are.words in
     let all = are.last in

@@ -1,13 +1,16 @@
 -- What an opening or a checkpoint leaves stands for what stood before it.
-use Rattle.std.proofs.Common.{◌≡◌, ℕ, ◌+◌, ◌<◌, ◌≤◌, ◌^◌, ⊎_elim, ap, ◌∙◌, arith}
-use Rattle.std.proofs.lemmas.Bool.{cases_lt}
+use Rattle.std.proofs.Common.{◌≡◌, ℕ, zero, ◌==◌, ◌+◌, ◌<◌, ◌≤◌, ◌^◌, false, List, [], ◌∷◌, slice_index, ⊎_elim, ap, sym, subst, ◌∙◌, arith}
+use Rattle.std.proofs.lemmas.Bool.{and_left, cases_lt, ne_eqb}
 use Rattle.disk_model.specs.World.{World, Image, LeavesOnly}
 use Rattle.disk_model.specs.declared.disk.Area.TheVariants.{Journal}
 use Rattle.disk_model.proofs.Moments.{within}
 use Rattle.page_journal.specs.Record.{StandsFor, StandsAlike, LeavesPages, IsBad, IsFirstFault, IsJournal, IsRecordAt, applied, batch_at, gate_of, next_gate, record_count}
+use Rattle.page_store.specs.Contents.{page_bytes}
+use Rattle.page_store.specs.Superblock.{HasMagic, HasMagicOfVersion1, IsStorePage, is_zero}
 use Rattle.place_values.specs.State.{Contents}
 use Rattle.store_model.specs.Stands.{Stands}
-use Rattle.irtree_engine.specs.Holding.{HoldsState, LeavesState, StandsForNone}
+use Rattle.store_model.proofs.Images.{area-one}
+use Rattle.irtree_engine.specs.Holding.{HoldsState, IsVersion1, LeavesState, StandsForNone}
 
 -- an image of the same pages stands for the same state
 pub alike-stands : (old image : Image) (state : Contents) → ((pages : ℕ → ℕ) → StandsFor old pages → StandsFor image pages) → Stands old state → Stands image state
@@ -18,6 +21,7 @@ alike-stands old image state alike stands = record {
     stands = alike stands.holds.area stands.holds.stands;
     holds = stands.holds.holds;
     page = stands.holds.page;
+    version1 = stands.holds.version1;
   };
   stand = stands.stand;
 }
@@ -43,15 +47,34 @@ no-fault journal at fault record_at = ⊎_elim
     count.1)
     (λ falls. (let up = record_at.ascending falls.0 falls.1 in let down = falls.5 in omega (arith, up, down)))
 
--- an image of a bad journal stands for nothing
-pub bad-none : (image : Image) (at : ℕ) → IsBad image at → StandsForNone image
-bad-none image at bad state stands = ⊎_elim
+-- a bad journal is no journal
+pub bad-journal : (image : Image) (at : ℕ) → IsBad image at → IsJournal (image Journal) → ⊥
+bad-journal image at bad journal = ⊎_elim
     (λ (before : bad.count < record_count (image Journal)). no-fault (image Journal) (gate_of (image Journal) bad.count) at (journal.records bad.count before) bad.first)
     (λ (behind : record_count (image Journal) ≤ bad.count). ⊎_elim
     (λ (past : record_count (image Journal) < bad.count). (bad.records (record_count (image Journal)) past).open_gate journal.closed)
     (λ (most : bad.count ≤ record_count (image Journal)). bad.open_gate (ap (λ n. image Journal (gate_of (image Journal) n)) (omega (arith, behind, most)) ∙ journal.closed))
     (cases_lt (record_count (image Journal)) bad.count))
     (cases_lt bad.count (record_count (image Journal)))
-  where
-    journal : IsJournal (image Journal)
-    journal = stands.holds.stands.0
+
+-- an image of a bad journal stands for nothing
+pub bad-none : (image : Image) (at : ℕ) → IsBad image at → StandsForNone image
+bad-none image at bad state stands = bad-journal image at bad stands.holds.stands.0
+
+-- a page that begins with the magic of version 1 isn't all zero
+pub version1-filled : (page : List ℕ) → HasMagicOfVersion1 page → is_zero page ≡ false
+version1-filled [] is = let first : zero ≡ 73 = ap (λ (l : List ℕ). slice_index l 0) is in absurd (omega arith)
+version1-filled (byte ∷ page) is =
+    let first : byte ≡ 73 = ap (λ (l : List ℕ). slice_index l 0) is in
+    and_left (byte == 0) (is_zero page) (ne_eqb byte 0 (λ zeros. omega arith))
+
+-- nor does it begin with the magic
+pub version1-other : (page : List ℕ) → HasMagicOfVersion1 page → HasMagic page → ⊥
+version1-other page is also = let last : 49 ≡ 50 = ap (λ (l : List ℕ). slice_index l 7) (sym is ∙ also) in absurd (omega (arith, last))
+
+-- an image whose page 0 does stands for nothing
+pub version1-none : (image : Image) → IsVersion1 image → StandsForNone image
+version1-none image old state stands =
+    let same : stands.holds.area ≡ old.area = area-one image stands.holds.area old.area stands.holds.stands old.stands in
+    let page : IsStorePage (page_bytes old.area 0) = subst (λ area. IsStorePage (page_bytes area 0)) same (stands.holds.page stands.stand.tables.range) in
+    version1-other (page_bytes old.area 0) old.magic (page (version1-filled (page_bytes old.area 0) old.magic)).0

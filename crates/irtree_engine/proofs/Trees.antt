@@ -61,6 +61,7 @@ regrown-range old last tables live serial count first range before after count_a
     let texts = range.texts in
     let numbers = range.numbers in
     record {
+      version = range.version;
       counted = omega (arith, counted_before, more);
       first_free = counted;
       places = omega (arith, places, more);

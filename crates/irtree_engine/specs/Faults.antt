@@ -2,7 +2,7 @@
 use Rattle.page_face.specs.declared.fault.PageFault.{PageFault}
 use Rattle.page_face.specs.declared.fault.PageFault.TheVariants as pages
 use Rattle.irtree_engine.specs.declared.fault.EngineFault.{EngineFault}
-use Rattle.irtree_engine.specs.declared.fault.EngineFault.TheVariants.{Disk, NotAStore, BadJournal, Damaged, NoRoom, Stopped, Memory}
+use Rattle.irtree_engine.specs.declared.fault.EngineFault.TheVariants.{Disk, NotAStore, BadJournal, Damaged, NoRoom, Stopped, Version1, Memory}
 
 -- a refusal of the pages
 abbrev pub fault_of_pages : PageFault → EngineFault
@@ -18,6 +18,7 @@ IsOpenFault Disk = Unit {0}
 IsOpenFault NotAStore = Unit {0}
 IsOpenFault (BadJournal at) = Unit {0}
 IsOpenFault (Damaged damage) = Unit {0}
+IsOpenFault Version1 = Unit {0}
 IsOpenFault _ = ⊥
 
 -- what a call that only reads may be refused for

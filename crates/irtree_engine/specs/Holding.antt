@@ -3,7 +3,7 @@ use Rattle.std.specs.Prelude.{◌≡◌, ℕ, List, false}
 use Rattle.disk_model.specs.World.{World, Image}
 use Rattle.page_journal.specs.Record.{StandsFor}
 use Rattle.page_store.specs.Contents.{page_bytes}
-use Rattle.page_store.specs.Superblock.{is_zero, HasMagic, KeepsHead}
+use Rattle.page_store.specs.Superblock.{IsStorePage, is_zero, HasMagic, HasMagicOfVersion1, KeepsHead}
 use Rattle.place_values.specs.State.{Contents}
 use Rattle.store_model.specs.Stands.{Stands}
 
@@ -19,12 +19,25 @@ LeavesState state old image said = Stands image state × (said ≡ old.said)
 abbrev pub StandsForNone : Image → Type 0
 StandsForNone image = (state : Contents) → Stands image state → ⊥
 
--- The image stands for pages whose page 0 is no store's: it is not zeros, and doesn't begin with the magic.
+-- The image is opened: it stands for pages whose page 0 is zeros, or begins with the magic and keeps the rule Head.
+pub record IsOpenable (image : Image) : Type 0 where
+  pub area : ℕ → ℕ
+  pub stands : StandsFor image area
+  pub page : IsStorePage (page_bytes area 0)
+
+-- The image stands for pages whose page 0 is no store's: it is not zeros, and begins neither with the magic nor with that of version 1.
 pub record IsForeign (image : Image) : Type 0 where
   pub area : ℕ → ℕ
   pub stands : StandsFor image area
   pub filled : is_zero (page_bytes area 0) ≡ false
   pub other : HasMagic (page_bytes area 0) → ⊥
+  pub version1 : HasMagicOfVersion1 (page_bytes area 0) → ⊥
+
+-- The image stands for pages whose page 0 begins with the magic of version 1.
+pub record IsVersion1 (image : Image) : Type 0 where
+  pub area : ℕ → ℕ
+  pub stands : StandsFor image area
+  pub magic : HasMagicOfVersion1 (page_bytes area 0)
 
 -- The image stands for pages whose page 0 begins with the magic and breaks the rule Head.
 pub record HasBrokenHead (image : Image) : Type 0 where

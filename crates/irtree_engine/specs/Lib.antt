@@ -7,3 +7,4 @@ pub mod Opening
 pub mod Queries
 pub mod Shown
 pub mod Updates
+pub mod Upgrades

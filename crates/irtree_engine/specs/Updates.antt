@@ -73,7 +73,7 @@ IsDueTo outcome _ = Unit {0}
 
 -- And on any image by the numbers of page 0: how many places live, and the update number, each with what so many updates add.
 abbrev pub IsAtLimit : ℕ → ℕ → EngineFault → Type 0
-IsAtLimit live number Full = 200000 ≤ live
+IsAtLimit live number Full = 1000000 ≤ live
 IsAtLimit live number Worn = 2 ^ 40 ≤ number
 IsAtLimit live number _ = Unit {0}
 

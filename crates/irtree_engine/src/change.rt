@@ -27,7 +27,7 @@ use split_policy::SplitPolicy;
 use std::alloc::Global;
 use store_tables::Tables;
 use table_updates::{gather_words, hold_words, put_in_batch, remove_place};
-use term_impacts::{Word, Words};
+use term_impacts::{Label, Word, Words};
 
 /// Changes the tables, the tree and page 0's fields by one update. A key that a Put names is a text key.
 ///
@@ -125,10 +125,15 @@ fn update_in_batch<P: Pages>(
     ensures frame { Changes P.Pages pages.old pages.new }
 {
     match update {
-        Update::Put { key, point, words } => {
+        Update::Put {
+            key,
+            point,
+            words,
+            label,
+        } => {
             let (key, serial) = named(head, key);
             put(
-                alloc, pages, head, policy, &key, serial, *point, words, held,
+                alloc, pages, head, policy, &key, serial, *point, words, *label, held,
             )
         }
         Update::Remove { key } => remove(alloc, pages, head, policy, key, held),
@@ -137,7 +142,7 @@ fn update_in_batch<P: Pages>(
 
 // Whether a place and an update number are left for each of so many updates, so that none is refused because they ran out.
 fn has_room_for(head: &Head, updates: usize) -> bool
-    ensures { IsTrue result ↔ ((head.now.live + updates ≤ 200000) × (head.now.number + updates ≤ 2 ^ 40)) }
+    ensures { IsTrue result ↔ ((head.now.live + updates ≤ 1000000) × (head.now.number + updates ≤ 2 ^ 40)) }
 {
     updates <= PLACES_MAX
         && head.live as usize <= PLACES_MAX - updates
@@ -229,6 +234,7 @@ fn head_after(head: &Head, tables: &Tables, tree: &Tree, live: u32, serial: u64)
     ensures { result ≡ head_with head.now tables.now tree.now live serial }
 {
     Head {
+        version: head.version,
         places: tables.places,
         texts: tables.texts,
         numbers: tables.numbers,
@@ -251,17 +257,18 @@ fn put<P: Pages>(
     serial: u64,
     point: Point,
     words: &Words,
+    label: Label,
     held: &Option<IndexMap<Word, u64>>,
 ) -> Result<Applied, EngineFault>
-    requires numbers { (name : Option Name) × (left : List Update) × AreNumbersAhead (option_map (λ numbers. numbers.entries) held.now) (Put name point words.now ∷ left) head.old }
+    requires numbers { (name : Option Name) × (left : List Update) × AreNumbersAhead (option_map (λ numbers. numbers.entries) held.now) (Put name point words.now label ∷ left) head.old }
     requires serial { serial ≤ head.old.number + 2 }
-    ensures updated { (state : Contents) (name : Option Name) (left : List Update) → StandAhead (option_map (λ numbers. numbers.entries) held.now) (Put name point words.now ∷ left) (block_with (P.count pages.old) (P.first pages.old) head.old) (P.pages pages.old) state
+    ensures updated { (state : Contents) (name : Option Name) (left : List Update) → StandAhead (option_map (λ numbers. numbers.entries) held.now) (Put name point words.now label ∷ left) (block_with (P.count pages.old) (P.first pages.old) head.old) (P.pages pages.old) state
         → head.old.serial ≤ serial → serial ≤ head.old.number + 2 → IsSerialAbove serial key.now
-        → IfOk result (λ applied. ((put_at state key.now serial (record { point = point; words = words.now })).answer ≡ Ok applied)
-        × StandAhead (option_map (λ numbers. numbers.entries) held.now) left (block_with (P.count pages.new) (P.first pages.new) head.new) (P.pages pages.new) (put_at state key.now serial (record { point = point; words = words.now })).state) }
-    ensures due { (state : Contents) (name : Option Name) (left : List Update) → StandAhead (option_map (λ numbers. numbers.entries) held.now) (Put name point words.now ∷ left) (block_with (P.count pages.old) (P.first pages.old) head.old) (P.pages pages.old) state
-        → AreReadable (P.pages pages.old) (P.count pages.old) → IfErr result (IsDueTo (put_at state key.now serial (record { point = point; words = words.now })).answer) }
-    ensures numbers { (name : Option Name) (left : List Update) → AreNumbersAhead (option_map (λ numbers. numbers.entries) held.now) (Put name point words.now ∷ left) head.old → OnOk result (AreNumbersAhead (option_map (λ numbers. numbers.entries) held.now) left head.new) }
+        → IfOk result (λ applied. ((put_at state key.now serial (record { point = point; words = words.now; label = label })).answer ≡ Ok applied)
+        × StandAhead (option_map (λ numbers. numbers.entries) held.now) left (block_with (P.count pages.new) (P.first pages.new) head.new) (P.pages pages.new) (put_at state key.now serial (record { point = point; words = words.now; label = label })).state) }
+    ensures due { (state : Contents) (name : Option Name) (left : List Update) → StandAhead (option_map (λ numbers. numbers.entries) held.now) (Put name point words.now label ∷ left) (block_with (P.count pages.old) (P.first pages.old) head.old) (P.pages pages.old) state
+        → AreReadable (P.pages pages.old) (P.count pages.old) → IfErr result (IsDueTo (put_at state key.now serial (record { point = point; words = words.now; label = label })).answer) }
+    ensures numbers { (name : Option Name) (left : List Update) → AreNumbersAhead (option_map (λ numbers. numbers.entries) held.now) (Put name point words.now label ∷ left) head.old → OnOk result (AreNumbersAhead (option_map (λ numbers. numbers.entries) held.now) left head.new) }
     ensures no_head { ((p : P) → AreReadable (P.pages p) (P.count p)) → (damage : Damage) → IsErrOf result (EngineFault.Damaged damage) → damage.rule ≢ Rule.Head }
     ensures limits { IfErr result (IsAtLimit head.old.live head.old.number) }
     ensures causes { IfErr result IsUpdateFault }
@@ -290,6 +297,7 @@ fn put<P: Pages>(
         old.as_ref(),
         point,
         words,
+        label,
         held,
     )?;
     let mut tree = tree_of(head);

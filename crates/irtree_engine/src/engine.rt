@@ -6,7 +6,7 @@ ghost use Rattle.page_store.specs.Contents.{IsCommitted};
 ghost use Rattle.page_store.specs.Opening.{Recovers, SaysNothingReadsHead, head_damage};
 ghost use Rattle.page_store.specs.Held.{room_of};
 ghost use Rattle.place_values.specs.State.{Contents};
-ghost use Rattle.irtree_engine.specs.Holding.{HasBrokenHead, HoldsState, IsForeign, LeavesState, StandsForNone};
+ghost use Rattle.irtree_engine.specs.Holding.{HasBrokenHead, HoldsState, IsForeign, IsVersion1, LeavesState, StandsForNone};
 ghost use Rattle.irtree_engine.specs.Faults.{IsOpenFault, IsSettleFault};
 ghost use Rattle.page_store.specs.Superblock.{IsInRange};
 ghost use Rattle.irtree_engine.specs.Changes.{AreHeadNumbers};
@@ -60,6 +60,7 @@ impl<'d, D: Station> Engine<'d, D> {
         ensures damaged { (damage : Damage) → IsErrOf result (EngineFault.Damaged damage)
             → (damage ≡ head_damage) × (IsTrue D.readable → StandsForNone (D.world disk.old).seen) }
         ensures foreign { IsTrue D.readable → IsErrOf result EngineFault.NotAStore → IsForeign (D.world disk.old).seen }
+        ensures version1 { IsTrue D.readable → IsErrOf result EngineFault.Version1 → StandsForNone (D.world disk.old).seen × IsVersion1 (D.world disk.old).seen }
         ensures broken_head { IsTrue D.readable → (damage : Damage) → IsErrOf result (EngineFault.Damaged damage) → HasBrokenHead (D.world disk.old).seen }
         ensures causes { IfErr result IsOpenFault }
 

@@ -8,13 +8,13 @@ use page_face::{Damage, PageFault, Rule};
 pub enum EngineFault {
     /// The disk failed, and its count of faults rose.
     Disk,
-    /// Page 0 of the recovered store is neither all zero nor begins with the magic.
+    /// Page 0 of the recovered store isn't all zero, and begins neither with the magic nor with that of version 1.
     NotAStore,
     /// An open gate is followed by bytes that are no record. The number is the offset of the field that breaks its form.
     BadJournal(u64),
     /// A page breaks a rule, so the image is no well-formed store.
     Damaged(Damage),
-    /// 200,000 or more places live, and the key is new.
+    /// 1,000,000 or more places live, and the key is new.
     Full,
     /// The update number is 2^40, and the update would change the map.
     Worn,
@@ -22,6 +22,8 @@ pub enum EngineFault {
     NoRoom,
     /// An earlier commit of this engine failed: the store is to be opened again.
     Stopped,
+    /// Page 0 of the recovered store begins with the magic of version 1.
+    Version1,
     /// Out of memory, or a change that would take more pages than it is allowed.
     Memory,
 }

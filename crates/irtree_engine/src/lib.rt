@@ -28,7 +28,9 @@ mod queries;
 mod reading;
 mod room;
 mod updating;
+mod upgrading;
 
 pub use engine::Engine;
 pub use fault::EngineFault;
 pub use opening::recover_superblock;
+pub use upgrading::upgrade;

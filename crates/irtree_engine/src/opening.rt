@@ -4,7 +4,7 @@ ghost use Rattle.disk_model.specs.World.{LeavesOnly, Rose};
 ghost use Rattle.page_journal.specs.Record.{StandsAlike, IsBad};
 ghost use Rattle.page_store.specs.Opening.{IsOpened, Recovers, SaysNothingReadsHead, head_damage};
 ghost use Rattle.place_values.specs.State.{Contents};
-ghost use Rattle.irtree_engine.specs.Holding.{HasBrokenHead, HoldsState, IsForeign, LeavesState, StandsForNone};
+ghost use Rattle.irtree_engine.specs.Holding.{HasBrokenHead, HoldsState, IsForeign, IsVersion1, LeavesState, StandsForNone};
 ghost use Rattle.irtree_engine.specs.Faults.{IsOpenFault};
 ghost use Rattle.irtree_engine.specs.Opening.{LeavesRefused};
 ghost use Rattle.page_store.specs.Superblock.{IsInRange};
@@ -16,8 +16,9 @@ use page_store::{OpenFault, Superblock};
 
 /// Recovers the journal and reads page 0.
 ///
-/// Refuses `Disk`. Refuses `BadJournal`, and then nothing was written. Refuses `NotAStore`, and `Damaged` with the rule Head at page 0:
-/// then the journal is recovered, and the disk holds the pages that it held before. Takes no memory. Costs a recovery, and one page read.
+/// Refuses `Disk`. Refuses `BadJournal`, and then nothing was written. Refuses `NotAStore`, `Version1`, and `Damaged` with the rule Head at
+/// page 0: then the journal is recovered, and the disk holds the pages that it held before. Takes no memory. Costs a recovery, and one
+/// page read.
 pub fn recover_superblock<D: Disk>(disk: &mut D) -> Result<Superblock, EngineFault>
     // The image that reads gave holds the same state as what reads give now, and so does every image of a crash meanwhile.
     ensures opened { IsTrue D.readable → IfOk result (λ block. IsOpened block (D.world disk.old) (D.world disk.new)) }
@@ -37,6 +38,7 @@ pub fn recover_superblock<D: Disk>(disk: &mut D) -> Result<Superblock, EngineFau
     ensures damaged { (damage : Damage) → IsErrOf result (EngineFault.Damaged damage)
         → (damage ≡ head_damage) × (IsTrue D.readable → StandsForNone (D.world disk.old).seen) }
     ensures foreign { IsTrue D.readable → IsErrOf result EngineFault.NotAStore → IsForeign (D.world disk.old).seen }
+    ensures version1 { IsTrue D.readable → IsErrOf result EngineFault.Version1 → StandsForNone (D.world disk.old).seen × IsVersion1 (D.world disk.old).seen }
     ensures broken_head { IsTrue D.readable → (damage : Damage) → IsErrOf result (EngineFault.Damaged damage) → HasBrokenHead (D.world disk.old).seen }
     ensures causes { IfErr result IsOpenFault }
 
@@ -53,6 +55,7 @@ pub fn recover_superblock<D: Disk>(disk: &mut D) -> Result<Superblock, EngineFau
         Err(OpenFault::NotAStore) => Err(EngineFault::NotAStore),
         Err(OpenFault::BadJournal(at)) => Err(EngineFault::BadJournal(at)),
         Err(OpenFault::Damaged(damage)) => Err(EngineFault::Damaged(damage)),
+        Err(OpenFault::Version1) => Err(EngineFault::Version1),
         Err(OpenFault::Memory) => Err(EngineFault::Memory),
     }
 }

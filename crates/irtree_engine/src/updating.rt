@@ -31,7 +31,7 @@ impl<'d, D: Station> Engine<'d, D> {
     /// Stores one update in one commit, in the place table and in the tree. A removal of a key at which no place lives makes none. A key
     /// that a Put names is a text key.
     ///
-    /// Refuses `Stopped` exactly if an earlier commit of this engine failed, before all else. Refuses `Full` exactly if 200,000 or more
+    /// Refuses `Stopped` exactly if an earlier commit of this engine failed, before all else. Refuses `Full` exactly if 1,000,000 or more
     /// places live and a Put's key is new. Refuses `Worn` exactly if the update number is 2^40 and the update would change the map. Refuses
     /// `NoRoom` if no page is left for it. Then the free pages, and those that the disk has room for beside the pages counted, are together
     /// no more than an update is allowed to take. Refuses `Disk`, and `Damaged`, never if the image holds a state or with the rule Head.

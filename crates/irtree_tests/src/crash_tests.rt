@@ -51,8 +51,8 @@ static CASES: [Case; 6] = [
         input: b"add a 1 1 y z\n",
         question: b"show a\n",
         answers: &[
-            b"place \"a\" 0.0000000 0.0000000 2\n\"x\" 128\n\"y\" 128\n",
-            b"place \"a\" 1.0000000 1.0000000 2\n\"y\" 128\n\"z\" 128\n",
+            b"place \"a\" 0.0000000 0.0000000 2 \"x y\"\n\"x\" 128\n\"y\" 128\n",
+            b"place \"a\" 1.0000000 1.0000000 2 \"y z\"\n\"y\" 128\n\"z\" 128\n",
         ],
     },
     Case {

@@ -1,14 +1,15 @@
 //! The reply to each line.
 use crate::runs::{RUN, ends_so, numbered};
 use irtree_top::Ended;
+use std::alloc::AllocError;
 use std::test::Fail;
 
 // A script, and what it prints.
-static SCRIPTS: [(&[u8], &[u8]); 10] = [
-    // A place is shown with its words in their order.
+static SCRIPTS: [(&[u8], &[u8]); 12] = [
+    // A place is shown with its label, and its words in their order.
     (
         b"add k 0 0 Caf\xc3\xa9 caf\xc3\xa9 bar\nshow k\nshow z\n",
-        b"ok\nplace \"k\" 0.0000000 0.0000000 2\n\"bar\" 85\n\"caf\xc3\xa9\" 170\nabsent\n",
+        b"ok\nplace \"k\" 0.0000000 0.0000000 2 \"Caf\xc3\xa9 caf\xc3\xa9 bar\"\n\"bar\" 85\n\"caf\xc3\xa9\" 170\nabsent\n",
     ),
     // The cost of a top query, with and without its reasons.
     (
@@ -55,6 +56,30 @@ static SCRIPTS: [(&[u8], &[u8]); 10] = [
         b"add \"x\\ty\" 0 0 q\nnearest 0 0 1\n",
         b"ok\n= 1\n1 \"x\\ty\" 0.0000000\n",
     ),
+    // A label goes with its place. Blanks before the text are none of it, those behind are.
+    (
+        b"add a 0 0 x\nadd a 1 1   y \nshow a\nadd a 2 2\nshow a\nremove a\nshow a\n",
+        b"ok\nok replaced\nplace \"a\" 1.0000000 1.0000000 1 \"y \"\n\"y\" 255\nok replaced\nplace \"a\" 2.0000000 2.0000000 0 \"\"\nok\nabsent\n",
+    ),
+    // A label with quotes, a backslash and control characters.
+    (
+        b"add k 0 0 \"x\" \\ \t\x01\x1f\x7f\nshow k\n",
+        b"ok\nplace \"k\" 0.0000000 0.0000000 1 \"\\\"x\\\" \\\\ \\t\\u0001\\u001f\x7f\"\n\"x\" 255\n",
+    ),
+];
+
+// How many bytes `x` a text has and what follows them, and the same of its label.
+static CUTS: [(usize, &str, usize, &str); 10] = [
+    (62, "", 62, ""),
+    (63, "", 63, ""),
+    (64, "", 63, ""),
+    (61, "é", 61, "é"),
+    (62, "é", 62, ""),
+    (60, "€", 60, "€"),
+    (61, "€", 61, ""),
+    (59, "𝄞", 59, "𝄞"),
+    (60, "𝄞", 60, ""),
+    (61, "éx", 61, "é"),
 ];
 
 #[test]
@@ -77,6 +102,31 @@ fn a_tie_goes_to_the_lesser_keys(rt: HostRuntime) -> Result<(), Fail> {
     replies.push_str(
         "= 5\n1 \"k00\" 1803122212500\n2 \"k01\" 1803122212500\n3 \"k02\" 1803122212500\n4 \"k03\" 1803122212500\n5 \"k04\" 1803122212500\n",
     )?;
+    let (script, replies) = (script.as_bytes(), replies.as_bytes());
+    assert!(rt; ends_so(rt.alloc(), &RUN, script, 1_000, Ended::Done, replies)?);
+    Ok(())
+}
+
+// Appends a text that begins with so many bytes `x`.
+fn push_text(out: &mut String, count: usize, rest: &str) -> Result<(), AllocError> {
+    for _ in 0..count {
+        out.push_str("x")?;
+    }
+    out.push_str(rest)
+}
+
+#[test]
+fn a_label_is_cut_between_characters(rt: HostRuntime) -> Result<(), Fail> {
+    let mut script = String::new(rt.alloc());
+    let mut replies = String::new(rt.alloc());
+    for (count, rest, kept, kept_rest) in &CUTS {
+        script.push_str("add k 0 0 ")?;
+        push_text(&mut script, *count, rest)?;
+        script.push_str("\nshow k\nremove k\n")?;
+        replies.push_str("ok\nplace \"k\" 0.0000000 0.0000000 0 \"")?;
+        push_text(&mut replies, *kept, kept_rest)?;
+        replies.push_str("\"\nok\n")?;
+    }
     let (script, replies) = (script.as_bytes(), replies.as_bytes());
     assert!(rt; ends_so(rt.alloc(), &RUN, script, 1_000, Ended::Done, replies)?);
     Ok(())

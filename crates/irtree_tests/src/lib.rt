@@ -24,3 +24,5 @@ mod runs;
 mod script_tests;
 #[cfg(test)]
 mod store_tests;
+#[cfg(test)]
+mod upgrade_tests;

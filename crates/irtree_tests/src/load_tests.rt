@@ -66,7 +66,7 @@ static REFUSED: [(&[u8], Ended); 4] = [
 ];
 
 // An end, the process's status, and the line on standard error.
-static ENDS: [(Ended, u8, &[u8]); 14] = [
+static ENDS: [(Ended, u8, &[u8]); 16] = [
     (Ended::Done, 0, b""),
     (Ended::Disk, 3, b"irtree: disk\n"),
     (Ended::Source, 4, b"irtree: source\n"),
@@ -92,6 +92,16 @@ static ENDS: [(Ended, u8, &[u8]); 14] = [
         b"irtree: input not-features\n",
     ),
     (Ended::Input(InputFault::Long), 6, b"irtree: input long\n"),
+    (
+        Ended::Store(StoreFault::NotAStore),
+        7,
+        b"irtree: not a store\n",
+    ),
+    (
+        Ended::Store(StoreFault::Version1),
+        7,
+        b"irtree: version 1\n",
+    ),
     (
         Ended::Store(StoreFault::BadJournal(4105)),
         7,

@@ -24,7 +24,7 @@ static TRACES: [(&[&[u8]], &[u8]); 3] = [
             b"unt\nshow a\nadd b 3",
             b" 4\nremove a\nbox 0 0 9 9\ncount",
         ],
-        b"<ok\n<count 1\nplace \"a\" 0.0000000 0.0000000 0\n<ok\nok\n= 1\n1 \"b\"\n<count 1\n",
+        b"<ok\n<count 1\nplace \"a\" 0.0000000 0.0000000 0 \"\"\n<ok\nok\n= 1\n1 \"b\"\n<count 1\n",
     ),
     (
         &[b"a", b"dd a 0 0", b"\n", b"# note\n\n", b"bad\n\n"],

@@ -22,37 +22,37 @@ static FOUND: [(&[&str], &[u8], &[u8], &[u8]); 6] = [
         &["-", "load"],
         BOTH,
         b"show k\n",
-        b"place \"k\" 1.0000000 2.0000000 2\n\"bar\" 128\n\"pub\" 128\n",
+        b"place \"k\" 1.0000000 2.0000000 2 \"Bar\"\n\"bar\" 128\n\"pub\" 128\n",
     ),
     (
         &["-", "load", "--text", "name"],
         BOTH,
         b"show k\n",
-        b"place \"k\" 1.0000000 2.0000000 1\n\"bar\" 255\n",
+        b"place \"k\" 1.0000000 2.0000000 1 \"Bar\"\n\"bar\" 255\n",
     ),
     (
         &["-", "load", "--text=kind"],
         BOTH,
         b"show k\n",
-        b"place \"k\" 1.0000000 2.0000000 1\n\"pub\" 255\n",
+        b"place \"k\" 1.0000000 2.0000000 1 \"pub\"\n\"pub\" 255\n",
     ),
     (
         &["-", "load", "--text="],
         BOTH,
         b"show k\n",
-        b"place \"k\" 1.0000000 2.0000000 0\n",
+        b"place \"k\" 1.0000000 2.0000000 0 \"\"\n",
     ),
     (
         &["-", "load"],
         FOUR,
         b"show 7\nshow #1\ntop 12.5683 55.6761 10 700 0.05 words caf\xc3\xa9*2 bar\n",
-        b"place \"7\" 12.5683000 55.6761000 2\n\"caf\xc3\xa9\" 128\n\"ny\" 128\nplace #1 12.5700000 55.6800000 1\n\"bar\" 255\n= 2\n1 \"7\" 76350000000\n2 #1 99282312000\n",
+        b"place \"7\" 12.5683000 55.6761000 2 \"Caf\xc3\xa9 Ny\"\n\"caf\xc3\xa9\" 128\n\"ny\" 128\nplace #1 12.5700000 55.6800000 1 \"Bar\"\n\"bar\" 255\n= 2\n1 \"7\" 76350000000\n2 #1 99282312000\n",
     ),
     (
         &["-", "make", "--count=2"],
         b"",
         b"show m1\ncount\n",
-        b"place \"m1\" -37.0815098 -35.0181713 4\n\"a40\" 64\n\"b99\" 64\n\"c90\" 64\n\"place\" 64\ncount 2\n",
+        b"place \"m1\" -37.0815098 -35.0181713 4 \"place a40 b99 c90\"\n\"a40\" 64\n\"b99\" 64\n\"c90\" 64\n\"place\" 64\ncount 2\n",
     ),
 ];
 
@@ -298,9 +298,21 @@ fn other_bytes_are_no_store(rt: HostRuntime) -> Result<(), Fail> {
 }
 
 #[test]
+fn a_store_of_version_1_is_refused_by_name(rt: HostRuntime) -> Result<(), Fail> {
+    let mut page = b"IRTREE01\0\0\0\x01".to_vec(rt.alloc())?;
+    page.resize(4096, 0)?;
+    let end = Ended::Store(StoreFault::Version1);
+    let mut station = MemoryStation::with_image(rt.alloc(), &page, b"", ROOM)?;
+    assert!(rt; script_ends(rt.alloc(), &mut station, b"count\n", end, b"")?);
+    let left = all_pages(rt.alloc(), &mut station)?;
+    assert!(rt; left.as_slice() == page.as_slice());
+    Ok(())
+}
+
+#[test]
 fn an_update_number_that_is_worn_takes_no_change(rt: HostRuntime) -> Result<(), Fail> {
     let mut page =
-        b"IRTREE01\0\0\0\x01\0\0\0\0\0\0\0\0\0\0\0\0\0\0\0\0\0\0\0\0\0\0\0\0\0\0\0\0\0\0\0\0\0\0\0\x01\0\0\x01\0\0\0\0\0\0\0\0\0\0\0\0\x01".to_vec(
+        b"IRTREE02\0\0\0\x01\0\0\0\0\0\0\0\0\0\0\0\0\0\0\0\0\0\0\0\0\0\0\0\0\0\0\0\0\0\0\0\0\0\0\0\x01\0\0\x01\0\0\0\0\0\0\0\0\0\0\0\0\x01".to_vec(
             rt.alloc(),
         )?;
     page.resize(4096, 0)?;

@@ -1,5 +1,5 @@
 -- What a crash leaves of a job, in the words of its user.
-use Rattle.std.proofs.Common.{◌≡◌, ℕ, ◌≤◌, ⊎_elim, inl, List, [], sym, subst, ◌∙◌, arith}
+use Rattle.std.proofs.Common.{◌≡◌, ℕ, ◌≤◌, ⊎_elim, inl, List, [], refl, sym, subst, ◌∙◌, arith}
 use Rattle.std.specs.Prelude.{Ok}
 use Rattle.std.proofs.lemmas.List.{append-nil}
 use Rattle.disk_model.specs.World.{World, Image, LeavesOnly}
@@ -14,7 +14,7 @@ use Rattle.load_run.specs.Making.{LeftByMake, items_from, make_transcript, says_
 use Rattle.run_outcome.specs.Script.{script_lines, script_transcript}
 use Rattle.run_outcome.specs.Turn.{Transcript}
 use Rattle.command_words.specs.declared.job.Action.{Action}
-use Rattle.command_words.specs.declared.job.Action.TheVariants.{Run, Load, Make}
+use Rattle.command_words.specs.declared.job.Action.TheVariants.{Run, Load, Make, Upgrade}
 use Rattle.irtree_top.specs.Run.{HoldsPrefix, IsNear, acked}
 use Rattle.command_words.specs.Job.{Asked}
 use Rattle.irtree_top.proofs.Jobs.{script-only, load-only, make-only}
@@ -27,12 +27,14 @@ acked-none : (action : Action) → acked action [] ≤ 0
 acked-none Run = omega arith
 acked-none Load = omega arith
 acked-none Make = omega arith
+acked-none Upgrade = omega arith
 
 -- and no update is as many as are acknowledged
 near-none : (action : Action) (batch all : ℕ) → 1 ≤ batch → IsNear action batch 0 (acked action []) all
 near-none Run batch all some = omega arith
 near-none Load batch all some = (omega arith, inl (omega arith))
 near-none Make batch all some = (omega arith, inl (omega arith))
+near-none Upgrade batch all some = refl
 
 -- Where nothing was said, and the image stands for the state at the start, it holds every acknowledged update: none.
 pub none-held : (action : Action) (batch : ℕ) → 1 ≤ batch → (state : Contents) (changes : List Update) (before : List ℕ) (image : Image) (said : List ℕ) → Stands image state → said ≡ before

@@ -22,7 +22,7 @@ use Rattle.run_outcome.specs.declared.ended.LimitFault.{LimitFault}
 use Rattle.run_outcome.specs.declared.ended.LimitFault.TheVariants as limits
 use Rattle.script_run.specs.Standing.{EndsScript}
 use Rattle.command_words.specs.declared.job.Action.{Action}
-use Rattle.command_words.specs.declared.job.Action.TheVariants.{Run, Load, Make}
+use Rattle.command_words.specs.declared.job.Action.TheVariants.{Run, Load, Make, Upgrade}
 use Rattle.irtree_top.specs.Run.{EndsBy, EndsJob, IsUnreadEnd, LeavesInput, SaysFront, SaysWhatWasRead, StopsAtLimit, StopsForRoom}
 use Rattle.irtree_top.specs.Transcript.{IsTranscript, IsTranscriptBy}
 use Rattle.command_words.specs.Job.{Asked}
@@ -165,6 +165,7 @@ engine-unread readable old new T (Err _) cause = absurd cause
 pub fault-unread : (fault : EngineFault) → IsUnreadEnd (end_of_engine fault)
 fault-unread engine.Disk = tt
 fault-unread engine.NotAStore = tt
+fault-unread engine.Version1 = tt
 fault-unread (engine.BadJournal at) = tt
 fault-unread (engine.Damaged damage) = tt
 fault-unread engine.Full = tt
@@ -190,11 +191,13 @@ module _ (asked : Asked) (state : Contents) (input : List ℕ) (old was new : Wo
   read-from Run left says = record { read = says.read; came = says.came; said = says.said ∙ ap (λ s. s ++ (script state (cut says.read).lines).text) same; holds = says.holds }
   read-from Load left says = (says.0 ∙ same, says.1)
   read-from Make left says = absurd says
+  read-from Upgrade left says = absurd says
 
   room-from : (action : Action) → StopsForRoom action asked state input was new → StopsForRoom action asked state input old new
   room-from Run stops = subst (λ s. StopsAtLine state (script_lines input) s new) same stops
   room-from Load stops = (stops.0, stops.1, subst (λ s. StopsAtBatch state 0 0 (steps asked.batch [] stops.0) s new) same stops.2)
   room-from Make stops = subst (λ s. StopsAtBatch state 0 0 (make_steps asked.batch asked.from asked.count) s new) same stops
+  room-from Upgrade stops = absurd stops
 
   -- how a job ended, from where as much was said
   pub job-from : (T : Type 0) (left : List ℕ) (result : Result T Ended) → EndsJob asked state input left was new result → EndsJob asked state input left old new result

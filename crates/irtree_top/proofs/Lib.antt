@@ -12,3 +12,4 @@ pub mod Rests
 pub mod Scripts
 pub mod Settled
 pub mod Transcripts
+pub mod Upgrades

@@ -148,7 +148,7 @@ stored-acked stored n small = number-decimal n small
 
 -- each update is a Put
 abbrev IsPut : Update → Type 0
-IsPut (Put key point words) = Unit {0}
+IsPut (Put key point words label) = Unit {0}
 IsPut (Remove key) = ⊥
 
 -- each of the updates is
@@ -193,8 +193,8 @@ RaisesWhere (Err fault) old new = Unit {0}
 
 -- each Put does so
 raises : (state : Contents) (update : Update) → IsPut update → RaisesWhere (effect_of state update).answer state (effect_of state update).state
-raises state (Put key point words) is =
-    split (nat_le 200000 (length state.places) && is_none (place_at (key_for state key) state.places)) (state.number == 2 ^ 40) _ _ _
+raises state (Put key point words label) is =
+    split (nat_le 1000000 (length state.places) && is_none (place_at (key_for state key) state.places)) (state.number == 2 ^ 40) _ _ _
   where
     split : (full worn : Bool) (places : _) (serial : ℕ) (applied : Applied)
         → RaisesWhere (if full then refuses state Full else if worn then refuses state Worn else record { state = record { places = places; serial = serial; number = state.number + 1 }; answer = Ok applied }).answer state

@@ -6,7 +6,7 @@ use Rattle.disk_model.specs.World.{World, Image, LeavesOnly, LeavesOnlySeen, Ros
 use Rattle.page_face.specs.declared.fault.Damage.{Damage}
 use Rattle.place_values.specs.State.{Contents}
 use Rattle.irtree_engine.specs.Faults.{IsOpenFault}
-use Rattle.irtree_engine.specs.Holding.{HasBrokenHead, HoldsState, IsForeign, StandsForNone}
+use Rattle.irtree_engine.specs.Holding.{HasBrokenHead, HoldsState, IsForeign, IsOpenable, IsVersion1, StandsForNone}
 use Rattle.irtree_engine.specs.Opening.{LeavesRefused}
 use Rattle.irtree_engine.specs.declared.fault.EngineFault.{EngineFault}
 use Rattle.irtree_engine.specs.declared.fault.EngineFault.TheVariants as engine
@@ -24,7 +24,7 @@ use Rattle.page_store.specs.Superblock.{HasMagic, IsStorePage, is_zero}
 use Rattle.page_store.specs.declared.superblock.Superblock.{Superblock}
 use Rattle.store_model.proofs.Images.{area-one}
 use Rattle.command_words.specs.declared.job.Action.{Action}
-use Rattle.irtree_top.specs.Run.{EndsJob, HasRunEnd, IsLimitReached, ReachesLimitBy, IsBehindOpening, IsBroken, IsCompleteEnd, IsLimitOf, IsOpenable, IsRunEnd, LeavesAlone}
+use Rattle.irtree_top.specs.Run.{EndsJob, HasRunEnd, IsLimitReached, ReachesLimitBy, IsBehindOpening, IsBroken, IsCompleteEnd, IsLimitOf, IsRunEnd, LeavesAlone}
 use Rattle.command_words.specs.Job.{Asked}
 use Rattle.irtree_top.proofs.Fronts.{none-said}
 
@@ -34,25 +34,28 @@ pub record Refuses (readable : Bool) (old new : World) (fault : EngineFault) : T
   pub none : IsTrue readable → (fault ≡ engine.Disk → ⊥) → StandsForNone old.seen
   pub foreign : IsTrue readable → fault ≡ engine.NotAStore → IsForeign old.seen
   pub bad : IsTrue readable → (at : ℕ) → fault ≡ engine.BadJournal at → IsBad old.seen at
+  pub version1 : IsTrue readable → fault ≡ engine.Version1 → IsVersion1 old.seen
   pub head : IsTrue readable → (damage : Damage) → fault ≡ engine.Damaged damage → (damage ≡ head_damage) × HasBrokenHead old.seen
 
 -- an opening that is refused for another cause than a fault of the disk says that the image stands for none
 pub none-by : {image : Image} (fault : EngineFault) → IsOpenFault fault → (fault ≡ engine.Disk → ⊥)
-    → (fault ≡ engine.NotAStore → StandsForNone image) → ((at : ℕ) → fault ≡ engine.BadJournal at → StandsForNone image) → ((damage : Damage) → fault ≡ engine.Damaged damage → StandsForNone image) → StandsForNone image
-none-by engine.Disk opens other none bad damaged = absurd (other refl)
-none-by engine.NotAStore opens other none bad damaged = none refl
-none-by (engine.BadJournal at) opens other none bad damaged = bad at refl
-none-by (engine.Damaged damage) opens other none bad damaged = damaged damage refl
-none-by engine.Full opens other none bad damaged = absurd opens
-none-by engine.Worn opens other none bad damaged = absurd opens
-none-by engine.NoRoom opens other none bad damaged = absurd opens
-none-by engine.Stopped opens other none bad damaged = absurd opens
-none-by engine.Memory opens other none bad damaged = absurd opens
+    → (fault ≡ engine.NotAStore → StandsForNone image) → (fault ≡ engine.Version1 → StandsForNone image) → ((at : ℕ) → fault ≡ engine.BadJournal at → StandsForNone image) → ((damage : Damage) → fault ≡ engine.Damaged damage → StandsForNone image) → StandsForNone image
+none-by engine.Disk opens other none old bad damaged = absurd (other refl)
+none-by engine.NotAStore opens other none old bad damaged = none refl
+none-by engine.Version1 opens other none old bad damaged = old refl
+none-by (engine.BadJournal at) opens other none old bad damaged = bad at refl
+none-by (engine.Damaged damage) opens other none old bad damaged = damaged damage refl
+none-by engine.Full opens other none old bad damaged = absurd opens
+none-by engine.Worn opens other none old bad damaged = absurd opens
+none-by engine.NoRoom opens other none old bad damaged = absurd opens
+none-by engine.Stopped opens other none old bad damaged = absurd opens
+none-by engine.Memory opens other none old bad damaged = absurd opens
 
 -- the cause of a refused opening
 pub refused-cause : (readable : Bool) (source : ℕ) (old new : World) (fault : EngineFault) → IsOpenFault fault → Refuses readable old new fault → IsRunEnd readable source source old new (end_of_engine fault)
 refused-cause readable source old new engine.Disk opens refuses = refuses.disk refl
 refused-cause readable source old new engine.NotAStore opens refuses = λ t. (refuses.none t (λ e. cc), refuses.foreign t refl)
+refused-cause readable source old new engine.Version1 opens refuses = λ t. (refuses.none t (λ e. cc), refuses.version1 t refl)
 refused-cause readable source old new (engine.BadJournal at) opens refuses = λ t. (refuses.none t (λ e. cc), refuses.bad t at refl)
 refused-cause readable source old new (engine.Damaged damage) opens refuses = λ t. (refuses.none t (λ e. cc), inl (refuses.head t damage refl))
 refused-cause readable source old new engine.Full opens refuses = absurd opens
@@ -66,6 +69,7 @@ pub refused-job : (T : Type 0) (readable : Bool) → IsTrue readable → (asked 
     → EndsJob {T = T} asked state input left old new (Err (end_of_engine fault))
 refused-job T readable t asked state input left old new holds none engine.Disk opens refuses = λ whole is. none-said whole.turn.text old.said new.said none
 refused-job T readable t asked state input left old new holds none engine.NotAStore opens refuses = refuses.none t (λ e. cc) state holds
+refused-job T readable t asked state input left old new holds none engine.Version1 opens refuses = refuses.none t (λ e. cc) state holds
 refused-job T readable t asked state input left old new holds none (engine.BadJournal at) opens refuses = refuses.none t (λ e. cc) state holds
 refused-job T readable t asked state input left old new holds none (engine.Damaged damage) opens refuses = refuses.none t (λ e. cc) state holds
 refused-job T readable t asked state input left old new holds none engine.Full opens refuses = absurd opens
@@ -80,6 +84,7 @@ module _ (readable : Bool) (old was new : World) (faults : was.faults ≡ old.fa
   broken-from : (fault : StoreFault) → IsStoreEnd readable was fault → IsTrue readable → IsBroken fault old.seen
   broken-from (stores.Damaged damage) cause t = ((λ state holds. (cause t).0 state (stands t state holds)), inr ((cause t).1, opened t))
   broken-from stores.NotAStore cause t = absurd cause
+  broken-from stores.Version1 cause t = absurd cause
   broken-from (stores.BadJournal at) cause t = absurd cause
 
   cause-from : (source_old source_new : ℕ) (end : Ended) → IsJobEnd readable source_old source_new was new end → IsRunEnd readable source_old source_new old new end
@@ -153,6 +158,7 @@ IsOpeningEnd _ = ⊥
 pub opening-end : (fault : EngineFault) → IsOpenFault fault → IsOpeningEnd (end_of_engine fault)
 opening-end engine.Disk opens = tt
 opening-end engine.NotAStore opens = tt
+opening-end engine.Version1 opens = tt
 opening-end (engine.BadJournal at) opens = tt
 opening-end (engine.Damaged damage) opens = tt
 opening-end engine.Full opens = absurd opens
@@ -165,6 +171,7 @@ opening-end engine.Memory opens = absurd opens
 pub refused-alone : (old new : World) (fault : EngineFault) → LeavesRefused fault old new → LeavesOnly old new (StandsAlike old) → new.said ≡ old.said → LeavesAlone (end_of_engine fault) old new
 refused-alone old new engine.Disk left alike said = tt
 refused-alone old new engine.NotAStore left alike said = record { recovered = left; alike = alike; said = said }
+refused-alone old new engine.Version1 left alike said = record { recovered = left; alike = alike; said = said }
 refused-alone old new (engine.BadJournal at) left alike said = left
 refused-alone old new (engine.Damaged damage) left alike said = λ is. record { recovered = left; alike = alike; said = said }
 refused-alone old new engine.Full left alike said = tt
@@ -198,6 +205,7 @@ module _ (old new : World) (opened : IsOpenable old.seen) where
   end-alone readable source_old source_new was after (ends.Limit fault) cause = tt
   end-alone readable source_old source_new was after (ends.Store (stores.Damaged damage)) cause = λ broken. absurd (unopened old.seen broken opened)
   end-alone readable source_old source_new was after (ends.Store stores.NotAStore) cause = absurd cause
+  end-alone readable source_old source_new was after (ends.Store stores.Version1) cause = absurd cause
   end-alone readable source_old source_new was after (ends.Store (stores.BadJournal at)) cause = absurd cause
   end-alone readable source_old source_new was after ends.Done cause = tt
   end-alone readable source_old source_new was after ends.Words cause = tt
@@ -219,6 +227,7 @@ complete-end readable source_old source_new old new action state t holds source 
 complete-end readable source_old source_new old new action state t holds source disk sink (ends.Input fault) limit cause = tt
 complete-end readable source_old source_new old new action state t holds source disk sink (ends.Limit fault) limit cause = limit fault refl
 complete-end readable source_old source_new old new action state t holds source disk sink (ends.Store stores.NotAStore) limit cause = absurd ((cause t).0 state holds)
+complete-end readable source_old source_new old new action state t holds source disk sink (ends.Store stores.Version1) limit cause = absurd ((cause t).0 state holds)
 complete-end readable source_old source_new old new action state t holds source disk sink (ends.Store (stores.BadJournal at)) limit cause = absurd ((cause t).0 state holds)
 complete-end readable source_old source_new old new action state t holds source disk sink (ends.Store (stores.Damaged damage)) limit cause = absurd ((cause t).0 state holds)
 complete-end readable source_old source_new old new action state t holds source disk sink ends.Done limit cause = absurd cause

@@ -21,6 +21,7 @@ pub refused-names : (readable : Bool) (old new : World) (fault : EngineFault) �
 refused-names readable old new (engine.Damaged damage) told refuses = inl (refuses.head told damage refl)
 refused-names readable old new engine.Disk told refuses = tt
 refused-names readable old new engine.NotAStore told refuses = tt
+refused-names readable old new engine.Version1 told refuses = tt
 refused-names readable old new (engine.BadJournal at) told refuses = tt
 refused-names readable old new engine.Full told refuses = tt
 refused-names readable old new engine.Worn told refuses = tt
@@ -35,6 +36,7 @@ module _ (old now : World) (stands : StandsFor old.seen (applied now.seen)) wher
       let same : contents_held now.seen ≡ contents_held old.seen = ap pages.contents_in stands.1 in
       inr (subst (λ (held : pages.Contents). IsQueryDamageIn held damage ⊎ IsShownDamageIn held damage) same met)
   met-opened (ends.Store stores.NotAStore) met = tt
+  met-opened (ends.Store stores.Version1) met = tt
   met-opened (ends.Store (stores.BadJournal at)) met = tt
   met-opened ends.Done met = tt
   met-opened ends.Memory met = tt

@@ -20,7 +20,7 @@ use Rattle.query_replies.specs.Fault.{reason_text}
 use Rattle.query_replies.specs.Found.{score_text, pick_text, group_text, found_text}
 use Rattle.query_replies.specs.Lines.{ranked_line, ranked_lines}
 use Rattle.query_replies.specs.Parts.{key_text, units_text, point_text, at_text}
-use Rattle.query_replies.specs.Reply.{word_line, impacts_text, place_text, text_of_reply}
+use Rattle.query_replies.specs.Reply.{word_line, labelled_text, place_text, text_of_reply}
 use Rattle.query_replies.specs.declared.fault.LineFault.{LineFault}
 use Rattle.query_replies.specs.declared.fault.LineFault.TheVariants as faults
 use Rattle.query_replies.specs.declared.reply.Reply.TheVariants as replies
@@ -216,11 +216,13 @@ words-quiet (word ∷ words) =
     (words-quiet words)
 
 -- a place is quiet
-place-quiet : (key : Name) (point : Position) (words : List (List ℕ × ℕ)) → is_quiet true (place_text key point words) ≡ true
-place-quiet key point words =
-    quiet-within (key_text key) (32 ∷ (point_text point ++ (32 ∷ impacts_text words))) (key-in key)
-    ∙ quiet-within (point_text point) (32 ∷ impacts_text words) (point-in point)
-    ∙ number-quiet (length words) (flat_map word_line words) ∙ words-quiet words
+place-quiet : (key : Name) (point : Position) (words : List (List ℕ × ℕ)) (label : List ℕ) → is_quiet true (place_text key point words label) ≡ true
+place-quiet key point words label =
+    quiet-within (key_text key) (32 ∷ (point_text point ++ (32 ∷ labelled_text words label))) (key-in key)
+    ∙ quiet-within (point_text point) (32 ∷ labelled_text words label) (point-in point)
+    ∙ quiet-within (decimal (length words)) (32 ∷ (quoted label ++ (10 ∷ flat_map word_line words))) (decimal-in _)
+    ∙ quiet-within (quoted label) (10 ∷ flat_map word_line words) (quoted-in label)
+    ∙ words-quiet words
 
 -- a reason ends its line
 reason-quiet : (fault : LineFault) → is_quiet false (reason_text fault ++ 10 ∷ []) ≡ true
@@ -247,9 +249,9 @@ unfolding text_of_reply
 answer-quiet answer query explain = found-quiet explain query answer
 
 -- nor does that which shows a place
-pub shown-quiet : (key : Name) (point : Position) (words : List (List ℕ × ℕ)) → is_quiet true (text_of_reply (replies.Place key point words)) ≡ true
+pub shown-quiet : (key : Name) (point : Position) (words : List (List ℕ × ℕ)) (label : List ℕ) → is_quiet true (text_of_reply (replies.Place key point words label)) ≡ true
 unfolding text_of_reply
-shown-quiet key point words = place-quiet key point words
+shown-quiet key point words label = place-quiet key point words label
 
 -- nor does the count
 pub count-quiet : (n : ℕ) → is_quiet true (text_of_reply (replies.Count n)) ≡ true

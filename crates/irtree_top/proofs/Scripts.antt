@@ -47,8 +47,8 @@ tested first second one two three = if first then one else if second then two el
 
 -- each update does so
 stays : (state : Contents) (update : Update) → StaysWhere (effect_of state update).answer state (effect_of state update).state
-stays state (Put key point words) =
-    split (nat_le 200000 (length state.places) && is_none (place_at (key_for state key) state.places)) (state.number == 2 ^ 40) (is_some (place_at (key_for state key) state.places)) _
+stays state (Put key point words label) =
+    split (nat_le 1000000 (length state.places) && is_none (place_at (key_for state key) state.places)) (state.number == 2 ^ 40) (is_some (place_at (key_for state key) state.places)) _
   where
     split : (full worn lived : Bool) (next : Contents)
         → StaysWhere (tested full worn (refuses state Full) (refuses state Worn) record { state = next; answer = Ok (if lived then Replaced else New) }).answer state
@@ -122,7 +122,7 @@ update-one update (Err fault) = omega arith
 shows-quiet : (key : Name) (place : Option Place) → is_quiet true (text_of_reply (show_reply key place)) ≡ true
 unfolding text_of_reply
 shows-quiet key None = refl
-shows-quiet key (Some place) = shown-quiet key place.point place.words
+shows-quiet key (Some place) = shown-quiet key place.point place.words place.label
 
 -- each line that was read has such a turn
 turn_of-acked : (state : Contents) (line : Result Line LineFault) → IsAcked state (turn_of state line)

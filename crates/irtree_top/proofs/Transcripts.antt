@@ -1,6 +1,6 @@
 -- What is asked for has one transcript on each input and state.
 use Rattle.std.proofs.Common.{◌≡◌, ℕ, ◌<◌, ◌≤◌, ⊎_elim, List, length, refl, sym, ap, ◌∙◌, arith}
-use Rattle.std.specs.Prelude.{Option, Result, Ok, Err}
+use Rattle.std.specs.Prelude.{◌≢◌, Option, Result, Ok, Err}
 use Rattle.std.proofs.lemmas.Bool.{cases_lt}
 use Rattle.place_values.specs.State.{Contents}
 use Rattle.json_spelled.specs.declared.tree.JsonFault.TheVariants as json
@@ -14,7 +14,7 @@ use Rattle.run_outcome.specs.Load.{load_max, IsTaken, load_transcript}
 use Rattle.run_outcome.specs.Script.{script_transcript}
 use Rattle.load_run.specs.Making.{make_transcript}
 use Rattle.command_words.specs.declared.job.Action.{Action}
-use Rattle.command_words.specs.declared.job.Action.TheVariants.{Run, Load, Make}
+use Rattle.command_words.specs.declared.job.Action.TheVariants.{Run, Load, Make, Upgrade}
 use Rattle.irtree_top.specs.Transcript.{IsTranscriptBy, IsTranscript}
 use Rattle.command_words.specs.Job.{Asked}
 
@@ -113,17 +113,19 @@ one-by : OutcomeIsOne → (action : Action) (asked : Asked) (state : Contents) (
 one-by law Run asked state input one other is also = is ∙ sym also
 one-by law Load asked state input one other is also = load-one law asked state input one other is also
 one-by law Make asked state input one other is also = is ∙ sym also
+one-by law Upgrade asked state input one other is also = absurd is
 
 -- what is asked for has one transcript
 pub transcript-one : OutcomeIsOne → (state : Contents) (asked : Asked) (input : List ℕ) (one other : Transcript) → IsTranscript state asked input one → IsTranscript state asked input other → one ≡ other
 transcript-one law state asked input one other is also = one-by law asked.action asked state input one other is also
 
 -- by its action
-some-by : OutcomeIsSome → (action : Action) (asked : Asked) (state : Contents) (input : List ℕ) → (whole : Transcript) × IsTranscriptBy action asked state input whole
-some-by law Run asked state input = (script_transcript state input, refl)
-some-by law Load asked state input = load-some law asked state input
-some-by law Make asked state input = (make_transcript asked.batch asked.from asked.count state, refl)
+some-by : OutcomeIsSome → (action : Action) (asked : Asked) (state : Contents) (input : List ℕ) → action ≢ Upgrade → (whole : Transcript) × IsTranscriptBy action asked state input whole
+some-by law Run asked state input other = (script_transcript state input, refl)
+some-by law Load asked state input other = load-some law asked state input
+some-by law Make asked state input other = (make_transcript asked.batch asked.from asked.count state, refl)
+some-by law Upgrade asked state input other = absurd (other refl)
 
--- and it has one at least
-pub transcript-some : OutcomeIsSome → (state : Contents) (asked : Asked) (input : List ℕ) → (whole : Transcript) × IsTranscript state asked input whole
-transcript-some law state asked input = some-by law asked.action asked state input
+-- and it has one at least, unless it is an upgrade
+pub transcript-some : OutcomeIsSome → (state : Contents) (asked : Asked) (input : List ℕ) → asked.action ≢ Upgrade → (whole : Transcript) × IsTranscript state asked input whole
+transcript-some law state asked input other = some-by law asked.action asked state input other

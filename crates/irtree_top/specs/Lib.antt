@@ -2,3 +2,4 @@ pub mod Acked
 pub mod Prefix
 pub mod Run
 pub mod Transcript
+pub mod Upgrade

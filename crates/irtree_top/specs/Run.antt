@@ -2,14 +2,14 @@
 use Rattle.std.specs.Prelude.{◌≡◌, ◌≢◌, ◌⊎◌, ◌≤◌, ℕ, List, [], Bool, Option, IsTrue, IfErr, OnOk, Ok, Err, Result}
 use Rattle.disk_model.specs.World.{World, Image, LeavesOnly, Range, Rose, WritesNothing}
 use Rattle.irtree_engine.specs.Damages.{IsImageDamage}
-use Rattle.irtree_engine.specs.Holding.{HasBrokenHead, IsForeign, StandsForNone}
+use Rattle.irtree_engine.specs.Holding.{HasBrokenHead, IsForeign, IsOpenable, IsVersion1, StandsForNone}
 use Rattle.irtree_engine.specs.Opening.{IsRecovered}
 use Rattle.irtree_engine.specs.Queries.{EachRead, contents_held}
 use Rattle.page_journal.specs.Record.{IsBad, IsReady, StandsAlike, StandsFor}
 use Rattle.page_store.specs.Contents as pages
 use Rattle.page_store.specs.Contents.{page_bytes}
 use Rattle.page_store.specs.Opening.{IsOpeningRead, head_damage}
-use Rattle.page_store.specs.Superblock.{IsStorePage, superblock_in}
+use Rattle.page_store.specs.Superblock.{superblock_in}
 use Rattle.page_face.specs.declared.fault.Damage.{Damage}
 use Rattle.page_face.specs.declared.fault.Rule.TheVariants.{Head}
 use Rattle.place_values.specs.State.{Contents}
@@ -34,7 +34,7 @@ use Rattle.run_outcome.specs.declared.ended.StoreFault.{StoreFault}
 use Rattle.run_outcome.specs.declared.ended.StoreFault.TheVariants as stores
 use Rattle.script_run.specs.Standing.{SaysRepliesOf}
 use Rattle.command_words.specs.declared.job.Action.{Action}
-use Rattle.command_words.specs.declared.job.Action.TheVariants.{Run, Load, Make}
+use Rattle.command_words.specs.declared.job.Action.TheVariants.{Run, Load, Make, Upgrade}
 use Rattle.irtree_top.specs.Transcript.{IsTranscript}
 use Rattle.command_words.specs.Job.{Asked}
 
@@ -49,18 +49,20 @@ pub record EndsBy (wanted : End) (asked : Asked) (state : Contents) (input : Lis
   pub ends : EndsAs wanted whole old new
 
 -- What was said where the source failed, and what the image stands for: in a script the replies of what was read, and the state after
--- these lines; in a load nothing, and the state at the start. A make reads no source.
+-- these lines; in a load nothing, and the state at the start. A make and an upgrade read no source.
 abbrev pub SaysWhatWasRead : Action → Contents → List ℕ → List ℕ → World → World → Type 0
 SaysWhatWasRead Run state input left old new = SaysRepliesOf state input left old new
 SaysWhatWasRead Load state input left old new = SaysNothingYet state old new
 SaysWhatWasRead Make state input left old new = ⊥
+SaysWhatWasRead Upgrade state input left old new = ⊥
 
 -- Where no page was left: what comes before the reply to an update, or before a batch's line, was said whole and nothing else, and the
--- image stands for the state before it.
+-- image stands for the state before it. An upgrade makes no update.
 abbrev pub StopsForRoom : Action → Asked → Contents → List ℕ → World → World → Type 0
 StopsForRoom Run asked state input old new = StopsAtLine state (script_lines input) old.said new
 StopsForRoom Load asked state input old new = (items : List Item) × IsTaken asked.text input (Ok items) × StopsAtBatch state 0 0 (steps asked.batch [] items) old.said new
 StopsForRoom Make asked state input old new = StopsAtBatch state 0 0 (make_steps asked.batch asked.from asked.count) old.said new
+StopsForRoom Upgrade asked state input old new = ⊥
 
 -- how a run stops at a limit
 abbrev pub StopsAtLimit : LimitFault → Asked → Contents → List ℕ → World → World → Type 0
@@ -73,12 +75,14 @@ abbrev pub acked : Action → List ℕ → ℕ
 acked Run spoken = acked_by_script spoken
 acked Load spoken = acked_by_load spoken
 acked Make spoken = acked_by_load spoken
+acked Upgrade spoken = 0
 
 -- how many updates more may be held than are acknowledged
 abbrev pub IsNear : Action → ℕ → ℕ → ℕ → ℕ → Type 0
 IsNear Run batch some acked all = IsNearInScript some acked all
 IsNear Load batch some acked all = IsNearInLoad batch some acked all
 IsNear Make batch some acked all = IsNearInLoad batch some acked all
+IsNear Upgrade batch some acked all = some ≡ 0
 
 -- The image stands for the state after a prefix of the transcript's updates that holds every acknowledged one.
 abbrev pub HoldsPrefix : Asked → Contents → List ℕ → World → Image → List ℕ → Type 0
@@ -86,11 +90,12 @@ HoldsPrefix asked state input old image said =
     (whole : Transcript) → IsTranscript state asked input whole
     → HoldsAcked (acked asked.action) (IsNear asked.action asked.batch) state whole.turn.changes old.said image said
 
--- What an action leaves of an input that it takes whole: a script and a load read it to its end, and a make leaves it as it was.
+-- What an action leaves of an input that it takes whole: a script and a load read it to its end, and the others leave it as it was.
 abbrev pub LeavesInput : Action → List ℕ → List ℕ → Type 0
 LeavesInput Run input left = left ≡ []
 LeavesInput Load input left = left ≡ []
 LeavesInput Make input left = left ≡ input
+LeavesInput Upgrade input left = left ≡ input
 
 -- how a job ended: what it had said, and what the image stands for
 abbrev pub EndsJob : {T : Type 0} → Asked → Contents → List ℕ → List ℕ → World → World → Result T Ended → Type 0
@@ -105,22 +110,18 @@ EndsJob asked state input left old new (Err (ends.Store fault)) = ⊥
 EndsJob asked state input left old new (Err ends.Done) = ⊥
 EndsJob asked state input left old new (Err ends.Words) = ⊥
 
--- The image is opened: it stands for pages whose page 0 is zeros, or begins with the magic and keeps the rule Head.
-pub record IsOpenable (image : Image) : Type 0 where
-  pub area : ℕ → ℕ
-  pub stands : StandsFor image area
-  pub page : IsStorePage (page_bytes area 0)
-
 -- Where damage is met: at page 0 as it is opened, or behind the opening, by another rule than Head.
 abbrev pub IsDamagedAt : Damage → Image → Type 0
 IsDamagedAt damage image = ((damage ≡ head_damage) × HasBrokenHead image) ⊎ ((damage.rule ≢ Head) × IsOpenable image)
 
 -- What a store's fault says of the image: that it stands for no state; where it is called no store, that page 0 is foreign; where the
--- journal is named, that its first fault is at that byte; where a page is named, that page 0 breaks the rule Head, or is opened and the rule is another one.
+-- journal is named, that its first fault is at that byte; where a page is named, that page 0 breaks the rule Head, or is opened and the rule is another one;
+-- where version 1 is named, that page 0 begins with its magic.
 abbrev pub IsBroken : StoreFault → Image → Type 0
 IsBroken stores.NotAStore image = StandsForNone image × IsForeign image
 IsBroken (stores.BadJournal at) image = StandsForNone image × IsBad image at
 IsBroken (stores.Damaged damage) image = StandsForNone image × IsDamagedAt damage image
+IsBroken stores.Version1 image = StandsForNone image × IsVersion1 image
 
 -- The page that is named breaks the rule that is named: page 0 the rule Head, or another one of those that the image holds, as a query or a
 -- look at a key meets it.
@@ -157,29 +158,34 @@ pub record HasRunEnd {T : Type 0} (readable : Bool) (source_old source_new : ℕ
 
 -- ---- what the input says of an end
 
--- why an input ends an action: that of a script is too long, and that of a load gives no items, for this cause; none ends a make
+-- why an input ends an action: that of a script is too long, and that of a load gives no items, for this cause; none ends another action
 abbrev pub IsInputEnd : Action → Option (List ℕ) → List ℕ → InputFault → Type 0
 IsInputEnd Run only input fault = IsScriptInput input fault
 IsInputEnd Load only input fault = IsTaken only input (Err fault)
 IsInputEnd Make only input fault = ⊥
+IsInputEnd Upgrade only input fault = ⊥
 
--- an input that an action takes whole: a script is no longer than it may be, and the text of a load gives items; to a make it is all the same
+-- an input that an action takes whole: a script is no longer than it may be, and the text of a load gives items; to another action it is all the same
 abbrev pub IsWholeInput : Action → Option (List ℕ) → List ℕ → Type 0
 IsWholeInput Run only input = FitsScript input
 IsWholeInput Load only input = GivesItems only input
 IsWholeInput Make only input = Unit {0}
+IsWholeInput Upgrade only input = Unit {0}
 
--- the limits that end an action: a script ends for want of room alone, since it says the limits of the map and goes on
+-- the limits that end an action: a script ends for want of room alone, since it says the limits of the map and goes on, and an upgrade,
+-- which adds no place
 abbrev pub IsLimitOf : Action → LimitFault → Type 0
 IsLimitOf Run fault = fault ≡ limits.NoRoom
 IsLimitOf Load fault = Unit {0}
 IsLimitOf Make fault = Unit {0}
+IsLimitOf Upgrade fault = fault ≡ limits.NoRoom
 
 -- how many updates of the action one commit stores at most, with so many places in a batch
 abbrev pub most_updates : Action → ℕ → ℕ
 most_updates Run batch = 1
 most_updates Load batch = batch
 most_updates Make batch = batch
+most_updates Upgrade batch = 0
 
 -- of the image's free pages, and of those that the disk has room for beside the pages counted, there are no more than a commit of the action is allowed to take
 abbrev pub LacksRoomFor : Action → ℕ → ℕ → Image → Type 0
@@ -191,6 +197,7 @@ abbrev pub ReachesLimitBy : Action → Asked → LimitFault → ℕ → ℕ → 
 ReachesLimitBy Run asked fault live number input = fault ≡ limits.NoRoom
 ReachesLimitBy Load asked fault live number input = ReachesLimit fault live number asked.text input
 ReachesLimitBy Make asked fault live number input = ReachLimit asked.count fault live number
+ReachesLimitBy Upgrade asked fault live number input = fault ≡ limits.NoRoom
 
 -- The image stands for pages whose page 0 has numbers that reach the limit, with the number of the action's places added.
 pub record IsLimitReached (fault : LimitFault) (asked : Asked) (input : List ℕ) (image : Image) : Type 0 where
@@ -255,12 +262,13 @@ pub record LeavesRecovered (old new : World) : Type 0 where
   pub alike : LeavesOnly old new (StandsAlike old)
   pub said : new.said ≡ old.said
 
--- What a store that is refused as it is opened is left as: where its journal is bad, as it was; where its page 0 is foreign or breaks the
--- rule Head, recovered.
+-- What a store that is refused as it is opened is left as: where its journal is bad, as it was; where its page 0 is foreign, is that of
+-- version 1 or breaks the rule Head, recovered.
 abbrev pub LeavesStore : StoreFault → World → World → Type 0
 LeavesStore stores.NotAStore old new = LeavesRecovered old new
 LeavesStore (stores.BadJournal at) old new = WritesNothing old new
 LeavesStore (stores.Damaged damage) old new = HasBrokenHead old.seen → LeavesRecovered old new
+LeavesStore stores.Version1 old new = LeavesRecovered old new
 
 -- At every crash the image stands for what it stood for, whatever that was, and nothing was said.
 pub record LeavesAlike (old new : World) : Type 0 where

@@ -8,15 +8,17 @@ use Rattle.run_outcome.specs.Script.{script_transcript}
 use Rattle.run_outcome.specs.Load.{IsTaken, load_transcript}
 use Rattle.load_run.specs.Making.{make_transcript}
 use Rattle.command_words.specs.declared.job.Action.{Action}
-use Rattle.command_words.specs.declared.job.Action.TheVariants.{Run, Load, Make}
+use Rattle.command_words.specs.declared.job.Action.TheVariants.{Run, Load, Make, Upgrade}
 use Rattle.command_words.specs.Job.{Asked}
 
--- the transcript of an action, with the batch, the property, the seed and the count of what is asked for
+-- The transcript of an action, with the batch, the property, the seed and the count of what is asked for. An upgrade has none: what it says
+-- goes by the version of the store (`Upgrade.antt`).
 abbrev pub IsTranscriptBy : Action → Asked → Contents → List ℕ → Transcript → Type 0
 IsTranscriptBy Run asked state input whole = whole ≡ script_transcript state input
 IsTranscriptBy Load asked state input whole =
     (taken : Result (List Item) InputFault) × IsTaken asked.text input taken × (whole ≡ load_transcript asked.batch state taken)
 IsTranscriptBy Make asked state input whole = whole ≡ make_transcript asked.batch asked.from asked.count state
+IsTranscriptBy Upgrade asked state input whole = ⊥
 
 -- the transcript of what is asked for
 abbrev pub IsTranscript : Contents → Asked → List ℕ → Transcript → Type 0

@@ -1,15 +1,15 @@
 //! A job, over a store that is opened.
-ghost use Rattle.std.specs.Prelude.{◌≡◌, ◌≤◌, false, option_copied, option_map, string_bytes, IfErr, IsErrOf, IsTrue, OnOk};
+ghost use Rattle.std.specs.Prelude.{◌≡◌, ◌≢◌, ◌≤◌, false, option_copied, option_map, string_bytes, IfErr, IsErrOf, IsTrue, OnOk};
 ghost use Rattle.disk_model.specs.World.{HasDiskCause, LeavesOnly, LeavesOnlySeen, ReadsJournalOnly};
 ghost use Rattle.place_values.specs.State.{Contents};
-ghost use Rattle.irtree_engine.specs.Holding.{HoldsState, LeavesState};
+ghost use Rattle.irtree_engine.specs.Holding.{HoldsState, IsOpenable, LeavesState};
 ghost use Rattle.irtree_engine.specs.Queries.{contents_held};
 ghost use Rattle.run_outcome.specs.Asking.{AreAsking};
 ghost use Rattle.page_journal.specs.Record.{IsReady};
 ghost use Rattle.run_outcome.specs.Causes.{GoesOn, HasJobEnd};
 ghost use Rattle.run_outcome.specs.Reading.{AreReading, IsMetIn};
 ghost use Rattle.run_outcome.specs.Script.{script_lines};
-ghost use Rattle.irtree_top.specs.Run.{EndsJob, HasRunEnd, HoldsPrefix, IsLimitReached, IsInputEnd, IsLimitOf, IsUnreadEnd, IsOpenable, IsWholeInput, LacksRoomFor, LeavesAlike, LeavesAlone, LeavesAtRest, LeavesInput, NamesBrokenRule, OpensFew, ReachesLimitBy, RestsIfOpened};
+ghost use Rattle.irtree_top.specs.Run.{EndsJob, HasRunEnd, HoldsPrefix, IsLimitReached, IsInputEnd, IsLimitOf, IsUnreadEnd, IsWholeInput, LacksRoomFor, LeavesAlike, LeavesAlone, LeavesAtRest, LeavesInput, NamesBrokenRule, OpensFew, ReachesLimitBy, RestsIfOpened};
 ghost use Rattle.command_words.specs.Job.{asked_of};
 
 use crate::{transcript_is_one, transcript_is_some};
@@ -41,6 +41,7 @@ fn act<'d, S: Source, T: Station>(
     engine: &mut Engine<'d, T>,
 ) -> Result<(), Ended>
     requires on { engine.old.stopped ≡ false }
+    requires acts { job.now.action ≢ Action.Upgrade }
     requires few { job.now.batch ≤ 10000 }
     requires some { 1 ≤ job.now.batch }
     requires count { job.now.count ≤ 100000 }
@@ -72,6 +73,7 @@ fn act<'d, S: Source, T: Station>(
             run_load(alloc, job.batch, only, source, engine)
         }
         Action::Make => run_make(alloc, job.batch, job.from, job.count, engine),
+        Action::Upgrade => unreachable!(),
     }
 }
 
@@ -106,6 +108,7 @@ fn serve<'d, S: Source, T: Station>(
     engine: &mut Engine<'d, T>,
 ) -> Result<(), Ended>
     requires on { engine.old.stopped ≡ false }
+    requires acts { job.now.action ≢ Action.Upgrade }
     requires few { job.now.batch ≤ 10000 }
     requires some { 1 ≤ job.now.batch }
     requires count { job.now.count ≤ 100000 }
@@ -150,6 +153,7 @@ pub(crate) fn run_job<S: Source, T: Station>(
     station: &mut T,
     policy: Box<dyn SplitPolicy>,
 ) -> Result<(), Ended>
+    requires acts { job.now.action ≢ Action.Upgrade }
     requires few { job.now.batch ≤ 10000 }
     requires some { 1 ≤ job.now.batch }
     requires count { job.now.count ≤ 100000 }

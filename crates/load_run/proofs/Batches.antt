@@ -44,6 +44,7 @@ not-stored state updates old new fault may on due rests holds = by_fault fault m
     by_fault (engine.Damaged damage) may on due rests = absurd due
     by_fault engine.Stopped may on due rests = absurd (on refl)
     by_fault engine.NotAStore may on due rests = absurd may
+    by_fault engine.Version1 may on due rests = absurd may
     by_fault (engine.BadJournal at) may on due rests = absurd may
 
 -- and the cause of such an end
@@ -62,4 +63,5 @@ not-stored-cause readable updates old new fault T may on disk due no_head stays 
     by_fault (engine.Damaged damage) may on disk due no_head = λ told. ((λ state holds. due told state holds), no_head told damage refl)
     by_fault engine.Stopped may on disk due no_head = absurd (on refl)
     by_fault engine.NotAStore may on disk due no_head = absurd may
+    by_fault engine.Version1 may on disk due no_head = absurd may
     by_fault (engine.BadJournal at) may on disk due no_head = absurd may

@@ -33,6 +33,7 @@ refused-asking readable old new engine.Full refused told state holds = absurd re
 refused-asking readable old new engine.Worn refused told state holds = absurd refused.causes
 refused-asking readable old new engine.NoRoom refused told state holds = absurd refused.causes
 refused-asking readable old new engine.NotAStore refused told state holds = absurd refused.causes
+refused-asking readable old new engine.Version1 refused told state holds = absurd refused.causes
 refused-asking readable old new (engine.BadJournal at) refused told state holds = absurd refused.causes
 
 -- and by no limit

@@ -171,7 +171,7 @@ pub record StoresAll {T : Type 0} (state : Contents) (updates : List Update) (ol
 
 -- a limit of the map that so many live places and this update number reach
 abbrev pub IsLimitAt : ℕ → ℕ → Ended → Type 0
-IsLimitAt live number (ends.Limit limits.Full) = 200000 ≤ live
+IsLimitAt live number (ends.Limit limits.Full) = 1000000 ≤ live
 IsLimitAt live number (ends.Limit limits.Worn) = 2 ^ 40 ≤ number
 IsLimitAt live number _ = Unit {0}
 

@@ -62,7 +62,7 @@ LeftByMake batch seed count state before image said =
 
 -- So many places reach this limit, from so many live places and this update number on.
 abbrev pub ReachLimit : ℕ → LimitFault → ℕ → ℕ → Type 0
-ReachLimit count Full live number = 200000 ≤ live + count
+ReachLimit count Full live number = 1000000 ≤ live + count
 ReachLimit count Worn live number = 2 ^ 40 ≤ number + count
 ReachLimit count NoRoom live number = Unit {0}
 

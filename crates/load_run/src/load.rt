@@ -20,7 +20,7 @@ use query_replies::write_bytes;
 use run_outcome::{Ended, LimitFault, ended_by, say_all};
 use std::alloc::Global;
 use std::mem;
-use term_impacts::impacts;
+use term_impacts::{Label, impacts};
 
 /// How many bytes of skips wait to be printed at most, except for the last line.
 const TEXT_KEPT: usize = 65_536;
@@ -86,6 +86,7 @@ fn update_of(alloc: Global, draft: Draft) -> Result<Update, Ended>
             key: draft.id,
             point: draft.point,
             words,
+            label: Label::of_text(draft.text.as_str()),
         }),
         Err(_) => Err(Ended::Memory),
     }

@@ -1,11 +1,13 @@
 -- The header of page 0.
-use Rattle.std.proofs.Common.{true, ◌≡◌, ℕ, zero, suc, ◌==◌, slice_index, ◌+◌, ◌^◌, ◌<◌, ◌≤◌, false, List, [], ◌∷◌, ◌++◌, take, drop, ◌∙◌, ap, subst, sym, refl, arith}
+use Rattle.std.proofs.Common.{true, if◌then◌else◌, ◌≡◌, ℕ, zero, suc, ◌==◌, slice_index, ◌+◌, ◌^◌, ◌<◌, ◌≤◌, false, List, [], ◌∷◌, ◌++◌, take, drop, ◌∙◌, ap, subst, sym, refl, arith}
 use Rattle.std.proofs.lemmas.Bool.{and_left, ne_eqb, cond-false}
 use Rattle.std.proofs.lemmas.List.{drop-take}
 use Rattle.std.proofs.lemmas.Nat.{from_be_bytes-to_be_bytes_4, from_be_bytes-to_be_bytes_8}
 use Rattle.std.specs.Int.{from_be_bytes, to_be_bytes, w32, w64}
 use Rattle.page_store.specs.declared.superblock.Superblock.{Superblock}
-use Rattle.page_store.specs.Superblock.{header_of, fields_of, word_at, long_at, is_zero, superblock_in, empty_store, HasMagic, IsInRange, IsStorePage, has_clear_spare}
+use Rattle.page_face.specs.declared.head.Version.{Version}
+use Rattle.page_face.specs.declared.head.Version.TheVariants.{One, Two}
+use Rattle.page_store.specs.Superblock.{header_of, fields_of, word_at, long_at, is_zero, superblock_in, empty_store, IsInRange, IsPageOfVersion1, IsStorePage, digit_of, has_clear_spare, in_version2, magic_of, version_in}
 
 -- one field more behind the fields written so far
 pub joined : {xs ys zs : List ℕ} (b : List ℕ) → xs ≡ ys ++ b → ys ≡ zs → xs ≡ zs ++ b
@@ -50,6 +52,25 @@ pub record FitsTypes (block : Superblock) : Type 0 where
   pub number : block.head.number < 2 ^ 64
   pub next_word : block.head.next_word < 2 ^ 64
 
+-- what stands in the front of a list stands in the list
+slice_front : (k n : ℕ) (l : List ℕ) → k < n → slice_index (take n l) k ≡ slice_index l k
+slice_front k zero l lt = absurd (omega arith)
+slice_front k (suc n) [] lt = refl
+slice_front zero (suc n) (x ∷ l) lt = refl
+slice_front (suc k) (suc n) (x ∷ l) lt = slice_front k n l (omega arith)
+
+-- the digit of a version names it
+digit_names : (version : Version) → (if digit_of version == 49 then One else Two) ≡ version
+digit_names One = refl
+digit_names Two = refl
+
+-- the version of a header
+version_read : (page : List ℕ) (block : Superblock) → take 64 page ≡ header_of block → version_in page ≡ block.head.version
+unfolding header_of
+version_read page block is =
+    let digit : slice_index page 7 ≡ digit_of block.head.version = sym (slice_front 7 64 page (omega arith)) ∙ ap (λ (l : List ℕ). slice_index l 7) is in
+    ap (λ (n : ℕ). if n == 49 then One else Two) digit ∙ digit_names block.head.version
+
 -- the fields behind a block's header are the block
 pub fields_of-header : (page : List ℕ) (block : Superblock) → take 64 page ≡ header_of block → FitsTypes block → fields_of page ≡ block
 unfolding header_of
@@ -65,7 +86,8 @@ fields_of-header page block is fits =
     let serial = long_read page _ 40 block.head.serial is (omega arith) refl fits.serial in
     let number = long_read page _ 48 block.head.number is (omega arith) refl fits.number in
     let next_word = long_read page _ 56 block.head.next_word is (omega arith) refl fits.next_word in
-    rw (counted, first_free, places, texts, numbers, rows, tree, live, serial, number, next_word) refl
+    let version = version_read page block is in
+    rw (version, counted, first_free, places, texts, numbers, rows, tree, live, serial, number, next_word) refl
 
 -- a page with a header isn't all zero
 not_zero : (page : List ℕ) (block : Superblock) → take 64 page ≡ header_of block → is_zero page ≡ false
@@ -79,12 +101,17 @@ not_zero (b ∷ page) block is =
 pub superblock_in-header : (page : List ℕ) (block : Superblock) → take 64 page ≡ header_of block → FitsTypes block → superblock_in page ≡ block
 superblock_in-header page block is fits = cond-false (is_zero page) empty_store (fields_of page) (not_zero page block is) ∙ fields_of-header page block is fits
 
--- it begins with the magic
-magic-header : (page : List ℕ) (block : Superblock) → take 64 page ≡ header_of block → HasMagic page
+-- it begins with the magic of its version
+magic-header : (page : List ℕ) (block : Superblock) → take 64 page ≡ header_of block → take 8 page ≡ magic_of block.head.version
 unfolding header_of
 magic-header page block is = sym (take_take 8 64 page (omega arith)) ∙ ap (λ (l : List ℕ). take 8 l) is
 
 -- with the fields in their ranges and the spare bytes clear it is page 0 of a store
 pub store_page-header : (page : List ℕ) (block : Superblock) → take 64 page ≡ header_of block → FitsTypes block → has_clear_spare page ≡ true → IsInRange block → IsStorePage page
 store_page-header page block is fits spare range some =
-    (magic-header page block is, (subst IsInRange (sym (fields_of-header page block is fits)) range, spare))
+    (magic-header page block is ∙ ap magic_of range.version, (subst IsInRange (sym (fields_of-header page block is fits)) range, spare))
+
+-- and so it is of a store of version 1
+pub version1_page-header : (page : List ℕ) (block : Superblock) → take 64 page ≡ header_of block → FitsTypes block → has_clear_spare page ≡ true → block.head.version ≡ One → IsInRange (in_version2 block) → IsPageOfVersion1 page
+version1_page-header page block is fits spare one range some =
+    (magic-header page block is ∙ ap magic_of one, (subst (λ (b : Superblock). IsInRange (in_version2 b)) (sym (fields_of-header page block is fits)) range, spare))

@@ -20,7 +20,7 @@ use Rattle.buffer_pool.proofs.Tables.{same_key, other_key}
 use Rattle.page_store.specs.declared.superblock.Superblock.{Superblock}
 use Rattle.page_store.specs.Superblock.{superblock_in, IsInRange, IsStorePage}
 use Rattle.page_store.specs.Contents.{page_bytes, Overlay, page_in, IsSized, first_of, shown, counted_pages, contents_in, contents_of, HoldsOneOf}
-use Rattle.page_store.specs.Contents.{IsCommitted}
+use Rattle.page_store.specs.Contents.{IsCommitted, IsVersion1Page}
 use Rattle.page_store.specs.Held.{IsRecordOfTable}
 use Rattle.page_store.proofs.Bytes.{page_bytes-read, page_bytes-same}
 
@@ -169,29 +169,33 @@ page_0 whole area head ordered sized at_0 = page_bytes-with_batch whole area 0 o
 
 -- once the overlay's record is written the disk is as a commit leaves it
 pub committed_by : (whole : Ordered) (area : ℕ → ℕ) (block : Superblock) (head : List ℕ) (at : ℕ) (new : World) → IsOrdered nat_cmp whole → AreSized whole → ordered_page whole 0 ≡ Some head → superblock_in head ≡ block
-    → (IsInRange block → IsStorePage head) → IsReady at new → applied new.seen ≡ with_batch (batch_of (given whole.entries)) area → IsCommitted block at new
-committed_by whole area block head at new ordered sized at_0 law store ready written =
+    → (IsInRange block → IsStorePage head) → IsVersion1Page block head → IsReady at new → applied new.seen ≡ with_batch (batch_of (given whole.entries)) area → IsCommitted block at new
+committed_by whole area block head at new ordered sized at_0 law store old ready written =
     let page : page_bytes (applied new.seen) 0 ≡ head = ap (λ (p : ℕ → ℕ). page_bytes p 0) written ∙ page_0 whole area head ordered sized at_0 in
     record {
       ready = ready;
       head = ap superblock_in page ∙ law;
       page = λ range. subst IsStorePage (sym page) (store range);
+      version1 = subst (IsVersion1Page block) (sym page) old;
     }
 
 -- while room is made a crash leaves the contents from before
 pub room_leaves : (block last : Superblock) (at : ℕ) (overlay : Overlay) (old new : World) → IsCommitted last at old → LeavesOnly old new (LeavesPages (applied old.seen) old)
     → LeavesOnly old new (HoldsOneOf (contents_in (applied old.seen)) (contents_of (applied old.seen) overlay block) old)
-room_leaves block last at overlay old new committed leaves = within leaves (λ image said d. (
-  inl record { area = applied old.seen; stands = d.0; holds = refl; page = λ range. committed.page (subst IsInRange committed.head range) },
-  d.1,
-))
+room_leaves block last at overlay old new committed leaves =
+    let still = subst (λ (b : Superblock). IsVersion1Page b (page_bytes (applied old.seen) 0)) (sym committed.head) committed.version1 in
+    within leaves (λ image said d. (
+      inl record { area = applied old.seen; stands = d.0; holds = refl; page = λ range. committed.page (subst IsInRange committed.head range); version1 = still },
+      d.1,
+    ))
 
 -- and then, while the record is written, those from before or those of the overlay
 pub commit_leaves : (overlay : Overlay) (whole : Ordered) (block last : Superblock) (head : List ℕ) (at : ℕ) (old mid new : World) → IsOrdered nat_cmp whole → AreSized whole → ordered_page whole 0 ≡ Some head → superblock_in head ≡ block
-    → ((n : ℕ) → n ≢ 0 → ordered_page whole n ≡ page_in overlay n) → (IsInRange block → IsStorePage head)
+    → ((n : ℕ) → n ≢ 0 → ordered_page whole n ≡ page_in overlay n) → (IsInRange block → IsStorePage head) → IsVersion1Page block head
     → IsCommitted last at old → LeavesOnly old mid (LeavesPages (applied old.seen) old) → applied mid.seen ≡ applied old.seen → mid.said ≡ old.said → LeavesOnly mid new (IsBeforeOrAfter (batch_of (given whole.entries)) mid)
     → LeavesOnly old new (HoldsOneOf (contents_in (applied old.seen)) (contents_of (applied old.seen) overlay block) old)
-commit_leaves overlay whole block last head at old mid new ordered sized at_0 law others store committed room same quiet leaves =
+commit_leaves overlay whole block last head at old mid new ordered sized at_0 law others store fits committed room same quiet leaves =
+    let still = subst (λ (b : Superblock). IsVersion1Page b (page_bytes (applied old.seen) 0)) (sym committed.head) committed.version1 in
     let batch = batch_of (given whole.entries) in
     (then) (room_leaves block last at overlay old mid committed room) (within leaves (λ image said d. (
       ⊎_elim
@@ -200,12 +204,14 @@ commit_leaves overlay whole block last head at old mid new ordered sized at_0 la
             stands = subst (λ (p : ℕ → ℕ). StandsFor image p) same s;
             holds = refl;
             page = λ range. committed.page (subst IsInRange committed.head range);
+            version1 = still;
           })
           (λ (s : StandsFor image (with_batch batch (applied mid.seen))). inr record {
             area = with_batch batch (applied old.seen);
             stands = subst (λ (p : ℕ → ℕ). StandsFor image (with_batch batch p)) same s;
             holds = committed_contents overlay whole (applied old.seen) block head ordered sized at_0 law others;
             page = λ range. subst IsStorePage (sym (page_0 whole (applied old.seen) head ordered sized at_0)) (store range);
+            version1 = subst (IsVersion1Page block) (sym (page_0 whole (applied old.seen) head ordered sized at_0)) fits;
           })
           d.0,
       d.1 ∙ quiet,

@@ -7,7 +7,8 @@ use Rattle.page_face.specs.FreeList.{PageMap}
 use Rattle.buffer_pool.specs.Pages.{PageTable}
 use Rattle.page_journal.specs.Record.{StandsFor, IsReady, applied}
 use Rattle.page_store.specs.declared.superblock.Superblock.{Superblock}
-use Rattle.page_store.specs.Superblock.{superblock_in, IsInRange, IsStorePage}
+use Rattle.page_face.specs.declared.head.Version.TheVariants.{One}
+use Rattle.page_store.specs.Superblock.{superblock_in, in_version2, IsInRange, IsPageOfVersion1, IsStorePage}
 
 -- the 4,096 bytes of a page of the area Pages
 unfoldable pub page_bytes : (ℕ → ℕ) → ℕ → List ℕ
@@ -36,19 +37,25 @@ Overlay = PageTable
 abbrev pub shown : Bool → (ℕ → ℕ) → Overlay → PageMap
 shown readable area overlay n = first_of (page_in overlay n) (cond readable (page_bytes area n) [])
 
+-- where these fields are those of a store of version 1 in their ranges, this page 0 is one of such a store
+abbrev pub IsVersion1Page : Superblock → List ℕ → Type 0
+IsVersion1Page block page = block.head.version ≡ One → IsInRange (in_version2 block) → IsPageOfVersion1 page
+
 -- The disk is as a commit leaves it: nothing is pending, the next record of the journal begins here, and page 0 of the pages that the
 -- disk stands for has these fields.
 pub record IsCommitted (block : Superblock) (at : ℕ) (world : World) : Type 0 where
   pub ready : IsReady at world
   pub head : superblock_in (page_bytes (applied world.seen) 0) ≡ block
   pub page : IsInRange block → IsStorePage (page_bytes (applied world.seen) 0)
+  pub version1 : IsVersion1Page block (page_bytes (applied world.seen) 0)
 
--- The image stands for pages with these contents. Where page 0's fields are in their ranges, its page 0 is one of a store.
+-- The image stands for pages with these contents. Where page 0's fields are in their ranges, its page 0 is one of a store of their version.
 pub record HoldsContents (contents : Contents) (image : Image) : Type 0 where
   pub area : ℕ → ℕ
   pub stands : StandsFor image area
   pub holds : contents_in area ≡ contents
   pub page : IsInRange contents.block → IsStorePage (page_bytes area 0)
+  pub version1 : IsVersion1Page contents.block (page_bytes area 0)
 
 -- what an overlay holds over an area, with page 0's fields as they stand
 abbrev pub contents_of : (ℕ → ℕ) → Overlay → Superblock → Contents

@@ -11,7 +11,7 @@ use Rattle.page_store.specs.declared.superblock.HeadFault.{HeadFault}
 use Rattle.page_store.specs.declared.opening.OpenFault.{OpenFault}
 use Rattle.page_store.specs.declared.opening.OpenFault.TheVariants as faults
 use Rattle.page_store.specs.Store.{Rests}
-use Rattle.page_store.specs.Superblock.{IsStorePage, IsHeadFault}
+use Rattle.page_store.specs.Superblock.{IsStorePage, IsHeadFault, IsPageOfVersion1, IsFaultOfVersion1}
 use Rattle.page_store.specs.Contents.{page_bytes, IsCommitted}
 
 -- the read is of the journal, or of page 0
@@ -25,10 +25,29 @@ pub record SaysNothingReadsHead (old new : World) : Type 0 where
   pub reads : new.reads ≡ old.reads ++ more
   pub each : AllByRecursion IsOpeningRead more
 
+-- Page 0 was read behind a recovery: nothing is pending, the journal is at its beginning, the disk holds the pages that it held before, and
+-- this is page 0 of them.
+pub record IsFirstRead (page : List ℕ) (old new : World) : Type 0 where
+  pub ready : IsReady 0 new
+  pub stands : StandsFor old.seen (applied new.seen)
+  pub page_is : page ≡ page_bytes (applied new.seen) 0
+
+-- why page 0 can't be read behind a recovery: the disk failed, or the journal is bad
+abbrev pub IsFirstFault : OpenFault → Type 0
+IsFirstFault faults.Disk = Unit {0}
+IsFirstFault (faults.BadJournal at) = Unit {0}
+IsFirstFault _ = ⊥
+
 -- The store is open: the disk stands for the pages that it stood for before, and page 0 of them for this.
 pub record IsOpened (block : Superblock) (old new : World) : Type 0 where
   pub stands : StandsFor old.seen (applied new.seen)
   pub page : IsStorePage (page_bytes (applied new.seen) 0)
+  pub committed : IsCommitted block 0 new
+
+-- So is a store of version 1.
+pub record IsOpenedVersion1 (block : Superblock) (old new : World) : Type 0 where
+  pub stands : StandsFor old.seen (applied new.seen)
+  pub page : IsPageOfVersion1 (page_bytes (applied new.seen) 0)
   pub committed : IsCommitted block 0 new
 
 -- The journal was recovered: nothing is pending, the journal is at its beginning, and the disk holds the pages that it held before.
@@ -37,6 +56,12 @@ pub record IsRefused (fault : HeadFault) (old new : World) : Type 0 where
   pub ready : IsReady 0 new
   pub stands : StandsFor old.seen (applied new.seen)
   pub page : IsHeadFault fault (page_bytes (applied new.seen) 0)
+
+-- The journal was recovered as well, and page 0 is none of a store of version 1, for this cause.
+pub record IsRefusedVersion1 (fault : HeadFault) (old new : World) : Type 0 where
+  pub ready : IsReady 0 new
+  pub stands : StandsFor old.seen (applied new.seen)
+  pub page : IsFaultOfVersion1 fault (page_bytes (applied new.seen) 0)
 
 -- Of the journal only its first byte is changed, and if that is 0, no area is.
 pub record Recovers (old new : World) : Type 0 where
@@ -59,3 +84,9 @@ pub record IsNoStore (fault : HeadFault) (image : Image) : Type 0 where
   pub area : ℕ → ℕ
   pub stands : StandsFor image area
   pub page : IsHeadFault fault (page_bytes area 0)
+
+-- The image stands for pages whose page 0 is none of a store of version 1, for this cause.
+pub record IsNoStoreOfVersion1 (fault : HeadFault) (image : Image) : Type 0 where
+  pub area : ℕ → ℕ
+  pub stands : StandsFor image area
+  pub page : IsFaultOfVersion1 fault (page_bytes area 0)

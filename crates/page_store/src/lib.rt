@@ -24,6 +24,6 @@ mod store;
 mod superblock;
 
 pub use committing::JOURNAL_MAX;
-pub use opening::{OpenFault, recover_superblock};
+pub use opening::{OpenFault, recover_superblock, recover_version1};
 pub use store::Store;
 pub use superblock::Superblock;

@@ -11,14 +11,15 @@ ghost use Rattle.buffer_pool.specs.Rooms.{room_page};
 ghost use Rattle.buffer_pool.specs.declared.place.Place.TheVariants as places;
 ghost use Rattle.page_store.specs.Contents.{IsCommitted};
 ghost use Rattle.page_store.specs.Held.{AreCached, AreImages, AreKept};
-ghost use Rattle.page_store.specs.Opening.{IsOpened, IsNoStore, Recovers, SaysNothingReadsHead, head_damage};
+ghost use Rattle.page_store.specs.Opening.{IsOpened, IsOpenedVersion1, IsNoStore, IsNoStoreOfVersion1, Recovers, SaysNothingReadsHead, head_damage};
+ghost use Rattle.page_store.specs.Superblock.{IsInRange, in_version2};
 
-use crate::opening::{OpenFault, recover_superblock};
+use crate::opening::{OpenFault, recover_superblock, recover_version1};
 use crate::superblock::Superblock;
 use buffer_pool::{Hints, PageTable, Place, Seals};
 use disk_model::{Disk, Failed, Station};
 use page_cache::Cache;
-use page_face::{Damage, Head, Page, PageFault};
+use page_face::{Damage, Head, Page, PageFault, Version};
 use std::alloc::Global;
 use std::collections::BTreeMap;
 
@@ -116,12 +117,49 @@ impl<'d, D: Disk> Store<'d, D> {
         // The cache may hold as many pages as `cache`, or none if memory ran out for it.
         ensures cache_room { IfOk result (λ store. (room_of store.cache ≡ cache) ⊎ (room_of store.cache ≡ 0)) }
         ensures not_a_store { IsTrue D.readable → IsErrOf result OpenFault.NotAStore → IsNoStore heads.NotAStore (D.world disk.old).seen }
+        ensures version1 { IsTrue D.readable → IsErrOf result OpenFault.Version1 → IsNoStore heads.Version1 (D.world disk.old).seen }
         ensures damaged { (damage : Damage) → IsErrOf result (OpenFault.Damaged damage)
             → (damage ≡ head_damage) × (IsTrue D.readable → IsNoStore heads.Broken (D.world disk.old).seen) }
         ensures bad { IsTrue D.readable → (at : ℕ) → IsErrOf result (OpenFault.BadJournal at) → IsBad (D.world disk.old).seen at }
         ensures memory { result ≢ Err OpenFault.Memory }
     {
         let block = recover_superblock(&mut *disk)?;
+        Ok(Store::over(alloc, disk, block, cache))
+    }
+
+    /// Opens a store of version 1, as [`Store::open`] opens one of version 2. Its head says that it is of version 1; the next commit
+    /// writes page 0 with the magic of the head's version.
+    ///
+    /// Refuses as [`recover_version1`] does, and costs as much.
+    pub fn open_version1(
+        alloc: Global,
+        disk: &'d mut D,
+        cache: u32,
+    ) -> Result<Store<'d, D>, OpenFault>
+        ensures same_loan { IfOk result (λ store. store.disk.ghost_name ≡ disk.entry.ghost_name) }
+
+        // A crash at any moment leaves what a crash could leave as the call began, or an image that holds the same pages.
+        ensures any_moment { IsTrue D.readable → IfOk result (λ store. LeavesOnly (D.world disk.old) (D.world store.disk.now) (StandsAlike (D.world disk.old))) }
+        ensures quiet { IsTrue D.readable → IfOk result (λ store. SaysNothingReadsHead (D.world disk.old) (D.world store.disk.now)) }
+        ensures stays { IfOk result (λ store. (D.world store.disk.now).faults ≡ (D.world disk.old).faults) }
+        ensures sink { IfOk result (λ store. (D.world store.disk.now).sink_faults ≡ (D.world disk.old).sink_faults) }
+        ensures room { IfOk result (λ store. D.room_of store.disk.now ≡ D.room_of disk.old) }
+
+        ensures opened { IsTrue D.readable → IfOk result (λ store. IsOpenedVersion1 store.last (D.world disk.old) (D.world store.disk.now)) }
+        ensures in_range { IfOk result (λ store. IsInRange (in_version2 store.last)) }
+        ensures recovers { IsTrue D.readable → IfOk result (λ store. Recovers (D.world disk.old) (D.world store.disk.now)) }
+        ensures clean { IfOk result (λ store. (store.overlay.entries ≡ []) × (store.current ≡ store.last)) }
+        ensures fresh { IfOk result (λ store. (store.asked.items ≡ []) × (store.refused ≡ 0) × (store.stopped ≡ false)) }
+        ensures allowed { IfOk result (λ store. store.takes_left ≡ 2 ^ 64 - 1) }
+        ensures cache_room { IfOk result (λ store. (room_of store.cache ≡ cache) ⊎ (room_of store.cache ≡ 0)) }
+        ensures not_a_store { IsTrue D.readable → IsErrOf result OpenFault.NotAStore → IsNoStoreOfVersion1 heads.NotAStore (D.world disk.old).seen }
+        ensures damaged { (damage : Damage) → IsErrOf result (OpenFault.Damaged damage)
+            → (damage ≡ head_damage) × (IsTrue D.readable → IsNoStoreOfVersion1 heads.Broken (D.world disk.old).seen) }
+        ensures bad { IsTrue D.readable → (at : ℕ) → IsErrOf result (OpenFault.BadJournal at) → IsBad (D.world disk.old).seen at }
+        ensures version1 { result ≢ Err OpenFault.Version1 }
+        ensures memory { result ≢ Err OpenFault.Memory }
+    {
+        let block = recover_version1(&mut *disk)?;
         Ok(Store::over(alloc, disk, block, cache))
     }
 
@@ -209,6 +247,21 @@ impl<'d, D: Disk> Store<'d, D> {
         ensures stopped { self.new.stopped ≡ self.old.stopped }
     {
         self.current.head = *head;
+    }
+
+    /// Makes the head one of version 2. The next commit writes page 0 with the magic of version 2.
+    pub fn set_version2(&mut self)
+        ensures current { self.new.current ≡ in_version2 self.old.current }
+        ensures last { self.new.last ≡ self.old.last }
+        ensures overlay { self.new.overlay ≡ self.old.overlay }
+        ensures journal { self.new.journal ≡ self.old.journal }
+        ensures disk { self.new.disk ≡ self.old.disk }
+        ensures log { self.new.asked.items ≡ self.old.asked.items }
+        ensures refused { self.new.refused ≡ self.old.refused }
+        ensures takes { self.new.takes_left ≡ self.old.takes_left }
+        ensures stopped { self.new.stopped ≡ self.old.stopped }
+    {
+        self.current.head.version = Version::Two;
     }
 
     /// The pages given to `read` and `look` since `clear_log`, the last one last.

@@ -2,7 +2,7 @@
 //!
 //! | Bytes | Field |
 //! |---|---|
-//! | 0 to 7 | magic `IRTREE01` |
+//! | 0 to 7 | magic `IRTREE02`, in a store of version 1 `IRTREE01` |
 //! | 8 to 11 | pages counted, page 0 included, u32, at least 1 |
 //! | 12 to 15 | first free page, u32, 0 for none |
 //! | 16 to 35 | roots of the place map, the words by text, the words by number, the rows' map and the tree, u32 each |
@@ -13,13 +13,17 @@
 //! | 64 to 4095 | spare, zero |
 //!
 //! All numbers are big-endian. The first free page and the roots are below the pages counted. A page of zeros is the empty store.
+//! A page that begins with `IRTREE01` is that of a store of version 1, whose rows are others.
 ghost use Rattle.std.specs.Prelude.{◌≡◌, ◌≤◌, ◌<◌, ◌+◌, ◌^◌, ◌++◌, ◌↔◌, true, IsTrue, take, drop, IfOk, MatchResult};
 ghost use Rattle.std.specs.Int.{to_be_bytes, w32, w64};
-ghost use Rattle.page_store.specs.Superblock.{IsInRange, HasMagic, IsStorePage, IsHeadFault, empty_store, superblock_in, fields_of, header_of, magic, word_at as number_at, long_at as long_number_at, is_zero as are_zero, has_clear_spare};
+ghost use Rattle.page_store.specs.Contents.{IsVersion1Page};
+ghost use Rattle.page_store.specs.Superblock.{IsInRange, HasMagic, HasMagicOfVersion1, IsStorePage, IsHeadFault, IsPageOfVersion1, IsFaultOfVersion1, empty_store, superblock_in, fields_of, header_of, in_version2, magic_of, version_in, word_at as number_at, long_at as long_number_at, is_zero as are_zero, has_clear_spare};
 
-use page_face::{Head, Page};
+use page_face::{Head, Page, Version};
 
-const MAGIC: [u8; 8] = *b"IRTREE01";
+const MAGIC: [u8; 8] = *b"IRTREE02";
+
+const MAGIC_OF_VERSION1: [u8; 8] = *b"IRTREE01";
 
 /// The greatest update number.
 const NUMBER_MAX: u64 = 1 << 40;
@@ -38,8 +42,10 @@ pub struct Superblock {
 /// Why page 0 isn't that of a store.
 #[derive(Clone, Copy, Debug, PartialEq, Eq)]
 pub(crate) enum HeadFault {
-    // It isn't all zero and doesn't begin with the magic.
+    // It isn't all zero, and begins with neither magic.
     NotAStore,
+    // It begins with the magic of version 1.
+    Version1,
     // It begins with the magic, and a field or a spare byte breaks the rule Head.
     Broken,
 }
@@ -91,13 +97,16 @@ fn put_long(page: &mut Page, at: usize, n: u64)
     page[at..at + 8].copy_from_slice(&n.to_be_bytes());
 }
 
-// A page with the magic, and zeros after it.
-fn blank() -> Page
-    ensures magic { take 8 result ≡ magic }
+// A page with the magic of a version, and zeros after it.
+fn blank(version: Version) -> Page
+    ensures magic { take 8 result ≡ magic_of version }
     ensures spare { has_clear_spare result ≡ true }
 {
     let mut page = [0; 4096];
-    page[..8].copy_from_slice(&MAGIC);
+    match version {
+        Version::One => page[..8].copy_from_slice(&MAGIC_OF_VERSION1),
+        Version::Two => page[..8].copy_from_slice(&MAGIC),
+    }
     page
 }
 
@@ -113,6 +122,23 @@ fn has_magic(page: &Page) -> bool
     page[..8] == MAGIC[..]
 }
 
+fn has_magic_of_version1(page: &Page) -> bool
+    ensures { IsTrue result ↔ HasMagicOfVersion1 page.now }
+{
+    page[..8] == MAGIC_OF_VERSION1[..]
+}
+
+// The version that page 0 names in its eighth byte.
+fn version_of(page: &Page) -> Version
+    ensures { result ≡ version_in page.now }
+{
+    if page[7] == b'1' {
+        Version::One
+    } else {
+        Version::Two
+    }
+}
+
 impl Superblock {
     /// The superblock of the empty store: only page 0 is counted.
     pub(crate) fn empty() -> Superblock
@@ -122,6 +148,7 @@ impl Superblock {
             counted: 1,
             first_free: 0,
             head: Head {
+                version: Version::Two,
                 places: 0,
                 texts: 0,
                 numbers: 0,
@@ -135,7 +162,7 @@ impl Superblock {
         }
     }
 
-    // The fields after the magic.
+    // The version, and the fields after the magic.
     fn fields(page: &Page) -> Superblock
         ensures { result ≡ fields_of page.now }
     {
@@ -143,6 +170,7 @@ impl Superblock {
             counted: word_at(page, 8),
             first_free: word_at(page, 12),
             head: Head {
+                version: version_of(page),
                 places: word_at(page, 16),
                 texts: word_at(page, 20),
                 numbers: word_at(page, 24),
@@ -156,11 +184,12 @@ impl Superblock {
         }
     }
 
-    // Whether each field is in its range.
+    // Whether each field is in its range, in a store of version 2.
     fn is_in_range(&self) -> bool
         ensures { IsTrue result ↔ IsInRange self.now }
     {
         let Head {
+            version,
             places,
             texts,
             numbers,
@@ -172,7 +201,8 @@ impl Superblock {
             next_word,
         } = self.head;
         let is_counted = |page: u32| page < self.counted;
-        is_counted(self.first_free)
+        version == Version::Two
+            && is_counted(self.first_free)
             && is_counted(places)
             && is_counted(texts)
             && is_counted(numbers)
@@ -193,11 +223,48 @@ impl Superblock {
         if is_zero(page) {
             return Ok(Superblock::empty());
         }
+        if has_magic_of_version1(page) {
+            return Err(HeadFault::Version1);
+        }
         if !has_magic(page) {
             return Err(HeadFault::NotAStore);
         }
         let block = Superblock::fields(page);
         if !block.is_in_range() {
+            return Err(HeadFault::Broken);
+        }
+        if !is_zero(&page[64..]) {
+            return Err(HeadFault::Broken);
+        }
+        Ok(block)
+    }
+
+    // The same fields in version 2.
+    fn in_version2(&self) -> Superblock
+        ensures { result ≡ in_version2 self.now }
+    {
+        Superblock {
+            head: Head {
+                version: Version::Two,
+                ..self.head
+            },
+            ..*self
+        }
+    }
+
+    /// Reads the superblock from page 0 of a store of version 1, or returns why it isn't that of one.
+    pub(crate) fn decode_version1(page: &Page) -> Result<Superblock, HeadFault>
+        ensures in_range { IfOk result (λ block. IsInRange (in_version2 block)) }
+        ensures exact { MatchResult result (λ block. IsPageOfVersion1 page.now × (block ≡ superblock_in page.now)) (λ fault. IsFaultOfVersion1 fault page.now) }
+    {
+        if is_zero(page) {
+            return Ok(Superblock::empty());
+        }
+        if !has_magic_of_version1(page) {
+            return Err(HeadFault::NotAStore);
+        }
+        let block = Superblock::fields(page);
+        if !block.in_version2().is_in_range() {
             return Err(HeadFault::Broken);
         }
         if !is_zero(&page[64..]) {
@@ -212,8 +279,9 @@ impl Superblock {
         ensures spare { has_clear_spare result ≡ true }
         ensures block { superblock_in result ≡ self.now }
         ensures store { IsInRange self.now → IsStorePage result }
+        ensures version1 { IsVersion1Page self.now result }
     {
-        let mut page = blank();
+        let mut page = blank(self.head.version);
         put_word(&mut page, 8, self.counted);
         put_word(&mut page, 12, self.first_free);
         put_word(&mut page, 16, self.head.places);

@@ -58,7 +58,7 @@ fn put(pages: &mut MemoryPages, bytes: &Page) -> Result<u32, PageFault> {
 // The three tables with a row each.
 fn tables(pages: &mut MemoryPages, place: &[u8]) -> Result<Tables, PageFault> {
     Ok(Tables {
-        places: put(pages, &leaf(1, &KEY, place, &[]))?,
+        places: put(pages, &leaf(5, &KEY, place, &[]))?,
         texts: put(pages, &leaf(2, &CAFE, &SEVEN, &[]))?,
         numbers: put(pages, &leaf(3, &SEVEN, &CAFE, &ONE_PLACE))?,
         next_word: 8,

@@ -9,7 +9,7 @@ use place_values::{NUMBER_MAX, Place};
 use spatial_base::{Key, Memory, Point};
 use std::alloc::Global;
 use std::collections::BTreeMap;
-use term_impacts::Words;
+use term_impacts::{Label, Words};
 
 // Whether a state may have this next serial and this update number.
 fn are_numbers(serial: u64, number: u64) -> bool
@@ -29,21 +29,25 @@ fn is_given(serial: u64, key: &Key) -> bool
 }
 
 // Whether each key is before the next.
-fn are_ascending(places: &[(Key, Point, Words)]) -> bool
+fn are_ascending(places: &[(Key, Point, Words, Label)]) -> bool
     ensures { IsTrue result ↔ IsStrictlySortedBy key_cmp (keys_in places.now) }
 {
     places.is_sorted_by(|place, next| place.0.cmp(&next.0).is_lt())
 }
 
 // Whether the serial is above each automatic key.
-fn are_given(serial: u64, places: &[(Key, Point, Words)]) -> bool
+fn are_given(serial: u64, places: &[(Key, Point, Words, Label)]) -> bool
     ensures { IsTrue result ↔ All (λ row. IsSerialAbove serial row.0) places.now }
 {
     places.iter().all(|place| is_given(serial, &place.0))
 }
 
 /// Whether a state may have these places, this next serial and this update number.
-pub(crate) fn are_state_places(serial: u64, number: u64, places: &[(Key, Point, Words)]) -> bool
+pub(crate) fn are_state_places(
+    serial: u64,
+    number: u64,
+    places: &[(Key, Point, Words, Label)],
+) -> bool
     ensures { IsTrue result ↔ AreStatePlaces places.now serial number }
 {
     are_numbers(serial, number) && are_ascending(places) && are_given(serial, places)
@@ -60,14 +64,22 @@ fn put(map: &mut BTreeMap<Key, Place>, key: Key, place: Place) -> Result<(), Mem
 /// Returns the map of places whose keys ascend.
 pub(crate) fn map_of(
     alloc: Global,
-    places: Vec<(Key, Point, Words)>,
+    places: Vec<(Key, Point, Words, Label)>,
 ) -> Result<BTreeMap<Key, Place>, Memory>
     requires { IsStrictlySortedBy key_cmp (keys_in places.items) }
     ensures { IfOk result (λ map. map.entries ≡ places_in places.items) }
 {
     let mut map = BTreeMap::new(alloc);
-    for (key, point, words) in places {
-        put(&mut map, key, Place { point, words })?;
+    for (key, point, words, label) in places {
+        put(
+            &mut map,
+            key,
+            Place {
+                point,
+                words,
+                label,
+            },
+        )?;
     }
     Ok(map)
 }

@@ -22,7 +22,7 @@ use spatial_base::{Key, Memory, Origin, Point};
 use std::alloc::Global;
 use std::collections::BTreeMap;
 use std::marker::Model;
-use term_impacts::Words;
+use term_impacts::{Label, Words};
 
 /// The live places by key, the next serial and the update number.
 ///
@@ -82,7 +82,7 @@ impl State {
         alloc: Global,
         serial: u64,
         number: u64,
-        places: Vec<(Key, Point, Words)>,
+        places: Vec<(Key, Point, Words, Label)>,
     ) -> Result<Option<State>, Memory>
         requires { length places.items < 2 ^ 32 }
         ensures same { IfOk result (λ made. IfSome made (λ state. state ≡ record { places = places_in places.items; serial = serial; number = number })) }
@@ -115,11 +115,11 @@ impl State {
         self.number
     }
 
-    /// Changes the map by one update. It looks the key up once, or twice if 200,000 places are live.
+    /// Changes the map by one update. It looks the key up once, or twice if 1,000,000 places are live.
     ///
     /// The key of a `Put` is a text key or `None`: only the state gives automatic keys.
     ///
-    /// Refuses with `Full` exactly if 200,000 or more places are live and the key is new. Otherwise refuses with `Worn` exactly if the
+    /// Refuses with `Full` exactly if 1,000,000 or more places are live and the key is new. Otherwise refuses with `Worn` exactly if the
     /// update number is 2^40 and the update would change the map. `Memory` may come in place of any result. After a refusal the state
     /// is as before.
     pub fn apply(&mut self, update: Update) -> Result<Applied, UpdateFault>
@@ -127,9 +127,22 @@ impl State {
         ensures { Gives self.old (effect_of self.old update) self.new result }
     {
         match update {
-            Update::Put { key, point, words } => {
+            Update::Put {
+                key,
+                point,
+                words,
+                label,
+            } => {
                 let (key, serial) = self.named(key);
-                self.put(key, serial, Place { point, words })
+                self.put(
+                    key,
+                    serial,
+                    Place {
+                        point,
+                        words,
+                        label,
+                    },
+                )
             }
             Update::Remove { key } => self.remove(&key),
         }
@@ -192,11 +205,11 @@ impl State {
     }
 
     /// Returns the place at a key, or `None` if there is none.
-    pub fn show(&self, key: &Key) -> Option<(Point, &Words)>
+    pub fn show(&self, key: &Key) -> Option<(Point, &Words, Label)>
         ensures { shown result ≡ place_at key.now self.now.places }
     {
         let place = self.places.get(key)?;
-        Some((place.point, &place.words))
+        Some((place.point, &place.words, place.label))
     }
 
     /// Returns the answer to a query, by a scan of all live places.

@@ -5,9 +5,9 @@ use Rattle.spatial_base.specs.Key.{Name, key_cmp}
 use Rattle.spatial_base.specs.Point.{Position}
 use Rattle.place_values.specs.State.{AreNumbers, IsSerialAbove, Places}
 
--- keys, where they are, and their words
+-- keys, where they are, their words and their labels
 abbrev pub Rows : Type 0
-Rows = List (Name × Position × List (List ℕ × ℕ))
+Rows = List (Name × Position × List (List ℕ × ℕ) × List ℕ)
 
 -- their keys
 abbrev pub keys_in : Rows → List Name
@@ -15,7 +15,7 @@ keys_in rows = map (λ row. row.0) rows
 
 -- them as places by key
 abbrev pub places_in : Rows → Places
-places_in rows = map (λ row. (row.0, record { point = row.1; words = row.2 })) rows
+places_in rows = map (λ row. (row.0, record { point = row.1; words = row.2; label = row.3 })) rows
 
 -- a state may have these places, with this next serial and update number
 pub record AreStatePlaces (rows : Rows) (serial number : ℕ) : Type 0 where

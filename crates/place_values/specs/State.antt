@@ -50,7 +50,7 @@ with_place key place places = insert_entry key_cmp places key place
 abbrev pub without_place : Name → Places → Places
 without_place key places = remove_entry (is_at (key_cmp key)) places
 
--- a point and words that are lent, as a place
-abbrev pub shown : Option (Position × Bor (List (List ℕ × ℕ))) → Option Place
-shown (Some lent) = Some record { point = lent.0; words = lent.1.now }
+-- a point, words that are lent, and a label, as a place
+abbrev pub shown : Option (Position × Bor (List (List ℕ × ℕ)) × List ℕ) → Option Place
+shown (Some lent) = Some record { point = lent.0; words = lent.1.now; label = lent.2 }
 shown None = None

@@ -12,9 +12,9 @@ use Rattle.place_values.specs.State.{Contents, place_at, with_place, without_pla
 
 -- a key that a Put names is a text key
 abbrev pub NamesText : Update → Type 0
-NamesText (Put (Some (Text bytes)) point words) = Unit {0}
-NamesText (Put (Some (Auto serial)) point words) = ⊥
-NamesText (Put None point words) = Unit {0}
+NamesText (Put (Some (Text bytes)) point words label) = Unit {0}
+NamesText (Put (Some (Auto serial)) point words label) = ⊥
+NamesText (Put None point words label) = Unit {0}
 NamesText (Remove key) = Unit {0}
 
 -- the state after an update, and what it answered
@@ -26,11 +26,11 @@ pub record Effect : Type 0 where
 abbrev pub refuses : Contents → UpdateFault → Effect
 refuses state fault = record { state = state; answer = Err fault }
 
--- a place is put at a key: full where the key is new and 200,000 places live, worn at update number 2^40
+-- a place is put at a key: full where the key is new and 1,000,000 places live, worn at update number 2^40
 abbrev pub put_at : Contents → Name → ℕ → Place → Effect
 put_at state key serial place =
     let lived = is_some (place_at key state.places) in
-    if nat_le 200000 (length state.places) && is_none (place_at key state.places)
+    if nat_le 1000000 (length state.places) && is_none (place_at key state.places)
     then refuses state Full
     else if state.number == 2 ^ 40
     then refuses state Worn
@@ -63,7 +63,7 @@ removed_at state key =
 
 -- what each kind of update does
 abbrev pub effect_of : Contents → Update → Effect
-effect_of state (Put key point words) = put_at state (key_for state key) (serial_after state key) record { point = point; words = words }
+effect_of state (Put key point words label) = put_at state (key_for state key) (serial_after state key) record { point = point; words = words; label = label }
 effect_of state (Remove key) = removed_at state key
 
 -- a call left and answered the effect; after want of memory nothing has changed

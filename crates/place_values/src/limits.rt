@@ -12,7 +12,7 @@ use spatial_base::SCALE_MAX;
 use term_impacts::Word;
 
 /// At this many live places or more, a new key is refused.
-pub const PLACES_MAX: usize = 200_000;
+pub const PLACES_MAX: usize = 1_000_000;
 
 /// The update number at which no further change is accepted.
 pub const NUMBER_MAX: u64 = 1 << 40;

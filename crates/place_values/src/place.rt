@@ -4,15 +4,17 @@ ghost use Rattle.place_values.specs.Filter.{has_word, holds, passes};
 
 use crate::Expr;
 use spatial_base::Point;
-use term_impacts::{Word, Words};
+use term_impacts::{Label, Word, Words};
 
-/// A place: its position, and the impact of each of its words.
+/// A place: its position, the impact of each of its words, and its label.
 #[derive(Drop)]
 pub struct Place {
     /// The position of the place.
     pub point: Point,
     /// The impact of each of its words.
     pub words: Words,
+    /// Its label: the first line of its text, of at most 63 bytes.
+    pub label: Label,
 }
 
 impl Place {

@@ -1,7 +1,7 @@
 // Updates and their results.
 use spatial_base::{Key, Point};
 use std::alloc::AllocFailed;
-use term_impacts::Words;
+use term_impacts::{Label, Words};
 
 /// A change to the map.
 #[derive(Drop)]
@@ -14,6 +14,8 @@ pub enum Update {
         point: Point,
         /// The impact of each of its words.
         words: Words,
+        /// Its label.
+        label: Label,
     },
     /// Removes a key and its place from the map.
     Remove {
@@ -38,7 +40,7 @@ pub enum Applied {
 /// Why an update was refused.
 #[derive(Clone, Copy, Debug, PartialEq, Eq)]
 pub enum UpdateFault {
-    /// 200,000 or more places are live, and the key is new.
+    /// 1,000,000 or more places are live, and the key is new.
     Full = 1,
     /// The update number is 2^40, and the update would change the map.
     Worn = 2,

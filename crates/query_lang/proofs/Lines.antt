@@ -38,23 +38,23 @@ made None x U fault result is same exact holds = absurd (false≢true (exact.1 h
 same_key : (x y : Name) → ◌≡◌ {A = Result Name LineFault} (Ok x) (Ok y) → x ≡ y
 same_key x y e = cc e
 
-text_sound : (point : Position) (words : List (List ℕ × ℕ)) (bytes : List ℕ) (key : Name) (answer : Bool) → ◌≡◌ {A = Result Name LineFault} (cond answer (Ok (Text bytes)) (Err faults.Key)) (Ok key)
-    → IsSound (lines.Do (updates.Put (Some key) point words))
-text_sound point words bytes key true e = subst (λ (k : Name). IsSound (lines.Do (updates.Put (Some k) point words))) (same_key (Text bytes) key e) tt
-text_sound point words bytes key false e = absurd (cc e)
+text_sound : (point : Position) (words : List (List ℕ × ℕ)) (label : List ℕ) (bytes : List ℕ) (key : Name) (answer : Bool) → ◌≡◌ {A = Result Name LineFault} (cond answer (Ok (Text bytes)) (Err faults.Key)) (Ok key)
+    → IsSound (lines.Do (updates.Put (Some key) point words label))
+text_sound point words label bytes key true e = subst (λ (k : Name). IsSound (lines.Do (updates.Put (Some k) point words label))) (same_key (Text bytes) key e) tt
+text_sound point words label bytes key false e = absurd (cc e)
 
-bare_sound : (point : Position) (words : List (List ℕ × ℕ)) (byte : ℕ) (bytes : List ℕ) (key : Name) (answer : Bool) → ◌≡◌ {A = Result Name LineFault} (cond answer (Err faults.Key) (text_key (byte ∷ bytes))) (Ok key)
-    → IsSound (lines.Do (updates.Put (Some key) point words))
-bare_sound point words byte bytes key true e = absurd (cc e)
-bare_sound point words byte bytes key false e = text_sound point words (byte ∷ bytes) key (nat_le 1 (length (byte ∷ bytes)) && nat_le (length (byte ∷ bytes)) 64) e
+bare_sound : (point : Position) (words : List (List ℕ × ℕ)) (label : List ℕ) (byte : ℕ) (bytes : List ℕ) (key : Name) (answer : Bool) → ◌≡◌ {A = Result Name LineFault} (cond answer (Err faults.Key) (text_key (byte ∷ bytes))) (Ok key)
+    → IsSound (lines.Do (updates.Put (Some key) point words label))
+bare_sound point words label byte bytes key true e = absurd (cc e)
+bare_sound point words label byte bytes key false e = text_sound point words label (byte ∷ bytes) key (nat_le 1 (length (byte ∷ bytes)) && nat_le (length (byte ∷ bytes)) 64) e
 
-pub add_sound : (point : Position) (words : List (List ℕ × ℕ)) (token : Token) (key : Name) → key_of false token ≡ Ok key → IsSound (lines.Do (updates.Put (Some key) point words))
-add_sound point words (Bare []) key e = absurd (cc e)
-add_sound point words (Bare (byte ∷ bytes)) key e = bare_sound point words byte bytes key (byte == 35) e
-add_sound point words (Quoted bytes) key e = text_sound point words bytes key (nat_le 1 (length bytes) && nat_le (length bytes) 64) e
-add_sound point words Open key e = absurd (cc e)
-add_sound point words Close key e = absurd (cc e)
-add_sound point words Broken key e = absurd (cc e)
+pub add_sound : (point : Position) (words : List (List ℕ × ℕ)) (label : List ℕ) (token : Token) (key : Name) → key_of false token ≡ Ok key → IsSound (lines.Do (updates.Put (Some key) point words label))
+add_sound point words label (Bare []) key e = absurd (cc e)
+add_sound point words label (Bare (byte ∷ bytes)) key e = bare_sound point words label byte bytes key (byte == 35) e
+add_sound point words label (Quoted bytes) key e = text_sound point words label bytes key (nat_le 1 (length bytes) && nat_le (length bytes) 64) e
+add_sound point words label Open key e = absurd (cc e)
+add_sound point words label Close key e = absurd (cc e)
+add_sound point words label Broken key e = absurd (cc e)
 
 pub same_bounds : (x y : Bounds) → ◌≡◌ {A = Result Bounds LineFault} (Ok x) (Ok y) → x ≡ y
 same_bounds x y e = cc e

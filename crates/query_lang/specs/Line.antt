@@ -5,6 +5,7 @@ use Rattle.std.specs.Str.{bytes_eq, is_utf8}
 use Rattle.spatial_base.specs.Point.{Position}
 use Rattle.spatial_base.specs.Rect.{Bounds}
 use Rattle.term_impacts.specs.Impacts.{word_impacts}
+use Rattle.term_impacts.specs.Label.{label_of}
 use Rattle.place_values.specs.declared.update.Update.TheVariants as updates
 use Rattle.place_values.specs.declared.query.Expr.{Expr}
 use Rattle.place_values.specs.declared.query.Query.{Query}
@@ -144,7 +145,7 @@ unfoldable pub add_line : List ℕ → Result Line LineFault
 add_line = do
   key ← part (key_of false)
   at ← point_part
-  λ text. Ok (lines.Do (updates.Put (Some key) at (word_impacts (after_blanks text))))
+  λ text. Ok (lines.Do (updates.Put (Some key) at (word_impacts (after_blanks text)) (label_of (after_blanks text))))
 
 -- KEY
 abbrev pub remove_line : List ℕ → Result Line LineFault

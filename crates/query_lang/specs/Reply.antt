@@ -29,7 +29,7 @@ update_reply (Err faults.Memory) = replies.Nothing
 -- the reply that shows a place, where there is one
 abbrev pub show_reply : Name → Option Place → Reply
 show_reply key None = replies.Absent
-show_reply key (Some place) = replies.Place key place.point place.words
+show_reply key (Some place) = replies.Place key place.point place.words place.label
 
 -- the reply to a line, or to what is no line
 unfoldable pub reply_of : Contents → Result Line LineFault → Reply

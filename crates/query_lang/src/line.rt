@@ -14,7 +14,7 @@ use place_values::{Query, Update};
 use query_replies::LineFault;
 use spatial_base::Key;
 use std::alloc::Global;
-use term_impacts::impacts;
+use term_impacts::{Label, impacts};
 
 /// The most bytes that a line has, without its LF.
 pub const LINE_MAX: usize = 65_536;
@@ -47,15 +47,17 @@ fn add(alloc: Global, text: &str) -> Result<Line, LineFault>
 {
     let (token, text) = next(alloc, text)?;
     let key = key(&token, false)?;
-    let (point, text) = match point_part(alloc, text) {
+    let (point, behind) = match point_part(alloc, text) {
         Ok(read) => read,
         Err(fault) => return Err(fault),
     };
-    let words = impacts(alloc, after_blanks(text)).map_err(|_| LineFault::Memory)?;
+    let text = after_blanks(behind);
+    let words = impacts(alloc, text).map_err(|_| LineFault::Memory)?;
     Ok(Line::Do(Update::Put {
         key: Some(key),
         point,
         words,
+        label: Label::of_text(text),
     }))
 }
 

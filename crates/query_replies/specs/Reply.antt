@@ -22,14 +22,14 @@ done_text done.Absent = codes "absent\n"
 abbrev pub word_line : List ℕ × ℕ → List ℕ
 word_line pair = quoted pair.0 ++ (32 ∷ (decimal pair.1 ++ 10 ∷ []))
 
--- how many words there are, and a line for each
-abbrev pub impacts_text : List (List ℕ × ℕ) → List ℕ
-impacts_text words = decimal (length words) ++ (10 ∷ flat_map word_line words)
+-- `N LABEL`, the label as a JSON string literal, and a line for each of the N words
+abbrev pub labelled_text : List (List ℕ × ℕ) → List ℕ → List ℕ
+labelled_text words label = decimal (length words) ++ (32 ∷ (quoted label ++ (10 ∷ flat_map word_line words)))
 
--- `place KEY LON LAT N`, and a line for each word
-abbrev pub place_text : Name → Position → List (List ℕ × ℕ) → List ℕ
-place_text key point words =
-    codes "place " ++ (key_text key ++ (32 ∷ (point_text point ++ (32 ∷ impacts_text words))))
+-- `place KEY LON LAT N LABEL`, and a line for each word
+abbrev pub place_text : Name → Position → List (List ℕ × ℕ) → List ℕ → List ℕ
+place_text key point words label =
+    codes "place " ++ (key_text key ++ (32 ∷ (point_text point ++ (32 ∷ labelled_text words label))))
 
 -- what a reply writes
 unfoldable pub text_of_reply : Reply → List ℕ
@@ -39,7 +39,7 @@ text_of_reply Full = codes "full\n"
 text_of_reply Worn = codes "worn\n"
 text_of_reply (Bad fault) = codes "bad " ++ (reason_text fault ++ 10 ∷ [])
 text_of_reply (Found answer query explain) = found_text explain query answer
-text_of_reply (Place key point words) = place_text key point words
+text_of_reply (Place key point words label) = place_text key point words label
 text_of_reply Absent = codes "absent\n"
 text_of_reply (Count n) = codes "count " ++ (decimal n ++ 10 ∷ [])
 
@@ -51,6 +51,6 @@ HasReason Full = Unit {0}
 HasReason Worn = Unit {0}
 HasReason (Bad fault) = fault ≢ faults.Memory
 HasReason (Found answer query explain) = Unit {0}
-HasReason (Place key point words) = Unit {0}
+HasReason (Place key point words label) = Unit {0}
 HasReason Absent = Unit {0}
 HasReason (Count n) = Unit {0}

@@ -1,16 +1,16 @@
 //! Replies and their text.
 ghost use Rattle.std.specs.Prelude.{◌≡◌, ◌++◌, OnOk, OnErr};
-ghost use Rattle.query_replies.specs.Reply.{done_text, impacts_text, place_text, text_of_reply, HasReason};
+ghost use Rattle.query_replies.specs.Reply.{done_text, labelled_text, place_text, text_of_reply, HasReason};
 ghost use Rattle.query_replies.specs.Written.{Adds};
 
 use crate::fault::{LineFault, reason};
 use crate::found::write_found;
 use crate::lines::write_words;
-use crate::parts::{write_bytes, write_key, write_number, write_point};
+use crate::parts::{write_bytes, write_key, write_literal, write_number, write_point};
 use place_values::{Answer, Query};
 use spatial_base::{Key, Memory, Point};
 use std::alloc::Global;
-use term_impacts::Words;
+use term_impacts::{Label, Words};
 
 /// The result of an accepted update.
 #[derive(Clone, Copy, Debug, PartialEq, Eq)]
@@ -30,7 +30,7 @@ pub enum Reply {
     Nothing,
     /// An update was accepted.
     Applied(UpdateDone),
-    /// 200,000 or more places are live, and the key is new.
+    /// 1,000,000 or more places are live, and the key is new.
     Full,
     /// The update number is 2^40, and the update would change the map.
     Worn,
@@ -53,6 +53,8 @@ pub enum Reply {
         point: Point,
         /// The impacts of its words.
         words: Words,
+        /// Its label.
+        label: Label,
     },
     /// There is no place at the key of a `show`.
     Absent,
@@ -89,12 +91,19 @@ fn write_done(done: UpdateDone, out: &mut Vec<u8>) -> Result<(), Memory>
     }
 }
 
-// Appends the number of words, and a line for each.
-fn write_impacts(alloc: Global, words: &Words, out: &mut Vec<u8>) -> Result<(), Memory>
-    ensures { Adds result out.old.items (impacts_text words.now) out.new.items }
+// Appends the number of words, the label, and a line for each word.
+fn write_labelled(
+    alloc: Global,
+    words: &Words,
+    label: &Label,
+    out: &mut Vec<u8>,
+) -> Result<(), Memory>
+    ensures { Adds result out.old.items (labelled_text words.now label.now) out.new.items }
 {
     let words = words.pairs();
     write_number(words.len() as u64, &mut *out)?;
+    write_bytes(b" ", &mut *out)?;
+    write_literal(alloc, label.text(), &mut *out)?;
     write_bytes(b"\n", &mut *out)?;
     write_words(alloc, words, out)
 }
@@ -105,16 +114,17 @@ fn write_place(
     key: &Key,
     point: &Point,
     words: &Words,
+    label: &Label,
     out: &mut Vec<u8>,
 ) -> Result<(), Memory>
-    ensures { Adds result out.old.items (place_text key.now point.now words.now) out.new.items }
+    ensures { Adds result out.old.items (place_text key.now point.now words.now label.now) out.new.items }
 {
     write_bytes(b"place ", &mut *out)?;
     write_key(alloc, key, &mut *out)?;
     write_bytes(b" ", &mut *out)?;
     write_point(point, &mut *out)?;
     write_bytes(b" ", &mut *out)?;
-    write_impacts(alloc, words, out)
+    write_labelled(alloc, words, label, out)
 }
 
 // Appends the text of a reply, or part of it if memory runs out.
@@ -138,7 +148,12 @@ fn write_reply(alloc: Global, reply: &Reply, out: &mut Vec<u8>) -> Result<(), Me
             query,
             explain,
         } => write_found(alloc, *explain, query, answer, out),
-        Reply::Place { key, point, words } => write_place(alloc, key, point, words, out),
+        Reply::Place {
+            key,
+            point,
+            words,
+            label,
+        } => write_place(alloc, key, point, words, label, out),
         Reply::Absent => write_bytes(b"absent\n", out),
         Reply::Count(n) => {
             write_bytes(b"count ", &mut *out)?;

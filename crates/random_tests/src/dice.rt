@@ -12,6 +12,9 @@ static SHARES: [&str; 4] = [" 0", " 300", " 500", " 1000"];
 
 static REACHES: [&str; 4] = [" 0.0000001", " 1", " 50", " 402.4922359"];
 
+// Characters that are no words, of two, three and four bytes.
+static FILLINGS: [&str; 3] = ["°", "€", "𝄞"];
+
 /// The scales of queries, in turn.
 pub(crate) static SCALES: [&str; 6] = [
     " scale 0",
@@ -150,10 +153,19 @@ fn write_word(line: &mut String, before: &str, number: u32) -> Result<(), AllocE
     write!(line, "{before}w{number:02}")
 }
 
-/// Writes up to five words.
+/// Writes up to five words, each after a blank.
 pub(crate) fn write_words(line: &mut String, dice: &mut Dice) -> Result<(), AllocError> {
     for _ in 0..dice.below(6) {
         write_word(line, " ", dice.word())?;
+    }
+    Ok(())
+}
+
+/// Writes a text that is no word and fills a label: characters of two, three or four bytes, which of them and how many goes by a
+/// number. Of five numbers one gives none.
+pub(crate) fn write_filling(line: &mut String, number: u32) -> Result<(), AllocError> {
+    for _ in 0..number % 5 * 8 {
+        line.push_str(FILLINGS[(number % 3) as usize])?;
     }
     Ok(())
 }

@@ -1,12 +1,12 @@
-//! Tests which nodes queries over random maps read, and their answers.
+//! Tests which nodes queries over random maps read, their answers, and the places at all keys.
 //!
 //! Each node that is read is one that the query needs, judged by what bounds the places below it. Each answer is that of a scan of all
-//! places.
+//! places, and the point, words and label at each key are those of the map.
 ghost use Rattle.std.specs.Prelude.{◌≡◌};
 
 use crate::calls::is_due;
 use crate::dice::Ground;
-use crate::maps::{Map, made};
+use crate::maps::{Map, PLACES, made};
 use crate::tree_nodes::is_of_words;
 use disk_model::MemoryStation;
 use irtree_engine::Engine;
@@ -123,7 +123,56 @@ fn look_at_all(
     Ok(())
 }
 
-// Checks all queries over the store of a map.
+// Checks the place at a key, which must be that of the state.
+fn look_at_place(map: &Map, engine: &mut Engine<'_, MemoryStation>, key: &Key) -> Result<(), Fail>
+    ensures { engine.new.store.disk.ghost_name ≡ engine.old.store.disk.ghost_name }
+{
+    let shown = engine.show(key)?;
+    match (&shown, map.state.show(key)) {
+        (None, None) => Ok(()),
+        (Some(place), Some((point, words, label))) => {
+            if place.point == point
+                && place.words.pairs() == words.pairs()
+                && place.label == label
+            {
+                Ok(())
+            } else {
+                Err("another place".into())
+            }
+        }
+        _ => Err("a place more or less".into()),
+    }
+}
+
+// Checks the places at the keys that the map was given, and whether one that was taken out is gone.
+fn look_at_places(
+    alloc: Global,
+    map: &Map,
+    engine: &mut Engine<'_, MemoryStation>,
+) -> Result<(), Fail>
+    ensures { engine.new.store.disk.ghost_name ≡ engine.old.store.disk.ghost_name }
+{
+    for number in 0..PLACES {
+        let name = format!(in alloc; "p{number:04}")?;
+        look_at_place(map, engine, &Key::of_text(name.as_str())?)?;
+    }
+    Ok(())
+}
+
+// Checks all queries and all places over an engine.
+fn look_at_both(
+    alloc: Global,
+    map: &Map,
+    engine: &mut Engine<'_, MemoryStation>,
+    lines: &[String],
+) -> Result<(), Fail>
+    ensures { engine.new.store.disk.ghost_name ≡ engine.old.store.disk.ghost_name }
+{
+    look_at_all(alloc, map, engine, lines)?;
+    look_at_places(alloc, map, engine)
+}
+
+// Checks all queries and all places over the store of a map.
 fn look_over(
     alloc: Global,
     map: &Map,
@@ -132,7 +181,7 @@ fn look_over(
 ) -> Result<(), Fail> {
     let policy = Box::new(alloc, Halving::new())?;
     let mut engine = Engine::open(alloc, &mut station, 4_096, policy)?;
-    let outcome = look_at_all(alloc, map, &mut engine, lines);
+    let outcome = look_at_both(alloc, map, &mut engine, lines);
     let _loan = engine.into_disk();
     outcome
 }

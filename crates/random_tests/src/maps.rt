@@ -1,5 +1,5 @@
 //! Maps of places on a ground, each in three forms.
-use crate::dice::{Dice, Ground, query_line, write_point, write_words};
+use crate::dice::{Dice, Ground, query_line, write_filling, write_point, write_words};
 use crate::making::{ROOM, all_pages, run_well};
 use crate::tree_nodes::{Tree, tree_in};
 use disk_model::{MemoryStation, Tear};
@@ -10,8 +10,8 @@ use std::alloc::{AllocError, Global};
 use std::fmt::Write;
 use std::test::Fail;
 
-// How many places a map has at first.
-const PLACES: u32 = 3_000;
+/// How many places a map has at first.
+pub(crate) const PLACES: u32 = 3_000;
 
 /// The same places as a state, as the pages of a store, and as the nodes of its tree.
 #[derive(Drop)]
@@ -36,7 +36,7 @@ fn write_feature(
     text.push_str("\",\"geometry\":{\"type\":\"Point\",\"coordinates\":[")?;
     write_point(text, point, ",")?;
     text.push_str("]},\"properties\":{\"t\":\"")?;
-    text.push_str(words)?;
+    text.push_str(words.strip_prefix(" ").unwrap_or(words))?;
     text.push_str("\"}}")
 }
 
@@ -66,6 +66,8 @@ fn write_places(
         let point = dice.point_on(ground);
         let mut words = String::new(alloc);
         write_words(&mut words, dice)?;
+        words.push_str(" ")?;
+        write_filling(&mut words, number)?;
         text.push_str(if number == 0 { "" } else { "," })?;
         write_feature(text, number, point, words.as_str())?;
         write_add(script, number, point, words.as_str())?;
@@ -82,6 +84,8 @@ fn changes(alloc: Global, dice: &mut Dice, ground: Ground) -> Result<String, All
         let point = dice.point_on(ground);
         let mut words = String::new(alloc);
         write_words(&mut words, dice)?;
+        words.push_str(" ")?;
+        write_filling(&mut words, number / 10)?;
         write_add(&mut script, number + 1, point, words.as_str())?;
     }
     Ok(script)

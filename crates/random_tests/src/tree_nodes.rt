@@ -129,7 +129,7 @@ fn take_place(
     at: u32,
 ) -> Result<(), Fail> {
     let (point, key) = place_at(pages, leaf, at)?;
-    let Some((stands, words)) = state.show(&key) else {
+    let Some((stands, words, _)) = state.show(&key) else {
         return Err("no such place".into());
     };
     if stands != point {

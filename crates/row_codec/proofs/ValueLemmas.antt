@@ -3,12 +3,13 @@ use Rattle.std.proofs.Common.{◌≡◌, ℕ, ℤ, ◌+◌, ◌-◌, ◌<◌, �
 use Rattle.std.proofs.Math.Facts.{Fits-lt-pow, Fits-of_z}
 use Rattle.std.proofs.Math.Seq.{drop-cons}
 use Rattle.std.proofs.lemmas.Int.{fits_signed_from_abs, of_z-to_z, to_z-of_z}
-use Rattle.std.proofs.lemmas.List.{drop_at, length-append, length-drop, length-replicate, take-append-drop, take_all, take_at}
+use Rattle.std.proofs.lemmas.List.{drop-drop, drop_at, length-append, length-drop, length-replicate, take-append-drop, take_all, take_at}
 use Rattle.std.proofs.lemmas.Nat.{from_be_bytes-to_be_bytes_4}
 use Rattle.std.specs.Int.{cast_signed, cast_unsigned, from_be_bytes, to_be_bytes, w32}
 use Rattle.std.specs.List.{flat_map}
 use Rattle.spatial_base.specs.Point.{Position, IsOnMap}
 use Rattle.term_impacts.specs.Form.{IsWordText, word_form}
+use Rattle.term_impacts.specs.Label.{IsLabelText, label_form}
 use Rattle.row_codec.specs.declared.counted.Counted.{Counted}
 use Rattle.row_codec.specs.declared.stored.Stored.{Stored}
 use Rattle.row_codec.specs.Counted.{IsCounted, counted_value}
@@ -21,17 +22,20 @@ joined : {xs ys zs : List ℕ} (b : List ℕ) → xs ≡ ys ++ b → ys ≡ zs �
 joined b whole front = whole ∙ ap (λ (l : List ℕ). l ++ b) front
 
 -- what was written piece by piece is the place's value
-pub written : (stored : Stored) (a b o1 o2 o3 o4 : List ℕ) → a ≡ to_be_bytes w32 (cast_unsigned w32 stored.point.x) → b ≡ to_be_bytes w32 (cast_unsigned w32 stored.point.y)
+pub written : (stored : Stored) (a b d o1 o2 o3 o4 o5 : List ℕ) → a ≡ to_be_bytes w32 (cast_unsigned w32 stored.point.x) → b ≡ to_be_bytes w32 (cast_unsigned w32 stored.point.y)
+    → d ≡ label_form stored.label → length d ≡ 64
     → take (0 + length a) o1 ≡ a → take (4 + length b) o2 ≡ take 4 o1 ++ b → take 9 o3 ≡ take 8 o2 ++ stored.count ∷ []
-    → take 585 o4 ≡ take 9 o3 ++ flat_map pair_bytes stored.pairs → length o4 ≡ 585 → o4 ≡ place_value stored
+    → take 585 o4 ≡ take 9 o3 ++ flat_map pair_bytes stored.pairs → take (585 + length d) o5 ≡ take 585 o4 ++ d → length o5 ≡ 649 → o5 ≡ place_value stored
 unfolding place_value point_bytes
-written stored a b o1 o2 o3 o4 x y w1 w2 w3 w4 size =
+written stored a b d o1 o2 o3 o4 o5 x y z long w1 w2 w3 w4 w5 size =
     let four : 4 ≡ length a = sym (ap (λ (l : List ℕ). length l) x) in
     let more : 4 ≡ length b = sym (ap (λ (l : List ℕ). length l) y) in
     let front : take 4 o1 ≡ to_be_bytes w32 (cast_unsigned w32 stored.point.x) = ap (λ (n : ℕ). take (0 + n) o1) four ∙ w1 ∙ x in
     let point : take 8 o2 ≡ take 4 o1 ++ to_be_bytes w32 (cast_unsigned w32 stored.point.y) = ap (λ (n : ℕ). take (4 + n) o2) more ∙ w2 ∙ ap (λ (l : List ℕ). take 4 o1 ++ l) y in
     let counted = joined (stored.count ∷ []) w3 (joined (to_be_bytes w32 (cast_unsigned w32 stored.point.y)) point front) in
-    sym (take_all 585 o4 (omega arith)) ∙ joined (flat_map pair_bytes stored.pairs) w4 counted
+    let paired = joined (flat_map pair_bytes stored.pairs) w4 counted in
+    let label : take 649 o5 ≡ take 585 o4 ++ label_form stored.label = ap (λ (n : ℕ). take (585 + n) o5) (sym long) ∙ w5 ∙ ap (λ (l : List ℕ). take 585 o4 ++ l) z in
+    sym (take_all 649 o5 (omega arith)) ∙ joined (label_form stored.label) label paired
 
 -- ---- points
 
@@ -96,36 +100,64 @@ point_every r xs m n x y c some value p on is =
 
 -- ---- places
 
--- the bytes of a value are its point's, its count and its pairs'
-pub value_parts : (xs : List ℕ) → length xs ≡ 585 → xs ≡ take 8 xs ++ (get_or xs 8 0 ∷ take 576 (drop 9 xs))
+-- a label's form has 64 bytes
+pub length-label_form : (text : List ℕ) → IsLabelText text → length (label_form text) ≡ 64
+length-label_form text is =
+    let fits = is.fits in
+    omega (arith, length-append text (replicate (63 - length text) 0 ++ length text ∷ []), length-append (replicate (63 - length text) 0) (length text ∷ []), length-replicate {A = ℕ} (63 - length text) 0)
+
+-- the bytes of a value are its point's, its count, its pairs' and its label's
+pub value_parts : (xs : List ℕ) → length xs ≡ 649 → xs ≡ take 8 xs ++ (get_or xs 8 0 ∷ (take 576 (drop 9 xs) ++ take 64 (drop 585 xs)))
 value_parts xs size =
-    let rest : length (drop 9 xs) ≤ 576 = rw (length-drop 9 xs) (omega arith) in
+    let last : length (drop 585 xs) ≤ 64 = rw (length-drop 585 xs) (omega arith) in
+    let rest : drop 9 xs ≡ take 576 (drop 9 xs) ++ take 64 (drop 585 xs) =
+    sym (take-append-drop 576 (drop 9 xs)) ∙ ap (λ (l : List ℕ). take 576 (drop 9 xs) ++ l) (drop-drop 576 9 xs ∙ sym (take_all 64 (drop 585 xs) last)) in
     sym (take-append-drop 8 xs)
-    ∙ ap (λ (l : List ℕ). take 8 xs ++ l) (drop-cons xs 8 0 (omega arith) ∙ ap (λ (l : List ℕ). get_or xs 8 0 ∷ l) (sym (take_all 576 (drop 9 xs) rest)))
+    ∙ ap (λ (l : List ℕ). take 8 xs ++ l) (drop-cons xs 8 0 (omega arith) ∙ ap (λ (l : List ℕ). get_or xs 8 0 ∷ l) rest)
 
 -- a value of these parts
-pub value_of_parts : (xs : List ℕ) (stored : Stored) → length xs ≡ 585 → take 8 xs ≡ point_bytes stored.point → stored.count ≡ get_or xs 8 0 → flat_map pair_bytes stored.pairs ≡ take 576 (drop 9 xs) → xs ≡ place_value stored
+pub value_of_parts : (xs : List ℕ) (stored : Stored) → length xs ≡ 649 → take 8 xs ≡ point_bytes stored.point → stored.count ≡ get_or xs 8 0 → flat_map pair_bytes stored.pairs ≡ take 576 (drop 9 xs)
+    → label_form stored.label ≡ take 64 (drop 585 xs) → xs ≡ place_value stored
 unfolding place_value
-value_of_parts xs stored size point count pairs =
-    value_parts xs size ∙ ap (λ (l : List ℕ). l ++ (get_or xs 8 0 ∷ take 576 (drop 9 xs))) point
-    ∙ ap (λ (n : ℕ). point_bytes stored.point ++ (n ∷ take 576 (drop 9 xs))) (sym count)
-    ∙ ap (λ (l : List ℕ). point_bytes stored.point ++ (stored.count ∷ l)) (sym pairs)
+value_of_parts xs stored size point count pairs label =
+    value_parts xs size ∙ ap (λ (l : List ℕ). l ++ (get_or xs 8 0 ∷ (take 576 (drop 9 xs) ++ take 64 (drop 585 xs)))) point
+    ∙ ap (λ (n : ℕ). point_bytes stored.point ++ (n ∷ (take 576 (drop 9 xs) ++ take 64 (drop 585 xs)))) (sym count)
+    ∙ ap (λ (l : List ℕ). point_bytes stored.point ++ (stored.count ∷ (l ++ take 64 (drop 585 xs)))) (sym pairs)
+    ∙ ap (λ (l : List ℕ). point_bytes stored.point ++ (stored.count ∷ (flat_map pair_bytes stored.pairs ++ l))) (sym label)
 
 -- a value's first 8 bytes are its point's
 pub point_part : (xs : List ℕ) (stored : Stored) → xs ≡ place_value stored → take 8 xs ≡ point_bytes stored.point
 unfolding place_value point_bytes
 point_part xs stored is = ap (λ (l : List ℕ). take 8 l) is
 
+-- the pairs of a value have 576 bytes
+length-value_pairs : (stored : Stored) → IsValue stored → length (flat_map pair_bytes stored.pairs) ≡ 576
+length-value_pairs stored value = let n = length-pairs stored.pairs in let s = value.size in omega arith
+
+-- a value's bytes from the 9th on, but the last 64, are its pairs'
+pub pairs_part : (xs : List ℕ) (stored : Stored) → IsValue stored → xs ≡ place_value stored → take 576 (drop 9 xs) ≡ flat_map pair_bytes stored.pairs
+unfolding place_value point_bytes
+pairs_part xs stored value is =
+    ap (λ (l : List ℕ). take 576 (drop 9 l)) is ∙ take_at (flat_map pair_bytes stored.pairs) (label_form stored.label) 576 (length-value_pairs stored value)
+
+-- a value's last 64 bytes are its label's
+pub label_part : (xs : List ℕ) (stored : Stored) → IsValue stored → xs ≡ place_value stored → take 64 (drop 585 xs) ≡ label_form stored.label
+unfolding place_value point_bytes
+label_part xs stored value is =
+    let size = length-label_form stored.label value.label in
+    ap (λ (l : List ℕ). take 64 (drop 585 l)) is
+    ∙ ap (λ (l : List ℕ). take 64 l) (drop_at (flat_map pair_bytes stored.pairs) (label_form stored.label) 576 (length-value_pairs stored value))
+    ∙ take_all 64 (label_form stored.label) (omega arith)
+
 -- the parsed place is the one whose value the bytes are
 pub same_place : (xs : List ℕ) (made stored : Stored) → IsValue stored → made.point ≡ stored.point → made.count ≡ get_or xs 8 0 → flat_map pair_bytes made.pairs ≡ take 576 (drop 9 xs)
-    → length made.pairs ≡ 64 → All IsPair made.pairs → xs ≡ place_value stored → made ≡ stored
+    → length made.pairs ≡ 64 → All IsPair made.pairs → made.label ≡ stored.label → xs ≡ place_value stored → made ≡ stored
 unfolding place_value point_bytes
-same_place xs made stored value point count pairs size fits is =
+same_place xs made stored value point count pairs size fits label is =
     let count_is : made.count ≡ stored.count = count ∙ ap (λ (l : List ℕ). get_or l 8 0) is in
-    let few : length (flat_map pair_bytes stored.pairs) ≤ 576 = (let n = length-pairs stored.pairs in let s = value.size in omega arith) in
-    let bytes : flat_map pair_bytes made.pairs ≡ flat_map pair_bytes stored.pairs = pairs ∙ ap (λ (l : List ℕ). take 576 (drop 9 l)) is ∙ take_all 576 (flat_map pair_bytes stored.pairs) few in
+    let bytes : flat_map pair_bytes made.pairs ≡ flat_map pair_bytes stored.pairs = pairs ∙ pairs_part xs stored value is in
     let pairs_are : made.pairs ≡ stored.pairs = pairs-same made.pairs stored.pairs (size ∙ sym value.size) fits value.pairs bytes in
-    λ i. record { point = point i; count = count_is i; pairs = pairs_are i }
+    λ i. record { point = point i; count = count_is i; pairs = pairs_are i; label = label i }
 
 -- ---- words and their counts
 

@@ -2,7 +2,7 @@
 //!
 //! | Table | Key | Value |
 //! |---|---|---|
-//! | places | the key's form, 66 bytes | [`Stored`], 585 bytes |
+//! | places | the key's form, 66 bytes | [`Stored`], 649 bytes |
 //! | words by text | the word's form, 33 bytes | the word's number, 8 bytes |
 //! | words by number | the word's number, 8 bytes | [`Counted`], 37 bytes |
 //!

@@ -28,6 +28,7 @@ on-still stopped (Err end) on = on-behind stopped end on
 pub goes-on : (stopped : Bool) (fault : EngineFault) → (fault ≢ engine.Disk → stopped ≡ false) → GoesOnBehind stopped (end_of_engine fault)
 goes-on stopped engine.Disk on = tt
 goes-on stopped engine.NotAStore on = on (λ e. absurd (cc))
+goes-on stopped engine.Version1 on = on (λ e. absurd (cc))
 goes-on stopped (engine.BadJournal at) on = on (λ e. absurd (cc))
 goes-on stopped (engine.Damaged damage) on = on (λ e. absurd (cc))
 goes-on stopped engine.Full on = on (λ e. absurd (cc))

@@ -42,6 +42,7 @@ met-engine image engine.Full meets = tt
 met-engine image engine.Worn meets = tt
 met-engine image engine.NoRoom meets = tt
 met-engine image engine.NotAStore meets = tt
+met-engine image engine.Version1 meets = tt
 met-engine image (engine.BadJournal at) meets = tt
 
 -- what is known of a read that was refused
@@ -67,6 +68,7 @@ refused-read-cause readable old new T engine.Full refused = absurd refused.cause
 refused-read-cause readable old new T engine.Worn refused = absurd refused.causes
 refused-read-cause readable old new T engine.NoRoom refused = absurd refused.causes
 refused-read-cause readable old new T engine.NotAStore refused = absurd refused.causes
+refused-read-cause readable old new T engine.Version1 refused = absurd refused.causes
 refused-read-cause readable old new T (engine.BadJournal at) refused = absurd refused.causes
 
 -- a call that only reads is refused for no want of room
@@ -79,4 +81,5 @@ refused-room engine.NoRoom reads is = absurd reads
 refused-room engine.Full reads is = absurd reads
 refused-room engine.Worn reads is = absurd reads
 refused-room engine.NotAStore reads is = absurd reads
+refused-room engine.Version1 reads is = absurd reads
 refused-room (engine.BadJournal at) reads is = absurd reads

@@ -24,6 +24,7 @@ end_of_engine engine.Full = Limit limits.Full
 end_of_engine engine.Worn = Limit limits.Worn
 end_of_engine engine.NoRoom = Limit limits.NoRoom
 end_of_engine engine.Stopped = Disk
+end_of_engine engine.Version1 = Store stores.Version1
 end_of_engine engine.Memory = Memory
 
 -- behind such an end the engine goes on, but behind that by the disk

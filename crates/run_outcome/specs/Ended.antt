@@ -7,7 +7,7 @@ use Rattle.run_outcome.specs.declared.ended.InputFault.TheVariants.{NotUtf8, Syn
 use Rattle.run_outcome.specs.declared.ended.LimitFault.{LimitFault}
 use Rattle.run_outcome.specs.declared.ended.LimitFault.TheVariants.{Full, Worn, NoRoom}
 use Rattle.run_outcome.specs.declared.ended.StoreFault.{StoreFault}
-use Rattle.run_outcome.specs.declared.ended.StoreFault.TheVariants.{NotAStore, BadJournal, Damaged}
+use Rattle.run_outcome.specs.declared.ended.StoreFault.TheVariants.{NotAStore, BadJournal, Damaged, Version1}
 use Rattle.page_face.specs.declared.fault.Rule.{Rule}
 use Rattle.page_face.specs.declared.fault.Rule.TheVariants as rules
 
@@ -57,6 +57,7 @@ abbrev pub line_of_store : StoreFault → List ℕ
 line_of_store NotAStore = codes "not a store\n"
 line_of_store (BadJournal at) = codes "journal " ++ at_line at
 line_of_store (Damaged damage) = codes "damaged " ++ (decimal damage.page ++ (32 ∷ at_line (rule_number damage.rule)))
+line_of_store Version1 = codes "version 1\n"
 
 -- the line of a limit
 abbrev pub line_of_limit : LimitFault → List ℕ
@@ -68,7 +69,7 @@ line_of_limit NoRoom = codes "irtree: limit no-room\n"
 abbrev pub line_of_end : Ended → List ℕ
 line_of_end Done = []
 line_of_end Memory = codes "irtree: want of memory\n"
-line_of_end Words = codes "usage: irtree STORE run|load|verify|make [options]\n"
+line_of_end Words = codes "usage: irtree STORE run|load|verify|make|upgrade [options]\n"
 line_of_end Disk = codes "irtree: disk\n"
 line_of_end Source = codes "irtree: source\n"
 line_of_end Sink = codes "irtree: sink\n"

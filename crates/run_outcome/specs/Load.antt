@@ -1,6 +1,7 @@
 -- What a load says and does, as a function of what its text gives.
 use Rattle.std.specs.Prelude.{ℕ, ◌+◌, ◌^◌, ◌<◌, ◌≤◌, nat_le, if◌then◌else◌, List, [], ◌∷◌, ◌++◌, length, Option, Result, Ok, Err, codes, decimal}
 use Rattle.term_impacts.specs.Impacts.{word_impacts}
+use Rattle.term_impacts.specs.Label.{label_of}
 use Rattle.place_values.specs.declared.update.Update.{Update}
 use Rattle.place_values.specs.declared.update.Update.TheVariants.{Put}
 use Rattle.place_values.specs.declared.update.UpdateFault.{UpdateFault}
@@ -44,9 +45,9 @@ loaded_line stored skipped = codes "loaded " ++ (decimal stored ++ (codes " skip
 
 -- ---- what is done
 
--- a place is put at its key, or at the next automatic one, with the impacts of its text
+-- a place is put at its key, or at the next automatic one, with the impacts and the label of its text
 abbrev pub put_of : Place → Update
-put_of place = Put place.id place.point (word_impacts place.text)
+put_of place = Put place.id place.point (word_impacts place.text) (label_of place.text)
 
 -- what a load does in turn: it passes over an item, or stores some places
 pub data Step : Type 0 where
@@ -124,7 +125,7 @@ places_among (Skipped index reason ∷ items) = places_among items
 
 -- The text of a load gives items whose places reach this limit, from so many live places and this update number on.
 abbrev pub ReachesLimit : LimitFault → ℕ → ℕ → Option (List ℕ) → List ℕ → Type 0
-ReachesLimit Full live number only input = (items : List Item) × IsTaken only input (Ok items) × (200000 ≤ live + places_among items)
+ReachesLimit Full live number only input = (items : List Item) × IsTaken only input (Ok items) × (1000000 ≤ live + places_among items)
 ReachesLimit Worn live number only input = (items : List Item) × IsTaken only input (Ok items) × (2 ^ 40 ≤ number + places_among items)
 ReachesLimit NoRoom live number only input = Unit {0}
 

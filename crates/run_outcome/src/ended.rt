@@ -48,18 +48,20 @@ pub enum InputFault {
 /// Why an image is no well-formed store.
 #[derive(Clone, Copy, Debug, PartialEq, Eq)]
 pub enum StoreFault {
-    /// Page 0 is neither all zero nor begins with the magic.
+    /// Page 0 isn't all zero, and begins neither with the magic nor with that of version 1.
     NotAStore,
     /// An open gate is followed by bytes that are no record. The number is the offset of the field that breaks its form.
     BadJournal(u64),
     /// A page breaks a rule.
     Damaged(Damage),
+    /// Page 0 begins with the magic of version 1.
+    Version1,
 }
 
 /// Which limit ended a run.
 #[derive(Clone, Copy, Debug, PartialEq, Eq)]
 pub enum LimitFault {
-    /// 200,000 or more places live, and a key is new: in a load or a make.
+    /// 1,000,000 or more places live, and a key is new: in a load or a make.
     Full,
     /// The update number is 2^40: in a load or a make.
     Worn,
@@ -108,7 +110,10 @@ impl Ended {
             Ended::Done => Ok(()),
             Ended::Memory => write_bytes(b"irtree: want of memory\n", out),
             Ended::Words => {
-                write_bytes(b"usage: irtree STORE run|load|verify|make [options]\n", out)
+                write_bytes(
+                    b"usage: irtree STORE run|load|verify|make|upgrade [options]\n",
+                    out,
+                )
             }
             Ended::Disk => write_bytes(b"irtree: disk\n", out),
             Ended::Source => write_bytes(b"irtree: source\n", out),
@@ -154,6 +159,7 @@ impl StoreFault {
                 write_number(u64::from(damage.page), &mut *out)?;
                 write_at(b" ", number_of(damage.rule), out)
             }
+            StoreFault::Version1 => write_bytes(b"version 1\n", out),
         }
     }
 }

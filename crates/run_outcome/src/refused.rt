@@ -17,6 +17,7 @@ pub fn ended_by(fault: EngineFault) -> Ended
         EngineFault::Full => Ended::Limit(LimitFault::Full),
         EngineFault::Worn => Ended::Limit(LimitFault::Worn),
         EngineFault::NoRoom => Ended::Limit(LimitFault::NoRoom),
+        EngineFault::Version1 => Ended::Store(StoreFault::Version1),
         EngineFault::Memory => Ended::Memory,
     }
 }

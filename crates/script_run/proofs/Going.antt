@@ -12,6 +12,7 @@ refused-goes_on stopped engine.Full on = on (λ e. absurd (cc))
 refused-goes_on stopped engine.Worn on = on (λ e. absurd (cc))
 refused-goes_on stopped engine.Disk on = goes-on stopped engine.Disk on
 refused-goes_on stopped engine.NotAStore on = goes-on stopped engine.NotAStore on
+refused-goes_on stopped engine.Version1 on = goes-on stopped engine.Version1 on
 refused-goes_on stopped (engine.BadJournal at) on = goes-on stopped (engine.BadJournal at) on
 refused-goes_on stopped (engine.Damaged damage) on = goes-on stopped (engine.Damaged damage) on
 refused-goes_on stopped engine.NoRoom on = goes-on stopped engine.NoRoom on

@@ -56,10 +56,10 @@ remove-stays false false state after applied fault is = absurd (cc)
 
 -- an update that is refused leaves the state
 refused-stays : (state : Contents) (update : Update) (fault : UpdateFault) → (effect_of state update).answer ≡ Err fault → (effect_of state update).state ≡ state
-refused-stays state (Put key point words) fault is =
+refused-stays state (Put key point words label) fault is =
     let name = key_for state key in
-    let after : Contents = record { places = with_place name record { point = point; words = words } state.places; serial = serial_after state key; number = state.number + 1 } in
-    put-stays (nat_le 200000 (length state.places) && is_none (place_at name state.places)) (state.number == 2 ^ 40) state after (if is_some (place_at name state.places) then Replaced else New) fault is
+    let after : Contents = record { places = with_place name record { point = point; words = words; label = label } state.places; serial = serial_after state key; number = state.number + 1 } in
+    put-stays (nat_le 1000000 (length state.places) && is_none (place_at name state.places)) (state.number == 2 ^ 40) state after (if is_some (place_at name state.places) then Replaced else New) fault is
 refused-stays state (Remove key) fault is =
     let after : Contents = record { places = without_place key state.places; serial = state.serial; number = state.number + 1 } in
     remove-stays (is_none (place_at key state.places)) (state.number == 2 ^ 40) state after Gone fault is
@@ -132,6 +132,7 @@ module _ (readable : Bool) (update : Update) (old new : World) where
   refused-replies engine.Worn refused told state holds = limit-replies engine.Worn updates.Worn replies.Worn refused (λ e. absurd (cc)) refl told state holds (refused.due told state holds)
   refused-replies engine.Disk refused told state holds = fault-stops engine.Disk ends.Disk refused told state holds tt
   refused-replies engine.NotAStore refused told state holds = absurd refused.causes
+  refused-replies engine.Version1 refused told state holds = absurd refused.causes
   refused-replies (engine.BadJournal at) refused told state holds = absurd refused.causes
   refused-replies (engine.Damaged damage) refused told state holds = absurd (refused.due told state holds)
   refused-replies engine.NoRoom refused told state holds =
@@ -155,6 +156,7 @@ module _ (readable : Bool) (update : Update) (old new : World) where
   refused-cause engine.Worn refused = limit-goes_on engine.Worn replies.Worn refused (λ e. absurd (cc))
   refused-cause engine.Disk refused = record { faults = refused.faults; sink = omega (arith, refused.sink); keeps = keeps-fault Reply old new engine.Disk refused.stays refused.sink; stands = λ told. tt; cause = refused.disk refl }
   refused-cause engine.NotAStore refused = absurd refused.causes
+  refused-cause engine.Version1 refused = absurd refused.causes
   refused-cause (engine.BadJournal at) refused = absurd refused.causes
   refused-cause (engine.Damaged damage) refused =
       record { faults = refused.faults; sink = omega (arith, refused.sink); keeps = keeps-fault Reply old new (engine.Damaged damage) refused.stays refused.sink; stands = λ told. tt; cause = λ told. ((λ state stands. refused.due told state stands), refused.no_head told damage refl) }
@@ -186,6 +188,7 @@ module _ (readable : Bool) (old new : World) where
   read-stops engine.Worn state read refused told holds = absurd refused.causes
   read-stops engine.NoRoom state read refused told holds = absurd refused.causes
   read-stops engine.NotAStore state read refused told holds = absurd refused.causes
+  read-stops engine.Version1 state read refused told holds = absurd refused.causes
   read-stops (engine.BadJournal at) state read refused told holds = absurd refused.causes
 
   -- it stops the run

@@ -36,6 +36,7 @@ refused_by (engine.BadJournal at) = Err (end_of_engine (engine.BadJournal at))
 refused_by (engine.Damaged damage) = Err (end_of_engine (engine.Damaged damage))
 refused_by engine.NoRoom = Err (end_of_engine engine.NoRoom)
 refused_by engine.Stopped = Err (end_of_engine engine.Stopped)
+refused_by engine.Version1 = Err (end_of_engine engine.Version1)
 refused_by engine.Memory = Err (end_of_engine engine.Memory)
 
 -- the line that was read so is an update

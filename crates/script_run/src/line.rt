@@ -113,6 +113,7 @@ fn show<'d, T: Station>(engine: &mut Engine<'d, T>, key: Key) -> Result<Reply, E
             key,
             point: place.point,
             words: place.words,
+            label: place.label,
         }),
         Ok(None) => Ok(Reply::Absent),
         Err(fault) => Err(ended_by(fault)),

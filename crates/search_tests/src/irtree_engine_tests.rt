@@ -6,7 +6,7 @@ ghost use Rattle.place_values.specs.Update.{NamesText};
 
 use disk_model::MemoryStation;
 use irtree_engine::{Engine, EngineFault};
-use page_face::Head;
+use page_face::{Head, Version};
 use page_store::Store;
 use place_values::{Answer, Applied, Place, Query, Update};
 use spatial_base::{Key, Point, SCALE_MAX};
@@ -14,7 +14,7 @@ use split_policy::{Halving, Quadratic, SplitPolicy};
 use std::alloc::Global;
 use std::test::Fail;
 use store_tables::{Stored, Tables};
-use term_impacts::{impacts, one_word};
+use term_impacts::{Label, impacts, one_word};
 
 fn key(text: &str) -> Result<Key, Fail>
     ensures { IfOk result (λ key. key ≡ Text text.now) }
@@ -30,6 +30,7 @@ fn put(alloc: Global, name: &str, words: &str) -> Result<Update, Fail>
         key: Some(key(name)?),
         point: Point::new(-1, 2).ok_or("off the map")?,
         words: impacts(alloc, words)?,
+        label: Label::of_text(words),
     })
 }
 
@@ -48,6 +49,7 @@ fn store_one(alloc: Global, station: &mut MemoryStation) -> Result<(), Fail> {
         point: Point::new(-1, 2).ok_or("off the map")?,
         count: 1,
         pairs: [(0, 0); 64],
+        label: Label::of_text(""),
     };
     stored.pairs[0] = (number, 9);
     if !stored.is_of_form() {
@@ -55,6 +57,7 @@ fn store_one(alloc: Global, station: &mut MemoryStation) -> Result<(), Fail> {
     }
     tables.put_place(&mut store, &key("a")?, &stored)?;
     store.set_head(&Head {
+        version: Version::Two,
         places: tables.places,
         texts: tables.texts,
         numbers: tables.numbers,
@@ -182,6 +185,8 @@ fn counts(
 fn an_area_of_other_bytes_is_no_store(rt: HostRuntime) -> Result<(), Fail> {
     let mut station = MemoryStation::with_image(rt.alloc(), &[120; 4096], b"", 9)?;
     assert!(rt; counts(rt.alloc(), &mut station, Err(EngineFault::NotAStore))?);
+    let mut older = MemoryStation::with_image(rt.alloc(), b"IRTREE01", b"", 9)?;
+    assert!(rt; counts(rt.alloc(), &mut older, Err(EngineFault::Version1))?);
     let mut empty = MemoryStation::new(rt.alloc(), 9);
     assert!(rt; counts(rt.alloc(), &mut empty, Ok(0))?);
     Ok(())
@@ -271,6 +276,7 @@ fn splits_on_a_line(
             key: Some(key(name.as_str())?),
             point: Point::new(10_000_000 * i32::from(x), 0).ok_or("off the map")?,
             words: impacts(alloc, "x")?,
+            label: Label::of_text("x"),
         };
         before = engine.splits();
         applied(engine, &update)?;

@@ -8,7 +8,7 @@ use std::fmt::Write;
 use std::test::Fail;
 use store_tables::Tables;
 use table_updates::{gather_words, hold_words, place_at, put_held, put_place, remove_place};
-use term_impacts::{Word, impacts};
+use term_impacts::{Label, Word, impacts};
 
 static NO_TABLES: Tables = Tables {
     places: 0,
@@ -17,7 +17,7 @@ static NO_TABLES: Tables = Tables {
     next_word: 1,
 };
 
-// Puts a place with the words of a text at a key.
+// Puts a place with the words and the label of a text at a key.
 fn put(
     alloc: Global,
     pages: &mut MemoryPages,
@@ -31,11 +31,22 @@ fn put(
     let old = tables.place(pages, key)?;
     let point = Point::new(5, 6).ok_or("off the map")?;
     let words = impacts(alloc, text)?;
-    put_place(alloc, pages, tables, key, old.as_ref(), point, &words)?;
+    let label = Label::of_text(text);
+    put_place(
+        alloc,
+        pages,
+        tables,
+        key,
+        old.as_ref(),
+        point,
+        &words,
+        label,
+    )?;
     Ok(())
 }
 
-// Whether the place at a key has these words, as `word impact` after one another; at "" whether none lives there.
+// Whether the place at a key has this label and these words, as `label: ` and then `word impact` after one another; at "" whether none
+// lives there.
 fn readable(
     alloc: Global,
     pages: &mut MemoryPages,
@@ -45,6 +56,7 @@ fn readable(
 ) -> Result<bool, Fail> {
     let mut out = String::new(alloc);
     if let Some(place) = place_at(alloc, pages, tables, key)? {
+        write!(out, "{}: ", place.label.text())?;
         for (word, impact) in place.words.pairs() {
             write!(out, "{} {impact} ", word.text())?;
         }
@@ -68,13 +80,15 @@ fn take_out(pages: &mut MemoryPages, tables: &mut Tables, key: &Key) -> Result<(
 fn put_twice(alloc: Global, pages: &mut MemoryPages, tables: &mut Tables) -> Result<bool, Fail> {
     let key = key_of("ab")?;
     put(alloc, pages, tables, &key, "tea cake")?;
-    if !readable(alloc, pages, tables, &key, "cake 128 tea 128 ")? {
+    if !readable(alloc, pages, tables, &key, "tea cake: cake 128 tea 128 ")? {
         return Ok(false);
     }
 
     // Cake had number 1 and goes; tea keeps number 2, and art is given 3.
     put(alloc, pages, tables, &key, "art tea art")?;
-    if !readable(alloc, pages, tables, &key, "art 170 tea 85 ")? || tables.next_word != 4 {
+    if !readable(alloc, pages, tables, &key, "art tea art: art 170 tea 85 ")?
+        || tables.next_word != 4
+    {
         return Ok(false);
     }
     let is_gone = is_free(pages, tables, 1)?;
@@ -99,12 +113,13 @@ fn key_of(name: &str) -> Result<Key, Fail> {
     Ok(Key::of_text(name).map_err(|_| "no key")?)
 }
 
-// Puts a place with the words of a text.
+// Puts a place with the words and the label of a text.
 fn update(alloc: Global, name: &str, text: &str) -> Result<Update, Fail> {
     Ok(Update::Put {
         key: Some(key_of(name)?),
         point: Point::new(5, 6).ok_or("off the map")?,
         words: impacts(alloc, text)?,
+        label: Label::of_text(text),
     })
 }
 
@@ -134,6 +149,7 @@ fn put_next(
         key: Some(key),
         point,
         words,
+        label,
     } = next
     else {
         return Err(Fail::from("no place is put"));
@@ -147,6 +163,7 @@ fn put_next(
         old.as_ref(),
         *point,
         words,
+        *label,
         numbers,
     )?;
     Ok(())
@@ -183,7 +200,15 @@ fn a_word_of_a_batch_is_held_by_as_many_places_as_keep_it(rt: HostRuntime) -> Re
     let mut tables = NO_TABLES;
     put_batch(rt.alloc(), &mut pages, &mut tables)?;
     let key = key_of("a")?;
-    assert!(rt; readable(rt.alloc(), &mut pages, &tables, &key, "art 128 tea 128 ")?);
+    assert!(rt;
+        readable(
+            rt.alloc(),
+            &mut pages,
+            &tables,
+            &key,
+            "art tea: art 128 tea 128 "
+        )?
+    );
 
     // Cake went with the first place, and tea goes with the last one.
     assert!(rt; is_free(&mut pages, &tables, 1)? && take_both(&mut pages, &mut tables)?);

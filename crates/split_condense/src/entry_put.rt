@@ -1,8 +1,9 @@
 //! The entry of a place that is put.
-ghost use Rattle.std.specs.Prelude.{◌≡◌, ◌≢◌, ◌⊎◌, ℕ, List, Ok, None, Some, IfSome, OnOk, IsErrOf, MatchOption, option_map};
+ghost use Rattle.std.specs.Prelude.{◌≡◌, ◌≢◌, ◌⊎◌, ℕ, List, Ok, None, Some, true, IfSome, OnOk, IsErrOf, MatchOption, option_map};
 ghost use Rattle.std.specs.Option.{option_copied};
 ghost use Rattle.page_face.specs.Calls.{Changes, FailsChanging};
 ghost use Rattle.btree_nodes.specs.Damages.{AreReadable, AsksOnly};
+ghost use Rattle.spatial_base.specs.Key.{Name};
 ghost use Rattle.rtree_nodes.specs.Stock.{view};
 ghost use Rattle.rtree_nodes.specs.Made.{Rises};
 ghost use Rattle.rtree_nodes.specs.Pages.{node_of};
@@ -11,6 +12,7 @@ ghost use Rattle.irtree_shape.specs.Whole.{IsPlanted, IsWhole};
 ghost use Rattle.irtree_shape.specs.Damages.{IsTreeHarm};
 ghost use Rattle.irtree_shape.specs.Entries.{HasEntry, HasPlace, entry_at};
 ghost use Rattle.irtree_shape.specs.Regrown.{IsMissing, IsRegrown};
+ghost use Rattle.split_condense.specs.Updates.{entry_for};
 
 use crate::entry_taken::{entry_of, take_entry};
 use crate::insert;
@@ -23,10 +25,10 @@ use std::alloc::Global;
 
 /// Puts the entry of a key's place `new` into a tree, and takes out that of the key's place `old` before, if there was one.
 ///
-/// Does nothing if both are the same, with the same words. Fails as [`take_entry`] of `old` and [`insert`] do. `Damaged` has the rule
-/// `Entry` and page 0 only if there was a place and the tree has no entry of it. Else `Damaged` gives which page breaks which rule. The
-/// tree's roots and the pages are then as the call left them, and are to be abandoned. Costs an [`insert`], and a [`take_entry`] if there
-/// was a place.
+/// Does nothing if both have the same entry: the same point and the same words, whatever their labels. Fails as [`take_entry`] of `old`
+/// and [`insert`] do. `Damaged` has the rule `Entry` and page 0 only if there was a place and the tree has no entry of it. Else `Damaged`
+/// gives which page breaks which rule. The tree's roots and the pages are then as the call left them, and are to be abandoned. Costs an
+/// [`insert`], and a [`take_entry`] if there was a place.
 pub fn put_entry<P: Pages>(
     alloc: Global,
     pages: &mut P,
@@ -41,9 +43,9 @@ pub fn put_entry<P: Pages>(
         → OnOk result (IsRegrown node_of (view (P.pages pages.old) tree.old.rows (P.count pages.old) (P.first pages.old) free) (P.pages pages.new) tree.new.rows (P.count pages.new) (P.first pages.new)
         tree.old.root tree.new.root (option_map (entry_at key.now) (option_copied old.entry)) (Some (entry_at key.now new.now))) }
     ensures there { (free : List ℕ) → IsWhole node_of (view (P.pages pages.old) tree.old.rows (P.count pages.old) (P.first pages.old) free) tree.old.root
-        → OnOk result (IfSome (option_copied old.entry) (λ stored. stored ≢ new.now → HasPlace (nodes_in node_of (P.pages pages.old) tree.old.rows) tree.old.root key.now stored.point)) }
-    ensures same { option_copied old.entry ≡ Some new.now → (result ≡ Ok tt) × (pages.new ≡ pages.old) × (tree.new ≡ tree.old) }
-    ensures unsplit { option_copied old.entry ≡ Some new.now → (SplitPolicy-dyn policy.new).count policy.new.1 ≡ (SplitPolicy-dyn policy.old).count policy.old.1 }
+        → OnOk result (IfSome (option_copied old.entry) (λ stored. entry_for key.now stored ≢ entry_for key.now new.now → HasPlace (nodes_in node_of (P.pages pages.old) tree.old.rows) tree.old.root key.now stored.point)) }
+    ensures same { option_map (entry_for key.now) (option_copied old.entry) ≡ Some (entry_for key.now new.now) → (result ≡ Ok tt) × (pages.new ≡ pages.old) × (tree.new ≡ tree.old) }
+    ensures unsplit { option_map (entry_for key.now) (option_copied old.entry) ≡ Some (entry_for key.now new.now) → (SplitPolicy-dyn policy.new).count policy.new.1 ≡ (SplitPolicy-dyn policy.old).count policy.old.1 }
 
     // A new place's entry is put as `insert` puts it: each node stays at its page and level, and the splits count the new ones.
     ensures planted { (free : List ℕ) → IsWhole node_of (view (P.pages pages.old) tree.old.rows (P.count pages.old) (P.first pages.old) free) tree.old.root
@@ -68,10 +70,18 @@ pub fn put_entry<P: Pages>(
     let Some(old) = old else {
         return insert(alloc, pages, tree, policy, &entry_of(key, new));
     };
-    if old == new {
+    if is_same_entry(old, new) {
         return Ok(());
     }
     take_entry(alloc, pages, tree, policy, key, old)?;
     insert(alloc, pages, tree, policy, &entry_of(key, new))?;
     Ok(())
+}
+
+// Whether two places of a key have the same entry: their points and words are the same. A tree has no labels.
+fn is_same_entry(old: &Stored, new: &Stored) -> bool
+    ensures same { result ≡ true → (key : Name) → entry_for key old.now ≡ entry_for key new.now }
+    ensures differs { (key : Name) → entry_for key old.now ≡ entry_for key new.now → result ≡ true }
+{
+    old.point == new.point && old.count == new.count && old.pairs == new.pairs
 }

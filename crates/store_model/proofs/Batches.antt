@@ -47,7 +47,7 @@ counting-claimed (Some numbers) left = record { more = λ n k. omega arith; cove
 -- at most as many Puts as updates
 pub puts-most : (updates : List Update) → puts_in updates ≤ length updates
 puts-most [] = omega arith
-puts-most (Put key point words ∷ updates) = let rest = puts-most updates in omega (arith, rest)
+puts-most (Put key point words label ∷ updates) = let rest = puts-most updates in omega (arith, rest)
 puts-most (Remove key ∷ updates) = let rest = puts-most updates in omega (arith, rest)
 
 -- ---- the beginning
@@ -168,51 +168,51 @@ stand-plain left block pages state stand = record { stand = stand; named = tt; l
 -- ---- an update
 
 -- a place is put
-module _ (held : Option (List (List ℕ × ℕ))) (left : List Update) (name : Option Name) (key : Name) (point : Position) (words : List (List ℕ × ℕ)) (map_of_words : IsWordMap words) (old : Superblock) (pages : PageMap) (state : states.Contents)
-    (is : StandAhead held (Put name point words ∷ left) old pages state) (room : old.head.live + 1 < 2 ^ 32 + cond (is_some (place_of_key key is.stand.entries.places)) 1 0) where
+module _ (held : Option (List (List ℕ × ℕ))) (left : List Update) (name : Option Name) (key : Name) (point : Position) (words : List (List ℕ × ℕ)) (label : List ℕ) (map_of_words : IsWordMap words) (old : Superblock) (pages : PageMap) (state : states.Contents)
+    (is : StandAhead held (Put name point words label ∷ left) old pages state) (room : old.head.live + 1 < 2 ^ 32 + cond (is_some (place_of_key key is.stand.entries.places)) 1 0) where
   -- the next word number keeps its range
   pub next-by : (old.head.next_word ≤ next_by held key words old.head.next_word is.stand.entries) × (next_by held key words old.head.next_word is.stand.entries ≤ 64 * (last_number held left (old.head.number + 1) + 1))
   next-by = by held is room
     where
-      by : (h : Option (List (List ℕ × ℕ))) (is : StandAhead h (Put name point words ∷ left) old pages state) → old.head.live + 1 < 2 ^ 32 + cond (is_some (place_of_key key is.stand.entries.places)) 1 0
+      by : (h : Option (List (List ℕ × ℕ))) (is : StandAhead h (Put name point words label ∷ left) old pages state) → old.head.live + 1 < 2 ^ 32 + cond (is_some (place_of_key key is.stand.entries.places)) 1 0
           → (old.head.next_word ≤ next_by h key words old.head.next_word is.stand.entries) × (next_by h key words old.head.next_word is.stand.entries ≤ 64 * (last_number h left (old.head.number + 1) + 1))
-      by None is room = next-then old pages state is.stand key point words map_of_words room
+      by None is room = next-then old pages state is.stand key point words label map_of_words room
       by (Some numbers) is room = (let most = is.stand.tables.range.words in (omega arith, omega (arith, most)))
 
   module _ (mid : Superblock) (between : PageMap)
-      (changed : IsChanged (view pages old.counted old.first_free is.stand.tables.free) (tables_in old.head) between mid.counted mid.first_free (tables_in mid.head) (after_put_by held key point words old.head.next_word is.stand.entries))
+      (changed : IsChanged (view pages old.counted old.first_free is.stand.tables.free) (tables_in old.head) between mid.counted mid.first_free (tables_in mid.head) (after_put_by held key point words label old.head.next_word is.stand.entries))
       (range : IsInRange (at_number (last_number held left mid.head.number) mid)) (serials : mid.head.serial ≤ mid.head.number + 1) (rows : mid.head.rows ≡ old.head.rows) (tree : mid.head.tree ≡ old.head.tree)
       (next : mid.head.next_word ≡ next_by held key words old.head.next_word is.stand.entries) (later : old.head.serial ≤ mid.head.serial) (below : IsSerialAbove mid.head.serial key)
       (live : mid.head.live + cond (is_some (place_of_key key is.stand.entries.places)) 1 0 ≡ old.head.live + 1) where
     -- once the tree has the place's entry in place of the old one, the pages stand for the state with the place at the key
     pub stand-put-by : (block : Superblock) (after : PageMap)
         → IsRegrown node_of (stock.view between mid.head.rows mid.counted mid.first_free changed.free) after block.head.rows block.counted block.first_free mid.head.tree block.head.tree
-        (option_map (entry_at key) (place_of_key key is.stand.entries.places)) (Some (entry_at key (stored_with point (by_number (pairs_by held key words old.head.next_word is.stand.entries)))))
+        (option_map (entry_at key) (place_of_key key is.stand.entries.places)) (Some (entry_at key (stored_with point (by_number (pairs_by held key words old.head.next_word is.stand.entries)) label)))
         → IsInRange (at_number (last_number held left block.head.number) block) → block.head.serial ≤ block.head.number + 1 → block.head.number ≡ old.head.number + 1 → IsRerooted mid.head block.head
-        → StandAhead held left block after (record { places = states.with_place key (record { point = point; words = words }) state.places; serial = block.head.serial; number = block.head.number })
+        → StandAhead held left block after (record { places = states.with_place key (record { point = point; words = words; label = label }) state.places; serial = block.head.serial; number = block.head.number })
     stand-put-by block after regrown within serials_then number rerooted = by held is room changed range next live regrown within
       where
-        by : (h : Option (List (List ℕ × ℕ))) (is : StandAhead h (Put name point words ∷ left) old pages state) → old.head.live + 1 < 2 ^ 32 + cond (is_some (place_of_key key is.stand.entries.places)) 1 0
-            → (changed : IsChanged (view pages old.counted old.first_free is.stand.tables.free) (tables_in old.head) between mid.counted mid.first_free (tables_in mid.head) (after_put_by h key point words old.head.next_word is.stand.entries))
+        by : (h : Option (List (List ℕ × ℕ))) (is : StandAhead h (Put name point words label ∷ left) old pages state) → old.head.live + 1 < 2 ^ 32 + cond (is_some (place_of_key key is.stand.entries.places)) 1 0
+            → (changed : IsChanged (view pages old.counted old.first_free is.stand.tables.free) (tables_in old.head) between mid.counted mid.first_free (tables_in mid.head) (after_put_by h key point words label old.head.next_word is.stand.entries))
             → IsInRange (at_number (last_number h left mid.head.number) mid) → mid.head.next_word ≡ next_by h key words old.head.next_word is.stand.entries
             → mid.head.live + cond (is_some (place_of_key key is.stand.entries.places)) 1 0 ≡ old.head.live + 1
             → IsRegrown node_of (stock.view between mid.head.rows mid.counted mid.first_free changed.free) after block.head.rows block.counted block.first_free mid.head.tree block.head.tree
-            (option_map (entry_at key) (place_of_key key is.stand.entries.places)) (Some (entry_at key (stored_with point (by_number (pairs_by h key words old.head.next_word is.stand.entries)))))
+            (option_map (entry_at key) (place_of_key key is.stand.entries.places)) (Some (entry_at key (stored_with point (by_number (pairs_by h key words old.head.next_word is.stand.entries)) label)))
             → IsInRange (at_number (last_number h left block.head.number) block)
-            → StandAhead h left block after (record { places = states.with_place key (record { point = point; words = words }) state.places; serial = block.head.serial; number = block.head.number })
+            → StandAhead h left block after (record { places = states.with_place key (record { point = point; words = words; label = label }) state.places; serial = block.head.serial; number = block.head.number })
         by None is room changed range next live regrown within = record {
-          stand = stand-put old pages state is.stand key point words map_of_words room mid between changed range rows tree next later below live block after regrown within rerooted;
+          stand = stand-put old pages state is.stand key point words label map_of_words room mid between changed range rows tree next later below live block after regrown within rerooted;
           named = tt;
           last = tt;
         }
         by (Some numbers) is room changed range next live regrown within =
-            let after_is = stand-held numbers (ahead numbers left) key point words map_of_words old pages state is.stand is.named.0 mid between changed (mid.head.number + puts_in left) range serials rows tree next later below live block after regrown
+            let after_is = stand-held numbers (ahead numbers left) key point words label map_of_words old pages state is.stand is.named.0 mid between changed (mid.head.number + puts_in left) range serials rows tree next later below live block after regrown
             (block.head.number + puts_in left) within serials_then rerooted in
             record {
               stand = after_is.0;
               named = subst (λ (e : Entries). AreNamed numbers e.numbers left) (sym after_is.1)
-                  (named-kept numbers is.stand.entries.numbers (after_held key point (pairs_for numbers words) is.stand.entries).numbers left
-                  (held-same numbers (ahead numbers left) key point words is.stand.entries old.head.next_word is.stand.tables.sound.words (ascending old pages is.stand.others is.stand.entries is.stand.tables) is.stand.tables.holds.places.each map_of_words is.named.0)
+                  (named-kept numbers is.stand.entries.numbers (after_held key point (pairs_for numbers words) label is.stand.entries).numbers left
+                  (held-same numbers (ahead numbers left) key point words label is.stand.entries old.head.next_word is.stand.tables.sound.words (ascending old pages is.stand.others is.stand.entries is.stand.tables) is.stand.tables.holds.places.each map_of_words is.named.0)
                   is.named.1);
               last = let all = is.last in omega (arith, all, number);
             }
@@ -261,10 +261,10 @@ stand-absent (Some numbers) left key block pages state is = record { stand = is.
 -- ---- update numbers
 
 -- after a Put the update number by which words are counted is an update number, and none before the update's own
-pub last-put : (held : Option (List (List ℕ × ℕ))) (left : List Update) (name : Option Name) (point : Position) (words : List (List ℕ × ℕ)) (block : Superblock) (pages : PageMap) (state : states.Contents) → StandAhead held (Put name point words ∷ left) block pages state
+pub last-put : (held : Option (List (List ℕ × ℕ))) (left : List Update) (name : Option Name) (point : Position) (words : List (List ℕ × ℕ)) (label : List ℕ) (block : Superblock) (pages : PageMap) (state : states.Contents) → StandAhead held (Put name point words label ∷ left) block pages state
     → block.head.number < 2 ^ 40 → (block.head.number + 1 ≤ last_number held left (block.head.number + 1)) × (last_number held left (block.head.number + 1) ≤ 2 ^ 40)
-last-put None left name point words block pages state is less = (omega arith, omega (arith, less))
-last-put (Some numbers) left name point words block pages state is less = (omega arith, let most = is.stand.tables.range.number in omega (arith, most))
+last-put None left name point words label block pages state is less = (omega arith, omega (arith, less))
+last-put (Some numbers) left name point words label block pages state is less = (omega arith, let most = is.stand.tables.range.number in omega (arith, most))
 
 -- and after a removal
 pub last-remove : (held : Option (List (List ℕ × ℕ))) (left : List Update) (key : Name) (block : Superblock) (pages : PageMap) (state : states.Contents) → StandAhead held (Remove key ∷ left) block pages state

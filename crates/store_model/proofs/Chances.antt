@@ -65,14 +65,14 @@ module _ (key : Name) (entries : Entries) (next_word : ℕ) (agree : WordsAgree 
       (numbering-start (λ n. holders n entries.places) (pairs_of (place_of_key key entries.places)) entries next_word agree ascend (known-old key entries next_word agree)) sorted
 
   -- and those of the place before it can be released then, by the new numbers in their order
-  pub can-release-put : (point : Position) (words : List (List ℕ × ℕ)) → IsWordMap words → length (without_place key entries.places) + 1 < 2 ^ 32 → next_word + length words ≤ 2 ^ 64
-      → (let now = numbered_for key words next_word entries in CanReleaseAll (by_number now.pairs) (pairs_of (place_of_key key entries.places)) (record now.entries { places = with_place key (stored_with point (by_number now.pairs)) now.entries.places }))
-  can-release-put point words map_of_words room numbers_left =
+  pub can-release-put : (point : Position) (words : List (List ℕ × ℕ)) (label : List ℕ) → IsWordMap words → length (without_place key entries.places) + 1 < 2 ^ 32 → next_word + length words ≤ 2 ^ 64
+      → (let now = numbered_for key words next_word entries in CanReleaseAll (by_number now.pairs) (pairs_of (place_of_key key entries.places)) (record now.entries { places = with_place key (stored_with point (by_number now.pairs) label) now.entries.places }))
+  can-release-put point words label map_of_words room numbers_left =
       let now = numbered_for key words next_word entries in
       let old = pairs_of (place_of_key key entries.places) in
-      let then : Entries = record now.entries { places = with_place key (stored_with point (by_number now.pairs)) now.entries.places } in
+      let then : Entries = record now.entries { places = with_place key (stored_with point (by_number now.pairs) label) now.entries.places } in
       can_release-same now.pairs (by_number now.pairs) old then (λ n. sym (has_pair-by_number n now.pairs))
-      (can-release _ now.pairs then now.next_word old then (apart-old key entries.places each) (put-releasing key point words entries next_word agree ascend each map_of_words room numbers_left))
+      (can-release _ now.pairs then now.next_word old then (apart-old key entries.places each) (put-releasing key point words label entries next_word agree ascend each map_of_words room numbers_left))
 
 -- the words of a place that was taken out can be released
 pub can-release-without : (claims : ℕ → ℕ → ℕ) → IsCounting claims → (key : Name) (entries : Entries) (next_word : ℕ) → WordTablesAgree (λ n. claims n (holders n entries.places)) entries.texts entries.numbers next_word → AreAscending entries → All IsPlaceEntry entries.places

@@ -103,7 +103,7 @@ module _ {claims : ℕ → ℕ → ℕ} {last : ℕ} (old : Superblock) (pages :
           omega (arith, sum, gone, same)))
 
 module _ (old : Superblock) (pages : PageMap) (state : states.Contents) (stand : PagesStand old pages state) where
-  module _ (key : Name) (point : Position) (words : List (List ℕ × ℕ)) (map_of_words : IsWordMap words)
+  module _ (key : Name) (point : Position) (words : List (List ℕ × ℕ)) (label : List ℕ) (map_of_words : IsWordMap words)
       (room : old.head.live + 1 < 2 ^ 32 + cond (is_some (place_of_key key stand.entries.places)) 1 0) where
     -- the next word number after the place was put
     abbrev next_then : ℕ
@@ -111,48 +111,48 @@ module _ (old : Superblock) (pages : PageMap) (state : states.Contents) (stand :
 
     -- the next word number keeps its range
     pub next-then : (old.head.next_word ≤ next_then) × (next_then ≤ 64 * (old.head.number + 1 + 1))
-    next-then = tables-next old pages stand.others stand.entries stand.tables key point words map_of_words room
+    next-then = tables-next old pages stand.others stand.entries stand.tables key point words label map_of_words room
 
     -- the tables have the place, on pages `between`, and the tree is as before
     module _ (mid : Superblock) (between : PageMap)
-        (changed : IsChanged (view pages old.counted old.first_free stand.tables.free) (tables_in old.head) between mid.counted mid.first_free (tables_in mid.head) (after_put key point words old.head.next_word stand.entries))
+        (changed : IsChanged (view pages old.counted old.first_free stand.tables.free) (tables_in old.head) between mid.counted mid.first_free (tables_in mid.head) (after_put key point words label old.head.next_word stand.entries))
         (range : IsInRange mid) (rows : mid.head.rows ≡ old.head.rows) (tree : mid.head.tree ≡ old.head.tree) (next : mid.head.next_word ≡ next_then) (later : old.head.serial ≤ mid.head.serial) (below : IsSerialAbove mid.head.serial key)
         (live : mid.head.live + cond (is_some (place_of_key key stand.entries.places)) 1 0 ≡ old.head.live + 1) where
       -- the tables stand for the entries with the place, the tree for those before
-      pub mid-put : StandsBetween (λ number places. places) mid.head.number mid between stand.others stand.entries (after_put key point words old.head.next_word stand.entries) changed.free
-      mid-put = between-kept old pages state stand (λ number places. places) mid.head.number mid between (after_put key point words old.head.next_word stand.entries) changed.free
-          (tables-put old pages stand.others stand.entries stand.tables key point words map_of_words room mid between changed range next later below live) rows tree
+      pub mid-put : StandsBetween (λ number places. places) mid.head.number mid between stand.others stand.entries (after_put key point words label old.head.next_word stand.entries) changed.free
+      mid-put = between-kept old pages state stand (λ number places. places) mid.head.number mid between (after_put key point words label old.head.next_word stand.entries) changed.free
+          (tables-put old pages stand.others stand.entries stand.tables key point words label map_of_words room mid between changed range next later below live) rows tree
 
       -- once the tree has the place's entry in place of the old one, the pages stand for the state with the place at the key
       pub stand-put : (block : Superblock) (after : PageMap)
           → IsRegrown node_of (stock.view between mid.head.rows mid.counted mid.first_free changed.free) after block.head.rows block.counted block.first_free mid.head.tree block.head.tree
-          (option_map (entry_at key) (place_of_key key stand.entries.places)) (Some (entry_at key (stored_with point (by_number (numbered_for key words old.head.next_word stand.entries).pairs))))
+          (option_map (entry_at key) (place_of_key key stand.entries.places)) (Some (entry_at key (stored_with point (by_number (numbered_for key words old.head.next_word stand.entries).pairs) label)))
           → IsInRange block → IsRerooted mid.head block.head
-          → PagesStand block after (record { places = states.with_place key (record { point = point; words = words }) state.places; serial = block.head.serial; number = block.head.number })
+          → PagesStand block after (record { places = states.with_place key (record { point = point; words = words; label = label }) state.places; serial = block.head.serial; number = block.head.number })
       stand-put block after regrown within rerooted =
-          (place-put old pages state stand key (record { point = point; words = words }) (stored_with point (by_number (numbered_for key words old.head.next_word stand.entries).pairs)) (λ number places. places) mid.head.number mid between
-          (after_put key point words old.head.next_word stand.entries) changed.free mid-put (tables-put-entries old pages stand.others stand.entries stand.tables key point words map_of_words room)
-          (tables-put-places old pages stand.others stand.entries stand.tables key point words map_of_words room) block after regrown block.head.number within within.serials rerooted).0
+          (place-put old pages state stand key (record { point = point; words = words; label = label }) (stored_with point (by_number (numbered_for key words old.head.next_word stand.entries).pairs) label) (λ number places. places) mid.head.number mid between
+          (after_put key point words label old.head.next_word stand.entries) changed.free mid-put (tables-put-entries old pages stand.others stand.entries stand.tables key point words label map_of_words room)
+          (tables-put-places old pages stand.others stand.entries stand.tables key point words label map_of_words room) block after regrown block.head.number within within.serials rerooted).0
 
 -- a place is put whose words were held ahead, beside what else is
-module _ (numbers : List (List ℕ × ℕ)) (rest : ℕ → ℕ) (key : Name) (point : Position) (words : List (List ℕ × ℕ)) (map_of_words : IsWordMap words) {last : ℕ} (old : Superblock) (pages : PageMap) (state : states.Contents)
+module _ (numbers : List (List ℕ × ℕ)) (rest : ℕ → ℕ) (key : Name) (point : Position) (words : List (List ℕ × ℕ)) (label : List ℕ) (map_of_words : IsWordMap words) {last : ℕ} (old : Superblock) (pages : PageMap) (state : states.Contents)
     (stand : PagesStandFor (λ n k. k + (place_count (λ word. number_in numbers word == n) words + rest n)) last old pages state) (known : AllByRecursion (IsNamed numbers stand.entries.numbers) (keys_of words)) (mid : Superblock) (between : PageMap)
-    (changed : IsChanged (view pages old.counted old.first_free stand.tables.free) (tables_in old.head) between mid.counted mid.first_free (tables_in mid.head) (after_held key point (pairs_for numbers words) stand.entries))
+    (changed : IsChanged (view pages old.counted old.first_free stand.tables.free) (tables_in old.head) between mid.counted mid.first_free (tables_in mid.head) (after_held key point (pairs_for numbers words) label stand.entries))
     (last_mid : ℕ) (range : IsInRange (at_number last_mid mid)) (serials : mid.head.serial ≤ mid.head.number + 1) (rows : mid.head.rows ≡ old.head.rows) (tree : mid.head.tree ≡ old.head.tree) (next : mid.head.next_word ≡ old.head.next_word)
     (later : old.head.serial ≤ mid.head.serial) (below : IsSerialAbove mid.head.serial key) (live : mid.head.live + cond (is_some (place_of_key key stand.entries.places)) 1 0 ≡ old.head.live + 1) where
   -- the tables stand for the entries with the place, the tree for those before
-  pub mid-held : StandsBetween (λ n k. k + rest n) last_mid mid between stand.others stand.entries (after_held key point (pairs_for numbers words) stand.entries) changed.free
-  mid-held = between-kept old pages state stand (λ n k. k + rest n) last_mid mid between (after_held key point (pairs_for numbers words) stand.entries) changed.free
-      (tables-held numbers rest key point words map_of_words old pages stand.others stand.entries stand.tables known mid between changed last_mid range serials next later below live) rows tree
+  pub mid-held : StandsBetween (λ n k. k + rest n) last_mid mid between stand.others stand.entries (after_held key point (pairs_for numbers words) label stand.entries) changed.free
+  mid-held = between-kept old pages state stand (λ n k. k + rest n) last_mid mid between (after_held key point (pairs_for numbers words) label stand.entries) changed.free
+      (tables-held numbers rest key point words label map_of_words old pages stand.others stand.entries stand.tables known mid between changed last_mid range serials next later below live) rows tree
 
   -- once the tree has the place's entry in place of the old one, the pages stand for the state with the place at the key
   pub stand-held : (block : Superblock) (after : PageMap)
       → IsRegrown node_of (stock.view between mid.head.rows mid.counted mid.first_free changed.free) after block.head.rows block.counted block.first_free mid.head.tree block.head.tree
-      (option_map (entry_at key) (place_of_key key stand.entries.places)) (Some (entry_at key (stored_with point (by_number (pairs_for numbers words)))))
+      (option_map (entry_at key) (place_of_key key stand.entries.places)) (Some (entry_at key (stored_with point (by_number (pairs_for numbers words)) label)))
       → (last_then : ℕ) → IsInRange (at_number last_then block) → block.head.serial ≤ block.head.number + 1 → IsRerooted mid.head block.head
-      → PagesOver (λ n k. k + rest n) last_then block after (record { places = states.with_place key (record { point = point; words = words }) state.places; serial = block.head.serial; number = block.head.number })
-      (after_held key point (pairs_for numbers words) stand.entries)
+      → PagesOver (λ n k. k + rest n) last_then block after (record { places = states.with_place key (record { point = point; words = words; label = label }) state.places; serial = block.head.serial; number = block.head.number })
+      (after_held key point (pairs_for numbers words) label stand.entries)
   stand-held block after regrown last_then within serials_then rerooted =
-      place-put old pages state stand key (record { point = point; words = words }) (stored_with point (by_number (pairs_for numbers words))) (λ n k. k + rest n) last_mid mid between
-      (after_held key point (pairs_for numbers words) stand.entries) changed.free mid-held (tables-held-entries numbers rest key point words map_of_words old pages stand.others stand.entries stand.tables known)
-      (tables-held-places numbers rest key point words map_of_words old pages stand.others stand.entries stand.tables known) block after regrown last_then within serials_then rerooted
+      place-put old pages state stand key (record { point = point; words = words; label = label }) (stored_with point (by_number (pairs_for numbers words)) label) (λ n k. k + rest n) last_mid mid between
+      (after_held key point (pairs_for numbers words) label stand.entries) changed.free mid-held (tables-held-entries numbers rest key point words label map_of_words old pages stand.others stand.entries stand.tables known)
+      (tables-held-places numbers rest key point words label map_of_words old pages stand.others stand.entries stand.tables known) block after regrown last_then within serials_then rerooted

@@ -259,7 +259,7 @@ each-among P (t ∷ words) all =
 -- and of the words of updates
 all-among : (numbers : List (List ℕ × ℕ)) (table : List (ℕ × Counted)) (left : List Update) → ((w : List ℕ) → 0 < word_count (is_at (word_cmp w)) left → IsNamed numbers table w) → AreNamed numbers table left
 all-among numbers table [] all = tt
-all-among numbers table (Put key point words ∷ left) all = (
+all-among numbers table (Put key point words label ∷ left) all = (
   each-among (IsNamed numbers table) words (λ w some. all w (omega (arith, some))),
   all-among numbers table left (λ w some. all w (omega (arith, some))),
 )

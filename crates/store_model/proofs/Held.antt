@@ -79,7 +79,7 @@ word-counts numbers table next (t ∷ words) same known =
 -- where each number that is held ahead keeps its word, the words keep their numbers
 pub named-kept : (numbers : List (List ℕ × ℕ)) (table next : List (ℕ × Counted)) (left : List Update) → ((n : ℕ) → 0 < ahead numbers left n → word_at n next ≡ word_at n table) → AreNamed numbers table left → AreNamed numbers next left
 named-kept numbers table next [] same named = tt
-named-kept numbers table next (Put key point words ∷ left) same named = (
+named-kept numbers table next (Put key point words label ∷ left) same named = (
   word-counts numbers table next words (λ n some. same n (omega (arith, some))) named.0,
   named-kept numbers table next left (λ n some. same n (omega (arith, some))) named.1,
 )
@@ -87,7 +87,7 @@ named-kept numbers table next (Remove key ∷ left) same named = (tt, named-kept
 
 -- ---- the place is put
 
-module _ (numbers : List (List ℕ × ℕ)) (rest : ℕ → ℕ) (key : Name) (point : Position) (words : List (List ℕ × ℕ)) (entries : Entries) (next_word : ℕ)
+module _ (numbers : List (List ℕ × ℕ)) (rest : ℕ → ℕ) (key : Name) (point : Position) (words : List (List ℕ × ℕ)) (label : List ℕ) (entries : Entries) (next_word : ℕ)
     (agree : WordTablesAgree (λ n. holders n entries.places + (place_count (has_it numbers n) words + rest n)) entries.texts entries.numbers next_word) (ascend : AreAscending entries) (each : All IsPlaceEntry entries.places)
     (map_of_words : IsWordMap words) (known : AllByRecursion (IsNamed numbers entries.numbers) (keys_of words)) where
   -- the words' numbers
@@ -96,7 +96,7 @@ module _ (numbers : List (List ℕ × ℕ)) (rest : ℕ → ℕ) (key : Name) (p
 
   -- the place that is put
   abbrev stored : Stored
-  stored = stored_with point (by_number pairs)
+  stored = stored_with point (by_number pairs) label
 
   -- the entries with it, before the old words are released
   abbrev then : Entries
@@ -104,7 +104,7 @@ module _ (numbers : List (List ℕ × ℕ)) (rest : ℕ → ℕ) (key : Name) (p
 
   -- the entries after the put
   abbrev after : Entries
-  after = after_held key point pairs entries
+  after = after_held key point pairs label entries
 
   -- what claims a number with it
   abbrev claims_then : ℕ → ℕ
@@ -121,7 +121,7 @@ module _ (numbers : List (List ℕ × ℕ)) (rest : ℕ → ℕ) (key : Name) (p
   held-claims : (n : ℕ) → holders n entries.places + (place_count (has_it numbers n) words + rest n) ≡ claimed_beside (pairs_of (place_of_key key entries.places)) [] claims_then n
   held-claims n =
       let apart = apart-numbered entries.numbers words pairs held-named map_of_words.ascending in
-      let holds : has_number n stored ≡ has_pair n pairs = ap (has_pair n) (held-stored_with point (by_number pairs)) ∙ has_pair-by_number n pairs in
+      let holds : has_number n stored ≡ has_pair n pairs = ap (has_pair n) (held-stored_with point (by_number pairs) label) ∙ has_pair-by_number n pairs in
       let new : ◌≡◌ {A = ℕ} (cond (has_number n stored) 1 0) (cond (has_pair n pairs) 1 0) = ap (λ b. cond b 1 0) holds in
       omega (arith, holders-with_place n key stored entries.places ascend.places, held_by n (place_of_key key entries.places), new, counts-once numbers n words apart)
 
@@ -144,19 +144,19 @@ module _ (numbers : List (List ℕ × ℕ)) (rest : ℕ → ℕ) (key : Name) (p
 
   -- the place is at the key, and the others stay
   pub held-entries : after.places ≡ with_place key stored entries.places
-  held-entries = placed-entries key point words map_of_words entries next_word _ agree (λ n. omega arith) ascend now held-named (λ n w is. is) refl [] claims_then after (λ n. omega arith) held-released
+  held-entries = placed-entries key point words label map_of_words entries next_word _ agree (λ n. omega arith) ascend now held-named (λ n w is. is) refl [] claims_then after (λ n. omega arith) held-released
 
   -- the tables are sound for what is held ahead then
   pub held-sound : (serial next : ℕ) → All (λ (e : Name × Stored). IsSerialAbove serial e.0) entries.places → serial ≤ next → IsSerialAbove next key → AreSoundFor (λ n k. k + rest n) after next_word next
   held-sound serial next serials le below = record {
     words = subst (λ (ps : List (Name × Stored)). WordTablesAgree (λ n. holders n ps + rest n) after.texts after.numbers next_word) (sym held-entries)
-        (placed-agree key point words map_of_words entries next_word _ agree (λ n. omega arith) ascend now held-named (λ n w is. is) refl [] claims_then after (λ n. omega arith) held-released);
-    serials = placed-serials key point words map_of_words entries next_word _ agree (λ n. omega arith) ascend now held-named (λ n w is. is) refl [] claims_then after (λ n. omega arith) held-released serial next serials le below;
+        (placed-agree key point words label map_of_words entries next_word _ agree (λ n. omega arith) ascend now held-named (λ n w is. is) refl [] claims_then after (λ n. omega arith) held-released);
+    serials = placed-serials key point words label map_of_words entries next_word _ agree (λ n. omega arith) ascend now held-named (λ n w is. is) refl [] claims_then after (λ n. omega arith) held-released serial next serials le below;
   }
 
   -- the entries stand for the places with this one at the key
-  pub held-places : places_in after ≡ states.with_place key (record { point = point; words = words }) (places_in entries)
-  held-places = placed-places key point words map_of_words entries next_word _ agree (λ n. omega arith) ascend now held-named (λ n w is. is) refl [] claims_then after (λ n. omega arith) held-released
+  pub held-places : places_in after ≡ states.with_place key (record { point = point; words = words; label = label }) (places_in entries)
+  held-places = placed-places key point words label map_of_words entries next_word _ agree (λ n. omega arith) ascend now held-named (λ n w is. is) refl [] claims_then after (λ n. omega arith) held-released
 
   -- a number that is still held ahead keeps its word
   pub held-same : (n : ℕ) → 0 < rest n → word_at n after.numbers ≡ word_at n entries.numbers

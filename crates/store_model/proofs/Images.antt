@@ -78,6 +78,7 @@ few_uncounted n = few (nat_lt n 1)
 -- the fields of the empty store are in their ranges
 empty-range : IsInRange empty_store
 empty-range = record {
+  version = refl;
   counted = omega arith;
   first_free = omega arith;
   places = omega arith;
@@ -137,6 +138,6 @@ empty-area image area stands zeros =
     let block : superblock_in (page_bytes area 0) ≡ empty_store = ap (λ b. cond b empty_store (fields_of (page_bytes area 0))) zeros in
     record {
       contents = contents_in area;
-      holds = record { area = area; stands = stands; holds = refl; page = λ range some. absurd (true≢false (sym zeros ∙ some)) };
+      holds = record { area = area; stands = stands; holds = refl; page = λ range some. absurd (true≢false (sym zeros ∙ some)); version1 = λ one range some. absurd (true≢false (sym zeros ∙ some)) };
       stand = subst (λ (b : Superblock). PagesStand b (counted_pages b.counted (page_bytes area)) opening) (sym block) (empty-pages (counted_pages empty_store.counted (page_bytes area)));
     }

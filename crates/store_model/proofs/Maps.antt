@@ -2,12 +2,11 @@
 use Rattle.std.proofs.Common.{◌≡◌, ℕ, ℤ, zero, suc, ◌+◌, ◌<◌, ◌≤◌, ◌^◌, List, [], ◌∷◌, take, drop, drop_at, get_or, map, All, unsigned_abs, refl, sym, ap, subst, ◌∙◌, arith}
 use Rattle.std.proofs.Math.Facts.{Fits-lt-pow, Fits-of_z}
 use Rattle.std.proofs.lemmas.Int.{fits_signed_from_abs, to_z-of_z}
-use Rattle.std.proofs.lemmas.List.{take_all}
 use Rattle.std.proofs.lemmas.List.Elements.{All-head, All-tail}
 use Rattle.std.proofs.lemmas.Nat.{from_be_bytes-to_be_bytes_8}
 use Rattle.std.specs.Cmp.{nat_cmp_is}
 use Rattle.std.specs.Int.{cast_signed, cast_unsigned, from_be_bytes, to_be_bytes, w32, w64}
-use Rattle.std.specs.List.{AllByRecursion, flat_map}
+use Rattle.std.specs.List.{AllByRecursion}
 use Rattle.std.specs.List.Sorted.{IsStrictlySortedBy}
 use Rattle.std.specs.Map.{keys_of}
 use Rattle.std.specs.declared.cmp.Ordering.{Ordering}
@@ -22,12 +21,12 @@ use Rattle.btree_nodes.specs.Nodes.{least_of_root}
 use Rattle.btree_nodes.specs.Tree.{IsMap, level_of, map_rows}
 use Rattle.btree_nodes.proofs.Trees.{tree-within}
 use Rattle.row_codec.specs.Counted.{IsCounted, counted_value, number_bytes}
-use Rattle.row_codec.specs.Pairs.{pair_bytes}
-use Rattle.row_codec.specs.Stored.{IsValue, place_value, point_bytes}
+use Rattle.row_codec.specs.Stored.{place_value, point_bytes}
 use Rattle.row_codec.specs.declared.counted.Counted.{Counted}
 use Rattle.row_codec.specs.declared.stored.Stored.{Stored}
-use Rattle.row_codec.proofs.PairLemmas.{length-pairs}
-use Rattle.row_codec.proofs.ValueLemmas.{places_part, same_place, word_part, word_same, length-word_form}
+use Rattle.term_impacts.specs.Label.{label_form}
+use Rattle.term_impacts.proofs.LabelLemmas.{label_text_is}
+use Rattle.row_codec.proofs.ValueLemmas.{label_part, pairs_part, places_part, same_place, word_part, word_same, length-word_form}
 use Rattle.store_tables.specs.Coded.{IsEntryOf, IsPlaceValue, IsU64, row_by, word_code}
 use Rattle.store_tables.specs.Entries.{Entries}
 use Rattle.store_tables.specs.Holding.{Holds, HoldsMap}
@@ -134,16 +133,14 @@ count_next : (stored : Stored) → stored.count ≡ get_or (place_value stored) 
 unfolding place_value point_bytes
 count_next stored = refl
 
--- and those behind it are the pairs
-pairs_last : (stored : Stored) → IsValue stored → flat_map pair_bytes stored.pairs ≡ take 576 (drop 9 (place_value stored))
-unfolding place_value point_bytes
-pairs_last stored value = let size = value.size in sym (take_all 576 (flat_map pair_bytes stored.pairs) (omega (arith, size, length-pairs stored.pairs)))
-
 -- a place's value tells it
 place_value-same : (s t : Stored) → IsPlaceValue s → IsPlaceValue t → place_value s ≡ place_value t → s ≡ t
 place_value-same s t is also same =
     let point = point_bytes-same s.point t.point is.0.point also.0.point (sym (point_first s) ∙ ap (λ (l : List ℕ). take 8 l) same ∙ point_first t) in
-    same_place (place_value s) s t also.0 point (count_next s) (pairs_last s is.0) is.0.size is.0.pairs same
+    let pairs = sym (pairs_part (place_value s) s is.0 refl) in
+    let form = sym (label_part (place_value s) s is.0 refl) ∙ label_part (place_value s) t also.0 same in
+    let label = sym (label_text_is (label_form s.label) s.label is.0.label refl) ∙ label_text_is (label_form s.label) t.label also.0.label form in
+    same_place (place_value s) s t also.0 point (count_next s) pairs is.0.size is.0.pairs label same
 
 -- a word's form tells it
 pub word_form-same : (a b : List ℕ) → IsWordText a → IsWordText b → word_form a ≡ word_form b → a ≡ b

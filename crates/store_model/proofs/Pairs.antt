@@ -227,8 +227,8 @@ words-numbered numbers (t ∷ words) (p ∷ pairs) named sorted =
 -- ---- a place
 
 -- the pairs of a place of these pairs
-pub held-stored_with : (point : Position) (pairs : List Pair) → held_pairs (stored_with point pairs) ≡ pairs
-held-stored_with point pairs = take_at pairs (replicate (64 - length pairs) (0, 0)) (length pairs) refl
+pub held-stored_with : (point : Position) (pairs : List Pair) (label : List ℕ) → held_pairs (stored_with point pairs label) ≡ pairs
+held-stored_with point pairs label = take_at pairs (replicate (64 - length pairs) (0, 0)) (length pairs) refl
 
 -- a number of a u64
 abbrev pub IsNumber : ℕ → Type 0
@@ -239,9 +239,9 @@ abbrev pub IsImpact : ℕ → Type 0
 IsImpact i = (1 ≤ i) × (i ≤ 255)
 
 -- Pairs that ascend by number, with impacts, make a place of its form.
-pub stored-ascending : (point : Position) (pairs : List Pair) → length pairs ≤ 64 → IsStrictlySortedBy nat_cmp (keys_of pairs) → All HasImpact pairs → IsStored (stored_with point pairs)
-stored-ascending point pairs few sorted impacts =
-    let held = held-stored_with point pairs in
+pub stored-ascending : (point : Position) (pairs : List Pair) (label : List ℕ) → length pairs ≤ 64 → IsStrictlySortedBy nat_cmp (keys_of pairs) → All HasImpact pairs → IsStored (stored_with point pairs label)
+stored-ascending point pairs label few sorted impacts =
+    let held = held-stored_with point pairs label in
     record {
       few = few;
       ascending = subst (λ (ps : List Pair). IsStrictlyIncreasing (keys_of ps)) (sym held) (IsStrictlyIncreasing-from_sorted (keys_of pairs) sorted);

@@ -145,7 +145,7 @@ each_paired P (p ∷ pairs) all =
 -- a place whose numbers keep their words keeps its own
 pub place-same : (old new : List (ℕ × Counted)) (stored : Stored) → ((n : ℕ) → has_pair n (held_pairs stored) ≡ true → word_at n new ≡ word_at n old) → place_in new stored ≡ place_in old stored
 place-same old new stored same =
-    ap (λ (ws : List (List ℕ × ℕ)). record { point = stored.point; words = ws }) (words_of_pairs-same old new (held_pairs stored) (each_paired (λ n. word_at n new ≡ word_at n old) (held_pairs stored) same))
+    ap (λ (ws : List (List ℕ × ℕ)). record { point = stored.point; words = ws; label = stored.label }) (words_of_pairs-same old new (held_pairs stored) (each_paired (λ n. word_at n new ≡ word_at n old) (held_pairs stored) same))
 
 -- words have their numbers where those have the same words
 pub numbered-same : (old new : List (ℕ × Counted)) (words : List (List ℕ × ℕ)) (pairs : List Pair) → All (λ p. word_at p.0 new ≡ word_at p.0 old) pairs → AreNumbered old words pairs → AreNumbered new words pairs

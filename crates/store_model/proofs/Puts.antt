@@ -33,13 +33,13 @@ use Rattle.store_model.proofs.Releases.{releasing-all}
 -- ---- a place whose words have their numbers
 
 -- The words of a place have numbers, those of `now`, and with the place put at the key the words of the old one were released.
-module _ (key : Name) (point : Position) (words : List (List ℕ × ℕ)) (map_of_words : IsWordMap words) (entries : Entries) (next_word : ℕ) (claims : ℕ → ℕ) (agree : WordTablesAgree claims entries.texts entries.numbers next_word)
+module _ (key : Name) (point : Position) (words : List (List ℕ × ℕ)) (label : List ℕ) (map_of_words : IsWordMap words) (entries : Entries) (next_word : ℕ) (claims : ℕ → ℕ) (agree : WordTablesAgree claims entries.texts entries.numbers next_word)
     (covers : (n : ℕ) → holders n entries.places ≤ claims n) (ascend : AreAscending entries) (now : Numbered) (named : AreNumbered now.entries.numbers words now.pairs) (keeps : KeepsWords entries.numbers now.entries.numbers)
-    (same_places : now.entries.places ≡ entries.places) (new : List Pair) (claims_then : ℕ → ℕ) (after : Entries) (covers_then : (n : ℕ) → holders n (with_place key (stored_with point (by_number now.pairs)) entries.places) ≤ claims_then n)
-    (released : IsReleasing claims_then new (record now.entries { places = with_place key (stored_with point (by_number now.pairs)) now.entries.places }) now.next_word [] after) where
+    (same_places : now.entries.places ≡ entries.places) (new : List Pair) (claims_then : ℕ → ℕ) (after : Entries) (covers_then : (n : ℕ) → holders n (with_place key (stored_with point (by_number now.pairs) label) entries.places) ≤ claims_then n)
+    (released : IsReleasing claims_then new (record now.entries { places = with_place key (stored_with point (by_number now.pairs) label) now.entries.places }) now.next_word [] after) where
   -- the place that was put
   abbrev placed : Stored
-  placed = stored_with point (by_number now.pairs)
+  placed = stored_with point (by_number now.pairs) label
 
   -- the entries with it, before the old words were released
   abbrev between : Entries
@@ -51,7 +51,7 @@ module _ (key : Name) (point : Position) (words : List (List ℕ × ℕ)) (map_o
 
   -- the place holds the numbers of the words
   placed-holds : (n : ℕ) → has_number n placed ≡ has_pair n now.pairs
-  placed-holds n = ap (has_pair n) (held-stored_with point (by_number now.pairs)) ∙ has_pair-by_number n now.pairs
+  placed-holds n = ap (has_pair n) (held-stored_with point (by_number now.pairs) label) ∙ has_pair-by_number n now.pairs
 
   -- the place is at the key, and the others stay
   pub placed-entries : after.places ≡ with_place key placed entries.places
@@ -82,19 +82,19 @@ module _ (key : Name) (point : Position) (words : List (List ℕ × ℕ)) (map_o
       placed-same q s is n held ∙ keeps n word.0 word.1 ∙ sym word.1)
 
   -- the place has the words
-  placed-words : place_of_key key (with_place key placed entries.places) ≡ Some placed → place_in after.numbers placed ≡ record { point = point; words = words }
+  placed-words : place_of_key key (with_place key placed entries.places) ≡ Some placed → place_in after.numbers placed ≡ record { point = point; words = words; label = label }
   placed-words is =
-      let held = held-stored_with point (by_number now.pairs) in
+      let held = held-stored_with point (by_number now.pairs) label in
       let same : All (λ p. word_at p.0 after.numbers ≡ word_at p.0 now.entries.numbers) now.pairs =
       each_paired (λ n. word_at n after.numbers ≡ word_at n now.entries.numbers) now.pairs (λ n among. placed-same key placed is n (placed-holds n ∙ among)) in
       let still = numbered-same now.entries.numbers after.numbers words now.pairs same named in
-      ap (λ (ws : List (List ℕ × ℕ)). record { point = point; words = ws })
+      ap (λ (ws : List (List ℕ × ℕ)). record { point = point; words = ws; label = label })
       (ap (words_of_pairs after.numbers) held ∙ words-by_number claims_then after.texts after.numbers now.next_word placed-agree now.pairs placed-apart ∙ words-numbered after.numbers words now.pairs still map_of_words.ascending)
 
   -- the entries stand for the places with this one at the key
-  pub placed-places : places_in after ≡ states.with_place key (record { point = point; words = words }) (places_in entries)
+  pub placed-places : places_in after ≡ states.with_place key (record { point = point; words = words; label = label }) (places_in entries)
   placed-places =
-      let place : Place = record { point = point; words = words } in
+      let place : Place = record { point = point; words = words; label = label } in
       let left : IsStrictlySortedBy key_cmp (keys_of (places_in after)) = subst (IsStrictlySortedBy key_cmp) (sym (keys_of-map_values (place_in after.numbers) after.places)) released.ascend.places in
       let all : IsStrictlySortedBy key_cmp (keys_of (places_in entries)) = subst (IsStrictlySortedBy key_cmp) (sym (keys_of-map_values (place_in entries.numbers) entries.places)) ascend.places in
       same_from_lookups keys_are_ordered _ _ left (sorted-insert key_cmp_total key place (places_in entries) all) (λ q.
@@ -110,7 +110,7 @@ module _ (key : Name) (point : Position) (words : List (List ℕ × ℕ)) (map_o
       found q (Some s) was is = ap Some (placed-kept q s is was)
 
       split : (q : Name) (b : Bool) → is_at (key_cmp q) key ≡ b → (f : Option Stored) → place_of_key q entries.places ≡ f → place_of_key q (with_place key placed entries.places) ≡ cond b (Some placed) (place_of_key q entries.places)
-          → option_map (place_in after.numbers) (place_of_key q (with_place key placed entries.places)) ≡ cond b (Some (record { point = point; words = words })) (option_map (place_in entries.numbers) (place_of_key q entries.places))
+          → option_map (place_in after.numbers) (place_of_key q (with_place key placed entries.places)) ≡ cond b (Some (record { point = point; words = words; label = label })) (option_map (place_in entries.numbers) (place_of_key q entries.places))
       split q true at f was is =
           let same : q ≡ key = same_from_test keys_are_ordered q key at in
           let here : place_of_key key (with_place key placed entries.places) ≡ Some placed = ap (λ (k : Name). place_of_key k (with_place key placed entries.places)) (sym same) ∙ is in
@@ -119,7 +119,7 @@ module _ (key : Name) (point : Position) (words : List (List ℕ × ℕ)) (map_o
 
 -- ---- a place whose words are numbered
 
-module _ (key : Name) (point : Position) (words : List (List ℕ × ℕ)) (entries : Entries) (next_word : ℕ) (agree : WordsAgree entries next_word) (ascend : AreAscending entries) (each : All IsPlaceEntry entries.places)
+module _ (key : Name) (point : Position) (words : List (List ℕ × ℕ)) (label : List ℕ) (entries : Entries) (next_word : ℕ) (agree : WordsAgree entries next_word) (ascend : AreAscending entries) (each : All IsPlaceEntry entries.places)
     (map_of_words : IsWordMap words) (room : length (without_place key entries.places) + 1 < 2 ^ 32) (numbers_left : next_word + length words ≤ 2 ^ 64) where
   -- how many places hold a number
   abbrev claims : ℕ → ℕ
@@ -135,7 +135,7 @@ module _ (key : Name) (point : Position) (words : List (List ℕ × ℕ)) (entri
 
   -- the place that is put
   abbrev stored : Stored
-  stored = stored_with point (by_number now.pairs)
+  stored = stored_with point (by_number now.pairs) label
 
   -- the entries with it, before the old words are released
   abbrev then : Entries
@@ -143,7 +143,7 @@ module _ (key : Name) (point : Position) (words : List (List ℕ × ℕ)) (entri
 
   -- the entries after the put
   abbrev after : Entries
-  after = after_put key point words next_word entries
+  after = after_put key point words label next_word entries
 
   -- how many places hold a number, with it
   abbrev claims_then : ℕ → ℕ
@@ -159,7 +159,7 @@ module _ (key : Name) (point : Position) (words : List (List ℕ × ℕ)) (entri
 
   -- it holds the numbers of the words
   pub put-holds : (n : ℕ) → has_number n stored ≡ has_pair n now.pairs
-  put-holds n = ap (has_pair n) (held-stored_with point (by_number now.pairs)) ∙ has_pair-by_number n now.pairs
+  put-holds n = ap (has_pair n) (held-stored_with point (by_number now.pairs) label) ∙ has_pair-by_number n now.pairs
 
   -- what is claimed for the numbered words and the old place is claimed for the new one and the old words that are left
   put-claims : (n : ℕ) → claimed_beside now.pairs old claims n ≡ claimed_beside old now.pairs claims_then n
@@ -196,11 +196,11 @@ module _ (key : Name) (point : Position) (words : List (List ℕ × ℕ)) (entri
   pub put-sound : (serial next : ℕ) → All (λ (e : Name × Stored). IsSerialAbove serial e.0) entries.places → serial ≤ next → IsSerialAbove next key → AreSound after now.next_word next
   put-sound serial next serials le below = record {
     words = subst (λ (ps : List (Name × Stored)). WordTablesAgree (λ n. holders n ps) after.texts after.numbers now.next_word) (sym put-entries) (agree-released claims_then now.pairs then now.next_word after put-released);
-    serials = placed-serials key point words map_of_words entries next_word claims agree (λ n. omega arith) ascend now put-numbered.named put-numbered.keeps put-numbered.places now.pairs claims_then after (λ n. omega arith) put-released
+    serials = placed-serials key point words label map_of_words entries next_word claims agree (λ n. omega arith) ascend now put-numbered.named put-numbered.keeps put-numbered.places now.pairs claims_then after (λ n. omega arith) put-released
         serial next serials le below;
   }
 
   -- the entries stand for the places with this one at the key
-  pub put-places : places_in after ≡ states.with_place key (record { point = point; words = words }) (places_in entries)
+  pub put-places : places_in after ≡ states.with_place key (record { point = point; words = words; label = label }) (places_in entries)
   put-places =
-      placed-places key point words map_of_words entries next_word claims agree (λ n. omega arith) ascend now put-numbered.named put-numbered.keeps put-numbered.places now.pairs claims_then after (λ n. omega arith) put-released
+      placed-places key point words label map_of_words entries next_word claims agree (λ n. omega arith) ascend now put-numbered.named put-numbered.keeps put-numbered.places now.pairs claims_then after (λ n. omega arith) put-released

@@ -84,10 +84,10 @@ module _ {claims : ℕ → ℕ → ℕ} {last : ℕ} (old : Superblock) (pages :
         (omega (arith, live, was, long, length-without_place key entries.places))
 
 module _ (old : Superblock) (pages : PageMap) (others : ℕ → ℕ) (entries : Entries) (stand : TablesStand old pages others entries) where
-  module _ (key : Name) (point : Position) (words : List (List ℕ × ℕ)) (map_of_words : IsWordMap words) (room : old.head.live + 1 < 2 ^ 32 + cond (is_some (place_of_key key entries.places)) 1 0) where
+  module _ (key : Name) (point : Position) (words : List (List ℕ × ℕ)) (label : List ℕ) (map_of_words : IsWordMap words) (room : old.head.live + 1 < 2 ^ 32 + cond (is_some (place_of_key key entries.places)) 1 0) where
     -- the entries after the place was put
     abbrev put : Entries
-    put = after_put key point words old.head.next_word entries
+    put = after_put key point words label old.head.next_word entries
 
     -- the next word number then
     abbrev next_then : ℕ
@@ -106,44 +106,44 @@ module _ (old : Superblock) (pages : PageMap) (others : ℕ → ℕ) (entries : 
     -- the next word number keeps its range
     pub tables-next : (old.head.next_word ≤ next_then) × (next_then ≤ 64 * (old.head.number + 1 + 1))
     tables-next =
-        let next = put-next key point words entries old.head.next_word stand.sound.words (ascending old pages others entries stand) stand.holds.places.each map_of_words room_left numbers_left in
+        let next = put-next key point words label entries old.head.next_word stand.sound.words (ascending old pages others entries stand) stand.holds.places.each map_of_words room_left numbers_left in
         let few = map_of_words.few in
         let most = stand.range.words in
         (next.0, omega (arith, next.1, few, most))
 
     -- after a put the table has the place at the key
-    pub tables-put-entries : put.places ≡ with_place key (stored_with point (by_number (numbered_for key words old.head.next_word entries).pairs)) entries.places
-    tables-put-entries = put-entries key point words entries old.head.next_word stand.sound.words (ascending old pages others entries stand) stand.holds.places.each map_of_words room_left numbers_left
+    pub tables-put-entries : put.places ≡ with_place key (stored_with point (by_number (numbered_for key words old.head.next_word entries).pairs) label) entries.places
+    tables-put-entries = put-entries key point words label entries old.head.next_word stand.sound.words (ascending old pages others entries stand) stand.holds.places.each map_of_words room_left numbers_left
 
     -- after a put the entries are those of the places with this one at the key
-    pub tables-put-places : places_in put ≡ states.with_place key (record { point = point; words = words }) (places_in entries)
-    tables-put-places = put-places key point words entries old.head.next_word stand.sound.words (ascending old pages others entries stand) stand.holds.places.each map_of_words room_left numbers_left
+    pub tables-put-places : places_in put ≡ states.with_place key (record { point = point; words = words; label = label }) (places_in entries)
+    tables-put-places = put-places key point words label entries old.head.next_word stand.sound.words (ascending old pages others entries stand) stand.holds.places.each map_of_words room_left numbers_left
 
     -- and the tables stand for them beside the same pages of others, which stayed
     pub tables-put : (block : Superblock) (after : PageMap) → (changed : IsChanged (view pages old.counted old.first_free stand.free) (tables_in old.head) after block.counted block.first_free (tables_in block.head) put)
         → IsInRange block → block.head.next_word ≡ next_then → old.head.serial ≤ block.head.serial → IsSerialAbove block.head.serial key → block.head.live + cond (is_some (place_of_key key entries.places)) 1 0 ≡ old.head.live + 1
         → TablesOver (λ number places. places) block.head.number block after others put changed.free × ArePagesKept others pages after
     tables-put block after changed range next later below live =
-        let sound = put-sound key point words entries old.head.next_word stand.sound.words (ascending old pages others entries stand) stand.holds.places.each map_of_words room_left numbers_left old.head.serial block.head.serial stand.sound.serials later below in
+        let sound = put-sound key point words label entries old.head.next_word stand.sound.words (ascending old pages others entries stand) stand.holds.places.each map_of_words room_left numbers_left old.head.serial block.head.serial stand.sound.serials later below in
         let long = ap length tables-put-entries in
         let was = stand.live in
         tables-changed old pages others entries stand block after put changed (λ number places. places) block.head.number range range.serials (subst (λ n. AreSound put n block.head.serial) (sym next) sound)
-        (omega (arith, live, was, long, length-with_place key (stored_with point (by_number (numbered_for key words old.head.next_word entries).pairs)) entries.places (ascending old pages others entries stand).places))
+        (omega (arith, live, was, long, length-with_place key (stored_with point (by_number (numbered_for key words old.head.next_word entries).pairs) label) entries.places (ascending old pages others entries stand).places))
 
 -- a place is put whose words were held ahead, beside what else is
-module _ (numbers : List (List ℕ × ℕ)) (rest : ℕ → ℕ) (key : Name) (point : Position) (words : List (List ℕ × ℕ)) (map_of_words : IsWordMap words) {last : ℕ} (old : Superblock) (pages : PageMap) (others : ℕ → ℕ) (entries : Entries)
+module _ (numbers : List (List ℕ × ℕ)) (rest : ℕ → ℕ) (key : Name) (point : Position) (words : List (List ℕ × ℕ)) (label : List ℕ) (map_of_words : IsWordMap words) {last : ℕ} (old : Superblock) (pages : PageMap) (others : ℕ → ℕ) (entries : Entries)
     (stand : TablesStandFor (λ n k. k + (place_count (λ word. number_in numbers word == n) words + rest n)) last old pages others entries) (known : AllByRecursion (IsNamed numbers entries.numbers) (keys_of words)) where
   -- the entries after the place was put
   abbrev held : Entries
-  held = after_held key point (pairs_for numbers words) entries
+  held = after_held key point (pairs_for numbers words) label entries
 
   -- the table has the place at the key
-  pub tables-held-entries : held.places ≡ with_place key (stored_with point (by_number (pairs_for numbers words))) entries.places
-  tables-held-entries = held-entries numbers rest key point words entries old.head.next_word stand.sound.words (ascending old pages others entries stand) stand.holds.places.each map_of_words known
+  pub tables-held-entries : held.places ≡ with_place key (stored_with point (by_number (pairs_for numbers words)) label) entries.places
+  tables-held-entries = held-entries numbers rest key point words label entries old.head.next_word stand.sound.words (ascending old pages others entries stand) stand.holds.places.each map_of_words known
 
   -- the entries are those of the places with this one at the key
-  pub tables-held-places : places_in held ≡ states.with_place key (record { point = point; words = words }) (places_in entries)
-  tables-held-places = held-places numbers rest key point words entries old.head.next_word stand.sound.words (ascending old pages others entries stand) stand.holds.places.each map_of_words known
+  pub tables-held-places : places_in held ≡ states.with_place key (record { point = point; words = words; label = label }) (places_in entries)
+  tables-held-places = held-places numbers rest key point words label entries old.head.next_word stand.sound.words (ascending old pages others entries stand) stand.holds.places.each map_of_words known
 
   -- and the tables stand for them beside the same pages of others, which stayed
   pub tables-held : (block : Superblock) (after : PageMap) → (changed : IsChanged (view pages old.counted old.first_free stand.free) (tables_in old.head) after block.counted block.first_free (tables_in block.head) held)
@@ -151,8 +151,8 @@ module _ (numbers : List (List ℕ × ℕ)) (rest : ℕ → ℕ) (key : Name) (p
       → block.head.live + cond (is_some (place_of_key key entries.places)) 1 0 ≡ old.head.live + 1
       → TablesOver (λ n k. k + rest n) last_then block after others held changed.free × ArePagesKept others pages after
   tables-held block after changed last_then range serials next later below live =
-      let sound = held-sound numbers rest key point words entries old.head.next_word stand.sound.words (ascending old pages others entries stand) stand.holds.places.each map_of_words known old.head.serial block.head.serial stand.sound.serials later below in
+      let sound = held-sound numbers rest key point words label entries old.head.next_word stand.sound.words (ascending old pages others entries stand) stand.holds.places.each map_of_words known old.head.serial block.head.serial stand.sound.serials later below in
       let long = ap length tables-held-entries in
       let was = stand.live in
       tables-changed old pages others entries stand block after held changed (λ n k. k + rest n) last_then range serials (subst (λ n. AreSoundFor (λ n k. k + rest n) held n block.head.serial) (sym next) sound)
-      (omega (arith, live, was, long, length-with_place key (stored_with point (by_number (pairs_for numbers words))) entries.places (ascending old pages others entries stand).places))
+      (omega (arith, live, was, long, length-with_place key (stored_with point (by_number (pairs_for numbers words)) label) entries.places (ascending old pages others entries stand).places))

@@ -156,7 +156,7 @@ module _ {claims : ℕ → ℕ → ℕ} {last : ℕ} (block : Superblock) (pages
   whole-in = stands-whole block.head pages block.counted block.first_free tables.free mine others stands tables.apart.supplied tables.apart.some others_once tables.away
 
 -- a page that can't be taken as a new one is counted
-counted-from : (n count : ℕ) → uncounted count n ≡ 0 → n < count
+pub counted-from : (n count : ℕ) → uncounted count n ≡ 0 → n < count
 unfolding uncounted
 counted-from n count none = grind (arith, nat_tests)
 

@@ -20,13 +20,13 @@ use Rattle.store_model.specs.Updates.{after_held, after_put, numbered_for}
 
 -- the words that an update puts, with their impacts
 abbrev pub words_put : Update → List (List ℕ × ℕ)
-words_put (Put key point words) = words
+words_put (Put key point words label) = words
 words_put (Remove key) = []
 
 -- how many of the updates are Puts
 abbrev pub puts_in : List Update → ℕ
 puts_in [] = 0
-puts_in (Put key point words ∷ updates) = puts_in updates + 1
+puts_in (Put key point words label ∷ updates) = puts_in updates + 1
 puts_in (Remove key ∷ updates) = puts_in updates
 
 -- how many words of a place have a property
@@ -36,7 +36,7 @@ place_count has words = count_by (λ (term : List ℕ × ℕ). has term.0) words
 -- how many words with a property the updates put, each as often as they do
 abbrev pub word_count : (List ℕ → Bool) → List Update → ℕ
 word_count has [] = 0
-word_count has (Put key point words ∷ updates) = place_count has words + word_count has updates
+word_count has (Put key point words label ∷ updates) = place_count has words + word_count has updates
 word_count has (Remove key ∷ updates) = word_count has updates
 
 -- how often counted words with a property were counted
@@ -112,9 +112,9 @@ pub record AreCountedWords (counts : List (List ℕ × ℕ)) : Type 0 where
 -- ---- an update in a batch, whose words were held ahead by these numbers, or whose words are numbered as they come
 
 -- the entries after a place was put at a key
-abbrev pub after_put_by : Option (List (List ℕ × ℕ)) → Name → Position → List (List ℕ × ℕ) → ℕ → Entries → Entries
-after_put_by None key point words next_word entries = after_put key point words next_word entries
-after_put_by (Some numbers) key point words next_word entries = after_held key point (pairs_for numbers words) entries
+abbrev pub after_put_by : Option (List (List ℕ × ℕ)) → Name → Position → List (List ℕ × ℕ) → List ℕ → ℕ → Entries → Entries
+after_put_by None key point words label next_word entries = after_put key point words label next_word entries
+after_put_by (Some numbers) key point words label next_word entries = after_held key point (pairs_for numbers words) label entries
 
 -- the numbers of its words
 abbrev pub pairs_by : Option (List (List ℕ × ℕ)) → Name → List (List ℕ × ℕ) → ℕ → Entries → List Pair

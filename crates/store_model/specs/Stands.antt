@@ -25,9 +25,9 @@ use Rattle.store_tables.specs.Entries.{Entries}
 use Rattle.store_tables.specs.Holding.{Holds, IsApart, table_uses}
 use Rattle.store_tables.specs.Words.{WordTablesAgree, holders, words_of_place}
 
--- a place: its point, and its words, each read through the words by number
+-- a place: its point, its words, each read through the words by number, and its label
 abbrev pub place_in : List (ℕ × Counted) → Stored → Place
-place_in numbers stored = record { point = stored.point; words = words_of_place numbers stored }
+place_in numbers stored = record { point = stored.point; words = words_of_place numbers stored; label = stored.label }
 
 -- the places that the entries list, in the keys' order
 abbrev pub places_in : Entries → Places

@@ -69,30 +69,30 @@ placed = fold (λ done pair. insert_entry nat_cmp done pair.0 pair.1)
 abbrev pub by_number : List Pair → List Pair
 by_number = placed []
 
--- a place with these pairs
-abbrev pub stored_with : Position → List Pair → Stored
-stored_with point pairs = record { point = point; count = length pairs; pairs = pairs ++ replicate (64 - length pairs) (0, 0) }
+-- a place with these pairs and this label
+abbrev pub stored_with : Position → List Pair → List ℕ → Stored
+stored_with point pairs label = record { point = point; count = length pairs; pairs = pairs ++ replicate (64 - length pairs) (0, 0); label = label }
 
 -- the entries with a place put at a key, whose words have been numbered
-abbrev pub entries_with : Name → Position → List Pair → Numbered → Entries
-entries_with key point old numbered =
+abbrev pub entries_with : Name → Position → List ℕ → List Pair → Numbered → Entries
+entries_with key point label old numbered =
     released_all numbered.pairs old
-    (record numbered.entries { places = with_place key (stored_with point (by_number numbered.pairs)) numbered.entries.places })
+    (record numbered.entries { places = with_place key (stored_with point (by_number numbered.pairs) label) numbered.entries.places })
 
 -- the entries and the next word number after a place was put at a key, and the numbers of its words
 abbrev pub numbered_for : Name → List (List ℕ × ℕ) → ℕ → Entries → Numbered
 numbered_for key words next_word entries = numbered (pairs_of (place_of_key key entries.places)) words next_word entries
 
 -- the entries after a place was put at a key
-abbrev pub after_put : Name → Position → List (List ℕ × ℕ) → ℕ → Entries → Entries
-after_put key point words next_word entries =
-    entries_with key point (pairs_of (place_of_key key entries.places)) (numbered_for key words next_word entries)
+abbrev pub after_put : Name → Position → List (List ℕ × ℕ) → List ℕ → ℕ → Entries → Entries
+after_put key point words label next_word entries =
+    entries_with key point label (pairs_of (place_of_key key entries.places)) (numbered_for key words next_word entries)
 
 -- The entries after a place with these pairs was put at a key, whose words were held ahead: each word of the old place is
 -- released, also those that the new place has, since that hold was counted ahead.
-abbrev pub after_held : Name → Position → List Pair → Entries → Entries
-after_held key point pairs entries =
-    released_all [] (pairs_of (place_of_key key entries.places)) (record entries { places = with_place key (stored_with point (by_number pairs)) entries.places })
+abbrev pub after_held : Name → Position → List Pair → List ℕ → Entries → Entries
+after_held key point pairs label entries =
+    released_all [] (pairs_of (place_of_key key entries.places)) (record entries { places = with_place key (stored_with point (by_number pairs) label) entries.places })
 
 -- the entries after a key was taken out
 abbrev pub after_remove : Name → Entries → Entries

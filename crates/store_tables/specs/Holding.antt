@@ -16,9 +16,9 @@ use Rattle.store_tables.specs.declared.tables.Tables.{Tables}
 use Rattle.store_tables.specs.Coded.{IsEntryOf, IsPlaceValue, IsU64, key_code, number_code, row_by, word_code}
 use Rattle.store_tables.specs.Entries.{Entries}
 
--- the place table: keys of 66 bytes, values of 585, map 1
+-- the place table: keys of 66 bytes, values of 649, map 5
 abbrev pub places_form : Form
-places_form = record { key = 66; value = 585; map = 1; some = lit≤ tt; short = lit≤ tt; fits = lit≤ tt }
+places_form = record { key = 66; value = 649; map = 5; some = lit≤ tt; short = lit≤ tt; fits = lit≤ tt }
 
 -- the words by text: keys of 33 bytes, values of 8, map 2
 abbrev pub texts_form : Form

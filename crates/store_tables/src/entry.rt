@@ -32,7 +32,7 @@ pub(crate) fn first_behind(after: Option<&Key>) -> [u8; 66]
 }
 
 /// Decodes the key and the place of a row. Returns `None` exactly if its bytes are no key's and place's.
-pub(crate) fn entry_of_bytes(key: &[u8; 66], value: &[u8; 585]) -> Option<(Key, Stored)>
+pub(crate) fn entry_of_bytes(key: &[u8; 66], value: &[u8; 649]) -> Option<(Key, Stored)>
     ensures form { IfSome result (λ entry. IsPlaceEntry entry × (number key.now ≡ key_code entry.0) × (value.now ≡ place_value entry.1)) }
     ensures every { (entry : Name × Stored) → IsPlaceEntry entry → number key.now ≡ key_code entry.0 → value.now ≡ place_value entry.1 → result ≡ Some entry }
 {

@@ -14,13 +14,13 @@ impl Layout for Places {
 
     const KEY: usize = 66;
 
-    ghost VALUE = { 585 };
+    ghost VALUE = { 649 };
 
-    const VALUE: usize = 585;
+    const VALUE: usize = 649;
 
-    ghost MAP = { 1 };
+    ghost MAP = { 5 };
 
-    const MAP: u8 = 1;
+    const MAP: u8 = 5;
 
     ghost key_is = { refl };
 

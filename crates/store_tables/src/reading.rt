@@ -78,7 +78,7 @@ impl Tables {
         ensures fails { FailsReading P.Pages pages.old pages.new result }
         ensures frame { Reads P.Pages pages.old pages.new }
     {
-        let mut value = [0; 585];
+        let mut value = [0; 649];
         let Some(leaf) = get_row::<Places, P>(pages, self.places, &key.bytes(), &mut value)? else {
             return Ok(None);
         };
@@ -249,7 +249,7 @@ impl Tables {
         ensures frame { Reads P.Pages pages.old pages.new }
     {
         let mut found = [0; 66];
-        let mut value = [0; 585];
+        let mut value = [0; 649];
         let from = first_behind(after);
         let Some(leaf) = first_row::<Places, P>(pages, self.places, &from, &mut found, &mut value)?
         else {

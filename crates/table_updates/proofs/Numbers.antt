@@ -32,8 +32,8 @@ map-insert pairs number impact map room some = record {
 }
 
 -- a place with its pairs is of its form
-pub stored-map : (point : Position) (pairs : List Pair) → IsNumberMap pairs → IsStored (stored_with point pairs)
-stored-map point pairs map = stored-ascending point pairs map.few map.ascending map.impacts
+pub stored-map : (point : Position) (pairs : List Pair) (label : List ℕ) → IsNumberMap pairs → IsStored (stored_with point pairs label)
+stored-map point pairs label map = stored-ascending point pairs label map.few map.ascending map.impacts
 
 -- pairs that are filled up to a place, with one more
 pub filled-more : (pairs left rest entries : List Pair) (count : ℕ) (pair : Pair) → count < length pairs → left ≡ pair ∷ rest → take count pairs ++ left ≡ entries → take (count + 1) (slice_set pairs count pair) ++ rest ≡ entries
@@ -56,10 +56,10 @@ spare-more pairs count pair spare =
     less n = omega arith
 
 -- all pairs make the place
-pub filled-all : (point : Position) (pairs left entries : List Pair) (count : ℕ) → left ≡ [] → take count pairs ++ left ≡ entries → count + length left ≡ length entries → drop count pairs ≡ replicate (64 - count) (0, 0)
-    → ◌≡◌ {A = Stored} (record { point = point; count = count; pairs = pairs }) (stored_with point entries)
-filled-all point pairs left entries count none filled all spare =
-    λ i. record { point = point; count = long i; pairs = held i }
+pub filled-all : (point : Position) (label : List ℕ) (pairs left entries : List Pair) (count : ℕ) → left ≡ [] → take count pairs ++ left ≡ entries → count + length left ≡ length entries → drop count pairs ≡ replicate (64 - count) (0, 0)
+    → ◌≡◌ {A = Stored} (record { point = point; count = count; pairs = pairs; label = label }) (stored_with point entries label)
+filled-all point label pairs left entries count none filled all spare =
+    λ i. record { point = point; count = long i; pairs = held i; label = label }
   where
     long : count ≡ length entries
     long = (let no : length left ≡ 0 = ap length none in omega (arith, all, no))

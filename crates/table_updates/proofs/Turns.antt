@@ -58,29 +58,29 @@ module _ (new old rest : List Pair) (pair : Pair) (entries : Entries) (is : old 
 
 -- ---- a place that is put
 
-module _ (key : Name) (point : Position) (words listed : List (List ℕ × ℕ)) (next : ℕ) (entries : Entries) (held new : List Pair) (stored : Stored) (pairs : List Pair)
-    (held_is : held ≡ pairs_of (place_of_key key entries.places)) (listed_is : listed ≡ words) (pairs_are : pairs ≡ by_number (numbered held listed next entries).pairs) (stored_is : stored ≡ stored_with point pairs) (new_is : new ≡ held_pairs stored) where
+module _ (key : Name) (point : Position) (label : List ℕ) (words listed : List (List ℕ × ℕ)) (next : ℕ) (entries : Entries) (held new : List Pair) (stored : Stored) (pairs : List Pair)
+    (held_is : held ≡ pairs_of (place_of_key key entries.places)) (listed_is : listed ≡ words) (pairs_are : pairs ≡ by_number (numbered held listed next entries).pairs) (stored_is : stored ≡ stored_with point pairs label) (new_is : new ≡ held_pairs stored) where
   -- the entries with the place, by what was numbered
   abbrev with_new : List Pair → List (List ℕ × ℕ) → Stored → Entries
   with_new old terms place = record (numbered old terms next entries).entries { places = with_place key place (numbered old terms next entries).entries.places }
 
   -- the place has the numbers in their order
-  stored_as : stored ≡ stored_with point (by_number (numbered_for key words next entries).pairs)
-  stored_as = stored_is ∙ ap (stored_with point) pairs_are ∙ (λ i. stored_with point (by_number (numbered (held_is i) (listed_is i) next entries).pairs))
+  stored_as : stored ≡ stored_with point (by_number (numbered_for key words next entries).pairs) label
+  stored_as = stored_is ∙ ap (λ (ps : List Pair). stored_with point ps label) pairs_are ∙ (λ i. stored_with point (by_number (numbered (held_is i) (listed_is i) next entries).pairs) label)
 
   -- its pairs are those
   new_as : new ≡ by_number (numbered_for key words next entries).pairs
-  new_as = new_is ∙ ap held_pairs stored_as ∙ held-stored_with point (by_number (numbered_for key words next entries).pairs)
+  new_as = new_is ∙ ap held_pairs stored_as ∙ held-stored_with point (by_number (numbered_for key words next entries).pairs) label
 
   -- the entries after the put
-  pub after-puts : released_all new held (with_new held listed stored) ≡ after_put key point words next entries
+  pub after-puts : released_all new held (with_new held listed stored) ≡ after_put key point words label next entries
   after-puts =
       (λ i. released_all (new_as i) (held_is i) (with_new (held_is i) (listed_is i) (stored_as i)))
       ∙ released_all-same _ (numbered_for key words next entries).pairs (pairs_of (place_of_key key entries.places)) _ (λ n. has_pair-by_number n (numbered_for key words next entries).pairs)
 
   -- and the old words can be released where they can by what was numbered
-  pub can-release-puts : CanReleaseAll (by_number (numbered_for key words next entries).pairs) (pairs_of (place_of_key key entries.places)) (with_new (pairs_of (place_of_key key entries.places)) words (stored_with point (by_number (numbered_for key words next entries).pairs)))
+  pub can-release-puts : CanReleaseAll (by_number (numbered_for key words next entries).pairs) (pairs_of (place_of_key key entries.places)) (with_new (pairs_of (place_of_key key entries.places)) words (stored_with point (by_number (numbered_for key words next entries).pairs) label))
       → CanReleaseAll new held (with_new held listed stored)
   can-release-puts can =
       subst₂ (λ (ps : List Pair) (place : Stored). CanReleaseAll ps held (with_new held listed place)) (sym new_as) (sym stored_as)
-      (subst₂ (λ (old : List Pair) (terms : List (List ℕ × ℕ)). CanReleaseAll (by_number (numbered_for key words next entries).pairs) old (with_new old terms (stored_with point (by_number (numbered_for key words next entries).pairs)))) (sym held_is) (sym listed_is) can)
+      (subst₂ (λ (old : List Pair) (terms : List (List ℕ × ℕ)). CanReleaseAll (by_number (numbered_for key words next entries).pairs) old (with_new old terms (stored_with point (by_number (numbered_for key words next entries).pairs) label))) (sym held_is) (sym listed_is) can)

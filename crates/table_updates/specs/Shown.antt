@@ -22,9 +22,9 @@ AreWordsFound pages count root (pair ∷ pairs) words =
     (rest : List (List ℕ × ℕ)) × (row : Counted) × AreWordsFound pages count root pairs rest
     × IsLookedUp numbers_form pages count root pair.0 (Some (counted_value row)) × (words ≡ insert_entry word_cmp rest row.word pair.1)
 
--- the place at a key by the place table's row there, with its words, and none where there is no row
+-- the place at a key by the place table's row there, with its words and its label, and none where there is no row
 abbrev pub IsPlaceFound : PageMap → ℕ → Tables → Name → Option Place → Type 0
 IsPlaceFound pages count tables key None = IsLookedUp places_form pages count tables.places (key_code key) None
 IsPlaceFound pages count tables key (Some place) =
     (stored : Stored) × IsLookedUp places_form pages count tables.places (key_code key) (Some (place_value stored))
-    × (place.point ≡ stored.point) × AreWordsFound pages count tables.numbers (held_pairs stored) place.words
+    × (place.point ≡ stored.point) × AreWordsFound pages count tables.numbers (held_pairs stored) place.words × (place.label ≡ stored.label)

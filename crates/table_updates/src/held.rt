@@ -27,7 +27,7 @@ use spatial_base::{Key, Point};
 use std::alloc::Global;
 use std::collections::BTreeMap;
 use store_tables::{Stored, Tables, disagreement};
-use term_impacts::{Word, Words};
+use term_impacts::{Label, Word, Words};
 
 // Maps the number that each word has in the map to the word's impact.
 fn pair_words(
@@ -53,8 +53,8 @@ fn pair_words(
     pair_words(rest, numbers, pairs)
 }
 
-/// Puts a place whose words were held ahead, by these numbers, at a key. `old` is what lives there now. Each word of the old
-/// place is held by one place fewer. Returns the place as the place table keeps it.
+/// Puts a place with this label, whose words were held ahead, by these numbers, at a key. `old` is what lives there now. Each word of
+/// the old place is held by one place fewer. Returns the place as the place table keeps it.
 ///
 /// Refuses as [`Tables::put_place`] and [`Tables::release`] do, `Memory`, and `Damaged` with `Words` at page 0 if a word has no
 /// number. After a refusal the tables are as before, and pages may have changed. Costs a put into the place table, a release for
@@ -67,14 +67,15 @@ pub fn put_held<P: Pages>(
     old: Option<&Stored>,
     point: Point,
     words: &Words,
+    label: Label,
     numbers: &IndexMap<Word, u64>,
 ) -> Result<Stored, PageFault>
     requires form { IfSome (option_copied old) IsStored }
     ensures put { (entries : Entries) (free : List ℕ) → Holds (P.pages pages.old) tables.old entries → IsApart (view (P.pages pages.old) (P.count pages.old) (P.first pages.old) free) tables.old
         → option_copied old.entry ≡ place_of_key key.now entries.places
-        → IfOk result (λ stored. (stored ≡ stored_with point (by_number (pairs_for numbers.now.entries words.now)))
+        → IfOk result (λ stored. (stored ≡ stored_with point (by_number (pairs_for numbers.now.entries words.now)) label)
         × IsChanged (view (P.pages pages.old) (P.count pages.old) (P.first pages.old) free) tables.old
-        (P.pages pages.new) (P.count pages.new) (P.first pages.new) tables.new (after_held key.now point (pairs_for numbers.now.entries words.now) entries)) }
+        (P.pages pages.new) (P.count pages.new) (P.first pages.new) tables.new (after_held key.now point (pairs_for numbers.now.entries words.now) label entries)) }
 
     // On tables that agree with the places and with what else is held ahead, no damage is found if the words were held ahead.
     ensures no_false_damage { (entries : Entries) (free : List ℕ) → Holds (P.pages pages.old) tables.old entries → IsApart (view (P.pages pages.old) (P.count pages.old) (P.first pages.old) free) tables.old
@@ -91,7 +92,7 @@ pub fn put_held<P: Pages>(
 {
     let mut pairs = BTreeMap::new(alloc);
     pair_words(words.pairs(), numbers, &mut pairs)?;
-    let stored = place_with(point, &pairs);
+    let stored = place_with(point, &pairs, label);
     let mut next = *tables;
     next.put_place(pages, key, &stored)?;
     release_words(pages, &mut next, &[], held_pairs(old))?;
@@ -109,23 +110,24 @@ pub fn put_in_batch<P: Pages>(
     old: Option<&Stored>,
     point: Point,
     words: &Words,
+    label: Label,
     held: &Option<IndexMap<Word, u64>>,
 ) -> Result<Stored, PageFault>
     requires next { tables.old.next_word ≤ 2 ^ 62 }
     requires form { IfSome (option_copied old) IsStored }
     ensures put { (entries : Entries) (free : List ℕ) → Holds (P.pages pages.old) tables.old entries → IsApart (view (P.pages pages.old) (P.count pages.old) (P.first pages.old) free) tables.old
         → option_copied old.entry ≡ place_of_key key.now entries.places
-        → IfOk result (λ stored. (stored ≡ stored_with point (by_number (pairs_by (option_map (λ numbers. numbers.entries) held.now) key.now words.now tables.old.next_word entries)))
+        → IfOk result (λ stored. (stored ≡ stored_with point (by_number (pairs_by (option_map (λ numbers. numbers.entries) held.now) key.now words.now tables.old.next_word entries)) label)
         × (tables.new.next_word ≡ next_by (option_map (λ numbers. numbers.entries) held.now) key.now words.now tables.old.next_word entries)
         × IsChanged (view (P.pages pages.old) (P.count pages.old) (P.first pages.old) free) tables.old
-        (P.pages pages.new) (P.count pages.new) (P.first pages.new) tables.new (after_put_by (option_map (λ numbers. numbers.entries) held.now) key.now point words.now tables.old.next_word entries)) }
+        (P.pages pages.new) (P.count pages.new) (P.first pages.new) tables.new (after_put_by (option_map (λ numbers. numbers.entries) held.now) key.now point words.now label tables.old.next_word entries)) }
 
     // On tables that agree with the places and with what is held ahead beside them, no damage is found if each word has room for one more
     // place.
     ensures no_false_damage { (entries : Entries) (free : List ℕ) → Holds (P.pages pages.old) tables.old entries → IsApart (view (P.pages pages.old) (P.count pages.old) (P.first pages.old) free) tables.old
         → option_copied old.entry ≡ place_of_key key.now entries.places → length (without_place key.now entries.places) + 1 < 2 ^ 32
-        → (name : Option Name) (left : List Update) → WordTablesAgree (λ n. claimed (option_map (λ numbers. numbers.entries) held.now) (Put name point words.now ∷ left) n (holders n entries.places)) entries.texts entries.numbers tables.old.next_word
-        → AreNamedBy (option_map (λ numbers. numbers.entries) held.now) entries.numbers (Put name point words.now ∷ left)
+        → (name : Option Name) (left : List Update) → WordTablesAgree (λ n. claimed (option_map (λ numbers. numbers.entries) held.now) (Put name point words.now label ∷ left) n (holders n entries.places)) entries.texts entries.numbers tables.old.next_word
+        → AreNamedBy (option_map (λ numbers. numbers.entries) held.now) entries.numbers (Put name point words.now label ∷ left)
         → AreReadable (P.pages pages.old) (P.count pages.old) → (damage : Damage) → ¬ IsErrOf result (PageFault.Damaged damage) }
     ensures rises { OnOk result (tables.new.next_word ≤ tables.old.next_word + 64) }
     ensures none_new { IsSome held.now → tables.new.next_word ≡ tables.old.next_word }
@@ -137,7 +139,7 @@ pub fn put_in_batch<P: Pages>(
     ensures frame { Changes P.Pages pages.old pages.new }
 {
     match held {
-        Some(numbers) => put_held(alloc, pages, tables, key, old, point, words, numbers),
-        None => put_place(alloc, pages, tables, key, old, point, words),
+        Some(numbers) => put_held(alloc, pages, tables, key, old, point, words, label, numbers),
+        None => put_place(alloc, pages, tables, key, old, point, words, label),
     }
 }

@@ -11,6 +11,7 @@ use page_face::PageFault;
 use spatial_base::Point;
 use std::collections::BTreeMap;
 use store_tables::Stored;
+use term_impacts::Label;
 
 /// Whether a number is among the pairs.
 pub(crate) fn has_pair(number: u64, pairs: &[(u64, u8)]) -> bool
@@ -50,10 +51,10 @@ pub(crate) fn put_pair(
     }
 }
 
-/// A place with these pairs.
-pub(crate) fn place_with(point: Point, numbers: &BTreeMap<u64, u8>) -> Stored
+/// A place with these pairs and this label.
+pub(crate) fn place_with(point: Point, numbers: &BTreeMap<u64, u8>, label: Label) -> Stored
     requires map { IsNumberMap numbers.now.entries }
-    ensures pairs { result ≡ stored_with point numbers.now.entries }
+    ensures pairs { result ≡ stored_with point numbers.now.entries label }
     ensures form { IsStored result }
 {
     let mut pairs = [(0, 0); 64];
@@ -66,5 +67,6 @@ pub(crate) fn place_with(point: Point, numbers: &BTreeMap<u64, u8>) -> Stored
         point,
         count: count as u8,
         pairs,
+        label,
     }
 }

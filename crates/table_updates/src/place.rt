@@ -49,5 +49,6 @@ pub fn place_at<P: Pages>(
     Ok(Some(Place {
         point: stored.point,
         words,
+        label: stored.label,
     }))
 }

@@ -19,9 +19,9 @@ use spatial_base::{Key, Point};
 use std::alloc::Global;
 use std::collections::BTreeMap;
 use store_tables::{Stored, Tables};
-use term_impacts::Words;
+use term_impacts::{Label, Words};
 
-/// Puts a place with these words at a key. `old` is what lives there now. Returns the place as the place table keeps it.
+/// Puts a place with these words and this label at a key. `old` is what lives there now. Returns the place as the place table keeps it.
 ///
 /// Each of its words that the old place doesn't hold is held by one more place. Each word of the old place that the new one doesn't hold
 /// is held by one place fewer.
@@ -37,15 +37,16 @@ pub fn put_place<P: Pages>(
     old: Option<&Stored>,
     point: Point,
     words: &Words,
+    label: Label,
 ) -> Result<Stored, PageFault>
     requires next { tables.old.next_word ≤ 2 ^ 62 }
     requires form { IfSome (option_copied old) IsStored }
     ensures put { (entries : Entries) (free : List ℕ) → Holds (P.pages pages.old) tables.old entries → IsApart (view (P.pages pages.old) (P.count pages.old) (P.first pages.old) free) tables.old
         → option_copied old.entry ≡ place_of_key key.now entries.places
-        → IfOk result (λ stored. (stored ≡ stored_with point (by_number (numbered_for key.now words.now tables.old.next_word entries).pairs))
+        → IfOk result (λ stored. (stored ≡ stored_with point (by_number (numbered_for key.now words.now tables.old.next_word entries).pairs) label)
         × (tables.new.next_word ≡ (numbered_for key.now words.now tables.old.next_word entries).next_word)
         × IsChanged (view (P.pages pages.old) (P.count pages.old) (P.first pages.old) free) tables.old
-        (P.pages pages.new) (P.count pages.new) (P.first pages.new) tables.new (after_put key.now point words.now tables.old.next_word entries)) }
+        (P.pages pages.new) (P.count pages.new) (P.first pages.new) tables.new (after_put key.now point words.now label tables.old.next_word entries)) }
 
     // On tables that agree no damage is found, if each word has room for one more place.
     ensures no_false_damage { (entries : Entries) (free : List ℕ) → Holds (P.pages pages.old) tables.old entries → IsApart (view (P.pages pages.old) (P.count pages.old) (P.first pages.old) free) tables.old
@@ -65,7 +66,7 @@ pub fn put_place<P: Pages>(
     let mut next = *tables;
     let mut numbers = BTreeMap::new(alloc);
     number_words(pages, &mut next, held, words.pairs(), &mut numbers)?;
-    let stored = place_with(point, &numbers);
+    let stored = place_with(point, &numbers, label);
     next.put_place(pages, key, &stored)?;
     release_words(pages, &mut next, held_pairs(Some(&stored)), held)?;
     *tables = next;

@@ -1,17 +1,12 @@
 -- What the form of a word says of its text.
-use Rattle.std.proofs.Common.{append_assoc, ◌≡◌, ℕ, zero, suc, ◌+◌, ◌-◌, ◌<◌, ◌≤◌, List, [], ◌∷◌, ◌++◌, length, replicate, take, get_or, refl, sym, ap, subst, ◌∙◌, arith, length-append, length-drop, length-take, take-append-drop, take_at, drop_at, set, drop}
-use Rattle.std.proofs.Math.Seq.{set-append_seam}
-use Rattle.std.proofs.lemmas.List.{length-replicate, get_or_at, drop-replicate, replicate-append-replicate}
+use Rattle.std.proofs.Common.{◌≡◌, ℕ, zero, suc, ◌+◌, ◌-◌, ◌<◌, ◌≤◌, List, [], ◌∷◌, ◌++◌, length, replicate, take, refl, sym, ap, subst, ◌∙◌, arith, set, drop}
 use Rattle.std.proofs.lemmas.Cmp.{nat_list_cmp_total}
 use Rattle.std.specs.Cmp.{nat_cmp_is}
 use Rattle.std.specs.Cmp.Lexicographic.{slice_cmp}
 use Rattle.std.specs.Ordering.{nat_cmp, ordering_then, ordering_reverse}
 use Rattle.std.specs.declared.cmp.Ordering.TheVariants.{Less, Equal}
 use Rattle.term_impacts.specs.Form.{IsWordText, word_form, form_text, IsWordForm}
-
--- a text, p zero bytes, and a length
-abbrev pub padded : List ℕ → ℕ → ℕ → List ℕ
-padded text p k = text ++ (replicate p 0 ++ k ∷ [])
+use Rattle.term_impacts.proofs.PaddingLemmas.{padded, set-padded, text_of_padded, zeros_behind}
 
 -- where the text is done and the other goes on, the padding and the lesser length come first
 ended_first : (ys : List ℕ) (p q k l : ℕ) → p ≡ length ys + q → k < l → slice_cmp nat_cmp (padded [] p k) (padded ys q l) ≡ Less
@@ -44,16 +39,9 @@ order_padded (x ∷ xs) (y ∷ ys) p q k l e f = ap (ordering_then (nat_cmp x y)
 pub slice_cmp-word_form : (xs ys : List ℕ) → length xs ≤ 32 → length ys ≤ 32 → slice_cmp nat_cmp (word_form xs) (word_form ys) ≡ slice_cmp nat_cmp xs ys
 slice_cmp-word_form xs ys h g = order_padded xs ys (32 - length xs) (32 - length ys) (length xs) (length ys) (omega arith) (omega arith)
 
--- the last byte of a form is the text's length
-pub last_byte : (text : List ℕ) → length text ≤ 32 → get_or (word_form text) 32 0 ≡ length text
-last_byte text fits =
-    let zeros : List ℕ = replicate (32 - length text) 0 in
-    let front : length (text ++ zeros) ≡ 32 = omega (arith, length-append text zeros, length-replicate {A = ℕ} (32 - length text) 0) in
-    ap (λ l. get_or l 32 0) (sym (append_assoc text zeros (length text ∷ []))) ∙ get_or_at (text ++ zeros) (length text) [] 0 32 front
-
 -- a form gives its text back
 pub form_text-word_form : (text : List ℕ) → length text ≤ 32 → form_text (word_form text) ≡ text
-form_text-word_form text fits = ap (λ n. take n (word_form text)) (last_byte text fits) ∙ take_at text _ (length text) refl
+form_text-word_form = text_of_padded 32
 
 -- the form of a word's text is a form
 pub IsWordForm-word_form : (text : List ℕ) → IsWordText text → IsWordForm (word_form text)
@@ -72,23 +60,8 @@ same_form form bytes text is same word made =
 
 -- zero bytes are left behind what was written to the front of 33 of them
 pub zeros_left : (text : List ℕ) (n : ℕ) → length text ≡ n → drop n (text ++ drop n (replicate 33 0)) ≡ replicate (33 - n) 0
-zeros_left text n len = drop_at text (drop n (replicate 33 0)) n len ∙ drop-replicate n 33 0
+zeros_left text n len = zeros_behind text n 33 len
 
 -- a text before zero bytes, with its length in the last place, is the text's form
 pub set-word_form : (form : List ℕ) (len : ℕ) → len ≤ 32 → drop len form ≡ replicate (33 - len) 0 → set form 32 len ≡ word_form (take len form)
-set-word_form form len fits zeros =
-    let text : List ℕ = take len form in
-    let pad : List ℕ = replicate (32 - len) 0 in
-    let whole : 33 - len ≡ length form - len = sym (length-replicate (33 - len) 0) ∙ sym (ap length zeros) ∙ length-drop len form in
-    let text_len : length text ≡ len = omega (arith, whole, length-take len form) in
-    let front : length (text ++ pad) ≡ 32 = omega (arith, length-append text pad, length-replicate {A = ℕ} (32 - len) 0, text_len) in
-    let one_more : 33 - len ≡ (32 - len) + 1 = omega arith in
-    let split : form ≡ (text ++ pad) ++ 0 ∷ [] =
-    sym (take-append-drop len form)
-    ∙ ap (λ rest. text ++ rest) (zeros ∙ ap (λ n. replicate n 0) one_more ∙ sym (replicate-append-replicate (32 - len) 1 0))
-    ∙ sym (append_assoc text pad (0 ∷ [])) in
-    ap (λ l. set l 32 len) split
-    ∙ ap (λ n. set ((text ++ pad) ++ 0 ∷ []) n len) (sym front)
-    ∙ set-append_seam (text ++ pad) 0 [] len
-    ∙ append_assoc text pad (len ∷ [])
-    ∙ ap (λ n. text ++ (replicate (32 - n) 0 ++ n ∷ [])) (sym text_len)
+set-word_form = set-padded 32

@@ -24,6 +24,8 @@ town.store load > town.store load 1000 1024 Quadratic 0 1000
 --policy words - load --batch 5 > - load 5 1024 Words 0 1000
 - make --policy words > - make 1000 1024 Words 0 1000
 --count 100000 - --from 18446744073709551615 make > - make 1000 1024 Quadratic 18446744073709551615 100000
+- upgrade > - upgrade 1000 1024 Quadratic 0 1000
+old.store upgrade --cache 0 > old.store upgrade 1000 0 Quadratic 0 1000
 > Line
 - > Line
 - dance > Line
@@ -69,6 +71,10 @@ town.store load > town.store load 1000 1024 Quadratic 0 1000
 - load --count 5 > Unused
 --from 0 - load > Unused
 - make --text name > Unused
+- upgrade --policy halving > Unused
+- upgrade --batch 5 > Unused
+--text name - upgrade > Unused
+- upgrade --from 1 --count 5 > Unused
 ";
 
 // The words of a line, which spaces separate.
@@ -120,9 +126,10 @@ fn words_ask_for_their_job(rt: HostRuntime) -> Result<(), Fail> {
 
 // Command words that are refused, and the text for a person.
 static REFUSALS: &str = "\
-- dance > unknown action 'dance', expected run, load or make
+- dance > unknown action 'dance', expected run, load, make or upgrade
 - run --batch 1 > the action run doesn't use '--batch'
 - load --from 1 > the action load doesn't use '--from'
+- upgrade --policy words > the action upgrade doesn't use '--policy'
 - load --policy linear > unknown policy 'linear', expected quadratic, halving or words
 - run --policy > a value is required for '--policy <POLICY>' but none was supplied
 - load --batch 0 > invalid value '0' for '--batch <PLACES>': 0 is not in 1..=10000

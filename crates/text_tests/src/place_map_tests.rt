@@ -8,7 +8,7 @@ use spatial_base::{Key, Point, Rect};
 use std::alloc::{AllocError, Global};
 use std::fmt::Write;
 use std::test::Fail;
-use term_impacts::{Word, Words, impacts, one_word};
+use term_impacts::{Label, Word, Words, impacts, one_word};
 
 // A place: its key, its longitude and latitude in degrees times 10^7, and its text.
 type Row = (&'static str, i32, i32, &'static str);
@@ -22,6 +22,7 @@ fn put(alloc: Global, row: &Row) -> Result<Update, Fail>
         key: Some(Key::of_text(key)?),
         point: Point::new(*x, *y).ok_or("off the map")?,
         words: impacts(alloc, text)?,
+        label: Label::of_text(text),
     })
 }
 
@@ -279,11 +280,11 @@ fn places_pass_a_filter_in_a_range_a_box_or_nearby(rt: HostRuntime) -> Result<()
 
 static TWICE: [Row; 2] = [("a", 0, 0, "x"), ("a", 10_000_000, 10_000_000, "y")];
 
-// The longitude of the place `a`, and the impacts of two words there.
-fn shown(state: &State, x: &Word, y: &Word) -> Option<(i32, u8, u8)> {
+// The longitude of the place `a`, the impacts of two words there, and its label.
+fn shown(state: &State, x: &Word, y: &Word) -> Option<(i32, u8, u8, Label)> {
     let key = Key::of_text("a").ok()?;
     match state.show(&key) {
-        Some((point, words)) => Some((point.x(), words.impact(x), words.impact(y))),
+        Some((point, words, label)) => Some((point.x(), words.impact(x), words.impact(y), label)),
         None => None,
     }
 }
@@ -298,7 +299,7 @@ fn remove(state: &mut State) -> Option<Applied> {
 fn a_place_is_shown_replaced_and_removed(rt: HostRuntime) -> Result<(), Fail> {
     let (x, y) = (word(rt.alloc(), "x")?, word(rt.alloc(), "y")?);
     let mut state = state_of(rt.alloc(), &TWICE)?;
-    assert!(rt; shown(&state, &x, &y) == Some((10_000_000, 0, 255)));
+    assert!(rt; shown(&state, &x, &y) == Some((10_000_000, 0, 255, Label::of_text("y"))));
     assert!(rt; state.count() == 1 && state.number() == 2);
     assert!(rt; remove(&mut state) == Some(Applied::Gone));
     assert!(rt; remove(&mut state) == Some(Applied::Absent));
@@ -329,13 +330,13 @@ static RESTORED: [(&[Given], u64, u64, Option<u32>); 10] = [
 ];
 
 // A row for a place with this key.
-fn row_of(alloc: Global, given: &Given) -> Result<(Key, Point, Words), Fail> {
+fn row_of(alloc: Global, given: &Given) -> Result<(Key, Point, Words, Label), Fail> {
     let key = match given {
         Ok(text) => Key::of_text(text)?,
         Err(serial) => Key::auto(*serial),
     };
     let at = Point::new(5, 7).ok_or("off the map")?;
-    Ok((key, at, impacts(alloc, "x")?))
+    Ok((key, at, impacts(alloc, "x")?, Label::of_text("x")))
 }
 
 // How many places the state restored from these keys has, or `None` if no state has them.

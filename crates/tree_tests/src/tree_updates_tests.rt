@@ -7,6 +7,8 @@ use spatial_base::{Key, Point};
 use split_condense::{put_entry, take_entry};
 use split_policy::Halving;
 use std::alloc::Global;
+use std::test::Fail;
+use term_impacts::Label;
 
 static EMPTY: Tree = Tree { root: 0, rows: 0 };
 
@@ -41,6 +43,7 @@ fn stored(spot: Spot) -> Option<Stored> {
         point: Point::new(tenths.checked_mul(1_000_000)?, 0)?,
         count: 1,
         pairs,
+        label: Label::of_text(""),
     })
 }
 
@@ -180,4 +183,29 @@ fn a_place_that_is_elsewhere_is_a_damage(rt: HostRuntime) {
         assert_eq!(rt; changed, Err(none));
     }
     assert!(rt; tree == before && used(&mut pages, &tree) == Ok(1));
+}
+
+#[test]
+fn a_new_label_leaves_the_tree_as_it_is(rt: HostRuntime) -> Result<(), Fail> {
+    let mut pages = MemoryPages::new(rt.alloc(), 8);
+    let mut tree = EMPTY;
+    let mut policy = Halving::new();
+    let old = stored((5, 1)).ok_or("off the map")?;
+    let new = Stored {
+        label: Label::of_text("Café Ny"),
+        ..old
+    };
+    // The tree has no entry of the old place: taking it out would be a damage.
+    let put = put_entry(
+        rt.alloc(),
+        &mut pages,
+        &mut tree,
+        &mut policy,
+        &Key::auto(1),
+        Some(&old),
+        &new,
+    );
+    assert_eq!(rt; put, Ok(()));
+    assert!(rt; old != new && tree == EMPTY);
+    Ok(())
 }

@@ -23,7 +23,7 @@ pub hold_words-requires : goal.hold_words-requires
 hold_words-requires g c =
     let words = c.requires.numbers.words in
     let most = c.requires.numbers.number in
-    let fits : (c.args.head.now.live + length c.args.updates.now ≤ 200000) × (c.args.head.now.number + length c.args.updates.now ≤ 2 ^ 40) = search rules in
+    let fits : (c.args.head.now.live + length c.args.updates.now ≤ 1000000) × (c.args.head.now.number + length c.args.updates.now ≤ 2 ^ 40) = search rules in
     let lives = fits.0 in
     let few = few-words c.in_ok-counts.counts.entries c.args.updates.now c.in_ok-counts.ensures.counted c.in_ok-counts.ensures.few in
     let next : c.tables_of-tables.result.next_word ≡ c.args.head.now.next_word = ap (λ (t : Tables). t.next_word) c.tables_of-tables.ensures in
@@ -35,7 +35,7 @@ returns-in_err-numbers-clause-due g c = λ state stand told.
     let old = c.args.pages.now in
     let outcome = state_after_all state c.args.updates.now in
     let tables_are : c.tables_of-tables.result ≡ tables_in head = c.tables_of-tables.ensures in
-    let fits : (head.live + length c.args.updates.now ≤ 200000) × (head.number + length c.args.updates.now ≤ 2 ^ 40) = search rules in
+    let fits : (head.live + length c.args.updates.now ≤ 1000000) × (head.number + length c.args.updates.now ≤ 2 ^ 40) = search rules in
     let holds : Holds (g.P.Pages.pages old) c.tables_of-tables.result stand.entries = subst (λ (t : Tables). Holds (g.P.Pages.pages old) t stand.entries) (sym tables_are) stand.tables.holds in
     let apart : IsApart (view (g.P.Pages.pages old) (g.P.Pages.count old) (g.P.Pages.first old) stand.tables.free) c.tables_of-tables.result =
     subst (λ (t : Tables). IsApart (view (g.P.Pages.pages old) (g.P.Pages.count old) (g.P.Pages.first old) stand.tables.free) t) (sym tables_are) stand.tables.apart in
@@ -55,7 +55,7 @@ returns-clause-begun g c = λ state stand.
     let now = c.hold_words.new.tables in
     let counts = c.in_ok-counts.counts.entries in
     let tables_are : c.tables_of-tables.result ≡ tables_in head = c.tables_of-tables.ensures in
-    let fits : (head.live + length c.args.updates.now ≤ 200000) × (head.number + length c.args.updates.now ≤ 2 ^ 40) = search rules in
+    let fits : (head.live + length c.args.updates.now ≤ 1000000) × (head.number + length c.args.updates.now ≤ 2 ^ 40) = search rules in
     let holds : Holds (g.P.Pages.pages old) c.tables_of-tables.result stand.entries = subst (λ (t : Tables). Holds (g.P.Pages.pages old) t stand.entries) (sym tables_are) stand.tables.holds in
     let apart : IsApart (view (g.P.Pages.pages old) (g.P.Pages.count old) (g.P.Pages.first old) stand.tables.free) c.tables_of-tables.result =
     subst (λ (t : Tables). IsApart (view (g.P.Pages.pages old) (g.P.Pages.count old) (g.P.Pages.first old) stand.tables.free) t) (sym tables_are) stand.tables.apart in
@@ -75,7 +75,7 @@ returns-clause-numbers g c =
     let head = c.args.head.now in
     let now = c.hold_words.new.tables in
     let counts = c.in_ok-counts.counts.entries in
-    let fits : (head.live + length c.args.updates.now ≤ 200000) × (head.number + length c.args.updates.now ≤ 2 ^ 40) = search rules in
+    let fits : (head.live + length c.args.updates.now ≤ 1000000) × (head.number + length c.args.updates.now ≤ 2 ^ 40) = search rules in
     let next : c.tables_of-tables.result.next_word ≡ head.next_word = ap (λ (t : Tables). t.next_word) c.tables_of-tables.ensures in
     let rises = c.in_ok-numbers.ensures.rises in
     let counted = few-counted counts c.in_ok-counts.ensures.counted.some in

@@ -26,11 +26,11 @@ returns-in-Put-clause-updated g c = λ state left stand.
     let serials = stand.stand.tables.serials in
     let later : head.serial ≤ serial = omega (arith, serial_is, next_is, rises.0) in
     let most : serial ≤ head.number + 2 = omega (arith, serial_is, next_is, rises.1, serials) in
-    let text : NamesText (Put c.in-Put.key c.in-Put.point c.in-Put.words) = subst NamesText c.in-Put.is c.requires.text in
+    let text : NamesText (Put c.in-Put.key c.in-Put.point c.in-Put.words c.in-Put.label) = subst NamesText c.in-Put.is c.requires.text in
     let above : IsSerialAbove serial name =
-    subst (λ (n : Name). IsSerialAbove serial n) (sym key_is) (subst (λ m. IsSerialAbove m (key_for state c.in-Put.key)) (sym next_is) (named-above state c.in-Put.key c.in-Put.point c.in-Put.words text)) in
+    subst (λ (n : Name). IsSerialAbove serial n) (sym key_is) (subst (λ m. IsSerialAbove m (key_for state c.in-Put.key)) (sym next_is) (named-above state c.in-Put.key c.in-Put.point c.in-Put.words c.in-Put.label text)) in
     subst (λ (e : Effect). IfOk c.put.result (λ applied. (e.answer ≡ Ok applied) × StandAhead numbers left (block_with (g.P.Pages.count c.put.new.pages) (g.P.Pages.first c.put.new.pages) c.put.new.head) (g.P.Pages.pages c.put.new.pages) e.state))
-    (put-effect state c.args.update.now c.in-Put.key c.in-Put.point c.in-Put.words name serial c.in-Put.is key_is next_is)
+    (put-effect state c.args.update.now c.in-Put.key c.in-Put.point c.in-Put.words c.in-Put.label name serial c.in-Put.is key_is next_is)
     (c.put.ensures.updated state c.in-Put.key left ahead later most above)
 
 -- src/change.rt:32:1
@@ -40,7 +40,7 @@ returns-in-Put-clause-due g c = λ state left stand told.
     let ahead = subst (λ (u : Update). StandAhead numbers (u ∷ left) (block_with (g.P.Pages.count c.args.pages.now) (g.P.Pages.first c.args.pages.now) c.args.head.now) (g.P.Pages.pages c.args.pages.now) state) c.in-Put.is stand in
     let serial_is : state.serial ≡ c.args.head.now.serial = ap (λ (s : Contents). s.serial) stand.stand.is in
     subst (λ (e : Effect). IfErr c.put.result (IsDueTo e.answer))
-    (put-effect state c.args.update.now c.in-Put.key c.in-Put.point c.in-Put.words c.named-key.result.0 c.named-key.result.1 c.in-Put.is (c.named-key.ensures.key state serial_is) (c.named-key.ensures.serial state serial_is))
+    (put-effect state c.args.update.now c.in-Put.key c.in-Put.point c.in-Put.words c.in-Put.label c.named-key.result.0 c.named-key.result.1 c.in-Put.is (c.named-key.ensures.key state serial_is) (c.named-key.ensures.serial state serial_is))
     (c.put.ensures.due state c.in-Put.key left ahead told)
 
 -- src/change.rt:32:1

@@ -1,7 +1,8 @@
 use Rattle.std.proofs.Common.{IsErrOf}
 use Rattle.page_journal.specs.Record.{applied}
-use Rattle.page_store.specs.declared.opening.OpenFault.TheVariants.{BadJournal, Damaged, NotAStore}
-use Rattle.irtree_engine.proofs.Openings.{bad-none, opening-leaves}
+use Rattle.page_store.specs.declared.opening.OpenFault.TheVariants.{BadJournal, Damaged, NotAStore, Version1}
+use Rattle.irtree_engine.specs.Holding.{IsVersion1}
+use Rattle.irtree_engine.proofs.Openings.{bad-none, opening-leaves, version1-none}
 use Rattle.irtree_engine.proofs.opening.recover_superblock.Goals as goal
 
 pub returns-in-Ok-clause-any_moment : goal.returns-in-Ok-clause-any_moment
@@ -20,7 +21,14 @@ pub returns-in-Err-NotAStore-clause-foreign : goal.returns-in-Err-NotAStore-clau
 returns-in-Err-NotAStore-clause-foreign g c = λ t is.
     let named : IsErrOf c.recover_superblock.result NotAStore = cc in
     let refused = c.recover_superblock.ensures.not_a_store t named in
-    record { area = applied (g.D.Disk.world c.recover_superblock.new.disk).seen; stands = refused.stands; filled = refused.page.0; other = refused.page.1 }
+    record { area = applied (g.D.Disk.world c.recover_superblock.new.disk).seen; stands = refused.stands; filled = refused.page.0; other = refused.page.1; version1 = refused.page.2 }
+
+pub returns-in-Err-Version1-clause-version1 : goal.returns-in-Err-Version1-clause-version1
+returns-in-Err-Version1-clause-version1 g c = λ t is.
+    let named : IsErrOf c.recover_superblock.result Version1 = cc in
+    let refused = c.recover_superblock.ensures.version1 t named in
+    let old : IsVersion1 (g.D.Disk.world c.args.disk.now).seen = record { area = applied (g.D.Disk.world c.recover_superblock.new.disk).seen; stands = refused.stands; magic = refused.page } in
+    (version1-none _ old, old)
 
 pub returns-in-Err-Damaged-clause-broken_head : goal.returns-in-Err-Damaged-clause-broken_head
 returns-in-Err-Damaged-clause-broken_head g c = λ t damage is.
@@ -37,6 +45,11 @@ pub returns-in-Err-NotAStore-clause-left : goal.returns-in-Err-NotAStore-clause-
 returns-in-Err-NotAStore-clause-left g c = λ t.
     let named : IsErrOf c.recover_superblock.result NotAStore = cc in
     let refused = c.recover_superblock.ensures.not_a_store t named in record { ready = refused.ready; stands = refused.stands }
+
+pub returns-in-Err-Version1-clause-left : goal.returns-in-Err-Version1-clause-left
+returns-in-Err-Version1-clause-left g c = λ t.
+    let named : IsErrOf c.recover_superblock.result Version1 = cc in
+    let refused = c.recover_superblock.ensures.version1 t named in record { ready = refused.ready; stands = refused.stands }
 
 pub returns-in-Err-Damaged-clause-left : goal.returns-in-Err-Damaged-clause-left
 returns-in-Err-Damaged-clause-left g c = λ t.

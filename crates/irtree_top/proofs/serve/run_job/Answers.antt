@@ -29,10 +29,12 @@ refuses g c = record {
   disk = λ is. let named : IsErrOf c.recover_superblock.result engine.Disk = cc in c.recover_superblock.ensures.disk named;
   none = λ told other. none-by c.in-Err.fault c.in-Err.ensures.causes other
       (λ is. let named : IsErrOf c.recover_superblock.result engine.NotAStore = cc in c.recover_superblock.ensures.not_a_store told named)
+      (λ is. let named : IsErrOf c.recover_superblock.result engine.Version1 = cc in (c.recover_superblock.ensures.version1 told named).0)
       (λ at is. let named : IsErrOf c.recover_superblock.result (engine.BadJournal at) = cc in (c.recover_superblock.ensures.bad told at named).1)
       (λ damage is. let named : IsErrOf c.recover_superblock.result (engine.Damaged damage) = cc in (c.recover_superblock.ensures.damaged damage named).1 told);
   foreign = λ told is. let named : IsErrOf c.recover_superblock.result engine.NotAStore = cc in c.recover_superblock.ensures.foreign told named;
   bad = λ told at is. let named : IsErrOf c.recover_superblock.result (engine.BadJournal at) = cc in (c.recover_superblock.ensures.bad told at named).0;
+  version1 = λ told is. let named : IsErrOf c.recover_superblock.result engine.Version1 = cc in (c.recover_superblock.ensures.version1 told named).1;
   head = λ told damage is. let named : IsErrOf c.recover_superblock.result (engine.Damaged damage) = cc in ((c.recover_superblock.ensures.damaged damage named).0, c.recover_superblock.ensures.broken_head told damage named);
 }
 

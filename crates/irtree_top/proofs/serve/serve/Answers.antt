@@ -24,7 +24,7 @@ left-behind g c readable told state holds =
     let asked = asked_of c.args.job.now in
     let some = c.requires.some in
     let leaves = c.act-end.ensures.any_moment readable told state holds in
-    let whole = c.transcript_is_some.ensures state asked input in
+    let whole = c.transcript_is_some.ensures state asked input c.requires.acts in
     let now = now-left (HoldsPrefix asked state input (world first)) (world first) (world mid) (c.requires.quiet told) (λ image said was. g.met.T.Disk.only_now first image said told was) leaves
     (g.met.T.Disk.counts_now mid (world first).moment (world mid).seen told leaves.later (g.met.T.Disk.leaves_seen mid told))
     (λ other is. none-held asked.action asked.batch some state other.turn.changes (world first).said (world first).seen (world first).said holds refl) in

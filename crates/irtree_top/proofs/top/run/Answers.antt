@@ -1,4 +1,4 @@
-use Rattle.std.proofs.Common.{◌≡◌, ◌∙◌, ap, subst}
+use Rattle.std.proofs.Common.{◌≡◌, ◌∙◌, refl, ap, subst}
 use Rattle.std.specs.Prelude.{Err, IsErrOf}
 use Rattle.run_outcome.specs.declared.ended.Ended.{Ended}
 use Rattle.run_outcome.specs.declared.ended.Ended.TheVariants as ends
@@ -9,22 +9,23 @@ use Rattle.run_outcome.specs.Turn.{Done}
 use Rattle.command_words.specs.Job.{Asked, asked_of}
 use Rattle.irtree_top.proofs.Jobs.{decided-front, job-front}
 use Rattle.irtree_top.proofs.Openings.{behind-opening, complete-end}
+use Rattle.irtree_top.proofs.Upgrades.{no-job, no-upgrade, no-words, settled-upgrade}
 use Rattle.irtree_top.proofs.top.run.Goals as goal
 
 pub returns-in-Ok-run_job-clause-done : goal.returns-in-Ok-run_job-clause-done
 returns-in-Ok-run_job-clause-done g c = λ asked wants readable told state holds is.
-    let same : asked_of c.in-Ok.job ≡ asked = cc (c.in-Ok.ensures.reading) in
+    let same : asked_of c.in-Ok.job ≡ asked = cc (c.in-Ok.ensures.reading, wants.0) in
     subst (λ (a : Asked). EndsBy Done a state (g.S.Source.left c.args.source.now) (g.T.Disk.world c.args.station.now) (g.T.Disk.world c.run_job.new.station) × LeavesInput a.action (g.S.Source.left c.args.source.now) (g.S.Source.left c.run_job.new.source)) same (c.in-Ok-run_job.ensures.told readable told state holds)
 
 pub returns-in-Ok-run_job-clause-front : goal.returns-in-Ok-run_job-clause-front
 returns-in-Ok-run_job-clause-front g c = λ asked wants readable told state holds.
-    let same : asked_of c.in-Ok.job ≡ asked = cc (c.in-Ok.ensures.reading) in
+    let same : asked_of c.in-Ok.job ≡ asked = cc (c.in-Ok.ensures.reading, wants.0) in
     subst (λ (a : Asked). SaysFront a state (g.S.Source.left c.args.source.now) (g.T.Disk.world c.args.station.now) (g.T.Disk.world c.run_job.new.station)) same
     (decided-front c.transcript_is_one.ensures Done (asked_of c.in-Ok.job) state _ _ _ (c.in-Ok-run_job.ensures.told readable told state holds).0)
 
 pub returns-in-Ok-run_job-clause-crash : goal.returns-in-Ok-run_job-clause-crash
 returns-in-Ok-run_job-clause-crash g c = λ asked wants readable told state holds.
-    let same : asked_of c.in-Ok.job ≡ asked = cc (c.in-Ok.ensures.reading) in
+    let same : asked_of c.in-Ok.job ≡ asked = cc (c.in-Ok.ensures.reading, wants.0) in
     subst (λ (a : Asked). LeavesOnly (g.T.Disk.world c.args.station.now) (g.T.Disk.world c.run_job.new.station) (HoldsPrefix a state (g.S.Source.left c.args.source.now) (g.T.Disk.world c.args.station.now))) same (c.run_job.ensures.any_moment readable told state holds)
 
 pub returns-in-Ok-run_job-clause-opens_few : goal.returns-in-Ok-run_job-clause-opens_few
@@ -38,60 +39,60 @@ returns-in-Ok-clause-opens_few g c = λ asked wants runs readable told state hol
 
 pub returns-in-Ok-clause-input : goal.returns-in-Ok-clause-input
 returns-in-Ok-clause-input g c = λ asked wants readable told state holds fault is.
-    let same : asked_of c.in-Ok.job ≡ asked = cc (c.in-Ok.ensures.reading) in
+    let same : asked_of c.in-Ok.job ≡ asked = cc (c.in-Ok.ensures.reading, wants.0) in
     subst (λ (a : Asked). EndsJob {T = Unit {0}} a state (g.S.Source.left c.args.source.now) (g.S.Source.left c.run_job.new.source) (g.T.Disk.world c.args.station.now) (g.T.Disk.world c.run_job.new.station) (Err (ends.Input fault))) same
     (subst (λ (e : Ended). EndsJob {T = Unit {0}} (asked_of c.in-Ok.job) state (g.S.Source.left c.args.source.now) (g.S.Source.left c.run_job.new.source) (g.T.Disk.world c.args.station.now) (g.T.Disk.world c.run_job.new.station) (Err e)) is (c.in-Err.ensures.told readable told state holds))
 
 pub returns-in-Ok-clause-limit : goal.returns-in-Ok-clause-limit
 returns-in-Ok-clause-limit g c = λ asked wants readable told state holds fault is.
-    let same : asked_of c.in-Ok.job ≡ asked = cc (c.in-Ok.ensures.reading) in
+    let same : asked_of c.in-Ok.job ≡ asked = cc (c.in-Ok.ensures.reading, wants.0) in
     subst (λ (a : Asked). EndsJob {T = Unit {0}} a state (g.S.Source.left c.args.source.now) (g.S.Source.left c.run_job.new.source) (g.T.Disk.world c.args.station.now) (g.T.Disk.world c.run_job.new.station) (Err (ends.Limit fault))) same
     (subst (λ (e : Ended). EndsJob {T = Unit {0}} (asked_of c.in-Ok.job) state (g.S.Source.left c.args.source.now) (g.S.Source.left c.run_job.new.source) (g.T.Disk.world c.args.station.now) (g.T.Disk.world c.run_job.new.station) (Err e)) is (c.in-Err.ensures.told readable told state holds))
 
 pub returns-in-Ok-clause-source : goal.returns-in-Ok-clause-source
 returns-in-Ok-clause-source g c = λ asked wants readable told state holds is.
-    let same : asked_of c.in-Ok.job ≡ asked = cc (c.in-Ok.ensures.reading) in
+    let same : asked_of c.in-Ok.job ≡ asked = cc (c.in-Ok.ensures.reading, wants.0) in
     (subst (λ (a : Asked). EndsJob {T = Unit {0}} a state (g.S.Source.left c.args.source.now) (g.S.Source.left c.run_job.new.source) (g.T.Disk.world c.args.station.now) (g.T.Disk.world c.run_job.new.station) (Err ends.Source)) same
     (subst (λ (e : Ended). EndsJob {T = Unit {0}} (asked_of c.in-Ok.job) state (g.S.Source.left c.args.source.now) (g.S.Source.left c.run_job.new.source) (g.T.Disk.world c.args.station.now) (g.T.Disk.world c.run_job.new.station) (Err e)) is (c.in-Err.ensures.told readable told state holds))).0
 
 pub returns-in-Ok-clause-front : goal.returns-in-Ok-clause-front
 returns-in-Ok-clause-front g c = λ asked wants readable told state holds.
-    let same : asked_of c.in-Ok.job ≡ asked = cc (c.in-Ok.ensures.reading) in
+    let same : asked_of c.in-Ok.job ≡ asked = cc (c.in-Ok.ensures.reading, wants.0) in
     subst (λ (a : Asked). SaysFront a state (g.S.Source.left c.args.source.now) (g.T.Disk.world c.args.station.now) (g.T.Disk.world c.run_job.new.station)) same
     (job-front c.transcript_is_one.ensures (Unit {0}) (asked_of c.in-Ok.job) state (g.S.Source.left c.args.source.now) (g.S.Source.left c.run_job.new.source) (g.T.Disk.world c.args.station.now) (g.T.Disk.world c.run_job.new.station) c.in-Err.end (c.in-Err.ensures.told readable told state holds))
 
 pub returns-in-Ok-clause-crash : goal.returns-in-Ok-clause-crash
 returns-in-Ok-clause-crash g c = λ asked wants readable told state holds.
-    let same : asked_of c.in-Ok.job ≡ asked = cc (c.in-Ok.ensures.reading) in
+    let same : asked_of c.in-Ok.job ≡ asked = cc (c.in-Ok.ensures.reading, wants.0) in
     subst (λ (a : Asked). LeavesOnly (g.T.Disk.world c.args.station.now) (g.T.Disk.world c.run_job.new.station) (HoldsPrefix a state (g.S.Source.left c.args.source.now) (g.T.Disk.world c.args.station.now))) same (c.run_job.ensures.any_moment readable told state holds)
 
 pub returns-in-Ok-run_job-clause-opened : goal.returns-in-Ok-run_job-clause-opened
-returns-in-Ok-run_job-clause-opened g c = λ behind readable. c.in-Ok-run_job.ensures.cause.opened readable
+returns-in-Ok-run_job-clause-opened g c = λ words behind readable. c.in-Ok-run_job.ensures.cause.opened readable
 
 pub returns-in-Ok-clause-opened : goal.returns-in-Ok-clause-opened
-returns-in-Ok-clause-opened g c = λ behind readable.
+returns-in-Ok-clause-opened g c = λ words behind readable.
     behind-opening g.T.Disk.readable (g.S.Source.faults c.args.source.now) (g.S.Source.faults c.run_job.new.source) (g.T.Disk.world c.args.station.now) (g.T.Disk.world c.run_job.new.station) c.in-Err.end c.in-Err.ensures.cause.cause behind readable
 
 pub returns-in-Ok-run_job-clause-whole : goal.returns-in-Ok-run_job-clause-whole
 returns-in-Ok-run_job-clause-whole g c = λ asked wants readable is.
-    let same : asked_of c.in-Ok.job ≡ asked = cc (c.in-Ok.ensures.reading) in
+    let same : asked_of c.in-Ok.job ≡ asked = cc (c.in-Ok.ensures.reading, wants.0) in
     subst (λ (a : Asked). LeavesInput a.action (g.S.Source.left c.args.source.now) (g.S.Source.left c.run_job.new.source) × IsWholeInput a.action a.text (g.S.Source.left c.args.source.now)) same (c.in-Ok-run_job.ensures.whole readable)
 
 pub returns-in-Ok-clause-input_end : goal.returns-in-Ok-clause-input_end
 returns-in-Ok-clause-input_end g c = λ asked wants readable fault is.
-    let same : asked_of c.in-Ok.job ≡ asked = cc (c.in-Ok.ensures.reading) in
+    let same : asked_of c.in-Ok.job ≡ asked = cc (c.in-Ok.ensures.reading, wants.0) in
     let named : IsErrOf c.run_job.result (ends.Input fault) = cc in
     subst (λ (a : Asked). IsInputEnd a.action a.text (g.S.Source.left c.args.source.now) fault) same (c.run_job.ensures.input readable fault named)
 
 pub returns-in-Ok-clause-limits : goal.returns-in-Ok-clause-limits
 returns-in-Ok-clause-limits g c = λ asked wants fault is.
-    let same : asked_of c.in-Ok.job ≡ asked = cc (c.in-Ok.ensures.reading) in
+    let same : asked_of c.in-Ok.job ≡ asked = cc (c.in-Ok.ensures.reading, wants.0) in
     let named : IsErrOf c.run_job.result (ends.Limit fault) = cc in
     subst (λ (a : Asked). IsLimitOf a.action fault) same (c.run_job.ensures.limits fault named)
 
 pub returns-in-Ok-clause-reached : goal.returns-in-Ok-clause-reached
 returns-in-Ok-clause-reached g c = λ asked wants readable told fault is.
-    let same : asked_of c.in-Ok.job ≡ asked = cc (c.in-Ok.ensures.reading) in
+    let same : asked_of c.in-Ok.job ≡ asked = cc (c.in-Ok.ensures.reading, wants.0) in
     let named : IsErrOf c.run_job.result (ends.Limit fault) = cc in
     subst (λ (a : Asked). IsLimitReached fault a (g.S.Source.left c.args.source.now) (g.T.Disk.world c.args.station.now).seen) same (c.run_job.ensures.reached readable told fault named)
 
@@ -125,7 +126,7 @@ returns-in-Ok-clause-sink_told g c = λ other said. c.in-Err.ensures.cause.keeps
 
 pub returns-in-Ok-clause-complete : goal.returns-in-Ok-clause-complete
 returns-in-Ok-clause-complete g c = λ asked wants told state holds source disk sink.
-    let same : asked_of c.in-Ok.job ≡ asked = cc (c.in-Ok.ensures.reading) in
+    let same : asked_of c.in-Ok.job ≡ asked = cc (c.in-Ok.ensures.reading, wants.0) in
     complete-end g.T.Disk.readable (g.S.Source.faults c.args.source.now) (g.S.Source.faults c.run_job.new.source) (g.T.Disk.world c.args.station.now) (g.T.Disk.world c.run_job.new.station) asked.action state told holds source disk sink c.in-Err.end
     (λ fault is. let named : IsErrOf c.run_job.result (ends.Limit fault) = cc in subst (λ (a : Asked). IsLimitOf a.action fault) same (c.run_job.ensures.limits fault named))
     c.in-Err.ensures.cause.cause
@@ -140,19 +141,170 @@ returns-in-Ok-clause-broken_rule g c = λ asked wants runs readable told reads d
 
 pub returns-in-Ok-clause-lacks : goal.returns-in-Ok-clause-lacks
 returns-in-Ok-clause-lacks g c = λ asked wants told is.
-    let same : asked_of c.in-Ok.job ≡ asked = cc (c.in-Ok.ensures.reading) in
+    let same : asked_of c.in-Ok.job ≡ asked = cc (c.in-Ok.ensures.reading, wants.0) in
     let named : IsErrOf c.run_job.result (ends.Limit limits.NoRoom) = cc in
     let station = c.run_job.new.station in
     subst (λ (a : Asked). LacksRoomFor a.action a.batch (g.T.Disk.room_of station) (g.T.Disk.world station).seen) same (c.run_job.ensures.lacks told named)
 
 pub returns-in-Ok-run_job-clause-unopened : goal.returns-in-Ok-run_job-clause-unopened
-returns-in-Ok-run_job-clause-unopened g c = c.run_job.ensures.unopened
+returns-in-Ok-run_job-clause-unopened g c = λ words. c.run_job.ensures.unopened
 
 pub returns-in-Ok-clause-unopened : goal.returns-in-Ok-clause-unopened
-returns-in-Ok-clause-unopened g c = c.run_job.ensures.unopened
+returns-in-Ok-clause-unopened g c = λ words. c.run_job.ensures.unopened
 
 pub returns-in-Ok-run_job-clause-at_rest : goal.returns-in-Ok-run_job-clause-at_rest
-returns-in-Ok-run_job-clause-at_rest g c = λ behind told. c.in-Ok-run_job.ensures.at_rest told
+returns-in-Ok-run_job-clause-at_rest g c = λ words behind told. c.in-Ok-run_job.ensures.at_rest told
 
 pub returns-in-Ok-clause-at_rest : goal.returns-in-Ok-clause-at_rest
-returns-in-Ok-clause-at_rest g c = λ behind told. c.in-Err.ensures.at_rest told behind
+returns-in-Ok-clause-at_rest g c = λ words behind told. c.in-Err.ensures.at_rest told behind
+
+-- ---- a job is no upgrade
+
+pub returns-in-Ok-run_job-clause-upgraded : goal.returns-in-Ok-run_job-clause-upgraded
+returns-in-Ok-run_job-clause-upgraded g c = λ asked wants. absurd (no-upgrade _ _ asked c.in-Ok.ensures.reading c.in_default.not-Upgrade wants)
+
+pub returns-in-Ok-run_job-clause-present : goal.returns-in-Ok-run_job-clause-present
+returns-in-Ok-run_job-clause-present g c = λ asked wants. absurd (no-upgrade _ _ asked c.in-Ok.ensures.reading c.in_default.not-Upgrade wants)
+
+pub returns-in-Ok-run_job-clause-upgrading : goal.returns-in-Ok-run_job-clause-upgrading
+returns-in-Ok-run_job-clause-upgrading g c = λ asked wants. absurd (no-upgrade _ _ asked c.in-Ok.ensures.reading c.in_default.not-Upgrade wants)
+
+pub returns-in-Ok-run_job-clause-still : goal.returns-in-Ok-run_job-clause-still
+returns-in-Ok-run_job-clause-still g c = λ asked wants. absurd (no-upgrade _ _ asked c.in-Ok.ensures.reading c.in_default.not-Upgrade wants)
+
+pub returns-in-Ok-run_job-clause-upgrade_front : goal.returns-in-Ok-run_job-clause-upgrade_front
+returns-in-Ok-run_job-clause-upgrade_front g c = λ asked wants. absurd (no-upgrade _ _ asked c.in-Ok.ensures.reading c.in_default.not-Upgrade wants)
+
+pub returns-in-Ok-run_job-clause-upgrade_store : goal.returns-in-Ok-run_job-clause-upgrade_store
+returns-in-Ok-run_job-clause-upgrade_store g c = λ asked wants. absurd (no-upgrade _ _ asked c.in-Ok.ensures.reading c.in_default.not-Upgrade wants)
+
+pub returns-in-Ok-run_job-clause-upgrade_opened : goal.returns-in-Ok-run_job-clause-upgrade_opened
+returns-in-Ok-run_job-clause-upgrade_opened g c = λ asked wants. absurd (no-upgrade _ _ asked c.in-Ok.ensures.reading c.in_default.not-Upgrade wants)
+
+pub returns-in-Ok-run_job-clause-upgrade_unread : goal.returns-in-Ok-run_job-clause-upgrade_unread
+returns-in-Ok-run_job-clause-upgrade_unread g c = λ asked wants. absurd (no-upgrade _ _ asked c.in-Ok.ensures.reading c.in_default.not-Upgrade wants)
+
+pub returns-in-Ok-run_job-clause-upgrade_rest : goal.returns-in-Ok-run_job-clause-upgrade_rest
+returns-in-Ok-run_job-clause-upgrade_rest g c = λ asked wants. absurd (no-upgrade _ _ asked c.in-Ok.ensures.reading c.in_default.not-Upgrade wants)
+
+pub returns-in-Ok-run_job-clause-upgrade_complete : goal.returns-in-Ok-run_job-clause-upgrade_complete
+returns-in-Ok-run_job-clause-upgrade_complete g c = λ asked wants. absurd (no-upgrade _ _ asked c.in-Ok.ensures.reading c.in_default.not-Upgrade wants)
+
+pub returns-in-Ok-clause-upgraded : goal.returns-in-Ok-clause-upgraded
+returns-in-Ok-clause-upgraded g c = λ asked wants. absurd (no-upgrade _ _ asked c.in-Ok.ensures.reading c.in_default.not-Upgrade wants)
+
+pub returns-in-Ok-clause-present : goal.returns-in-Ok-clause-present
+returns-in-Ok-clause-present g c = λ asked wants. absurd (no-upgrade _ _ asked c.in-Ok.ensures.reading c.in_default.not-Upgrade wants)
+
+pub returns-in-Ok-clause-upgrading : goal.returns-in-Ok-clause-upgrading
+returns-in-Ok-clause-upgrading g c = λ asked wants. absurd (no-upgrade _ _ asked c.in-Ok.ensures.reading c.in_default.not-Upgrade wants)
+
+pub returns-in-Ok-clause-still : goal.returns-in-Ok-clause-still
+returns-in-Ok-clause-still g c = λ asked wants. absurd (no-upgrade _ _ asked c.in-Ok.ensures.reading c.in_default.not-Upgrade wants)
+
+pub returns-in-Ok-clause-upgrade_front : goal.returns-in-Ok-clause-upgrade_front
+returns-in-Ok-clause-upgrade_front g c = λ asked wants. absurd (no-upgrade _ _ asked c.in-Ok.ensures.reading c.in_default.not-Upgrade wants)
+
+pub returns-in-Ok-clause-upgrade_store : goal.returns-in-Ok-clause-upgrade_store
+returns-in-Ok-clause-upgrade_store g c = λ asked wants. absurd (no-upgrade _ _ asked c.in-Ok.ensures.reading c.in_default.not-Upgrade wants)
+
+pub returns-in-Ok-clause-upgrade_opened : goal.returns-in-Ok-clause-upgrade_opened
+returns-in-Ok-clause-upgrade_opened g c = λ asked wants. absurd (no-upgrade _ _ asked c.in-Ok.ensures.reading c.in_default.not-Upgrade wants)
+
+pub returns-in-Ok-clause-upgrade_unread : goal.returns-in-Ok-clause-upgrade_unread
+returns-in-Ok-clause-upgrade_unread g c = λ asked wants. absurd (no-upgrade _ _ asked c.in-Ok.ensures.reading c.in_default.not-Upgrade wants)
+
+pub returns-in-Ok-clause-upgrade_rest : goal.returns-in-Ok-clause-upgrade_rest
+returns-in-Ok-clause-upgrade_rest g c = λ asked wants. absurd (no-upgrade _ _ asked c.in-Ok.ensures.reading c.in_default.not-Upgrade wants)
+
+pub returns-in-Ok-clause-upgrade_complete : goal.returns-in-Ok-clause-upgrade_complete
+returns-in-Ok-clause-upgrade_complete g c = λ asked wants. absurd (no-upgrade _ _ asked c.in-Ok.ensures.reading c.in_default.not-Upgrade wants)
+
+-- ---- an upgrade is no job
+
+pub returns-in-Upgrade-clause-done : goal.returns-in-Upgrade-clause-done
+returns-in-Upgrade-clause-done g c = λ asked wants. absurd (no-job _ _ asked c.in-Ok.ensures.reading c.in-Upgrade.is wants)
+
+pub returns-in-Upgrade-clause-input : goal.returns-in-Upgrade-clause-input
+returns-in-Upgrade-clause-input g c = λ asked wants. absurd (no-job _ _ asked c.in-Ok.ensures.reading c.in-Upgrade.is wants)
+
+pub returns-in-Upgrade-clause-limit : goal.returns-in-Upgrade-clause-limit
+returns-in-Upgrade-clause-limit g c = λ asked wants. absurd (no-job _ _ asked c.in-Ok.ensures.reading c.in-Upgrade.is wants)
+
+pub returns-in-Upgrade-clause-front : goal.returns-in-Upgrade-clause-front
+returns-in-Upgrade-clause-front g c = λ asked wants. absurd (no-job _ _ asked c.in-Ok.ensures.reading c.in-Upgrade.is wants)
+
+pub returns-in-Upgrade-clause-source : goal.returns-in-Upgrade-clause-source
+returns-in-Upgrade-clause-source g c = λ asked wants. absurd (no-job _ _ asked c.in-Ok.ensures.reading c.in-Upgrade.is wants)
+
+pub returns-in-Upgrade-clause-crash : goal.returns-in-Upgrade-clause-crash
+returns-in-Upgrade-clause-crash g c = λ asked wants. absurd (no-job _ _ asked c.in-Ok.ensures.reading c.in-Upgrade.is wants)
+
+pub returns-in-Upgrade-clause-whole : goal.returns-in-Upgrade-clause-whole
+returns-in-Upgrade-clause-whole g c = λ asked wants. absurd (no-job _ _ asked c.in-Ok.ensures.reading c.in-Upgrade.is wants)
+
+pub returns-in-Upgrade-clause-input_end : goal.returns-in-Upgrade-clause-input_end
+returns-in-Upgrade-clause-input_end g c = λ asked wants. absurd (no-job _ _ asked c.in-Ok.ensures.reading c.in-Upgrade.is wants)
+
+pub returns-in-Upgrade-clause-limits : goal.returns-in-Upgrade-clause-limits
+returns-in-Upgrade-clause-limits g c = λ asked wants. absurd (no-job _ _ asked c.in-Ok.ensures.reading c.in-Upgrade.is wants)
+
+pub returns-in-Upgrade-clause-reached : goal.returns-in-Upgrade-clause-reached
+returns-in-Upgrade-clause-reached g c = λ asked wants. absurd (no-job _ _ asked c.in-Ok.ensures.reading c.in-Upgrade.is wants)
+
+pub returns-in-Upgrade-clause-lacks : goal.returns-in-Upgrade-clause-lacks
+returns-in-Upgrade-clause-lacks g c = λ asked wants. absurd (no-job _ _ asked c.in-Ok.ensures.reading c.in-Upgrade.is wants)
+
+pub returns-in-Upgrade-clause-complete : goal.returns-in-Upgrade-clause-complete
+returns-in-Upgrade-clause-complete g c = λ asked wants. absurd (no-job _ _ asked c.in-Ok.ensures.reading c.in-Upgrade.is wants)
+
+pub returns-in-Upgrade-clause-store : goal.returns-in-Upgrade-clause-store
+returns-in-Upgrade-clause-store g c = λ wants. absurd (no-words _ _ c.in-Ok.ensures.reading c.in-Upgrade.is wants)
+
+pub returns-in-Upgrade-clause-opened : goal.returns-in-Upgrade-clause-opened
+returns-in-Upgrade-clause-opened g c = λ wants. absurd (no-words _ _ c.in-Ok.ensures.reading c.in-Upgrade.is wants)
+
+pub returns-in-Upgrade-clause-left_alone : goal.returns-in-Upgrade-clause-left_alone
+returns-in-Upgrade-clause-left_alone g c = λ wants. absurd (no-words _ _ c.in-Ok.ensures.reading c.in-Upgrade.is wants)
+
+pub returns-in-Upgrade-clause-unopened : goal.returns-in-Upgrade-clause-unopened
+returns-in-Upgrade-clause-unopened g c = λ wants. absurd (no-words _ _ c.in-Ok.ensures.reading c.in-Upgrade.is wants)
+
+pub returns-in-Upgrade-clause-at_rest : goal.returns-in-Upgrade-clause-at_rest
+returns-in-Upgrade-clause-at_rest g c = λ wants. absurd (no-words _ _ c.in-Ok.ensures.reading c.in-Upgrade.is wants)
+
+-- ---- an upgrade
+
+pub returns-in-Upgrade-clause-upgraded : goal.returns-in-Upgrade-clause-upgraded
+returns-in-Upgrade-clause-upgraded g c = λ asked wants. c.run_upgrade.ensures.upgraded
+
+pub returns-in-Upgrade-clause-present : goal.returns-in-Upgrade-clause-present
+returns-in-Upgrade-clause-present g c = λ asked wants. c.run_upgrade.ensures.present
+
+pub returns-in-Upgrade-clause-upgrading : goal.returns-in-Upgrade-clause-upgrading
+returns-in-Upgrade-clause-upgrading g c = λ asked wants. c.run_upgrade.ensures.upgrading
+
+pub returns-in-Upgrade-clause-still : goal.returns-in-Upgrade-clause-still
+returns-in-Upgrade-clause-still g c = λ asked wants. c.run_upgrade.ensures.still
+
+pub returns-in-Upgrade-clause-upgrade_front : goal.returns-in-Upgrade-clause-upgrade_front
+returns-in-Upgrade-clause-upgrade_front g c = λ asked wants. c.run_upgrade.ensures.front
+
+pub returns-in-Upgrade-clause-upgrade_store : goal.returns-in-Upgrade-clause-upgrade_store
+returns-in-Upgrade-clause-upgrade_store g c = λ asked wants. c.run_upgrade.ensures.broken
+
+pub returns-in-Upgrade-clause-upgrade_opened : goal.returns-in-Upgrade-clause-upgrade_opened
+returns-in-Upgrade-clause-upgrade_opened g c = λ asked wants. c.run_upgrade.ensures.opened
+
+pub returns-in-Upgrade-clause-upgrade_unread : goal.returns-in-Upgrade-clause-upgrade_unread
+returns-in-Upgrade-clause-upgrade_unread g c = λ asked wants. (refl, c.run_upgrade.ensures.ends)
+
+pub returns-in-Upgrade-clause-upgrade_rest : goal.returns-in-Upgrade-clause-upgrade_rest
+returns-in-Upgrade-clause-upgrade_rest g c = λ asked wants. c.run_upgrade.ensures.at_rest
+
+pub returns-in-Upgrade-clause-upgrade_complete : goal.returns-in-Upgrade-clause-upgrade_complete
+returns-in-Upgrade-clause-upgrade_complete g c = λ asked wants. c.run_upgrade.ensures.complete
+
+pub returns-in-Upgrade-clause-settled : goal.returns-in-Upgrade-clause-settled
+returns-in-Upgrade-clause-settled g c = λ source disk sink.
+    settled-upgrade c.run_upgrade.result c.run_upgrade.ensures.ends (λ is. disk (c.run_upgrade.ensures.disk_cause is)) (λ is. sink (c.run_upgrade.ensures.sink_cause is))

@@ -10,5 +10,5 @@ loop-key-preserved c =
       tt,
       tt,
       done_more done left rest c.args.places.items _ c.loop-key.invariant.2 c.in-Some.ensures.steps.0,
-      restored_more done rest left c.args.places.items c.in-Some.key c.in-Some.point c.in-Some.words c.loop-key.map.entries c.put.new.map.entries c.loop-key.invariant.2 c.in-Some.ensures.steps.0 c.requires c.loop-key.invariant.3 c.in_ok-put.ensures,
+      restored_more done rest left c.args.places.items c.in-Some.key c.in-Some.point c.in-Some.words c.in-Some.label c.loop-key.map.entries c.put.new.map.entries c.loop-key.invariant.2 c.in-Some.ensures.steps.0 c.requires c.loop-key.invariant.3 c.in_ok-put.ensures,
     )

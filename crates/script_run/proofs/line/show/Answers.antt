@@ -21,7 +21,7 @@ pub returns-in-Ok-Some-clause-told : goal.returns-in-Ok-Some-clause-told
 unfolding reply_of
 returns-in-Ok-Some-clause-told g c = λ told state holds.
     let shown = rw c.in-Ok-Some.field-0-is at (c.in-Ok-Some.ensures.shown told state holds) in
-    read-replies state (Ok (lines.Show c.args.key)) _ _ (replies.Place c.args.key c.in-Ok-Some.place.point c.in-Ok-Some.place.words) (c.in-Ok-Some.ensures.rests told) holds refl
+    read-replies state (Ok (lines.Show c.args.key)) _ _ (replies.Place c.args.key c.in-Ok-Some.place.point c.in-Ok-Some.place.words c.in-Ok-Some.place.label) (c.in-Ok-Some.ensures.rests told) holds refl
     (ap (λ p. text_of_reply (show_reply c.args.key p)) shown)
 
 pub returns-in-Ok-None-clause-told : goal.returns-in-Ok-None-clause-told

@@ -13,7 +13,10 @@ use Rattle.irtree_shape.proofs.Harms.{tree-later}
 use Rattle.irtree_shape.specs.Entries.{HasEntry, HasPlace, entry_at}
 use Rattle.irtree_shape.specs.Regrown.{IsMissing, IsRegrown}
 use Rattle.split_condense.proofs.Regrowths.{nothing-regrown, planted-for, planted-regrown, regrown-further}
-use Rattle.split_condense.proofs.Same.{none-same, stored-same}
+use Rattle.split_condense.specs.Entries.{entry_item}
+use Rattle.split_condense.specs.Updates.{entry_for}
+use Rattle.split_condense.specs.declared.entry.Entry.{Entry}
+use Rattle.split_condense.proofs.Same.{none-same}
 use Rattle.split_condense.proofs.Told.{told-regrown}
 use Rattle.split_condense.proofs.entry_put.put_entry.Goals as goal
 
@@ -36,15 +39,13 @@ returns-in_default-clause-put g c = λ free whole has.
 pub returns-in_default-clause-no_false_damage : goal.returns-in_default-clause-no_false_damage
 returns-in_default-clause-no_false_damage g c = λ free whole has told damage e. c.insert.ensures.no_false_damage free whole told damage e
 
-pub returns-then-eq-clause-put : goal.returns-then-eq-clause-put
-returns-then-eq-clause-put g c = λ free whole has.
+pub returns-then-is_same_entry-clause-put : goal.returns-then-is_same_entry-clause-put
+returns-then-is_same_entry-clause-put g c = λ free whole has.
     let P = g.P.Pages in
     let tree = c.args.tree.now in
-    let said = c.if-eq.true in
-    let test = c.eq.ensures in
-    let equal : c.in-Some.old.now ≡ c.args.new.now = stored-same c.in-Some.old.now c.args.new.now c.eq.result test said in
+    let equal : entry_for c.args.key.now c.in-Some.old.now ≡ entry_for c.args.key.now c.args.new.now = c.is_same_entry.ensures.same c.if-is_same_entry.true c.args.key.now in
     let same : option_map (entry_at c.args.key.now) (option_copied c.args.old) ≡ Some (entry_at c.args.key.now c.args.new.now) =
-    ap (λ (o : Option (Bor Stored)). option_map (entry_at c.args.key.now) (option_copied o)) c.in-Some.is ∙ ap (λ (s : Stored). Some (entry_at c.args.key.now s)) equal in
+    ap (λ (o : Option (Bor Stored)). option_map (entry_at c.args.key.now) (option_copied o)) c.in-Some.is ∙ ap (λ (e : Entry). Some (entry_item e)) equal in
     nothing-regrown (P.pages c.args.pages.now) tree.rows (P.count c.args.pages.now) (P.first c.args.pages.now) tree.root free _ _ same whole
 
 pub returns-in_err-insert-clause-no_false_damage : goal.returns-in_err-insert-clause-no_false_damage
@@ -106,52 +107,50 @@ returns-in_default-clause-there g c = λ free whole.
     let P = g.P.Pages in
     let tree = c.args.tree.now in
     ok_then c.insert.result
-    (λ h. subst (λ (o : Option (Bor Stored)). IfSome (option_copied o) (λ stored. stored ≢ c.args.new.now → HasPlace (nodes_in node_of (P.pages c.args.pages.now) tree.rows) tree.root c.args.key.now stored.point)) (sym c.in_default.is) tt)
+    (λ h. subst (λ (o : Option (Bor Stored)). IfSome (option_copied o) (λ stored. entry_for c.args.key.now stored ≢ entry_for c.args.key.now c.args.new.now → HasPlace (nodes_in node_of (P.pages c.args.pages.now) tree.rows) tree.root c.args.key.now stored.point)) (sym c.in_default.is) tt)
     (c.insert.ensures.planted free whole)
 
-pub returns-then-eq-clause-there : goal.returns-then-eq-clause-there
-returns-then-eq-clause-there g c = λ free whole.
+pub returns-then-is_same_entry-clause-there : goal.returns-then-is_same_entry-clause-there
+returns-then-is_same_entry-clause-there g c = λ free whole.
     let P = g.P.Pages in
     let tree = c.args.tree.now in
-    let said = c.if-eq.true in
-    let test = c.eq.ensures in
-    let equal : c.in-Some.old.now ≡ c.args.new.now = stored-same c.in-Some.old.now c.args.new.now c.eq.result test said in
-    subst (λ (o : Option (Bor Stored)). IfSome (option_copied o) (λ stored. stored ≢ c.args.new.now → HasPlace (nodes_in node_of (P.pages c.args.pages.now) tree.rows) tree.root c.args.key.now stored.point)) (sym c.in-Some.is) (λ differs. absurd (differs equal))
+    let equal : entry_for c.args.key.now c.in-Some.old.now ≡ entry_for c.args.key.now c.args.new.now = c.is_same_entry.ensures.same c.if-is_same_entry.true c.args.key.now in
+    subst (λ (o : Option (Bor Stored)). IfSome (option_copied o) (λ stored. entry_for c.args.key.now stored ≢ entry_for c.args.key.now c.args.new.now → HasPlace (nodes_in node_of (P.pages c.args.pages.now) tree.rows) tree.root c.args.key.now stored.point)) (sym c.in-Some.is) (λ differs. absurd (differs equal))
 
 pub returns-clause-there : goal.returns-clause-there
 returns-clause-there g c = λ free whole.
     let P = g.P.Pages in
     let tree = c.args.tree.now in
-    subst (λ (o : Option (Bor Stored)). IfSome (option_copied o) (λ stored. stored ≢ c.args.new.now → HasPlace (nodes_in node_of (P.pages c.args.pages.now) tree.rows) tree.root c.args.key.now stored.point)) (sym c.in-Some.is)
+    subst (λ (o : Option (Bor Stored)). IfSome (option_copied o) (λ stored. entry_for c.args.key.now stored ≢ entry_for c.args.key.now c.args.new.now → HasPlace (nodes_in node_of (P.pages c.args.pages.now) tree.rows) tree.root c.args.key.now stored.point)) (sym c.in-Some.is)
     (λ differs. c.in_ok-take_entry.ensures.there free whole)
 
 -- ---- nothing is done where both are the same
 
 pub returns-in_default-clause-same : goal.returns-in_default-clause-same
-returns-in_default-clause-same g c = λ same. let none : None ≡ Some c.args.new.now = sym (ap option_copied c.in_default.is) ∙ same in absurd (cc)
+returns-in_default-clause-same g c = λ same. let none : None ≡ Some (entry_for c.args.key.now c.args.new.now) = sym (ap (λ (o : Option (Bor Stored)). option_map (entry_for c.args.key.now) (option_copied o)) c.in_default.is) ∙ same in absurd (cc)
 
 pub returns-in_err-take_entry-clause-same : goal.returns-in_err-take_entry-clause-same
-returns-in_err-take_entry-clause-same g c = λ same. absurd (none-same c.args.old c.in-Some.old c.args.new.now c.eq.result c.in-Some.is c.eq.ensures c.if-eq.false same)
+returns-in_err-take_entry-clause-same g c = λ same. absurd (none-same c.args.key.now c.args.old c.in-Some.old c.args.new.now c.is_same_entry.result c.in-Some.is c.is_same_entry.ensures.differs c.if-is_same_entry.false same)
 
 pub returns-in_err-insert-clause-same : goal.returns-in_err-insert-clause-same
-returns-in_err-insert-clause-same g c = λ same. absurd (none-same c.args.old c.in-Some.old c.args.new.now c.eq.result c.in-Some.is c.eq.ensures c.if-eq.false same)
+returns-in_err-insert-clause-same g c = λ same. absurd (none-same c.args.key.now c.args.old c.in-Some.old c.args.new.now c.is_same_entry.result c.in-Some.is c.is_same_entry.ensures.differs c.if-is_same_entry.false same)
 
 pub returns-clause-same : goal.returns-clause-same
-returns-clause-same g c = λ same. absurd (none-same c.args.old c.in-Some.old c.args.new.now c.eq.result c.in-Some.is c.eq.ensures c.if-eq.false same)
+returns-clause-same g c = λ same. absurd (none-same c.args.key.now c.args.old c.in-Some.old c.args.new.now c.is_same_entry.result c.in-Some.is c.is_same_entry.ensures.differs c.if-is_same_entry.false same)
 
 -- ---- no split is counted then
 
 pub returns-in_default-clause-unsplit : goal.returns-in_default-clause-unsplit
-returns-in_default-clause-unsplit g c = λ same. let none : None ≡ Some c.args.new.now = sym (ap option_copied c.in_default.is) ∙ same in absurd (cc)
+returns-in_default-clause-unsplit g c = λ same. let none : None ≡ Some (entry_for c.args.key.now c.args.new.now) = sym (ap (λ (o : Option (Bor Stored)). option_map (entry_for c.args.key.now) (option_copied o)) c.in_default.is) ∙ same in absurd (cc)
 
 pub returns-in_err-take_entry-clause-unsplit : goal.returns-in_err-take_entry-clause-unsplit
-returns-in_err-take_entry-clause-unsplit g c = λ same. absurd (none-same c.args.old c.in-Some.old c.args.new.now c.eq.result c.in-Some.is c.eq.ensures c.if-eq.false same)
+returns-in_err-take_entry-clause-unsplit g c = λ same. absurd (none-same c.args.key.now c.args.old c.in-Some.old c.args.new.now c.is_same_entry.result c.in-Some.is c.is_same_entry.ensures.differs c.if-is_same_entry.false same)
 
 pub returns-in_err-insert-clause-unsplit : goal.returns-in_err-insert-clause-unsplit
-returns-in_err-insert-clause-unsplit g c = λ same. absurd (none-same c.args.old c.in-Some.old c.args.new.now c.eq.result c.in-Some.is c.eq.ensures c.if-eq.false same)
+returns-in_err-insert-clause-unsplit g c = λ same. absurd (none-same c.args.key.now c.args.old c.in-Some.old c.args.new.now c.is_same_entry.result c.in-Some.is c.is_same_entry.ensures.differs c.if-is_same_entry.false same)
 
 pub returns-clause-unsplit : goal.returns-clause-unsplit
-returns-clause-unsplit g c = λ same. absurd (none-same c.args.old c.in-Some.old c.args.new.now c.eq.result c.in-Some.is c.eq.ensures c.if-eq.false same)
+returns-clause-unsplit g c = λ same. absurd (none-same c.args.key.now c.args.old c.in-Some.old c.args.new.now c.is_same_entry.result c.in-Some.is c.is_same_entry.ensures.differs c.if-is_same_entry.false same)
 
 -- ---- a new place's entry
 
@@ -163,8 +162,8 @@ returns-in_default-clause-planted g c = λ free whole none.
     planted-for c.insert.result before (P.pages c.insert.new.pages) c.insert.new.tree.rows (P.count c.insert.new.pages) (P.first c.insert.new.pages) tree.root c.insert.new.tree.root c.entry_of.result c.args.key.now c.args.new.now _
     c.entry_of.ensures (c.insert.ensures.planted free whole)
 
-pub returns-then-eq-clause-planted : goal.returns-then-eq-clause-planted
-returns-then-eq-clause-planted g c = λ free whole none. (let some : Some c.in-Some.old.now ≡ None = sym (ap option_copied c.in-Some.is) ∙ none in absurd (cc))
+pub returns-then-is_same_entry-clause-planted : goal.returns-then-is_same_entry-clause-planted
+returns-then-is_same_entry-clause-planted g c = λ free whole none. (let some : Some c.in-Some.old.now ≡ None = sym (ap option_copied c.in-Some.is) ∙ none in absurd (cc))
 
 pub returns-clause-planted : goal.returns-clause-planted
 returns-clause-planted g c = λ free whole none. (let some : Some c.in-Some.old.now ≡ None = sym (ap option_copied c.in-Some.is) ∙ none in absurd (cc))

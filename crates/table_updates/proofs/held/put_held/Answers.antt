@@ -33,8 +33,8 @@ returns-in_err-release_words-clause-no_false_damage g c entries free holds apart
     let pairs : c.held_pairs.result.now ≡ pairs_of (place_of_key key entries.places) = c.held_pairs.ensures.pairs ∙ ap pairs_of was in
     let put = c.in_ok-put_place.ensures.put entries free holds apart in
     let ascend = ascending-holds (g.P.Pages.pages c.args.pages.now) c.args.tables.now entries holds in
-    let all = can-release-held numbers rest key c.args.point words entries c.args.tables.now.next_word agree ascend holds.places.each c.pairs.ensures.valid named in
-    let can = can-release-after key c.args.point numbers words c.pairs.result.now entries c.held_pairs.result.now c.new-pairs.result.entries c.pair_words.new.pairs.entries c.place_with-stored.result
+    let all = can-release-held numbers rest key c.args.point words c.args.label entries c.args.tables.now.next_word agree ascend holds.places.each c.pairs.ensures.valid named in
+    let can = can-release-after key c.args.point c.args.label numbers words c.pairs.result.now entries c.held_pairs.result.now c.new-pairs.result.entries c.pair_words.new.pairs.entries c.place_with-stored.result
     pairs c.new-pairs.ensures.empty c.pairs.ensures.pairs c.in_ok-pair_words.ensures.paired c.place_with-stored.ensures.pairs all in
     let p = err_from_is_err_and c.from_residual-in_err-release_words.result c.from_residual-in_err-release_words.ensures.1 in
     λ e. (let same : c.in_err-release_words.field-0.0 ≡ Damaged damage = cc (p.1, p.2, e) in
@@ -49,10 +49,10 @@ returns-clause-put g c entries free holds apart was =
     let pairs : c.held_pairs.result.now ≡ pairs_of (place_of_key key entries.places) = c.held_pairs.ensures.pairs ∙ ap pairs_of was in
     let put = c.in_ok-put_place.ensures.put entries free holds apart in
     let rest = c.in_ok-release_words.ensures.released _ put.1.free put.1.holds put.1.apart in (
-      held-stored key c.args.point numbers words c.pairs.result.now entries c.held_pairs.result.now c.new-pairs.result.entries c.pair_words.new.pairs.entries c.place_with-stored.result
+      held-stored key c.args.point c.args.label numbers words c.pairs.result.now entries c.held_pairs.result.now c.new-pairs.result.entries c.pair_words.new.pairs.entries c.place_with-stored.result
           pairs c.new-pairs.ensures.empty c.pairs.ensures.pairs c.in_ok-pair_words.ensures.paired c.place_with-stored.ensures.pairs,
       subst (λ (e : Entries). IsChanged before c.args.tables.now (g.P.Pages.pages c.release_words.new.pages) (g.P.Pages.count c.release_words.new.pages) (g.P.Pages.first c.release_words.new.pages) c.release_words.new.tables e)
-          (held-after key c.args.point numbers words c.pairs.result.now entries c.held_pairs.result.now c.new-pairs.result.entries c.pair_words.new.pairs.entries c.place_with-stored.result
+          (held-after key c.args.point c.args.label numbers words c.pairs.result.now entries c.held_pairs.result.now c.new-pairs.result.entries c.pair_words.new.pairs.entries c.place_with-stored.result
           pairs c.new-pairs.ensures.empty c.pairs.ensures.pairs c.in_ok-pair_words.ensures.paired c.place_with-stored.ensures.pairs)
           (changed-further put.1 rest),
     )

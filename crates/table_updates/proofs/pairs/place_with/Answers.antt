@@ -26,5 +26,5 @@ pub returns-clause-form : goal.returns-clause-form
 returns-clause-form c =
     let i = c.loop-number.invariant in
     let none = rest_all deref_pair _ _ _ c.in-None.is c.next.ensures.steps in
-    let made = filled-all c.args.point c.loop-number.pairs c.loop-number.number-iterator c.args.numbers.now.entries c.loop-number.count none i.2 i.3 i.5 in
-    subst IsStored (sym made) (stored-map c.args.point c.args.numbers.now.entries c.requires.map)
+    let made = filled-all c.args.point c.args.label c.loop-number.pairs c.loop-number.number-iterator c.args.numbers.now.entries c.loop-number.count none i.2 i.3 i.5 in
+    subst IsStored (sym made) (stored-map c.args.point c.args.numbers.now.entries c.args.label c.requires.map)

@@ -58,4 +58,5 @@ returns-clause-kept g c = λ told.
       subst (λ (o : Option Stored). IsLookedUp places_form pages count c.args.tables.now.places (key_code c.args.key.now) (option_map place_value o)) c.in-Some.is (place.kept told),
       refl,
       same-words _ _ _ _ c.args.tables.now.numbers _ _ place.frame.pages place.frame.count (c.in_ok-words.ensures.kept still),
+      refl,
     )

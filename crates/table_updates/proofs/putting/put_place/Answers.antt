@@ -49,8 +49,8 @@ returns-in_err-release_words-clause-no_false_damage g c entries free holds apart
     let few = c.pairs.ensures.valid.few in
     let small = c.requires.next in
     let left : next + length words ≤ 2 ^ 64 = omega arith in
-    let all = can-release-put key entries next agree ascend holds.places.each c.args.point words c.pairs.ensures.valid room left in
-    let can = can-release-puts key c.args.point words c.pairs.result.now next entries c.held_pairs-held.result.now c.held_pairs.result.now c.place_with-stored.result c.number_words.new.pairs.entries
+    let all = can-release-put key entries next agree ascend holds.places.each c.args.point words c.args.label c.pairs.ensures.valid room left in
+    let can = can-release-puts key c.args.point c.args.label words c.pairs.result.now next entries c.held_pairs-held.result.now c.held_pairs.result.now c.place_with-stored.result c.number_words.new.pairs.entries
     pairs c.pairs.ensures.pairs (numbers.1 ∙ begun) c.place_with-stored.ensures.pairs c.held_pairs.ensures.pairs all in
     let changed = changed-further numbers.2 put.1 in
     let p = err_from_is_err_and c.from_residual-in_err-release_words.result c.from_residual-in_err-release_words.ensures.1 in
@@ -68,9 +68,9 @@ returns-clause-put g c entries free holds apart was =
     let begun = ap (λ (ps : List Pair). placed ps (numbered c.held_pairs-held.result.now c.pairs.result.now next entries).pairs) c.new-numbers.ensures.empty in
     let put = c.in_ok-put_place.ensures.put _ numbers.2.free numbers.2.holds numbers.2.apart in
     let rest = c.in_ok-release_words.ensures.released _ put.1.free put.1.holds put.1.apart in
-    let after = after-puts key c.args.point words c.pairs.result.now next entries c.held_pairs-held.result.now c.held_pairs.result.now c.place_with-stored.result c.number_words.new.pairs.entries
+    let after = after-puts key c.args.point c.args.label words c.pairs.result.now next entries c.held_pairs-held.result.now c.held_pairs.result.now c.place_with-stored.result c.number_words.new.pairs.entries
     pairs c.pairs.ensures.pairs (numbers.1 ∙ begun) c.place_with-stored.ensures.pairs c.held_pairs.ensures.pairs in (
-      c.place_with-stored.ensures.pairs ∙ ap (stored_with c.args.point) (numbers.1 ∙ begun ∙ (λ i. by_number (numbered (pairs i) (c.pairs.ensures.pairs i) next entries).pairs)),
+      c.place_with-stored.ensures.pairs ∙ ap (λ (ps : List Pair). stored_with c.args.point ps c.args.label) (numbers.1 ∙ begun ∙ (λ i. by_number (numbered (pairs i) (c.pairs.ensures.pairs i) next entries).pairs)),
       c.in_ok-release_words.ensures.next ∙ ap (λ (t : Tables). t.next_word) c.put_place.ensures.others ∙ numbers.0 ∙ (λ i. (numbered (pairs i) (c.pairs.ensures.pairs i) next entries).next_word),
       subst (λ (e : Entries). IsChanged before c.args.tables.now (g.P.Pages.pages c.release_words.new.pages) (g.P.Pages.count c.release_words.new.pages) (g.P.Pages.first c.release_words.new.pages) c.release_words.new.tables e) after
           (changed-further numbers.2 (changed-further put.1 rest)),

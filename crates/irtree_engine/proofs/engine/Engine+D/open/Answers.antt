@@ -1,7 +1,7 @@
 use Rattle.std.proofs.Common.{IsErrOf, sym, subst}
 use Rattle.disk_model.specs.World.{LeavesOnly}
 use Rattle.irtree_engine.specs.Holding.{LeavesState}
-use Rattle.irtree_engine.specs.declared.fault.EngineFault.TheVariants.{BadJournal, Damaged, NotAStore}
+use Rattle.irtree_engine.specs.declared.fault.EngineFault.TheVariants.{BadJournal, Damaged, NotAStore, Version1}
 use Rattle.irtree_engine.proofs.engine.Engine+D.open.Goals as goal
 
 pub returns-in-Ok-clause-any_moment : goal.returns-in-Ok-clause-any_moment
@@ -27,6 +27,11 @@ pub returns-in-Err-clause-foreign : goal.returns-in-Err-clause-foreign
 returns-in-Err-clause-foreign g c = λ t is.
     let named : IsErrOf c.recover_superblock.result NotAStore = cc in
     c.recover_superblock.ensures.foreign t named
+
+pub returns-in-Err-clause-version1 : goal.returns-in-Err-clause-version1
+returns-in-Err-clause-version1 g c = λ t is.
+    let named : IsErrOf c.recover_superblock.result Version1 = cc in
+    c.recover_superblock.ensures.version1 t named
 
 pub returns-in-Err-clause-broken_head : goal.returns-in-Err-clause-broken_head
 returns-in-Err-clause-broken_head g c = λ t damage is.

@@ -17,7 +17,7 @@ returns-in_default-append-clause-any_moment g c = λ t.
     let r = c.in-Ok.ensures.gathered in
     let whole = whole_of c.args.self.now.overlay c.write.new.overlay c.encode.result _ put.sized put.put put.others r in
     commit_leaves c.args.self.now.overlay r.ordered c.args.self.now.current c.args.self.now.last c.encode.result c.args.self.now.end _ (g.D.Disk.world c.make_room.new.self.disk.now) _
-    r.ascends whole.sized whole.at_0 c.encode.ensures.block whole.others c.encode.ensures.store
+    r.ascends whole.sized whole.at_0 c.encode.ensures.block whole.others c.encode.ensures.store c.encode.ensures.version1
     (c.args.self.now.ready t c.if-self.false) (c.make_room.ensures.any_moment t) (c.in_ok-make_room.ensures.same t) (c.make_room.ensures.quiet t).said
     (c.append.ensures.any_moment t (given r.ordered.entries) r.are)
 
@@ -63,7 +63,7 @@ invariant_of-self-3 g c =
       in_order = kept_after mid.overlay mid.journal journal mid.rooms mid.sized c.in_ok-make_room.ensures.has_rooms mid.in_order keeps;
       bare = λ on. mid.bare c.in_ok-make_room.ensures.on;
       ready = λ t on. subst (λ (b : Superblock). IsCommitted b c.in-Ok-append.end (g.D.Disk.world c.append.new.disk)) (sym c.make_room.ensures.current)
-          (committed_by r.ordered (applied (g.D.Disk.world mid.disk.now).seen) c.args.self.now.current c.encode.result _ _ r.ascends whole.sized whole.at_0 c.encode.ensures.block c.encode.ensures.store
+          (committed_by r.ordered (applied (g.D.Disk.world mid.disk.now).seen) c.args.self.now.current c.encode.result _ _ r.ascends whole.sized whole.at_0 c.encode.ensures.block c.encode.ensures.store c.encode.ensures.version1
           (c.in-Ok-append.ensures.ready t (given r.ordered.entries) r.are) (c.in-Ok-append.ensures.appended t (given r.ordered.entries) r.are));
       images = λ t on. images_after r.ordered mid.journal journal _ _ r.ascends whole.sized from_whole (mid.images t c.in_ok-make_room.ensures.on)
           (c.in-Ok-append.ensures.appended t (given r.ordered.entries) r.are) (c.append.ensures.area t) (c.in-Ok-append.ensures.overwritten t (given r.ordered.entries) r.are);
@@ -78,7 +78,7 @@ returns-clause-any_moment g c = λ t.
     let r = c.in-Ok.ensures.gathered in
     let whole = whole_of c.args.self.now.overlay c.write.new.overlay c.encode.result _ put.sized put.put put.others r in
     commit_leaves c.args.self.now.overlay r.ordered c.args.self.now.current c.args.self.now.last c.encode.result c.args.self.now.end _ (g.D.Disk.world c.make_room.new.self.disk.now) _
-    r.ascends whole.sized whole.at_0 c.encode.ensures.block whole.others c.encode.ensures.store
+    r.ascends whole.sized whole.at_0 c.encode.ensures.block whole.others c.encode.ensures.store c.encode.ensures.version1
     (c.args.self.now.ready t c.if-self.false) (c.make_room.ensures.any_moment t) (c.in_ok-make_room.ensures.same t) (c.make_room.ensures.quiet t).said
     (c.append.ensures.any_moment t (given r.ordered.entries) r.are)
 

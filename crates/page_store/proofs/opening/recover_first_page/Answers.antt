@@ -1,7 +1,7 @@
 use Rattle.std.proofs.Common.{IsErrOf}
 use Rattle.page_journal.specs.declared.fault.JournalFault.TheVariants.{BadJournal}
 use Rattle.page_store.proofs.OpeningReads.{recovery_is_quiet, opening_is_quiet, recovery_recovers, opening_recovers}
-use Rattle.page_store.proofs.opening.recover_superblock.Goals as goal
+use Rattle.page_store.proofs.opening.recover_first_page.Goals as goal
 
 pub returns-in-Err-BadJournal-clause-bad : goal.returns-in-Err-BadJournal-clause-bad
 returns-in-Err-BadJournal-clause-bad g c = λ t at is.
@@ -19,14 +19,8 @@ returns-in-Err-BadJournal-clause-quiet g c = λ t. recovery_is_quiet (c.recover.
 pub returns-in_default-clause-quiet : goal.returns-in_default-clause-quiet
 returns-in_default-clause-quiet g c = λ t. opening_is_quiet (c.recover.ensures.quiet t) (c.read_page.ensures.reads t)
 
-pub returns-in-Ok-decode-clause-quiet : goal.returns-in-Ok-decode-clause-quiet
-returns-in-Ok-decode-clause-quiet g c = λ t. opening_is_quiet (c.recover.ensures.quiet t) (c.read_page.ensures.reads t)
-
-pub returns-in-Err-NotAStore-clause-quiet : goal.returns-in-Err-NotAStore-clause-quiet
-returns-in-Err-NotAStore-clause-quiet g c = λ t. opening_is_quiet (c.recover.ensures.quiet t) (c.read_page.ensures.reads t)
-
-pub returns-in-Err-Broken-clause-quiet : goal.returns-in-Err-Broken-clause-quiet
-returns-in-Err-Broken-clause-quiet g c = λ t. opening_is_quiet (c.recover.ensures.quiet t) (c.read_page.ensures.reads t)
+pub returns-clause-quiet : goal.returns-clause-quiet
+returns-clause-quiet g c = λ t. opening_is_quiet (c.recover.ensures.quiet t) (c.read_page.ensures.reads t)
 
 pub returns-in-Err-Disk-clause-recovers : goal.returns-in-Err-Disk-clause-recovers
 returns-in-Err-Disk-clause-recovers g c = λ t. recovery_recovers (c.recover.ensures.closed t) (c.recover.ensures.journal t)
@@ -37,11 +31,5 @@ returns-in-Err-BadJournal-clause-recovers g c = λ t. recovery_recovers (c.recov
 pub returns-in_default-clause-recovers : goal.returns-in_default-clause-recovers
 returns-in_default-clause-recovers g c = λ t. opening_recovers (c.recover.ensures.closed t) (c.recover.ensures.journal t) (c.read_page.ensures.reads t)
 
-pub returns-in-Ok-decode-clause-recovers : goal.returns-in-Ok-decode-clause-recovers
-returns-in-Ok-decode-clause-recovers g c = λ t. opening_recovers (c.recover.ensures.closed t) (c.recover.ensures.journal t) (c.read_page.ensures.reads t)
-
-pub returns-in-Err-NotAStore-clause-recovers : goal.returns-in-Err-NotAStore-clause-recovers
-returns-in-Err-NotAStore-clause-recovers g c = λ t. opening_recovers (c.recover.ensures.closed t) (c.recover.ensures.journal t) (c.read_page.ensures.reads t)
-
-pub returns-in-Err-Broken-clause-recovers : goal.returns-in-Err-Broken-clause-recovers
-returns-in-Err-Broken-clause-recovers g c = λ t. opening_recovers (c.recover.ensures.closed t) (c.recover.ensures.journal t) (c.read_page.ensures.reads t)
+pub returns-clause-recovers : goal.returns-clause-recovers
+returns-clause-recovers g c = λ t. opening_recovers (c.recover.ensures.closed t) (c.recover.ensures.journal t) (c.read_page.ensures.reads t)
