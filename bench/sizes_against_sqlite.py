@@ -10,7 +10,10 @@ It prints one Markdown table. Each figure goes to standard error, too, as soon a
 Queries and ways are those of queries_against_sqlite.py. Warm is a second pass over the same queries in one process; cold is the first pass of fewer of
 them, just after opening. SQLite's passes end after LIMIT seconds at the latest. A load's text has at most 64 MiB, so a large one is loaded in pieces.
 The program must be built (./irtree-build builds it; IRTREE names another one).
-usage: bench/sizes_against_sqlite.py [--queries N] [--cold N] [--adds N] [--cache PAGES] [--policy POLICY] [--limit SECONDS] [--folder DIR] [PLACES ..]
+On a machine that does other work, too, --processor takes the processor's time of the program and of SQLite's process in place of the clock's: then no
+wait is in a figure, not for the disk either.
+usage: bench/sizes_against_sqlite.py [--queries N] [--cold N] [--adds N] [--cache PAGES] [--policy POLICY] [--limit SECONDS] [--folder DIR] [--processor]
+[PLACES ..]
 (10000, 100000 and 1000000 places if none are named; it works in a folder of its own below DIR, by default beside the repository, and leaves nothing)"""
 import argparse
 import json
@@ -43,16 +46,24 @@ MEASURE = """if True:
     begun = time.monotonic()
     done = subprocess.run(sys.argv[1:], stdout=subprocess.PIPE)
     seconds = time.monotonic() - begun
-    print(json.dumps([seconds, resource.getrusage(resource.RUSAGE_CHILDREN).ru_maxrss * 1024, done.returncode, done.stdout.decode()[-200:]]))
+    used = resource.getrusage(resource.RUSAGE_CHILDREN)
+    print(json.dumps([seconds, used.ru_utime + used.ru_stime, used.ru_maxrss * 1024, done.returncode, done.stdout.decode()[-200:]]))
 """
+by_processor = False
+
+
+def now():
+    """Seconds of the clock, or of the processor in this process."""
+    return time.process_time() if by_processor else time.monotonic()
 
 
 def measured(command, given=os.devnull):
     """The seconds of a command, its memory at most in bytes, and the end of what it printed."""
     with open(given, "rb") as file:
-        seconds, peak, status, said = json.loads(subprocess.run([sys.executable, "-c", MEASURE, *command], stdin=file, stdout=subprocess.PIPE, check=True).stdout)
+        done = subprocess.run([sys.executable, "-c", MEASURE, *command], stdin=file, stdout=subprocess.PIPE, check=True)
+    seconds, processor, peak, status, said = json.loads(done.stdout)
     assert status == 0, (command, status, said)
-    return seconds, peak, said
+    return processor if by_processor else seconds, peak, said
 
 
 class Run:
@@ -69,18 +80,25 @@ class Run:
         self.child.communicate()
         assert self.child.returncode == 0, self.child.returncode
 
+    def now(self):
+        """Seconds of the clock, or of the processor in the program, which has one thread."""
+        if not by_processor:
+            return time.monotonic()
+        with open(f"/proc/{self.child.pid}/schedstat") as file:
+            return int(file.read().split()[0]) / 1e9
+
     def ask(self, text):
         """The seconds from the first line to the last reply, and the replies; the last one is that to `count`, which looks at nothing."""
         def write():
             self.child.stdin.write(text + b"count\n")
             self.child.stdin.flush()
-        writer, said, begun = threading.Thread(target=write), bytearray(), time.monotonic()
+        writer, said, begun = threading.Thread(target=write), bytearray(), self.now()
         writer.start()
         while not (said.endswith(b"\n") and said[said.rfind(b"\n", 0, -1) + 1:].startswith(b"count ")):
             piece = os.read(self.child.stdout.fileno(), 1 << 20)
             assert piece, (self.child.wait(), said[-200:])
             said += piece
-        taken = time.monotonic() - begun
+        taken = self.now() - begun
         writer.join()
         return taken, bytes(said)
 
@@ -121,7 +139,7 @@ def load_sqlite(path, rows, pages):
     base.execute("create table places(id integer primary key, key text unique, x real, y real, text text)")
     base.execute("create virtual table box using rtree(id, west, east, south, north)")
     base.execute("create virtual table words using fts5(text, content='', tokenize='unicode61 remove_diacritics 0')")
-    begun = time.monotonic()
+    begun = now()
     with open(rows, encoding="utf-8") as file:
         for i, line in enumerate(file):
             if i % BATCH == 0:
@@ -131,7 +149,7 @@ def load_sqlite(path, rows, pages):
             key, x, y, text = line.rstrip("\n").split("\t")
             put(base, i, key or None, float(x), float(y), text)
     base.execute("commit")
-    print(time.monotonic() - begun)
+    print(now() - begun)
     base.execute("insert into words(words) values('optimize')")
     base.close()
 
@@ -174,12 +192,12 @@ def by_key(base, it):
 
 def passed(way, base, some, limit):
     """Asks in turn until the time is over; the seconds of each query, and the keys found."""
-    begun, found = time.monotonic(), []
+    end, begun, found = time.monotonic() + limit, now(), []
     for it, _ in some:
         found.append({row[0] for row in way(base, it) if row[0]})
-        if time.monotonic() - begun > limit:
+        if time.monotonic() > end:
             break
-    return (time.monotonic() - begun) / len(found), found
+    return (now() - begun) / len(found), found
 
 
 def compared(table, name, size, some, tried, store, path, options):
@@ -215,17 +233,15 @@ def compared(table, name, size, some, tried, store, path, options):
 
 def opened(store, pages):
     """The seconds of a run without lines, from the start of its process to its end."""
-    begun = time.monotonic()
-    subprocess.run([PROGRAM, store, "run", f"--cache={pages}"], stdin=subprocess.DEVNULL, check=True)
-    return time.monotonic() - begun
+    return measured([PROGRAM, store, "run", f"--cache={pages}"])[0]
 
 
 def opened_by_sqlite(path, pages):
     """The seconds that SQLite takes to open and read a first row."""
-    begun = time.monotonic()
+    begun = now()
     base = connected(path, pages)
     base.execute("select * from places limit 1").fetchall()
-    taken = time.monotonic() - begun
+    taken = now() - begun
     base.close()
     return taken
 
@@ -251,7 +267,7 @@ def measure(size, table, work, options):
         time_of_load, peak = time_of_load + taken, max(peak, most)
         print(f"{min(first + PIECE, size):,} of {size:,}: {time_of_load:.1f} s", file=sys.stderr, flush=True)
     os.remove(piece)
-    _, their_peak, said = measured([sys.executable, __file__, "--into", path, rows, "--cache", str(options.cache)])
+    _, their_peak, said = measured([sys.executable, __file__, "--into", path, rows, "--cache", str(options.cache), *["--processor"] * by_processor])
     table.put(("load", ""), size, time_of_load, float(said), seconds, False)
     table.put(("its memory at most", ""), size, peak, their_peak, megabytes, False)
     table.put(("bytes of the files", ""), size, bytes_of(store), bytes_of(path), megabytes, False)
@@ -283,12 +299,12 @@ def measure(size, table, work, options):
         taken, said = child.ask(script(new))
     assert said.count(b"ok\n") == len(new)
     base = connected(path, options.cache)
-    begun = time.monotonic()
+    begun = now()
     for i, row in enumerate(new, size):
         base.execute("begin")
         put(base, i, *row)
         base.execute("commit")
-    theirs = time.monotonic() - begun
+    theirs = now() - begun
     base.close()
     table.put(("adds one by one, a second", ""), size, len(new) / taken, len(new) / theirs, rate, True)
 
@@ -303,8 +319,11 @@ def main():
     parser.add_argument("--policy", default="quadratic")
     parser.add_argument("--limit", type=float, default=20, help="seconds after which a pass of SQLite ends")
     parser.add_argument("--folder", default=TOP, help="on the disk that is measured")
+    parser.add_argument("--processor", action="store_true", help="takes the processor's time in place of the clock's")
     parser.add_argument("--into", nargs=2, help=argparse.SUPPRESS)
     options = parser.parse_args()
+    global by_processor
+    by_processor = options.processor
     if options.into:
         return load_sqlite(*options.into, options.cache)
     sizes = options.places or [10_000, 100_000, 1_000_000]
