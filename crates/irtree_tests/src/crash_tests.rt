@@ -5,7 +5,8 @@ use irtree_top::Ended;
 use std::alloc::Global;
 use std::test::Fail;
 
-static TEARS: [Tear; 5] = [
+/// What a crash may do to bytes that are pending.
+pub(crate) static TEARS: [Tear; 5] = [
     Tear::Kept,
     Tear::Lost,
     Tear::Filled(0),

@@ -1,4 +1,5 @@
 //! Upgrades of stores of version 1.
+use crate::crash_tests::TEARS;
 use crate::load_tests::FOUR;
 use crate::runs::{LOAD, ROOM, RUN, all_pages, number_at, run_on, stored_by};
 use disk_model::{CallKind, Fail as Planned, MemoryStation, Tear};
@@ -157,6 +158,42 @@ fn an_upgrade_that_failed_is_made_again(rt: HostRuntime) -> Result<(), Fail> {
             "row {row}"
         );
         assert!(rt; is_upgraded(rt.alloc(), &left)?, "row {row}");
+    }
+    Ok(())
+}
+
+const PRESENT: &[u8] = b"version 2\n";
+
+const CARRIED: &[u8] = b"upgraded 2\n";
+
+// Whether what a crash leaves of a station can be carried over or was, with each place, whatever the crash does to what was pending. Once
+// something was printed, it was.
+fn is_kept_always(alloc: Global, station: &MemoryStation) -> Result<bool, Fail> {
+    let told = !station.said().is_empty();
+    for tear in &TEARS {
+        let mut left = station.crashed(*tear)?;
+        let ended = run_on(alloc, &UPGRADE, b"", 100, &mut left)?;
+        let is_line = left.said() == PRESENT || (!told && left.said() == CARRIED);
+        if ended != Ended::Done || !is_line || !is_upgraded(alloc, &left)? {
+            return Ok(false);
+        }
+    }
+    Ok(true)
+}
+
+#[test]
+fn a_crash_after_any_call_leaves_the_places_by_version_1_or_2(rt: HostRuntime) -> Result<(), Fail> {
+    for calls in 0..200 {
+        let mut station = old_store(rt.alloc())?;
+        station.stop_after(calls);
+        let ended = run_on(rt.alloc(), &UPGRADE, b"", 100, &mut station)?;
+        assert!(rt;
+            is_kept_always(rt.alloc(), &station)?,
+            "after {calls} calls"
+        );
+        if ended == Ended::Done {
+            break;
+        }
     }
     Ok(())
 }
