@@ -1,4 +1,5 @@
-//! What follows the fixed line of an end on standard error: the file that is meant, what is wrong with it, and the next step.
+//! What people read on standard error beside the fixed line of an end: before it that an upgrade begins, and after it the file that is
+//! meant, what is wrong with it, and the next step.
 
 use irtree_top::{
     Action, Ended, INPUT_MAX, InputFault, LOAD_MAX, LimitFault, StoreFault, explain_words,
@@ -45,6 +46,20 @@ impl Task<'_> {
             Action::Load => "nothing was stored",
             Action::Run | Action::Make | Action::Upgrade => self.kept(),
         }
+    }
+}
+
+/// Returns the line that says what begins, with its LF, if the run may be silent for long; otherwise `None`.
+pub(crate) fn on_start(alloc: Global, task: Task<'_>) -> Result<Option<String>, AllocError> {
+    match task.action {
+        Action::Upgrade => {
+            let store = task.store_name(alloc)?;
+            Ok(Some(format!(in alloc;
+                "{}: an upgrade begins; until it is done the store stays as it was\n",
+                store.as_str()
+            )?))
+        }
+        Action::Run | Action::Load | Action::Make => Ok(None),
     }
 }
 

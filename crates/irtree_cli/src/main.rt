@@ -2,15 +2,16 @@
 //! `irtree_top::run`.
 //!
 //! Its exit status is that of the end. On standard error the end's fixed line comes first and alone; one or two lines of advice
-//! follow, except after a run that is done. That the system's streams and files meet the traits of a source and a station is the
-//! premise of the program; what is read, kept and printed is `run`'s to prove.
+//! follow, except after a run that is done. An upgrade of a file has one line before all of them, which says that it begins. That the
+//! system's streams and files meet the traits of a source and a station is the premise of the program; what is read, kept and printed
+//! is `run`'s to prove.
 //!
 //! Tests: `tools/file_troubles.sh` runs the built program; `irtree_tests/src` runs the same top call over stations in memory.
 #![tactic(auto)]
 
 mod advice;
 
-use crate::advice::{Task, advice_on, on_foreign_word};
+use crate::advice::{Task, advice_on, on_foreign_word, on_start};
 use irtree_top::{Action, Ended, PolicyName, WordsFault, read_words, run};
 use spatial_base::Memory;
 use split_policy::{Halving, Quadratic, SplitPolicy};
@@ -83,6 +84,13 @@ fn plain(end: Ended) -> Outcome {
     Outcome { end, advice: None }
 }
 
+// Prints on standard error what begins, if the run may be silent for long. If that can't be told, the run goes on without it.
+fn announce(alloc: Global, task: Task<'_>, err: &mut impl Write) {
+    if let Ok(Some(line)) = on_start(alloc, task) {
+        let _ = err.write_all(line.as_bytes());
+    }
+}
+
 // Runs over the files of a store. If a call on them failed, the advice is their station's.
 fn run_on_files(
     rt: &HostRuntime,
@@ -92,6 +100,7 @@ fn run_on_files(
 ) -> Result<Outcome, Memory> {
     let mut source = StdSource::new(rt.stdin());
     let mut station = FileStation::new(rt.alloc(), rt, store, rt.stdout())?;
+    announce(rt.alloc(), task, &mut rt.stderr());
     let end = run(rt.alloc(), task.words, &mut source, &mut station, policy);
     Ok(match end {
         Ended::Disk => Outcome {
