@@ -4,7 +4,7 @@ to 12 words by Zipf's law (places.py). Of each size it measures
 - the load in batches of 1,000: seconds, memory at most, and bytes of the files after it;
 - opening, with nothing of the files in the system's memory (cold) and with all of them (warm);
 - each kind of query, warm and cold, with two words that many, some and few places hold, and `show` by key; SQLite's in the better of two ways;
-- adds one by one, each safe before its reply.
+- adds one by one, each safe before its reply. A store that has no room for them beside its places gets as many places less.
 It prints one Markdown table. Each figure goes to standard error, too, as soon as it is there.
 
 Queries and ways are those of queries_against_sqlite.py. Warm is a second pass over the same queries in one process; cold is the first pass of fewer of
@@ -36,6 +36,7 @@ from queries_against_sqlite import hits_of, queries, ways
 LENGTHS = (5, 12)                       # words of a text
 PIECE = 100_000                         # places of one load
 BATCH = 1_000
+LIVE_MAX = 1_000_000                    # places that a store may have
 SAMPLE = 20_000                         # places from which queries take their points and keys
 SHARES = {"many": (0, 20), "some": (200, 1_000), "few": (4_000, 12_000)}
 KINDS = ("range", "box", "nearest", "plain nearest", "top", "group")
@@ -248,24 +249,24 @@ def opened_by_sqlite(path, pages):
 
 def measure(size, table, work, options):
     store, path, rows, piece = f"{work}/irtree", f"{work}/sqlite", f"{work}/rows", f"{work}/piece"
-    some, held = [], {}
+    some, held, live = [], {}, min(size, LIVE_MAX - options.adds)
     with open(rows, "w", encoding="utf-8") as file:
-        for i, (key, x, y, text) in enumerate(places(size, lengths=LENGTHS)):
+        for i, (key, x, y, text) in enumerate(places(live, lengths=LENGTHS)):
             file.write(f"{key or ''}\t{x:.7f}\t{y:.7f}\t{text}\n")
             for name in set(text.split()):
                 held[name] = held.get(name, 0) + 1
-            if i % max(1, size // SAMPLE) == 0:
+            if i % max(1, live // SAMPLE) == 0:
                 some.append((key, x, y, text))
     ranked = sorted((name for name in held if name.isalpha() and name not in ("and", "or", "not")), key=lambda name: (-held[name], name))
 
     time_of_load = peak = 0
-    every = places(size, lengths=LENGTHS)
-    for first in range(0, size, PIECE):
+    every = places(live, lengths=LENGTHS)
+    for first in range(0, live, PIECE):
         with open(piece, "wb") as file:
-            file.write(geojson(next(every) for _ in range(min(PIECE, size - first))))
+            file.write(geojson(next(every) for _ in range(min(PIECE, live - first))))
         taken, most, _ = measured([PROGRAM, store, "load", f"--cache={options.cache}", f"--policy={options.policy}", f"--batch={BATCH}"], piece)
         time_of_load, peak = time_of_load + taken, max(peak, most)
-        print(f"{min(first + PIECE, size):,} of {size:,}: {time_of_load:.1f} s", file=sys.stderr, flush=True)
+        print(f"{min(first + PIECE, live):,} of {live:,}: {time_of_load:.1f} s", file=sys.stderr, flush=True)
     os.remove(piece)
     _, their_peak, said = measured([sys.executable, __file__, "--into", path, rows, "--cache", str(options.cache), *["--processor"] * by_processor])
     table.put(("load", ""), size, time_of_load, float(said), seconds, False)
@@ -300,7 +301,7 @@ def measure(size, table, work, options):
     assert said.count(b"ok\n") == len(new)
     base = connected(path, options.cache)
     begun = now()
-    for i, row in enumerate(new, size):
+    for i, row in enumerate(new, live):
         base.execute("begin")
         put(base, i, *row)
         base.execute("commit")
