@@ -1,11 +1,12 @@
 -- How many hits cost less than a bound.
-use Rattle.std.proofs.Common.{◌≡◌, ℕ, suc, ◌+◌, ◌-◌, ◌<◌, ◌≤◌, List, [], ◌∷◌, ◌++◌, length, get_or, refl, arith, false, true, ⊎_elim, nat_lt, if◌then◌else◌}
+use Rattle.std.proofs.Common.{◌≡◌, ℕ, suc, ◌+◌, ◌-◌, ◌<◌, ◌≤◌, List, [], ◌∷◌, ◌++◌, length, get_or, refl, arith, false, true, ⊎_elim, nat_lt, if◌then◌else◌, Bool, ◌==◌, Some, None, ap}
+use Rattle.std.specs.Prelude.{IfSome}
 use Rattle.std.specs.List.{AllByRecursion}
 use Rattle.std.specs.Cmp.{nat_cmp_is}
 use Rattle.std.specs.Ordering.{nat_cmp, ordering_then, is_lt}
 use Rattle.std.specs.declared.cmp.Ordering.{Ordering}
 use Rattle.std.specs.declared.cmp.Ordering.TheVariants.{Less, Equal, Greater}
-use Rattle.std.proofs.lemmas.Bool.{cases_Bool, cases_lt}
+use Rattle.std.proofs.lemmas.Bool.{cases_Bool, cases_lt, lt-ltb, le-ltb, ltb-false, ne_eqb}
 use Rattle.std.proofs.lemmas.Bool.Decides.{nat_tests}
 use Rattle.std.proofs.lemmas.Cmp.{ranked as compared}
 use Rattle.std.proofs.lemmas.List.Sums.{sum_by-cons, sum_by-append, sum_by-take-le}
@@ -13,6 +14,7 @@ use Rattle.place_values.specs.First.{placed, ranked, first, IsRanked}
 use Rattle.place_values.specs.declared.hit.Hit.{Hit}
 use Rattle.place_values.specs.Hit.{comes_before}
 use Rattle.best_first.specs.Openings.{last_cost, cheaper}
+use Rattle.best_first.specs.Cuts.{most_of}
 use Rattle.best_first.specs.Lists.{all_weaker}
 
 -- what the first part of a comparison says
@@ -118,3 +120,25 @@ cheaper_front bound (h ∷ g ∷ hs) l c = omega (arith, sum_by-cons (is_cheaper
 
 pub unsettled_last : (bound k : ℕ) (hs : List Hit) (d : Hit) → length hs ≤ k → 0 < length hs → bound ≤ (get_or hs (length hs - 1) d).cost → cheaper bound hs < k
 unsettled_last bound k hs d l s c = let e = last_is hs d s in let f = cheaper_front bound hs s (omega (arith, e)) in omega arith
+
+-- while fewer than k are found, and where none is asked for, there is no most
+pub most-few : (k : ℕ) (hs : List Hit) → length hs < k → None ≡ most_of k hs
+most-few k hs l = rw (lt-ltb (length hs) k l) refl
+
+pub most-zero : (k : ℕ) (hs : List Hit) → k ≡ 0 → None ≡ most_of k hs
+most-zero k hs z = rw (z, le-ltb (length hs) 0 (omega arith)) refl
+
+-- else it is what the last one costs
+pub most-is : (k : ℕ) (hs : List Hit) (d : Hit) → k ≤ length hs → 0 < k → Some (get_or hs (length hs - 1) d).cost ≡ most_of k hs
+most-is k hs d l s =
+    let some : (k == 0) ≡ false = ne_eqb k 0 (λ z. absurd (omega arith)) in
+    rw (le-ltb (length hs) k l, some) (ap Some (last_is hs d (omega arith)))
+
+-- what the kth of k hits in order costs is the most that any does
+pub most_last : (k : ℕ) (hs : List Hit) → IsRanked comes_before hs → length hs ≤ k → IfSome (most_of k hs) (λ m. (length hs ≡ k) × AllByRecursion (λ (h : Hit). h.cost ≤ m) hs)
+most_last k hs r short = by-tests (nat_lt (length hs) k) (k == 0) refl
+  where
+    by-tests : (a b : Bool) → nat_lt (length hs) k ≡ a → IfSome (if a then None else if b then None else Some (last_cost hs)) (λ m. (length hs ≡ k) × AllByRecursion (λ (h : Hit). h.cost ≤ m) hs)
+    by-tests true b e = tt
+    by-tests false true e = tt
+    by-tests false false e = let l = ltb-false (length hs) k e in (omega arith, all_last hs r)

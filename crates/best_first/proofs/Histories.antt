@@ -14,7 +14,7 @@ use Rattle.best_first.specs.Items.{nodes_of, places_of, pages_of, IsGivenAt, IsR
 use Rattle.best_first.specs.Leads.{below, reached, leads, IsAhead, Bounds, IsBound, BoundsBelow}
 use Rattle.best_first.specs.Queue.{IsNext}
 use Rattle.best_first.specs.Openings.{AsksNodes, Opening, pages_opened, given_by, IsFromLeaf, Told, last_cost, cheaper, Opened}
-use Rattle.best_first.specs.Lists.{all_weaker, all_append, all_flat, all_moved, all_in}
+use Rattle.best_first.specs.Lists.{all_weaker, all_append, all_parts, all_flat, all_moved, all_in}
 use Rattle.best_first.proofs.CostLaws.{cheaper_kept, last_above}
 use Rattle.best_first.proofs.Firsts.{all_first}
 use Rattle.best_first.proofs.Steps.{Searching, below_leads, all_nodes, all_places, items_ahead}
@@ -72,21 +72,23 @@ module _ (stands : List ℕ → ℕ → Item → Type 0) (pages : PageMap) (is_n
         fewer = λ _. tt;
       }
 
-  module _ (old mid new : List ℕ) (k page level bound : ℕ) (items queue rest next : List Item) (now found : List Hit) (total : List Hit) where
+  module _ (old mid new : List ℕ) (k page level bound : ℕ) (all items out queue rest next : List Item) (now found : List Hit) (total : List Hit) where
     -- a node is opened
-    pub opened : cheaper bound now < k → IsNext (Node page level bound) rest queue → IsPermutation (nodes_of items ++ rest) next → found ≡ first comes_before k (now ++ places_of items) → AsksNodes is_node (page ∷ []) mid new → AskedSince mid new page → AllByRecursion (stands (pages page) level) items → AllByRecursion (IsGivenAt level) items → (fits → items ≡ opens page level) → (fits → Searching opens total k now queue) → Underway old mid k now queue → Underway old new k found next
-    opened few n p f a since st g o se u =
+    pub opened : cheaper bound now < k → IsNext (Node page level bound) rest queue → IsPermutation (nodes_of items ++ rest) next → found ≡ first comes_before k (now ++ places_of items) → AsksNodes is_node (page ∷ []) mid new → AskedSince mid new page → AllByRecursion (stands (pages page) level) all → AllByRecursion (IsGivenAt level) all → (fits → all ≡ opens page level) → IsPermutation all (items ++ out) → (fits → Searching opens total k now queue) → Underway old mid k now queue → Underway old new k found next
+    opened few n p f a since st g o parts se u =
         let t = u.told in
         let node = Node page level bound in
         let before = given_by t.start t.openings in
-        let one : Opening = record { page = page; level = level; bound = bound; items = items } in
-        let all = one ∷ t.openings in
+        let one : Opening = record { page = page; level = level; bound = bound; items = all } in
+        let some = one ∷ t.openings in
+        -- what holds of all holds of those that were given
+        let part : (P : Item → Type 0) → AllByRecursion P all → AllByRecursion P items = λ P h. (all_parts P items out (all_moved P all (items ++ out) parts h)).0 in
         let ps = pages_opened t.openings in
         let q = all_moved (Contains before) queue (node ∷ rest) n.members u.queued in
         let bounds : fits → Bounds opens (node ∷ rest) = λ w. all_moved (λ (i : Item). IsBound opens i × BoundsBelow opens i) queue (node ∷ rest) n.members (se w).bounds in
-        let under : fits → below opens level page ≡ leads opens items = λ w. below_leads opens level page (subst (AllByRecursion (IsGivenAt level)) (o w) g) ∙ ap (leads opens) (sym (o w)) in
+        let under : fits → below opens level page ≡ leads opens all = λ w. below_leads opens level page (subst (AllByRecursion (IsGivenAt level)) (o w) g) ∙ ap (leads opens) (sym (o w)) in
         -- none of the items leads to a place that costs less than a bound that the node is ahead of
-        let items_above : fits → (b : ℕ) → AllByRecursion (λ (h : Hit). b ≤ h.cost) (below opens level page) → AllByRecursion (IsAhead opens b) items = λ w b h. all_flat (λ (h : Hit). b ≤ h.cost) (reached opens) items (subst (AllByRecursion (λ (h : Hit). b ≤ h.cost)) (under w) h) in
+        let items_above : fits → (b : ℕ) → AllByRecursion (λ (h : Hit). b ≤ h.cost) (below opens level page) → AllByRecursion (IsAhead opens b) items = λ w b h. part (IsAhead opens b) (all_flat (λ (h : Hit). b ≤ h.cost) (reached opens) all (subst (AllByRecursion (λ (h : Hit). b ≤ h.cost)) (under w) h)) in
         let next_above : (b : ℕ) → AllByRecursion (IsAhead opens b) items → AllByRecursion (IsAhead opens b) rest → AllByRecursion (IsAhead opens b) next = λ b h r. all_moved (IsAhead opens b) (nodes_of items ++ rest) next p (all_append (IsAhead opens b) (nodes_of items) rest (all_nodes opens (IsAhead opens b) items h) r) in
         let still : (b : ℕ) → cheaper b now < k → AllByRecursion (IsAhead opens b) items → cheaper b found < k = λ b c h. let z = cheaper_kept b k now (places_of items) (all_places opens (λ (h : Hit). b ≤ h.cost) items h) in let y : cheaper b found ≡ cheaper b (first comes_before k (now ++ places_of items)) = ap (cheaper b) f in omega arith in
         record {
@@ -94,7 +96,7 @@ module _ (stands : List ℕ → ℕ → Item → Type 0) (pages : PageMap) (is_n
             start = t.start;
             alone = t.alone;
             begun = t.begun;
-            openings = all;
+            openings = some;
             trail = (q.0, t.trail);
             stood = (st, t.stood);
             children = (g, t.children);
@@ -102,13 +104,13 @@ module _ (stands : List ℕ → ℕ → Item → Type 0) (pages : PageMap) (is_n
             read = (asked_sooner old t.log.more new page (subst (λ x. AskedSince x new page) t.log.log since), all_weaker (λ (o : Opening). AskedSince old mid o.page) (λ (o : Opening). AskedSince old new o.page) (λ o h. asked_before old mid a.more new o.page h a.log) t.openings t.read);
             log = more_logged (root ∷ []) ps t.log a;
             log_given = λ w. more_logged (pages_of t.start) ps (t.log_given w) a;
-            from_leaf = rw f (all_first (IsFromLeaf all) k (now ++ places_of items) (all_append (IsFromLeaf all) now (places_of items)
-                (all_weaker (IsFromLeaf t.openings) (IsFromLeaf all) (λ h l. record { leaf = l.leaf; among = Contains-append_right (one ∷ []) t.openings l.leaf l.among; level = l.level; gave = l.gave }) now t.from_leaf)
-                (all_weaker (λ (h : Hit). (level ≡ 0) × Contains items (Place h)) (IsFromLeaf all) (λ h l. record { leaf = one; among = contains_head one t.openings; level = l.0; gave = l.1 }) (places_of items) (places_from items level items g (all_in items)))));
+            from_leaf = rw f (all_first (IsFromLeaf some) k (now ++ places_of items) (all_append (IsFromLeaf some) now (places_of items)
+                (all_weaker (IsFromLeaf t.openings) (IsFromLeaf some) (λ h l. record { leaf = l.leaf; among = Contains-append_right (one ∷ []) t.openings l.leaf l.among; level = l.level; gave = l.gave }) now t.from_leaf)
+                (all_weaker (λ (h : Hit). (level ≡ 0) × Contains all (Place h)) (IsFromLeaf some) (λ h l. record { leaf = one; among = contains_head one t.openings; level = l.0; gave = l.1 }) (places_of items) (places_from all level items (part (IsGivenAt level) g) (part (Contains all) (all_in all))))));
           };
-          queued = all_moved (Contains (items ++ before)) (nodes_of items ++ rest) next p (all_append (Contains (items ++ before)) (nodes_of items) rest
-              (all_nodes opens (Contains (items ++ before)) items (all_weaker (Contains items) (Contains (items ++ before)) (λ i h. Contains-append_left items before i h) items (all_in items)))
-              (all_weaker (Contains before) (Contains (items ++ before)) (λ i h. Contains-append_right items before i h) rest q.1));
+          queued = all_moved (Contains (all ++ before)) (nodes_of items ++ rest) next p (all_append (Contains (all ++ before)) (nodes_of items) rest
+              (all_nodes opens (Contains (all ++ before)) items (all_weaker (Contains all) (Contains (all ++ before)) (λ i h. Contains-append_left all before i h) items (part (Contains all) (all_in all))))
+              (all_weaker (Contains before) (Contains (all ++ before)) (λ i h. Contains-append_right all before i h) rest q.1));
           ahead = λ w. (
             next_above bound (items_above w bound (bounds w).0.0) (items_ahead opens bound rest n.least (bounds w).1),
             all_weaker (λ (o : Opening). AllByRecursion (IsAhead opens o.bound) queue) (λ (o : Opening). AllByRecursion (IsAhead opens o.bound) next) (λ o h. let r = all_moved (IsAhead opens o.bound) queue (node ∷ rest) n.members h in next_above o.bound (items_above w o.bound r.0) r.1) t.openings (u.ahead w),

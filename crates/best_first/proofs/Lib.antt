@@ -2,6 +2,8 @@ pub mod CostLaws
 pub mod Firsts
 pub mod Queues
 pub mod Queued
+pub mod Cutting
+pub mod Marked
 pub mod Steps
 pub mod Histories
 pub mod Insides

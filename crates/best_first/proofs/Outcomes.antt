@@ -24,6 +24,10 @@ pub ok-weaker : {X : Type 0} (P Q : X → Type 0) (r : Result X PageFault) → (
 ok-weaker P Q (Ok x) f h = f x h
 ok-weaker P Q (Err e) f h = tt
 
+pub ok-three : {X : Type 0} (P Q R S : X → Type 0) (r : Result X PageFault) → ((x : X) → P x → Q x → R x → S x) → IfOk r P → IfOk r Q → IfOk r R → IfOk r S
+ok-three P Q R S (Ok x) f p q s = f x p q s
+ok-three P Q R S (Err e) f p q s = tt
+
 pub ok-always : {X : Type 0} (P : X → Type 0) (r : Result X PageFault) → ((x : X) → P x) → IfOk r P
 ok-always P (Ok x) f = f x
 ok-always P (Err e) f = tt

@@ -1,6 +1,8 @@
 -- The steps of a search: what was found and what waits lead to all places.
-use Rattle.std.proofs.Common.{◌≡◌, ℕ, zero, suc, ◌+◌, ◌*◌, ◌<◌, ◌≤◌, List, [], ◌∷◌, ◌++◌, take, length, refl, sym, ap, subst, ◌∙◌, arith, false, sum_by, IsPermutation}
+use Rattle.std.proofs.Common.{◌≡◌, ℕ, zero, suc, ◌+◌, ◌*◌, ◌<◌, ◌≤◌, List, [], ◌∷◌, ◌++◌, take, length, refl, sym, ap, subst, ◌∙◌, arith, false, true, nat_lt, Option, Some, None, append_assoc, sum_by, IsPermutation}
+use Rattle.std.specs.Prelude.{IfSome}
 use Rattle.std.specs.List.{AllByRecursion, flat_map}
+use Rattle.std.proofs.lemmas.Bool.{ltb-true}
 use Rattle.std.proofs.lemmas.List.{append-nil}
 use Rattle.std.proofs.lemmas.Grind.{flat_map-append}
 use Rattle.std.proofs.lemmas.List.Sums.{sum_by-cons, sum_by-append}
@@ -15,9 +17,14 @@ use Rattle.best_first.specs.Items.{nodes_of, places_of, bound_of, IsGivenAt}
 use Rattle.best_first.specs.Leads.{led, at_node, below, reached, leads, IsAhead, IsBound, AreBounds, BoundsBelow, Bounds}
 use Rattle.best_first.specs.Queue.{IsNext}
 use Rattle.best_first.specs.Openings.{cheaper}
-use Rattle.best_first.specs.Lists.{all_weaker, all_append, flat_all, all_moved, flat_map_same}
+use Rattle.best_first.specs.Cuts.{is_over}
+use Rattle.best_first.specs.Lists.{all_weaker, all_append, all_parts, flat_all, all_moved, flat_map_same}
 use Rattle.best_first.proofs.CostLaws.{all_cheaper, cheaper_some, below_cost}
 use Rattle.best_first.proofs.Firsts.{first_own, first_absorbed, first_front}
+
+-- what the kth of those found costs, or nothing
+abbrev pub IsMost : ℕ → List Hit → Option ℕ → Type 0
+IsMost k found most = IfSome most (λ m. (length found ≡ k) × AllByRecursion (λ (h : Hit). h.cost ≤ m) found)
 
 module _ (opens : ℕ → ℕ → List Item) where
   -- The first k of all places are the first k of those found and of those that the queue leads to.
@@ -90,32 +97,6 @@ module _ (opens : ℕ → ℕ → List Item) where
         bounds = all_moved Sound (nodes_of starts) queue q (all_nodes Sound starts b);
       }
 
-  -- a node is opened
-  pub node_next : (total : List Hit) (k page level bound : ℕ) (items old rest new : List Item) (now found : List Hit) → Searching total k now old → IsNext (Node page level bound) rest old → items ≡ opens page level → AllByRecursion (IsGivenAt level) items → IsPermutation (nodes_of items ++ rest) new → found ≡ first comes_before k (now ++ places_of items) → Searching total k found new
-  node_next total k page level bound items old rest new now found s n o g p f =
-      let node = Node page level bound in
-      let given : AllByRecursion (IsGivenAt level) (opens page level) = subst (AllByRecursion (IsGivenAt level)) o g in
-      let under : below opens level page ≡ leads opens items = below_leads level page given ∙ ap (leads opens) (sym o) in
-      let bounds : Bounds opens (node ∷ rest) = all_moved Sound old (node ∷ rest) n.members s.bounds in
-      let sound : Bounds opens items = subst (Bounds opens) (sym o) (opened_sound level page given bounds.0.1) in
-      let moved : SameMembers (now ++ leads opens old) ((now ++ places_of items) ++ leads opens new) = λ f. all_sums f under in
-      record {
-        same = s.same ∙ ap (take k) (sym (ranked_same hits_linear (now ++ leads opens old) ((now ++ places_of items) ++ leads opens new) moved)) ∙ sym (first_absorbed k (now ++ places_of items) (leads opens new)) ∙ ap (λ x. first comes_before k (x ++ leads opens new)) (sym f);
-        bounds = all_moved Sound (nodes_of items ++ rest) new p (all_append Sound (nodes_of items) rest (all_nodes Sound items sound) bounds.1);
-      }
-    where
-      all_sums : (f : Hit → ℕ) → below opens level page ≡ leads opens items → sum_by f ((now ++ places_of items) ++ leads opens new) ≡ sum_by f (now ++ leads opens old)
-      all_sums f under =
-          let a = sum_by-append f (now ++ places_of items) (leads opens new) in
-          let b = sum_by-append f now (places_of items) in
-          let c = sum_by-append f now (leads opens old) in
-          let d = leads_moved f old (Node page level bound ∷ rest) n.members in
-          let e = sum_by-append f (below opens level page) (leads opens rest) in
-          let g = leads_moved f (nodes_of items ++ rest) new p in
-          let h : sum_by f (leads opens (nodes_of items ++ rest)) ≡ sum_by f (leads opens (nodes_of items)) + sum_by f (leads opens rest) = ap (sum_by f) (flat_map-append (reached opens) (nodes_of items) rest) ∙ sum_by-append f (leads opens (nodes_of items)) (leads opens rest) in
-          let i : sum_by f (below opens level page) ≡ sum_by f (leads opens items) = ap (sum_by f) under in
-          omega (arith, leads_split f items)
-
   -- nothing waits any more
   pub none_waits : (total : List Hit) (k : ℕ) (found : List Hit) (queue : List Item) → queue ≡ [] → Searching total k found queue → IsRanked comes_before found → length found ≤ k → found ≡ first comes_before k total
   none_waits total k found queue e s r l = sym (s.same ∙ ap (λ q. first comes_before k (found ++ leads opens q)) e ∙ ap (first comes_before k) (append-nil found) ∙ first_own k found r l)
@@ -128,6 +109,56 @@ module _ (opens : ℕ → ℕ → List Item) where
   pub items_ahead : (bound : ℕ) (items : List Item) → AllByRecursion (λ (i : Item). bound ≤ bound_of i) items → Bounds opens items → AllByRecursion (IsAhead opens bound) items
   items_ahead bound [] l b = tt
   items_ahead bound (i ∷ items) l b = (item_ahead bound i l.0 b.0.0, items_ahead bound items l.1 b.1)
+
+  -- what costs more than the kth of those found isn't among the first k
+  cut_keeps : (k : ℕ) (now : List Hit) (most : Option ℕ) (out : List Item) → IsRanked comes_before now → length now ≤ k → IsMost k now most → AllByRecursion (λ (i : Item). is_over most (bound_of i) ≡ true) out → Bounds opens out
+      → first comes_before k (now ++ leads opens out) ≡ now
+  cut_keeps k now None [] r l m o b = ap (first comes_before k) (append-nil now) ∙ first_own k now r l
+  cut_keeps k now None (i ∷ out) r l m o b = let f = o.0 in absurd (cc)
+  cut_keeps k now (Some most) out r l m o b =
+      let above : AllByRecursion (λ (i : Item). suc most ≤ bound_of i) out = all_weaker (λ (i : Item). nat_lt most (bound_of i) ≡ true) (λ (i : Item). suc most ≤ bound_of i) (λ i h. let q = ltb-true most (bound_of i) h in omega arith) out o in
+      let later : AllByRecursion (λ (h : Hit). suc most ≤ h.cost) (leads opens out) = flat_all (λ (h : Hit). suc most ≤ h.cost) (reached opens) out (items_ahead (suc most) out above b) in
+      first_front k now (leads opens out) r m.0
+      (all_weaker (λ (h : Hit). h.cost ≤ most) (λ (h : Hit). AllByRecursion (λ y. comes_before y h ≡ false) (leads opens out))
+      (λ h q. all_weaker (λ (y : Hit). suc most ≤ y.cost) (λ y. comes_before y h ≡ false) (λ y z. below_cost h y (omega arith)) (leads opens out) later) now m.1)
+
+  -- a node is opened
+  pub node_next : (total : List Hit) (k page level bound : ℕ) (all items out old rest new : List Item) (most : Option ℕ) (now found : List Hit) → Searching total k now old → IsNext (Node page level bound) rest old → all ≡ opens page level → AllByRecursion (IsGivenAt level) all
+      → IsPermutation all (items ++ out) → AllByRecursion (λ (i : Item). is_over most (bound_of i) ≡ true) out → IsMost k now most → IsRanked comes_before now → length now ≤ k
+      → IsPermutation (nodes_of items ++ rest) new → found ≡ first comes_before k (now ++ places_of items) → Searching total k found new
+  node_next total k page level bound all items out old rest new most now found s n o g parts over m r l p f =
+      let node = Node page level bound in
+      let given : AllByRecursion (IsGivenAt level) (opens page level) = subst (AllByRecursion (IsGivenAt level)) o g in
+      let under : below opens level page ≡ leads opens all = below_leads level page given ∙ ap (leads opens) (sym o) in
+      let bounds : Bounds opens (node ∷ rest) = all_moved Sound old (node ∷ rest) n.members s.bounds in
+      let sound : Bounds opens all = subst (Bounds opens) (sym o) (opened_sound level page given bounds.0.1) in
+      let each = all_parts Sound items out (all_moved Sound all (items ++ out) parts sound) in
+      let dear : first comes_before k (now ++ leads opens out) ≡ now = cut_keeps k now most out r l m over each.1 in
+      let moved : SameMembers (now ++ leads opens old) ((now ++ leads opens out) ++ (places_of items ++ leads opens new)) = λ f. all_sums f under in
+      record {
+        same = s.same ∙ ap (take k) (sym (ranked_same hits_linear (now ++ leads opens old) ((now ++ leads opens out) ++ (places_of items ++ leads opens new)) moved))
+            ∙ sym (first_absorbed k (now ++ leads opens out) (places_of items ++ leads opens new))
+            ∙ ap (λ x. first comes_before k (x ++ (places_of items ++ leads opens new))) dear
+            ∙ ap (first comes_before k) (sym (append_assoc now (places_of items) (leads opens new)))
+            ∙ sym (first_absorbed k (now ++ places_of items) (leads opens new)) ∙ ap (λ x. first comes_before k (x ++ leads opens new)) (sym f);
+        bounds = all_moved Sound (nodes_of items ++ rest) new p (all_append Sound (nodes_of items) rest (all_nodes Sound items each.0) bounds.1);
+      }
+    where
+      parted : (f : Hit → ℕ) (xs ys : List Item) → sum_by f (leads opens (xs ++ ys)) ≡ sum_by f (leads opens xs) + sum_by f (leads opens ys)
+      parted f xs ys = ap (sum_by f) (flat_map-append (reached opens) xs ys) ∙ sum_by-append f (leads opens xs) (leads opens ys)
+
+      all_sums : (f : Hit → ℕ) → below opens level page ≡ leads opens all → sum_by f ((now ++ leads opens out) ++ (places_of items ++ leads opens new)) ≡ sum_by f (now ++ leads opens old)
+      all_sums f under =
+          let outer : sum_by f ((now ++ leads opens out) ++ (places_of items ++ leads opens new)) ≡ (sum_by f now + sum_by f (leads opens out)) + (sum_by f (places_of items) + sum_by f (leads opens new)) =
+          sum_by-append f (now ++ leads opens out) (places_of items ++ leads opens new)
+          ∙ ap (λ (x : ℕ). x + sum_by f (places_of items ++ leads opens new)) (sum_by-append f now (leads opens out))
+          ∙ ap (λ (x : ℕ). (sum_by f now + sum_by f (leads opens out)) + x) (sum_by-append f (places_of items) (leads opens new)) in
+          let later : sum_by f (leads opens new) ≡ sum_by f (leads opens (nodes_of items)) + sum_by f (leads opens rest) = leads_moved f (nodes_of items ++ rest) new p ∙ parted f (nodes_of items) rest in
+          let before : sum_by f (below opens level page) + sum_by f (leads opens rest) ≡ sum_by f (leads opens old) =
+          sym (sum_by-append f (below opens level page) (leads opens rest)) ∙ leads_moved f old (Node page level bound ∷ rest) n.members in
+          let led : sum_by f (below opens level page) ≡ sum_by f (leads opens items) + sum_by f (leads opens out) = ap (sum_by f) under ∙ sym (leads_moved f all (items ++ out) parts) ∙ parted f items out in
+          let inner = sum_by-append f now (leads opens old) in
+          omega (arith, leads_split f items)
 
   -- k places cost less than any that waits
   pub enough : (total : List Hit) (k page level bound : ℕ) (old rest : List Item) (found : List Hit) → Searching total k found old → IsNext (Node page level bound) rest old → IsRanked comes_before found → length found ≤ k → k ≤ cheaper bound found → found ≡ first comes_before k total

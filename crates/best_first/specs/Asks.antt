@@ -33,23 +33,31 @@ abbrev pub cost_by : Ask → ℕ → ℕ → ℕ
 cost_by (Nearest filter) dist text = dist
 cost_by (Top terms) dist text = top_cost terms.alpha terms.reach (weight_sum terms.words.now) dist text
 
--- the hit of a place's item, by the impacts of its words
-abbrev pub hit_by : Viewpoint → Ask → (List ℕ → ℕ) → Item → Hit
-hit_by at ask f x = record {
-  cost = cost_by ask (distance at (point_of x)) (text_by ask f);
+-- the hit of a place's item of this relevance
+abbrev pub hit_with : Viewpoint → Ask → ℕ → Item → Hit
+hit_with at ask text x = record {
+  cost = cost_by ask (distance at (point_of x)) text;
   key = name_of x;
   dist = distance at (point_of x);
-  text = text_by ask f;
+  text = text;
   point = point_of x;
 }
+
+-- the hit of a place's item, by the impacts of its words
+abbrev pub hit_by : Viewpoint → Ask → (List ℕ → ℕ) → Item → Hit
+hit_by at ask f x = hit_with at ask (text_by ask f) x
 
 -- what a place's item gives
 abbrev pub hits_for : Numbers → Viewpoint → Ask → Item → List Hit
 hits_for ids at ask x = if qualifies ask 0 (impact_of ids x) then hit_by at ask (impact_of ids x) x ∷ [] else []
 
+-- no place below an item costs less, if none has more relevance
+abbrev pub bound_with : Viewpoint → Ask → ℕ → Item → ℕ
+bound_with at ask text x = cost_by ask (mindist_of (rect_of_item x) at) text
+
 -- no place below an item of these greatest impacts costs less
 abbrev pub bound_by : Viewpoint → Ask → (List ℕ → ℕ) → Item → ℕ
-bound_by at ask f x = cost_by ask (mindist_of (rect_of_item x) at) (text_by ask f)
+bound_by at ask f x = bound_with at ask (text_by ask f) x
 
 -- the search asks for places that hold one of these words, ranked by these numbers
 abbrev pub IsTopFor : ℕ → ℕ → Weighted → Ask → Type 0

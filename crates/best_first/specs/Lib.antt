@@ -2,6 +2,7 @@ pub mod Items
 pub mod Leads
 pub mod Queue
 pub mod Openings
+pub mod Cuts
 pub mod Levels
 pub mod Faults
 pub mod Asks

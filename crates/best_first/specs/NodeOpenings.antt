@@ -13,12 +13,17 @@ use Rattle.best_first.specs.declared.item.Item.{Item}
 use Rattle.best_first.specs.declared.item.Item.TheVariants.{Node, Place}
 use Rattle.node_filter.specs.Numbers.{Numbers, impact_of, byte_of}
 use Rattle.best_first.specs.declared.ask.Ask.{Ask}
-use Rattle.best_first.specs.Asks.{qualifies, hit_by, bound_by}
+use Rattle.best_first.specs.Asks.{qualifies, hit_by, bound_by, hit_with, bound_with}
 
 -- what the item of a slot gives, by the impacts of its words: a place that qualifies its hit, and a child below which a place may qualify its node with a bound
 abbrev pub given_by : Viewpoint → Ask → ℕ → (List ℕ → ℕ) → shape.Item → List Item
 given_by at ask zero f x = if qualifies ask 0 f then Place (hit_by at ask f x) ∷ [] else []
 given_by at ask (suc level) f x = if qualifies ask (suc level) f then Node x.to level (bound_by at ask f x) ∷ [] else []
+
+-- what the item of a marked slot gives, by its relevance: a place its hit, and a child its node with a bound
+abbrev pub marked_by : Viewpoint → Ask → ℕ → Bool → ℕ → shape.Item → List Item
+marked_by at ask zero marked text x = if marked then Place (hit_with at ask text x) ∷ [] else []
+marked_by at ask (suc level) marked text x = if marked then Node x.to level (bound_with at ask text x) ∷ [] else []
 
 -- what a slot gives
 abbrev pub given_at : (shape.Item → List Item) → Option shape.Item → List Item

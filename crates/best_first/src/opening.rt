@@ -14,6 +14,7 @@ ghost use Rattle.node_rows.specs.Rows.{bytes_in};
 ghost use Rattle.best_first.specs.declared.item.Item.TheVariants.{Node};
 ghost use Rattle.best_first.specs.Items.{IsGivenAt, IsRootAlone, OfNode, pages_of};
 ghost use Rattle.best_first.specs.Levels.{IsOffLevel};
+ghost use Rattle.best_first.specs.Cuts.{Gave};
 ghost use Rattle.best_first.specs.Openings.{AsksNodes};
 ghost use Rattle.node_filter.specs.Masks.{has_slot};
 ghost use Rattle.node_filter.specs.Numbers.{byte_of};
@@ -31,7 +32,7 @@ use spatial_base::Origin;
 use std::alloc::Global;
 
 /// Opens a node of a level: returns the hits of a leaf's places that qualify, and of any other node the children below which one may, each
-/// with its bound.
+/// with its bound. What costs more than `most` is left out.
 ///
 /// Looks at the node's row of each word of the search that the store knows, and once at its page. Refuses `Damaged` with a rule that a page
 /// looked at breaks, with `Level` if the node's page has another level. Refuses `Disk`, `Stopped` and `Memory`.
@@ -44,9 +45,11 @@ pub fn opened<P: Pages>(
     from: &Origin,
     node: u32,
     level: u8,
+    most: Option<u64>,
 ) -> Result<Vec<Item>, PageFault>
-    ensures given { IsMap rows_form (P.pages pages.old) tree.now.rows → 0 < length (P.pages pages.old node) → IfOk result (λ items. items.items
-        ≡ spread 32 (λ i. given_at (given_by from.now ask.now level (byte_of ids.now (bytes_in (P.pages pages.old) tree.now.rows node) i)) (stored_in (P.pages pages.old node) i))) }
+    ensures gave { IfOk result (λ items. Gave (StandsIn (P.pages pages.old node) level) level
+        (IsMap rows_form (P.pages pages.old) tree.now.rows × IsSoundNode (P.pages pages.old) (P.count pages.old) node level)
+        (spread 32 (λ i. given_at (given_by from.now ask.now level (byte_of ids.now (bytes_in (P.pages pages.old) tree.now.rows node) i)) (stored_in (P.pages pages.old node) i))) most items.items) }
     ensures few { IfOk result (λ items. length items.items ≤ 32) }
     ensures levels { IfOk result (λ items. AllByRecursion (IsGivenAt level) items.items) }
     ensures stand { IfOk result (λ items. AllByRecursion (StandsIn (P.pages pages.old node) level) items.items) }
@@ -66,7 +69,7 @@ pub fn opened<P: Pages>(
         Err(fault) => return Err(fault),
     };
     match enter_at(pages, node, level) {
-        Ok(()) => gather(alloc, pages.looked(), node, level, ask, from, &marks),
+        Ok(()) => gather(alloc, pages.looked(), node, level, ask, from, &marks, most),
         Err(fault) => Err(fault),
     }
 }

@@ -10,6 +10,7 @@ ghost use Rattle.best_first.specs.Leads.{Bounds};
 ghost use Rattle.best_first.specs.Openings.{AsksNodes};
 ghost use Rattle.best_first.specs.Levels.{IsOffLevel, IsGivenBelow};
 ghost use Rattle.best_first.specs.Faults.{held_after};
+ghost use Rattle.best_first.specs.Cuts.{Gave};
 
 use crate::Item;
 use page_face::{Damage, PageFault, Pages};
@@ -37,7 +38,7 @@ pub trait Ranked<P: Pages> {
     /// Whether a node of the tree, of this level, is at a page.
     ghost has_node: { Self → P → ℕ → ℕ → Type 0 };
 
-    /// What `open` gives for a node's page and level if the pages fit.
+    /// What a node of a page and a level has for the search if the pages fit: `open` gives it.
     ghost opens: { Self → P → ℕ → ℕ → List Item };
 
     /// The root's page.
@@ -82,7 +83,7 @@ pub trait Ranked<P: Pages> {
         ensures same_root { root self.new ≡ root self.old };
 
     /// Opens a node: gives the places of a leaf that may be answers, and of every other node the children below which one may be, each with
-    /// its bound.
+    /// its bound. It may leave out what costs more than `most`, the most that a place may cost which the search still asks for.
     ///
     /// Refuses `Damaged`, with `Level` also if the node's page isn't of the level that it is opened with; `Disk`, `Stopped` and `Memory`.
     fn open(
@@ -91,8 +92,9 @@ pub trait Ranked<P: Pages> {
         pages: &mut P,
         node: u32,
         level: u8,
+        most: Option<u64>,
     ) -> Result<Vec<Item>, PageFault>
-        ensures gives { fits self.old pages.old → has_node self.old pages.old node level → IfOk result (λ items. items.items ≡ opens self.old pages.old node level) }
+        ensures gives { IfOk result (λ items. Gave (stands (P.pages pages.old node) level) level (fits self.old pages.old × has_node self.old pages.old node level) (opens self.old pages.old node level) most items.items) }
         ensures few { IfOk result (λ items. length items.items ≤ 32) }
         ensures children { IfOk result (λ items. AllByRecursion (IsGivenAt level) items.items) }
         ensures stand { IfOk result (λ items. AllByRecursion (stands (P.pages pages.old node) level) items.items) }

@@ -10,7 +10,7 @@ ghost use Rattle.best_first.specs.Leads.{leads};
 ghost use Rattle.best_first.specs.Queue.{waiting};
 ghost use Rattle.best_first.specs.Openings.{Opened};
 
-use crate::best::is_settled;
+use crate::best::{is_settled, most_asked};
 use crate::queue::{Queue, Waiting};
 use crate::{Item, Ranked};
 use page_face::{PageFault, Pages};
@@ -83,7 +83,8 @@ fn sort_in(
 /// A node is opened only while fewer than k places were found that cost less than its bound, so a node goes before a place of equal cost.
 /// It refuses the fault that the opener then holds, or `Memory`.
 ///
-/// Each opened node takes one call of the opener, and each place at most k comparisons.
+/// Each opened node takes one call of the opener, and each place at most k comparisons. What costs more than the kth place found is neither
+/// kept nor queued.
 pub fn first_k<P: Pages, R: Ranked<P>>(
     alloc: Global,
     pages: &mut P,
@@ -111,7 +112,8 @@ pub fn first_k<P: Pages, R: Ranked<P>>(
         if is_settled(&found, k as usize, node.bound) {
             return Ok(found);
         }
-        let items = ranked.open(alloc, pages, node.page, node.level)?;
+        let most = most_asked(&found, k as usize);
+        let items = ranked.open(alloc, pages, node.page, node.level, most)?;
         sort_in(&items, &mut queue, &mut found, k as usize)?;
     }
     Ok(found)

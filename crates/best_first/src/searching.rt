@@ -73,9 +73,10 @@ impl<'q, P: Pages> Ranked<P> for Ranking<'q> {
         pages: &mut P,
         node: u32,
         level: u8,
+        most: Option<u64>,
     ) -> Result<Vec<Item>, PageFault> {
         match opened(
-            alloc, pages, &self.tree, self.ids, &self.ask, &self.at, node, level,
+            alloc, pages, &self.tree, self.ids, &self.ask, &self.at, node, level, most,
         ) {
             Ok(items) => Ok(items),
             Err(fault) => {

@@ -1,5 +1,5 @@
 -- What a slot's place or child gives, by what stands in the slot.
-use Rattle.std.proofs.Common.{◌≡◌, ℕ, zero, suc, ◌+◌, ◌*◌, ◌-◌, ◌<◌, ◌==◌, ◌&&◌, ◌||◌, nat_lt, Bool, true, false, Option, None, Some, is_some, ⊎_elim, List, [], ◌∷◌, take, drop, refl, sym, ap, ◌∙◌, arith}
+use Rattle.std.proofs.Common.{◌≡◌, ℕ, zero, suc, ◌+◌, ◌*◌, ◌-◌, ◌<◌, ◌==◌, ◌&&◌, ◌||◌, nat_lt, Bool, true, false, Option, None, Some, is_some, ⊎_elim, List, [], ◌∷◌, take, drop, refl, sym, ap, subst, ◌∙◌, arith}
 use Rattle.std.specs.Prelude.{if◌then◌else◌}
 use Rattle.std.proofs.lemmas.Bool.{eqb-true, eqb-false, lt-ltb, le-ltb}
 use Rattle.std.proofs.lemmas.Bool.Decides.{nat_tests}
@@ -15,7 +15,8 @@ use Rattle.rtree_nodes.specs.declared.content.Slot.TheVariants as slots
 use Rattle.rtree_nodes.specs.Pages.{level_in, is_used, stored_in}
 use Rattle.rtree_nodes.proofs.Keys.{named}
 use Rattle.rtree_nodes.proofs.Formed.{stored-used}
-use Rattle.rtree_nodes.proofs.Children.{leaf-item, point_from}
+use Rattle.rtree_nodes.specs.Numbers.{number_at}
+use Rattle.rtree_nodes.proofs.Children.{leaf-item, inner-item, point_from, rect_from}
 use Rattle.best_first.specs.declared.item.Item as best
 use Rattle.best_first.specs.declared.item.Item.TheVariants.{Node, Place}
 use Rattle.node_filter.specs.Masks.{has_slot}
@@ -95,6 +96,17 @@ slot-far region page at p is on out within used leaf =
     ∙ ap (near_item region 0) (leaf-item page at leaf)
     ∙ ap (λ (q : Position). near_item region 0 (place_item q key)) (sym is)
     ∙ place-out region p key on out
+
+-- a used slot of an inner node whose rectangle doesn't meet the region
+pub slot-beyond : (region : Region) (page : List ℕ) (at level : ℕ) (r : Bounds) → r ≡ rect_from page (16 + 20 * at) → IsRect r.west r.south r.east r.north → meets region r ≡ false → at < 32 → is_used page at ≡ true → level ≡ level_in page → 0 < level
+    → listed (near_item region level) (stored_in page at) ≡ []
+slot-beyond region page at zero r is on out within used same inner = absurd (omega arith)
+slot-beyond region page at (suc l) r is on out within used same inner =
+    let child : ℕ = number_at (16 + 20 * at + 16) page in
+    ap (listed (near_item region (suc l))) (stored-used page at within used)
+    ∙ ap (near_item region (suc l)) (inner-item page at (subst (λ (k : ℕ). 0 < k) same inner))
+    ∙ ap (λ (q : Bounds). near_item region (suc l) (child_item q child)) (sym is)
+    ∙ child-out region r child l on out
 
 near-cond : (t : Bool) (given : best.Item) (item : Option best.Item) → alone_in item ≡ (if t then given ∷ [] else []) → is_some item ≡ t
 near-cond true given None e = absurd (cc)

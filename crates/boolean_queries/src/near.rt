@@ -12,7 +12,10 @@ use best_first::Item;
 use btree_nodes::damaged;
 use page_face::{Page, PageFault, Rule};
 use rtree_nodes::{PLACE_BYTES, SLOTS, SLOTS_AT, Slot, i32_at, is_used, slot_at};
-use spatial_base::Point;
+use spatial_base::{Point, Rect};
+
+// The bytes of a child: four coordinates and a page, of 4 bytes each.
+const CHILD_BYTES: usize = 20;
 
 /// What a slot of a node gives.
 #[derive(Clone, Copy, Debug)]
@@ -35,6 +38,45 @@ fn may_have(page: &Page, at: usize, region: &Region) -> bool
     match Point::new(i32_at(page, start), i32_at(page, start + 4)) {
         Some(point) => region.has(&point),
         None => true,
+    }
+}
+
+// Whether an inner node's slot may hold a child that meets the region, by its rectangle alone.
+fn may_meet(page: &Page, at: usize, level: u8, region: &Region) -> bool
+    requires within { at < 32 }
+    requires inner { 0 < level }
+    requires level { level ≡ level_in page.now }
+    ensures far { result ≡ false → listed (near_item region.now level) (stored_in page.now at) ≡ [] }
+{
+    if !is_used(page, at) {
+        return false;
+    }
+    let start = SLOTS_AT + CHILD_BYTES * at;
+    match Rect::new(
+        i32_at(page, start),
+        i32_at(page, start + 4),
+        i32_at(page, start + 8),
+        i32_at(page, start + 12),
+    ) {
+        Some(rect) => {
+            // Its sides are on the map, by the contract of `west`.
+            let _west = rect.west();
+            region.meets(&rect)
+        }
+        None => true,
+    }
+}
+
+// Whether a slot may hold what touches the region, by its point or rectangle alone.
+fn may_touch(page: &Page, at: usize, level: u8, region: &Region) -> bool
+    requires within { at < 32 }
+    requires level { level ≡ level_in page.now }
+    ensures far { result ≡ false → listed (near_item region.now level) (stored_in page.now at) ≡ [] }
+{
+    if level == 0 {
+        may_have(page, at, region)
+    } else {
+        may_meet(page, at, level, region)
     }
 }
 
@@ -75,7 +117,7 @@ fn near_slot(page: &Page, at: usize, level: u8, region: &Region) -> Result<Optio
     ensures ok { is_form page.now ≡ true → IsOk result }
     ensures breaks { IfErr result (λ rule. (rule ≡ Value) × BreaksNode Value page.now) }
 {
-    if level == 0 && !may_have(page, at, region) {
+    if !may_touch(page, at, level, region) {
         return Ok(None);
     }
     match slot_at(page, at) {
@@ -108,8 +150,8 @@ fn add_near(near: &mut Vec<Near>, slot: usize, item: Option<Item>) -> Result<(),
     }
 }
 
-/// Lists what the slots of a node's page give to a region, slot by slot, and returns the mask of the slots that give something. Of a leaf's
-/// slot outside the region only the point is looked at.
+/// Lists what the slots of a node's page give to a region, slot by slot, and returns the mask of the slots that give something. Of a slot
+/// outside the region only the point or the rectangle is looked at.
 ///
 /// Refuses `Damaged` with `Value` if a slot that was looked at isn't of its form, and `Memory`.
 pub(crate) fn gather(

@@ -152,6 +152,7 @@ impl<P: Pages> Ranked<P> for Table {
         pages: &mut P,
         node: u32,
         level: u8,
+        _most: Option<u64>,
     ) -> Result<Vec<Item>, PageFault> {
         if let Err(fault) = pages.look(node) {
             self.held = hold(fault, self.held);

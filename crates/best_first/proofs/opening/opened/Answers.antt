@@ -1,4 +1,4 @@
-use Rattle.std.proofs.Common.{◌≡◌, ℕ, ◌<◌, ◌∙◌, List, length, Vec, Global, Err, inl, ap, sym, subst}
+use Rattle.std.proofs.Common.{◌≡◌, ℕ, ◌<◌, ◌∙◌, Bool, true, List, length, slice_index, Vec, Global, Err, inl, ap, sym, subst}
 use Rattle.std.specs.Prelude.{IfOk}
 use Rattle.std.specs.List.{AllByRecursion}
 use Rattle.page_face.specs.FreeList.{PageMap}
@@ -14,19 +14,47 @@ use Rattle.node_rows.specs.Rows.{bytes_in}
 use Rattle.best_first.specs.declared.item.Item.{Item}
 use Rattle.best_first.specs.Lists.{all_weaker}
 use Rattle.node_filter.specs.Numbers.{byte_of}
-use Rattle.best_first.specs.NodeOpenings.{given_by, given_at, spread, IsIn, StandsIn, SaysLevel}
+use Rattle.node_filter.specs.Masks.{has_slot}
+use Rattle.btree_nodes.specs.Tree.{IsMap}
+use Rattle.rtree_nodes.specs.Pages.{is_form}
+use Rattle.rtree_nodes.proofs.Laws.{form-bytes}
+use Rattle.best_first.specs.Items.{IsGivenAt}
+use Rattle.best_first.specs.Cuts.{kept_of, Gave}
+use Rattle.best_first.specs.NodeOpenings.{given_by, given_at, marked_by, spread, IsIn, IsSoundNode, StandsIn, SaysLevel}
+use Rattle.best_first.proofs.Cutting.{gave-from}
+use Rattle.best_first.proofs.Marked.{marked-same, all-levels, all-stored}
+use Rattle.best_first.proofs.Spreads.{spread-same}
 use Rattle.best_first.proofs.Asking.{asks-both}
-use Rattle.best_first.proofs.Outcomes.{ok-weaker, ok-always, value-harm, place-harm, sound-fine}
+use Rattle.best_first.proofs.Outcomes.{ok-three, ok-weaker, ok-always, value-harm, place-harm, sound-fine}
 use Rattle.best_first.proofs.opening.opened.Goals as goal
 
-pub returns-in-Ok-enter_at-clause-given : goal.returns-in-Ok-enter_at-clause-given
-returns-in-Ok-enter_at-clause-given g c = λ map some.
+pub returns-in-Ok-enter_at-clause-gave : goal.returns-in-Ok-enter_at-clause-gave
+returns-in-Ok-enter_at-clause-gave g c =
     let old : PageMap = g.P.Pages.pages c.args.pages.now in
     let F : ℕ → List ℕ → ℕ = byte_of c.args.ids.now (bytes_in old c.args.tree.now.rows c.args.node) in
-    let same : c.looked.result.now ≡ old c.args.node =
+    let from = c.args.from.now in
+    let ask = c.args.ask.now in
+    let level : ℕ = c.args.level in
+    let marks = c.in-Ok.marks in
+    let marked : ℕ → Bool = has_slot marks.slots in
+    let text : ℕ → ℕ = slice_index marks.texts in
+    let bytes : List ℕ = c.looked.result.now in
+    let same : 0 < length (old c.args.node) → bytes ≡ old c.args.node = λ some.
     c.looked.ensures ∙ subst (λ (p : PageMap). 0 < length (p c.args.node) → g.P.Pages.looked c.enter_at.new.pages ≡ p c.args.node) c.marks.ensures.rows.frame.pages c.in-Ok-enter_at.ensures.gives some in
-    subst (λ (bytes : List ℕ). IfOk c.gather.result (λ items. items.items ≡ spread 32 (λ i. given_at (given_by c.args.from.now c.args.ask.now c.args.level (F i)) (stored_in bytes i)))) same
-    (c.gather.ensures.given F (c.in-Ok.ensures.slots map) (c.in-Ok.ensures.texts map))
+    let here : level ≡ level_in bytes = c.in-Ok-enter_at.ensures.level ∙ ap level_in (sym c.looked.ensures) in
+    let stands : (items : List Item) → AllByRecursion (IsIn (stored_in bytes)) items → AllByRecursion (StandsIn (old c.args.node) level) items = λ items.
+    all_weaker (IsIn (stored_in bytes)) (StandsIn (old c.args.node) level) (λ i k some. subst (λ (b : List ℕ). IsIn (stored_in b) i) (same some) k) items in
+    ok-three (λ (items : Vec Item Global). items.items ≡ kept_of c.args.most (spread 32 (λ i. given_at (marked_by from ask level (marked i) (text i)) (stored_in bytes i)))) (λ (items : Vec Item Global). AllByRecursion (IsGivenAt level) items.items) (λ (items : Vec Item Global). AllByRecursion (IsIn (stored_in bytes)) items.items)
+    (λ (items : Vec Item Global). Gave (StandsIn (old c.args.node) level) level (IsMap rows_form old c.args.tree.now.rows × IsSoundNode old (g.P.Pages.count c.args.pages.now) c.args.node level) (spread 32 (λ i. given_at (given_by from ask level (F i)) (stored_in (old c.args.node) i))) c.args.most items.items) c.gather.result
+    (λ items e levels stand. gave-from bytes (StandsIn (old c.args.node) level) level (IsMap rows_form old c.args.tree.now.rows × IsSoundNode old (g.P.Pages.count c.args.pages.now) c.args.node level) (spread 32 (λ i. given_at (given_by from ask level (F i)) (stored_in (old c.args.node) i))) c.args.most
+    (spread 32 (λ i. given_at (marked_by from ask level (marked i) (text i)) (stored_in bytes i))) items.items e (stands items.items stand) levels
+    (λ form. stands (spread 32 (λ i. given_at (marked_by from ask level (marked i) (text i)) (stored_in bytes i))) (all-stored from ask bytes level marked text here form))
+    (all-levels from ask level marked text (stored_in bytes))
+    (λ w. subst (λ (b : List ℕ). is_form b ≡ true) (sym (same (form-bytes (old c.args.node) w.1.form))) w.1.form)
+    (λ w. spread-same 32 (λ i. given_at (marked_by from ask level (marked i) (text i)) (stored_in bytes i)) (λ i. given_at (given_by from ask level (F i)) (stored_in bytes i))
+    (λ i l. marked-same from ask level (marked i) (text i) (F i) (stored_in bytes i) (c.in-Ok.ensures.slots w.0 i l) (c.in-Ok.ensures.texts w.0 i l))
+    ∙ ap (λ (b : List ℕ). spread 32 (λ i. given_at (given_by from ask level (F i)) (stored_in b i))) (same (form-bytes (old c.args.node) w.1.form))))
+    c.gather.ensures.given c.gather.ensures.levels c.gather.ensures.stand
 
 pub returns-in-Ok-enter_at-clause-stand : goal.returns-in-Ok-enter_at-clause-stand
 returns-in-Ok-enter_at-clause-stand g c =

@@ -1,4 +1,4 @@
-use Rattle.std.proofs.Common.{◌∙◌, ap, ◌≡◌, ◌++◌, ℕ, List, Err, sym, subst, ⊎_elim, Vec, Global, rules}
+use Rattle.std.proofs.Common.{◌∙◌, ap, ◌≡◌, ◌++◌, ℕ, List, Err, sym, subst, ⊎_elim, IsPermutation, Vec, Global, rules}
 use Rattle.std.specs.BinaryHeap.{heap_items}
 use Rattle.std.specs.List.{AllByRecursion}
 use Rattle.std.proofs.lemmas.Result.{err_from_is_err_and}
@@ -9,8 +9,11 @@ use Rattle.btree_nodes.proofs.Walks.{same-fault}
 use Rattle.place_values.specs.declared.hit.Hit.{Hit}
 use Rattle.best_first.specs.Items.{places_of, OfNode, IsGivenAt}
 use Rattle.best_first.specs.Queue.{item_of, waiting}
+use Rattle.best_first.specs.Cuts.{most_of}
+use Rattle.best_first.specs.Lists.{all_parts, all_moved}
+use Rattle.best_first.proofs.CostLaws.{most_last}
 use Rattle.best_first.proofs.Firsts.{kept_ranked, kept_short}
-use Rattle.best_first.proofs.Steps.{started, node_next, none_waits, enough, node_smaller}
+use Rattle.best_first.proofs.Steps.{IsMost, started, node_next, none_waits, enough, node_smaller}
 use Rattle.best_first.proofs.Insides.{first_inside, next_inside, opened_inside}
 use Rattle.best_first.specs.Logs.{asks_of, asked_sooner}
 use Rattle.best_first.proofs.Levels.{led_begun, led_opened, led_off}
@@ -45,32 +48,39 @@ search-init g c =
 
 pub search-smaller : goal.search-smaller
 search-smaller g c =
-    let value = c.deref-in-Some-2.ensures.value in
-    node_smaller c.in-Some.node.page c.in-Some.node.level c.in-Some.node.bound c.deref-in-Some-2.result.now _ _ _ c.in-Some.ensures.some (rw value c.in_ok-items-2.ensures.few) (rw value c.in_ok-items-2.ensures.children) c.in_ok-sort_in-2.ensures.queue
+    let value = c.deref-in-Some-3.ensures.value in
+    node_smaller c.in-Some.node.page c.in-Some.node.level c.in-Some.node.bound c.deref-in-Some-3.result.now _ _ _ c.in-Some.ensures.some (rw value c.in_ok-items-2.ensures.few) (rw value c.in_ok-items-2.ensures.children) c.in_ok-sort_in-2.ensures.queue
 
 pub search-preserved : goal.search-preserved
 search-preserved g c =
     let opens = g.R.Ranked.opens c.args.ranked.now c.args.pages.now in
     let kept = c.search.invariant in
-    let items = c.deref-in-Some-2.result.now in
-    let value = c.deref-in-Some-2.ensures.value in
+    let items = c.deref-in-Some-3.result.now in
+    let value = c.deref-in-Some-3.ensures.value in
     let node = c.in-Some.node in
     let given = c.in_ok-items-2.ensures in
     let sorted = c.in_ok-sort_in-2.ensures in
     let has = g.R.Ranked.has_node c.args.ranked.now c.args.pages.now in
     let waits : (f : g.R.Ranked.fits c.args.ranked.now c.args.pages.now) → OfNode has (item_of node) × AllByRecursion (OfNode has) (waiting (heap_items c.next.new.self.heap)) =
     λ f. next_inside (OfNode has) (item_of node) _ _ c.in-Some.ensures.some (kept.inside f) in
-    let gives : g.R.Ranked.fits c.args.ranked.now c.args.pages.now → items ≡ opens node.page node.level =
-    λ f. value ∙ given.gives (kept.fits f) (kept.stays node.page node.level (waits f).0) ∙ ap (λ o. o node.page node.level) kept.opens in
+    let gave = given.gives in
+    let gives : g.R.Ranked.fits c.args.ranked.now c.args.pages.now → gave.all ≡ opens node.page node.level =
+    λ f. gave.is (kept.fits f, kept.stays node.page node.level (waits f).0) ∙ ap (λ o. o node.page node.level) kept.opens in
+    let parts : IsPermutation gave.all (items ++ gave.cut.out) = rw value gave.cut.parts in
+    let most : IsMost c.args.k c.search.found.items c.most_asked-most.result =
+    subst (IsMost c.args.k c.search.found.items) (sym c.most_asked-most.ensures) (subst (λ (l : List Hit). IsMost c.args.k c.search.found.items (most_of c.args.k l)) (sym c.deref-in-Some-2.ensures.value) (most_last c.args.k c.search.found.items kept.ranked kept.short)) in
     let few = rw c.deref-in-Some.ensures.value at (c.is_settled.ensures.unsettled c.if-is_settled.false) in
     let pages : PageMap = g.P.Pages.pages c.args.pages.now in
     let stood : AllByRecursion (g.R.Ranked.stands (pages node.page) node.level) items = rw value (rw (← kept.frame.pages) given.stand) in
     let children : AllByRecursion (IsGivenAt node.level) items = rw value given.children in
+    let all_stood : AllByRecursion (g.R.Ranked.stands (pages node.page) node.level) gave.all = subst (λ (p : PageMap). AllByRecursion (g.R.Ranked.stands (p node.page) node.level) gave.all) kept.frame.pages gave.stood in
+    let inside : (f : g.R.Ranked.fits c.args.ranked.now c.args.pages.now) → AllByRecursion (OfNode has) items =
+    λ f. (all_parts (OfNode has) items gave.cut.out (all_moved (OfNode has) gave.all (items ++ gave.cut.out) parts (subst (AllByRecursion (OfNode has)) (sym (gives f)) (g.met.R.Ranked.opens_in c.args.ranked.now c.args.pages.now node.page node.level f (waits f).0)))).0 in
     record {
       opens = c.open.ensures.same_opens ∙ kept.opens;
       told = λ w. c.open.ensures.same_told (kept.told w);
       stays = λ page level h. c.open.ensures.same_tree page level (kept.stays page level h);
-      inside = λ f. opened_inside (OfNode has) items _ _ sorted.queue (subst (AllByRecursion (OfNode has)) (sym (gives f)) (g.met.R.Ranked.opens_in c.args.ranked.now c.args.pages.now node.page node.level f (waits f).0)) (waits f).1;
+      inside = λ f. opened_inside (OfNode has) items _ _ sorted.queue (inside f) (waits f).1;
       nodes = λ page n. c.open.ensures.same_nodes page (kept.nodes page n);
       held = given.held ∙ kept.held;
       fits = λ f. c.open.ensures.fits (kept.fits f);
@@ -79,8 +89,8 @@ search-preserved g c =
       faults = search rules;
       ranked = kept_ranked c.args.k (c.search.found.items ++ places_of items) _ sorted.found;
       short = kept_short c.args.k (c.search.found.items ++ places_of items) _ sorted.found;
-      search = λ f. node_next opens _ c.args.k node.page node.level node.bound items _ _ _ c.search.found.items _ (kept.search f) c.in-Some.ensures.some (gives f) (rw value given.children) sorted.queue sorted.found;
-      history = λ w. opened _ _ _ _ opens _ _ _ _ _ c.args.k node.page node.level node.bound items _ _ _ c.search.found.items _ _ few c.in-Some.ensures.some sorted.queue sorted.found (asks_of (g.R.Ranked.is_node c.search.ranked c.search.pages) (g.R.Ranked.is_node c.args.ranked.now c.args.pages.now) _ _ _ kept.nodes (c.open.ensures.asks (kept.told w))) (given.asked (kept.told w)) stood children gives kept.search (kept.history w);
+      search = λ f. node_next opens _ c.args.k node.page node.level node.bound gave.all items gave.cut.out _ _ _ c.most_asked-most.result c.search.found.items _ (kept.search f) c.in-Some.ensures.some (gives f) gave.children parts gave.cut.over most kept.ranked kept.short sorted.queue sorted.found;
+      history = λ w. opened _ _ _ _ opens _ _ _ _ _ c.args.k node.page node.level node.bound gave.all items gave.cut.out _ _ _ c.search.found.items _ _ few c.in-Some.ensures.some sorted.queue sorted.found (asks_of (g.R.Ranked.is_node c.search.ranked c.search.pages) (g.R.Ranked.is_node c.args.ranked.now c.args.pages.now) _ _ _ kept.nodes (c.open.ensures.asks (kept.told w))) (given.asked (kept.told w)) all_stood gave.children gives parts kept.search (kept.history w);
       led = λ w.
           let log = (kept.history w).told.log in
           let since = subst (λ (l : List ℕ). AskedSince l (g.P.Pages.asked c.open.new.pages) node.page) log.log (given.asked (kept.told w)) in
