@@ -55,17 +55,17 @@ choice-meets {X} (first ∷ lists) (x ∷ xs) list is c = ⊎_elim
     (contains-cases first lists list c)
 
 -- what passes a test is among what is kept, and no other
-contains-filter : {X : Type 0} (test : X → Bool) (xs : List X) (x : X) → Contains xs x → test x ≡ true → Contains (filter test xs) x
+pub contains-filter : {X : Type 0} (test : X → Bool) (xs : List X) (x : X) → Contains xs x → test x ≡ true → Contains (filter test xs) x
 contains-filter test [] x c t = absurd (contains-none x c)
 contains-filter test (y ∷ ys) x c t = ⊎_elim
     (λ (same : y ≡ x). let u : test y ≡ true = ap test same ∙ t in rw u (subst (Contains (y ∷ filter test ys)) same (contains-here y (filter test ys))))
     (λ (later : Contains ys x). let rest = contains-filter test ys x later t in cond_both (test y) (y ∷ filter test ys) (filter test ys) (λ l. Contains l x) (λ _. contains-later y (filter test ys) x rest) (λ _. rest))
     (contains-cases y ys x c)
 
-filter-contains : {X : Type 0} (test : X → Bool) (xs : List X) (x : X) → Contains (filter test xs) x → Contains xs x
+pub filter-contains : {X : Type 0} (test : X → Bool) (xs : List X) (x : X) → Contains (filter test xs) x → Contains xs x
 filter-contains test xs x c = All-contains (Contains xs) (filter test xs) x (All-filter test (Contains xs) xs (All-contains_itself xs)) c
 
-filter-all : {X : Type 0} (P : X → Type 0) (test : X → Bool) (xs : List X) → AllByRecursion P xs → AllByRecursion P (filter test xs)
+pub filter-all : {X : Type 0} (P : X → Type 0) (test : X → Bool) (xs : List X) → AllByRecursion P xs → AllByRecursion P (filter test xs)
 filter-all P test xs all = recursion_from_All P (filter test xs) (All-filter test P xs (All-from_recursion P xs all))
 
 -- picks that are kept are as far as they say

@@ -93,7 +93,7 @@ pub chained : (at : Viewpoint) (old new choice : List Pick) → is_cheaper at ol
 chained at old new choice = (choices_linear at).chain new old choice
 
 -- a choice that costs more comes after
-dear : (at : Viewpoint) (lists : List (List Pick)) (best : Chosen) (choice : List Pick) → IsChosen at lists best → best.cost < choice_cost at choice → is_cheaper at choice best.picks ≡ false
+pub dear : (at : Viewpoint) (lists : List (List Pick)) (best : Chosen) (choice : List Pick) → IsChosen at lists best → best.cost < choice_cost at choice → is_cheaper at choice best.picks ≡ false
 dear at lists best choice chosen more = let costs = chosen.cost in ap is_lt (dearer-after at choice best.picks (omega arith))
 
 -- the picks of a choice that costs at most so much

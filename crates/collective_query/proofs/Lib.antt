@@ -14,3 +14,4 @@ pub mod Firsts
 pub mod Opened
 pub mod Leads
 pub mod Behind
+pub mod Blocks

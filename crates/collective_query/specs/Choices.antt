@@ -30,3 +30,7 @@ AreCut counts [] [] = Unit {0}
 AreCut counts [] (cut ∷ cuts) = ⊥
 AreCut counts (all ∷ lists) [] = ⊥
 AreCut counts (all ∷ lists) (cut ∷ cuts) = IsCut counts all cut × AreCut counts lists cuts
+
+-- the same picks
+abbrev pub IsSame : List Pick → List Pick → Type 0
+IsSame all cut = IsCut (λ pick. Unit {0}) all cut

@@ -1,13 +1,14 @@
 -- Choices that take one pick of one of the lists: the lead pick.
-use Rattle.std.specs.Prelude.{◌≡◌, ℕ, zero, suc, ◌<◌, ◌+◌, ◌≤◌, false, List, [], ◌∷◌, Vec, Option, Some, None, length, get_or}
+use Rattle.std.specs.Prelude.{◌≡◌, ℕ, zero, suc, ◌<◌, ◌+◌, ◌≤◌, max, false, List, [], ◌∷◌, Vec, Option, Some, None, length, get_or, map}
 use Rattle.std.specs.List.{AllByRecursion, Contains}
 use Rattle.std.specs.Ordering.{is_lt}
 use Rattle.std.specs.declared.alloc.Global.{Global}
 use Rattle.spatial_base.specs.Point.{Viewpoint, seen_from, distance}
 use Rattle.place_values.specs.declared.query.Pick.{Pick}
 use Rattle.place_values.specs.declared.query.Chosen.{Chosen}
-use Rattle.place_values.specs.Group.{pick_cmp, is_cheaper}
+use Rattle.place_values.specs.Group.{pick_cmp, choice_cost, is_cheaper}
 use Rattle.place_values.specs.Search.{lists_in}
+use Rattle.collective_query.specs.declared.bounding.Lead.{Lead}
 use Rattle.collective_query.specs.Choices.{IsChoice, AreCut}
 use Rattle.collective_query.specs.Tried.{IsChosen, IsFirst}
 use Rattle.collective_query.specs.Picks.{picks_of}
@@ -36,10 +37,26 @@ abbrev pub IsWanted : Viewpoint → Pick → Option ℕ → Pick → Type 0
 IsWanted from anchor None pick = ⊥
 IsWanted from anchor (Some most) pick = IsBeside from anchor most pick
 
+-- a choice with a lead pick and this one may cost at most so much, by the distance to the farther of the two and that between them
+abbrev pub IsPaired : Viewpoint → Pick → ℕ → Pick → Type 0
+IsPaired from anchor most pick = max (distance from anchor.point) (distance from pick.point) + distance (seen_from anchor.point from.scale) pick.point ≤ most
+
 -- the lists cut to what counts; or nothing, and then in no choice of the lists each pick counts
 abbrev pub AreGathered : (Pick → Type 0) → List (List Pick) → Option (Vec (Vec Pick Global) Global) → Type 0
 AreGathered counts lists None = (choice : List Pick) → IsChoice lists choice → AllByRecursion counts choice → ⊥
 AreGathered counts lists (Some cuts) = AreCut counts lists (lists_in cuts.items)
+
+-- no choice that takes the lead pick costs less
+abbrev pub IsBound : Viewpoint → List (List Pick) → ℕ → ℕ → Pick → Type 0
+IsBound from lists at cost anchor = (choice : List Pick) → IsChoice (led_by at anchor lists) choice → cost ≤ choice_cost from choice
+
+-- so it is with each of some leads
+abbrev pub AreBounds : Viewpoint → List (List Pick) → ℕ → List Lead → Type 0
+AreBounds from lists at leads = AllByRecursion (λ (lead : Lead). IsBound from lists at lead.least lead.pick) leads
+
+-- the picks of some leads
+abbrev pub lead_picks : List Lead → List Pick
+lead_picks leads = map (λ (lead : Lead). lead.pick) leads
 
 -- of each list, where there are some
 abbrev pub OfEach : (List Pick → Type 0) → Option (Vec (Vec Pick Global) Global) → Type 0

@@ -1,5 +1,6 @@
 pub mod Choices
 pub mod Joins
+pub mod Blocks
 pub mod Picks
 pub mod TreePicks
 pub mod Tried

@@ -22,6 +22,17 @@ pub record IsChosen (at : Viewpoint) (lists : List (List Pick)) (best : Chosen) 
 abbrev pub IsFirst : Viewpoint → List (List Pick) → Chosen → Type 0
 IsFirst at lists best = (choice : List Pick) → IsChoice lists choice → is_cheaper at choice best.picks ≡ false
 
+-- the best choice after more were tried: it is one of the lists, and the best choice until then doesn't come before it
+pub record IsBetter (at : Viewpoint) (lists : List (List Pick)) (old new : Chosen) : Type 0 where
+  pub chosen : IsChosen at lists new
+  pub after : is_cheaper at old.picks new.picks ≡ false
+
+-- the best choice after all were tried: it is one of the lists, and neither the best choice until then nor any of the lists comes before it
+pub record IsBest (at : Viewpoint) (lists : List (List Pick)) (old new : Chosen) : Type 0 where
+  pub chosen : IsChosen at lists new
+  pub after : is_cheaper at old.picks new.picks ≡ false
+  pub first : IsFirst at lists new
+
 -- the least choice of the lists, or nothing where one of them is empty
 abbrev pub IsLeast : Viewpoint → List (List Pick) → Option Chosen → Type 0
 IsLeast at lists None = Contains lists []

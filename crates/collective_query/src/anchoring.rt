@@ -1,21 +1,23 @@
 //! The search that is led by the picks of one word.
-ghost use Rattle.std.specs.Prelude.{◌≡◌, ◌<◌, ◌≤◌, ◌++◌, ◌∷◌, [], ℕ, true, List, Vec, Option, Some, OnOk, IfSome, IsSomeAnd, IfNone, length};
+ghost use Rattle.std.specs.Prelude.{◌≡◌, ◌<◌, ◌≤◌, ◌++◌, ◌∷◌, [], ℕ, true, List, Vec, Option, Some, IfOk, OnOk, IfSome, IsSomeAnd, IfNone, length};
 ghost use Rattle.std.specs.List.{AllByRecursion, Contains};
 ghost use Rattle.std.specs.declared.alloc.Global.{Global};
 ghost use Rattle.spatial_base.specs.Point.{distance};
 ghost use Rattle.place_values.specs.declared.query.Pick.{Pick};
 ghost use Rattle.place_values.specs.Search.{lists_in};
 ghost use Rattle.best_first.specs.Fits.{FitsTree, nodes_at};
+ghost use Rattle.collective_query.specs.Choices.{IsInBoth, AreCut};
 ghost use Rattle.collective_query.specs.Leads.{led_by, AreLeads, IsBehind, IsWanted, Betters, Follows};
 ghost use Rattle.collective_query.specs.Opened.{FindsPicks};
 ghost use Rattle.collective_query.specs.Picks.{AreNear, AreMeasured, GoesBeyond, picks_of};
 ghost use Rattle.collective_query.specs.Searches.{Searches};
 ghost use Rattle.collective_query.specs.TreePicks.{tree_lists, first_lists};
-ghost use Rattle.collective_query.specs.Tried.{IsChosen, IsFirst};
+ghost use Rattle.collective_query.specs.Tried.{IsChosen, IsFirst, IsBest};
 
 use crate::candidates::{candidates, list_at, reaches};
 use crate::filtering::may_anchor;
 use crate::gathering::gather;
+use crate::leading::search_lists;
 use crate::search::least_choice;
 use node_filter::Ids;
 use node_rows::Tree;
@@ -229,8 +231,8 @@ fn is_at(pick: &Pick, other: &Pick) -> bool
     pick.point == other.point
 }
 
-// Whether a pick is at the point of another, if there is another, and doesn't come before it.
-fn is_behind(pick: &Pick, other: &Option<Pick>) -> bool
+/// Returns whether a pick is at the point of another, if there is another, and doesn't come before it.
+pub(crate) fn is_behind(pick: &Pick, other: &Option<Pick>) -> bool
     ensures { result ≡ true → IsSomeAnd other.now (IsBehind pick.now) }
 {
     match other {
@@ -284,6 +286,135 @@ fn follow_each<P: Pages>(
     Ok(())
 }
 
+// For each word its picks that are at most so far from the point.
+fn within_each<P: Pages>(
+    alloc: Global,
+    pages: &mut P,
+    tree: &Tree,
+    ids: &Ids,
+    at: &Origin,
+    words: &[Word],
+    nearest: &[Vec<Pick>],
+    most: u64,
+) -> Result<Vec<Vec<Pick>>, PageFault>
+    requires near { AllByRecursion (λ (list : Vec Pick Global). AreNear list.items) nearest.now }
+    requires measured { AllByRecursion (λ (list : Vec Pick Global). AreMeasured at.now list.items) nearest.now }
+    ensures cut { FitsTree (P.pages pages.old) (P.count pages.old) (P.first pages.old) tree.now
+        → lists_in nearest.now ≡ first_lists ids.now at.now (nodes_at (P.pages pages.old) tree.now) tree.now.root words.now
+        → IfOk result (λ lists. AreCut (IsInBoth at.now most at.now most) (tree_lists ids.now at.now (nodes_at (P.pages pages.old) tree.now) tree.now.root words.now) (lists_in lists.items)) }
+    ensures near { IfOk result (λ lists. AllByRecursion (λ (list : Vec Pick Global). AreNear list.items) lists.items) }
+    ensures measured { IfOk result (λ lists. AllByRecursion (λ (list : Vec Pick Global). AreMeasured at.now list.items) lists.items) }
+    ensures opened { FitsTree (P.pages pages.old) (P.count pages.old) (P.first pages.old) tree.now
+        → (before : List ℕ) → (found : List Pick) → ((pick : Pick) → Contains (picks_of nearest.now) pick → Contains found pick)
+        → FindsPicks (P.pages pages.old) tree.now ids.now at.now words.now before (P.asked pages.old) found
+        → IfOk result (λ lists. FindsPicks (P.pages pages.old) tree.now ids.now at.now words.now before (P.asked pages.new) (found ++ picks_of lists.items)) }
+    ensures search { Searches P.Pages tree.now pages.old pages.new result }
+{
+    let mut lists = Vec::new(alloc);
+    for (index, word) in words.iter().enumerate() {
+        let known = list_at(nearest, index);
+        let picks = match candidates(alloc, pages, tree, ids, at, most, at, most, word, known) {
+            Ok(picks) => picks,
+            Err(fault) => return Err(fault),
+        };
+        match lists.push(picks) {
+            Ok(()) => {}
+            Err(_) => return Err(PageFault::Memory),
+        }
+    }
+    Ok(lists)
+}
+
+// Leaves the least of all choices, if the best one so far is one of them. Each word's places are read once, and the rest is in memory.
+fn search_within<P: Pages>(
+    alloc: Global,
+    pages: &mut P,
+    tree: &Tree,
+    ids: &Ids,
+    at: &Origin,
+    words: &[Word],
+    nearest: &[Vec<Pick>],
+    own: usize,
+    best: &mut Chosen,
+) -> Result<(), PageFault>
+    requires near { AllByRecursion (λ (list : Vec Pick Global). AreNear list.items) nearest.now }
+    requires measured { AllByRecursion (λ (list : Vec Pick Global). AreMeasured at.now list.items) nearest.now }
+    requires cost { best.old.cost ≤ 5091168824 }
+    ensures least { FitsTree (P.pages pages.old) (P.count pages.old) (P.first pages.old) tree.now
+        → lists_in nearest.now ≡ first_lists ids.now at.now (nodes_at (P.pages pages.old) tree.now) tree.now.root words.now
+        → own < length words.now → IsChosen at.now (tree_lists ids.now at.now (nodes_at (P.pages pages.old) tree.now) tree.now.root words.now) best.old
+        → (before : List ℕ) → (known : List Pick) → ((pick : Pick) → Contains (picks_of nearest.now) pick → Contains known pick)
+        → FindsPicks (P.pages pages.old) tree.now ids.now at.now words.now before (P.asked pages.old) (known ++ best.old.picks)
+        → OnOk result (IsBest at.now (tree_lists ids.now at.now (nodes_at (P.pages pages.old) tree.now) tree.now.root words.now) best.old best.new
+        × FindsPicks (P.pages pages.old) tree.now ids.now at.now words.now before (P.asked pages.new) (known ++ best.new.picks)) }
+    ensures cost { OnOk result (best.new.cost ≤ best.old.cost) }
+    ensures search { Searches P.Pages tree.now pages.old pages.new result }
+{
+    let most = best.cost;
+    let lists = match within_each(alloc, pages, tree, ids, at, words, nearest, most) {
+        Ok(lists) => lists,
+        Err(fault) => return Err(fault),
+    };
+    match search_lists(alloc, at, &lists, own, best) {
+        Ok(()) => Ok(()),
+        Err(_) => Err(PageFault::Memory),
+    }
+}
+
+/// If the lead picks are followed at more points than this, all picks that are near enough are read once and searched in memory. Round
+/// fewer points the tree is searched for each.
+const MANY: usize = 12;
+
+// Round how many points a search that follows each of the leads looks.
+fn points_of(leads: &[Pick]) -> usize {
+    let mut points: usize = 0;
+    let mut last = None;
+    for pick in leads {
+        if !is_behind(pick, &last) {
+            points = points.saturating_add(1);
+            last = Some(*pick);
+        }
+    }
+    points
+}
+
+// Leaves the best of the best choice so far and all choices that take one of the lead picks.
+fn follow_leads<P: Pages>(
+    alloc: Global,
+    pages: &mut P,
+    tree: &Tree,
+    ids: &Ids,
+    at: &Origin,
+    words: &[Word],
+    nearest: &[Vec<Pick>],
+    leads: &[Pick],
+    own: usize,
+    best: &mut Chosen,
+) -> Result<(), PageFault>
+    requires near { AllByRecursion (λ (list : Vec Pick Global). AreNear list.items) nearest.now }
+    requires measured { AllByRecursion (λ (list : Vec Pick Global). AreMeasured at.now list.items) nearest.now }
+    requires leads { AreNear leads.now }
+    requires leads_measured { AreMeasured at.now leads.now }
+    requires cost { best.old.cost ≤ 5091168824 }
+    ensures followed { FitsTree (P.pages pages.old) (P.count pages.old) (P.first pages.old) tree.now
+        → lists_in nearest.now ≡ first_lists ids.now at.now (nodes_at (P.pages pages.old) tree.now) tree.now.root words.now
+        → AreLeads (tree_lists ids.now at.now (nodes_at (P.pages pages.old) tree.now) tree.now.root words.now) own leads.now → IsChosen at.now (tree_lists ids.now at.now (nodes_at (P.pages pages.old) tree.now) tree.now.root words.now) best.old
+        → (before : List ℕ) → (known : List Pick) → ((pick : Pick) → Contains (picks_of nearest.now) pick → Contains known pick) → ((pick : Pick) → Contains leads.now pick → Contains known pick)
+        → FindsPicks (P.pages pages.old) tree.now ids.now at.now words.now before (P.asked pages.old) (known ++ best.old.picks)
+        → OnOk result (Follows at.now (tree_lists ids.now at.now (nodes_at (P.pages pages.old) tree.now) tree.now.root words.now) own leads.now best.old best.new
+        × FindsPicks (P.pages pages.old) tree.now ids.now at.now words.now before (P.asked pages.new) (known ++ best.new.picks)) }
+    ensures cost { OnOk result (best.new.cost ≤ best.old.cost) }
+    ensures search { Searches P.Pages tree.now pages.old pages.new result }
+{
+    let points = points_of(leads);
+    if points > MANY {
+        return search_within(alloc, pages, tree, ids, at, words, nearest, own, best);
+    }
+    follow_each(
+        alloc, pages, tree, ids, at, words, nearest, leads, own, best,
+    )
+}
+
 /// Leaves the least of all choices, if the best one so far is one of them. `own` is the word that leads the search.
 ///
 /// The choices of the picks nearest to the word's first one are tried, so that the best choice costs little. Then each of its picks that
@@ -333,7 +464,7 @@ pub(crate) fn search_by_anchor<P: Pages>(
         Ok(leads) => leads,
         Err(fault) => return Err(fault),
     };
-    follow_each(
+    follow_leads(
         alloc, pages, tree, ids, at, words, nearest, &leads, own, best,
     )
 }

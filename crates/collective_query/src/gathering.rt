@@ -23,8 +23,8 @@ use spatial_base::Origin;
 use std::alloc::{AllocError, Global};
 use term_impacts::Word;
 
-// A pick alone.
-fn alone(alloc: Global, pick: &Pick) -> Result<Vec<Pick>, AllocError>
+/// Returns a pick alone.
+pub(crate) fn alone(alloc: Global, pick: &Pick) -> Result<Vec<Pick>, AllocError>
     ensures { IfOk result (λ picks. picks.items ≡ pick.now ∷ []) }
 {
     let mut picks = Vec::new(alloc);

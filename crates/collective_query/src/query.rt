@@ -112,13 +112,15 @@ fn least_group<P: Pages>(
 /// farthest leads. One search for each other word finds its places nearest to that place. At most one more finds the lead's places that are
 /// no farther than the least choice costs by then.
 ///
-/// Round each of their points the other words whose five places all lie as near as that are searched for, in a circle of the rest of the
-/// cost. If a word is frequent there, those that aren't come first. Then, if these let a choice cost so little, each of them is searched
-/// for once, as long as the words before it have a place there. A node is opened only if one of the words is held below it, or if it is the
-/// root.
+/// If they are at twelve points or fewer, the other words whose five places all lie as near as that are searched for round each of these
+/// points, in a circle of the rest of the cost. If a word is frequent there, those that aren't come first. Then, if these let a choice cost
+/// so little, each of them is searched for once, as long as the words before it have a place there. If they are at more points, each word's
+/// places that are no farther than the least choice costs by then are searched for once. A node is opened only if one of the words is held
+/// below it, or if it is the root.
 ///
-/// It keeps the places found round one lead at a time. In the worst case the search among them goes through all choices. This happens if
-/// places of any two words lie near enough to each other and those of three or more don't.
+/// It keeps the places found round one lead at a time, or twice all places of the words that are no farther than the least choice costs by
+/// then. If there is no room for them it returns `Memory`. In the worst case the search among them goes through all choices. This happens
+/// if places of any two words lie near enough to each other and those of three or more don't.
 pub fn group<P: Pages>(
     alloc: Global,
     pages: &mut P,

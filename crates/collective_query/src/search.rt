@@ -9,14 +9,19 @@ ghost use Rattle.place_values.specs.Search.{lists_in};
 ghost use Rattle.collective_query.specs.Picks.{AreNear, AreMeasured};
 
 use crate::costing::least_cost;
-use crate::joining::{by_length, joined_lists};
+use crate::joining::{by_length, closest_lists};
 use crate::keys::least_keys;
 use place_values::{Chosen, Pick, Picks, choice_order};
 use spatial_base::Origin;
 use std::alloc::{AllocError, Global};
 
-// Keeps a choice of this cost if it comes before the best one.
-fn offer(alloc: Global, picks: &[Pick], cost: u64, best: &mut Chosen) -> Result<(), AllocError>
+/// Keeps a choice of this cost if it comes before the best one.
+pub(crate) fn offer(
+    alloc: Global,
+    picks: &[Pick],
+    cost: u64,
+    best: &mut Chosen,
+) -> Result<(), AllocError>
     ensures cost { OnOk result (best.new.cost ≤ max cost best.old.cost) }
     ensures least { OnOk result ((at : Viewpoint) → cost ≡ choice_cost at picks.now → (tried : List (List Pick)) → Some best.old ≡ least_of at tried → Some best.new ≡ least_of at (tried ++ picks.now ∷ [])) }
 {
@@ -43,7 +48,7 @@ pub(crate) fn least_choice(
         → Some best.new ≡ least_of at.now (tried ++ product (lists_in lists.now))) }
     ensures cost { OnOk result (best.new.cost ≤ best.old.cost) }
 {
-    let kept = joined_lists(alloc, at, lists, best.cost)?;
+    let kept = closest_lists(alloc, at, lists, best.cost)?;
     let sorted = by_length(alloc, &kept)?;
     let mut front = Vec::new(alloc);
     let least = least_cost(at, &sorted, &mut front, 0, 0, best.cost + 1, 0)?;

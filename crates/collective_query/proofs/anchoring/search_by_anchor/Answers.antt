@@ -41,7 +41,7 @@ returns-clause-search g c =
     let more = g.met.P.Pages.reads_further in
     searches-then {X = ℕ} P further more tree _ _ _ _ _
     (searches-give P tree _ _ _ _ 0 c.in-Ok-candidates.is (searches-then {X = ℕ} P further more tree _ _ _ _ _ (searches-give P tree _ _ _ _ 0 c.in-Ok.is c.begin.ensures.search) c.candidates.ensures.search))
-    c.follow_each.ensures.search
+    c.follow_leads.ensures.search
 
 pub returns-clause-least : goal.returns-clause-least
 returns-clause-least g c = λ fits same inside was before start.
@@ -56,7 +56,7 @@ returns-clause-least g c = λ fits same inside was before start.
     let known : List Pick = c.list_at-known.result.now in
     let leads : List Pick = c.deref.result.now in
     let best : Chosen = c.begin.new.best in
-    let new : Chosen = c.follow_each.new.best in
+    let new : Chosen = c.follow_leads.new.best in
     let f : _ = c.begin.ensures.search.frame in
     let k : _ = c.candidates.ensures.search.frame in
     let old : PageMap = P.pages c.args.pages.now in
@@ -65,7 +65,7 @@ returns-clause-least g c = λ fits same inside was before start.
     let back : end ≡ old = k.pages ∙ f.pages in
     let between : List ℕ = P.asked c.begin.new.pages in
     let later : List ℕ = P.asked c.candidates.new.pages in
-    let after : List ℕ = P.asked c.follow_each.new.pages in
+    let after : List ℕ = P.asked c.follow_leads.new.pages in
     let all : PageMap → List ℕ → List Pick = λ p. tree_picks ids at (nodes_at p tree) tree.root in
     let lists : PageMap → List (List Pick) = λ p. tree_lists ids at (nodes_at p tree) tree.root words in
     let firsts : PageMap → List ℕ → List Pick = λ p. first_picks ids at at (nodes_at p tree) tree.root in
@@ -107,9 +107,9 @@ returns-clause-least g c = λ fits same inside was before start.
     (Contains-append_cases more best.picks pick one)) wide in
     let are : AreLeads (lists old) own leads = record { inside = here; among = all_weaker (Contains leads) (Contains (get_or (lists old) own [])) cut.among leads (all_in leads) } in
     let Is : PageMap → Type 0 = λ p. Follows at (lists p) own leads best new × FindsPicks p tree ids at words before after (more ++ new.picks) in
-    let followed : OnOk c.follow_each.result (Is old) =
-    subst (λ (p : PageMap). OnOk c.follow_each.result (Is p)) back
-    (c.follow_each.ensures.followed still_more
+    let followed : OnOk c.follow_leads.result (Is old) =
+    subst (λ (p : PageMap). OnOk c.follow_leads.result (Is p)) back
+    (c.follow_leads.ensures.followed still_more
     (same ∙ ap (λ (p : PageMap). first_lists ids at (nodes_at p tree) tree.root words) (sym back))
     (subst (λ (p : PageMap). AreLeads (lists p) own leads) (sym back) are)
     (subst (λ (p : PageMap). IsChosen at (lists p) best) (sym back) begun.0)
@@ -117,7 +117,7 @@ returns-clause-least g c = λ fits same inside was before start.
     (λ pick one. Contains-append_left found leads pick (Contains-append_left (picks_of nearest) best.picks pick one))
     (λ pick one. Contains-append_right found leads pick one)
     (subst (λ (p : PageMap). FindsPicks p tree ids at words before later (more ++ best.picks)) (sym back) enough)) in
-    on_ok_weaker c.follow_each.result
+    on_ok_weaker c.follow_leads.result
     (λ (h : Is old). (
       (h.0.chosen, follows-all at (lists old) own leads best new here begun.0 cut h.0),
       finds-fewer old tree ids at words before after (more ++ new.picks) new.picks (λ pick one. Contains-append_right more new.picks pick one) h.1,

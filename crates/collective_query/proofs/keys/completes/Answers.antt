@@ -1,4 +1,4 @@
-use Rattle.std.proofs.Common.{◌++◌, ◌+◌, ◌<◌, ◌≤◌, List, sym, subst, arith}
+use Rattle.std.proofs.Common.{◌++◌, ◌<◌, ◌≤◌, List, sym, subst, arith}
 use Rattle.std.proofs.lemmas.Bool.{leb-true, leb-false}
 use Rattle.place_values.specs.declared.query.Pick.{Pick}
 use Rattle.place_values.specs.Search.{lists_in}

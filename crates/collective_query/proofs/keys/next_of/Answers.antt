@@ -1,4 +1,3 @@
-use Rattle.std.proofs.Common.{false}
 use Rattle.place_values.specs.Search.{lists_in}
 use Rattle.collective_query.proofs.Nexts.{next-passed, next-refused, next-taken}
 use Rattle.collective_query.proofs.keys.next_of.Goals as goal
