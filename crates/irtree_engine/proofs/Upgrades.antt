@@ -1,5 +1,5 @@
 -- What carrying a store of version 1 over leaves stands for what stood before it.
-use Rattle.std.proofs.Common.{◌≡◌, ◌≢◌, ℕ, Bool, true, false, cond, [], Result, Ok, Err, OnOk, inl, inr, ⊎_elim, refl, ap, sym, subst, ◌∙◌}
+use Rattle.std.proofs.Common.{◌≡◌, ◌≢◌, ℕ, Bool, true, false, cond, [], Result, Ok, Err, OnOk, inl, inr, ◌⊎◌, ⊎_elim, refl, ap, sym, subst, ◌∙◌}
 use Rattle.disk_model.specs.World.{World, Image, LeavesOnly}
 use Rattle.disk_model.proofs.Moments.{then, within}
 use Rattle.page_face.specs.declared.fault.Damage.{Damage}
@@ -7,9 +7,11 @@ use Rattle.page_face.specs.declared.fault.PageFault.{PageFault}
 use Rattle.page_face.specs.declared.fault.PageFault.TheVariants as pages
 use Rattle.page_face.specs.declared.fault.Rule.TheVariants.{Head}
 use Rattle.page_face.specs.declared.head.Version.TheVariants.{One, Two}
-use Rattle.page_journal.specs.Record.{StandsFor, StandsAlike, applied}
+use Rattle.disk_model.specs.declared.disk.Area.TheVariants.{Journal}
+use Rattle.page_journal.specs.Record.{IsJournal, StandsFor, StandsAlike, applied, journal_end}
 use Rattle.page_store.specs.Contents.{Contents, HoldsContents, HoldsOneOf, IsCommitted, Overlay, contents_in, contents_of, counted_pages, page_bytes, shown}
 use Rattle.page_store.specs.Opening.{head_damage}
+use Rattle.page_store.specs.Store.{Rests}
 use Rattle.page_store.specs.declared.opening.OpenFault.{OpenFault}
 use Rattle.page_store.specs.declared.opening.OpenFault.TheVariants as opens
 use Rattle.page_store.specs.Superblock.{HasMagicOfVersion1, IsPageOfVersion1, IsStorePage, KeepsHeadOfVersion1, empty_store, fields_of, is_zero, superblock_in}
@@ -20,10 +22,14 @@ use Rattle.store_model.specs.Stands.{PagesStand, Stands}
 use Rattle.store_model.proofs.Images.{area-one}
 use Rattle.store_upgrade.specs.Version1.{PagesStandVersion1, StandsVersion1}
 use Rattle.irtree_engine.specs.Faults.{fault_of_pages}
+use Rattle.irtree_engine.specs.declared.fault.EngineFault.{EngineFault}
+use Rattle.irtree_engine.specs.declared.fault.EngineFault.TheVariants as engine
 use Rattle.irtree_engine.specs.Holding.{HasBrokenHead, IsForeign, IsVersion1, LeavesState, StandsForNone}
 use Rattle.irtree_engine.specs.Opening.{IsRecovered}
-use Rattle.irtree_engine.specs.Upgrades.{HasBrokenHeadVersion1, IsCarryFault, IsOpenableVersion1, IsReadyVersion1, IsUpgradeDamage, IsVersion1Damage, IsVersion1Fault, LeavesEither, StandsForNeither, StandsForNoneVersion1, fault_of_opening}
+use Rattle.irtree_engine.specs.Upgrades.{HasBrokenHeadVersion1, IsOpenableVersion1, IsReadyVersion1, IsUpgradeDamage, IsVersion1Damage, IsVersion1Fault, LacksRoomToCarry, LeavesEither, LeavesUnchanged, StandsForNeither, StandsForNoneVersion1, fault_of_opening, most_carried}
+use Rattle.irtree_engine.specs.Updates.{ArePagesAtMost, IsRoomAtMost}
 use Rattle.irtree_engine.proofs.Openings.{version1-filled, version1-other}
+use Rattle.irtree_engine.proofs.Standing.{committed-held}
 
 -- ---- images of version 1
 
@@ -117,15 +123,66 @@ either-then old mid new state quiet first second = (then) first (within second (
 pub rest-version1 : (old mid : World) (state : states.Contents) → mid.seen ≡ old.seen → StandsVersion1 old.seen state → StandsVersion1 mid.seen state
 rest-version1 old mid state same = subst (λ (image : Image). StandsVersion1 image state) (sym same)
 
+-- there is little room by what the image holds, where there is by the fields and pages of a store of which nothing waits to be committed
+abbrev IsLittle : ℕ → Contents → Type 0
+IsLittle room held = IsRoomAtMost (most_carried held.block.head.live) room held.block.counted × ArePagesAtMost (most_carried held.block.head.live) room held.pages held.block.counted held.block.first_free
+
+pub lacks-carrying : (readable : Bool) (world : World) (overlay : Overlay) (current last : Superblock) (end room : ℕ) → readable ≡ true → overlay.entries ≡ [] → current ≡ last → IsCommitted last end world
+    → IsRoomAtMost (most_carried current.head.live) room current.counted
+    → ArePagesAtMost (most_carried current.head.live) room (counted_pages current.counted (shown readable (applied world.seen) overlay)) current.counted current.first_free
+    → LacksRoomToCarry room world.seen
+lacks-carrying readable world overlay current last end room told none settled committed few fewer =
+    subst (λ (held : Contents). IsLittle room held) (committed-held readable world overlay current last end told none settled committed) (few, fewer)
+
+-- ---- what a refusal leaves
+
+-- one recovery behind another is one
+pub recovered-further : (old mid new : World) → IsRecovered old mid → IsRecovered mid new → IsRecovered old new
+recovered-further old mid new first second = record { ready = second.ready; stands = (first.stands.0, second.stands.1 ∙ first.stands.1) }
+
+-- and so are calls behind one that change no area
+pub recovered-rests : (old mid new : World) → IsRecovered old mid → Rests mid new → IsRecovered old new
+recovered-rests old mid new first rests = record {
+  ready = record {
+    safe = λ image may. first.ready.safe image (rests.crash image may) ∙ sym rests.seen;
+    journal = subst (λ (i : Image). IsJournal (i Journal)) (sym rests.seen) first.ready.journal;
+    end = subst (λ (i : Image). journal_end (i Journal) ≡ 0) (sym rests.seen) first.ready.end;
+  };
+  stands = (first.stands.0, subst (λ (i : Image). applied i ≡ applied mid.seen) (sym rests.seen) refl ∙ first.stands.1);
+}
+
+-- so a refusal leaves it that is no fault of the disk
+pub refused-left : (old new : World) (fault : EngineFault) → IsVersion1Fault fault → ((fault ≡ engine.Disk → ⊥) → IsRecovered old new) → LeavesUnchanged fault old new
+refused-left old new engine.Disk causes left = tt
+refused-left old new (engine.Damaged damage) causes left = left (λ e. cc)
+refused-left old new engine.NoRoom causes left = left (λ e. cc)
+refused-left old new engine.Memory causes left = left (λ e. cc)
+refused-left old new engine.NotAStore causes left = absurd causes
+refused-left old new (engine.BadJournal at) causes left = absurd causes
+refused-left old new engine.Full causes left = absurd causes
+refused-left old new engine.Worn causes left = absurd causes
+refused-left old new engine.Stopped causes left = absurd causes
+refused-left old new engine.Version1 causes left = absurd causes
+
+-- every image of a recovery that comes behind another one holds what the first image held
+pub alike-further : (old mid new : World) → IsRecovered old mid → mid.said ≡ old.said → LeavesOnly old mid (StandsAlike old) → LeavesOnly mid new (StandsAlike mid) → LeavesOnly old new (StandsAlike old)
+alike-further old mid new recovered quiet first second = (then) first (within second (λ image said alike. (
+  λ pages stands. alike.0 pages (recovered.ready.journal, stands.1 ∙ sym recovered.stands.1),
+  alike.1 ∙ quiet,
+)))
+
 -- ---- what a refusal says
 
--- what carrying over may be refused for: the pages aren't stopped
-pub carry-cause : (fault : PageFault) → (fault ≡ pages.Stopped → ⊥) → IsCarryFault (fault_of_pages fault)
-carry-cause pages.Disk on = tt
-carry-cause pages.NoRoom on = tt
-carry-cause pages.Stopped on = on refl
-carry-cause (pages.Damaged damage) on = tt
-carry-cause pages.Memory on = tt
+-- why a change stops that found no page: by no damage, and for a cause of carrying over
+pub wanted-damage : (fault : EngineFault) (damage : Damage) → (fault ≡ engine.NoRoom) ⊎ (fault ≡ engine.Memory) ⊎ (fault ≡ engine.Disk) → fault ≡ engine.Damaged damage → ⊥
+wanted-damage fault damage (inl room) is = absurd (cc)
+wanted-damage fault damage (inr (inl memory)) is = absurd (cc)
+wanted-damage fault damage (inr (inr disk)) is = absurd (cc)
+
+pub wanted-cause : (fault : EngineFault) → (fault ≡ engine.NoRoom) ⊎ (fault ≡ engine.Memory) ⊎ (fault ≡ engine.Disk) → IsVersion1Fault fault
+wanted-cause fault (inl room) = subst IsVersion1Fault (sym room) tt
+wanted-cause fault (inr (inl memory)) = subst IsVersion1Fault (sym memory) tt
+wanted-cause fault (inr (inr disk)) = subst IsVersion1Fault (sym disk) tt
 
 -- what an opening may be refused for where page 0 begins with the magic of version 1 and the journal is right
 pub opening-cause : (fault : OpenFault) → (fault ≡ opens.NotAStore → ⊥) → ((at : ℕ) → fault ≡ opens.BadJournal at → ⊥) → (fault ≡ opens.Version1 → ⊥) → IsVersion1Fault (fault_of_opening fault)
@@ -153,11 +210,11 @@ openable-back old mid recovered is = record { area = is.area; stands = (recovere
 -- and so it is damaged
 pub damage-back : (old mid : World) (damage : Damage) → IsRecovered old mid → IsVersion1Damage damage mid.seen → IsUpgradeDamage damage old.seen
 damage-back old mid damage recovered is = ⊎_elim
-    (λ (head : (damage ≡ head_damage) × HasBrokenHeadVersion1 mid.seen). inl (
+    (λ (head : (damage ≡ head_damage) × HasBrokenHeadVersion1 mid.seen). inr (inl (
       head.0,
-      inr record { area = head.1.area; stands = (recovered.stands.0, head.1.stands.1 ∙ recovered.stands.1); magic = head.1.magic; broken = head.1.broken },
-    ))
-    (λ (behind : (damage.rule ≢ Head) × IsOpenableVersion1 mid.seen). inr (behind.0, openable-back old mid recovered behind.1))
+      record { area = head.1.area; stands = (recovered.stands.0, head.1.stands.1 ∙ recovered.stands.1); magic = head.1.magic; broken = head.1.broken },
+    )))
+    (λ (behind : (damage.rule ≢ Head) × IsOpenableVersion1 mid.seen). inr (inr (behind.0, openable-back old mid recovered behind.1)))
     is
 
 -- an image that stands for a state by version 1 has no foreign page 0

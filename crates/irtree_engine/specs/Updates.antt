@@ -84,11 +84,18 @@ IsAtLimit live number _ = Unit {0}
 abbrev pub most_takes : ℕ → ℕ → ℕ
 most_takes updates counted = 65536 + 128 * updates + 8 * counted
 
--- the room is no more than the pages counted and as many as so many updates are allowed to take
-abbrev pub LacksRoom : ℕ → ℕ → ℕ → Type 0
-LacksRoom updates room counted = room ≤ counted + most_takes updates counted
+-- the room is no more than the pages counted and so many more
+abbrev pub IsRoomAtMost : ℕ → ℕ → ℕ → Type 0
+IsRoomAtMost most room counted = room ≤ counted + most
 
--- The pages of the free list, and those that there is room for beside the pages counted, are together no more than so many updates are
--- allowed to take.
+-- the pages of the free list, and those that there is room for beside the pages counted, are together no more than so many
+abbrev pub ArePagesAtMost : ℕ → ℕ → PageMap → ℕ → ℕ → Type 0
+ArePagesAtMost most room pages counted first = (free : List ℕ) → IsFreeList pages counted first free → room + length free ≤ counted + most
+
+-- there is room for no more pages than so many updates are allowed to take
+abbrev pub LacksRoom : ℕ → ℕ → ℕ → Type 0
+LacksRoom updates room counted = IsRoomAtMost (most_takes updates counted) room counted
+
+-- so it is with the pages of the free list added
 abbrev pub LacksPages : ℕ → ℕ → PageMap → ℕ → ℕ → Type 0
-LacksPages updates room pages counted first = (free : List ℕ) → IsFreeList pages counted first free → room + length free ≤ counted + most_takes updates counted
+LacksPages updates room pages counted first = ArePagesAtMost (most_takes updates counted) room pages counted first

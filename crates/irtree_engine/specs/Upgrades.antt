@@ -1,6 +1,6 @@
 -- What carrying a store of version 1 over to version 2 leaves, and why it is refused.
-use Rattle.std.specs.Prelude.{◌≡◌, ◌≢◌, ◌⊎◌, ℕ, List, Option, Some, None}
-use Rattle.disk_model.specs.World.{World, Image}
+use Rattle.std.specs.Prelude.{◌≡◌, ◌≢◌, ◌⊎◌, ℕ, ◌*◌, List, Option, Some, None}
+use Rattle.disk_model.specs.World.{World, Image, WritesNothing}
 use Rattle.page_face.specs.declared.fault.Damage.{Damage}
 use Rattle.page_face.specs.declared.fault.Rule.TheVariants.{Head}
 use Rattle.page_journal.specs.Record.{IsReady, StandsFor, applied}
@@ -15,6 +15,9 @@ use Rattle.store_upgrade.specs.Version1.{StandsVersion1}
 use Rattle.irtree_engine.specs.declared.fault.EngineFault.{EngineFault}
 use Rattle.irtree_engine.specs.declared.fault.EngineFault.TheVariants.{Disk, NotAStore, BadJournal, Damaged, NoRoom, Version1, Memory}
 use Rattle.irtree_engine.specs.Holding.{HasBrokenHead, IsOpenable}
+use Rattle.irtree_engine.specs.Opening.{IsRecovered}
+use Rattle.irtree_engine.specs.Queries.{contents_held}
+use Rattle.irtree_engine.specs.Updates.{IsRoomAtMost, ArePagesAtMost}
 
 -- the image stands for the state by version 1 or by version 2
 abbrev pub StandsEither : Contents → Image → Type 0
@@ -57,18 +60,6 @@ IsUpgradeFault NoRoom = Unit {0}
 IsUpgradeFault Memory = Unit {0}
 IsUpgradeFault _ = ⊥
 
--- where it may be refused for damage: at page 0 as it is opened, or behind the opening of a store of version 1, by another rule than Head
-abbrev pub IsUpgradeDamage : Damage → Image → Type 0
-IsUpgradeDamage damage image = ((damage ≡ head_damage) × (HasBrokenHead image ⊎ HasBrokenHeadVersion1 image)) ⊎ ((damage.rule ≢ Head) × IsOpenableVersion1 image)
-
--- why carrying the places over is refused
-abbrev pub IsCarryFault : EngineFault → Type 0
-IsCarryFault Disk = Unit {0}
-IsCarryFault (Damaged damage) = Unit {0}
-IsCarryFault NoRoom = Unit {0}
-IsCarryFault Memory = Unit {0}
-IsCarryFault _ = ⊥
-
 -- Nothing is pending, the journal is at its beginning, and page 0 of the pages that the disk stands for begins with the magic of version 1.
 pub record IsReadyVersion1 (world : World) : Type 0 where
   pub ready : IsReady 0 world
@@ -81,6 +72,10 @@ StandsForNoneVersion1 image = (state : Contents) → StandsVersion1 image state 
 -- where a store of version 1 is damaged: at page 0 as it is opened, or behind that, by another rule than Head
 abbrev pub IsVersion1Damage : Damage → Image → Type 0
 IsVersion1Damage damage image = ((damage ≡ head_damage) × HasBrokenHeadVersion1 image) ⊎ ((damage.rule ≢ Head) × IsOpenableVersion1 image)
+
+-- where an upgrade may be refused for damage: at page 0 of version 2 as it is opened, or as a store of version 1 is damaged
+abbrev pub IsUpgradeDamage : Damage → Image → Type 0
+IsUpgradeDamage damage image = ((damage ≡ head_damage) × HasBrokenHead image) ⊎ IsVersion1Damage damage image
 
 -- why a store of version 1 may be refused whose journal holds nothing
 abbrev pub IsVersion1Fault : EngineFault → Type 0
@@ -98,3 +93,25 @@ fault_of_opening (opens.BadJournal at) = BadJournal at
 fault_of_opening (opens.Damaged damage) = Damaged damage
 fault_of_opening opens.Version1 = Version1
 fault_of_opening opens.Memory = Memory
+
+-- ---- what a refused upgrade leaves
+
+-- What a refusal leaves: where the journal is bad, what there was; else, but where the disk failed, the journal recovered and the pages as
+-- they were.
+abbrev pub LeavesUnchanged : EngineFault → World → World → Type 0
+LeavesUnchanged Disk old new = Unit {0}
+LeavesUnchanged (BadJournal at) old new = WritesNothing old new
+LeavesUnchanged _ old new = IsRecovered old new
+
+-- How many pages the places of version 1 may take at most as they are put into the new map: each a page for every level of it, of which there
+-- are 256 at most, and one for a new root.
+abbrev pub most_carried : ℕ → ℕ
+most_carried live = 257 * live
+
+-- The pages that the disk has room for beside those counted are no more than the image's places may take as they are carried over, nor are
+-- they with the image's free pages added.
+abbrev pub LacksRoomToCarry : ℕ → Image → Type 0
+LacksRoomToCarry room image =
+    let held = contents_held image in
+    let most = most_carried held.block.head.live in
+    IsRoomAtMost most room held.block.counted × ArePagesAtMost most room held.pages held.block.counted held.block.first_free

@@ -4,7 +4,6 @@ ghost use Rattle.std.specs.List.{AllByRecursion};
 ghost use Rattle.disk_model.specs.World.{LeavesOnly};
 ghost use Rattle.disk_model.specs.World as worlds;
 ghost use Rattle.page_face.specs.Causes.{Rose};
-ghost use Rattle.page_face.specs.FreeList.{IsFreeList};
 ghost use Rattle.page_store.specs.Store.{Rests};
 ghost use Rattle.place_values.specs.State.{Contents};
 ghost use Rattle.place_values.specs.Update.{NamesText, effect_of};
@@ -13,7 +12,7 @@ ghost use Rattle.irtree_engine.specs.Changes.{block_with};
 ghost use Rattle.irtree_engine.specs.Holding.{HoldsState};
 ghost use Rattle.irtree_engine.specs.Updates.{LeavesOneOf, LeavesAllOrNone, StandsForOutcome, IsUpdateFault, IsCommitFault, IsDueTo, IsAtLimit, IsLater, LacksPages, LacksRoom, most_takes, state_after_all};
 
-use crate::room::ends_within;
+use crate::room::want_room;
 use crate::{Engine, EngineFault, change};
 use disk_model::Station;
 use page_face::{Damage, Head, PageFault, Pages, Rule};
@@ -97,7 +96,9 @@ impl<'d, D: Station> Engine<'d, D> {
             update,
         ) {
             Ok(applied) => applied,
-            Err(EngineFault::NoRoom) => return Err(want_room(&mut self.store, counted, 1)),
+            Err(EngineFault::NoRoom) => {
+                return Err(want_room(&mut self.store, counted, takes_for(1, counted)));
+            }
             Err(fault) => {
                 self.store.abandon();
                 return Err(fault);
@@ -167,7 +168,7 @@ impl<'d, D: Station> Engine<'d, D> {
         ) {
             Ok(()) => {}
             Err(EngineFault::NoRoom) => {
-                return Err(want_room(&mut self.store, counted, updates.len()));
+                return Err(want_room(&mut self.store, counted, takes_for(updates.len(), counted)));
             }
             Err(fault) => {
                 self.store.abandon();
@@ -215,39 +216,6 @@ fn begin<'d, D: Station>(
     match store.allow(takes) {
         Ok(()) => Ok(()),
         Err(_) => Err(EngineFault::Memory),
-    }
-}
-
-// Why a change stops after a take found no page, if so many pages were counted before the change. It is `NoRoom` only if the free list ends
-// within the pages that the change was still allowed to take, and else `Memory` or `Disk`. Drops the change.
-fn want_room<'d, D: Station>(store: &mut Store<'d, D>, counted: u32, updates: usize) -> EngineFault
-    requires few { updates ≤ 10000 }
-    requires more { counted ≤ store.old.current.counted }
-    requires within { store.old.current.counted ≤ counted + most_takes updates counted }
-    ensures same_loan { store.new.disk.ghost_name ≡ store.old.disk.ghost_name }
-    ensures current { store.new.current ≡ store.old.last }
-    ensures last { store.new.last ≡ store.old.last }
-    ensures clean { store.new.overlay.entries ≡ [] }
-    ensures cause { (result ≡ EngineFault.NoRoom) ⊎ (result ≡ EngineFault.Memory) ⊎ (result ≡ EngineFault.Disk) }
-    ensures disk { result ≡ EngineFault.Disk → worlds.Rose (D.world store.old.disk.now).faults (D.world store.new.disk.now).faults }
-    ensures stays { result ≢ EngineFault.Disk → (D.world store.new.disk.now).faults ≡ (D.world store.old.disk.now).faults }
-    ensures free_left { result ≡ EngineFault.NoRoom → (free : List ℕ)
-        → IsFreeList (⟦<Store<'d, D> as Pages>⟧.pages store.new) store.new.current.counted store.new.current.first_free free
-        → store.old.current.counted + length free ≤ counted + most_takes updates counted }
-    ensures rests { IsTrue D.readable → Rests (D.world store.old.disk.now) (D.world store.new.disk.now) }
-    ensures silent { IsTrue D.readable → (D.world store.new.disk.now).said ≡ (D.world store.old.disk.now).said }
-    ensures later { (D.world store.old.disk.now).faults ≤ (D.world store.new.disk.now).faults }
-    ensures sink { (D.world store.new.disk.now).sink_faults ≡ (D.world store.old.disk.now).sink_faults }
-    ensures refused { store.new.refused ≡ store.old.refused }
-    ensures room { D.room_of store.new.disk.now ≡ D.room_of store.old.disk.now }
-    ensures stopped { store.new.stopped ≡ store.old.stopped }
-{
-    let more = store.counted() - counted;
-    store.abandon();
-    match ends_within(store, takes_for(updates, counted) - more as u64) {
-        Ok(true) => EngineFault::NoRoom,
-        Err(PageFault::Disk) => EngineFault::Disk,
-        _ => EngineFault::Memory,
     }
 }
 

@@ -1,22 +1,28 @@
 //! Carrying a store of version 1 over to version 2.
-ghost use Rattle.std.specs.Prelude.{◌≡◌, ◌≢◌, ◌≤◌, ℕ, Some, None, [], false, length, IsTrue, IfOk, IfErr, OnOk, IsErrOf};
+ghost use Rattle.std.specs.Prelude.{◌≡◌, ◌≢◌, ◌≤◌, ℕ, Some, None, [], false, length, IsTrue, IfOk, IfErr, OnOk, OnErr, IsErrOf};
 ghost use Rattle.disk_model.specs.World.{LeavesOnly, Rose};
-ghost use Rattle.page_journal.specs.Record.{IsBad, IsReady};
+ghost use Rattle.page_journal.specs.Record.{IsBad, IsReady, StandsAlike};
+ghost use Rattle.page_store.specs.Store.{Rests};
 ghost use Rattle.place_values.specs.State.{Contents};
 ghost use Rattle.store_model.specs.Stands.{PagesStand};
 ghost use Rattle.store_upgrade.specs.Version1.{StandsVersion1};
 ghost use Rattle.irtree_engine.specs.Changes.{block_with};
 ghost use Rattle.irtree_engine.specs.Holding.{HoldsState, IsForeign, LeavesState};
-ghost use Rattle.irtree_engine.specs.Upgrades.{IsCarryFault, IsOpenableVersion1, IsOpenedFor, IsReadyVersion1, IsUpgradeDamage, IsUpgradeFault, IsVersion1Damage, IsVersion1Fault, LeavesEither, StandsForNeither, StandsForNoneVersion1, fault_of_opening};
+ghost use Rattle.irtree_engine.specs.Opening.{IsRecovered};
+ghost use Rattle.irtree_engine.specs.Upgrades.{IsOpenableVersion1, IsOpenedFor, IsReadyVersion1, IsUpgradeDamage, IsUpgradeFault, IsVersion1Damage, IsVersion1Fault, LacksRoomToCarry, LeavesEither, LeavesUnchanged, StandsForNeither, StandsForNoneVersion1, fault_of_opening};
 ghost use Rattle.irtree_engine.specs.Updates.{IsCommitFault};
 
 use crate::EngineFault;
 use crate::opening::recover_superblock;
+use crate::room::want_room;
 use disk_model::Station;
-use page_face::{Damage, Head, Pages, Rule};
+use page_face::{Damage, Head, PageFault, Pages, Rule};
 use page_store::{OpenFault, Store, recover_version1};
 use std::alloc::Global;
 use store_upgrade::carry_over;
+
+// A put into the new place map takes at most a page for each level, of which there are 256, and one for a new root.
+const TAKES_A_PLACE: u64 = 257;
 
 /// Carries a store of version 1 over to version 2: each place, with the empty label, and the next serial and the update number stay.
 /// Returns the number of live places. For a store of version 2, also an empty one, returns `None`, and what it holds stays.
@@ -25,8 +31,9 @@ use store_upgrade::carry_over;
 /// its place before the call returns. The cache holds as many pages as `cache`, or none if memory runs out for it.
 ///
 /// Refuses `NotAStore`, `BadJournal` and `Damaged` with the rule Head at page 0 as [`recover_superblock`] does; `Damaged` by another rule,
-/// never if the image holds a state; `NoRoom`, only for a store of version 1; `Disk`; `Memory`. After `NoRoom`, `Memory` or `Damaged` the
-/// store is as before, with its journal recovered.
+/// never if the image holds a state; `Disk`; `Memory`. Refuses `NoRoom` only for a store of version 1. Then the free pages, and those that
+/// the disk has room for beside the pages counted, are together no more than 257 for each place. After a bad journal nothing was written.
+/// After every other refusal but `Disk` the journal is recovered, and the store has the pages that it had before, also at every crash.
 ///
 /// Costs two recoveries, and for each place a look-up and a removal in the old place map and a put into the new one. Then it costs a commit
 /// and a checkpoint of all pages of both maps, which are in memory until then.
@@ -54,7 +61,14 @@ pub fn upgrade<D: Station>(
     ensures damaged { IsTrue D.readable → (damage : Damage) → IsErrOf result (EngineFault.Damaged damage)
         → StandsForNeither (D.world disk.old).seen × IsUpgradeDamage damage (D.world disk.old).seen }
     ensures room_left { IsTrue D.readable → IsErrOf result EngineFault.NoRoom → IsOpenableVersion1 (D.world disk.old).seen }
+    ensures lacks { IsTrue D.readable → IsErrOf result EngineFault.NoRoom → LacksRoomToCarry (D.room_of disk.new) (D.world disk.new).seen }
     ensures causes { IfErr result IsUpgradeFault }
+
+    // What is refused is left alone, and so is every image that isn't opened by version 1.
+    ensures left { IsTrue D.readable → IfErr result (λ fault. LeavesUnchanged fault (D.world disk.old) (D.world disk.new)) }
+    ensures alike { IsTrue D.readable → result ≢ Err EngineFault.Disk → OnErr result (LeavesOnly (D.world disk.old) (D.world disk.new) (StandsAlike (D.world disk.old))) }
+    ensures unopened { IsTrue D.readable → ¬ IsOpenableVersion1 (D.world disk.old).seen → LeavesOnly (D.world disk.old) (D.world disk.new) (StandsAlike (D.world disk.old)) }
+    ensures room { D.room_of disk.new ≡ D.room_of disk.old }
 
     ensures silent { IsTrue D.readable → (D.world disk.new).said ≡ (D.world disk.old).said }
     ensures disk { IsErrOf result EngineFault.Disk → Rose (D.world disk.old).faults (D.world disk.new).faults }
@@ -89,6 +103,11 @@ fn upgrade_version1<D: Station>(alloc: Global, disk: &mut D, cache: u32) -> Resu
     ensures damaged { IsTrue D.readable → (damage : Damage) → IsErrOf result (EngineFault.Damaged damage)
         → StandsForNoneVersion1 (D.world disk.old).seen × IsVersion1Damage damage (D.world disk.old).seen }
     ensures room_left { IsTrue D.readable → IsErrOf result EngineFault.NoRoom → IsOpenableVersion1 (D.world disk.old).seen }
+    ensures lacks { IsTrue D.readable → IsErrOf result EngineFault.NoRoom → LacksRoomToCarry (D.room_of disk.new) (D.world disk.new).seen }
+    ensures left { IsTrue D.readable → result ≢ Err EngineFault.Disk → OnErr result (IsRecovered (D.world disk.old) (D.world disk.new)) }
+    ensures alike { IsTrue D.readable → result ≢ Err EngineFault.Disk → OnErr result (LeavesOnly (D.world disk.old) (D.world disk.new) (StandsAlike (D.world disk.old))) }
+    ensures unopened { IsTrue D.readable → ¬ IsOpenableVersion1 (D.world disk.old).seen → LeavesOnly (D.world disk.old) (D.world disk.new) (StandsAlike (D.world disk.old)) }
+    ensures room { D.room_of disk.new ≡ D.room_of disk.old }
     ensures causes { IsTrue D.readable → IfErr result IsVersion1Fault }
     ensures faults { IfErr result IsUpgradeFault }
     ensures silent { IsTrue D.readable → (D.world disk.new).said ≡ (D.world disk.old).said }
@@ -135,7 +154,10 @@ fn carry_store<'d, D: Station>(store: &mut Store<'d, D>) -> Result<u32, EngineFa
     ensures no_false_damage { IsTrue D.readable → (state : Contents) → StandsVersion1 (D.world store.old.disk.now).seen state
         → (damage : Damage) → ¬ IsErrOf result (EngineFault.Damaged damage) }
     ensures no_head { IsTrue D.readable → (damage : Damage) → IsErrOf result (EngineFault.Damaged damage) → damage.rule ≢ Rule.Head }
-    ensures causes { IfErr result IsCarryFault }
+    ensures causes { IfErr result IsVersion1Fault }
+    ensures lacks { IsTrue D.readable → IsErrOf result EngineFault.NoRoom → LacksRoomToCarry (D.room_of store.new.disk.now) (D.world store.new.disk.now).seen }
+    ensures rests { IsTrue D.readable → result ≢ Err EngineFault.Disk → OnErr result (Rests (D.world store.old.disk.now) (D.world store.new.disk.now)) }
+    ensures room { D.room_of store.new.disk.now ≡ D.room_of store.old.disk.now }
     ensures silent { IsTrue D.readable → (D.world store.new.disk.now).said ≡ (D.world store.old.disk.now).said }
     ensures disk { IsErrOf result EngineFault.Disk → Rose (D.world store.old.disk.now).faults (D.world store.new.disk.now).faults }
     ensures stays { result ≢ Err EngineFault.Disk → (D.world store.new.disk.now).faults ≡ (D.world store.old.disk.now).faults }
@@ -144,7 +166,16 @@ fn carry_store<'d, D: Station>(store: &mut Store<'d, D>) -> Result<u32, EngineFa
     ensures at_rest { IsTrue D.readable → OnOk result (IsReady 0 (D.world store.new.disk.now)) }
 {
     let mut head = store.head();
-    carry_over(store, &mut head)?;
+    let counted = store.counted();
+    let most = TAKES_A_PLACE * u64::from(head.live);
+    match carry_over(store, &mut head) {
+        Ok(()) => {}
+        Err(PageFault::NoRoom) => return Err(want_room(store, counted, most)),
+        Err(PageFault::Damaged(damage)) => return Err(EngineFault::Damaged(damage)),
+        Err(PageFault::Memory) => return Err(EngineFault::Memory),
+        Err(PageFault::Disk) => return Err(EngineFault::Disk),
+        Err(PageFault::Stopped) => return Err(EngineFault::Stopped),
+    }
     commit_carried(store, &head)?;
     Ok(head.live)
 }
@@ -160,6 +191,8 @@ fn commit_carried<'d, D: Station>(store: &mut Store<'d, D>, head: &Head) -> Resu
         → PagesStand (block_with store.old.current.counted store.old.current.first_free head.now) (⟦<Store<'d, D> as Pages>⟧.pages store.old) state
         → LeavesOnly (D.world store.old.disk.now) (D.world store.new.disk.now) (LeavesEither state (D.world store.old.disk.now)) }
     ensures causes { IfErr result IsCommitFault }
+    ensures untouched { result ≢ Err EngineFault.Disk → OnErr result (store.new.disk ≡ store.old.disk) }
+    ensures room { D.room_of store.new.disk.now ≡ D.room_of store.old.disk.now }
     ensures silent { IsTrue D.readable → (D.world store.new.disk.now).said ≡ (D.world store.old.disk.now).said }
     ensures disk { IsErrOf result EngineFault.Disk → Rose (D.world store.old.disk.now).faults (D.world store.new.disk.now).faults }
     ensures stays { result ≢ Err EngineFault.Disk → (D.world store.new.disk.now).faults ≡ (D.world store.old.disk.now).faults }

@@ -6,11 +6,11 @@ use Rattle.disk_model.specs.declared.disk.Area.TheVariants.{Journal}
 use Rattle.disk_model.specs.declared.disk.Failed.{Failed}
 use Rattle.disk_model.proofs.Moments.{then, within}
 use Rattle.page_face.specs.declared.fault.Damage.{Damage}
-use Rattle.page_journal.specs.Record.{IsBad, IsJournal, IsReady, journal_end}
+use Rattle.page_journal.specs.Record.{IsBad, IsJournal, IsReady, StandsAlike, journal_end}
 use Rattle.place_values.specs.State.{Contents}
 use Rattle.store_model.specs.Stands.{Stands}
 use Rattle.irtree_engine.specs.Holding.{HoldsState, IsForeign, LeavesState}
-use Rattle.irtree_engine.specs.Upgrades.{IsOpenableVersion1, IsOpenedFor, IsUpgradeDamage, IsUpgradeFault, LeavesEither, StandsEither, StandsForNeither}
+use Rattle.irtree_engine.specs.Upgrades.{IsOpenableVersion1, IsOpenedFor, IsUpgradeDamage, IsUpgradeFault, LeavesEither, LeavesUnchanged, StandsEither, StandsForNeither}
 use Rattle.irtree_engine.specs.declared.fault.EngineFault.{EngineFault}
 use Rattle.irtree_engine.specs.declared.fault.EngineFault.TheVariants as engine
 use Rattle.run_outcome.specs.Causes.{end_of_engine}
@@ -21,7 +21,7 @@ use Rattle.run_outcome.specs.declared.ended.LimitFault.TheVariants as limits
 use Rattle.run_outcome.specs.declared.ended.StoreFault.TheVariants as stores
 use Rattle.command_words.specs.Job.{AskFor, Asked, reading}
 use Rattle.command_words.specs.declared.job.Action.TheVariants.{Upgrade}
-use Rattle.irtree_top.specs.Upgrade.{AskForJob, AskForNoUpgrade, AskForUpgrade, EndsUpgrade, IsBrokenForUpgrade, IsCompleteUpgrade, IsLineEnd, IsOpenableEither, IsUpgradeEnd, IsUpgradeOpened, LeavesPresent, LeavesUpgraded, upgrade_line}
+use Rattle.irtree_top.specs.Upgrade.{AskForJob, AskForNoUpgrade, AskForUpgrade, EndsUpgrade, IsBrokenForUpgrade, IsCompleteUpgrade, IsLineEnd, IsOpenableEither, IsUpgradeEnd, IsUpgradeOpened, LeavesAloneByUpgrade, LeavesPresent, LeavesUpgraded, upgrade_line}
 use Rattle.irtree_top.specs.Run.{IsSettled}
 use Rattle.irtree_top.proofs.Fronts.{none-said}
 
@@ -208,6 +208,45 @@ module _ (readable : Bool) (old new : World) where
   refusal-complete ends.Source is t state stands disk = absurd is
   refusal-complete ends.Sink is t state stands disk = absurd is
   refusal-complete (ends.Input fault) is t state stands disk = absurd is
+
+-- a refused upgrade leaves the store alone
+pub refusal-left : (old new : World) (fault : EngineFault) → IsUpgradeFault fault → LeavesUnchanged fault old new → ((fault ≡ engine.Disk → ⊥) → LeavesOnly old new (StandsAlike old)) → new.said ≡ old.said
+    → LeavesAloneByUpgrade (end_of_engine fault) old new
+refusal-left old new engine.Disk causes left alike said = tt
+refusal-left old new engine.NotAStore causes left alike said = record { recovered = left; alike = alike (λ e. cc); said = said }
+refusal-left old new (engine.BadJournal at) causes left alike said = left
+refusal-left old new (engine.Damaged damage) causes left alike said = record { recovered = left; alike = alike (λ e. cc); said = said }
+refusal-left old new engine.NoRoom causes left alike said = record { recovered = left; alike = alike (λ e. cc); said = said }
+refusal-left old new engine.Memory causes left alike said = tt
+refusal-left old new engine.Full causes left alike said = absurd causes
+refusal-left old new engine.Worn causes left alike said = absurd causes
+refusal-left old new engine.Stopped causes left alike said = absurd causes
+refusal-left old new engine.Version1 causes left alike said = absurd causes
+
+-- where no room was left, the upgrade was refused for that
+pub room-refusal : (fault : EngineFault) → IsUpgradeFault fault → end_of_engine fault ≡ ends.Limit limits.NoRoom → fault ≡ engine.NoRoom
+room-refusal engine.NoRoom causes is = refl
+room-refusal engine.Disk causes is = absurd (cc)
+room-refusal engine.NotAStore causes is = absurd (cc)
+room-refusal (engine.BadJournal at) causes is = absurd (cc)
+room-refusal (engine.Damaged damage) causes is = absurd (cc)
+room-refusal engine.Memory causes is = absurd (cc)
+room-refusal engine.Full causes is = absurd causes
+room-refusal engine.Worn causes is = absurd causes
+room-refusal engine.Stopped causes is = absurd causes
+room-refusal engine.Version1 causes is = absurd causes
+
+-- an end of the printing leaves nothing to say of a refusal
+pub ended-left : (end : Ended) (old new : World) → IsLineEnd end → LeavesAloneByUpgrade end old new
+ended-left ends.Memory old new is = tt
+ended-left ends.Sink old new is = tt
+ended-left ends.Done old new is = absurd is
+ended-left ends.Words old new is = absurd is
+ended-left ends.Disk old new is = absurd is
+ended-left ends.Source old new is = absurd is
+ended-left (ends.Input fault) old new is = absurd is
+ended-left (ends.Store fault) old new is = absurd is
+ended-left (ends.Limit fault) old new is = absurd is
 
 -- ---- an end that no fault causes
 

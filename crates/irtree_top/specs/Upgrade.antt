@@ -1,6 +1,6 @@
 -- What an upgrade of a store says, what it leaves, and how it ends.
 use Rattle.std.specs.Prelude.{◌≡◌, ◌≢◌, ◌⊎◌, ◌≤◌, ℕ, List, [], ◌∷◌, ◌++◌, length, Option, Some, None, Result, Err, codes, decimal}
-use Rattle.disk_model.specs.World.{World, Image, Rose}
+use Rattle.disk_model.specs.World.{World, Image, Rose, WritesNothing}
 use Rattle.page_journal.specs.Record.{IsBad}
 use Rattle.place_values.specs.State.{Contents}
 use Rattle.store_model.specs.Stands.{Stands}
@@ -8,6 +8,7 @@ use Rattle.store_upgrade.specs.Version1.{StandsVersion1}
 use Rattle.irtree_engine.specs.Holding.{HoldsState, IsForeign, IsOpenable}
 use Rattle.irtree_engine.specs.Upgrades.{IsOpenableVersion1, IsUpgradeDamage, StandsForNeither}
 use Rattle.run_outcome.specs.Said.{SaysFrontOf}
+use Rattle.irtree_top.specs.Run.{LeavesRecovered}
 use Rattle.run_outcome.specs.declared.ended.Ended.{Ended}
 use Rattle.run_outcome.specs.declared.ended.Ended.TheVariants as ends
 use Rattle.run_outcome.specs.declared.ended.LimitFault.TheVariants as limits
@@ -91,6 +92,23 @@ IsUpgradeOpened ends.Done image = IsOpenableEither image
 IsUpgradeOpened ends.Sink image = IsOpenableEither image
 IsUpgradeOpened (ends.Limit fault) image = IsOpenableVersion1 image
 IsUpgradeOpened _ image = Unit {0}
+
+-- ---- a store that is refused
+
+-- what a store that an upgrade refuses is left as: where its journal is bad, as it was, and else recovered
+abbrev pub LeavesStoreOfUpgrade : StoreFault → World → World → Type 0
+LeavesStoreOfUpgrade stores.NotAStore old new = LeavesRecovered old new
+LeavesStoreOfUpgrade (stores.BadJournal at) old new = WritesNothing old new
+LeavesStoreOfUpgrade (stores.Damaged damage) old new = LeavesRecovered old new
+LeavesStoreOfUpgrade stores.Version1 old new = ⊥
+
+-- a store that is refused is left alone, and so is one for which no room was left
+abbrev pub LeavesAloneByUpgrade : Ended → World → World → Type 0
+LeavesAloneByUpgrade (ends.Store fault) old new = LeavesStoreOfUpgrade fault old new
+LeavesAloneByUpgrade (ends.Limit fault) old new = LeavesRecovered old new
+LeavesAloneByUpgrade _ old new = Unit {0}
+
+-- ---- an upgrade that no fault ends
 
 -- how an upgrade ends where no count rose and the image stands for a state by either version
 abbrev pub IsCompleteUpgrade : Ended → Type 0

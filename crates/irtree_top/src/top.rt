@@ -5,14 +5,14 @@ ghost use Rattle.page_journal.specs.Record.{IsReady};
 ghost use Rattle.place_values.specs.State.{Contents};
 ghost use Rattle.store_upgrade.specs.Version1.{StandsVersion1};
 ghost use Rattle.irtree_engine.specs.Holding.{HoldsState, IsOpenable};
-ghost use Rattle.irtree_engine.specs.Upgrades.{StandsEither};
+ghost use Rattle.irtree_engine.specs.Upgrades.{LacksRoomToCarry, StandsEither};
 ghost use Rattle.run_outcome.specs.Asking.{AreAsking};
 ghost use Rattle.run_outcome.specs.Reading.{AreReading};
 ghost use Rattle.run_outcome.specs.Script.{script_lines};
 ghost use Rattle.run_outcome.specs.Turn.{Transcript, Done, Input};
 ghost use Rattle.irtree_top.specs.Run.{EndsBy, HoldsPrefix, IsLimitReached, IsBehindOpening, IsBroken, IsBrokenRule, IsCompleteEnd, IsInputEnd, IsLimitOf, IsSettled, IsUnreadEnd, IsWholeInput, LacksRoomFor, LeavesAlike, LeavesAlone, LeavesInput, OpensFew, SaysFront, SaysWhatWasRead, StopsAtLimit};
 ghost use Rattle.irtree_top.specs.Transcript.{IsTranscript};
-ghost use Rattle.irtree_top.specs.Upgrade.{AskForJob, AskForNoUpgrade, AskForUpgrade, EndsUpgrade, IsBrokenForUpgrade, IsCompleteUpgrade, IsUpgradeEnd, IsUpgradeOpened, LeavesPresent, LeavesUpgraded, SaysFrontOfUpgrade};
+ghost use Rattle.irtree_top.specs.Upgrade.{AskForJob, AskForNoUpgrade, AskForUpgrade, EndsUpgrade, IsBrokenForUpgrade, IsCompleteUpgrade, IsOpenableEither, IsUpgradeEnd, IsUpgradeOpened, LeavesAloneByUpgrade, LeavesPresent, LeavesUpgraded, SaysFrontOfUpgrade};
 ghost use Rattle.command_words.specs.Job.{Asked, AskFor, AreAccepted};
 
 use crate::serve::run_job;
@@ -45,7 +45,8 @@ use std::alloc::Global;
 ///   replies to the lines that are whole within the bytes it may have, of a load nothing.
 /// - `Limit(NoRoom)` if no page is left for an update or a batch. All that comes before its reply was printed, and the image holds the
 ///   state before it. The free pages of that image, and those that the disk has room for beside the pages counted, are then together no
-///   more than a commit is allowed to take. Of an upgrade only if page 0 is that of a store of version 1, and then nothing was printed.
+///   more than a commit is allowed to take. Of an upgrade only if page 0 is that of a store of version 1. Then nothing was printed, the
+///   store is of version 1 as before, and these pages are no more than 257 for each place.
 /// - `Limit(Full)` and `Limit(Worn)` only in a load or a make, if a batch meets that limit. The whole transcript was printed. The live
 ///   places or the update number of page 0, with the places of the text or those to be made added, reach the limit.
 /// - `Store` if the image at the start is no well-formed store. `NotAStore` if its page 0 is foreign; `Version1` if its page 0 begins with
@@ -53,7 +54,8 @@ use std::alloc::Global;
 ///   only if page 0 breaks it, or with another rule that is met after the opening. In a script without updates it names a page and a rule
 ///   that it breaks, as a query or a look at a key met it. A store that is refused as it is opened is left alone. With a bad journal it is
 ///   as it was. Else its journal is recovered, and it has the pages that it held before. An upgrade ends so if the image holds a state by
-///   neither version: `Damaged` also if page 0 begins with the magic of version 1 and breaks the rule Head, and `Version1` never.
+///   neither version: `Damaged` also if page 0 begins with the magic of version 1 and breaks the rule Head, and `Version1` never. It leaves
+///   the store as a store that is refused as it is opened, whatever is damaged.
 /// - `Source` if the source fails, after the replies to all lines that were read, and in a load with nothing printed; never in a make or an
 ///   upgrade.
 /// - `Disk`, `Sink` and `Memory` if one of them fails, after a prefix of the transcript's text, or of an upgrade's line.
@@ -157,6 +159,14 @@ pub fn run<S: Source, T: Station>(
     ensures upgrade_store { (asked : Asked) → AskForUpgrade (map string_bytes words.now) asked → (fault : StoreFault) → result ≡ Ended.Store fault
         → IsTrue T.readable → IsBrokenForUpgrade fault (T.world station.old).seen }
     ensures upgrade_opened { (asked : Asked) → AskForUpgrade (map string_bytes words.now) asked → IsTrue T.readable → IsUpgradeOpened result (T.world station.old).seen }
+    // No room is left only if the image has few free pages, and the disk has room for few more, by the number of its places.
+    ensures upgrade_lacks { (asked : Asked) → AskForUpgrade (map string_bytes words.now) asked → IsTrue T.readable → result ≡ Ended.Limit LimitFault.NoRoom
+        → LacksRoomToCarry (T.room_of station.new) (T.world station.new).seen }
+    // A store that is refused, or for which no room is left, is left alone. However the upgrade ends, an image that can't be opened holds what
+    // it held before.
+    ensures upgrade_left { (asked : Asked) → AskForUpgrade (map string_bytes words.now) asked → IsTrue T.readable → LeavesAloneByUpgrade result (T.world station.old) (T.world station.new) }
+    ensures upgrade_unopened { (asked : Asked) → AskForUpgrade (map string_bytes words.now) asked → IsTrue T.readable → ¬ IsOpenableEither (T.world station.old).seen
+        → LeavesAlike (T.world station.old) (T.world station.new) }
     // It reads no input, and ends by none.
     ensures upgrade_unread { (asked : Asked) → AskForUpgrade (map string_bytes words.now) asked → (source.new ≡ source.old) × IsUpgradeEnd result }
     ensures upgrade_rest { (asked : Asked) → AskForUpgrade (map string_bytes words.now) asked → result ≡ Ended.Done → IsTrue T.readable → IsReady 0 (T.world station.new) }

@@ -6,11 +6,12 @@ ghost use Rattle.place_values.specs.State.{Contents};
 ghost use Rattle.query_replies.specs.Written.{Adds};
 ghost use Rattle.store_upgrade.specs.Version1.{StandsVersion1};
 ghost use Rattle.irtree_engine.specs.Holding.{HoldsState};
-ghost use Rattle.irtree_engine.specs.Upgrades.{StandsEither};
+ghost use Rattle.irtree_engine.specs.Upgrades.{LacksRoomToCarry, StandsEither};
 ghost use Rattle.run_outcome.specs.Said.{SaysAll};
-ghost use Rattle.irtree_top.specs.Upgrade.{EndsUpgrade, HasLineCause, IsBrokenForUpgrade, IsCompleteUpgrade, IsLineEnd, IsUpgradeEnd, IsUpgradeOpened, LeavesPresent, LeavesUpgraded, SaysFrontOfUpgrade, upgrade_line};
+ghost use Rattle.irtree_top.specs.Run.{LeavesAlike};
+ghost use Rattle.irtree_top.specs.Upgrade.{EndsUpgrade, HasLineCause, IsBrokenForUpgrade, IsCompleteUpgrade, IsLineEnd, IsOpenableEither, IsUpgradeEnd, IsUpgradeOpened, LeavesAloneByUpgrade, LeavesPresent, LeavesUpgraded, SaysFrontOfUpgrade, upgrade_line};
 
-use crate::{Ended, StoreFault};
+use crate::{Ended, LimitFault, StoreFault};
 use disk_model::{Failed, Station};
 use irtree_engine::upgrade;
 use query_replies::{write_bytes, write_number};
@@ -85,6 +86,9 @@ pub(crate) fn run_upgrade<T: Station>(alloc: Global, cache: u32, station: &mut T
         → LeavesOnly (T.world station.old) (T.world station.new) (LeavesPresent None state (T.world station.old)) }
     ensures front { IsTrue T.readable → (state : Contents) → SaysFrontOfUpgrade state (T.world station.old) (T.world station.new) }
     ensures opened { IsTrue T.readable → IsUpgradeOpened result (T.world station.old).seen }
+    ensures lacks { IsTrue T.readable → result ≡ Ended.Limit LimitFault.NoRoom → LacksRoomToCarry (T.room_of station.new) (T.world station.new).seen }
+    ensures left { IsTrue T.readable → LeavesAloneByUpgrade result (T.world station.old) (T.world station.new) }
+    ensures unopened { IsTrue T.readable → ¬ IsOpenableEither (T.world station.old).seen → LeavesAlike (T.world station.old) (T.world station.new) }
     ensures broken { (fault : StoreFault) → result ≡ Ended.Store fault → IsTrue T.readable → IsBrokenForUpgrade fault (T.world station.old).seen }
     ensures ends { IsUpgradeEnd result }
     ensures complete { IsTrue T.readable → (state : Contents) → StandsEither state (T.world station.old).seen

@@ -9,7 +9,7 @@ use Rattle.irtree_engine.specs.Upgrades.{LeavesEither}
 use Rattle.irtree_engine.specs.declared.fault.EngineFault.{EngineFault}
 use Rattle.irtree_engine.specs.declared.fault.EngineFault.TheVariants.{Disk, NotAStore, BadJournal, Damaged}
 use Rattle.irtree_engine.proofs.Openings.{bad-journal}
-use Rattle.irtree_engine.proofs.Upgrades.{broken-version1, damage-back, foreign-version1, neither, openable-back, opening-version1, recovered-magic, recovered-version1}
+use Rattle.irtree_engine.proofs.Upgrades.{alike-further, broken-version1, damage-back, foreign-version1, neither, openable-back, opening-version1, recovered-further, recovered-magic, recovered-version1, refused-left}
 use Rattle.irtree_engine.proofs.upgrading.upgrade.Goals.{In-Err-Version1, After-upgrade_version1}
 use Rattle.irtree_engine.proofs.upgrading.upgrade.Given as given
 use Rattle.irtree_engine.proofs.upgrading.upgrade.Goals as goal
@@ -97,4 +97,24 @@ returns-in-Err-Damaged-clause-damaged g c = λ t damage is.
     let named : IsErrOf c.recover_superblock.result (Damaged damage) = cc in
     let broken = c.recover_superblock.ensures.broken_head t damage named in
     let told = c.recover_superblock.ensures.damaged damage named in
-    (neither old.seen (told.1 t) (λ state stands. broken-version1 old.seen state broken stands), inl (told.0, inl broken))
+    (neither old.seen (told.1 t) (λ state stands. broken-version1 old.seen state broken stands), inl (told.0, broken))
+
+pub returns-in-Err-upgrade_version1-clause-left : goal.returns-in-Err-upgrade_version1-clause-left
+returns-in-Err-upgrade_version1-clause-left g c = λ t.
+    let old = g.D.Disk.world c.args.disk.now in
+    let mid = g.D.Disk.world c.recover_superblock.new.disk in
+    let back = recovered g (goal.at.returns-in-Err-upgrade_version1-clause-left g c).In-Err-Version1 t in
+    refused-left old (g.D.Disk.world c.upgrade_version1.new.disk) c.in-Err-upgrade_version1.fault (c.in-Err-upgrade_version1.ensures.causes t)
+    (λ other. recovered-further old mid _ back (c.in-Err-upgrade_version1.ensures.left t (λ e. other (cc))))
+
+pub returns-in-Err-upgrade_version1-clause-alike : goal.returns-in-Err-upgrade_version1-clause-alike
+returns-in-Err-upgrade_version1-clause-alike g c = λ t other.
+    let back = recovered g (goal.at.returns-in-Err-upgrade_version1-clause-alike g c).In-Err-Version1 t in
+    alike-further (g.D.Disk.world c.args.disk.now) (g.D.Disk.world c.recover_superblock.new.disk) (g.D.Disk.world c.upgrade_version1.new.disk) back (c.recover_superblock.ensures.quiet t).said (c.recover_superblock.ensures.alike t)
+    (c.in-Err-upgrade_version1.ensures.alike t (λ e. other (cc)))
+
+pub returns-in-Err-upgrade_version1-clause-unopened : goal.returns-in-Err-upgrade_version1-clause-unopened
+returns-in-Err-upgrade_version1-clause-unopened g c = λ t closed.
+    let back = recovered g (goal.at.returns-in-Err-upgrade_version1-clause-unopened g c).In-Err-Version1 t in
+    alike-further (g.D.Disk.world c.args.disk.now) (g.D.Disk.world c.recover_superblock.new.disk) (g.D.Disk.world c.upgrade_version1.new.disk) back (c.recover_superblock.ensures.quiet t).said (c.recover_superblock.ensures.alike t)
+    (c.upgrade_version1.ensures.unopened t (λ opened. closed (openable-back (g.D.Disk.world c.args.disk.now) (g.D.Disk.world c.recover_superblock.new.disk) back opened)))

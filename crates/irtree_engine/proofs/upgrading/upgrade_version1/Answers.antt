@@ -67,3 +67,6 @@ returns-clause-damaged g c = λ t damage is.
       λ state stands. c.carry_store-end.ensures.no_false_damage t state (store-version1 g.D.Disk.world c.over-store.result.disk.now c.recover_version1.new.disk (g.D.Disk.world c.args.disk.now) state c.over-store.ensures.disk (recovered g at.In-Ok t) stands) damage is,
       inr (c.carry_store-end.ensures.no_head t damage is, openable g at.In-Ok t),
     )
+
+pub returns-clause-unopened : goal.returns-clause-unopened
+returns-clause-unopened g c = λ t closed. absurd (closed (openable g (goal.at.returns-clause-unopened g c).In-Ok t))

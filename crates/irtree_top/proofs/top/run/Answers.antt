@@ -220,6 +220,24 @@ returns-in-Ok-clause-upgrade_rest g c = λ asked wants. absurd (no-upgrade _ _ a
 pub returns-in-Ok-clause-upgrade_complete : goal.returns-in-Ok-clause-upgrade_complete
 returns-in-Ok-clause-upgrade_complete g c = λ asked wants. absurd (no-upgrade _ _ asked c.in-Ok.ensures.reading c.in_default.not-Upgrade wants)
 
+pub returns-in-Ok-run_job-clause-upgrade_lacks : goal.returns-in-Ok-run_job-clause-upgrade_lacks
+returns-in-Ok-run_job-clause-upgrade_lacks g c = λ asked wants. absurd (no-upgrade _ _ asked c.in-Ok.ensures.reading c.in_default.not-Upgrade wants)
+
+pub returns-in-Ok-run_job-clause-upgrade_left : goal.returns-in-Ok-run_job-clause-upgrade_left
+returns-in-Ok-run_job-clause-upgrade_left g c = λ asked wants. absurd (no-upgrade _ _ asked c.in-Ok.ensures.reading c.in_default.not-Upgrade wants)
+
+pub returns-in-Ok-run_job-clause-upgrade_unopened : goal.returns-in-Ok-run_job-clause-upgrade_unopened
+returns-in-Ok-run_job-clause-upgrade_unopened g c = λ asked wants. absurd (no-upgrade _ _ asked c.in-Ok.ensures.reading c.in_default.not-Upgrade wants)
+
+pub returns-in-Ok-clause-upgrade_lacks : goal.returns-in-Ok-clause-upgrade_lacks
+returns-in-Ok-clause-upgrade_lacks g c = λ asked wants. absurd (no-upgrade _ _ asked c.in-Ok.ensures.reading c.in_default.not-Upgrade wants)
+
+pub returns-in-Ok-clause-upgrade_left : goal.returns-in-Ok-clause-upgrade_left
+returns-in-Ok-clause-upgrade_left g c = λ asked wants. absurd (no-upgrade _ _ asked c.in-Ok.ensures.reading c.in_default.not-Upgrade wants)
+
+pub returns-in-Ok-clause-upgrade_unopened : goal.returns-in-Ok-clause-upgrade_unopened
+returns-in-Ok-clause-upgrade_unopened g c = λ asked wants. absurd (no-upgrade _ _ asked c.in-Ok.ensures.reading c.in_default.not-Upgrade wants)
+
 -- ---- an upgrade is no job
 
 pub returns-in-Upgrade-clause-done : goal.returns-in-Upgrade-clause-done
@@ -295,6 +313,15 @@ returns-in-Upgrade-clause-upgrade_store g c = λ asked wants. c.run_upgrade.ensu
 
 pub returns-in-Upgrade-clause-upgrade_opened : goal.returns-in-Upgrade-clause-upgrade_opened
 returns-in-Upgrade-clause-upgrade_opened g c = λ asked wants. c.run_upgrade.ensures.opened
+
+pub returns-in-Upgrade-clause-upgrade_lacks : goal.returns-in-Upgrade-clause-upgrade_lacks
+returns-in-Upgrade-clause-upgrade_lacks g c = λ asked wants. c.run_upgrade.ensures.lacks
+
+pub returns-in-Upgrade-clause-upgrade_left : goal.returns-in-Upgrade-clause-upgrade_left
+returns-in-Upgrade-clause-upgrade_left g c = λ asked wants. c.run_upgrade.ensures.left
+
+pub returns-in-Upgrade-clause-upgrade_unopened : goal.returns-in-Upgrade-clause-upgrade_unopened
+returns-in-Upgrade-clause-upgrade_unopened g c = λ asked wants. c.run_upgrade.ensures.unopened
 
 pub returns-in-Upgrade-clause-upgrade_unread : goal.returns-in-Upgrade-clause-upgrade_unread
 returns-in-Upgrade-clause-upgrade_unread g c = λ asked wants. (refl, c.run_upgrade.ensures.ends)

@@ -1,4 +1,4 @@
-use Rattle.std.proofs.Common.{◌≡◌, ℕ, sym, ap, subst, ◌∙◌}
+use Rattle.std.proofs.Common.{◌≡◌, ℕ, inl, sym, ap, subst, ◌∙◌}
 use Rattle.std.specs.Prelude.{IsErrOf, Option}
 use Rattle.disk_model.specs.World.{Rose}
 use Rattle.irtree_engine.specs.declared.fault.EngineFault.TheVariants as engine
@@ -6,9 +6,9 @@ use Rattle.run_outcome.specs.Causes.{end_of_engine}
 use Rattle.run_outcome.specs.Said.{SaysFrontOf}
 use Rattle.run_outcome.specs.declared.ended.Ended.{Ended}
 use Rattle.run_outcome.specs.declared.ended.Ended.TheVariants as ends
-use Rattle.irtree_top.specs.Upgrade.{EndsUpgrade, IsLineEnd, upgrade_line}
+use Rattle.irtree_top.specs.Upgrade.{EndsUpgrade, IsLineEnd, LeavesAloneByUpgrade, upgrade_line}
 use Rattle.irtree_top.proofs.Fronts.{none-said}
-use Rattle.irtree_top.proofs.Upgrades.{IsRefusal, either-left, either-opened, fault-refusal, line-complete, line-end, line-ends, line-front, line-opened, present-left, ready-said, refusal-complete, refusal-ends, refusal-opened, still-left, upgraded-left}
+use Rattle.irtree_top.proofs.Upgrades.{IsRefusal, either-left, either-opened, ended-left, fault-refusal, line-complete, line-end, line-ends, line-front, line-opened, present-left, ready-said, refusal-complete, refusal-ends, refusal-left, refusal-opened, room-refusal, still-left, upgraded-left}
 use Rattle.disk_model.proofs.Moments.{within}
 use Rattle.irtree_top.proofs.upgrading.run_upgrade.Given as given
 use Rattle.irtree_top.proofs.upgrading.run_upgrade.Goals.{After-ended_by, After-say_line}
@@ -59,6 +59,9 @@ returns-in-Ok-say_line-clause-front g c = λ told state.
 pub returns-in-Ok-say_line-clause-opened : goal.returns-in-Ok-say_line-clause-opened
 returns-in-Ok-say_line-clause-opened g c = λ told. either-opened c.in-Ok.count (g.T.Disk.world c.args.station.now).seen (c.in-Ok.ensures.opened told)
 
+pub returns-in-Ok-say_line-clause-unopened : goal.returns-in-Ok-say_line-clause-unopened
+returns-in-Ok-say_line-clause-unopened g c = λ told closed. absurd (closed (either-opened c.in-Ok.count (g.T.Disk.world c.args.station.now).seen (c.in-Ok.ensures.opened told)))
+
 pub returns-in-Ok-say_line-clause-at_rest : goal.returns-in-Ok-say_line-clause-at_rest
 returns-in-Ok-say_line-clause-at_rest g c = λ is told.
     ready-said (g.T.Disk.world c.upgrade.new.disk) (g.T.Disk.world c.say_line.new.station) (c.in-Ok.ensures.at_rest told) (c.say_line.ensures.quiet told) (c.say_line.ensures.said told).seen
@@ -104,6 +107,15 @@ pub returns-in-Err-say_line-clause-opened : goal.returns-in-Err-say_line-clause-
 returns-in-Err-say_line-clause-opened g c = λ told.
     let image = (g.T.Disk.world c.args.station.now).seen in
     line-opened c.in-Err-say_line.end image c.in-Err-say_line.ensures.ends (either-opened c.in-Ok.count image (c.in-Ok.ensures.opened told))
+
+pub returns-in-Err-say_line-clause-lacks : goal.returns-in-Err-say_line-clause-lacks
+returns-in-Err-say_line-clause-lacks g c = λ told is. absurd (subst IsLineEnd is c.in-Err-say_line.ensures.ends)
+
+pub returns-in-Err-say_line-clause-left : goal.returns-in-Err-say_line-clause-left
+returns-in-Err-say_line-clause-left g c = λ told. ended-left c.in-Err-say_line.end (g.T.Disk.world c.args.station.now) (g.T.Disk.world c.say_line.new.station) c.in-Err-say_line.ensures.ends
+
+pub returns-in-Err-say_line-clause-unopened : goal.returns-in-Err-say_line-clause-unopened
+returns-in-Err-say_line-clause-unopened g c = λ told closed. absurd (closed (either-opened c.in-Ok.count (g.T.Disk.world c.args.station.now).seen (c.in-Ok.ensures.opened told)))
 
 pub returns-in-Err-say_line-clause-broken : goal.returns-in-Err-say_line-clause-broken
 returns-in-Err-say_line-clause-broken g c = λ fault is told. absurd (subst IsLineEnd is c.in-Err-say_line.ensures.ends)
@@ -173,6 +185,25 @@ returns-in-Err-clause-front g c = λ told state. record {
 pub returns-in-Err-clause-opened : goal.returns-in-Err-clause-opened
 returns-in-Err-clause-opened g c = λ told.
     refusal-opened g.T.Disk.readable (g.T.Disk.world c.args.station.now) (g.T.Disk.world c.upgrade.new.disk) c.ended_by.result (refused g (goal.at.returns-in-Err-clause-opened g c).After-ended_by) told
+
+pub returns-in-Err-clause-lacks : goal.returns-in-Err-clause-lacks
+returns-in-Err-clause-lacks g c = λ told is.
+    let fault_is : c.in-Err.fault ≡ engine.NoRoom = room-refusal c.in-Err.fault c.in-Err.ensures.causes (sym c.ended_by.ensures ∙ is) in
+    let named : IsErrOf c.upgrade.result engine.NoRoom = cc in
+    c.upgrade.ensures.lacks told named
+
+pub returns-in-Err-clause-left : goal.returns-in-Err-clause-left
+returns-in-Err-clause-left g c = λ told.
+    let old = g.T.Disk.world c.args.station.now in
+    let new = g.T.Disk.world c.upgrade.new.disk in
+    subst (λ (e : Ended). LeavesAloneByUpgrade e old new) (sym c.ended_by.ensures)
+    (refusal-left old new c.in-Err.fault c.in-Err.ensures.causes (c.in-Err.ensures.left told) (λ other. c.in-Err.ensures.alike told (λ e. other (cc))) (c.upgrade.ensures.silent told))
+
+pub returns-in-Err-clause-unopened : goal.returns-in-Err-clause-unopened
+returns-in-Err-clause-unopened g c = λ told closed. record {
+  alike = c.upgrade.ensures.unopened told (λ opened. closed (inl opened));
+  said = c.upgrade.ensures.silent told;
+}
 
 pub returns-in-Err-clause-broken : goal.returns-in-Err-clause-broken
 returns-in-Err-clause-broken g c = λ fault is told. (refused-by g (goal.at.returns-in-Err-clause-broken g c).After-ended_by (ends.Store fault) is).1 told
