@@ -1,10 +1,12 @@
 //! Tests of the crates of pages: cache, journal, store, maps of pages, and the tables of places and words.
 //!
-//! Each module tests the crate of its name; `paged_map_tests` also reaches the B+-tree's crates.
+//! Each module tests the crate of its name. `paged_map_tests` also reaches the B+-tree's crates, and `map_check_tests` tests `page_walks`.
 #![tactic(auto)]
 
 #[cfg(test)]
 mod buffer_pool_tests;
+#[cfg(test)]
+mod map_check_tests;
 #[cfg(test)]
 mod page_cache_tests;
 #[cfg(test)]

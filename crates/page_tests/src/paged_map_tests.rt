@@ -3,7 +3,7 @@ use page_face::{Damage, MemoryPages, Page, PageFault, Pages, Rule, free_next};
 use paged_map::{Layout, PagedMap};
 
 // Rows of 1,020 bytes: a leaf has two to four of them.
-struct Wide;
+pub(crate) struct Wide;
 
 impl Layout for Wide {
     ghost use Rattle.std.specs.Prelude.{refl};
@@ -63,7 +63,7 @@ fn write_four(pages: &mut MemoryPages) -> Result<(), PageFault> {
 }
 
 // Takes three pages, and writes the map of four rows there.
-fn take_four(pages: &mut MemoryPages) -> Result<(), PageFault> {
+pub(crate) fn take_four(pages: &mut MemoryPages) -> Result<(), PageFault> {
     for _ in 0..3 {
         pages.take()?;
     }
@@ -121,9 +121,12 @@ fn rows_are_found_by_key_and_in_order(rt: HostRuntime) {
     }
 }
 
-// Bytes of the map of four rows that are changed, by page and place, and the page and the rule that are then named.
+// A byte that is changed: its page, its place there, and the new byte.
+pub(crate) type Change = (u32, usize, u8);
+
+// Bytes of the map of four rows that are changed, and the page and the rule that are then named.
 struct Broken {
-    changes: &'static [(u32, usize, u8)],
+    changes: &'static [Change],
     page: u32,
     rule: Rule,
 }
@@ -173,11 +176,8 @@ static BROKEN: [Broken; 7] = [
     },
 ];
 
-// Looks up key 2 once these bytes of the map of four rows are changed.
-fn look_up_changed(
-    pages: &mut MemoryPages,
-    changes: &[(u32, usize, u8)],
-) -> Result<Option<(u32, u8)>, PageFault> {
+// Writes the map of four rows with these bytes changed.
+pub(crate) fn change_four(pages: &mut MemoryPages, changes: &[Change]) -> Result<(), PageFault> {
     write_four(pages)?;
     for (page, at, byte) in changes {
         let mut bytes = pages.read(*page)?;
@@ -186,6 +186,15 @@ fn look_up_changed(
         }
         pages.write(*page, &bytes)?;
     }
+    Ok(())
+}
+
+// Looks up key 2 once these bytes of the map of four rows are changed.
+fn look_up_changed(
+    pages: &mut MemoryPages,
+    changes: &[Change],
+) -> Result<Option<(u32, u8)>, PageFault> {
+    change_four(pages, changes)?;
     look_up(pages, 3, 2)
 }
 

@@ -1,0 +1,4 @@
+pub mod Nodes
+pub mod Fans
+pub mod Children
+pub mod Roots

@@ -1,0 +1,4 @@
+pub mod Beneath
+pub mod Leaves
+pub mod Maps
+pub mod Walks

@@ -1,0 +1,3 @@
+pub mod Misuses
+pub mod Meetings
+pub mod Chains

@@ -1,0 +1,22 @@
+use Rattle.std.proofs.Common.{arith, ℕ, ◌<◌, List, length, get_or, refl}
+use Rattle.page_face.specs.FreeList.{PageMap}
+use Rattle.row_check.specs.Agreement.{IsNodePage}
+use Rattle.row_check.proofs.Rights.{sound-on, node-wrong_on, node-page_on, all-at, first-wrong}
+use Rattle.row_check.proofs.node.check_words.Goals as goal
+
+pub returns-in-Err-clause-damaged : goal.returns-in-Err-clause-damaged
+returns-in-Err-clause-damaged g c = λ entries sound nodes damage e.
+    let p = g.P.Pages in
+    let f = c.loop-page.invariant.frame in
+    let pages : PageMap = p.pages c.args.pages.now in
+    let pages' : PageMap = p.pages c.loop-page.pages in
+    let count : ℕ = p.count c.args.pages.now in
+    let count' : ℕ = p.count c.loop-page.pages in
+    let list : List ℕ = c.args.list.now in
+    let at : ℕ = c.loop-page.page-index in
+    let page : ℕ = get_or list at 0 in
+    let small : at < length list = omega arith in
+    first-wrong pages c.args.tree.now.rows entries.places list at page damage small refl (c.loop-page.invariant.right entries sound nodes)
+    (node-wrong_on pages pages' c.args.tree.now.rows entries.places page damage f.pages
+    (c.in-Err.ensures.damaged entries (sound-on pages pages' count count' c.args.tree.now.rows c.args.tables.now entries f.pages f.count sound)
+    (node-page_on pages pages' count count' page f.pages f.count (all-at (IsNodePage pages count) list at page small refl nodes)) damage e))

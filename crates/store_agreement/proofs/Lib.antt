@@ -1,0 +1,6 @@
+pub mod Held
+pub mod Inverse
+pub mod Ordered
+pub mod Places
+pub mod Runs
+pub mod Times

@@ -1,0 +1,9 @@
+pub mod Apart
+pub mod Damages
+pub mod Entries
+pub mod Impacts
+pub mod Joins
+pub mod Leaves
+pub mod Named
+pub mod Nodes
+pub mod Whole
