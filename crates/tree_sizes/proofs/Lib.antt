@@ -1,0 +1,4 @@
+pub mod Counts
+pub mod Few
+pub mod Many
+pub mod Sums
