@@ -24,12 +24,12 @@ use Rattle.tree_check.specs.Nodes.{chained, listed, pages_below, node_pages, tre
 use Rattle.row_check.specs.Agreement.{Placed, IsRight, AreRight}
 
 -- what holds of all of two lists, one after the other
-all-parts : (P : ℕ → Type 0) (xs ys : List ℕ) → AllByRecursion P (xs ++ ys) → AllByRecursion P xs × AllByRecursion P ys
+pub all-parts : (P : ℕ → Type 0) (xs ys : List ℕ) → AllByRecursion P (xs ++ ys) → AllByRecursion P xs × AllByRecursion P ys
 all-parts P [] ys a = (tt, a)
 all-parts P (x ∷ xs) ys a = let r = all-parts P xs ys a.1 in ((a.0, r.0), r.1)
 
 -- and of all of several lists
-all-chained : (P : ℕ → Type 0) (n : ℕ) (f : ℕ → List ℕ) → AllByRecursion P (chained n f) → (i : ℕ) → i < n → AllByRecursion P (f i)
+pub all-chained : (P : ℕ → Type 0) (n : ℕ) (f : ℕ → List ℕ) → AllByRecursion P (chained n f) → (i : ℕ) → i < n → AllByRecursion P (f i)
 unfolding chained
 all-chained P zero f a i l = absurd (omega arith)
 all-chained P (suc n) f a i l =

@@ -1,5 +1,5 @@
 -- When the words of a slot are right, and when they aren't.
-use Rattle.std.proofs.Common.{◌≡◌, ◌⊎◌, ℕ, zero, suc, ◌+◌, ◌<◌, ◌==◌, List, [], ◌∷◌, Option, Some, None, IfSome, take, length, get_or, arith, refl, sym, ap, ◌∙◌, subst, ⊎_elim, true≢false}
+use Rattle.std.proofs.Common.{◌≡◌, inl, inr, ℕ, zero, suc, ◌+◌, ◌<◌, ◌==◌, List, [], ◌∷◌, Option, Some, None, IfSome, take, length, get_or, arith, refl, sym, ap, ◌∙◌, subst, ⊎_elim, true≢false}
 use Rattle.std.specs.Prelude.{option_map}
 use Rattle.std.specs.List.{AllByRecursion}
 use Rattle.std.proofs.Math.Path.{fun_ext}
@@ -7,7 +7,7 @@ use Rattle.std.proofs.lemmas.Bool.{false≢true, cases_eq, ne_eqb}
 use Rattle.std.proofs.lemmas.Int.{ints}
 use Rattle.page_face.specs.FreeList.{PageMap}
 use Rattle.page_face.specs.declared.fault.Damage.{Damage}
-use Rattle.page_face.specs.declared.fault.Rule.TheVariants.{Row, Entry}
+use Rattle.page_face.specs.declared.fault.Rule.TheVariants.{Row}
 use Rattle.spatial_base.specs.Key.{Name, IsName, form_of}
 use Rattle.spatial_base.specs.Point.{Position, IsOnMap}
 use Rattle.spatial_base.specs.Rect.{IsRect, rect_of}
@@ -24,7 +24,7 @@ use Rattle.node_rows.specs.Impacts.{impact_in}
 use Rattle.store_tables.specs.declared.tables.Tables.{Tables}
 use Rattle.store_tables.specs.Entries.{Entries, place_of_key}
 use Rattle.store_tables.proofs.KeyLemmas.{form-same}
-use Rattle.row_check.specs.Agreement.{Placed, IsEntry, HasWords, IsRight, IsRightSlot, AreRight, AreSound, IsMissingIn, IsWrongSlot, IsWrong, IsFirstWrong, IsNodePage}
+use Rattle.row_check.specs.Agreement.{Placed, IsEntry, HasWords, IsRight, IsRightSlot, AreRight, AreSound, IsEntryIn, IsEntryAt, IsMissingIn, IsMissingAt, IsWrongSlot, IsWrong, IsFirstWrong, IsNodePage}
 use Rattle.row_check.proofs.Ascents.{Ascend, impacts-same, stored-ascend}
 
 -- entries of the same key are of one place
@@ -44,11 +44,15 @@ same-point p q a b e =
     let r : rect_of p ≡ rect_of q = same-rect (rect_of p) (rect_of q) (rect-is p a) (rect-is q b) (λ d l. ap (λ (f : ℕ → ℕ). f d) e) in
     λ i. record { x = (r i).west; y = (r i).south }
 
+-- the key's place is at the point
+abbrev pub place-entry : (places : Placed) (point : Position) (key : Name) (stored : Stored) → IsName key → place_of_key key places ≡ Some stored → stored.point ≡ point → IsEntry places (place_item point (form_of key))
+place-entry places point key stored name held at = record { key = key; stored = stored; name = name; held = held; is = ap (λ (p : Position). place_item p (form_of key)) (sym at) }
+
 -- the words are those of the place
 pub place-right : (places : Placed) (point : Position) (key : Name) (stored : Stored) (words : List (ℕ × ℕ)) → IsName key → place_of_key key places ≡ Some stored → stored.point ≡ point
     → words ≡ held_pairs stored → HasWords places (λ w. impact_in words w) (place_item point (form_of key))
 place-right places point key stored words name held at e = record {
-  entry = record { key = key; stored = stored; name = name; held = held; is = ap (λ (p : Position). place_item p (form_of key)) (sym at) };
+  entry = place-entry places point key stored name held at;
   words = λ w. ap (λ (ps : List (ℕ × ℕ)). impact_in ps w) e;
 }
 
@@ -89,12 +93,32 @@ item-right b places (suc level) impacts (Some (Place point key)) kind r = absurd
 item-right b places zero impacts (Some (Child rect page)) kind r = absurd (false≢true kind)
 item-right b places (suc level) impacts (Some (Child rect page)) kind r = r
 
+-- a place of a slot's content as an item of a node of its level
+pub entry-item : (places : Placed) (level : ℕ) (slot : Option Slot) → IfSome slot (λ s. is_place s ≡ (level == 0)) → IsEntryIn places slot → IsEntryAt places level (option_map item_of slot)
+entry-item places level None kind e = tt
+entry-item places zero (Some (Place point key)) kind e = e
+entry-item places (suc level) (Some (Place point key)) kind e = tt
+entry-item places zero (Some (Child rect page)) kind e = absurd (false≢true kind)
+entry-item places (suc level) (Some (Child rect page)) kind e = tt
+
+pub missing-item : (places : Placed) (level : ℕ) (slot : Option Slot) (damage : Damage) → IfSome slot (λ s. is_place s ≡ (level == 0)) → IsMissingIn places slot damage → IsMissingAt places level (option_map item_of slot) damage
+missing-item places level None damage kind m = m
+missing-item places zero (Some (Place point key)) damage kind m = m
+missing-item places (suc level) (Some (Place point key)) damage kind m = absurd (true≢false (kind ∙ ne_eqb (suc level) 0 (λ e. omega arith)))
+missing-item places level (Some (Child rect page)) damage kind m = absurd m
+
 -- a missing place keeps the slot from being right
-pub missing-wrong : (b : Bytes) (places : Placed) (impacts : ℕ → ℕ) (slot : Option Slot) (damage : Damage) → IsMissingIn places slot damage
-    → (damage ≡ record { page = 0; rule = Entry }) × (IsRightSlot b places impacts slot → ⊥)
-missing-wrong b places impacts None damage m = absurd m
-missing-wrong b places impacts (Some (Place point key)) damage m = (m.named, λ r. m.missing r.entry)
-missing-wrong b places impacts (Some (Child rect page)) damage m = absurd m
+missing-wrong : (b : Bytes) (places : Placed) (level : ℕ) (impacts : ℕ → ℕ) (item : Option Item) (damage : Damage) → IsMissingAt places level item damage → IsRight b places level impacts item → ⊥
+missing-wrong b places level impacts None damage m r = m
+missing-wrong b places zero impacts (Some x) damage m r = m.missing r.entry
+missing-wrong b places (suc level) impacts (Some x) damage m r = m
+
+-- a wrong slot keeps the rows of its node from being right
+pub wrong-apart : (pages : PageMap) (rows : ℕ) (places : Placed) (page : ℕ) (damage : Damage) → IsWrong pages rows places page damage → AreRight pages rows places page → ⊥
+wrong-apart pages rows places page damage w r = ⊎_elim
+    (λ bytes. bytes.wrong (r w.at w.within))
+    (λ missing. missing-wrong (bytes_in pages rows) places (level_in (pages page)) (λ v. bytes_in pages rows page v w.at) (slots_in (pages page) w.at) damage missing (r w.at w.within))
+    w.slot
 
 -- what is asked of the pages, over pages that are the same
 pub sound-on : (pages pages' : PageMap) (count count' rows : ℕ) (tables : Tables) (entries : Entries) → pages' ≡ pages → count' ≡ count → AreSound pages count rows tables entries → AreSound pages' count' rows tables entries
@@ -103,15 +127,22 @@ sound-on pages pages' count count' rows tables entries same many s =
 
 -- a slot is wrong: its words differ
 pub slot-wrong : (pages : PageMap) (rows : ℕ) (places : Placed) (page : ℕ) (bytes : List ℕ) (at : ℕ) (slot : Option Slot) (words : List (ℕ × ℕ)) (damage : Damage)
-    → (damage ≡ record { page = page; rule = Row }) ⊎ (damage ≡ record { page = 0; rule = Entry })
+    → damage ≡ record { page = page; rule = Row }
     → IfSome slot (λ s. is_place s ≡ (level_in bytes == 0)) → option_map item_of slot ≡ slots_in bytes at → ((w : ℕ) → impact_in words w ≡ bytes_in pages rows page w at)
-    → (IsRightSlot (bytes_in pages rows) places (λ w. impact_in words w) slot → ⊥) → IsWrongSlot pages rows places page bytes at damage
-slot-wrong pages rows places page bytes at slot words damage named kind item is apart = record {
+    → IsEntryIn places slot → (IsRightSlot (bytes_in pages rows) places (λ w. impact_in words w) slot → ⊥) → IsWrongSlot pages rows places page bytes at damage
+slot-wrong pages rows places page bytes at slot words damage named kind item is entry apart = inl (record {
   named = named;
+  entry = subst (λ (o : Option Item). IsEntryAt places (level_in bytes) o) item (entry-item places (level_in bytes) slot kind entry);
   wrong = λ r. apart (item-right (bytes_in pages rows) places (level_in bytes) (λ w. impact_in words w) slot kind
       (subst (λ (f : ℕ → ℕ). IsRight (bytes_in pages rows) places (level_in bytes) f (option_map item_of slot)) (sym (fun_ext is))
       (subst (λ (o : Option Item). IsRight (bytes_in pages rows) places (level_in bytes) (λ w. bytes_in pages rows page w at) o) (sym item) r)));
-}
+})
+
+-- a slot is wrong: its place is missing
+pub slot-missing : (pages : PageMap) (rows : ℕ) (places : Placed) (page : ℕ) (bytes : List ℕ) (at : ℕ) (slot : Option Slot) (damage : Damage)
+    → IfSome slot (λ s. is_place s ≡ (level_in bytes == 0)) → option_map item_of slot ≡ slots_in bytes at → IsMissingIn places slot damage → IsWrongSlot pages rows places page bytes at damage
+slot-missing pages rows places page bytes at slot damage kind item missing =
+    inr (subst (λ (o : Option Item). IsMissingAt places (level_in bytes) o damage) item (missing-item places (level_in bytes) slot damage kind missing))
 
 -- a slot is right
 pub slot-right : (pages : PageMap) (rows : ℕ) (places : Placed) (page : ℕ) (bytes : List ℕ) (at : ℕ) (slot : Option Slot) (words : List (ℕ × ℕ))
@@ -145,12 +176,15 @@ all-at P [] at page l is all = absurd (omega arith)
 all-at P (x ∷ xs) zero page l is all = subst P (sym is) all.0
 all-at P (x ∷ xs) (suc at) page l is all = all-at P xs at page (omega arith) is all.1
 
--- the node at a page isn't right, since a slot isn't
-pub node-wrong : (pages : PageMap) (rows : ℕ) (places : Placed) (page : ℕ) (bytes : List ℕ) (at : ℕ) (damage : Damage) → bytes ≡ pages page → at < 32 → IsWrongSlot pages rows places page bytes at damage
+-- a node has a wrong slot, and those before it are right
+pub node-wrong : (pages : PageMap) (rows : ℕ) (places : Placed) (page : ℕ) (bytes : List ℕ) (at : ℕ) (damage : Damage) → bytes ≡ pages page → at < 32
+    → ((i : ℕ) → i < at → IsRight (bytes_in pages rows) places (level_in bytes) (λ w. bytes_in pages rows page w i) (slots_in bytes i)) → IsWrongSlot pages rows places page bytes at damage
     → IsWrong pages rows places page damage
-node-wrong pages rows places page bytes at damage is small w = record {
-  named = w.named;
-  wrong = λ r. w.wrong (subst (λ (p : List ℕ). IsRight (bytes_in pages rows) places (level_in p) (λ v. bytes_in pages rows page v at) (slots_in p at)) (sym is) (r at small));
+node-wrong pages rows places page bytes at damage is small before w = record {
+  at = at;
+  within = small;
+  before = subst (λ (b : List ℕ). (i : ℕ) → i < at → IsRight (bytes_in pages rows) places (level_in b) (λ v. bytes_in pages rows page v i) (slots_in b i)) is before;
+  slot = subst (λ (b : List ℕ). IsWrongSlot pages rows places page b at damage) is w;
 }
 
 -- no word, where there is one
@@ -169,11 +203,11 @@ slot-right_on pages pages' rows places page bytes at slot words words' same list
     (subst (λ (ps : List (ℕ × ℕ)). IsRightSlot (bytes_in pages' rows) places (λ w. impact_in ps w) slot) list r))
 
 pub slot-wrong_on : (pages pages' : PageMap) (rows : ℕ) (places : Placed) (page : ℕ) (bytes : List ℕ) (at : ℕ) (slot : Option Slot) (words words' : List (ℕ × ℕ)) (damage : Damage) → pages' ≡ pages → words' ≡ words
-    → (damage ≡ record { page = page; rule = Row }) ⊎ (damage ≡ record { page = 0; rule = Entry })
+    → damage ≡ record { page = page; rule = Row }
     → IfSome slot (λ s. is_place s ≡ (level_in bytes == 0)) → option_map item_of slot ≡ slots_in bytes at → ((w : ℕ) → impact_in words w ≡ bytes_in pages rows page w at)
-    → (IsRightSlot (bytes_in pages' rows) places (λ w. impact_in words' w) slot → ⊥) → IsWrongSlot pages rows places page bytes at damage
-slot-wrong_on pages pages' rows places page bytes at slot words words' damage same list named kind item is apart =
-    slot-wrong pages rows places page bytes at slot words damage named kind item is
+    → IsEntryIn places slot → (IsRightSlot (bytes_in pages' rows) places (λ w. impact_in words' w) slot → ⊥) → IsWrongSlot pages rows places page bytes at damage
+slot-wrong_on pages pages' rows places page bytes at slot words words' damage same list named kind item is entry apart =
+    slot-wrong pages rows places page bytes at slot words damage named kind item is entry
     (λ r. apart (subst (λ (ps : List (ℕ × ℕ)). IsRightSlot (bytes_in pages' rows) places (λ w. impact_in ps w) slot) (sym list)
     (subst (λ (p : PageMap). IsRightSlot (bytes_in p rows) places (λ w. impact_in words w) slot) (sym same) r)))
 

@@ -75,21 +75,48 @@ pub record IsMissing (places : Placed) (x : Item) (damage : Damage) : Type 0 whe
   pub named : damage ≡ record { page = 0; rule = Entry }
   pub missing : IsEntry places x → ⊥
 
+-- a place in a slot is a place's entry
+abbrev pub IsEntryIn : Placed → Option Slot → Type 0
+IsEntryIn places None = Unit {0}
+IsEntryIn places (Some (Place point key)) = IsEntry places (place_item point (form_of key))
+IsEntryIn places (Some (Child rect page)) = Unit {0}
+
 -- the slot's place is missing
 abbrev pub IsMissingIn : Placed → Option Slot → Damage → Type 0
 IsMissingIn places None damage = ⊥
 IsMissingIn places (Some (Place point key)) damage = IsMissing places (place_item point (form_of key)) damage
 IsMissingIn places (Some (Child rect page)) damage = ⊥
 
--- The damage is of a slot of the node at a page, whose bytes these are: the rows' bytes there aren't right, or its place is missing.
-pub record IsWrongSlot (pages : PageMap) (rows : ℕ) (places : Placed) (page : ℕ) (bytes : List ℕ) (at : ℕ) (damage : Damage) : Type 0 where
-  pub named : (damage ≡ record { page = page; rule = Row }) ⊎ (damage ≡ record { page = 0; rule = Entry })
+-- an item of a node of this level is a place's entry, if the node is a leaf
+abbrev pub IsEntryAt : Placed → ℕ → Option Item → Type 0
+IsEntryAt places level None = Unit {0}
+IsEntryAt places zero (Some x) = IsEntry places x
+IsEntryAt places (suc level) (Some x) = Unit {0}
+
+-- the node is a leaf, and its item is no place's entry
+abbrev pub IsMissingAt : Placed → ℕ → Option Item → Damage → Type 0
+IsMissingAt places level None damage = ⊥
+IsMissingAt places zero (Some x) damage = IsMissing places x damage
+IsMissingAt places (suc level) (Some x) damage = ⊥
+
+-- The damage is Row at a page: the rows' bytes at a slot of its node aren't right, though the slot's item in a leaf is a place's entry. The
+-- node's bytes are these.
+pub record HasWrongBytes (pages : PageMap) (rows : ℕ) (places : Placed) (page : ℕ) (bytes : List ℕ) (at : ℕ) (damage : Damage) : Type 0 where
+  pub named : damage ≡ record { page = page; rule = Row }
+  pub entry : IsEntryAt places (level_in bytes) (slots_in bytes at)
   pub wrong : IsRight (bytes_in pages rows) places (level_in bytes) (λ w. bytes_in pages rows page w at) (slots_in bytes at) → ⊥
 
--- The damage is of the rows of a node at a page: they aren't right, or an item of the node, which is a leaf then, is no place's entry.
+-- the damage is of a slot of the node at a page: Row there if the rows' bytes aren't right, or Entry at page 0 if the slot's place is missing
+abbrev pub IsWrongSlot : PageMap → ℕ → Placed → ℕ → List ℕ → ℕ → Damage → Type 0
+IsWrongSlot pages rows places page bytes at damage =
+    HasWrongBytes pages rows places page bytes at damage ⊎ IsMissingAt places (level_in bytes) (slots_in bytes at) damage
+
+-- the damage is of the first slot of the node at a page that isn't right
 pub record IsWrong (pages : PageMap) (rows : ℕ) (places : Placed) (page : ℕ) (damage : Damage) : Type 0 where
-  pub named : (damage ≡ record { page = page; rule = Row }) ⊎ (damage ≡ record { page = 0; rule = Entry })
-  pub wrong : AreRight pages rows places page → ⊥
+  pub at : ℕ
+  pub within : at < 32
+  pub before : (i : ℕ) → i < at → IsRight (bytes_in pages rows) places (level_in (pages page)) (λ w. bytes_in pages rows page w i) (slots_in (pages page) i)
+  pub slot : IsWrongSlot pages rows places page (pages page) at damage
 
 -- The damage is of the first page of a list whose rows aren't right.
 pub record IsFirstWrong (pages : PageMap) (rows : ℕ) (places : Placed) (list : List ℕ) (damage : Damage) : Type 0 where

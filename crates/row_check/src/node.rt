@@ -85,8 +85,10 @@ fn check_node<P: Pages>(
 ///
 /// The list is that of a well-formed tree's pages, each after those below it. The rows' map is well formed, and the tables hold entries.
 ///
-/// Returns `Damaged` with `Row` at the first node whose rows aren't right, or with `Entry` at page 0 if a leaf's item isn't the place of
-/// its key. Returns `Disk`, `Stopped`, or `Memory` if it runs out of memory.
+/// Returns `Damaged` for the first slot that isn't right, of the first node that has one. If the slot's item in a leaf isn't the place of
+/// its key, the damage is `Entry` at page 0. Otherwise the slot's bytes differ, and the damage is `Row` at the node.
+///
+/// Returns `Disk`, `Stopped`, or `Memory` if it runs out of memory.
 ///
 /// Looks at each node once, and goes through its rows once for each of its 32 slots, and once more for those of each child. Takes memory
 /// for the words of two slots. Writes no page.

@@ -14,7 +14,7 @@ ghost use Rattle.node_rows.specs.Rows.{bytes_in};
 ghost use Rattle.node_rows.specs.Words.{AreWords};
 ghost use Rattle.store_tables.specs.Entries.{Entries};
 ghost use Rattle.store_tables.specs.Holding.{Holds, table_uses};
-ghost use Rattle.row_check.specs.Agreement.{AreSound, HasWords, IsMissing, IsMissingIn, IsRightSlot};
+ghost use Rattle.row_check.specs.Agreement.{AreSound, HasWords, IsEntry, IsEntryIn, IsMissing, IsMissingIn, IsRightSlot};
 
 use btree_nodes::damaged;
 use node_rows::{Tree, words_of};
@@ -103,6 +103,7 @@ fn are_of_place<P: Pages>(
         → IfOk result (λ right. right ≡ true → HasWords entries.places (λ w. impact_in words.now w) (place_item point.now (form_of key.now))) }
     ensures wrong { (entries : Entries) → Holds (P.pages pages.old) tables.now entries
         → IfOk result (λ right. right ≡ false → HasWords entries.places (λ w. impact_in words.now w) (place_item point.now (form_of key.now)) → ⊥) }
+    ensures held { (entries : Entries) → Holds (P.pages pages.old) tables.now entries → IfOk result (λ right. IsEntry entries.places (place_item point.now (form_of key.now))) }
     ensures damaged { (entries : Entries) → Holds (P.pages pages.old) tables.now entries
         → AreReadable (P.pages pages.old) (P.count pages.old) → AreCounted (table_uses (P.pages pages.old) tables.now) (P.count pages.old)
         → (damage : Damage) → IsErrOf result (PageFault.Damaged damage) → IsMissing entries.places (place_item point.now (form_of key.now)) damage }
@@ -139,6 +140,7 @@ fn are_right_in<P: Pages>(
         → IfOk result (λ right. right ≡ true → IsRightSlot (bytes_in (P.pages pages.old) tree.now.rows) entries.places (λ w. impact_in words.now w) (Some slot.now)) }
     ensures wrong { (entries : Entries) → AreSound (P.pages pages.old) (P.count pages.old) tree.now.rows tables.now entries
         → IfOk result (λ right. right ≡ false → IsRightSlot (bytes_in (P.pages pages.old) tree.now.rows) entries.places (λ w. impact_in words.now w) (Some slot.now) → ⊥) }
+    ensures held { (entries : Entries) → AreSound (P.pages pages.old) (P.count pages.old) tree.now.rows tables.now entries → IfOk result (λ right. IsEntryIn entries.places (Some slot.now)) }
     ensures damaged { (entries : Entries) → AreSound (P.pages pages.old) (P.count pages.old) tree.now.rows tables.now entries
         → (damage : Damage) → IsErrOf result (PageFault.Damaged damage) → IsMissingIn entries.places (Some slot.now) damage }
     ensures fails { FailsReading P.Pages pages.old pages.new result }
@@ -166,6 +168,7 @@ pub(crate) fn are_right<P: Pages>(
         → IfOk result (λ right. right ≡ true → IsRightSlot (bytes_in (P.pages pages.old) tree.now.rows) entries.places (λ w. impact_in words.now w) slot.now) }
     ensures wrong { (entries : Entries) → AreSound (P.pages pages.old) (P.count pages.old) tree.now.rows tables.now entries
         → IfOk result (λ right. right ≡ false → IsRightSlot (bytes_in (P.pages pages.old) tree.now.rows) entries.places (λ w. impact_in words.now w) slot.now → ⊥) }
+    ensures held { (entries : Entries) → AreSound (P.pages pages.old) (P.count pages.old) tree.now.rows tables.now entries → IfOk result (λ right. IsEntryIn entries.places slot.now) }
     ensures damaged { (entries : Entries) → AreSound (P.pages pages.old) (P.count pages.old) tree.now.rows tables.now entries
         → (damage : Damage) → IsErrOf result (PageFault.Damaged damage) → IsMissingIn entries.places slot.now damage }
     ensures fails { FailsReading P.Pages pages.old pages.new result }

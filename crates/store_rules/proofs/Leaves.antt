@@ -43,13 +43,13 @@ use Rattle.store_rules.proofs.Joins.{amount-some, far-bounds, got-some, one-case
 
 -- ---- the place of a key's bytes
 
-self_tie : (o : Ordering) → o ≡ ordering_reverse o → o ≡ Equal
+pub self_tie : (o : Ordering) → o ≡ ordering_reverse o → o ≡ Equal
 self_tie Less e = absurd (cc)
 self_tie Equal e = refl
 self_tie Greater e = absurd (cc)
 
 -- a key below another is another
-less-apart : (a b : Name) → key_cmp a b ≡ Less → a ≡ b → ⊥
+pub less-apart : (a b : Name) → key_cmp a b ≡ Less → a ≡ b → ⊥
 less-apart a b less same = let tie : key_cmp a b ≡ Equal = ap (key_cmp a) (sym same) ∙ self_tie (key_cmp a a) (key_cmp_total.antisymm a a) in absurd (cc)
 
 -- the impact of a word in the place of this key
@@ -87,7 +87,7 @@ module _ (word : ℕ) where
     finds-more e places places (All-head IsPlaceEntry e places each).0 (All-tail IsPlaceEntry e places each) sorted.0 (finds-own places (All-tail IsPlaceEntry e places each) sorted.1),
   )
 
-tie_from : (o : Ordering) → is_eq o ≡ true → o ≡ Equal
+pub tie_from : (o : Ordering) → is_eq o ≡ true → o ≡ Equal
 tie_from Less e = absurd (cc)
 tie_from Equal e = refl
 tie_from Greater e = absurd (cc)

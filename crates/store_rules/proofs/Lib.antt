@@ -4,6 +4,8 @@ pub mod Entries
 pub mod Impacts
 pub mod Joins
 pub mod Leaves
+pub mod Missing
 pub mod Named
 pub mod Nodes
+pub mod Rows
 pub mod Whole

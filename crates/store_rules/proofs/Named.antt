@@ -1,8 +1,9 @@
 -- What the walks over a store's structures name is broken there.
-use Rattle.std.proofs.Common.{◌≡◌, ℕ, zero, suc, ◌+◌, ◌<◌, ◌≤◌, ◌++◌, inl, inr, ⊎_elim, List, [], ◌∷◌, refl, sym, subst, ◌∙◌, arith}
-use Rattle.std.proofs.lemmas.Bool.{cases_lt}
+use Rattle.std.proofs.Common.{◌≡◌, ◌≢◌, ◌⊎◌, ◌&&◌, Bool, true, false, Option, ap, true≢false, ℕ, zero, suc, ◌+◌, ◌<◌, ◌≤◌, ◌++◌, inl, inr, ⊎_elim, List, [], ◌∷◌, refl, sym, subst, ◌∙◌, arith}
+use Rattle.std.specs.Prelude.{slice_index}
+use Rattle.std.proofs.lemmas.Bool.{cases_eq, cases_lt, eq-eqb}
 use Rattle.page_face.specs.Causes.{IsUncounted}
-use Rattle.page_face.specs.FreeList.{PageMap, IsFreeList, BreaksFree, next_free}
+use Rattle.page_face.specs.FreeList.{PageMap, IsFreeList, BreaksFree, are_zero, next_free}
 use Rattle.page_face.specs.declared.fault.Damage.{Damage}
 use Rattle.page_face.specs.declared.fault.Rule.{Rule}
 use Rattle.page_face.specs.declared.fault.Rule.TheVariants.{Head, Link, Kind, Fill, Order, Spare, Level, Value, Shared, Rect, Row, Entry, Words, Counts}
@@ -12,6 +13,12 @@ use Rattle.page_walks.specs.Met.{IsFirstUnmet}
 use Rattle.page_walks.specs.Misuse.{IsMisused}
 use Rattle.page_walks.proofs.Misuses.{one-cases}
 use Rattle.btree_nodes.specs.Supply.{times}
+use Rattle.btree_nodes.specs.Tree.{map_rows}
+use Rattle.rtree_nodes.specs.Stock.{rows_form}
+use Rattle.node_rows.specs.Rows.{byte_in}
+use Rattle.node_rows.proofs.Bytes.{bytes-small}
+use Rattle.row_check.specs.Names.{IsUnnamed}
+use Rattle.store_rules.specs.Tree.{node_uses}
 use Rattle.store_rules.specs.Breaks.{IsBroken, IsNamedFree, damage_at}
 use Rattle.btree_nodes.proofs.Supplies.{counted-none, uncounted-past}
 use Rattle.store_rules.specs.Whole.{outside, store_uses}
@@ -101,3 +108,27 @@ once-met block pages free met some all unknown known (suc n) = ⊎_elim
     (λ inside. let is = all (suc n) in let one = known (suc n) (omega arith) inside in let out = outside-some block.counted (suc n) (omega arith) in let in_range = counted-none block.counted (suc n) inside in omega arith)
     (λ past. let is = all (suc n) in let none = unknown (suc n) (inr past) in let out = outside-some block.counted (suc n) (omega arith) in let beyond = uncounted-past block.counted (suc n) past in omega arith)
     (cases_lt (suc n) block.counted)
+
+-- bytes that aren't all zeros have one that isn't
+some-byte : (row : List ℕ) → are_zero row ≡ false → (i : ℕ) × (slice_index row i ≢ 0)
+some-byte [] some = absurd (true≢false some)
+some-byte (x ∷ row) some = ⊎_elim
+    (λ zero-is. let rest = some-byte row (ap (λ (t : Bool). t && are_zero row) (sym (eq-eqb x 0 zero-is)) ∙ some) in (suc rest.0, rest.1))
+    (λ other. (0, other)) (cases_eq x 0)
+
+-- a row of words that is all zeros, or whose node the tree doesn't use, is broken at the node that it names
+pub stray-named : (block : Superblock) (pages : PageMap) (nodes : ℕ → ℕ) (damage : Damage) → ((n : ℕ) → nodes n ≡ 0 → node_uses block.head pages n ≡ 0)
+    → IsUnnamed (map_rows rows_form pages block.head.rows) nodes damage → IsBroken block pages damage
+stray-named block pages nodes damage used stray = subst (IsBroken block pages) (sym stray.named) (by (are_zero stray.value) refl stray.wrong)
+  where
+    by : (t : Bool) → are_zero stray.value ≡ t → (nodes stray.node ≡ 0) ⊎ (are_zero stray.value ≡ true) → IsBroken block pages (damage_at Row stray.node)
+    by true zeros wrong = inr (inr (record { word = stray.word; row = stray.value; there = stray.held; zero = zeros }))
+    by false some (inr zeros) = absurd (true≢false (sym zeros ∙ some))
+    by false some (inl unused) =
+        let byte = some-byte stray.value some in
+        inr (inl (record {
+          unused = used stray.node unused;
+          word = stray.word;
+          at = byte.0;
+          some = λ none. byte.1 (ap (λ (o : Option (List ℕ)). byte_in o byte.0) (sym stray.held) ∙ sym (bytes-small (map_rows rows_form pages block.head.rows) stray.node stray.word byte.0 stray.small) ∙ none);
+        }))

@@ -34,6 +34,6 @@ returns-in-Err-check_slot-clause-damaged g c = λ entries sound node damage e.
     let count : ℕ = p.count c.args.pages.now in
     let bytes : List ℕ = c.looked.result.now in
     let is : bytes ≡ pages c.args.page = c.looked.ensures ∙ c.in-Ok.ensures.gives (sound.readable c.args.page (known-some count c.args.page node.counted) (known-small count c.args.page node.counted)) in
-    node-wrong pages c.args.tree.now.rows entries.places c.args.page bytes c.loop-at.at damage is (omega arith)
+    node-wrong pages c.args.tree.now.rows entries.places c.args.page bytes c.loop-at.at damage is (omega arith) (c.loop-at.invariant.right entries sound (ap is_form is ∙ node.form))
     (wrong-on pages pages' c.args.tree.now.rows entries.places c.args.page bytes c.loop-at.at damage f.pages
     (c.in-Err-check_slot.ensures.damaged entries (sound-on pages pages' count (p.count c.loop-at.pages) c.args.tree.now.rows c.args.tables.now entries f.pages f.count sound) (ap is_form is ∙ node.form) damage e))

@@ -1,10 +1,8 @@
-use Rattle.std.proofs.Common.{◌∙◌, sym, ap, Err, inl, inr}
+use Rattle.std.proofs.Common.{◌∙◌, sym, ap, Err}
 use Rattle.page_face.specs.FreeList.{PageMap}
 use Rattle.btree_nodes.proofs.Walks.{same-fault}
 use Rattle.page_walks.proofs.Misuses.{same-damage}
-use Rattle.node_rows.specs.Impacts.{impact_in}
-use Rattle.node_rows.specs.Rows.{bytes_in}
-use Rattle.row_check.proofs.Rights.{sound-on, slot-right_on, slot-wrong_on, missing-wrong}
+use Rattle.row_check.proofs.Rights.{sound-on, slot-right_on, slot-wrong_on, slot-missing}
 use Rattle.row_check.proofs.node.check_slot.Goals as goal
 
 pub returns-in-Ok-true-clause-right : goal.returns-in-Ok-true-clause-right
@@ -24,7 +22,8 @@ returns-in-Ok-false-clause-damaged g c = λ entries sound form damage e.
     let pages : PageMap = p.pages c.args.pages.now in
     let pages' : PageMap = p.pages c.column.new.pages in
     slot-wrong_on pages pages' c.args.tree.now.rows entries.places c.args.page c.args.bytes.now c.args.at c.in-Ok.slot c.in-Ok-column.words.items c.deref.result.now damage f.pages c.deref.ensures.value
-    (inl (sym (same-damage _ _ (sym c.damaged-in-Ok-false.ensures ∙ same-fault _ _ e)))) c.in-Ok.ensures.kind (c.in-Ok.ensures.item form) (c.in-Ok-column.ensures.words sound.map)
+    (sym (same-damage _ _ (sym c.damaged-in-Ok-false.ensures ∙ same-fault _ _ e))) c.in-Ok.ensures.kind (c.in-Ok.ensures.item form) (c.in-Ok-column.ensures.words sound.map)
+    (c.in-Ok-false.ensures.held entries (sound-on pages pages' (p.count c.args.pages.now) (p.count c.column.new.pages) c.args.tree.now.rows c.args.tables.now entries f.pages f.count sound))
     (c.in-Ok-false.ensures.wrong entries (sound-on pages pages' (p.count c.args.pages.now) (p.count c.column.new.pages) c.args.tree.now.rows c.args.tables.now entries f.pages f.count sound) c.in-Ok-false.field-0-test)
 
 pub returns-clause-damaged : goal.returns-clause-damaged
@@ -33,7 +32,5 @@ returns-clause-damaged g c = λ entries sound form damage e.
     let f = c.in-Ok-column.ensures.frame in
     let pages : PageMap = p.pages c.args.pages.now in
     let pages' : PageMap = p.pages c.column.new.pages in
-    let m = missing-wrong (bytes_in pages' c.args.tree.now.rows) entries.places (λ w. impact_in c.deref.result.now w) c.in-Ok.slot damage
-    (c.in-Err-are_right.ensures.damaged entries (sound-on pages pages' (p.count c.args.pages.now) (p.count c.column.new.pages) c.args.tree.now.rows c.args.tables.now entries f.pages f.count sound) damage (ap Err (same-fault _ _ e))) in
-    slot-wrong_on pages pages' c.args.tree.now.rows entries.places c.args.page c.args.bytes.now c.args.at c.in-Ok.slot c.in-Ok-column.words.items c.deref.result.now damage f.pages c.deref.ensures.value
-    (inr m.0) c.in-Ok.ensures.kind (c.in-Ok.ensures.item form) (c.in-Ok-column.ensures.words sound.map) m.1
+    slot-missing pages c.args.tree.now.rows entries.places c.args.page c.args.bytes.now c.args.at c.in-Ok.slot damage c.in-Ok.ensures.kind (c.in-Ok.ensures.item form)
+    (c.in-Err-are_right.ensures.damaged entries (sound-on pages pages' (p.count c.args.pages.now) (p.count c.column.new.pages) c.args.tree.now.rows c.args.tables.now entries f.pages f.count sound) damage (ap Err (same-fault _ _ e)))

@@ -6,7 +6,7 @@ use Rattle.row_codec.specs.declared.stored.Stored.{Stored}
 use Rattle.store_tables.specs.Coded.{IsPlaceValue}
 use Rattle.store_tables.specs.Entries.{place_of_key}
 use Rattle.row_check.proofs.Ascents.{words-ascend}
-use Rattle.row_check.proofs.Rights.{place-right, place-wrong, place-none, place-apart}
+use Rattle.row_check.proofs.Rights.{place-entry, place-right, place-wrong, place-none, place-apart}
 use Rattle.row_check.proofs.words.are_of_place.Goals as goal
 
 pub returns-then-is_same_point-clause-right : goal.returns-then-is_same_point-clause-right
@@ -21,6 +21,11 @@ returns-then-is_same_point-clause-wrong g c = λ entries holds no h.
     let value : IsPlaceValue c.in-Ok-Some.stored = subst (λ (o : Option Stored). IfSome o IsPlaceValue) c.in-Ok-Some.field-0-is c.in-Ok-Some.ensures.of_form in
     place-wrong entries.places c.args.point.now c.args.key.now c.in-Ok-Some.stored c.args.words.now c.bytes-form.ensures.name held value.1 (words-ascend 0 (2 ^ 64) c.args.words.now c.requires)
     (λ q. c.are_same.ensures.apart no (q ∙ sym c.pairs_of.ensures)) h
+
+pub returns-then-is_same_point-clause-held : goal.returns-then-is_same_point-clause-held
+returns-then-is_same_point-clause-held g c = λ entries holds.
+    place-entry entries.places c.args.point.now c.args.key.now c.in-Ok-Some.stored c.bytes-form.ensures.name (sym (c.in-Ok-Some.ensures.found entries holds) ∙ c.in-Ok-Some.field-0-is)
+    (c.is_same_point.ensures.same c.if-is_same_point.true)
 
 pub returns-else-is_same_point-clause-damaged : goal.returns-else-is_same_point-clause-damaged
 returns-else-is_same_point-clause-damaged g c = λ entries holds told counted damage e.

@@ -3,7 +3,7 @@ use Rattle.std.specs.Prelude.{IfOk}
 use Rattle.rtree_nodes.specs.declared.content.Slot.{Slot}
 use Rattle.node_rows.specs.Rows.{Bytes, bytes_in}
 use Rattle.node_rows.specs.Impacts.{impact_in}
-use Rattle.row_check.specs.Agreement.{IsRightSlot, IsMissingIn}
+use Rattle.row_check.specs.Agreement.{IsRightSlot, IsEntryIn, IsMissingIn}
 use Rattle.row_check.proofs.words.are_right_in.Goals as goal
 
 pub returns-in-Place-clause-right : goal.returns-in-Place-clause-right
@@ -17,6 +17,10 @@ returns-in-Place-clause-wrong g c = λ entries sound.
     let b : Bytes = bytes_in (g.P.Pages.pages c.args.pages.now) c.args.tree.now.rows in
     subst (λ (s : Slot). IfOk c.are_of_place.result (λ right. right ≡ false → IsRightSlot b entries.places (λ w. impact_in c.args.words.now w) (Some s) → ⊥)) (sym c.in-Place.is)
     (c.are_of_place.ensures.wrong entries sound.holds)
+
+pub returns-in-Place-clause-held : goal.returns-in-Place-clause-held
+returns-in-Place-clause-held g c = λ entries sound.
+    subst (λ (s : Slot). IfOk c.are_of_place.result (λ right. IsEntryIn entries.places (Some s))) (sym c.in-Place.is) (c.are_of_place.ensures.held entries sound.holds)
 
 pub returns-in-Place-clause-damaged : goal.returns-in-Place-clause-damaged
 returns-in-Place-clause-damaged g c = λ entries sound damage e.
