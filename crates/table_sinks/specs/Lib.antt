@@ -1,0 +1,4 @@
+pub mod Gains
+pub mod Laws
+pub mod Places
+pub mod PlaceLaws
